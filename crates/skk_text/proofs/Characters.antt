@@ -1,0 +1,48 @@
+-- The characters of a text as its bytes change.
+use Rattle.std.proofs.Common.{◌≡◌, ℕ, ◌+◌, ◌-◌, List, [], ◌∷◌, ◌++◌, ◌∙◌, sym, ap, encode_utf8, encode_utf8_all, length, take, drop, length-append, subst, arith}
+use Rattle.std.specs.Str.{chars, IsUtf8, IsCharBoundary}
+use Rattle.std.specs.Char.{IsScalar}
+use Rattle.std.proofs.Math.Seq.{drop-append_seam, take-append_seam}
+use Rattle.std.proofs.lemmas.List.{append-nil, take-append-drop, length_push}
+use Rattle.std.proofs.lemmas.Str.{chars-append, chars-nil, chars_past_char, encodes-append, encodes-chars, encodes_same, IsCharBoundary-from_take, IsUtf8-encode}
+
+-- a character alone
+pub chars-encode : (c : ℕ) → IsScalar c → chars (encode_utf8 c) ≡ c ∷ []
+chars-encode c scalar =
+    chars_past_char (encode_utf8 c) [] c (IsUtf8-encode c scalar) (sym (append-nil (encode_utf8 c))) ∙ ap (λ cs. c ∷ cs) chars-nil
+
+-- one more character
+pub chars-push : (bytes : List ℕ) (c : ℕ) → IsUtf8 bytes → IsScalar c → chars (bytes ++ encode_utf8 c) ≡ chars bytes ++ c ∷ []
+chars-push bytes c utf8 scalar =
+    chars-append bytes (encode_utf8 c) utf8 ∙ ap (λ cs. chars bytes ++ cs) (chars-encode c scalar)
+
+-- the last character of a text
+pub chars-last : (bytes rest : List ℕ) (c : ℕ) → IsUtf8 bytes → IsUtf8 rest → bytes ≡ rest ++ encode_utf8 c → chars bytes ≡ chars rest ++ c ∷ []
+chars-last bytes rest c utf8 rest_utf8 e =
+    encodes_same (chars bytes) (chars rest ++ c ∷ [])
+    (encodes-chars bytes utf8 ∙ (e ∙ sym (encodes-append (chars rest) (c ∷ []) ∙ ap (λ bs. bs ++ (encode_utf8 c ++ [])) (encodes-chars rest rest_utf8) ∙ ap (λ bs. rest ++ bs) (append-nil (encode_utf8 c)))))
+
+-- all but the last character
+pub take-chars_last : (bytes rest : List ℕ) (c : ℕ) → IsUtf8 bytes → IsUtf8 rest → bytes ≡ rest ++ encode_utf8 c → chars rest ≡ take (length (chars bytes) - 1) (chars bytes)
+take-chars_last bytes rest c utf8 rest_utf8 e =
+    rw (chars-last bytes rest c utf8 rest_utf8 e, length_push (chars rest) c)
+    (let one_less : (length (chars rest) + 1) - 1 ≡ length (chars rest) = omega arith in rw one_less (sym (take-append_seam (chars rest) (c ∷ []))))
+
+-- a text is its first characters and the others
+pub text-split : (text front : List ℕ) (k : ℕ) → IsUtf8 text → IsUtf8 front → chars front ≡ take k (chars text) → text ≡ front ++ encode_utf8_all (drop k (chars text))
+text-split text front k utf8 front_utf8 e =
+    sym (encodes-chars text utf8) ∙ ap encode_utf8_all (sym (take-append-drop k (chars text))) ∙ encodes-append (take k (chars text)) (drop k (chars text))
+    ∙ ap (λ bs. bs ++ encode_utf8_all (drop k (chars text))) (ap encode_utf8_all (sym e) ∙ encodes-chars front front_utf8)
+
+-- so it may be cut behind its first characters
+pub IsCharBoundary-split : (text front : List ℕ) (k : ℕ) → IsUtf8 text → IsUtf8 front → chars front ≡ take k (chars text) → IsCharBoundary text (length front)
+IsCharBoundary-split text front k utf8 front_utf8 e =
+    let rest = encode_utf8_all (drop k (chars text)) in
+    let split : text ≡ front ++ rest = text-split text front k utf8 front_utf8 e in
+    IsCharBoundary-from_take text (length front) utf8 (omega (arith, ap length split ∙ length-append front rest))
+    (subst IsUtf8 (sym (ap (take (length front)) split ∙ take-append_seam front rest)) front_utf8)
+
+-- and these are the others
+pub drop-split : (text front : List ℕ) (k : ℕ) → IsUtf8 text → IsUtf8 front → chars front ≡ take k (chars text) → drop (length front) text ≡ encode_utf8_all (drop k (chars text))
+drop-split text front k utf8 front_utf8 e =
+    ap (drop (length front)) (text-split text front k utf8 front_utf8 e) ∙ drop-append_seam front (encode_utf8_all (drop k (chars text)))

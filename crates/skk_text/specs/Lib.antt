@@ -1,0 +1,3 @@
+pub mod Kana
+pub mod KeyText
+pub mod Text

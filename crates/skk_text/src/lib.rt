@@ -1,0 +1,27 @@
+//! The plain types that every crate above speaks of: texts, bytes, keys, modes and notices, lists of
+//! them, and the fault `Memory`.
+//!
+//! It stands on nothing but the standard library. A list is seen by contracts as the list of its
+//! items, a text as the list of its characters, and each call says exactly what it makes of them.
+//! What takes memory answers `Memory` where that is wanting, and leaves the value as it was.
+#![tactic(auto)]
+
+mod bytes;
+mod kana;
+mod key;
+mod memory;
+mod mode;
+mod notice;
+mod sequence;
+#[cfg(test)]
+mod tests;
+mod text;
+
+pub use bytes::Bytes;
+pub use kana::to_katakana;
+pub use key::{Key, Keys};
+pub use memory::Memory;
+pub use mode::Mode;
+pub use notice::Notice;
+pub use sequence::Sequence;
+pub use text::{Text, Texts};

@@ -1,0 +1,58 @@
+use crate::{Bytes, Key, Keys, Text, Texts, to_katakana};
+use std::alloc::{AllocError, Global};
+use std::test::Fail;
+
+fn text(alloc: Global, content: &str) -> Result<Text, AllocError> {
+    Ok(Text::of(String::from_str(alloc, content)?))
+}
+
+#[test]
+fn lists_keep_their_items_in_order(rt: HostRuntime) -> Result<(), Fail> {
+    let alloc = rt.alloc();
+    let mut keys = Keys::new(alloc);
+    keys.push(Key::Char(b'a'))?;
+    keys.push(Key::Cj)?;
+    assert_eq!(rt; keys.len(), 2);
+    assert_eq!(rt; *keys.at(0), Key::Char(b'a'));
+    assert_eq!(rt; *keys.at(1), Key::Cj);
+    let mut items = Vec::new(alloc);
+    items.push(text(alloc, "かな")?)?;
+    let texts = Texts::of(items);
+    assert_eq!(rt; texts.len(), 1);
+    assert_eq!(rt; texts.at(0).as_str(), "かな");
+    Ok(())
+}
+
+#[test]
+fn texts_count_bytes_and_show_characters(rt: HostRuntime) -> Result<(), Fail> {
+    let alloc = rt.alloc();
+    let mut line = Text::new(alloc);
+    line.push('か')?;
+    line.push_str("なa𠮷")?;
+    assert_eq!(rt; line.as_str(), "かなa𠮷");
+    assert_eq!(rt; line.byte_len(), 11);
+    assert_eq!(rt; line.last(0), "");
+    assert_eq!(rt; line.last(2), "a𠮷");
+    assert_eq!(rt; line.last(9), "かなa𠮷");
+    let bytes = Bytes::of(vec![in alloc; 1, 2]?);
+    assert_eq!(rt; bytes.as_slice(), [1, 2].as_slice());
+    Ok(())
+}
+
+// ゖ and ゞ are the last that have a katakana; U+3097 and U+309F have none.
+#[test]
+fn hiragana_have_their_katakana(rt: HostRuntime) -> Result<(), Fail> {
+    let alloc = rt.alloc();
+    for (hiragana, katakana) in [
+        ("ゔかーa", "ヴカーa"),
+        ("ぁゖゝゞ", "ァヶヽヾ"),
+        (
+            "\u{3040}\u{3097}\u{309C}\u{309F}",
+            "\u{3040}\u{3097}\u{309C}\u{309F}",
+        ),
+    ] {
+        let converted = to_katakana(alloc, &text(alloc, hiragana)?)?;
+        assert_eq!(rt; converted.as_str(), katakana);
+    }
+    Ok(())
+}

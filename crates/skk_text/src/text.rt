@@ -1,0 +1,109 @@
+ghost use Rattle.std.specs.Prelude.{◌≡◌, ℕ, List, [], ◌∷◌, ◌++◌, ◌-◌, length, take, string_bytes, encode_utf8_all, OnOk, OnErr};
+ghost use Rattle.std.specs.Str.{chars};
+ghost use Rattle.skk_text.specs.Text.{byte_len, last_chars};
+
+use crate::memory::Memory;
+use crate::sequence::Sequence;
+use std::alloc::Global;
+use std::marker::Model;
+
+/// A text: contracts see the list of its characters.
+#[derive(Debug, Drop)]
+pub struct Text {
+    text: String,
+}
+
+impl Model for Text {
+    ghost use Rattle.std.specs.Prelude.{List, ℕ, string_bytes};
+    ghost use Rattle.std.specs.Str.{chars};
+
+    ghost Value = { List ℕ };
+
+    ghost view = { λ t. chars (string_bytes t.text) };
+}
+
+impl Text {
+    /// The empty text. Takes no memory: the text keeps the allocator for what is put in later.
+    pub fn new(alloc: Global) -> Text
+        ensures { result ≡ [] }
+    {
+        Text {
+            text: String::new(alloc),
+        }
+    }
+
+    /// The text of a string. Takes no memory.
+    pub fn of(text: String) -> Text
+        ensures { result ≡ chars (string_bytes text) }
+    {
+        Text { text }
+    }
+
+    /// The text's content.
+    pub fn as_str(&self) -> &str
+        ensures value { result.now ≡ encode_utf8_all self.now }
+        ensures characters { chars result.now ≡ self.now }
+    {
+        self.text.as_str()
+    }
+
+    /// How many bytes the text has in UTF-8. Takes constant time.
+    pub fn byte_len(&self) -> usize
+        ensures { result ≡ byte_len self.now }
+    {
+        self.text.len()
+    }
+
+    /// Adds a character at the end.
+    pub fn push(&mut self, c: char) -> Result<(), Memory>
+        ensures ok { OnOk result (self.new ≡ self.old ++ c ∷ []) }
+        ensures err { OnErr result (self.new ≡ self.old) }
+    {
+        self.text.push(c)?;
+        Ok(())
+    }
+
+    /// Adds a string at the end.
+    pub fn push_str(&mut self, added: &str) -> Result<(), Memory>
+        ensures ok { OnOk result (self.new ≡ self.old ++ chars added.now) }
+        ensures err { OnErr result (self.new ≡ self.old) }
+    {
+        self.text.push_str(added)?;
+        Ok(())
+    }
+
+    /// The last characters of the text, at most `count`. Takes time in `count`, not in the
+    /// length of the text.
+    pub fn last(&self, count: usize) -> &str
+        ensures value { result.now ≡ encode_utf8_all (last_chars count self.now) }
+        ensures characters { chars result.now ≡ last_chars count self.now }
+    {
+        last_of(self.text.as_str(), count)
+    }
+}
+
+// The last characters of a string, at most `count`.
+fn last_of(text: &str, count: usize) -> &str
+    ensures value { result.now ≡ encode_utf8_all (last_chars count (chars text.now)) }
+    ensures characters { chars result.now ≡ last_chars count (chars text.now) }
+{
+    let mut front = text;
+    for _ in 0..count {
+        front = without_last(front);
+    }
+    &text[front.len()..]
+}
+
+// The string without its last character, where it has one.
+fn without_last(text: &str) -> &str
+    ensures { chars result.now ≡ take (length (chars text.now) - 1) (chars text.now) }
+{
+    let mut characters = text.chars();
+    match characters.next_back() {
+        Some(_) => characters.as_str(),
+        None => text,
+    }
+}
+
+/// Texts in order.
+pub type Texts = Sequence<Text>;
