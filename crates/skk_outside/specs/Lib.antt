@@ -1,0 +1,5 @@
+pub mod Faults
+pub mod Memory
+pub mod Pieces
+pub mod Taken
+pub mod Written

@@ -1,0 +1,121 @@
+ghost use Rattle.std.specs.Prelude.{◌≡◌, ◌↔◌, ◌<◌, ◌≤◌, ◌+◌, ◌^◌, [], length, take, drop, min, slice_index_or, Some, IsErr, IfOk, OnOk, OnErr};
+ghost use Rattle.std.specs.Io.{ReadsAtMost};
+ghost use Rattle.std.specs.Io.KnownBytes.{ReadConsumes};
+ghost use Rattle.skk_outside.specs.Faults.{Rose};
+ghost use Rattle.skk_outside.specs.Memory.{no_calls, after_success, after_failure, FailsNext, joined, first_bytes};
+ghost use Rattle.skk_outside.specs.Pieces.{pieces_left};
+
+use crate::calls::Calls;
+use crate::outside::{Failed, Outside};
+use crate::source::Source;
+use skk_text::Bytes;
+use std::marker::Model;
+
+/// A source in memory: pieces of bytes, of which one read gives bytes of one piece only, and a list of
+/// calls that are to fail.
+#[derive(Debug, Drop)]
+pub struct MemSource {
+    pieces: Vec<Bytes>,
+    place: usize,
+    taken: usize,
+    calls: Calls,
+}
+
+impl Model for MemSource {
+    ghost use Rattle.skk_outside.specs.Memory.{SourceState};
+    ghost use Rattle.skk_outside.specs.Pieces.{pieces_left};
+    ghost use Rattle.std.specs.Prelude.{◌≤◌, ℕ, List, length, slice_index_or, []};
+
+    ghost Value = { SourceState };
+
+    ghost view = { λ s. record { pieces = pieces_left s.place s.taken s.pieces.items; count = s.calls } };
+
+    ghost invariant = { λ s. s.taken ≤ length (slice_index_or s.pieces.items s.place []) };
+}
+
+impl MemSource {
+    /// A source of these pieces, whose reads with these numbers fail: they count from 1. Takes no memory.
+    pub fn new(pieces: Vec<Bytes>, fails: Vec<u64>) -> MemSource
+        ensures pieces { result.pieces ≡ pieces.items }
+        ensures count { result.count ≡ no_calls fails.items }
+    {
+        MemSource {
+            pieces,
+            place: 0,
+            taken: 0,
+            calls: Calls::new(fails),
+        }
+    }
+}
+
+impl Outside for MemSource {
+    ghost faults = { λ s. s.count.faults };
+}
+
+impl Source for MemSource {
+    ghost left = { λ s. Some (joined s.pieces) };
+
+    fn read(&mut self, into: &mut [u8]) -> Result<usize, Failed>
+        ensures bound { ReadsAtMost result into.new }
+        ensures bytes { ReadConsumes (Some (joined self.old.pieces)) (Some (joined self.new.pieces)) result into.new }
+        ensures failed { OnErr result (Rose self.old.count.faults self.new.count.faults) }
+        ensures counted { self.old.count.faults ≤ self.new.count.faults }
+
+        // As many bytes as there is room for, of the first piece that has any.
+        ensures piece { IfOk result (λ n. n ≡ min (length into.old) (length (first_bytes self.old.pieces))) }
+        ensures fails { IsErr result ↔ FailsNext self.old.count }
+        ensures ok { OnOk result (self.new.count ≡ after_success self.old.count) }
+        ensures err { OnErr result (self.new.count ≡ after_failure self.old.count) }
+    {
+        self.calls.next()?;
+        let pieces = self.pieces.as_slice();
+        (self.place, self.taken) = next_byte(pieces, self.place, self.taken);
+        if self.place == pieces.len() {
+            return Ok(0);
+        }
+        let n = copy_front(rest_at(pieces, self.place, self.taken), into);
+        self.taken += n;
+        Ok(n)
+    }
+}
+
+// The place of the first piece with a byte left, and how many of its bytes were taken: behind the
+// pieces, if none has any.
+fn next_byte(pieces: &[Bytes], place: usize, taken: usize) -> (usize, usize)
+    requires { taken ≤ length (slice_index_or pieces.now place []) }
+    ensures within { result.0 ≤ length pieces.now }
+    ensures some { result.0 < length pieces.now → result.1 < length (slice_index_or pieces.now result.0 []) }
+    ensures none { result.0 ≡ length pieces.now → result.1 ≡ 0 }
+    ensures bytes { joined (pieces_left result.0 result.1 pieces.now) ≡ joined (pieces_left place taken pieces.now) }
+    ensures first { first_bytes (pieces_left result.0 result.1 pieces.now) ≡ first_bytes (pieces_left place taken pieces.now) }
+{
+    let mut taken = taken;
+    for at in place..pieces.len() {
+        if taken < pieces[at].as_slice().len() {
+            return (at, taken);
+        }
+        taken = 0;
+    }
+    (pieces.len(), 0)
+}
+
+// What is left of the piece at a place, of which so many bytes were taken.
+fn rest_at(pieces: &[Bytes], place: usize, taken: usize) -> &[u8]
+    requires within { place < length pieces.now }
+    requires some { taken ≤ length (slice_index_or pieces.now place []) }
+    ensures rest { result.now ≡ drop taken (slice_index_or pieces.now place []) }
+    ensures fits { taken + length result.now < 2 ^ 64 }
+{
+    &pieces[place].as_slice()[taken..]
+}
+
+// Copies as many bytes as there is room for, and answers how many.
+fn copy_front(from: &[u8], into: &mut [u8]) -> usize
+    ensures count { result ≡ min (length into.old) (length from.now) }
+    ensures room { length into.new ≡ length into.old }
+    ensures bytes { take result into.new ≡ take result from.now }
+{
+    let n = from.len().min(into.len());
+    into[..n].copy_from_slice(&from[..n]);
+    n
+}

@@ -1,0 +1,46 @@
+ghost use Rattle.std.specs.Prelude.{◌≡◌, ◌≤◌, ◌<◌, ◌+◌, ℕ, Option, List, length, take, IfOk, OnOk, OnErr};
+ghost use Rattle.std.specs.Io.{WritesAtMost};
+ghost use Rattle.std.specs.Io.KnownBytes.{Appends, Keeps, WriteAppends};
+ghost use Rattle.skk_outside.specs.Faults.{Rose};
+ghost use Rattle.skk_outside.specs.Written.{AppendsFront};
+
+use crate::outside::{Failed, Outside};
+
+/// Where bytes go.
+pub trait Sink: Outside {
+    /// The bytes that were written, where the sink tells them.
+    ghost written: { Self → Option (List ℕ) };
+
+    /// Writes a front of `from`, and answers how many bytes: at least 1 where there is any. A write
+    /// that fails writes none.
+    fn write(&mut self, from: &[u8]) -> Result<usize, Failed>
+        ensures bound { WritesAtMost result from.now }
+        ensures some { 0 < length from.now → IfOk result (λ n. 1 ≤ n) }
+        ensures bytes { WriteAppends (written self.old) (written self.new) result from.now }
+        ensures failed { OnErr result (Rose (Self.faults self.old) (Self.faults self.new)) }
+        ensures counted { Self.faults self.old ≤ Self.faults self.new };
+
+    /// Hands on what the sink still holds back.
+    fn flush(&mut self) -> Result<(), Failed>
+        ensures bytes { Keeps (written self.old) (written self.new) }
+        ensures failed { OnErr result (Rose (Self.faults self.old) (Self.faults self.new)) }
+        ensures counted { Self.faults self.old ≤ Self.faults self.new };
+}
+
+/// Writes all the bytes, in as many writes as the sink takes. Where one fails, a front of the bytes
+/// is written.
+pub fn write_all<S: Sink>(sink: &mut S, bytes: &[u8]) -> Result<(), Failed>
+    ensures ok { OnOk result (Appends (S.written sink.old) (S.written sink.new) bytes.now) }
+    ensures err { OnErr result (AppendsFront (S.written sink.old) (S.written sink.new) bytes.now) }
+    ensures failed { OnErr result (Rose (S.faults sink.old) (S.faults sink.new)) }
+    ensures counted { S.faults sink.old ≤ S.faults sink.new }
+{
+    let mut done = 0;
+    for _ in 0..bytes.len() {
+        if done == bytes.len() {
+            break;
+        }
+        done += sink.write(&bytes[done..])?;
+    }
+    Ok(())
+}
