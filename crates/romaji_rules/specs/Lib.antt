@@ -1,0 +1,6 @@
+pub mod Fed
+pub mod Fitting
+pub mod Output
+pub mod Standard
+pub mod Table
+pub mod Typed

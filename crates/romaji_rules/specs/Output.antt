@@ -1,0 +1,20 @@
+-- What comes out of the rules, in both kana.
+use Rattle.std.specs.Prelude.{ℕ, List, [], ◌∷◌, ◌++◌}
+use Rattle.skk_text.specs.Kana.{in_katakana}
+use Rattle.romaji_rules.specs.declared.out.Out.{Out}
+
+-- no output
+abbrev pub nothing : Out
+nothing = record { hira = []; kata = [] }
+
+-- a character as itself
+abbrev pub itself : ℕ → Out
+itself c = record { hira = c ∷ []; kata = c ∷ [] }
+
+-- a hiragana text, and the same in katakana
+abbrev pub of_hiragana : List ℕ → Out
+of_hiragana text = record { hira = text; kata = in_katakana text }
+
+-- one output, and then another
+abbrev pub joined : Out → Out → Out
+joined first second = record { hira = first.hira ++ second.hira; kata = first.kata ++ second.kata }

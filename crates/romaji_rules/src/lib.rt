@@ -1,0 +1,21 @@
+//! The romaji automaton: a rule set turns the letters that are typed into kana.
+//!
+//! It stands on `skk_text`. A rule set is seen as the list of its rules. `Rules::standard` is the
+//! standard table; `Rules::feed` makes exactly the step that the rules define, which `one_step` says
+//! is the only one; `Rules::goes_on` is the test that tells whether letters go on together.
+#![tactic(auto)]
+
+mod laws;
+mod out;
+mod pending;
+mod rule;
+mod rules;
+mod standard;
+#[cfg(test)]
+mod tests;
+
+pub use laws::one_step;
+pub use out::Out;
+pub use pending::Pending;
+pub use rule::Rule;
+pub use rules::Rules;

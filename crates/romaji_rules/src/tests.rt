@@ -1,0 +1,105 @@
+use crate::{Out, Pending, Rules};
+use skk_text::Memory;
+use std::alloc::Global;
+use std::test::Fail;
+
+// Each input of the standard table, and each followed by `a`: what is typed, `=`, what comes out in
+// hiragana, `:`, and what is pending then.
+const CASES: &str = "
+a=あ: aa=ああ: i=い: ia=いあ: u=う: ua=うあ: e=え: ea=えあ: o=お: oa=おあ:
+ka=か: kaa=かあ: ki=き: kia=きあ: ku=く: kua=くあ: ke=け: kea=けあ: ko=こ: koa=こあ:
+sa=さ: saa=さあ: si=し: sia=しあ: su=す: sua=すあ: se=せ: sea=せあ: so=そ: soa=そあ:
+ta=た: taa=たあ: ti=ち: tia=ちあ: tu=つ: tua=つあ: te=て: tea=てあ: to=と: toa=とあ:
+na=な: naa=なあ: ni=に: nia=にあ: nu=ぬ: nua=ぬあ: ne=ね: nea=ねあ: no=の: noa=のあ:
+ha=は: haa=はあ: hi=ひ: hia=ひあ: hu=ふ: hua=ふあ: he=へ: hea=へあ: ho=ほ: hoa=ほあ:
+ma=ま: maa=まあ: mi=み: mia=みあ: mu=む: mua=むあ: me=め: mea=めあ: mo=も: moa=もあ:
+ya=や: yaa=やあ: yi=い: yia=いあ: yu=ゆ: yua=ゆあ: ye=いぇ: yea=いぇあ: yo=よ: yoa=よあ:
+ra=ら: raa=らあ: ri=り: ria=りあ: ru=る: rua=るあ: re=れ: rea=れあ: ro=ろ: roa=ろあ:
+wa=わ: waa=わあ: wi=うぃ: wia=うぃあ: wu=う: wua=うあ: we=うぇ: wea=うぇあ: wo=を: woa=をあ:
+ga=が: gaa=があ: gi=ぎ: gia=ぎあ: gu=ぐ: gua=ぐあ: ge=げ: gea=げあ: go=ご: goa=ごあ:
+za=ざ: zaa=ざあ: zi=じ: zia=じあ: zu=ず: zua=ずあ: ze=ぜ: zea=ぜあ: zo=ぞ: zoa=ぞあ:
+da=だ: daa=だあ: di=ぢ: dia=ぢあ: du=づ: dua=づあ: de=で: dea=であ: do=ど: doa=どあ:
+ba=ば: baa=ばあ: bi=び: bia=びあ: bu=ぶ: bua=ぶあ: be=べ: bea=べあ: bo=ぼ: boa=ぼあ:
+pa=ぱ: paa=ぱあ: pi=ぴ: pia=ぴあ: pu=ぷ: pua=ぷあ: pe=ぺ: pea=ぺあ: po=ぽ: poa=ぽあ:
+fa=ふぁ: faa=ふぁあ: fi=ふぃ: fia=ふぃあ: fu=ふ: fua=ふあ: fe=ふぇ: fea=ふぇあ: fo=ふぉ: foa=ふぉあ:
+ja=じゃ: jaa=じゃあ: ji=じ: jia=じあ: ju=じゅ: jua=じゅあ: je=じぇ: jea=じぇあ: jo=じょ: joa=じょあ:
+va=ゔぁ: vaa=ゔぁあ: vi=ゔぃ: via=ゔぃあ: vu=ゔ: vua=ゔあ: ve=ゔぇ: vea=ゔぇあ: vo=ゔぉ: voa=ゔぉあ:
+sha=しゃ: shaa=しゃあ: shi=し: shia=しあ: shu=しゅ: shua=しゅあ: she=しぇ: shea=しぇあ: sho=しょ: shoa=しょあ:
+cha=ちゃ: chaa=ちゃあ: chi=ち: chia=ちあ: chu=ちゅ: chua=ちゅあ: che=ちぇ: chea=ちぇあ: cho=ちょ: choa=ちょあ:
+tsa=つぁ: tsaa=つぁあ: tsi=つぃ: tsia=つぃあ: tsu=つ: tsua=つあ: tse=つぇ: tsea=つぇあ: tso=つぉ: tsoa=つぉあ:
+tha=てぁ: thaa=てぁあ: thi=てぃ: thia=てぃあ: thu=てゅ: thua=てゅあ: the=てぇ: thea=てぇあ: tho=てょ: thoa=てょあ:
+dha=でゃ: dhaa=でゃあ: dhi=でぃ: dhia=でぃあ: dhu=でゅ: dhua=でゅあ: dhe=でぇ: dhea=でぇあ: dho=でょ: dhoa=でょあ:
+fya=ふゃ: fyaa=ふゃあ: fyi=ふぃ: fyia=ふぃあ: fyu=ふゅ: fyua=ふゅあ: fye=ふぇ: fyea=ふぇあ: fyo=ふょ: fyoa=ふょあ:
+xa=ぁ: xaa=ぁあ: xi=ぃ: xia=ぃあ: xu=ぅ: xua=ぅあ: xe=ぇ: xea=ぇあ: xo=ぉ: xoa=ぉあ:
+kya=きゃ: kyaa=きゃあ: kyi=きぃ: kyia=きぃあ: kyu=きゅ: kyua=きゅあ: kye=きぇ: kyea=きぇあ: kyo=きょ: kyoa=きょあ:
+sya=しゃ: syaa=しゃあ: syi=しぃ: syia=しぃあ: syu=しゅ: syua=しゅあ: sye=しぇ: syea=しぇあ: syo=しょ: syoa=しょあ:
+tya=ちゃ: tyaa=ちゃあ: tyi=ちぃ: tyia=ちぃあ: tyu=ちゅ: tyua=ちゅあ: tye=ちぇ: tyea=ちぇあ: tyo=ちょ: tyoa=ちょあ:
+cya=ちゃ: cyaa=ちゃあ: cyi=ちぃ: cyia=ちぃあ: cyu=ちゅ: cyua=ちゅあ: cye=ちぇ: cyea=ちぇあ: cyo=ちょ: cyoa=ちょあ:
+nya=にゃ: nyaa=にゃあ: nyi=にぃ: nyia=にぃあ: nyu=にゅ: nyua=にゅあ: nye=にぇ: nyea=にぇあ: nyo=にょ: nyoa=にょあ:
+hya=ひゃ: hyaa=ひゃあ: hyi=ひぃ: hyia=ひぃあ: hyu=ひゅ: hyua=ひゅあ: hye=ひぇ: hyea=ひぇあ: hyo=ひょ: hyoa=ひょあ:
+mya=みゃ: myaa=みゃあ: myi=みぃ: myia=みぃあ: myu=みゅ: myua=みゅあ: mye=みぇ: myea=みぇあ: myo=みょ: myoa=みょあ:
+rya=りゃ: ryaa=りゃあ: ryi=りぃ: ryia=りぃあ: ryu=りゅ: ryua=りゅあ: rye=りぇ: ryea=りぇあ: ryo=りょ: ryoa=りょあ:
+gya=ぎゃ: gyaa=ぎゃあ: gyi=ぎぃ: gyia=ぎぃあ: gyu=ぎゅ: gyua=ぎゅあ: gye=ぎぇ: gyea=ぎぇあ: gyo=ぎょ: gyoa=ぎょあ:
+zya=じゃ: zyaa=じゃあ: zyi=じぃ: zyia=じぃあ: zyu=じゅ: zyua=じゅあ: zye=じぇ: zyea=じぇあ: zyo=じょ: zyoa=じょあ:
+jya=じゃ: jyaa=じゃあ: jyi=じぃ: jyia=じぃあ: jyu=じゅ: jyua=じゅあ: jye=じぇ: jyea=じぇあ: jyo=じょ: jyoa=じょあ:
+dya=ぢゃ: dyaa=ぢゃあ: dyi=ぢぃ: dyia=ぢぃあ: dyu=ぢゅ: dyua=ぢゅあ: dye=ぢぇ: dyea=ぢぇあ: dyo=ぢょ: dyoa=ぢょあ:
+bya=びゃ: byaa=びゃあ: byi=びぃ: byia=びぃあ: byu=びゅ: byua=びゅあ: bye=びぇ: byea=びぇあ: byo=びょ: byoa=びょあ:
+pya=ぴゃ: pyaa=ぴゃあ: pyi=ぴぃ: pyia=ぴぃあ: pyu=ぴゅ: pyua=ぴゅあ: pye=ぴぇ: pyea=ぴぇあ: pyo=ぴょ: pyoa=ぴょあ:
+n=:n na=な: nn=ん: nna=んあ: n'=ん: n'a=んあ: xya=ゃ: xyaa=ゃあ: xyu=ゅ: xyua=ゅあ:
+xyo=ょ: xyoa=ょあ: xtu=っ: xtua=っあ: xtsu=っ: xtsua=っあ: xwa=ゎ: xwaa=ゎあ: xwi=ゐ: xwia=ゐあ:
+xwe=ゑ: xwea=ゑあ: xka=ゕ: xkaa=ゕあ: xke=ゖ: xkea=ゖあ: -=ー: -a=ーあ: ,=、: ,a=、あ:
+.=。: .a=。あ: [=「: [a=「あ: ]=」: ]a=」あ: z/=・: z/a=・あ: z.=…: z.a=…あ:
+zh=←: zha=←あ: zj=↓: zja=↓あ: zk=↑: zka=↑あ: zl=→: zla=→あ: z[=『: z[a=『あ:
+z]=』: z]a=』あ: bb=っ:b bba=っば: cc=っ:c cca=っあ: dd=っ:d dda=っだ: ff=っ:f ffa=っふぁ:
+gg=っ:g gga=っが: hh=っ:h hha=っは: jj=っ:j jja=っじゃ: kk=っ:k kka=っか: pp=っ:p ppa=っぱ:
+rr=っ:r rra=っら: ss=っ:s ssa=っさ: tt=っ:t tta=った: vv=っ:v vva=っゔぁ: ww=っ:w wwa=っわ:
+xx=っ:x xxa=っぁ: yy=っ:y yya=っや: zz=っ:z zza=っざ:
+";
+
+// What comes out of the letters that are typed, and what is pending behind them.
+fn typed(alloc: Global, rules: &Rules, letters: &str) -> Result<(Out, Pending), Memory> {
+    let mut pending = Pending::new();
+    let mut out = Out::nothing(alloc);
+    for c in letters.bytes() {
+        out.append(&rules.feed(alloc, &mut pending, c)?)?;
+    }
+    Ok((out, pending))
+}
+
+#[test]
+fn reads_the_standard_table(rt: HostRuntime) -> Result<(), Fail> {
+    let alloc = rt.alloc();
+    let rules = Rules::standard(alloc)?;
+    assert_eq!(rt; CASES.split_whitespace().count(), 476);
+    for case in CASES.split_whitespace() {
+        let (letters, wanted) = case.split_once('=').ok_or("no `=`")?;
+        let (hira, pending) = wanted.split_once(':').ok_or("no `:`")?;
+        let (out, left) = typed(alloc, &rules, letters)?;
+        assert_eq!(rt; out.hira.as_str(), hira, "typed {letters}");
+        assert_eq!(rt; left.as_str(), pending, "left by {letters}");
+    }
+    Ok(())
+}
+
+#[test]
+fn reads_words(rt: HostRuntime) -> Result<(), Fail> {
+    let alloc = rt.alloc();
+    let rules = Rules::standard(alloc)?;
+    for (letters, hira, kata, pending) in [
+        ("kitte", "きって", "キッテ", ""),
+        ("nya", "にゃ", "ニャ", ""),
+        ("ky", "", "", "ky"),
+        ("kq", "q", "q", ""),
+        ("nk", "ん", "ン", "k"),
+    ] {
+        let (out, left) = typed(alloc, &rules, letters)?;
+        assert_eq!(rt; out.hira.as_str(), hira, "typed {letters}");
+        assert_eq!(rt; out.kata.as_str(), kata, "typed {letters}");
+        assert_eq!(rt; left.as_str(), pending, "left by {letters}");
+        assert_eq!(rt; left.is_empty(), pending.is_empty(), "left by {letters}");
+    }
+    let z = Pending::of(b"z");
+    assert!(rt; rules.goes_on(&z, b'l'));
+    assert!(rt; !rules.goes_on(&Pending::new(), b'q'));
+    Ok(())
+}
