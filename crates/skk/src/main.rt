@@ -1,0 +1,35 @@
+//! The program `skk`: it makes the real things and calls the top call.
+#![tactic(auto)]
+
+use skk_outside::{ReaderSource, WriterSink};
+use skk_text::Text;
+use skk_top::run_alone;
+use std::io::ErrorKind;
+use std::process::ExitCode;
+use std::{env, io};
+
+fn main(rt: HostRuntime) -> ExitCode {
+    match words(&rt) {
+        Ok(words) => run(&rt, &words),
+        Err(fault) if fault.kind() == ErrorKind::OutOfMemory => ExitCode::from(6),
+        // A word that is not UTF-8 is in no command, and so is no word at all.
+        Err(_) => run(&rt, &[]),
+    }
+}
+
+// The words behind the program's name.
+fn words(rt: &HostRuntime) -> io::Result<Vec<Text>> {
+    let mut words = Vec::new(rt.alloc());
+    for word in env::args(rt)?.skip(1) {
+        words.push(Text::of(word))?;
+    }
+    Ok(words)
+}
+
+// Runs the words over the standard streams.
+fn run(rt: &HostRuntime, words: &[Text]) -> ExitCode {
+    let mut input = ReaderSource::new(rt.stdin());
+    let mut out = WriterSink::new(rt.stdout());
+    let mut err = WriterSink::new(rt.stderr());
+    ExitCode::from(run_alone(rt.alloc(), words, &mut input, &mut out, &mut err))
+}
