@@ -1,1 +1,4 @@
 pub mod Characters
+pub mod KeyNames
+pub mod KeyReading
+pub mod KeySpelling

@@ -9,6 +9,8 @@
 mod bytes;
 mod kana;
 mod key;
+mod key_text;
+mod laws;
 mod memory;
 mod mode;
 mod notice;
@@ -20,6 +22,8 @@ mod text;
 pub use bytes::Bytes;
 pub use kana::to_katakana;
 pub use key::{Key, Keys};
+pub use key_text::{KeyFault, key_at, print_keys, read_keys};
+pub use laws::one_list_of_keys;
 pub use memory::Memory;
 pub use mode::Mode;
 pub use notice::Notice;

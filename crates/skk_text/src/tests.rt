@@ -1,4 +1,4 @@
-use crate::{Bytes, Key, Keys, Text, Texts, to_katakana};
+use crate::{Bytes, Key, KeyFault, Keys, Text, Texts, print_keys, read_keys, to_katakana};
 use std::alloc::{AllocError, Global};
 use std::test::Fail;
 
@@ -54,5 +54,60 @@ fn hiragana_have_their_katakana(rt: HostRuntime) -> Result<(), Fail> {
         let converted = to_katakana(alloc, &text(alloc, hiragana)?)?;
         assert_eq!(rt; converted.as_str(), katakana);
     }
+    Ok(())
+}
+
+#[test]
+fn key_text_is_read_up_to_its_first_fault(rt: HostRuntime) -> Result<(), Fail> {
+    let alloc = rt.alloc();
+    for (text, keys) in [
+        ("", [].as_slice()),
+        (
+            "a <ret><lt>>",
+            [
+                Key::Char(b'a'),
+                Key::Char(b' '),
+                Key::Ret,
+                Key::Char(b'<'),
+                Key::Char(b'>'),
+            ]
+            .as_slice(),
+        ),
+        (
+            "<tab><bs><cg><undo>",
+            [Key::Tab, Key::Bs, Key::Cg, Key::Undo].as_slice(),
+        ),
+    ] {
+        let read = read_keys(alloc, text.as_bytes())?;
+        assert_eq!(rt; read.len(), keys.len());
+        for place in 0..read.len() {
+            assert_eq!(rt; Some(read.at(place)), keys.get(place));
+        }
+    }
+    for (bytes, fault) in [
+        (b"ab<x>".as_slice(), KeyFault::BadName { at: 2 }),
+        (b"<".as_slice(), KeyFault::BadName { at: 0 }),
+        (b"<lt".as_slice(), KeyFault::BadName { at: 0 }),
+        (b"<LT>".as_slice(), KeyFault::BadName { at: 0 }),
+        (b"a\t".as_slice(), KeyFault::NotAscii { at: 1 }),
+        (b"a\x7F".as_slice(), KeyFault::NotAscii { at: 1 }),
+        (b"a\x80".as_slice(), KeyFault::NotAscii { at: 1 }),
+        (b"a\xFF".as_slice(), KeyFault::NotAscii { at: 1 }),
+    ] {
+        assert_eq!(rt; read_keys(alloc, bytes).err(), Some(fault));
+    }
+    Ok(())
+}
+
+#[test]
+fn keys_are_printed_as_they_are_read(rt: HostRuntime) -> Result<(), Fail> {
+    let alloc = rt.alloc();
+    let mut keys = Keys::new(alloc);
+    keys.push(Key::Cj)?;
+    keys.push(Key::Char(b'<'))?;
+    assert_eq!(rt; print_keys(alloc, &keys)?.as_str(), "<cj><lt>");
+    let text = "a <ret><lt>>~<undo>";
+    let read = read_keys(alloc, text.as_bytes())?;
+    assert_eq!(rt; print_keys(alloc, &read)?.as_str(), text);
     Ok(())
 }
