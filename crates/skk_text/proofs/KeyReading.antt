@@ -93,9 +93,12 @@ fault-more bytes at (NotAscii place) (_, (byte, rest, e, other)) end = let h : b
 fault-more bytes at Memory h end = h
 
 -- what a fault says of the whole
+pub fault-none : (bytes : List ℕ) (keys : List Key) (at : ℕ) (fault : KeyFault) → Read bytes keys at → FaultAt bytes at fault → (others : List Key) → AreKeys others → spelled others ≢ bytes
+fault-none bytes keys at fault read h others os e =
+    fault-more bytes at fault h (same_place bytes keys others [] at read (fault-first_key bytes at fault h) os refl (sym (append-nil (spelled others) ∙ e))).1
+
 pub fault-only : (bytes : List ℕ) (keys : List Key) (at : ℕ) (fault : KeyFault) → Read bytes keys at → FaultAt bytes at fault → (others : List Key) → AreKeys others → spelled others ≡ bytes → Answers (Err fault) (Ok others)
-fault-only bytes keys at fault read h others os e =
-    absurd (fault-more bytes at fault h (same_place bytes keys others [] at read (fault-first_key bytes at fault h) os refl (sym (append-nil (spelled others) ∙ e))).1)
+fault-only bytes keys at fault read h others os e = absurd (fault-none bytes keys at fault read h others os e)
 
 pub fault-only_bad_name : (bytes : List ℕ) (keys : List Key) (at : ℕ) (fault : KeyFault) → Read bytes keys at → FaultAt bytes at fault → (place : ℕ) → HasBadName bytes place → Answers (Err fault) (Err (BadName place))
 fault-only_bad_name bytes keys at fault read h place has =
@@ -133,6 +136,9 @@ has_not_ascii bytes keys at place read (same, other) =
     }
 
 -- at the end
+pub end-spelled : (bytes : List ℕ) (keys : List Key) (at : ℕ) → Read bytes keys at → length bytes ≤ at → spelled keys ≡ bytes
+end-spelled bytes keys at read full = sym (append-nil (spelled keys)) ∙ (ap (λ bs. spelled keys ++ bs) (sym (nothing_left bytes at full)) ∙ sym (read_front bytes keys at read))
+
 pub end-only : (bytes : List ℕ) (keys : List Key) (at : ℕ) → Read bytes keys at → length bytes ≤ at → (others : List Key) → AreKeys others → spelled others ≡ bytes → Answers (Ok keys) (Ok others)
 end-only bytes keys at read full others os e =
     let end : drop at bytes ≡ [] = nothing_left bytes at full in

@@ -83,3 +83,7 @@ same_reading (k ∷ keys) (o ∷ others) rest tail ks os r t e =
     append_cancel_left (spell k) _ _ (sym (append_assoc (spell k) (spelled keys) rest) ∙ (e ∙ (append_assoc (spell o) (spelled others) tail ∙ ap (λ x. spell x ++ (spelled others ++ tail)) (sym same)))) in
     let more : (keys ≡ others) × (rest ≡ tail) = same_reading keys others rest tail (and_parts (is_key k) _ ks).1 (and_parts (is_key o) _ os).1 r t behind in
     (cc, more.1)
+
+-- where nothing stands behind them, by their spelling
+pub same_keys : (keys others : List Key) → AreKeys keys → AreKeys others → spelled keys ≡ spelled others → keys ≡ others
+same_keys keys others ks os e = (same_reading keys others [] [] ks os refl refl (append-nil (spelled keys) ∙ (e ∙ sym (append-nil (spelled others))))).0

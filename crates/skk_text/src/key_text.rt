@@ -1,4 +1,4 @@
-ghost use Rattle.std.specs.Prelude.{◌≡◌, ◌≢◌, ◌<◌, ◌+◌, ◌++◌, ℕ, List, length, drop, nat_eq, true, false, IfOk, OnOk, IsErrOf, IfSome, IsNone, Ok, Err};
+ghost use Rattle.std.specs.Prelude.{◌≡◌, ◌≢◌, ◌<◌, ◌+◌, ◌++◌, ℕ, List, length, drop, nat_eq, true, false, IfOk, OnOk, IsErrOf, IfSome, IsNone, IsTrue, Ok, Err};
 ghost use Rattle.std.specs.List.{list_any, starts_with};
 ghost use Rattle.skk_text.specs.KeyText.{spell, spelled, is_key, is_printable, names, AreKeys, BeginsBadName, BeginsNotAscii, HasBadName, HasNotAscii, Answers};
 ghost use Rattle.skk_text.specs.declared.key.Key.{Key};
@@ -57,8 +57,23 @@ pub fn read_keys(alloc: Global, bytes: &[u8]) -> Result<Keys, KeyFault>
     Ok(keys)
 }
 
-/// The key that is spelled at a place of key text, and how many bytes its spelling has. Takes no memory.
-pub fn key_at(bytes: &[u8], at: usize) -> Result<(Key, usize), KeyFault>
+/// Whether the bytes are key text. Takes no memory.
+pub fn is_key_text(bytes: &[u8]) -> bool
+    ensures keys { IsTrue result → (keys : List Key) × AreKeys keys × (spelled keys ≡ bytes.now) }
+    ensures none { result ≡ false → (keys : List Key) → AreKeys keys → spelled keys ≢ bytes.now }
+{
+    let mut at = 0;
+    while at < bytes.len() {
+        match key_at(bytes, at) {
+            Ok((_, length)) => at += length,
+            Err(_) => return false,
+        }
+    }
+    true
+}
+
+// The key that is spelled at a place, and how many bytes its spelling has.
+fn key_at(bytes: &[u8], at: usize) -> Result<(Key, usize), KeyFault>
     requires { at < length bytes.now }
     ensures ok { IfOk result (λ found. (is_key found.0 ≡ true) × (found.1 ≡ length (spell found.0))
         × (drop at bytes.now ≡ spell found.0 ++ drop (at + found.1) bytes.now)) }

@@ -22,7 +22,7 @@ mod text;
 pub use bytes::Bytes;
 pub use kana::to_katakana;
 pub use key::{Key, Keys};
-pub use key_text::{KeyFault, key_at, print_keys, read_keys};
+pub use key_text::{KeyFault, is_key_text, print_keys, read_keys};
 pub use laws::one_list_of_keys;
 pub use memory::Memory;
 pub use mode::Mode;

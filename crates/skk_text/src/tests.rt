@@ -1,4 +1,6 @@
-use crate::{Bytes, Key, KeyFault, Keys, Text, Texts, print_keys, read_keys, to_katakana};
+use crate::{
+    Bytes, Key, KeyFault, Keys, Text, Texts, is_key_text, print_keys, read_keys, to_katakana,
+};
 use std::alloc::{AllocError, Global};
 use std::test::Fail;
 
@@ -79,6 +81,7 @@ fn key_text_is_read_up_to_its_first_fault(rt: HostRuntime) -> Result<(), Fail> {
         ),
     ] {
         let read = read_keys(alloc, text.as_bytes())?;
+        assert!(rt; is_key_text(text.as_bytes()), "at {text:?}");
         assert_eq!(rt; read.len(), keys.len());
         for place in 0..read.len() {
             assert_eq!(rt; Some(read.at(place)), keys.get(place));
@@ -95,6 +98,7 @@ fn key_text_is_read_up_to_its_first_fault(rt: HostRuntime) -> Result<(), Fail> {
         (b"a\xFF".as_slice(), KeyFault::NotAscii { at: 1 }),
     ] {
         assert_eq!(rt; read_keys(alloc, bytes).err(), Some(fault));
+        assert!(rt; !is_key_text(bytes), "at {bytes:?}");
     }
     Ok(())
 }
