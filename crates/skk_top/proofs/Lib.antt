@@ -1,4 +1,11 @@
+pub mod Checking
+pub mod LineReading
 pub mod Lines
-pub mod Words
+pub mod LinesLeft
+pub mod Marks
+pub mod Numbers
 pub mod Pages
+pub mod Playing
 pub mod Runs
+pub mod Scripts
+pub mod Words

@@ -4,8 +4,7 @@ use Rattle.std.proofs.Math.Seq.{take-length}
 use Rattle.std.proofs.lemmas.List.{length-drop}
 use Rattle.std.proofs.lemmas.Bool.{eq-eqb}
 use Rattle.std.proofs.lemmas.Bool.Decides.{eqb_tells}
-use Rattle.std.specs.List.{list_all}
-use Rattle.skk_top.specs.Script.{cut, lengthened, is_key_line}
+use Rattle.skk_top.specs.Script.{cut, lengthened}
 
 -- numbers that differ fail the test
 unequal : (a b : ℕ) → a ≢ b → (a == b) ≡ false
@@ -57,6 +56,6 @@ pub and-second : (a b : Bool) → (a && b) ≡ true → b ≡ true
 and-second true b h = h
 and-second false b h = cc
 
--- the lines behind the first are key lines too
-pub lines-after : (lines : List (List ℕ)) (first : List ℕ) (others : List (List ℕ)) → lines ≡ first ∷ others → list_all is_key_line lines ≡ true → list_all is_key_line others ≡ true
-lines-after lines first others e h = and-second (is_key_line first) (list_all is_key_line others) (ap (list_all is_key_line) (sym e) ∙ h)
+-- what stands from a place on, counted from the end
+pub from-place : (bytes : List ℕ) (place : ℕ) → take (length bytes - place) (drop place bytes) ≡ drop place bytes
+from-place bytes place = ap (λ n. take n (drop place bytes)) (sym (length-drop place bytes)) ∙ take-length (drop place bytes)

@@ -1,23 +1,31 @@
 -- What was printed, as lines are typed and pages are written.
-use Rattle.std.proofs.Common.{◌≡◌, ◌∙◌, sym, ap, subst, rules, ℕ, Option, Some, None, List, [], ◌∷◌, ◌++◌, append_assoc, map, Result, Ok, Err, OnOk, OnErr, false, encode_utf8_all, ◌<◌, length}
+use Rattle.std.proofs.Common.{◌≡◌, ◌∙◌, sym, ap, subst, rules, ℕ, Option, Some, None, List, [], ◌++◌, append_assoc, Result, Ok, Err, OnOk, OnErr, IsErrOf, IsErrAnd, refl, encode_utf8_all}
 use Rattle.std.proofs.KnownBytes.{Appends-trans}
 use Rattle.std.proofs.lemmas.List.{append-nil}
 use Rattle.std.proofs.lemmas.Str.{encodes-append}
 use Rattle.std.specs.Io.KnownBytes.{Appends}
-use Rattle.std.specs.Option.{option_map_or}
 use Rattle.skk_outside.specs.Written.{AppendsFront}
-use Rattle.romaji_rules.specs.declared.rule.Rule.{Rule}
 use Rattle.skk_top.specs.Printed.{Printed}
-use Rattle.skk_top.specs.Script.{cut, keys_of}
-use Rattle.skk_top.specs.SessionMachine.{new_session, played, line}
-use Rattle.skk_top.specs.Typed.{typed_from, typed_text, typed_one, takes_from}
-use Rattle.skk_top.specs.declared.session_machine.Session.{Session}
-use Rattle.skk_top.proofs.Lines.{cut-some}
+use Rattle.skk_top.specs.Status.{ComesOfPress}
+use Rattle.skk_top.specs.declared.fault.RunFault.{RunFault}
+use Rattle.skk_top.specs.declared.fault.RunFault.TheVariants as told
+use Rattle.skk_top.specs.declared.kana_input.PressFault.{PressFault}
+use Rattle.skk_top.specs.declared.kana_input.PressFault.TheVariants as pressing
 
 -- what holds anyway holds at an error
 pub on_err : {T E P : Type 0} (r : Result T E) → P → OnErr r P
 on_err (Ok x) p = search rules
 on_err (Err e) p = p
+
+-- what follows of what holds at an error
+pub each_err : {T E : Type 0} {P Q : Type 0} (r : Result T E) → OnErr r P → (P → Q) → OnErr r Q
+each_err (Ok x) p q = search rules
+each_err (Err e) p q = q p
+
+-- nothing was written
+pub Appends-none : (known : Option (List ℕ)) → Appends known known []
+Appends-none None = search rules
+Appends-none (Some bytes) = sym (append-nil bytes)
 
 -- the rest may be said otherwise
 pub Printed-rest : (old new : Option (List ℕ)) (page rest other whole : List ℕ) → rest ≡ other → Printed old new page rest whole → Printed old new page other whole
@@ -28,34 +36,6 @@ Printed-rest old new page rest other whole same printed =
 pub Printed-more : (old new : Option (List ℕ)) (page more rest whole longer : List ℕ) → longer ≡ page ++ more → Printed old new page (more ++ rest) whole → Printed old new longer rest whole
 Printed-more old new page more rest whole longer pushed printed =
     (printed.0, printed.1, ap (λ p. printed.0 ++ (p ++ rest)) pushed ∙ ap (λ p. printed.0 ++ p) (append_assoc page more rest) ∙ printed.2)
-
--- what is typed for a line and the lines behind it
-pub typed-line : (rules : List Rule) (session next : Session) (lines : List (List ℕ)) (first : List ℕ) (others : List (List ℕ)) → lines ≡ first ∷ others
-    → played rules session (keys_of first) ≡ Some next → typed_from rules session (map keys_of lines) ≡ line 1 next ++ typed_from rules next (map keys_of others)
-typed-line rules session next lines first others e taken =
-    ap (λ ls. typed_from rules session (map keys_of ls)) e
-    ∙ ap (λ o. option_map_or (λ n. line 1 n ++ typed_from rules n (map keys_of others)) o []) taken
-
-pub typed-stopped : (rules : List Rule) (session : Session) (lines : List (List ℕ)) (first : List ℕ) (others : List (List ℕ)) → lines ≡ first ∷ others
-    → played rules session (keys_of first) ≡ None → typed_from rules session (map keys_of lines) ≡ []
-typed-stopped rules session lines first others e stopped =
-    ap (λ ls. typed_from rules session (map keys_of ls)) e
-    ∙ ap (λ o. option_map_or (λ n. line 1 n ++ typed_from rules n (map keys_of others)) o []) stopped
-
--- whether its keys are taken
-pub takes-line : (rules : List Rule) (session next : Session) (lines : List (List ℕ)) (first : List ℕ) (others : List (List ℕ)) → lines ≡ first ∷ others
-    → played rules session (keys_of first) ≡ Some next → takes_from rules session (map keys_of lines) ≡ takes_from rules next (map keys_of others)
-takes-line rules session next lines first others e taken =
-    ap (λ ls. takes_from rules session (map keys_of ls)) e ∙ ap (λ o. option_map_or (λ n. takes_from rules n (map keys_of others)) o false) taken
-
--- a line is typed, and goes to the page
-pub Printed-line : (old new : Option (List ℕ)) (page : List ℕ) (rules : List Rule) (session next : Session) (lines : List (List ℕ)) (first : List ℕ) (others : List (List ℕ)) (longer whole : List ℕ)
-    → lines ≡ first ∷ others → played rules session (keys_of first) ≡ Some next → longer ≡ page ++ line 1 next
-    → Printed old new page (typed_from rules session (map keys_of lines)) whole → Printed old new longer (typed_from rules next (map keys_of others)) whole
-Printed-line old new page rules session next lines first others longer whole e taken pushed printed =
-    Printed-more old new page (line 1 next) (typed_from rules next (map keys_of others)) whole longer pushed
-    (Printed-rest old new page (typed_from rules session (map keys_of lines)) (line 1 next ++ typed_from rules next (map keys_of others)) whole
-    (typed-line rules session next lines first others e taken) printed)
 
 -- some of the page is written
 pub Printed-written : (old mid new : Option (List ℕ)) (page left rest whole : List ℕ) → Printed old mid page rest whole → Printed mid new left [] page → Printed old new left rest whole
@@ -96,12 +76,6 @@ Printed-whole old mid new page whole printed written =
     subst (Appends old new) (sym (encodes-append printed.0 page) ∙ ap encode_utf8_all (ap (λ p. printed.0 ++ p) (sym (append-nil page)) ∙ printed.2))
     (Appends-trans old mid new (encode_utf8_all printed.0) (encode_utf8_all page) printed.1 written)
 
--- where there is a line, it begins with a new session
-pub typed_text-some : (rules : List Rule) (lines : List (List ℕ)) (first : List ℕ) (others : List (List ℕ)) → lines ≡ first ∷ others
-    → typed_from rules new_session (map keys_of lines) ≡ typed_text rules (map keys_of lines)
-typed_text-some rules lines first others e =
-    ap (λ ls. typed_from rules new_session (map keys_of ls)) e ∙ ap (λ ls. typed_text rules (map keys_of ls)) (sym e)
-
 -- the last of the rest goes to the page
 pub Printed-last : (old new : Option (List ℕ)) (page last whole longer : List ℕ) → longer ≡ page ++ last → Printed old new page last whole → Printed old new longer [] whole
 Printed-last old new page last whole longer pushed printed =
@@ -114,7 +88,29 @@ Printed-tried old mid new page whole (Ok x) printed ok err =
     Printed-front_of_page old mid new page [] whole printed (encode_utf8_all page, ([], sym (append-nil (encode_utf8_all page))), ok)
 Printed-tried old mid new page whole (Err e) printed ok err = Printed-front_of_page old mid new page [] whole printed err
 
--- the bytes typed for a script that is not empty
-pub typed_one-some : (rules : List Rule) (bytes : List ℕ) → 0 < length bytes → encode_utf8_all (typed_from rules new_session (map keys_of (cut bytes))) ≡ typed_one rules (map keys_of (cut bytes))
-typed_one-some rules bytes some =
-    let found = cut-some bytes some in ap encode_utf8_all (typed_text-some rules (cut bytes) found.0 found.1.0 found.1.1)
+-- a front of what comes first is a front of all
+pub Front-more : (old new : Option (List ℕ)) (first more : List ℕ) → AppendsFront old new first → AppendsFront old new (first ++ more)
+Front-more old new first more front =
+    (front.0, (front.1.0 ++ more, ap (λ bytes. bytes ++ more) front.1.1 ∙ append_assoc front.0 front.1.0 more), front.2)
+
+-- so is a front of what comes behind what was written
+pub Front-behind : (old mid new : Option (List ℕ)) (first more : List ℕ) → Appends old mid first → AppendsFront mid new more → AppendsFront old new (first ++ more)
+Front-behind old mid new first more written front = (
+  first ++ front.0,
+  (front.1.0, ap (λ bytes. first ++ bytes) front.1.1 ∙ sym (append_assoc first front.0 front.1.0)),
+  Appends-trans old mid new first front.0 written front.2,
+)
+
+-- a key that is not built is told as such
+pub press-not_built : {T : Type 0} (r : Result T RunFault) (fault : PressFault) → IsErrAnd r (ComesOfPress fault) → IsErrOf r told.NotBuilt → fault ≡ pressing.NotBuilt
+press-not_built r pressing.NotBuilt comes e = refl
+press-not_built r pressing.Memory comes e = absurd (search (rules, comes, e))
+
+-- a fault that is handed on is the same
+pub same-fault : {T E : Type 0} (r : Result T E) (fault other : E) → IsErrAnd r (λ handed. handed ≡ fault) → IsErrOf r other → fault ≡ other
+same-fault (Ok done) fault other is e = absurd (search (rules, is))
+same-fault (Err handed) fault other is e = cc
+
+-- all that is typed is a front of it
+pub AppendsFront-whole : (old new : Option (List ℕ)) (whole : List ℕ) → Appends old new whole → AppendsFront old new whole
+AppendsFront-whole old new whole appends = (whole, ([], sym (append-nil whole)), appends)

@@ -1,22 +1,23 @@
 -- What a run printed, by how it ended.
-use Rattle.std.proofs.Common.{◌≡◌, ◌≢◌, ◌≤◌, ◌∙◌, sym, ap, subst, refl, rules, ℕ, Option, Some, None, List, [], length, map, Result, Ok, Err, IsErr, IfSome, true, if◌then◌else◌, ◌&&◌, arith}
+use Rattle.std.proofs.Common.{◌≡◌, ◌≢◌, ◌≤◌, ◌∙◌, sym, ap, subst, refl, rules, ℕ, Option, Some, None, List, [], length, Result, Ok, Err, IsErr, OnOk, OnErr, IfSome, true, false, MatchBool, arith, inl, inr}
 use Rattle.std.specs.Io.KnownBytes.{Appends, Keeps}
 use Rattle.std.specs.List.{list_all}
-use Rattle.std.specs.Option.{MatchOption}
-use Rattle.std.proofs.lemmas.Bool.{le-leb}
-use Rattle.std.proofs.lemmas.List.{append-nil}
 use Rattle.skk_outside.specs.Written.{AppendsFront}
 use Rattle.romaji_rules.specs.declared.rule.Rule.{Rule}
-use Rattle.skk_top.specs.Run.{Prints}
-use Rattle.skk_top.specs.Script.{cut, is_key_line, keys_of, script}
+use Rattle.skk_top.specs.Run.{IsRefused, PrintsScript}
+use Rattle.skk_top.specs.Script.{Line, Says, cut, is_built_line, script_limit}
 use Rattle.skk_top.specs.Status.{run_status}
-use Rattle.skk_top.specs.Typed.{typed_one}
+use Rattle.skk_top.specs.Typed.{typed_one, SaysBuilt}
 use Rattle.skk_top.specs.declared.fault.RunFault.{RunFault}
-use Rattle.skk_top.specs.declared.fault.RunFault.TheVariants.{Outside, Memory, NotBuilt}
+use Rattle.skk_top.specs.declared.fault.RunFault.TheVariants.{TooLong, BadLine, Outside, Memory, NotBuilt}
+use Rattle.skk_top.proofs.Pages.{Appends-none}
+use Rattle.skk_top.proofs.Scripts.{no_bad_line, one_list_of_lines}
 
 -- a run that was not done has no status 0
 pub status-not_done : (r : Result (Unit {0}) RunFault) → IsErr r → run_status r ≢ 0
 status-not_done (Ok done) failed = absurd (search (rules, failed))
+status-not_done (Err TooLong) failed = λ e. omega arith
+status-not_done (Err (BadLine number)) failed = λ e. omega arith
 status-not_done (Err Outside) failed = λ e. omega arith
 status-not_done (Err Memory) failed = λ e. omega arith
 status-not_done (Err NotBuilt) failed = λ e. omega arith
@@ -30,35 +31,45 @@ pub IfSome-all : (known : Option (List ℕ)) (P : List ℕ → Type 0) → ((byt
 IfSome-all None P p = search rules
 IfSome-all (Some left) P p = p left
 
-Keeps-self : (known : Option (List ℕ)) → Keeps known known
+pub Keeps-self : (known : Option (List ℕ)) → Keeps known known
 Keeps-self None = search rules
 Keeps-self (Some bytes) = refl
 
-Appends-none : (known : Option (List ℕ)) → Appends known known []
-Appends-none None = search rules
-Appends-none (Some bytes) = sym (append-nil bytes)
-
 -- nothing was printed
-pub Prints-nothing : (rules : List Rule) (status : ℕ) (bytes : List ℕ) (known : Option (List ℕ)) → status ≢ 0 → Prints rules status bytes known known
-Prints-nothing rules status bytes known undone =
-    elim (script bytes) as (λ o. MatchOption o (Keeps known known) (λ lines. AppendsFront known known (typed_one rules lines) × (status ≡ 0 → Appends known known (typed_one rules lines)))) [
-      | None ↦ Keeps-self known
-      | Some lines ↦ (([], (typed_one rules lines, refl), Appends-none known), λ e. absurd (undone e))
+pub Prints-nothing : (rules : List Rule) (status : ℕ) (bytes : List ℕ) (known : Option (List ℕ)) → status ≢ 0 → PrintsScript rules status bytes known known
+Prints-nothing rules status bytes known undone lines script =
+    elim (list_all is_built_line lines) as (λ b. MatchBool b (AppendsFront known known (typed_one rules lines) × (status ≡ 0 → Appends known known (typed_one rules lines))) (Keeps known known)) [
+      | true ↦ (([], (typed_one rules lines, refl), Appends-none known), λ e. absurd (undone e))
+      | false ↦ Keeps-self known
     ]
 
--- a script that fits, of key lines alone, is built
-pub script-built : (bytes : List ℕ) → length bytes ≤ 4194304 → list_all is_key_line (cut bytes) ≡ true → script bytes ≡ Some (map keys_of (cut bytes))
-script-built bytes fits lines =
-    ap (λ b. if b && list_all is_key_line (cut bytes) then Some (map keys_of (cut bytes)) else None) (le-leb (length bytes) 4194304 fits)
-    ∙ ap (λ b. if b then Some (map keys_of (cut bytes)) else None) lines
-
 -- it was typed, whole or not
-pub Prints-typed : (rules : List Rule) (status : ℕ) (bytes : List ℕ) (old new : Option (List ℕ)) → length bytes ≤ 4194304 → list_all is_key_line (cut bytes) ≡ true
-    → AppendsFront old new (typed_one rules (map keys_of (cut bytes))) → (status ≡ 0 → Appends old new (typed_one rules (map keys_of (cut bytes)))) → Prints rules status bytes old new
-Prints-typed rules status bytes old new fits lines front whole =
-    subst (λ o. MatchOption o (Keeps old new) (λ ls. AppendsFront old new (typed_one rules ls) × (status ≡ 0 → Appends old new (typed_one rules ls))))
-    (sym (script-built bytes fits lines)) (front, whole)
+pub Prints-typed : (rules : List Rule) (status : ℕ) (bytes : List ℕ) (said : List Line) (old new : Option (List ℕ)) → Says [] (cut bytes) said → true ≡ list_all is_built_line said
+    → ((lines : List Line) → SaysBuilt bytes lines → AppendsFront old new (typed_one rules lines)) → ((lines : List Line) → SaysBuilt bytes lines → status ≡ 0 → Appends old new (typed_one rules lines)) → PrintsScript rules status bytes old new
+Prints-typed rules status bytes said old new says built front whole lines script =
+    let same : lines ≡ said = one_list_of_lines [] (cut bytes) lines said script.1 says in
+    let all_built : list_all is_built_line lines ≡ true = ap (list_all is_built_line) same ∙ sym built in
+    subst (λ b. MatchBool b (AppendsFront old new (typed_one rules lines) × (status ≡ 0 → Appends old new (typed_one rules lines))) (Keeps old new)) (sym all_built)
+    (front lines (script.1, all_built), whole lines (script.1, all_built))
 
--- all that is typed is a front of it
-pub AppendsFront-whole : (old new : Option (List ℕ)) (whole : List ℕ) → Appends old new whole → AppendsFront old new whole
-AppendsFront-whole old new whole appends = (whole, ([], sym (append-nil whole)), appends)
+-- a script is not refused
+pub script-not_refused : (bytes : List ℕ) (said : List Line) → length bytes ≤ script_limit → Says [] (cut bytes) said → ¬ IsRefused bytes
+script-not_refused bytes said fits says refused =
+    elim refused [ inl long ↦ omega (arith, fits, long) | inr bad ↦ no_bad_line (cut bytes) said bad.0 says bad.1.1 ]
+
+-- what was typed by a result is typed by its status
+pub front_of-result : {P : Type 0} (r : Result (Unit {0}) RunFault) → OnOk r P → OnErr r P → P
+front_of-result (Ok done) ok err = ok
+front_of-result (Err fault) ok err = err
+
+pub whole_of-result : {P : Type 0} (r : Result (Unit {0}) RunFault) → OnOk r P → run_status r ≡ 0 → P
+whole_of-result (Ok done) ok e = ok
+whole_of-result (Err TooLong) ok e = absurd (omega (arith, e))
+whole_of-result (Err (BadLine number)) ok e = absurd (omega (arith, e))
+whole_of-result (Err Outside) ok e = absurd (omega (arith, e))
+whole_of-result (Err Memory) ok e = absurd (omega (arith, e))
+whole_of-result (Err NotBuilt) ok e = absurd (omega (arith, e))
+
+pub each_ok : {P Q : Type 0} (r : Result (Unit {0}) RunFault) → OnOk r P → (P → Q) → OnOk r Q
+each_ok (Ok done) p q = q p
+each_ok (Err fault) p q = search rules

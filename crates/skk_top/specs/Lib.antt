@@ -1,6 +1,8 @@
+pub mod Check
 pub mod KanaInput
 pub mod Printed
 pub mod Printing
+pub mod Read
 pub mod Run
 pub mod Script
 pub mod SessionMachine

@@ -1,24 +1,34 @@
 use crate::kana_input::PressFault;
-use skk_outside::{Failed, ReadFault};
+use itoa::Buffer;
+use skk_outside::{Failed, ReadFault, Sink, write_all};
 use skk_text::Memory;
 use thiserror::Error;
 
 /// Why a run was not done.
 #[derive(Clone, Copy, Debug, PartialEq, Eq, Error)]
 pub enum RunFault {
+    /// The script is longer than its limit.
+    #[error("skk: script too long")]
+    TooLong,
+    /// The first line of the script that is none, counted from 1.
+    #[error("skk: line {number}")]
+    BadLine { number: usize },
     /// A call on the outside failed.
     #[error("skk: outside")]
     Outside,
     /// Want of memory.
     #[error("skk: memory")]
     Memory,
-    /// The words, the script or a key are not built.
+    /// The words, a line of the script or a key are not built.
     #[error("skk: not built")]
     NotBuilt,
 }
 
 impl RunFault {
-    ghost use Rattle.std.specs.Prelude.{◌≡◌};
+    ghost use Rattle.std.specs.Prelude.{◌≡◌, ◌≤◌, OnOk, OnErr};
+    ghost use Rattle.std.specs.Io.KnownBytes.{Appends};
+    ghost use Rattle.skk_outside.specs.Faults.{Rose};
+    ghost use Rattle.skk_outside.specs.Written.{AppendsFront};
     ghost use Rattle.skk_top.specs.Status.{status_of, message_of};
 
     /// The status that the program exits with.
@@ -26,20 +36,30 @@ impl RunFault {
         ensures { result ≡ status_of self }
     {
         match self {
+            RunFault::TooLong | RunFault::BadLine { number: _ } => 2,
             RunFault::Outside => 4,
             RunFault::Memory => 6,
             RunFault::NotBuilt => 8,
         }
     }
 
-    /// The line on standard error.
-    pub fn message(self) -> &'static str
-        ensures { result.now ≡ message_of self }
+    /// Writes the line on standard error. Takes no memory.
+    pub fn tell<E: Sink>(self, err: &mut E) -> Result<(), Failed>
+        ensures ok { OnOk result (Appends (E.written err.old) (E.written err.new) (message_of self)) }
+        ensures err { OnErr result (AppendsFront (E.written err.old) (E.written err.new) (message_of self)) }
+        ensures failed { OnErr result (Rose (E.faults err.old) (E.faults err.new)) }
+        ensures counted { E.faults err.old ≤ E.faults err.new }
     {
         match self {
-            RunFault::Outside => "skk: outside\n",
-            RunFault::Memory => "skk: memory\n",
-            RunFault::NotBuilt => "skk: not built\n",
+            RunFault::TooLong => write_all(err, b"skk: script too long\n"),
+            RunFault::BadLine { number } => {
+                write_all(err, b"skk: line ")?;
+                write_all(err, Buffer::new().format(number).as_bytes())?;
+                write_all(err, b"\n")
+            }
+            RunFault::Outside => write_all(err, b"skk: outside\n"),
+            RunFault::Memory => write_all(err, b"skk: memory\n"),
+            RunFault::NotBuilt => write_all(err, b"skk: not built\n"),
         }
     }
 }
@@ -86,7 +106,7 @@ impl From<ReadFault> for RunFault {
 
     fn from(fault: ReadFault) -> RunFault {
         match fault {
-            ReadFault::TooLong => RunFault::NotBuilt,
+            ReadFault::TooLong => RunFault::TooLong,
             ReadFault::Failed => RunFault::Outside,
             ReadFault::Memory => RunFault::Memory,
         }

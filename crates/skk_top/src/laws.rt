@@ -1,8 +1,17 @@
-ghost use Rattle.std.specs.Prelude.{◌≡◌, ◌++◌, ℕ, List, true, codes};
-ghost use Rattle.skk_text.specs.KeyText.{spelled};
-ghost use Rattle.skk_top.specs.Script.{is_key_line, keys_of};
+ghost use Rattle.std.specs.Prelude.{◌≡◌, ℕ, List, []};
+ghost use Rattle.skk_top.specs.Script.{Line, Says, IsFirstBad};
 
-/// A key line is `1:` and the spelling of its keys.
-pub fn key_lines_are_spelled()
-    ensures { (line : List ℕ) → is_key_line line ≡ true → line ≡ codes "1:" ++ spelled (keys_of line) }
+/// Texts say one list of lines at most.
+pub fn one_script()
+    ensures { (texts : List (List ℕ)) (lines others : List Line) → Says [] texts lines → Says [] texts others → lines ≡ others }
+{}
+
+/// Texts that say lines have no first line that says nothing.
+pub fn no_bad_line_in_a_script()
+    ensures { (texts : List (List ℕ)) (lines : List Line) (number : ℕ) → Says [] texts lines → ¬ IsFirstBad texts number }
+{}
+
+/// One line at most is the first that says nothing.
+pub fn one_bad_line()
+    ensures { (texts : List (List ℕ)) (number other : ℕ) → IsFirstBad texts number → IsFirstBad texts other → number ≡ other }
 {}

@@ -1,6 +1,6 @@
 ghost use Rattle.std.specs.Prelude.{◌≡◌, ◌≢◌, ℕ, slice_index, ◌<◌, ◌≤◌, [], ◌∷◌, length, MatchOption, true};
 ghost use Rattle.std.specs.List.{list_all};
-ghost use Rattle.skk_top.specs.Script.{cut, is_key_line, is_lower};
+ghost use Rattle.skk_top.specs.Script.{cut};
 
 /// The first line without its LF, and what follows it; nothing where there is no line.
 pub fn next_line(bytes: &[u8]) -> Option<(&[u8], &[u8])>
@@ -28,32 +28,4 @@ fn line_end(bytes: &[u8]) -> usize
         }
     }
     bytes.len()
-}
-
-/// Whether each line is a key line.
-pub fn are_key_lines(bytes: &[u8]) -> bool
-    ensures { result ≡ list_all is_key_line (cut bytes.now) }
-{
-    let mut rest = bytes;
-    while let Some((line, after)) = next_line(rest) {
-        if !is_key_line(line) {
-            return false;
-        }
-        rest = after;
-    }
-    true
-}
-
-// Whether a line is `1:` and letters from a to z.
-fn is_key_line(line: &[u8]) -> bool
-    ensures { result ≡ is_key_line line.now }
-{
-    line.starts_with(b"1:") && are_lower(&line[2..])
-}
-
-// Whether each byte is a letter from a to z.
-fn are_lower(letters: &[u8]) -> bool
-    ensures { result ≡ list_all is_lower letters.now }
-{
-    letters.iter().all(|letter| (b'a'..=b'z').contains(letter))
 }

@@ -5,8 +5,9 @@ ghost use Rattle.std.specs.Str.{chars};
 ghost use Rattle.skk_top.specs.Printing.{escaped, indicator, notice_text};
 
 use crate::kana_input::{Plain, PressFault};
+use itoa::Buffer;
 use romaji_rules::Rules;
-use skk_text::{Key, Memory, Mode, Notice, Text};
+use skk_text::{Key, Keys, Memory, Mode, Notice, Text};
 use std::alloc::Global;
 
 /// The most bytes of a frame's text.
@@ -24,7 +25,7 @@ pub struct Session {
 }
 
 impl Session {
-    ghost use Rattle.std.specs.Prelude.{◌≡◌, ◌++◌, OnOk, OnErr, IfOk, IsErrOf, Some, None, List, ℕ, map};
+    ghost use Rattle.std.specs.Prelude.{◌≡◌, ◌++◌, OnOk, OnErr, IfOk, IsErrOf, Some, None, List, ℕ};
     ghost use Rattle.std.specs.List.{flat_map};
     ghost use Rattle.skk_top.specs.SessionMachine.{new_session, inserted, pressed, played, display, line, closing_line};
 
@@ -50,14 +51,14 @@ impl Session {
         Ok(session)
     }
 
-    /// Presses the letters in order. After a fault the session is gone.
-    pub fn play(self, alloc: Global, rules: &Rules, letters: &[u8]) -> Result<Session, PressFault>
-        ensures ok { IfOk result (λ session. played rules.now self (map Key.Char letters.now) ≡ Some session) }
-        ensures not_built { IsErrOf result PressFault.NotBuilt → played rules.now self (map Key.Char letters.now) ≡ None }
+    /// Presses the keys in order. After a fault the session is gone.
+    pub fn play(self, alloc: Global, rules: &Rules, keys: &Keys) -> Result<Session, PressFault>
+        ensures ok { IfOk result (λ session. played rules.now self keys.now ≡ Some session) }
+        ensures not_built { IsErrOf result PressFault.NotBuilt → played rules.now self keys.now ≡ None }
     {
         let mut session = self;
-        for letter in letters {
-            session = session.press(alloc, rules, Key::Char(*letter))?;
+        for place in 0..keys.len() {
+            session = session.press(alloc, rules, *keys.at(place))?;
         }
         Ok(session)
     }
@@ -91,7 +92,7 @@ impl Session {
         ensures { OnOk result (page.new ≡ page.old ++ line number self.now) }
     {
         let shown = self.display(alloc)?;
-        push_number(alloc, page, number)?;
+        push_number(page, number)?;
         push_field(page, indicator(self.plain.mode))?;
         push_field(page, shown.as_str())?;
         push_field(page, notice_text(self.notice))?;
@@ -100,15 +101,10 @@ impl Session {
     }
 
     /// Adds the session's closing line, with its whole text, behind a page.
-    pub fn push_closing_line(
-        &self,
-        alloc: Global,
-        page: &mut Text,
-        number: u8,
-    ) -> Result<(), Memory>
+    pub fn push_closing_line(&self, page: &mut Text, number: u8) -> Result<(), Memory>
         ensures { OnOk result (page.new ≡ page.old ++ closing_line number self.now) }
     {
-        push_number(alloc, page, number)?;
+        push_number(page, number)?;
         page.push('=')?;
         push_escaped(page, self.text.as_str())?;
         page.push('\n')?;
@@ -154,10 +150,10 @@ fn push_field(page: &mut Text, text: &str) -> Result<(), Memory>
 }
 
 // Adds a number in decimal.
-fn push_number(alloc: Global, page: &mut Text, number: u8) -> Result<(), Memory>
+fn push_number(page: &mut Text, number: u8) -> Result<(), Memory>
     ensures { OnOk result (page.new ≡ page.old ++ decimal number) }
 {
-    page.push_str(number.to_string(alloc)?.as_str())
+    page.push_str(Buffer::new().format(number))
 }
 
 // Adds a text as it is printed.

@@ -1,5 +1,8 @@
 ghost use Rattle.std.specs.Prelude.{Some};
 
+use crate::check::check_script;
+use crate::line::read_line;
+use crate::run::SCRIPT_LIMIT;
 use crate::run_alone;
 use skk_outside::{Failed, MemSink, MemSource, Outside, Sink};
 use skk_text::{Bytes, Text};
@@ -18,7 +21,7 @@ struct Outcome {
 fn run_over_memory(
     alloc: Global,
     words: &str,
-    script: &str,
+    script: &[u8],
     reads: &[u64],
     writes: &[u64],
 ) -> Result<Outcome, AllocError> {
@@ -31,8 +34,8 @@ fn run_over_memory(
 }
 
 // A source of a script in two pieces.
-fn source(alloc: Global, script: &str, reads: &[u64]) -> Result<MemSource, AllocError> {
-    let (front, back) = script.as_bytes().split_at(script.len() / 2);
+fn source(alloc: Global, script: &[u8], reads: &[u64]) -> Result<MemSource, AllocError> {
+    let (front, back) = script.split_at(script.len() / 2);
     let mut pieces = Vec::new(alloc);
     pieces.push(Bytes::of(Vec::from_slice(alloc, front)?))?;
     pieces.push(Bytes::of(Vec::from_slice(alloc, back)?))?;
@@ -69,24 +72,108 @@ fn scripts_are_typed_or_refused(rt: HostRuntime) -> Result<(), Fail> {
         ("", LINES, 8, "", NOT_BUILT),
         ("Type", LINES, 8, "", NOT_BUILT),
         ("type type", LINES, 8, "", NOT_BUILT),
+        // Comments and empty lines have no keys, and name no session.
+        ("type", "#\n\n", 0, "", ""),
+        ("type", "1:a\n\n# 1:i", 0, "1\tかな\tあ\t\n1=あ\n", ""),
+        // Marks, and keys by their names.
+        ("type", "1:n'-z/<lt>1", 0, "1\tかな\tんー・<1\t\n1=んー・<1\n", ""),
         // Lines that are not built, also behind good ones.
-        ("type", "1:a\n\n", 8, "", NOT_BUILT),
         ("type", "1:a\n2:a\n", 8, "", NOT_BUILT),
-        ("type", "1:a\n1=1,1\n", 8, "", NOT_BUILT),
-        ("type", "1:a\n1:A\n", 8, "", NOT_BUILT),
-        ("type", "1:a\r\n", 8, "", NOT_BUILT),
-        ("type", "1", 8, "", NOT_BUILT),
-        ("type", "#", 8, "", NOT_BUILT),
+        ("type", "1=1,0\n1:a\n", 8, "", NOT_BUILT),
         // Keys that are not built: the lines before them are printed.
         ("type", "1:a\n1:kaqa\n1:a\n", 8, "1\tかな\tあ\t\n", NOT_BUILT),
+        ("type", "1:a\n1:A\n", 8, "1\tかな\tあ\t\n", NOT_BUILT),
+        ("type", "1:a\n1:k<cj>\n", 8, "1\tかな\tあ\t\n", NOT_BUILT),
+        ("type", "1:a \n", 8, "", NOT_BUILT),
         ("type", "1:zkl\n", 8, "", NOT_BUILT),
+        // The first line that is none is told, and nothing is typed.
+        ("type", "1", 2, "", "skk: line 1\n"),
+        ("type", "0:a", 2, "", "skk: line 1\n"),
+        ("type", "65:a", 2, "", "skk: line 1\n"),
+        ("type", "01:a", 2, "", "skk: line 1\n"),
+        ("type", "1=1,2", 2, "", "skk: line 1\n"),
+        ("type", "1:a\r\n", 2, "", "skk: line 1\n"),
+        ("type", "1:<cj", 2, "", "skk: line 1\n"),
+        ("type", "1:<zz>", 2, "", "skk: line 1\n"),
+        ("type", "1:a\n1:<zz>", 2, "", "skk: line 2\n"),
+        ("type", "1:a\n1=1,1", 2, "", "skk: line 2\n"),
+        ("type", "1:a\n# 1\n\n1:q\n2:<zz>\n3", 2, "", "skk: line 5\n"),
     ] {
-        let ran = run_over_memory(alloc, words, script, &[], &[])?;
+        let ran = run_over_memory(alloc, words, script.as_bytes(), &[], &[])?;
         assert_eq!(rt; ran.status, status, "at {script:?}");
         assert_eq!(rt; ran.out.written(), out.as_bytes(), "at {script:?}");
         assert_eq!(rt; ran.err.written(), err.as_bytes(), "at {script:?}");
     }
     Ok(())
+}
+
+// Bytes that no line has.
+#[test]
+fn bytes_outside_of_scripts_are_refused(rt: HostRuntime) -> Result<(), Fail> {
+    let alloc = rt.alloc();
+    for script in [
+        b"1:a\x00".as_slice(),
+        b"1:a\x7F".as_slice(),
+        b"1:a\x80".as_slice(),
+        b"1:a\xFF".as_slice(),
+    ] {
+        let ran = run_over_memory(alloc, "type", script, &[], &[])?;
+        assert_eq!(rt; ran.status, 2, "at {script:?}");
+        assert_eq!(rt; ran.out.written(), b"".as_slice(), "at {script:?}");
+        assert_eq!(rt;
+            ran.err.written(),
+            b"skk: line 1\n".as_slice(),
+            "at {script:?}"
+        );
+    }
+    Ok(())
+}
+
+// A comment as long as a script may be, and one that is a byte longer.
+#[test]
+fn scripts_have_a_limit(rt: HostRuntime) -> Result<(), Fail> {
+    let alloc = rt.alloc();
+    let mut script = vec![in alloc; b'#'; SCRIPT_LIMIT]?;
+    let ran = run_over_memory(alloc, "type", &script, &[], &[])?;
+    assert_eq!(rt; ran.status, 0);
+    assert_eq!(rt; ran.err.written(), b"".as_slice());
+    script.push(b'#')?;
+    let ran = run_over_memory(alloc, "type", &script, &[], &[])?;
+    assert_eq!(rt; ran.status, 2);
+    assert_eq!(rt; ran.err.written(), b"skk: script too long\n".as_slice());
+    Ok(())
+}
+
+#[test]
+fn lines_are_read_in_one_spelling(rt: HostRuntime) {
+    for text in ["1:<lt>>", "64:", "#x", "", "1=1,0", "64=65535,65535"] {
+        assert!(rt; read_line(text.as_bytes()).is_some(), "{text}");
+    }
+    for text in [
+        "0:a",
+        "65:a",
+        "01:a",
+        "1=1,2",
+        "1=65536,0",
+        "1=01,0",
+        "1:a\r",
+        "1:<cj",
+        "1",
+        ":a",
+        " 1:a",
+        "+1:a",
+        "1=1,0 ",
+    ] {
+        assert!(rt; read_line(text.as_bytes()).is_none(), "{text}");
+    }
+}
+
+#[test]
+fn scripts_are_checked_whole(rt: HostRuntime) {
+    assert_eq!(rt; check_script(b"1:a\n1=1,1"), Err(2));
+    assert_eq!(rt; check_script(b"# x\n\n1:<zz>"), Err(3));
+    assert_eq!(rt; check_script(b"2=2,0\n2:a\n"), Ok(false));
+    assert_eq!(rt; check_script(b"1:a\n#\n1:<cj>"), Ok(true));
 }
 
 // The script is read in two pieces and then to its end; the output is written at once and flushed.
@@ -102,7 +189,7 @@ fn calls_that_fail_end_the_run(rt: HostRuntime) -> Result<(), Fail> {
         (0, 2, 4, TYPED),
         (0, 3, 0, TYPED),
     ] {
-        let ran = run_over_memory(alloc, "type", LINES, &[reads], &[writes])?;
+        let ran = run_over_memory(alloc, "type", LINES.as_bytes(), &[reads], &[writes])?;
         assert_eq!(rt; ran.status, status, "at {reads} and {writes}");
         assert_eq!(rt;
             ran.out.written(),
@@ -139,7 +226,7 @@ fn bytes_are_written_one_by_one(rt: HostRuntime) -> Result<(), Fail> {
     let alloc = rt.alloc();
     let whole = TYPED.as_bytes();
     for call in 1..=whole.len() as u64 + 2 {
-        let mut input = source(alloc, LINES, &[])?;
+        let mut input = source(alloc, LINES.as_bytes(), &[])?;
         let mut out = OneByOne(MemSink::new(alloc, vec![in alloc; call]?));
         let mut err = MemSink::new(alloc, Vec::new(alloc));
         let words = words_of(alloc, "type")?;

@@ -1,7 +1,6 @@
-use Rattle.std.proofs.Common.{◌≡◌, ◌∙◌, ap}
+use Rattle.std.proofs.Common.{◌≡◌, ◌∙◌, ap, arith}
 use Rattle.std.specs.Fmt.{decimal}
 use Rattle.std.specs.Str.{chars}
-use Rattle.std.proofs.Common.{arith}
 use Rattle.std.proofs.lemmas.Fmt.{IsAscii-decimal}
 use Rattle.std.proofs.lemmas.Str.{chars-IsAscii}
 use Rattle.skk_top.proofs.session_machine.push_number.Goals as goal
@@ -9,6 +8,5 @@ use Rattle.skk_top.proofs.session_machine.push_number.Goals as goal
 pub returns : goal.returns
 returns c =
     let number = c.args.number in
-    let digits : chars c.as_str.result.now ≡ decimal number =
-    ap chars (c.as_str.ensures.value ∙ c.in_ok-to_string.ensures.ok) ∙ chars-IsAscii (decimal number) (IsAscii-decimal number (omega arith)) in
+    let digits : chars c.format.result.now ≡ decimal number = ap chars c.format.ensures.text ∙ chars-IsAscii (decimal number) (IsAscii-decimal number (omega arith)) in
     rw digits at c.push_str.ensures.ok
