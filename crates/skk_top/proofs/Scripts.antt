@@ -1,12 +1,12 @@
 -- Scripts line by line: there is one list of lines, and one first line that is none.
-use Rattle.std.proofs.Common.{◌≡◌, ◌≢◌, ◌<◌, ◌≤◌, sym, ℕ, List, [], ◌∷◌, ◌++◌, length, get_or, refl, ap, ◌∙◌, subst, arith, inl, inr}
+use Rattle.std.proofs.Common.{true, false, ◌≡◌, ◌≢◌, ◌<◌, ◌≤◌, sym, ℕ, List, [], ◌∷◌, ◌++◌, length, get_or, refl, ap, ◌∙◌, subst, arith, inl, inr}
 use Rattle.std.specs.Fmt.{decimal}
 use Rattle.std.specs.List.{flat_map}
 use Rattle.std.proofs.lemmas.Bool.{cases_order}
 use Rattle.std.proofs.lemmas.Fmt.{decimal_injective}
 use Rattle.std.proofs.lemmas.List.{append_assoc, append-nil, length-append, get_or_append_left}
 use Rattle.skk_text.specs.KeyText.{spelled}
-use Rattle.skk_top.specs.Script.{Line, skipped, keys, opening, Spells, Says, MayFollow, IsFirstBad, named_by}
+use Rattle.skk_top.specs.Script.{Line, skipped, keys, opening, Spells, Says, MayFollow, IsFirstBad, named_by, has_return}
 use Rattle.skk_text.proofs.KeySpelling.{same_keys}
 use Rattle.skk_top.proofs.Numbers.{one_number, decimal-digit_at, decimal-length}
 use Rattle.skk_top.proofs.LineReading.{Follows, line-follows, colon_no_digit, equals_no_digit, comma_no_digit, book-small}
@@ -18,6 +18,17 @@ no_comment session mark text rest small e =
     let first : get_or text 0 0 ≡ get_or (decimal session) 0 0 = ap (λ t. get_or t 0 0) e ∙ get_or_append_left (decimal session) (mark ∷ rest) 0 0 long.0 in
     let digit = decimal-digit_at session 0 small long.0 in
     (λ none. omega (arith, ap length (sym e ∙ none), length-append (decimal session) (mark ∷ rest)), λ comment. omega (arith, digit, first, comment))
+
+-- a comment with a CR is no line
+pub return-no_line : (text : List ℕ) (line : Line) → text ≢ [] → get_or text 0 0 ≡ 35 → has_return text ≡ true → ¬ Spells text line
+return-no_line text skipped some first return spells =
+    elim spells [
+      | inl none ↦ some none
+      | inr comment ↦ let clean : has_return text ≡ false = ap has_return comment.1 ∙ comment.2 in cc
+    ]
+return-no_line text (keys session ks) some first return spells = (no_comment session 58 text (spelled ks) (omega arith) spells.2).1 first
+return-no_line text (opening session typist book) some first return spells =
+    (no_comment session 61 text (decimal typist ++ 44 ∷ decimal book) (omega arith) (spells.3 ∙ append_assoc (decimal session) (61 ∷ decimal typist) (44 ∷ decimal book))).1 first
 
 -- two lines of which both say the same behind one number are one
 same_follows : (number mark : ℕ) (rest : List ℕ) (line other : Line) → Follows number mark rest line → Follows number mark rest other → line ≡ other

@@ -1,7 +1,7 @@
 -- Scripts: what each line says, and which line is the first that says nothing.
-use Rattle.std.specs.Prelude.{◌≡◌, ◌⊎◌, ◌≤◌, ◌+◌, ℕ, Bool, true, false, ◌==◌, if◌then◌else◌, List, [], ◌∷◌, ◌++◌, length, ⊤, Contains}
+use Rattle.std.specs.Prelude.{◌≡◌, ◌⊎◌, ◌≤◌, ◌+◌, ℕ, Bool, true, false, ◌==◌, nat_eq, if◌then◌else◌, List, [], ◌∷◌, ◌++◌, length, ⊤, Contains}
 use Rattle.std.specs.Fmt.{decimal}
-use Rattle.std.specs.List.{flat_map}
+use Rattle.std.specs.List.{flat_map, list_any}
 use Rattle.skk_text.specs.KeyText.{spelled, AreKeys}
 use Rattle.skk_text.specs.declared.key.Key.{Key}
 
@@ -33,10 +33,14 @@ IsSession number = (1 ≤ number) × (number ≤ 64)
 abbrev pub IsTypist : ℕ → Type 0
 IsTypist number = number ≤ 65535
 
--- the text is an empty line or a comment; a session, `:` and keys; or a session, `=`, a typist, `,` and a book, which
+-- a CR is somewhere in the text
+abbrev pub has_return : List ℕ → Bool
+has_return text = list_any (λ byte. nat_eq byte 13) text
+
+-- the text is an empty line or a comment, which has no CR; a session, `:` and keys; or a session, `=`, a typist, `,` and a book, which
 -- is 0 or the typist's own
 abbrev pub Spells : List ℕ → Line → Type 0
-Spells text skipped = (text ≡ []) ⊎ ((comment : List ℕ) × (text ≡ 35 ∷ comment))
+Spells text skipped = (text ≡ []) ⊎ ((comment : List ℕ) × (text ≡ 35 ∷ comment) × (has_return comment ≡ false))
 Spells text (keys session ks) = IsSession session × AreKeys ks × (text ≡ decimal session ++ 58 ∷ spelled ks)
 Spells text (opening session typist book) =
     IsSession session × IsTypist typist × ((book ≡ 0) ⊎ (book ≡ typist))

@@ -22,7 +22,13 @@ pub fn read_line(text: &[u8]) -> Option<ScriptLine>
     ensures some { IfSome result (λ read. (line : Line) × Spells text.now line × Stands text.now read line) }
     ensures none { IsNone result → (line : Line) → ¬ Spells text.now line }
 {
-    if text.is_empty() || text[0] == b'#' {
+    if text.is_empty() {
+        return Some(ScriptLine::Skipped);
+    }
+    if text[0] == b'#' {
+        if text.contains(&b'\r') {
+            return None;
+        }
         return Some(ScriptLine::Skipped);
     }
     let (session, mark, rest) = number_then(text)?;

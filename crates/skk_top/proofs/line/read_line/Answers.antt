@@ -1,8 +1,14 @@
-use Rattle.std.proofs.Common.{◌≢◌, [], length, refl, sym, ap, arith}
+use Rattle.std.proofs.Common.{◌≢◌, ◌∙◌, [], length, refl, sym, ap, arith}
 use Rattle.skk_top.specs.Script.{keys}
 use Rattle.skk_top.proofs.LineReading.{line-follows, follows_nothing, keys-stand}
+use Rattle.skk_top.proofs.Scripts.{return-no_line}
 use Rattle.skk_top.proofs.line.read_line.Goals as goal
 use Rattle.skk_top.proofs.line.read_line.Goals.{then-session-lt1-via-then-session-lt1, then-session-lt1-via-else-session-lt1+then-session-gt64, else-mark-eq58-via-then-mark-eq58+else-is_key_text, else-mark-eq58-via-else-mark-eq58}
+
+pub returns-then-contains-clause-none : goal.returns-then-contains-clause-none
+returns-then-contains-clause-none c none line =
+    let some : c.args.text.now ≢ [] = λ e. grind (arith, ap length e) in
+    return-no_line c.args.text.now line some c.if-text-eq35.true (sym c.contains.ensures.value ∙ c.if-contains.true)
 
 pub returns-then-session-lt1-clause-none : goal.returns-then-session-lt1-clause-none
 returns-then-session-lt1-clause-none c = λ none line spells.
