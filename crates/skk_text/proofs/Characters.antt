@@ -1,10 +1,12 @@
 -- The characters of a text as its bytes change.
-use Rattle.std.proofs.Common.{◌≡◌, ℕ, ◌+◌, ◌-◌, List, [], ◌∷◌, ◌++◌, ◌∙◌, sym, ap, encode_utf8, encode_utf8_all, length, take, drop, length-append, subst, arith}
+use Rattle.std.proofs.Common.{◌≡◌, ◌≤◌, ℕ, ◌+◌, ◌-◌, Option, Some, None, IfSome, IfNone, rules, String, string_bytes, List, [], ◌∷◌, ◌++◌, ◌∙◌, sym, ap, encode_utf8, encode_utf8_all, length, take, drop, length-append, subst, arith}
+use Rattle.std.specs.String.{string_len}
 use Rattle.std.specs.Str.{chars, IsUtf8, IsCharBoundary}
 use Rattle.std.specs.Char.{IsScalar}
 use Rattle.std.proofs.Math.Seq.{drop-append_seam, take-append_seam}
-use Rattle.std.proofs.lemmas.List.{append-nil, take-append-drop, length_push}
-use Rattle.std.proofs.lemmas.Str.{chars-append, chars-nil, chars_past_char, encodes-append, encodes-chars, encodes_same, IsCharBoundary-from_take, IsUtf8-encode}
+use Rattle.std.proofs.lemmas.List.{nil_from_length, append-nil, take-append-drop, length_push}
+use Rattle.skk_text.specs.Text.{without_last}
+use Rattle.std.proofs.lemmas.Str.{chars-append, chars-nil, chars_past_char, encodes-append, encodes-chars, encodes_same, IsCharBoundary-from_take, IsUtf8-encode, IsUtf8-string_bytes}
 
 -- a character alone
 pub chars-encode : (c : ℕ) → IsScalar c → chars (encode_utf8 c) ≡ c ∷ []
@@ -27,6 +29,16 @@ pub take-chars_last : (bytes rest : List ℕ) (c : ℕ) → IsUtf8 bytes → IsU
 take-chars_last bytes rest c utf8 rest_utf8 e =
     rw (chars-last bytes rest c utf8 rest_utf8 e, length_push (chars rest) c)
     (let one_less : (length (chars rest) + 1) - 1 ≡ length (chars rest) = omega arith in rw one_less (sym (take-append_seam (chars rest) (c ∷ []))))
+
+-- a string whose last character was taken off, where it had one
+pub chars-popped : {Z : Type 0} (old new : String Z) (popped : Option ℕ) → IfSome popped (λ c. string_bytes old ≡ string_bytes new ++ encode_utf8 c) → IfNone popped (string_len old ≡ 0)
+    → string_len new ≤ string_len old → chars (string_bytes new) ≡ without_last (chars (string_bytes old))
+chars-popped old new (Some c) split none bound =
+    take-chars_last (string_bytes old) (string_bytes new) c (IsUtf8-string_bytes old) (IsUtf8-string_bytes new) split
+chars-popped old new None split none bound =
+    let old_empty : string_bytes old ≡ [] = nil_from_length (string_bytes old) (search (rules, none)) in
+    let new_empty : string_bytes new ≡ [] = nil_from_length (string_bytes new) (grind (arith, none, bound)) in
+    ap chars new_empty ∙ chars-nil ∙ sym (ap (λ bytes. without_last (chars bytes)) old_empty ∙ ap without_last chars-nil)
 
 -- a text is its first characters and the others
 pub text-split : (text front : List ℕ) (k : ℕ) → IsUtf8 text → IsUtf8 front → chars front ≡ take k (chars text) → text ≡ front ++ encode_utf8_all (drop k (chars text))

@@ -1,5 +1,5 @@
 -- What contracts say of texts, which they see as lists of characters.
-use Rattle.std.specs.Prelude.{ℕ, ◌-◌, List, length, drop, encode_utf8_all}
+use Rattle.std.specs.Prelude.{ℕ, ◌-◌, List, length, take, drop, encode_utf8_all}
 
 -- how many bytes the characters take in UTF-8
 abbrev pub byte_len : List ℕ → ℕ
@@ -8,3 +8,7 @@ byte_len text = length (encode_utf8_all text)
 -- the last characters of a text, at most so many
 abbrev pub last_chars : ℕ → List ℕ → List ℕ
 last_chars count text = drop (length text - count) text
+
+-- a text without its last character, where it has one
+abbrev pub without_last : List ℕ → List ℕ
+without_last text = take (length text - 1) text

@@ -20,10 +20,10 @@ mod tests;
 mod text;
 
 pub use bytes::Bytes;
-pub use kana::to_katakana;
+pub use kana::{to_hiragana, to_katakana, to_wide};
 pub use key::{Key, Keys};
 pub use key_text::{KeyFault, is_key_text, print_keys, read_keys};
-pub use laws::one_list_of_keys;
+pub use laws::{kana_pairs, one_list_of_keys};
 pub use memory::Memory;
 pub use mode::Mode;
 pub use notice::Notice;

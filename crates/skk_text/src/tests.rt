@@ -1,5 +1,6 @@
 use crate::{
-    Bytes, Key, KeyFault, Keys, Text, Texts, is_key_text, print_keys, read_keys, to_katakana,
+    Bytes, Key, KeyFault, Keys, Text, Texts, is_key_text, print_keys, read_keys, to_hiragana,
+    to_katakana, to_wide,
 };
 use std::alloc::{AllocError, Global};
 use std::test::Fail;
@@ -41,6 +42,17 @@ fn texts_count_bytes_and_show_characters(rt: HostRuntime) -> Result<(), Fail> {
     Ok(())
 }
 
+#[test]
+fn texts_lose_their_last_character(rt: HostRuntime) -> Result<(), Fail> {
+    let alloc = rt.alloc();
+    let mut line = text(alloc, "かa𠮷")?;
+    for left in ["かa", "か", "", ""] {
+        line.delete_last();
+        assert_eq!(rt; line.as_str(), left);
+    }
+    Ok(())
+}
+
 // ゖ and ゞ are the last that have a katakana; U+3097 and U+309F have none.
 #[test]
 fn hiragana_have_their_katakana(rt: HostRuntime) -> Result<(), Fail> {
@@ -55,6 +67,39 @@ fn hiragana_have_their_katakana(rt: HostRuntime) -> Result<(), Fail> {
     ] {
         let converted = to_katakana(alloc, &text(alloc, hiragana)?)?;
         assert_eq!(rt; converted.as_str(), katakana);
+    }
+    Ok(())
+}
+
+// ヶ and ヾ are the last that have a hiragana; ヷ, ・, ー and ヿ have none.
+#[test]
+fn katakana_have_their_hiragana(rt: HostRuntime) -> Result<(), Fail> {
+    let alloc = rt.alloc();
+    for (katakana, hiragana) in [
+        ("ヴカー", "ゔかー"),
+        ("ァヶヽヾ", "ぁゖゝゞ"),
+        ("かなa漢", "かなa漢"),
+        (
+            "\u{30A0}\u{30F7}\u{30FB}\u{30FC}\u{30FF}",
+            "\u{30A0}\u{30F7}\u{30FB}\u{30FC}\u{30FF}",
+        ),
+    ] {
+        let converted = to_hiragana(alloc, &text(alloc, katakana)?)?;
+        assert_eq!(rt; converted.as_str(), hiragana);
+    }
+    Ok(())
+}
+
+#[test]
+fn ascii_has_its_wide_form(rt: HostRuntime) -> Result<(), Fail> {
+    for (narrow, wide) in [
+        (b' ', '\u{3000}'),
+        (b'!', '\u{FF01}'),
+        (b'a', 'ａ'),
+        (b'~', '\u{FF5E}'),
+        (0x7F, '\u{7F}'),
+    ] {
+        assert_eq!(rt; to_wide(narrow), wide);
     }
     Ok(())
 }

@@ -1,6 +1,6 @@
 ghost use Rattle.std.specs.Prelude.{◌≡◌, ℕ, List, [], ◌∷◌, ◌++◌, ◌-◌, length, take, string_bytes, encode_utf8_all, OnOk, OnErr};
 ghost use Rattle.std.specs.Str.{chars};
-ghost use Rattle.skk_text.specs.Text.{byte_len, last_chars};
+ghost use Rattle.skk_text.specs.Text.{byte_len, last_chars, without_last};
 
 use crate::memory::Memory;
 use crate::sequence::Sequence;
@@ -72,6 +72,13 @@ impl Text {
         Ok(())
     }
 
+    /// Takes the last character off, where there is one. Takes constant time and no memory.
+    pub fn delete_last(&mut self)
+        ensures { self.new ≡ without_last self.old }
+    {
+        self.text.pop();
+    }
+
     /// The last characters of the text, at most `count`. Takes time in `count`, not in the
     /// length of the text.
     pub fn last(&self, count: usize) -> &str
@@ -96,7 +103,7 @@ fn last_of(text: &str, count: usize) -> &str
 
 // The string without its last character, where it has one.
 fn without_last(text: &str) -> &str
-    ensures { chars result.now ≡ take (length (chars text.now) - 1) (chars text.now) }
+    ensures { chars result.now ≡ without_last (chars text.now) }
 {
     let mut characters = text.chars();
     match characters.next_back() {
