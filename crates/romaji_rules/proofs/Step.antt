@@ -20,7 +20,7 @@ module _ (rules : List Rule) where
   found : (text : List ℕ) (rule : Rule) → rule_of rules text ≡ Some rule → IsRule rules text rule.next rule.out
   found text rule e = let h = rule_of-Some rules text rule e in (rule, h.0, h.1, refl, refl)
 
-  flushed-exact : (pending : List ℕ) → Flushed rules pending (flushed rules pending)
+  pub flushed-exact : (pending : List ℕ) → Flushed rules pending (flushed rules pending)
   flushed-exact pending = by (rule_of rules pending) refl
     where
       by : (o : Option Rule) → rule_of rules pending ≡ o → Flushed rules pending (out_of o)
@@ -109,7 +109,7 @@ module _ (rules : List Rule) (differ : inputs_differ rules ≡ true) where
   unbegun : (text : List ℕ) → ¬ IsBegun rules text → is_begun rules text ≡ false
   unbegun text none = false_from_not (is_begun rules text) (λ t. none ((is_begun-Decides rules text).0 t))
 
-  one_flushed : (pending : List ℕ) (out : Out) → Flushed rules pending out → flushed rules pending ≡ out
+  pub one_flushed : (pending : List ℕ) (out : Out) → Flushed rules pending out → flushed rules pending ≡ out
   one_flushed pending out (inl h) = let rule = one_rule pending h.0 out h.1 in ap out_of rule.1 ∙ rule.3
   one_flushed pending out (inr h) = ap out_of (no_rule pending h.0) ∙ sym h.1
 

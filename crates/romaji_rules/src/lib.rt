@@ -2,7 +2,8 @@
 //!
 //! It stands on `skk_text`. A rule set is seen as the list of its rules. `Rules::standard` is the
 //! standard table; `Rules::feed` makes exactly the step that the rules define, which `one_step` says
-//! is the only one; `Rules::goes_on` is the test that tells whether letters go on together.
+//! is the only one, and `Rules::flush` gives out what is pending, of which `one_flush` says the same;
+//! `Rules::goes_on` is the test that tells whether letters go on together.
 #![tactic(auto)]
 
 mod laws;
@@ -14,7 +15,7 @@ mod standard;
 #[cfg(test)]
 mod tests;
 
-pub use laws::one_step;
+pub use laws::{one_flush, one_step};
 pub use out::Out;
 pub use pending::Pending;
 pub use rule::Rule;

@@ -1,4 +1,5 @@
 ghost use Rattle.std.specs.Prelude.{◌≡◌, ◌≤◌, ◌<◌, ◌↔◌, IsTrue, ℕ, List, [], ◌∷◌, ◌++◌, length, slice_index, IsAscii};
+ghost use Rattle.skk_text.specs.Text.{without_last};
 
 use arrayvec::ArrayVec;
 use std::marker::Model;
@@ -46,6 +47,13 @@ impl Pending {
         ensures { IsTrue result ↔ (self.now ≡ []) }
     {
         self.bytes.is_empty()
+    }
+
+    /// Takes the last letter off, where there is one. Takes no memory.
+    pub fn delete_last(&mut self)
+        ensures { self.new ≡ without_last self.old }
+    {
+        self.bytes.pop();
     }
 
     /// The letters.

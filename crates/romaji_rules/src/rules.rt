@@ -80,6 +80,19 @@ impl Rules {
         Ok(out)
     }
 
+    /// Gives out what is pending: its output where it is an input, else nothing. Nothing is pending then.
+    /// After `Memory` the same is pending as before. Takes time in the number of rules.
+    pub fn flush(&self, alloc: Global, pending: &mut Pending) -> Result<Out, Memory>
+        ensures exact { IfOk result (λ out. Flushed self.now pending.old out) }
+        ensures computed { IfOk result (λ out. out ≡ flushed self.now pending.old) }
+        ensures empty { OnOk result (pending.new ≡ []) }
+        ensures err { OnErr result (pending.new ≡ pending.old) }
+    {
+        let out = self.flushed(alloc, pending)?;
+        *pending = Pending::new();
+        Ok(out)
+    }
+
     // Reads a character with nothing pending.
     fn feed_alone(&self, alloc: Global, pending: &mut Pending, c: u8) -> Result<Out, Memory>
         requires { pending.old ≡ [] }

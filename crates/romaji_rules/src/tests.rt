@@ -103,3 +103,27 @@ fn reads_words(rt: HostRuntime) -> Result<(), Fail> {
     assert!(rt; !rules.goes_on(&Pending::new(), b'q'));
     Ok(())
 }
+
+#[test]
+fn gives_out_what_is_pending(rt: HostRuntime) -> Result<(), Fail> {
+    let alloc = rt.alloc();
+    let rules = Rules::standard(alloc)?;
+    for (letters, hira, kata) in [("", "", ""), ("n", "ん", "ン"), ("ky", "", "")] {
+        let mut pending = Pending::of(letters.as_bytes());
+        let out = rules.flush(alloc, &mut pending)?;
+        assert_eq!(rt; out.hira.as_str(), hira, "pending {letters}");
+        assert_eq!(rt; out.kata.as_str(), kata, "pending {letters}");
+        assert_eq!(rt; pending.as_str(), "", "pending {letters}");
+    }
+    Ok(())
+}
+
+#[test]
+fn pending_letters_are_deleted_from_the_end(rt: HostRuntime) -> Result<(), Fail> {
+    let mut pending = Pending::of(b"ky");
+    for left in ["k", "", ""] {
+        pending.delete_last();
+        assert_eq!(rt; pending.as_str(), left);
+    }
+    Ok(())
+}
