@@ -1,10 +1,12 @@
 pub mod Checking
 pub mod LineReading
+pub mod Limits
 pub mod Lines
 pub mod LinesLeft
 pub mod Marks
 pub mod Numbers
 pub mod Pages
+pub mod PlainKeys
 pub mod Playing
 pub mod Runs
 pub mod Scripts

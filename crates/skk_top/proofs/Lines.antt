@@ -7,7 +7,7 @@ use Rattle.std.proofs.lemmas.Bool.Decides.{eqb_tells}
 use Rattle.skk_top.specs.Script.{cut, lengthened}
 
 -- numbers that differ fail the test
-unequal : (a b : ℕ) → a ≢ b → (a == b) ≡ false
+pub unequal : (a b : ℕ) → a ≢ b → (a == b) ≡ false
 unequal a b differ = elim (eqb_tells a b) [ inl e ↦ absurd (differ e.1) | inr e ↦ e.0 ]
 
 -- the first LF ends the first line

@@ -9,8 +9,8 @@ use Rattle.skk_top.specs.Printed.{Printed}
 use Rattle.skk_top.specs.Status.{ComesOfPress}
 use Rattle.skk_top.specs.declared.fault.RunFault.{RunFault}
 use Rattle.skk_top.specs.declared.fault.RunFault.TheVariants as told
-use Rattle.skk_top.specs.declared.kana_input.PressFault.{PressFault}
-use Rattle.skk_top.specs.declared.kana_input.PressFault.TheVariants as pressing
+use Rattle.skk_top.specs.declared.session_machine.PressFault.{PressFault}
+use Rattle.skk_top.specs.declared.session_machine.PressFault.TheVariants as pressing
 
 -- what holds anyway holds at an error
 pub on_err : {T E P : Type 0} (r : Result T E) → P → OnErr r P

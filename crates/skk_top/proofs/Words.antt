@@ -22,6 +22,14 @@ pub empty : chars [] ≡ []
 unfolding chars
 empty = refl
 
+pub space : chars (32 ∷ []) ≡ 32 ∷ []
+unfolding chars
+space = refl
+
+pub newline : chars (10 ∷ []) ≡ 10 ∷ []
+unfolding chars
+newline = refl
+
 pub limit : chars (codes "limit") ≡ codes "limit"
 unfolding chars
 limit = refl
@@ -62,4 +70,4 @@ pub backslash : chars (92 ∷ 92 ∷ []) ≡ 92 ∷ 92 ∷ []
 unfolding chars
 backslash = refl
 
-pub ruleset words = (hira, kata, ascii, wide, empty, limit, reading, no_more, no_completion, no_undo, no_candidate, line_feed, return, tab, backslash)
+pub ruleset words = (hira, kata, ascii, wide, empty, space, newline, limit, reading, no_more, no_completion, no_undo, no_candidate, line_feed, return, tab, backslash)

@@ -37,8 +37,8 @@ IsTypist number = number ≤ 65535
 abbrev pub has_return : List ℕ → Bool
 has_return text = list_any (λ byte. nat_eq byte 13) text
 
--- the text is an empty line or a comment, which has no CR; a session, `:` and keys; or a session, `=`, a typist, `,` and a book, which
--- is 0 or the typist's own
+-- the text is an empty line or a comment, which has no CR; a session, `:` and keys; or a session, `=`, a typist, `,`
+-- and a book, which is 0 or the typist's own
 abbrev pub Spells : List ℕ → Line → Type 0
 Spells text skipped = (text ≡ []) ⊎ ((comment : List ℕ) × (text ≡ 35 ∷ comment) × (has_return comment ≡ false))
 Spells text (keys session ks) = IsSession session × AreKeys ks × (text ≡ decimal session ++ 58 ∷ spelled ks)

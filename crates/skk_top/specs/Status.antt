@@ -3,8 +3,8 @@ use Rattle.std.specs.Prelude.{◌≡◌, ⊤, ℕ, Result, Ok, Err, List, ◌++�
 use Rattle.std.specs.Fmt.{decimal}
 use Rattle.skk_outside.specs.declared.source.ReadFault.{ReadFault}
 use Rattle.skk_outside.specs.declared.source.ReadFault.TheVariants as reading
-use Rattle.skk_top.specs.declared.kana_input.PressFault.{PressFault}
-use Rattle.skk_top.specs.declared.kana_input.PressFault.TheVariants as pressing
+use Rattle.skk_top.specs.declared.session_machine.PressFault.{PressFault}
+use Rattle.skk_top.specs.declared.session_machine.PressFault.TheVariants as pressing
 use Rattle.skk_top.specs.declared.fault.RunFault.{RunFault}
 use Rattle.skk_top.specs.declared.fault.RunFault.TheVariants.{TooLong, BadLine, Outside, Memory, NotBuilt}
 

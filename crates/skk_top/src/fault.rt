@@ -1,4 +1,4 @@
-use crate::kana_input::PressFault;
+use crate::session_machine::PressFault;
 use itoa::Buffer;
 use skk_outside::{Failed, ReadFault, Sink, write_all};
 use skk_text::Memory;

@@ -1,31 +1,34 @@
 ghost use Rattle.std.specs.Prelude.{◌≡◌};
-ghost use Rattle.skk_top.specs.KanaInput.{is_fed};
+ghost use Rattle.skk_top.specs.KanaInput.{only, in_kana, other_kana, formed};
 
 use romaji_rules::{Out, Pending, Rules};
-use skk_text::{Key, Memory, Mode, Text};
+use skk_text::{Key, Memory, Mode, Text, to_wide};
 use std::alloc::Global;
-use thiserror::Error;
 
-/// Why a key was not taken.
-#[derive(Clone, Copy, Debug, PartialEq, Eq, Error)]
-pub enum PressFault {
-    /// What the key does is not built.
-    #[error("not built")]
-    NotBuilt,
-    /// Want of memory.
-    #[error("out of memory")]
-    Memory,
+/// What a key of the plain state does to the frame besides the text that it inserts.
+#[derive(Clone, Copy, Debug, PartialEq, Eq)]
+pub enum PlainThen {
+    /// Nothing.
+    Stay,
+    /// The text loses its last character.
+    DeleteLast,
+    /// A newline is inserted, or a registration ends.
+    Newline,
+    /// A reading opens, and reads this letter.
+    OpenReading(Option<u8>),
+    /// A reading of abbreviations opens.
+    OpenAbbrev,
+    /// A registration is cancelled.
+    Cancel,
+    /// The last confirmation is to be taken back.
+    AskUndo,
 }
 
-impl From<Memory> for PressFault {
-    ghost use Rattle.std.specs.Prelude.{◌≡◌};
-    ghost use Rattle.skk_top.specs.declared.kana_input.PressFault.TheVariants as faults;
-
-    ghost from_gives = { λ _ fault. fault ≡ faults.Memory };
-
-    fn from(_memory: Memory) -> PressFault {
-        PressFault::Memory
-    }
+/// What a key of the plain state does to its frame: first the text is inserted, then the rest is done.
+#[derive(Debug, Drop)]
+pub struct PlainDo {
+    pub insert: Text,
+    pub then: PlainThen,
 }
 
 /// The plain state of a frame: its mode, and the letters that wait for more.
@@ -36,8 +39,9 @@ pub struct Plain {
 }
 
 impl Plain {
-    ghost use Rattle.std.specs.Prelude.{◌≡◌, IfOk, OnErr, IsErrOf, Some, None, false};
-    ghost use Rattle.skk_top.specs.KanaInput.{new_plain, is_built, plain_step, continues};
+    ghost use Rattle.std.specs.Prelude.{◌≡◌, ℕ, IfOk, OnErr, List, ◌∷◌, []};
+    ghost use Rattle.std.specs.Str.{chars};
+    ghost use Rattle.skk_top.specs.KanaInput.{new_plain, plain_step, kana_step, kana_char, ascii_step, flush_step, fed_step, continues};
 
     /// Hiragana mode, with nothing pending. Takes no memory.
     pub fn new() -> Plain
@@ -49,27 +53,69 @@ impl Plain {
         }
     }
 
-    /// Reads a key, and answers the text to insert. After a fault the state is as before.
-    pub fn press(&mut self, alloc: Global, rules: &Rules, key: Key) -> Result<Text, PressFault>
-        ensures ok { IfOk result (λ insert. plain_step rules.now self.old key ≡ Some (record { plain = self.new; insert = insert })) }
-        ensures not_built { IsErrOf result PressFault.NotBuilt → plain_step rules.now self.old key ≡ None }
+    /// Reads a key. After `Memory` the state is as before.
+    pub fn press(&mut self, alloc: Global, rules: &Rules, key: Key) -> Result<PlainDo, Memory>
+        ensures ok { IfOk result (λ done. plain_step rules.now self.old key ≡ record { plain = self.new; done = done }) }
         ensures err { OnErr result (self.new ≡ self.old) }
     {
-        let Key::Char(c) = key else {
-            return Err(PressFault::NotBuilt);
-        };
-        if !self.is_built(rules, c) {
-            return Err(PressFault::NotBuilt);
+        match self.mode {
+            Mode::Hira | Mode::Kata => self.press_kana(alloc, rules, key),
+            Mode::Ascii | Mode::Wide => self.press_ascii(alloc, rules, key),
         }
-        let Out { hira, kata: _ } = rules.feed(alloc, &mut self.pending, c)?;
-        Ok(hira)
     }
 
-    // Whether a character is built: in hiragana mode one that goes on with what is pending, or else one that is fed.
-    fn is_built(&self, rules: &Rules, c: u8) -> bool
-        ensures { result ≡ is_built rules.now self.now (Key.Char c) }
+    // Reads a key in a kana mode.
+    #[tactic(auto, using(crate::proofs::Words::words))]
+    fn press_kana(&mut self, alloc: Global, rules: &Rules, key: Key) -> Result<PlainDo, Memory>
+        ensures ok { IfOk result (λ done. kana_step rules.now self.old key ≡ record { plain = self.new; done = done }) }
+        ensures err { OnErr result (self.new ≡ self.old) }
     {
-        self.mode == Mode::Hira && (self.continues(rules, c) || is_fed(c))
+        match key {
+            Key::Char(c) => self.press_kana_char(alloc, rules, c),
+            Key::Cj => self.flush(alloc, rules, self.mode, "", PlainThen::Stay),
+            Key::Cg => {
+                if self.pending.is_empty() {
+                    return Ok(only(alloc, PlainThen::Cancel));
+                }
+                self.pending = Pending::new();
+                Ok(only(alloc, PlainThen::Stay))
+            }
+            Key::Bs => {
+                if self.pending.is_empty() {
+                    return Ok(only(alloc, PlainThen::DeleteLast));
+                }
+                self.pending.delete_last();
+                Ok(only(alloc, PlainThen::Stay))
+            }
+            Key::Ret => self.flush(alloc, rules, self.mode, "", PlainThen::Newline),
+            Key::Tab => Ok(only(alloc, PlainThen::Stay)),
+            Key::Undo => Ok(only(alloc, PlainThen::AskUndo)),
+        }
+    }
+
+    // Reads a character in a kana mode.
+    #[tactic(auto, using(crate::proofs::Words::words))]
+    fn press_kana_char(&mut self, alloc: Global, rules: &Rules, c: u8) -> Result<PlainDo, Memory>
+        ensures ok { IfOk result (λ done. kana_char rules.now self.old c ≡ record { plain = self.new; done = done }) }
+        ensures err { OnErr result (self.new ≡ self.old) }
+    {
+        if self.continues(rules, c) {
+            return self.feed(alloc, rules, c);
+        }
+        let mode = self.mode;
+        match c {
+            b' ' => self.flush(alloc, rules, mode, " ", PlainThen::Stay),
+            b'q' => self.flush(alloc, rules, other_kana(mode), "", PlainThen::Stay),
+            b'l' => self.flush(alloc, rules, Mode::Ascii, "", PlainThen::Stay),
+            b'L' => self.flush(alloc, rules, Mode::Wide, "", PlainThen::Stay),
+            b'Q' => self.flush(alloc, rules, mode, "", PlainThen::OpenReading(None)),
+            b'/' => self.flush(alloc, rules, mode, "", PlainThen::OpenAbbrev),
+            b'A'..=b'Z' => {
+                let letter = c.to_ascii_lowercase();
+                self.flush(alloc, rules, mode, "", PlainThen::OpenReading(Some(letter)))
+            }
+            _ => self.feed(alloc, rules, c),
+        }
     }
 
     // Whether something is pending, and the character goes on with it.
@@ -78,11 +124,104 @@ impl Plain {
     {
         !self.pending.is_empty() && rules.goes_on(&self.pending, c)
     }
+
+    // Has the rules read a character.
+    fn feed(&mut self, alloc: Global, rules: &Rules, c: u8) -> Result<PlainDo, Memory>
+        ensures ok { IfOk result (λ done. fed_step rules.now self.old c ≡ record { plain = self.new; done = done }) }
+        ensures err { OnErr result (self.new ≡ self.old) }
+    {
+        let out = rules.feed(alloc, &mut self.pending, c)?;
+        Ok(PlainDo {
+            insert: in_kana(self.mode, out),
+            then: PlainThen::Stay,
+        })
+    }
+
+    // Gives out what is pending, with a text behind it, and goes to a mode.
+    fn flush(
+        &mut self,
+        alloc: Global,
+        rules: &Rules,
+        mode: Mode,
+        behind: &str,
+        then: PlainThen,
+    ) -> Result<PlainDo, Memory>
+        ensures ok { IfOk result (λ done. flush_step rules.now self.old mode (chars behind.now) (then) ≡ record { plain = self.new; done = done }) }
+        ensures err { OnErr result (self.new ≡ self.old) }
+    {
+        let mut pending = Pending::of(self.pending.as_slice());
+        let mut insert = in_kana(self.mode, rules.flush(alloc, &mut pending)?);
+        insert.push_str(behind)?;
+        self.mode = mode;
+        self.pending = pending;
+        Ok(PlainDo { insert, then })
+    }
+
+    // Reads a key in one of the two ASCII modes.
+    #[tactic(auto, using(crate::proofs::Words::words))]
+    fn press_ascii(&mut self, alloc: Global, rules: &Rules, key: Key) -> Result<PlainDo, Memory>
+        ensures ok { IfOk result (λ done. ascii_step rules.now self.old key ≡ record { plain = self.new; done = done }) }
+        ensures err { OnErr result (self.new ≡ self.old) }
+    {
+        match key {
+            Key::Char(c) => {
+                let mut insert = Text::new(alloc);
+                insert.push(formed(self.mode, c))?;
+                Ok(PlainDo {
+                    insert,
+                    then: PlainThen::Stay,
+                })
+            }
+            Key::Cj => {
+                self.mode = Mode::Hira;
+                Ok(only(alloc, PlainThen::Stay))
+            }
+            Key::Bs => Ok(only(alloc, PlainThen::DeleteLast)),
+            Key::Ret => self.flush(alloc, rules, self.mode, "", PlainThen::Newline),
+            Key::Cg | Key::Tab => Ok(only(alloc, PlainThen::Stay)),
+            Key::Undo => Ok(only(alloc, PlainThen::AskUndo)),
+        }
+    }
 }
 
-// Whether a character is one for the rules, and neither changes the mode nor opens a reading.
-fn is_fed(c: u8) -> bool
-    ensures { result ≡ is_fed c }
+// Nothing is inserted.
+fn only(alloc: Global, then: PlainThen) -> PlainDo
+    ensures { result ≡ only (then) }
 {
-    (b'!'..=b'~').contains(&c) && !c.is_ascii_uppercase() && !matches!(c, b'q' | b'l' | b'/')
+    PlainDo {
+        insert: Text::new(alloc),
+        then,
+    }
+}
+
+// An output in katakana mode, and in every other.
+fn in_kana(mode: Mode, out: Out) -> Text
+    ensures { result ≡ in_kana mode out }
+{
+    let Out { hira, kata } = out;
+    match mode {
+        Mode::Kata => kata,
+        Mode::Hira | Mode::Ascii | Mode::Wide => hira,
+    }
+}
+
+// The other kana.
+fn other_kana(mode: Mode) -> Mode
+    ensures { result ≡ other_kana mode }
+{
+    match mode {
+        Mode::Hira => Mode::Kata,
+        Mode::Kata => Mode::Hira,
+        Mode::Ascii | Mode::Wide => mode,
+    }
+}
+
+// A character in the form that a mode inserts without the rules.
+fn formed(mode: Mode, c: u8) -> char
+    ensures { result ≡ formed mode c }
+{
+    match mode {
+        Mode::Wide => to_wide(c),
+        Mode::Hira | Mode::Kata | Mode::Ascii => c as char,
+    }
 }

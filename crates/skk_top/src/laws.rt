@@ -1,4 +1,9 @@
-ghost use Rattle.std.specs.Prelude.{◌≡◌, ℕ, List, []};
+ghost use Rattle.std.specs.Prelude.{◌≡◌, ◌≤◌, ℕ, List, [], Some};
+ghost use Rattle.skk_text.specs.Text.{byte_len};
+ghost use Rattle.skk_text.specs.declared.key.Key.{Key};
+ghost use Rattle.romaji_rules.specs.declared.rule.Rule.{Rule};
+ghost use Rattle.skk_top.specs.SessionMachine.{text_limit, new_session, played};
+ghost use Rattle.skk_top.specs.declared.session_machine.Session.{Session};
 ghost use Rattle.skk_top.specs.Script.{Line, Says, IsFirstBad};
 
 /// Texts say one list of lines at most.
@@ -14,4 +19,9 @@ pub fn no_bad_line_in_a_script()
 /// One line at most is the first that says nothing.
 pub fn one_bad_line()
     ensures { (texts : List (List ℕ)) (number other : ℕ) → IsFirstBad texts number → IsFirstBad texts other → number ≡ other }
+{}
+
+/// No text passes its limit, whatever keys a session is given.
+pub fn texts_have_a_limit()
+    ensures { (rules : List Rule) (keys : List Key) (session : Session) → played rules new_session keys ≡ Some session → byte_len session.text ≤ text_limit }
 {}

@@ -13,6 +13,7 @@ mod laws;
 mod line;
 mod number;
 mod page;
+mod printing;
 mod run;
 mod script;
 mod session_machine;
@@ -20,5 +21,5 @@ mod session_machine;
 mod tests;
 mod typing;
 
-pub use laws::{no_bad_line_in_a_script, one_bad_line, one_script};
+pub use laws::{no_bad_line_in_a_script, one_bad_line, one_script, texts_have_a_limit};
 pub use run::run_alone;

@@ -6,7 +6,7 @@ ghost use Rattle.skk_outside.specs.Written.{AppendsFront};
 ghost use Rattle.romaji_rules.specs.Standard.{standard};
 ghost use Rattle.skk_top.specs.Run.{IsType, IsStatus, IsTooLong, IsBadAt, IsRefused, IsRefusal, PrintsScript, PrintsNothing, IsTaken, IsNotBuilt, Tells, message_at};
 ghost use Rattle.skk_top.specs.Script.{Line, script_limit};
-ghost use Rattle.skk_top.specs.Status.{run_status, ComesOfTyping};
+ghost use Rattle.skk_top.specs.Status.{status_of, run_status, ComesOfTyping};
 ghost use Rattle.skk_top.specs.Typed.{SaysBuilt, typed_one, takes_all};
 
 use crate::check::check_script;
@@ -56,6 +56,7 @@ pub fn run_alone<I: Source, O: Sink, E: Sink>(
     // What is printed.
     ensures prints { IfSome (I.left input.old) (λ bytes. PrintsScript standard result bytes (O.written out.old) (O.written out.new)) }
     ensures nothing { IfSome (I.left input.old) (λ bytes. PrintsNothing bytes (O.written out.old) (O.written out.new)) }
+    ensures nothing_refused { result ≡ 2 → Keeps (O.written out.old) (O.written out.new) }
 
     // Why it was not done.
     ensures refused { result ≡ 2 → IfSome (I.left input.old) IsRefused }
@@ -96,6 +97,7 @@ fn run_words<I: Source, O: Sink>(
     ensures read { TakesAtMost (I.left input.old) (I.left input.new) (script_limit + 65536) }
     ensures prints { IfSome (I.left input.old) (λ bytes. PrintsScript standard (run_status result) bytes (O.written out.old) (O.written out.new)) }
     ensures nothing { IfSome (I.left input.old) (λ bytes. PrintsNothing bytes (O.written out.old) (O.written out.new)) }
+    ensures nothing_refused { IfErr result (λ fault. status_of fault ≡ 2 → Keeps (O.written out.old) (O.written out.new)) }
     ensures too_long { IsErrOf result RunFault.TooLong → IfSome (I.left input.old) IsTooLong }
     ensures bad_line { (number : ℕ) → IsErrOf result (RunFault.BadLine number) → IfSome (I.left input.old) (λ bytes. IsBadAt bytes number) }
     ensures outside { IsErrOf result RunFault.Outside → Rose (I.faults input.old) (I.faults input.new) ⊎ Rose (O.faults out.old) (O.faults out.new) }
@@ -126,6 +128,7 @@ fn run_type<I: Source, O: Sink>(alloc: Global, input: &mut I, out: &mut O) -> Re
     ensures read { TakesAtMost (I.left input.old) (I.left input.new) (script_limit + 65536) }
     ensures prints { IfSome (I.left input.old) (λ bytes. PrintsScript standard (run_status result) bytes (O.written out.old) (O.written out.new)) }
     ensures nothing { IfSome (I.left input.old) (λ bytes. PrintsNothing bytes (O.written out.old) (O.written out.new)) }
+    ensures nothing_refused { IfErr result (λ fault. status_of fault ≡ 2 → Keeps (O.written out.old) (O.written out.new)) }
     ensures too_long { IsErrOf result RunFault.TooLong → IfSome (I.left input.old) IsTooLong }
     ensures bad_line { (number : ℕ) → IsErrOf result (RunFault.BadLine number) → IfSome (I.left input.old) (λ bytes. IsBadAt bytes number) }
     ensures outside { IsErrOf result RunFault.Outside → Rose (I.faults input.old) (I.faults input.new) ⊎ Rose (O.faults out.old) (O.faults out.new) }

@@ -1,20 +1,37 @@
-ghost use Rattle.std.specs.Prelude.{◌≡◌, ◌∷◌, ◌++◌, OnOk};
-ghost use Rattle.std.specs.List.{flat_map};
-ghost use Rattle.std.specs.Fmt.{decimal};
-ghost use Rattle.std.specs.Str.{chars};
-ghost use Rattle.skk_top.specs.Printing.{escaped, indicator, notice_text};
-
-use crate::kana_input::{Plain, PressFault};
-use itoa::Buffer;
+use crate::kana_input::{Plain, PlainDo, PlainThen};
+use crate::printing::{indicator, notice_text, push_escaped, push_field, push_number};
 use romaji_rules::Rules;
-use skk_text::{Key, Keys, Memory, Mode, Notice, Text};
+use skk_text::{Key, Keys, Memory, Notice, Text};
 use std::alloc::Global;
+use thiserror::Error;
 
 /// The most bytes of a frame's text.
 pub const TEXT_LIMIT: usize = 1_048_576;
 
 /// The most characters of a text that are shown.
 pub const SHOWN: usize = 64;
+
+/// Why a key was not taken.
+#[derive(Clone, Copy, Debug, PartialEq, Eq, Error)]
+pub enum PressFault {
+    /// What the key does is not built.
+    #[error("not built")]
+    NotBuilt,
+    /// Want of memory.
+    #[error("out of memory")]
+    Memory,
+}
+
+impl From<Memory> for PressFault {
+    ghost use Rattle.std.specs.Prelude.{◌≡◌};
+    ghost use Rattle.skk_top.specs.declared.session_machine.PressFault.TheVariants as faults;
+
+    ghost from_gives = { λ _ fault. fault ≡ faults.Memory };
+
+    fn from(_memory: Memory) -> PressFault {
+        PressFault::Memory
+    }
+}
 
 /// A typist's session: the text so far, the plain state, and the notice of the last key.
 #[derive(Drop)]
@@ -25,9 +42,11 @@ pub struct Session {
 }
 
 impl Session {
-    ghost use Rattle.std.specs.Prelude.{◌≡◌, ◌++◌, OnOk, OnErr, IfOk, IsErrOf, Some, None, List, ℕ};
+    ghost use Rattle.std.specs.Prelude.{◌≡◌, ◌+◌, ◌++◌, nat_le, OnOk, OnErr, IfOk, IsErrOf, Some, None, List, ℕ};
     ghost use Rattle.std.specs.List.{flat_map};
-    ghost use Rattle.skk_top.specs.SessionMachine.{new_session, inserted, pressed, played, display, line, closing_line};
+    ghost use Rattle.std.specs.Str.{chars};
+    ghost use Rattle.skk_text.specs.Text.{byte_len};
+    ghost use Rattle.skk_top.specs.SessionMachine.{text_limit, new_session, inserted, finished, pressed, played, display, line, closing_line};
 
     /// Hiragana mode, and an empty text. Takes no memory.
     pub fn new(alloc: Global) -> Session
@@ -46,8 +65,10 @@ impl Session {
         ensures not_built { IsErrOf result PressFault.NotBuilt → pressed rules.now self key ≡ None }
     {
         let mut session = self;
-        let insert = session.plain.press(alloc, rules, key)?;
-        session.insert(&insert)?;
+        let PlainDo { insert, then } = session.plain.press(alloc, rules, key)?;
+        session.notice = Notice::Empty;
+        session.insert(insert.as_str())?;
+        session.finish(then)?;
         Ok(session)
     }
 
@@ -64,15 +85,36 @@ impl Session {
     }
 
     // Puts a text at the end, unless the whole would pass the limit.
-    fn insert(&mut self, piece: &Text) -> Result<(), Memory>
-        ensures { OnOk result (self.new ≡ inserted self.old piece.now) }
+    fn insert(&mut self, piece: &str) -> Result<(), Memory>
+        ensures { OnOk result (self.new ≡ inserted self.old (chars piece.now)) }
     {
-        if piece.byte_len() > TEXT_LIMIT || self.text.byte_len() > TEXT_LIMIT - piece.byte_len() {
+        if !self.has_room(piece) {
             self.notice = Notice::Limit;
             return Ok(());
         }
-        self.text.push_str(piece.as_str())?;
-        self.notice = Notice::Empty;
+        self.text.push_str(piece)
+    }
+
+    // Whether the text and the piece are together within the limit.
+    fn has_room(&self, piece: &str) -> bool
+        ensures { result ≡ nat_le (byte_len self.now.text + byte_len (chars piece.now)) text_limit }
+    {
+        piece.len() <= TEXT_LIMIT && self.text.byte_len() <= TEXT_LIMIT - piece.len()
+    }
+
+    // Does what a key does behind its insertion.
+    #[tactic(auto, using(crate::proofs::Words::words))]
+    fn finish(&mut self, then: PlainThen) -> Result<(), PressFault>
+        ensures ok { OnOk result (finished self.old (then) ≡ Some self.new) }
+        ensures not_built { IsErrOf result PressFault.NotBuilt → finished self.old (then) ≡ None }
+    {
+        match then {
+            PlainThen::Stay | PlainThen::Cancel => {}
+            PlainThen::DeleteLast => self.text.delete_last(),
+            PlainThen::Newline => self.insert("\n")?,
+            PlainThen::OpenReading(_) | PlainThen::OpenAbbrev => return Err(PressFault::NotBuilt),
+            PlainThen::AskUndo => self.notice = Notice::NoUndo,
+        }
         Ok(())
     }
 
@@ -109,73 +151,5 @@ impl Session {
         push_escaped(page, self.text.as_str())?;
         page.push('\n')?;
         Ok(())
-    }
-}
-
-// A mode's indicator.
-#[tactic(auto, using(crate::proofs::Words::words))]
-fn indicator(mode: Mode) -> &'static str
-    ensures { chars result.now ≡ indicator mode }
-{
-    match mode {
-        Mode::Hira => "かな",
-        Mode::Kata => "カナ",
-        Mode::Ascii => "SKK",
-        Mode::Wide => "全英",
-    }
-}
-
-// A notice's text.
-#[tactic(auto, using(crate::proofs::Words::words))]
-fn notice_text(notice: Notice) -> &'static str
-    ensures { chars result.now ≡ notice_text notice }
-{
-    match notice {
-        Notice::Empty => "",
-        Notice::Limit => "limit",
-        Notice::Reading => "reading",
-        Notice::NoMore => "no-more",
-        Notice::NoCompletion => "no-completion",
-        Notice::NoUndo => "no-undo",
-        Notice::NoCandidate => "no-candidate",
-    }
-}
-
-// Adds a TAB and a text.
-fn push_field(page: &mut Text, text: &str) -> Result<(), Memory>
-    ensures { OnOk result (page.new ≡ page.old ++ 9 ∷ chars text.now) }
-{
-    page.push('\t')?;
-    page.push_str(text)
-}
-
-// Adds a number in decimal.
-fn push_number(page: &mut Text, number: u8) -> Result<(), Memory>
-    ensures { OnOk result (page.new ≡ page.old ++ decimal number) }
-{
-    page.push_str(Buffer::new().format(number))
-}
-
-// Adds a text as it is printed.
-fn push_escaped(page: &mut Text, text: &str) -> Result<(), Memory>
-    ensures { OnOk result (page.new ≡ page.old ++ flat_map escaped (chars text.now)) }
-{
-    for c in text.chars() {
-        push_escaped_char(page, c)?;
-    }
-    Ok(())
-}
-
-// Adds a character as it is printed: LF as \n, CR as \r, TAB as \t, and a backslash doubled.
-#[tactic(auto, using(crate::proofs::Words::words))]
-fn push_escaped_char(page: &mut Text, c: char) -> Result<(), Memory>
-    ensures { OnOk result (page.new ≡ page.old ++ escaped c) }
-{
-    match c {
-        '\n' => page.push_str("\\n"),
-        '\r' => page.push_str("\\r"),
-        '\t' => page.push_str("\\t"),
-        '\\' => page.push_str("\\\\"),
-        _ => page.push(c),
     }
 }

@@ -11,11 +11,10 @@ ghost use Rattle.skk_top.specs.Status.{ComesOfTyping};
 ghost use Rattle.skk_top.specs.Typed.{typed_with, typed_text, typed_one, takes_from, takes_all, session_or_new, SaysBuilt};
 
 use crate::fault::RunFault;
-use crate::kana_input::PressFault;
 use crate::line::key_text;
 use crate::page::{print, print_full};
 use crate::script::next_line;
-use crate::session_machine::Session;
+use crate::session_machine::{PressFault, Session};
 use romaji_rules::Rules;
 use skk_outside::Sink;
 use skk_text::{KeyFault, Text, read_keys};

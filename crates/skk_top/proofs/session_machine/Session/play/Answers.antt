@@ -1,5 +1,5 @@
 use Rattle.std.proofs.Common.{◌∙◌, sym, ap, Err}
-use Rattle.skk_top.specs.declared.kana_input.PressFault.TheVariants.{NotBuilt}
+use Rattle.skk_top.specs.declared.session_machine.PressFault.TheVariants.{NotBuilt}
 use Rattle.skk_top.proofs.Pages.{same-fault}
 use Rattle.skk_top.proofs.Playing.{played-at}
 use Rattle.skk_top.proofs.session_machine.Session.play.Goals as goal

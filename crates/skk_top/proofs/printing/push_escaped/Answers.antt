@@ -4,7 +4,7 @@ use Rattle.std.specs.Str.{chars}
 use Rattle.std.specs.Str.Iter.{chars_rest}
 use Rattle.std.proofs.lemmas.Str.{Chars-Drains, encodes-chars}
 use Rattle.skk_top.specs.Printing.{escaped}
-use Rattle.skk_top.proofs.session_machine.push_escaped.Goals as goal
+use Rattle.skk_top.proofs.printing.push_escaped.Goals as goal
 
 -- the loop ends where each character was taken
 pub returns : goal.returns

@@ -3,7 +3,7 @@ use Rattle.std.specs.Fmt.{decimal}
 use Rattle.std.specs.Str.{chars}
 use Rattle.std.proofs.lemmas.Fmt.{IsAscii-decimal}
 use Rattle.std.proofs.lemmas.Str.{chars-IsAscii}
-use Rattle.skk_top.proofs.session_machine.push_number.Goals as goal
+use Rattle.skk_top.proofs.printing.push_number.Goals as goal
 
 pub returns : goal.returns
 returns c =
