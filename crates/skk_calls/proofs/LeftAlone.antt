@@ -1,0 +1,64 @@
+-- A call leaves the rows alone that it does not speak of.
+use Rattle.std.proofs.Common.{◌≡◌, ℕ, ◌+◌, Bool, true, false, ◌&&◌, ◌==◌, Some, Option, refl, sym, ◌∙◌, ap}
+use Rattle.std.specs.List.{list_all}
+use Rattle.std.proofs.lemmas.Bool.Decides.{Decides-eqb}
+use Rattle.skk_calls.specs.declared.call.Call.{Call}
+use Rattle.skk_calls.specs.declared.call.Call.TheVariants.{Lookup, Complete, Learn, Purge, Unlearn}
+use Rattle.skk_calls.specs.Dictionary.{after, moves, moved, is_call, is_row_or_none, speaks_of}
+use Rattle.skk_calls.specs.Learning.{learnt, purged, is_learned}
+use Rattle.skk_calls.specs.Rows.{RowKey, Row, same_key, is_key}
+use Rattle.skk_calls.specs.States.{State, row_at, count_of, changed, books_ascend, is_book, is_valid}
+use Rattle.skk_calls.proofs.Changing.{has_key}
+use Rattle.skk_calls.proofs.Filtered.{and_left, and_right}
+use Rattle.skk_calls.proofs.Keeping.{before_has_key}
+use Rattle.skk_calls.proofs.Keys.{same_key_itself}
+use Rattle.skk_calls.proofs.OtherRows.{row_at_other_key, row_at_other_book}
+use Rattle.skk_calls.proofs.TakenBack.{after_moved, after_unmoved}
+
+-- of two parts of a test that fails, the second fails where the first does not
+second_fails : (a b : Bool) → (a && b) ≡ false → a ≡ true → b ≡ false
+second_fails true b e f = e
+second_fails false b e f = cc
+
+-- a row of another key, or in another book, is what it was
+other_row : (number count : ℕ) (key : RowKey) (new : Option Row) (state : State) (book : ℕ) (other : RowKey) → books_ascend state ≡ true
+    → has_key key new ≡ true → (number == book && same_key key other) ≡ false
+    → row_at (changed number count key new state) book other ≡ row_at state book other
+other_row number count key new state book other ascend has e = by (number == book) refl
+  where
+    by : (b : Bool) → (number == book) ≡ b → row_at (changed number count key new state) book other ≡ row_at state book other
+    by true f =
+        let same : number ≡ book = (Decides-eqb number book).0 f in
+        let unlike : same_key key other ≡ false = second_fails (number == book) (same_key key other) e f in
+        ap (λ (n : ℕ). row_at (changed number count key new state) n other) (sym same)
+        ∙ row_at_other_key number count key new state other ascend unlike has
+        ∙ ap (λ (n : ℕ). row_at state n other) same
+    by false f = row_at_other_book number count key new state book other f
+
+-- a call that is made leaves it alone
+moved_leaves : (state : State) (call : Call) (book : ℕ) (other : RowKey) → books_ascend state ≡ true → is_call call ≡ true
+    → speaks_of call book other ≡ false → row_at (moved state call) book other ≡ row_at state book other
+moved_leaves state (Lookup who key okuri) book other ascend typed e = refl
+moved_leaves state (Complete who prefix) book other ascend typed e = refl
+moved_leaves state (Learn number key okuri cand) book other ascend typed e =
+    let stamp = count_of state number + 1 in
+    other_row number stamp key (Some (learnt (row_at state number key) key okuri cand stamp)) state book other ascend (same_key_itself key) e
+moved_leaves state (Purge number key word) book other ascend typed e =
+    let stamp = count_of state number + 1 in
+    other_row number stamp key (Some (purged (row_at state number key) key word stamp)) state book other ascend (same_key_itself key) e
+moved_leaves state (Unlearn learned) book other ascend typed e =
+    other_row learned.book (count_of state learned.book) learned.key learned.before state book other ascend
+    (before_has_key learned.key learned.stamp learned.before
+    (and_left (is_learned learned) (is_row_or_none learned.before) (and_right (is_key learned.key) (is_learned learned && is_row_or_none learned.before) typed)))
+    e
+
+-- so does every call
+pub leaves_alone : (state : State) (call : Call) (book : ℕ) (other : RowKey) → is_valid state ≡ true → is_call call ≡ true
+    → speaks_of call book other ≡ false → row_at (after state call) book other ≡ row_at state book other
+leaves_alone state call book other valid typed e = by (moves state call) refl
+  where
+    by : (b : Bool) → moves state call ≡ b → row_at (after state call) book other ≡ row_at state book other
+    by true f =
+        ap (λ (s : State). row_at s book other) (after_moved state call f)
+        ∙ moved_leaves state call book other (and_left (books_ascend state) (list_all is_book state) valid) typed e
+    by false f = ap (λ (s : State). row_at s book other) (after_unmoved state call f)

@@ -1,0 +1,166 @@
+-- What a row and its parts keep, each by its name.
+use Rattle.std.proofs.Common.{◌≡◌, ℕ, ◌+◌, Bool, true, false, cond, ◌&&◌, ◌||◌, nat_le, None, Some, Option, List, [], ◌∷◌, length, refl, subst, arith}
+use Rattle.std.proofs.lemmas.Bool.Decides.{nat_tests}
+use Rattle.std.specs.List.{list_all}
+use Rattle.skk_text.specs.Text.{byte_len}
+use Rattle.skk_calls.specs.declared.part.Part.{Part}
+use Rattle.skk_calls.specs.declared.part.Part.TheVariants.{Nasi, Ari}
+use Rattle.skk_calls.specs.Canonical.{canonical, is_good, some, line_limit}
+use Rattle.skk_calls.specs.Found.{note_of}
+use Rattle.skk_calls.specs.Learning.{row_or_none}
+use Rattle.skk_calls.specs.Rows.{RowKey, Cand, Block, Row, same, differ, is_key, is_okuri, is_note, is_word, word_limit, is_cand, is_block, fits_blocks, is_row}
+use Rattle.skk_calls.specs.States.{has_stamp}
+use Rattle.skk_calls.proofs.Changing.{has_key}
+use Rattle.skk_calls.proofs.Filtered.{and_left, and_right, and_both, list_all_so}
+use Rattle.skk_calls.proofs.KeptBooks.{fits_after}
+use Rattle.skk_calls.proofs.Keys.{same_key_equal}
+use Rattle.skk_calls.proofs.Texts.{same_equal, words_of, okuri_of}
+
+-- each word of a block is one
+abbrev pub has_words : Block → Bool
+has_words block = list_all is_word block.words
+
+-- what a row keeps
+pub record RowParts (row : Row) : Type 0 where
+  pub key : is_key row.key ≡ true
+  pub cands : list_all is_cand row.cands ≡ true
+  pub words : differ (words_of row.cands) ≡ true
+  pub part : fits_blocks row.key.part row.blocks ≡ true
+  pub blocks : list_all is_block row.blocks ≡ true
+  pub okuri : differ (okuri_of row.blocks) ≡ true
+  pub hides : differ row.hides ≡ true
+
+-- a row is one by its parts
+pub row_from_parts : (row : Row) → RowParts row → is_row row ≡ true
+row_from_parts row parts = cc (parts.key, parts.cands, parts.words, parts.part, parts.blocks, parts.okuri, parts.hides)
+
+-- a row has its parts
+pub row_parts : (row : Row) → is_row row ≡ true → RowParts row
+row_parts row e =
+    let rest = and_right (is_key row.key) cands_and_blocks e in
+    let cands = and_left some_cands some_blocks rest in
+    let blocks = and_right some_cands some_blocks rest in
+    let fits = and_left all_blocks (differ row.hides) blocks in
+    let both = and_left (fits_blocks row.key.part row.blocks && list_all is_block row.blocks) (differ (okuri_of row.blocks)) fits in
+    record {
+      key = and_left (is_key row.key) cands_and_blocks e;
+      cands = and_left (list_all is_cand row.cands) (differ (words_of row.cands)) cands;
+      words = and_right (list_all is_cand row.cands) (differ (words_of row.cands)) cands;
+      part = and_left (fits_blocks row.key.part row.blocks) (list_all is_block row.blocks) both;
+      blocks = and_right (fits_blocks row.key.part row.blocks) (list_all is_block row.blocks) both;
+      okuri = and_right (fits_blocks row.key.part row.blocks && list_all is_block row.blocks) (differ (okuri_of row.blocks)) fits;
+      hides = and_right all_blocks (differ row.hides) blocks;
+    }
+  where
+    some_cands : Bool
+    some_cands = list_all is_cand row.cands && differ (words_of row.cands)
+
+    all_blocks : Bool
+    all_blocks = fits_blocks row.key.part row.blocks && list_all is_block row.blocks && differ (okuri_of row.blocks)
+
+    some_blocks : Bool
+    some_blocks = all_blocks && differ row.hides
+
+    cands_and_blocks : Bool
+    cands_and_blocks = some_cands && some_blocks
+
+-- what a block keeps
+pub record BlockParts (block : Block) : Type 0 where
+  pub okuri : is_okuri block.okuri ≡ true
+  pub some : nat_le 1 (length block.words) ≡ true
+  pub words : list_all is_word block.words ≡ true
+  pub different : differ block.words ≡ true
+
+-- a block is one by its parts
+pub block_from_parts : (block : Block) → BlockParts block → is_block block ≡ true
+block_from_parts block parts = cc (parts.okuri, parts.some, parts.words, parts.different)
+
+-- a block has its parts
+pub block_parts : (block : Block) → is_block block ≡ true → BlockParts block
+block_parts block e =
+    let rest = and_right (is_okuri block.okuri) (nat_le 1 (length block.words) && (list_all is_word block.words && differ block.words)) e in
+    let words = and_right (nat_le 1 (length block.words)) (list_all is_word block.words && differ block.words) rest in
+    record {
+      okuri = and_left (is_okuri block.okuri) (nat_le 1 (length block.words) && (list_all is_word block.words && differ block.words)) e;
+      some = and_left (nat_le 1 (length block.words)) (list_all is_word block.words && differ block.words) rest;
+      words = and_left (list_all is_word block.words) (differ block.words) words;
+      different = and_right (list_all is_word block.words) (differ block.words) words;
+    }
+
+-- what is known of the row of a key before a change
+pub record BeforeParts (key : RowKey) (row : Row) : Type 0 where
+  pub same : row.key ≡ key
+  pub parts : RowParts row
+  pub hidden : list_all is_word row.hides ≡ true
+
+-- the words that a good row hides are words
+pub good_hides : (row : Row) → is_good row ≡ true → list_all is_word row.hides ≡ true
+good_hides row e =
+    and_left (list_all is_word row.hides) (list_all has_words row.blocks && nat_le (byte_len (canonical row)) line_limit)
+    (and_right (some row.cands || (some row.blocks || some row.hides))
+    (list_all is_word row.hides && (list_all has_words row.blocks && nat_le (byte_len (canonical row)) line_limit)) e)
+
+-- each part fits no blocks
+fits_no_blocks : (part : Part) → fits_blocks part [] ≡ true
+fits_no_blocks Nasi = refl
+fits_no_blocks Ari = refl
+
+-- the row before a change, or the one that says nothing, has its parts
+pub before_parts : (count : ℕ) (key : RowKey) (before : Option Row) → is_key key ≡ true → has_key key before ≡ true
+    → fits_after count before ≡ true
+    → BeforeParts key (row_or_none key before)
+before_parts count key None e has fits = record {
+  same = refl;
+  parts = record { key = e; cands = refl; words = refl; part = fits_no_blocks key.part; blocks = refl; okuri = refl; hides = refl };
+  hidden = refl;
+}
+before_parts count key (Some row) e has fits = record {
+  same = same_key_equal row.key key has;
+  parts = row_parts row (and_left (is_row row) (is_good row && has_stamp count row) fits);
+  hidden = good_hides row (and_left (is_good row) (has_stamp count row) (and_right (is_row row) (is_good row && has_stamp count row) fits));
+}
+
+-- the word of a candidate is one
+pub cand_word : (cand : Cand) → is_cand cand ≡ true → is_word cand.word ≡ true
+cand_word cand e =
+    by (length cand.word) (byte_len cand.word) (byte_len cand.note)
+    (and_left (nat_le 1 (length cand.word)) (is_note cand.note && short) e)
+    (and_right (is_note cand.note) short (and_right (nat_le 1 (length cand.word)) (is_note cand.note && short) e))
+  where
+    short : Bool
+    short = nat_le (byte_len cand.word + byte_len cand.note) word_limit
+
+    by : (l w n : ℕ) → nat_le 1 l ≡ true → nat_le (w + n) 4095 ≡ true → (nat_le 1 l && nat_le w 4095) ≡ true
+    by l w n some short = grind (arith, nat_tests)
+
+-- a word with the note that a candidate has for it is a candidate
+pub cand_with_note_of : (cands : List Cand) (word : List ℕ) → is_word word ≡ true → list_all is_cand cands ≡ true
+    → is_cand (record { word = word; note = note_of cands word }) ≡ true
+cand_with_note_of [] word e all = by (length word) (byte_len word) e
+  where
+    by : (l w : ℕ) → (nat_le 1 l && nat_le w 4095) ≡ true → (nat_le 1 l && (true && nat_le (w + 0) 4095)) ≡ true
+    by l w h = grind (arith, nat_tests)
+cand_with_note_of (cand ∷ cands) word e all =
+    by (same cand.word word) refl (cand_with_note_of cands word e (and_right (is_cand cand) (list_all is_cand cands) all))
+  where
+    by : (b : Bool) → same cand.word word ≡ b → is_cand (record { word = word; note = note_of cands word }) ≡ true
+        → is_cand (record { word = word; note = cond b cand.note (note_of cands word) }) ≡ true
+    by true found rest =
+        subst (λ (w : List ℕ). is_cand (record { word = w; note = cand.note }) ≡ true) (same_equal cand.word word found)
+        (and_left (is_cand cand) (list_all is_cand cands) all)
+    by false found rest = rest
+
+-- a row that says something, hides words alone and is short is good
+pub good_from_parts : (row : Row) → RowParts row → list_all is_word row.hides ≡ true
+    → (some row.cands || (some row.blocks || some row.hides)) ≡ true
+    → nat_le (byte_len (canonical row)) line_limit ≡ true → is_good row ≡ true
+good_from_parts row parts hidden says short =
+    let words : list_all has_words row.blocks ≡ true =
+    list_all_so is_block has_words (λ (block : Block) (e : is_block block ≡ true). (block_parts block e).words)
+    row.blocks parts.blocks in
+    and_both (some row.cands || (some row.blocks || some row.hides))
+    (list_all is_word row.hides && (list_all has_words row.blocks && nat_le (byte_len (canonical row)) line_limit))
+    says
+    (and_both (list_all is_word row.hides) (list_all has_words row.blocks && nat_le (byte_len (canonical row)) line_limit)
+    hidden
+    (and_both (list_all has_words row.blocks) (nat_le (byte_len (canonical row)) line_limit) words short))

@@ -1,0 +1,12 @@
+pub mod Canonical
+pub mod Chronicles
+pub mod Completions
+pub mod Dictionary
+pub mod Found
+pub mod Histories
+pub mod Learning
+pub mod Orders
+pub mod Rows
+pub mod States
+pub mod Tallies
+pub mod Walks

@@ -1,0 +1,143 @@
+-- Rows of a dictionary as contracts see them, and what the types of their parts keep.
+use Rattle.std.specs.Prelude.{◌≡◌, ◌++◌, ℕ, ◌+◌, Bool, true, false, ◌&&◌, ◌||◌, ◌==◌, not, nat_le, nat_lt, Option, List, [], ◌∷◌, length, map}
+use Rattle.std.specs.List.{list_any, list_all}
+use Rattle.std.specs.Str.{bytes_eq}
+use Rattle.skk_text.specs.Kana.{is_hiragana}
+use Rattle.skk_text.specs.Text.{byte_len, last_chars}
+use Rattle.skk_calls.specs.declared.part.Part.{Part}
+use Rattle.skk_calls.specs.declared.part.Part.TheVariants.{Nasi, Ari}
+
+-- a part of the dictionary, and a reading in it
+pub record RowKey : Type 0 where
+  pub part : Part
+  pub reading : List ℕ
+
+-- a word, and a note that is shown beside it, which may be empty
+pub record Cand : Type 0 where
+  pub word : List ℕ
+  pub note : List ℕ
+
+-- the words that were chosen with one okurigana
+pub record Block : Type 0 where
+  pub okuri : List ℕ
+  pub words : List (List ℕ)
+
+-- the candidates of a key, their blocks, the words that it hides in the layers below, and the count at its last change
+pub record Row : Type 0 where
+  pub key : RowKey
+  pub cands : List Cand
+  pub blocks : List Block
+  pub hides : List (List ℕ)
+  pub stamp : ℕ
+
+-- what was learnt: in which book, under which key, with which stamp, and the row before
+pub record Learned : Type 0 where
+  pub book : ℕ
+  pub key : RowKey
+  pub stamp : ℕ
+  pub before : Option Row
+
+-- texts are the same, and stand in a list
+abbrev pub same : List ℕ → List ℕ → Bool
+same text other = bytes_eq text other
+
+abbrev pub has : List (List ℕ) → List ℕ → Bool
+has texts text = list_any (same text) texts
+
+-- no text stands twice
+abbrev pub differ : List (List ℕ) → Bool
+differ [] = true
+differ (text ∷ texts) = not (has texts text) && differ texts
+
+-- parts, and keys, are the same
+abbrev pub same_part : Part → Part → Bool
+same_part Nasi Nasi = true
+same_part Ari Ari = true
+same_part part other = false
+
+abbrev pub same_key : RowKey → RowKey → Bool
+same_key key other = same_part key.part other.part && same key.reading other.reading
+
+-- the text is not empty, and begins with something else than `;`
+abbrev pub begins_well : List ℕ → Bool
+begins_well [] = false
+begins_well (c ∷ text) = not (c == 0x3B)
+
+-- a character of a reading: none up to the space, and no DEL
+abbrev pub is_reading_char : ℕ → Bool
+is_reading_char c = nat_lt 0x20 c && not (c == 0x7F)
+
+-- the text is one letter from `a` to `z`
+abbrev pub is_letter : List ℕ → Bool
+is_letter [] = false
+is_letter (c ∷ []) = nat_le 0x61 c && nat_le c 0x7A
+is_letter (c ∷ d ∷ text) = false
+
+-- a reading without okurigana has at most 254 bytes; one with it has at most 255, and ends in its letter behind
+-- something else
+abbrev pub fits_part : Part → List ℕ → Bool
+fits_part Nasi text = nat_le (byte_len text) 254
+fits_part Ari text = nat_le (byte_len text) 255 && (nat_le 2 (length text) && is_letter (last_chars 1 text))
+
+-- a key whose reading is valid
+abbrev pub is_key : RowKey → Bool
+is_key key = begins_well key.reading && (list_all is_reading_char key.reading && fits_part key.part key.reading)
+
+-- a character of an okurigana: a hiragana that has a katakana, or ー
+abbrev pub is_okuri_char : ℕ → Bool
+is_okuri_char c = is_hiragana c || c == 0x30FC
+
+-- an okurigana has 1 to 60 bytes of such characters
+abbrev pub is_okuri : List ℕ → Bool
+is_okuri text = nat_le 1 (byte_len text) && (nat_le (byte_len text) 60 && list_all is_okuri_char text)
+
+-- a character of a note is no `/`, CR or LF
+abbrev pub is_note_char : ℕ → Bool
+is_note_char c = not (c == 0x2F || (c == 13 || c == 10))
+
+-- a note may stand in an item
+abbrev pub is_note : List ℕ → Bool
+is_note note = list_all is_note_char note
+
+-- the most bytes of a word, with its note
+abbrev pub word_limit : ℕ
+word_limit = 4095
+
+-- a word that is not empty, and not too long
+abbrev pub is_word : List ℕ → Bool
+is_word word = nat_le 1 (length word) && nat_le (byte_len word) word_limit
+
+-- a candidate has a word, and a note that stands in an item; both together are not too long
+abbrev pub is_cand : Cand → Bool
+is_cand cand =
+    nat_le 1 (length cand.word)
+    && (is_note cand.note && nat_le (byte_len cand.word + byte_len cand.note) word_limit)
+
+-- a block has words, which differ
+abbrev pub is_block : Block → Bool
+is_block block = is_okuri block.okuri && (nat_le 1 (length block.words) && (list_all is_word block.words && differ block.words))
+
+-- a key without okurigana has no blocks
+abbrev pub fits_blocks : Part → List Block → Bool
+fits_blocks Nasi [] = true
+fits_blocks Nasi (block ∷ blocks) = false
+fits_blocks Ari blocks = true
+
+-- a row's words differ, its blocks' okurigana differ, and so do the words that it hides
+abbrev pub is_row : Row → Bool
+is_row row =
+    is_key row.key
+    && (list_all is_cand row.cands && differ (map (λ cand. cand.word) row.cands)
+    && (fits_blocks row.key.part row.blocks && list_all is_block row.blocks && differ (map (λ block. block.okuri) row.blocks)
+    && differ row.hides))
+
+-- no key has two rows
+abbrev pub keys_differ : List Row → Bool
+keys_differ [] = true
+keys_differ (row ∷ rows) = not (list_any (λ other. same_key row.key other.key) rows) && keys_differ rows
+
+-- the first character that no note has stands at this byte
+abbrev pub IsBadNote : List ℕ → ℕ → Type 0
+IsBadNote note at =
+    (front : List ℕ) × (c : ℕ) × (back : List ℕ) × (note ≡ front ++ c ∷ back)
+    × (is_note front ≡ true) × (is_note_char c ≡ false) × (at ≡ byte_len front)

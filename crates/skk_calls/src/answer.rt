@@ -1,0 +1,49 @@
+use crate::cand::Cands;
+use crate::learned::Learned;
+use skk_text::{Sequence, Texts};
+
+/// What a dictionary replies to a call.
+#[derive(Debug, Drop)]
+pub enum Reply {
+    /// The candidates that were found, which may be none.
+    Found(Cands),
+    /// The readings that go on from the prefix, which may be none.
+    Readings(Texts),
+    /// The candidate was learnt.
+    Learned(Learned),
+    /// The word was purged.
+    Purged,
+    /// The purge would change nothing.
+    Unchanged,
+    /// What was learnt was taken back.
+    Restored,
+    /// The row has this stamp by now, or 0 where there is none, and was left so.
+    Overtaken(u64),
+    /// The row's line would have so many bytes, which are too many.
+    TooBig(u64),
+    /// The book's count has no further number.
+    StampsEnd,
+}
+
+/// Why a call was refused. A refused call changes nothing.
+#[derive(Clone, Copy, Debug, PartialEq, Eq)]
+pub enum Refusal {
+    /// Want of memory.
+    Memory,
+    /// The disk failed.
+    Disk,
+    /// The learned file ends at a byte, and the change needs more than its limit leaves.
+    JournalFull { end: u64, need: u64, limit: u64 },
+}
+
+/// What a caller is answered.
+#[derive(Debug, Drop)]
+pub enum Answer {
+    /// The call was served.
+    Done(Reply),
+    /// The call was refused.
+    Refused(Refusal),
+}
+
+/// Answers in order.
+pub type Answers = Sequence<Answer>;

@@ -1,0 +1,70 @@
+ghost use Rattle.std.specs.Prelude.{◌≡◌, ◌≤◌, ℕ, List, [], ◌∷◌, ◌++◌, Option, Some, length, map, true, false};
+ghost use Rattle.std.specs.List.{list_all};
+ghost use Rattle.skk_calls.specs.declared.call.Call.{Call};
+ghost use Rattle.skk_calls.specs.declared.call.Call.TheVariants.{Learn, Unlearn};
+ghost use Rattle.skk_calls.specs.declared.answer.Reply.TheVariants.{Learned as learned_reply, Restored};
+ghost use Rattle.skk_calls.specs.Completions.{completions, completion_limit, goes_on_from};
+ghost use Rattle.skk_calls.specs.Dictionary.{answer, after, is_call, is_fit, speaks_of};
+ghost use Rattle.skk_calls.specs.Found.{found, merged, ordered};
+ghost use Rattle.skk_calls.specs.Histories.{Opening, Entry, IsLegal};
+ghost use Rattle.skk_calls.specs.Learning.{learnt};
+ghost use Rattle.skk_calls.specs.Rows.{RowKey, Cand, Row, Learned, differ, is_row};
+ghost use Rattle.skk_calls.specs.States.{State, row_at, is_valid};
+ghost use Rattle.skk_calls.specs.Tallies.{no_calls, counted, tally_of};
+
+/// Whatever call is made, a valid state stays valid.
+pub fn changes_keep_states_valid()
+    ensures { (state : State) (call : Call) → is_valid state ≡ true → is_call call ≡ true → is_fit call ≡ true → is_valid (after state call) ≡ true }
+{}
+
+/// A call changes one row of one book at most: every other row is as it was.
+pub fn changes_leave_other_rows()
+    ensures { (state : State) (call : Call) (book : ℕ) (key : RowKey) → is_valid state ≡ true → is_call call ≡ true → speaks_of call book key ≡ false →
+        row_at (after state call) book key ≡ row_at state book key }
+{}
+
+/// What was learnt and is taken back at once leaves the row, its blocks and its stamp as they were before.
+pub fn unlearning_gives_the_row_back()
+    ensures reply { (files : List (List Row)) (state : State) (book : ℕ) (key : RowKey) (okuri : Option (List ℕ)) (cand : Cand) (learned : Learned) →
+        answer files state (Learn book key okuri cand) ≡ learned_reply learned → answer files (after state (Learn book key okuri cand)) (Unlearn learned) ≡ Restored }
+    ensures row { (files : List (List Row)) (state : State) (book : ℕ) (key : RowKey) (okuri : Option (List ℕ)) (cand : Cand) (learned : Learned) →
+        answer files state (Learn book key okuri cand) ≡ learned_reply learned →
+        row_at (after (after state (Learn book key okuri cand)) (Unlearn learned)) book key ≡ row_at state book key }
+{}
+
+/// A candidate that is learnt twice leaves the row that it leaves when learnt once, but for the stamp.
+pub fn learning_twice_is_learning_once()
+    ensures { (before : Option Row) (key : RowKey) (okuri : Option (List ℕ)) (cand : Cand) (first second : ℕ) →
+        learnt (Some (learnt before key okuri cand first)) key okuri cand second ≡ learnt before key okuri cand second }
+{}
+
+/// A row hides no word of its own: of the first layer every candidate is found, in its order.
+pub fn no_row_hides_its_own_words()
+    ensures { (row : Row) (below : List Row) (okuri : Option (List ℕ)) → is_row row ≡ true →
+        (rest : List Cand) × (merged (row ∷ below) okuri ≡ ordered row okuri ++ rest) }
+{}
+
+/// No word is found twice.
+pub fn found_words_differ()
+    ensures { (files : List (List Row)) (state : State) (who : ℕ) (key : RowKey) (okuri : Option (List ℕ)) →
+        differ (map (λ cand. cand.word) (found files state who key okuri)) ≡ true }
+{}
+
+/// Completions are at most 256 readings, all different, and each goes on from the prefix.
+pub fn completions_go_on_and_differ()
+    ensures few { (files : List (List Row)) (state : State) (who : ℕ) (prefix : List ℕ) → length (completions files state who prefix) ≤ completion_limit }
+    ensures differ { (files : List (List Row)) (state : State) (who : ℕ) (prefix : List ℕ) → differ (completions files state who prefix) ≡ true }
+    ensures go_on { (files : List (List Row)) (state : State) (who : ℕ) (prefix : List ℕ) → list_all (goes_on_from prefix) (completions files state who prefix) ≡ true }
+{}
+
+/// A front of a legal history is legal.
+pub fn fronts_of_legal_histories_are_legal()
+    ensures { (opening : Opening) (front rest : List Entry) → IsLegal opening (front ++ rest) → IsLegal opening front }
+{}
+
+/// Answers that are counted one by one come to the tally of their history.
+pub fn counting_comes_to_the_tally()
+    ensures none { (state : State) → record (tally_of state []) { rows = 0 } ≡ no_calls }
+    ensures more { (state : State) (history : List Entry) (entry : Entry) →
+        counted (tally_of state history) entry.answer ≡ record (tally_of state (history ++ entry ∷ [])) { rows = (tally_of state history).rows } }
+{}

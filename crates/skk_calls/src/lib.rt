@@ -1,0 +1,47 @@
+//! The dictionary's language: rows, the calls on a dictionary with their answers, and the traits of those who make
+//! and take them.
+//!
+//! It stands on `skk_text` and `skk_trace`. Its types keep what the format of a dictionary asks of readings,
+//! okurigana, words and notes, and its definitions say what the crates above are proved to do: what is found for a
+//! key, which readings go on from a prefix, what learning, purging and taking back make of a row and of a state, what
+//! a dictionary of one thread answers, and which histories of calls and answers are legal. Laws say of the
+//! definitions what a typist relies on.
+#![tactic(auto)]
+
+mod answer;
+mod book;
+mod call;
+mod caller;
+mod cand;
+mod chronicle;
+mod laws;
+mod learned;
+mod office;
+mod okuri;
+mod part;
+mod row;
+mod row_key;
+mod tally;
+#[cfg(test)]
+mod tests;
+mod walk;
+
+pub use answer::{Answer, Answers, Refusal, Reply};
+pub use book::{Book, Books, NumberedBook, NumberedBooks};
+pub use call::{Call, Calls};
+pub use caller::{Caller, Kept};
+pub use cand::{Cand, CandFault, Cands};
+pub use chronicle::{Chronicle, Noted};
+pub use laws::{
+    changes_keep_states_valid, changes_leave_other_rows, completions_go_on_and_differ,
+    counting_comes_to_the_tally, found_words_differ, fronts_of_legal_histories_are_legal,
+    learning_twice_is_learning_once, no_row_hides_its_own_words, unlearning_gives_the_row_back,
+};
+pub use learned::Learned;
+pub use office::Office;
+pub use okuri::{Okuri, OkuriFault};
+pub use part::Part;
+pub use row::{Block, Blocks, Row, Rows};
+pub use row_key::{RowKey, RowKeyFault};
+pub use tally::Tally;
+pub use walk::Walk;

@@ -1,0 +1,130 @@
+ghost use Rattle.std.specs.Prelude.{◌≡◌, ◌&&◌, nat_le, length};
+ghost use Rattle.std.specs.List.{list_all};
+ghost use Rattle.std.specs.Str.{chars};
+ghost use Rattle.skk_text.specs.Text.{last_chars};
+ghost use Rattle.skk_calls.specs.Rows.{is_key, begins_well, is_reading_char, is_letter, fits_part};
+
+use crate::part::Part;
+use skk_text::Text;
+use std::marker::Model;
+use thiserror::Error;
+
+/// A part of the dictionary and a valid reading in it.
+///
+/// A reading is not empty, holds no character up to the space and no DEL, and does not begin with `;`. Without
+/// okurigana it has at most 254 bytes. With okurigana it has at most 255 bytes and at least two characters, the last
+/// of them a letter from `a` to `z`.
+#[derive(Debug, Drop)]
+pub struct RowKey {
+    part: Part,
+    reading: Text,
+}
+
+impl Model for RowKey {
+    ghost use Rattle.std.specs.Prelude.{◌≡◌, true};
+    ghost use Rattle.skk_calls.specs.Rows.{RowKey, is_key};
+
+    ghost Value = { RowKey };
+
+    ghost view = { λ k. record { part = k.part; reading = k.reading } };
+
+    ghost invariant = { λ k. is_key (record { part = k.part; reading = k.reading }) ≡ true };
+}
+
+/// Why a text is no reading of a key.
+#[derive(Clone, Copy, Debug, PartialEq, Eq, Error)]
+pub enum RowKeyFault {
+    /// The reading is not valid in its part.
+    #[error("invalid reading")]
+    Invalid,
+}
+
+impl RowKey {
+    ghost use Rattle.std.specs.Prelude.{◌≡◌, ◌↔◌, true, false, IfOk, IsErr};
+    ghost use Rattle.skk_calls.specs.Rows.{is_key};
+
+    /// The key of a reading, unless that is not valid. Takes no memory, and time in the reading's length.
+    pub fn new(part: Part, reading: Text) -> Result<RowKey, RowKeyFault>
+        ensures ok { IfOk result (λ key. key ≡ record { part = part; reading = reading }) }
+        ensures invalid { IsErr result ↔ (is_key (record { part = part; reading = reading }) ≡ false) }
+    {
+        if !is_key(part, &reading) {
+            return Err(RowKeyFault::Invalid);
+        }
+        Ok(RowKey { part, reading })
+    }
+
+    /// The part.
+    pub fn part(&self) -> Part
+        ensures value { result ≡ self.now.part }
+        ensures valid { is_key self.now ≡ true }
+    {
+        self.part
+    }
+
+    /// The reading.
+    pub fn reading(&self) -> &Text
+        ensures value { result.now ≡ self.now.reading }
+        ensures valid { is_key self.now ≡ true }
+    {
+        &self.reading
+    }
+}
+
+// Whether a reading is valid in its part.
+fn is_key(part: Part, reading: &Text) -> bool
+    ensures { result ≡ is_key (record { part = part; reading = reading.now }) }
+{
+    let text = reading.as_str();
+    begins_well(text) && are_reading_chars(text) && fits_part(part, reading)
+}
+
+// Whether a text begins, and with something else than `;`.
+fn begins_well(text: &str) -> bool
+    ensures { result ≡ begins_well (chars text.now) }
+{
+    match text.chars().next() {
+        Some(c) => c != ';',
+        None => false,
+    }
+}
+
+// Whether each character may stand in a reading.
+fn are_reading_chars(text: &str) -> bool
+    ensures { result ≡ list_all is_reading_char (chars text.now) }
+{
+    text.chars().all(is_reading_char)
+}
+
+// Whether a character may stand in a reading.
+fn is_reading_char(c: char) -> bool
+    ensures { result ≡ is_reading_char c }
+{
+    c > ' ' && c != '\u{7F}'
+}
+
+// Whether a reading has a length and an end as its part asks.
+fn fits_part(part: Part, reading: &Text) -> bool
+    ensures { result ≡ fits_part part reading.now }
+{
+    let bytes = reading.byte_len();
+    match part {
+        Part::Nasi => bytes <= 254,
+        Part::Ari => bytes <= 255 && ends_in_letter(reading),
+    }
+}
+
+// Whether a text ends in a letter behind something else.
+fn ends_in_letter(text: &Text) -> bool
+    ensures { result ≡ (nat_le 2 (length text.now) && is_letter (last_chars 1 text.now)) }
+{
+    let last = text.last(1);
+    last.len() < text.byte_len() && is_letter(last.as_bytes())
+}
+
+// Whether bytes are one letter from `a` to `z`.
+fn is_letter(bytes: &[u8]) -> bool
+    ensures { result ≡ is_letter bytes.now }
+{
+    matches!(bytes, [b'a'..=b'z'])
+}

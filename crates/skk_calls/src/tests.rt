@@ -1,0 +1,348 @@
+ghost use Rattle.std.specs.Prelude.{◌≡◌, [], ◌∷◌, IfOk};
+ghost use Rattle.skk_calls.specs.declared.part.Part.TheVariants.{Nasi};
+
+use crate::{
+    Answer, Block, Blocks, Book, Call, Caller, Cand, CandFault, Cands, Chronicle, Learned, Noted,
+    Okuri, OkuriFault, Part, Refusal, Reply, Row, RowKey, RowKeyFault, Rows, Tally,
+};
+use skk_text::{Memory, Text, Texts};
+use skk_trace::{Shows, Trace};
+use std::alloc::{AllocError, Global};
+use std::test::Fail;
+
+fn text(alloc: Global, content: &str) -> Result<Text, AllocError> {
+    Ok(Text::of(String::from_str(alloc, content)?))
+}
+
+// A text that is `unit` so many times, and then `end`.
+fn repeated(alloc: Global, unit: &str, count: usize, end: &str) -> Result<Text, Memory> {
+    let mut text = Text::new(alloc);
+    for _ in 0..count {
+        text.push_str(unit)?;
+    }
+    text.push_str(end)?;
+    Ok(text)
+}
+
+#[test]
+fn readings_of_keys_are_checked(rt: HostRuntime) -> Result<(), Fail> {
+    let alloc = rt.alloc();
+    for (part, reading) in [
+        (Part::Nasi, "かんじ"),
+        (Part::Nasi, "125"),
+        (Part::Nasi, "p#"),
+        (Part::Nasi, "ちょう>"),
+        (Part::Nasi, ">x"),
+        (Part::Nasi, "a;"),
+        (Part::Nasi, "a\u{80}b\u{3000}c"),
+        (Part::Ari, "おおk"),
+        (Part::Ari, "いt"),
+        (Part::Ari, "うごk"),
+    ] {
+        let key = RowKey::new(part, text(alloc, reading)?)?;
+        assert_eq!(rt; key.part(), part);
+        assert_eq!(rt; key.reading().as_str(), reading);
+    }
+    for (part, reading) in [
+        (Part::Nasi, ""),
+        (Part::Nasi, "a b"),
+        (Part::Nasi, "a\tb"),
+        (Part::Nasi, "a\u{7F}b"),
+        (Part::Nasi, ";a"),
+        (Part::Ari, ""),
+        (Part::Ari, "おお"),
+        (Part::Ari, "k"),
+        (Part::Ari, "おおK"),
+        (Part::Ari, "おお1"),
+    ] {
+        let fault = RowKey::new(part, text(alloc, reading)?).err();
+        assert_eq!(rt; fault, Some(RowKeyFault::Invalid), "at {reading:?}");
+    }
+    Ok(())
+}
+
+// 84 times あ, of 3 bytes, are 252 bytes.
+#[test]
+fn readings_of_keys_have_limits(rt: HostRuntime) -> Result<(), Fail> {
+    let alloc = rt.alloc();
+    for (part, unit, count, end, fault) in [
+        (Part::Nasi, "a", 254, "", None),
+        (Part::Nasi, "a", 255, "", Some(RowKeyFault::Invalid)),
+        (Part::Ari, "あ", 84, "aaz", None),
+        (Part::Ari, "あ", 84, "aaaz", Some(RowKeyFault::Invalid)),
+    ] {
+        let reading = repeated(alloc, unit, count, end)?;
+        assert_eq!(rt;
+            RowKey::new(part, reading).err(),
+            fault,
+            "at {count} and {end:?}"
+        );
+    }
+    Ok(())
+}
+
+#[test]
+fn okurigana_are_checked(rt: HostRuntime) -> Result<(), Fail> {
+    let alloc = rt.alloc();
+    for okuri in ["く", "った", "ー", "ゝ", "ゞ", "ゖ"] {
+        let made = Okuri::new(text(alloc, okuri)?)?;
+        assert_eq!(rt; made.text().as_str(), okuri);
+    }
+    for okuri in ["", "ク", "k", "\u{3097}", "くa"] {
+        let fault = Okuri::new(text(alloc, okuri)?).err();
+        assert_eq!(rt; fault, Some(OkuriFault::Invalid), "at {okuri:?}");
+    }
+    for (count, fault) in [(20, None), (21, Some(OkuriFault::Invalid))] {
+        let okuri = repeated(alloc, "く", count, "")?;
+        assert_eq!(rt; Okuri::new(okuri).err(), fault, "at {count}");
+    }
+    Ok(())
+}
+
+#[test]
+fn candidates_are_checked(rt: HostRuntime) -> Result<(), Fail> {
+    let alloc = rt.alloc();
+    for (word, note) in [("漢字", ""), ("幹事", "宴会の"), ("a/b\n", "x; y ")] {
+        let cand = Cand::new(text(alloc, word)?, text(alloc, note)?)?;
+        assert_eq!(rt; cand.word().as_str(), word);
+        assert_eq!(rt; cand.note().as_str(), note);
+    }
+    for (count, note, fault) in [
+        (0, "", Some(CandFault::Empty)),
+        (0, "a/b", Some(CandFault::Empty)),
+        (1, "/", Some(CandFault::BadNote { at: 0 })),
+        (1, "a/b", Some(CandFault::BadNote { at: 1 })),
+        (1, "宴\rb", Some(CandFault::BadNote { at: 3 })),
+        (1, "x\ny/", Some(CandFault::BadNote { at: 1 })),
+        (4_095, "x\ny/", Some(CandFault::BadNote { at: 1 })),
+        (4_095, "x", Some(CandFault::TooLong { bytes: 4_096 })),
+        (4_094, "x", None),
+        (4_095, "", None),
+    ] {
+        let word = repeated(alloc, "a", count, "")?;
+        let made = Cand::new(word, text(alloc, note)?);
+        assert_eq!(rt; made.err(), fault, "at {count} and {note:?}");
+    }
+    Ok(())
+}
+
+// A text of one character.
+fn one_character(alloc: Global, c: char) -> Result<Text, Memory>
+    ensures { IfOk result (λ text. text ≡ c ∷ []) }
+{
+    let mut text = Text::new(alloc);
+    text.push(c)?;
+    Ok(text)
+}
+
+// The word 大 under the okurigana い.
+fn short_block(alloc: Global) -> Result<Block, Fail> {
+    let mut words = Texts::new(alloc);
+    words.push(one_character(alloc, '大')?)?;
+    let okuri = Okuri::new(one_character(alloc, 'い')?)?;
+    Ok(Block::new(okuri, words))
+}
+
+#[test]
+fn blocks_show_their_words(rt: HostRuntime) -> Result<(), Fail> {
+    let block = short_block(rt.alloc())?;
+    assert_eq!(rt; block.okuri().text().as_str(), "い");
+    assert_eq!(rt; block.words().len(), 1);
+    assert_eq!(rt; block.words().at(0).as_str(), "大");
+    Ok(())
+}
+
+// The key か without okurigana.
+fn short_key(alloc: Global) -> Result<RowKey, Fail>
+    ensures { IfOk result (λ key. key ≡ record { part = Nasi; reading = 0x304B ∷ [] }) }
+{
+    Ok(RowKey::new(Part::Nasi, one_character(alloc, 'か')?)?)
+}
+
+// Its row with the candidate 蚊, of stamp 1.
+fn short_row(alloc: Global) -> Result<Row, Fail>
+    ensures { IfOk result (λ row. row ≡ record { key = record { part = Nasi; reading = 0x304B ∷ [] }; cands = record { word = 0x868A ∷ []; note = [] } ∷ []; blocks = []; hides = []; stamp = 1 }) }
+{
+    let mut cands = Cands::new(alloc);
+    cands.push(Cand::new(one_character(alloc, '蚊')?, Text::new(alloc))?)?;
+    let key = short_key(alloc)?;
+    Ok(Row::new(key, cands, Blocks::new(alloc), Texts::new(alloc), 1))
+}
+
+#[test]
+fn rows_stand_in_books(rt: HostRuntime) -> Result<(), Fail> {
+    let alloc = rt.alloc();
+    let row = short_row(alloc)?;
+    assert_eq!(rt; row.key().reading().as_str(), "か");
+    assert_eq!(rt; row.cands().len(), 1);
+    assert_eq!(rt; row.cands().at(0).word().as_str(), "蚊");
+    assert_eq!(rt; row.blocks().len(), 0);
+    assert_eq!(rt; row.hides().len(), 0);
+    assert_eq!(rt; row.stamp(), 1);
+    let mut rows = Rows::new(alloc);
+    rows.push(row)?;
+    let book = Book::new(rows);
+    assert_eq!(rt; book.rows().len(), 1);
+    assert_eq!(rt; book.rows().at(0).stamp(), 1);
+    Ok(())
+}
+
+// What was learnt over the row of stamp 1.
+fn learned(alloc: Global) -> Result<Learned, Fail> {
+    let before = short_row(alloc)?;
+    Ok(Learned::new(3, short_key(alloc)?, 2, Some(before)))
+}
+
+#[test]
+fn what_was_learnt_shows_its_row_before(rt: HostRuntime) -> Result<(), Fail> {
+    let learned = learned(rt.alloc())?;
+    assert_eq!(rt; learned.book(), 3);
+    assert_eq!(rt; learned.key().reading().as_str(), "か");
+    assert_eq!(rt; learned.stamp(), 2);
+    assert_eq!(rt; learned.before().map(Row::stamp), Some(1));
+    Ok(())
+}
+
+#[test]
+fn answers_are_counted(rt: HostRuntime) -> Result<(), Fail> {
+    let alloc = rt.alloc();
+    let mut tally = Tally::none();
+    assert_eq!(rt; tally, Tally::new(0, 0, 0, false, false, false));
+    for (answer, counted) in [
+        (
+            Answer::Done(Reply::Learned(learned(alloc)?)),
+            Tally::new(1, 0, 0, false, false, false),
+        ),
+        (
+            Answer::Done(Reply::Restored),
+            Tally::new(1, 1, 0, false, false, false),
+        ),
+        (
+            Answer::Done(Reply::Found(Cands::new(alloc))),
+            Tally::new(1, 1, 0, false, false, false),
+        ),
+        (
+            Answer::Refused(Refusal::Memory),
+            Tally::new(1, 1, 0, true, false, false),
+        ),
+        (
+            Answer::Refused(Refusal::Disk),
+            Tally::new(1, 1, 0, true, true, false),
+        ),
+        (
+            Answer::Refused(Refusal::JournalFull {
+                end: 1,
+                need: 2,
+                limit: 2,
+            }),
+            Tally::new(1, 1, 0, true, true, true),
+        ),
+    ] {
+        tally.count(&answer);
+        assert_eq!(rt; tally, counted);
+    }
+    Ok(())
+}
+
+#[test]
+fn tallies_show_their_fields_and_stop_at_the_last_number(rt: HostRuntime) -> Result<(), Fail> {
+    let mut tally = Tally::new(u64::MAX, u64::MAX, 7, true, false, true);
+    tally.count(&Answer::Done(Reply::Learned(learned(rt.alloc())?)));
+    tally.count(&Answer::Done(Reply::Restored));
+    assert_eq!(rt; tally.learned(), u64::MAX);
+    assert_eq!(rt; tally.restored(), u64::MAX);
+    assert_eq!(rt; tally.rows(), 7);
+    assert!(rt; tally.memory());
+    assert!(rt; !tally.disk());
+    assert!(rt; tally.full());
+    Ok(())
+}
+
+// A dictionary that was just opened, over nothing.
+#[derive(Drop)]
+struct Opening;
+
+impl Shows<Noted> for Opening {
+    ghost use Rattle.std.specs.Prelude.{[]};
+    ghost use Rattle.skk_calls.specs.declared.chronicle.Noted.TheVariants.{Opened};
+
+    ghost shows = { λ _. Opened [] [] 0 16777216 0 0 };
+}
+
+#[test]
+fn chronicles_begin_with_an_opening(rt: HostRuntime) -> Result<(), Fail> {
+    let _nothing = Chronicle::none();
+    let _opened = Chronicle::of(Trace::new(rt.alloc(), &Opening)?);
+    Ok(())
+}
+
+// A caller whose calls are all refused for want of memory. Its trace notes nothing first, and then each call.
+#[derive(Drop)]
+struct Lacking {
+    calls: u32,
+    trace: Trace<Option<(Call, Answer)>>,
+}
+
+// No call.
+#[derive(Drop)]
+struct Silence;
+
+impl Shows<Option<(Call, Answer)>> for Silence {
+    ghost use Rattle.std.specs.Prelude.{None};
+
+    ghost shows = { λ _. None };
+}
+
+// A call that was refused for want of memory.
+#[derive(Drop)]
+struct Lacked<'a> {
+    call: &'a Call,
+}
+
+impl Shows<Option<(Call, Answer)>> for Lacked<'_> {
+    ghost use Rattle.std.specs.Prelude.{Some};
+    ghost use Rattle.skk_calls.specs.declared.answer.Answer.TheVariants.{Refused};
+    ghost use Rattle.skk_calls.specs.declared.answer.Refusal.TheVariants.{Memory};
+
+    ghost shows = { λ lacked. Some (lacked.call.now, Refused Memory) };
+}
+
+impl Caller for Lacking {
+    ghost use Rattle.std.specs.List.{filter_map};
+
+    ghost number = { λ _. 7 };
+
+    ghost said = { λ caller. filter_map (λ entry. entry) caller.trace };
+
+    fn number(&self) -> u32 {
+        7
+    }
+
+    fn call(&mut self, _alloc: Global, call: &Call) -> Answer {
+        self.calls = self.calls.saturating_add(1);
+        self.trace.note(&Lacked { call });
+        Answer::Refused(Refusal::Memory)
+    }
+}
+
+// Looks the key か up.
+fn look_up(alloc: Global, caller: &mut impl Caller) -> Result<Answer, Fail> {
+    let call = Call::Lookup {
+        who: 1,
+        key: short_key(alloc)?,
+        okuri: None,
+    };
+    Ok(caller.call(alloc, &call))
+}
+
+#[test]
+fn a_caller_is_answered(rt: HostRuntime) -> Result<(), Fail> {
+    let alloc = rt.alloc();
+    let trace = Trace::new(alloc, &Silence)?;
+    let mut caller = Lacking { calls: 0, trace };
+    assert_eq!(rt; caller.number(), 7);
+    let answer = look_up(alloc, &mut caller)?;
+    assert!(rt; matches!(answer, Answer::Refused(Refusal::Memory)));
+    assert_eq!(rt; caller.calls, 1);
+    Ok(())
+}
