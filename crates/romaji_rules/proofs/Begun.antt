@@ -5,10 +5,11 @@ use Rattle.std.specs.Str.{bytes_eq}
 use Rattle.std.proofs.lemmas.Bool.Decides.{Decides-or, Decides-ltb, Decides-eqb}
 use Rattle.std.proofs.lemmas.List.Folds.{Any-from_list_any}
 use Rattle.std.proofs.lemmas.Slice.Eq.{bytes_eq-Decides, starts_is}
+use Rattle.std.proofs.lemmas.Bool.{and_from, and_parts, both_ways}
 use Rattle.romaji_rules.specs.declared.rule.Rule.{Rule}
 use Rattle.romaji_rules.specs.Fed.{IsProperPrefix, IsBegun, IsInput, GoesOn}
 use Rattle.romaji_rules.specs.Typed.{is_begun, rule_of, goes_on}
-use Rattle.romaji_rules.proofs.Found.{list_any-Contains, find-Some, find-None, true_not_false, and_left, and_right, and_both}
+use Rattle.romaji_rules.proofs.Found.{list_any-Contains, find-Some, find-None}
 
 -- a text that goes past its front has one more character there
 goes_past : (front rest : List ℕ) → length front < length (front ++ rest) → (next : ℕ) × (after : List ℕ) × (front ++ rest ≡ front ++ next ∷ after)
@@ -23,10 +24,10 @@ prefix-Decides whole front =
     let long : Decides longer (length front < length whole) = Decides-ltb (length front) (length whole) in
     let same : (starts ≡ true → whole ≡ front ++ drop (length front) whole) × ((rest : List ℕ) → whole ≡ front ++ rest → starts ≡ true) = starts_is Decides-eqb whole front starts refl in (
       λ e.
-          let split : whole ≡ front ++ drop (length front) whole = same.0 (and_right longer starts e) in
-          let past = goes_past front (drop (length front) whole) (subst (λ (bs : List ℕ). length front < length bs) split (long.0 (and_left longer starts e))) in
+          let split : whole ≡ front ++ drop (length front) whole = same.0 (and_parts longer starts e).1 in
+          let past = goes_past front (drop (length front) whole) (subst (λ (bs : List ℕ). length front < length bs) split (long.0 (and_parts longer starts e).0)) in
           (past.0, past.1, split ∙ past.2),
-      λ h. and_both longer starts (long.1 (omega (arith, ap length h.2, length-append front (h.0 ∷ h.1)))) (same.1 (h.0 ∷ h.1) h.2),
+      λ h. and_from longer starts (long.1 (omega (arith, ap length h.2, length-append front (h.0 ∷ h.1)))) (same.1 (h.0 ∷ h.1) h.2),
     )
 
 module _ (rules : List Rule) (text : List ℕ) where
@@ -47,16 +48,14 @@ module _ (rules : List Rule) (text : List ℕ) where
   -- where none is found the text is no input
   pub rule_of-None : rule_of rules text ≡ None → ¬ IsInput rules text
   rule_of-None e h =
-      true_not_false (list_any (λ r. bytes_eq r.input text) rules)
-      (list_any-Contains (λ r. bytes_eq r.input text) rules h.0 h.1 ((bytes_eq-Decides h.0.input text).1 h.2))
-      (find-None (λ r. bytes_eq r.input text) rules e)
+      absurd (both_ways (list_any (λ r. bytes_eq r.input text) rules) (find-None (λ r. bytes_eq r.input text) rules e) (list_any-Contains (λ r. bytes_eq r.input text) rules h.0 h.1 ((bytes_eq-Decides h.0.input text).1 h.2)))
 
   -- whether the text is an input
   pub rule_of-Decides : Decides (is_some (rule_of rules text)) (IsInput rules text)
   rule_of-Decides = by (rule_of rules text) refl
     where
       by : (o : Option Rule) → rule_of rules text ≡ o → Decides (is_some o) (IsInput rules text)
-      by None e = (λ t. true_not_false false t refl, λ h. absurd (rule_of-None e h))
+      by None e = (λ t. absurd (both_ways false refl t), λ h. absurd (rule_of-None e h))
       by (Some rule) e = let found = rule_of-Some rule e in (λ t. (rule, found.0, found.1), λ h. refl)
 
   -- whether the text is an input or begins one

@@ -2,37 +2,38 @@
 use Rattle.std.proofs.Common.{◌≡◌, ℕ, ◌<◌, ◌≤◌, Bool, true, not, ◌&&◌, nat_le, Some, List, [], ◌∷◌, ◌++◌, refl, sym, ◌∙◌, ap, subst, inl, inr, ◌⊎◌, Contains, length, IsAscii, arith, zero, suc, length-append, lit<, leb-true}
 use Rattle.std.specs.List.{list_all}
 use Rattle.std.proofs.lemmas.List.Folds.{list_all-append}
+use Rattle.std.proofs.lemmas.Bool.{and_parts}
 use Rattle.romaji_rules.specs.declared.out.Out.{Out}
 use Rattle.romaji_rules.specs.declared.rule.Rule.{Rule}
 use Rattle.romaji_rules.specs.Fed.{IsProperPrefix, IsBegun, IsRule, FedAlone, FedAfter, Fed}
 use Rattle.romaji_rules.specs.Fitting.{is_typed, is_input_text, is_next_text, inputs_differ, is_rule_set}
 use Rattle.romaji_rules.specs.Typed.{rule_of, fed}
 use Rattle.romaji_rules.proofs.Begun.{is_begun-Decides, rule_of-Some}
-use Rattle.romaji_rules.proofs.Found.{list_all-Contains, and_left, and_right}
+use Rattle.romaji_rules.proofs.Found.{list_all-Contains}
 use Rattle.romaji_rules.proofs.Step.{Fed-computed}
 
 -- characters that may be typed are ASCII
 below_128 : (c : ℕ) → is_typed c ≡ true → c < 128
 below_128 c e =
-    let in_range : (nat_le 0x21 c && nat_le c 0x7E) ≡ true = and_left (nat_le 0x21 c && nat_le c 0x7E) (not (nat_le 0x41 c && nat_le c 0x5A)) e in
-    let below : c ≤ 0x7E = leb-true c 0x7E (and_right (nat_le 0x21 c) (nat_le c 0x7E) in_range) in
+    let in_range : (nat_le 0x21 c && nat_le c 0x7E) ≡ true = (and_parts (nat_le 0x21 c && nat_le c 0x7E) (not (nat_le 0x41 c && nat_le c 0x5A)) e).0 in
+    let below : c ≤ 0x7E = leb-true c 0x7E (and_parts (nat_le 0x21 c) (nat_le c 0x7E) in_range).1 in
     omega (arith, below)
 
 typed-IsAscii : (text : List ℕ) → list_all is_typed text ≡ true → IsAscii text
 typed-IsAscii [] e i = lit< tt
-typed-IsAscii (c ∷ text) e zero = below_128 c (and_left (is_typed c) (list_all is_typed text) e)
-typed-IsAscii (c ∷ text) e (suc i) = typed-IsAscii text (and_right (is_typed c) (list_all is_typed text) e) i
+typed-IsAscii (c ∷ text) e zero = below_128 c (and_parts (is_typed c) (list_all is_typed text) e).0
+typed-IsAscii (c ∷ text) e (suc i) = typed-IsAscii text (and_parts (is_typed c) (list_all is_typed text) e).1 i
 
 -- an input, and what begins one
 front-IsAscii : (front whole : List ℕ) → is_input_text whole ≡ true → IsProperPrefix front whole → IsAscii front
 front-IsAscii front whole e h =
-    let all : list_all is_typed whole ≡ true = and_right (nat_le 1 (length whole) && nat_le (length whole) 8) (list_all is_typed whole) e in
-    typed-IsAscii front (and_left (list_all is_typed front) (list_all is_typed (h.0 ∷ h.1)) (sym (list_all-append is_typed front (h.0 ∷ h.1)) ∙ ap (list_all is_typed) (sym h.2) ∙ all))
+    let all : list_all is_typed whole ≡ true = (and_parts (nat_le 1 (length whole) && nat_le (length whole) 8) (list_all is_typed whole) e).1 in
+    typed-IsAscii front (and_parts (list_all is_typed front) (list_all is_typed (h.0 ∷ h.1)) (sym (list_all-append is_typed front (h.0 ∷ h.1)) ∙ ap (list_all is_typed) (sym h.2) ∙ all)).0
 
 front-short : (front whole : List ℕ) → is_input_text whole ≡ true → IsProperPrefix front whole → length front < 8
 front-short front whole e h =
-    let sizes : (nat_le 1 (length whole) && nat_le (length whole) 8) ≡ true = and_left (nat_le 1 (length whole) && nat_le (length whole) 8) (list_all is_typed whole) e in
-    let size : nat_le (length whole) 8 ≡ true = and_right (nat_le 1 (length whole)) (nat_le (length whole) 8) sizes in
+    let sizes : (nat_le 1 (length whole) && nat_le (length whole) 8) ≡ true = (and_parts (nat_le 1 (length whole) && nat_le (length whole) 8) (list_all is_typed whole) e).0 in
+    let size : nat_le (length whole) 8 ≡ true = (and_parts (nat_le 1 (length whole)) (nat_le (length whole) 8) sizes).1 in
     let bound : length whole ≤ 8 = leb-true (length whole) 8 size in
     omega (arith, bound, ap length h.2, length-append front (h.0 ∷ h.1))
 
@@ -40,19 +41,19 @@ module _ (rules : List Rule) (fits : is_rule_set rules ≡ true) where
   rule_fits : (rule : Rule) → Contains rules rule → (is_input_text rule.input && is_next_text rules rule.next) ≡ true
   rule_fits rule h =
       let test : Rule → Bool = λ r. is_input_text r.input && is_next_text rules r.next in
-      list_all-Contains test rules rule (and_left (list_all test rules) (inputs_differ rules) fits) h
+      list_all-Contains test rules rule (and_parts (list_all test rules) (inputs_differ rules) fits).0 h
 
   pub begun-IsAscii : (text : List ℕ) → IsBegun rules text → IsAscii text
   begun-IsAscii text h =
-      front-IsAscii text h.0.input (and_left (is_input_text h.0.input) (is_next_text rules h.0.next) (rule_fits h.0 h.1)) h.2
+      front-IsAscii text h.0.input (and_parts (is_input_text h.0.input) (is_next_text rules h.0.next) (rule_fits h.0 h.1)).0 h.2
 
   pub begun-short : (text : List ℕ) → IsBegun rules text → length text < 8
   begun-short text h =
-      front-short text h.0.input (and_left (is_input_text h.0.input) (is_next_text rules h.0.next) (rule_fits h.0 h.1)) h.2
+      front-short text h.0.input (and_parts (is_input_text h.0.input) (is_next_text rules h.0.next) (rule_fits h.0 h.1)).0 h.2
 
   -- a rule's next text is empty or begins an input
   pub next-waits : (rule : Rule) → Contains rules rule → (rule.next ≡ []) ⊎ IsBegun rules rule.next
-  next-waits rule h = by rule.next (and_right (is_input_text rule.input) (is_next_text rules rule.next) (rule_fits rule h))
+  next-waits rule h = by rule.next (and_parts (is_input_text rule.input) (is_next_text rules rule.next) (rule_fits rule h)).1
     where
       by : (next : List ℕ) → is_next_text rules next ≡ true → (next ≡ []) ⊎ IsBegun rules next
       by [] e = inl refl

@@ -1,33 +1,9 @@
 -- The first element that a test finds, and what a test says of each element.
-use Rattle.std.proofs.Common.{◌≡◌, ℕ, ◌<◌, Bool, true, false, cond, not, ◌||◌, ◌&&◌, None, Some, List, [], ◌∷◌, refl, sym, ◌∙◌, ap, subst, inl, inr, ◌⊎◌, length, arith, find, zero, suc, slice_index_or}
+use Rattle.std.proofs.Common.{◌≡◌, ℕ, ◌<◌, Bool, true, false, cond, ◌||◌, None, Some, List, [], ◌∷◌, refl, sym, ◌∙◌, ap, subst, inl, inr, ◌⊎◌, length, arith, find, zero, suc, slice_index_or}
 use Rattle.std.specs.List.{list_any, list_all, Contains}
 use Rattle.std.proofs.lemmas.List.Elements.{Contains-append_right, Contains-get_or}
 use Rattle.std.proofs.lemmas.List.Folds.{list_any_at, list_all_at}
-
--- two answers of a test differ
-pub true_not_false : {A : Type 0} (b : Bool) → b ≡ true → b ≡ false → A
-true_not_false b t f = cc
-
--- what is no true answer is false
-pub false_from_not : (b : Bool) → (b ≡ true → ⊥) → b ≡ false
-false_from_not true h = absurd (h refl)
-false_from_not false h = refl
-
-pub false_from_true_not : (b : Bool) → not b ≡ true → b ≡ false
-false_from_true_not true e = sym e
-false_from_true_not false e = refl
-
--- `&&` and its parts
-pub and_left : (a b : Bool) → (a && b) ≡ true → a ≡ true
-and_left true b e = refl
-and_left false b e = e
-
-pub and_right : (a b : Bool) → (a && b) ≡ true → b ≡ true
-and_right true b e = e
-and_right false b e = absurd (true_not_false false e refl)
-
-pub and_both : (a b : Bool) → a ≡ true → b ≡ true → (a && b) ≡ true
-and_both a b e f = cc
+use Rattle.std.proofs.lemmas.Bool.{both_ways}
 
 module _ {X : Type 0} where
   -- an element is the head or stands in the tail
@@ -51,7 +27,7 @@ module _ {X : Type 0} (p : X → Bool) where
     where
       by : (b : Bool) → p x ≡ b → b ≡ true
       by true e = refl
-      by false e = true_not_false (list_all p xs) all (list_all_at p xs h.0 x h.1 (ap p h.2 ∙ e))
+      by false e = absurd (both_ways (list_all p xs) (list_all_at p xs h.0 x h.1 (ap p h.2 ∙ e)) all)
 
   pub list_any-Contains : (xs : List X) (x : X) → Contains xs x → p x ≡ true → list_any p xs ≡ true
   list_any-Contains xs x h e = list_any_at p xs h.0 x h.1 (ap p h.2 ∙ e)

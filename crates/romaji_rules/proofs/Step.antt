@@ -3,6 +3,7 @@ use Rattle.std.proofs.Common.{◌≡◌, ℕ, Bool, true, false, cond, not, Opti
 use Rattle.std.specs.List.{list_any}
 use Rattle.std.specs.Str.{bytes_eq}
 use Rattle.std.proofs.lemmas.Slice.Eq.{bytes_eq-Decides}
+use Rattle.std.proofs.lemmas.Bool.{and_parts, both_ways, false_from_ne_true, not-true}
 use Rattle.romaji_rules.specs.declared.out.Out.{Out}
 use Rattle.romaji_rules.specs.declared.rule.Rule.{Rule}
 use Rattle.romaji_rules.specs.Fed.{IsBegun, IsRule, IsInput, Flushed, FedAlone, FedAfter, Fed}
@@ -10,11 +11,11 @@ use Rattle.romaji_rules.specs.Fitting.{inputs_differ}
 use Rattle.romaji_rules.specs.Output.{nothing, itself, joined}
 use Rattle.romaji_rules.specs.Typed.{Step, is_begun, rule_of, out_of, flushed, step_of, after_out, fed_alone, fed_after, fed}
 use Rattle.romaji_rules.proofs.Begun.{is_begun-Decides, rule_of-Some, rule_of-None}
-use Rattle.romaji_rules.proofs.Found.{Contains-cases, list_any-Contains, true_not_false, false_from_not, false_from_true_not, and_left, and_right}
+use Rattle.romaji_rules.proofs.Found.{Contains-cases, list_any-Contains}
 
 module _ (rules : List Rule) where
   not_begun : (text : List ℕ) → is_begun rules text ≡ false → ¬ IsBegun rules text
-  not_begun text e h = true_not_false (is_begun rules text) ((is_begun-Decides rules text).1 h) e
+  not_begun text e h = absurd (both_ways (is_begun rules text) e ((is_begun-Decides rules text).1 h))
 
   -- a rule that is found is that of the text
   found : (text : List ℕ) (rule : Rule) → rule_of rules text ≡ Some rule → IsRule rules text rule.next rule.out
@@ -69,15 +70,14 @@ module _ (rules : List Rule) where
 -- two rules with one input are one rule
 same_rule : (rules : List Rule) → inputs_differ rules ≡ true → (a b : Rule) → Contains rules a → Contains rules b → a.input ≡ b.input → a ≡ b
 same_rule [] d a b x y e = absurd (omega (arith, x.1))
-same_rule (rule ∷ rules) d a b x y e = by (Contains-cases rule rules a x) (Contains-cases rule rules b y) (same_rule rules (and_right (not other) (inputs_differ rules) d) a b)
+same_rule (rule ∷ rules) d a b x y e = by (Contains-cases rule rules a x) (Contains-cases rule rules b y) (same_rule rules (and_parts (not other) (inputs_differ rules) d).1 a b)
   where
     other : Bool
     other = list_any (λ r. bytes_eq rule.input r.input) rules
 
     differs : (r : Rule) → Contains rules r → rule.input ≡ r.input → ⊥
     differs r at same =
-        true_not_false other (list_any-Contains (λ r. bytes_eq rule.input r.input) rules r at ((bytes_eq-Decides rule.input r.input).1 same))
-        (false_from_true_not other (and_left (not other) (inputs_differ rules) d))
+        absurd (both_ways other (not-true other (and_parts (not other) (inputs_differ rules) d).0) (list_any-Contains (λ r. bytes_eq rule.input r.input) rules r at ((bytes_eq-Decides rule.input r.input).1 same)))
 
     by : (rule ≡ a) ⊎ Contains rules a → (rule ≡ b) ⊎ Contains rules b → (Contains rules a → Contains rules b → a.input ≡ b.input → a ≡ b) → a ≡ b
     by (inl f) (inl g) rest = sym f ∙ g
@@ -107,7 +107,7 @@ module _ (rules : List Rule) (differ : inputs_differ rules ≡ true) where
   begun text h = (is_begun-Decides rules text).1 h
 
   unbegun : (text : List ℕ) → ¬ IsBegun rules text → is_begun rules text ≡ false
-  unbegun text none = false_from_not (is_begun rules text) (λ t. none ((is_begun-Decides rules text).0 t))
+  unbegun text none = false_from_ne_true (is_begun rules text) (λ t. none ((is_begun-Decides rules text).0 t))
 
   pub one_flushed : (pending : List ℕ) (out : Out) → Flushed rules pending out → flushed rules pending ≡ out
   one_flushed pending out (inl h) = let rule = one_rule pending h.0 out h.1 in ap out_of rule.1 ∙ rule.3

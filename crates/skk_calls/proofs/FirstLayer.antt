@@ -1,14 +1,14 @@
 -- The first layer of a lookup: nothing hides its candidates, and none of them is left out.
 use Rattle.std.proofs.Common.{◌≡◌, ◌∙◌, ℕ, true, false, not, Option, None, Some, List, [], ◌∷◌, ◌++◌, refl, ap, map}
 use Rattle.std.specs.List.{filter, list_all}
-use Rattle.std.proofs.lemmas.Bool.{and_parts, and_from, not-true}
+use Rattle.std.proofs.lemmas.Bool.{and_parts, and_from, not-true, or_parts}
 use Rattle.std.proofs.lemmas.List.Folds.{list_all-map}
 use Rattle.std.proofs.lemmas.List.{map-append}
 use Rattle.skk_calls.specs.Found.{first_words, block_of, note_of, with_block, ordered, shown, joined, merged}
 use Rattle.skk_calls.specs.Rows.{Cand, Block, Row, same, has, differ, is_block, is_row}
 use Rattle.skk_calls.proofs.RowParts.{row_parts, block_parts}
 use Rattle.skk_calls.proofs.Filtered.{or_neither, list_all_kept, list_all_found, map_filter}
-use Rattle.skk_calls.proofs.Seen.{differ-append, not_from_false, or_parts}
+use Rattle.skk_calls.proofs.Seen.{differ-append, not_from_false}
 use Rattle.skk_calls.proofs.Texts.{words_of, same_other, differ_filter}
 
 -- where nothing is hidden, every candidate is shown

@@ -1,6 +1,7 @@
 -- Whatever call is made, a valid state stays valid.
 use Rattle.std.proofs.Common.{◌≡◌, ℕ, ◌+◌, ◌<◌, Bool, true, false, cond, ◌&&◌, ◌==◌, nat_le, nat_lt, min, None, Some, Option, List, refl, ◌∙◌, ap, subst, arith}
 use Rattle.std.proofs.lemmas.Bool.Decides.{Decides-eqb, nat_tests}
+use Rattle.std.proofs.lemmas.Bool.{and_from, and_parts}
 use Rattle.skk_text.specs.Text.{byte_len}
 use Rattle.skk_calls.specs.declared.answer.Reply.{Reply}
 use Rattle.skk_calls.specs.declared.answer.Reply.TheVariants as replies
@@ -12,7 +13,6 @@ use Rattle.skk_calls.specs.Learning.{learnt, purged, purge_changes, is_before, i
 use Rattle.skk_calls.specs.Rows.{RowKey, Cand, Row, Learned, same_key, is_key, is_cand, is_word, is_row}
 use Rattle.skk_calls.specs.States.{State, row_at, rows_of, count_of, changed, has_stamp, is_valid}
 use Rattle.skk_calls.proofs.Changing.{has_key, row_in_has_key}
-use Rattle.skk_calls.proofs.Filtered.{and_left, and_right, and_both}
 use Rattle.skk_calls.proofs.KeptBooks.{fits_after, fits_row_at, is_valid_changed}
 use Rattle.skk_calls.proofs.Keys.{same_key_itself}
 use Rattle.skk_calls.proofs.LearntRows.{learnt_is_row, learnt_is_good}
@@ -67,12 +67,12 @@ stamp_within : (stamp count : ℕ) (found : Option Row) → fits_after count fou
 stamp_within stamp count None fits e = cc
 stamp_within stamp count (Some row) fits e =
     subst (λ (s : ℕ). (nat_le 1 s && nat_le s count) ≡ true) ((Decides-eqb row.stamp stamp).0 e)
-    (and_right (is_good row) (has_stamp count row) (and_right (is_row row) (is_good row && has_stamp count row) fits))
+    (and_parts (is_good row) (has_stamp count row) (and_parts (is_row row) (is_good row && has_stamp count row) fits).1).1
 
 -- the row before a learning has its key
 pub before_has_key : (key : RowKey) (stamp : ℕ) (before : Option Row) → is_before key stamp before ≡ true → has_key key before ≡ true
 before_has_key key stamp None e = refl
-before_has_key key stamp (Some row) e = and_left (same_key row.key key) (is_good row && (nat_le 1 row.stamp && nat_lt row.stamp stamp)) e
+before_has_key key stamp (Some row) e = (and_parts (same_key row.key key) (is_good row && (nat_le 1 row.stamp && nat_lt row.stamp stamp)) e).0
 
 -- and may stand in its book
 before_fits : (key : RowKey) (stamp count : ℕ) (before : Option Row) → is_before key stamp before ≡ true
@@ -81,10 +81,8 @@ before_fits : (key : RowKey) (stamp count : ℕ) (before : Option Row) → is_be
 before_fits key stamp count None e row_is later = refl
 before_fits key stamp count (Some row) e row_is later =
     let rest : (is_good row && (nat_le 1 row.stamp && nat_lt row.stamp stamp)) ≡ true =
-    and_right (same_key row.key key) (is_good row && (nat_le 1 row.stamp && nat_lt row.stamp stamp)) e in
-    and_both (is_row row) (is_good row && has_stamp count row) row_is
-    (and_both (is_good row) (has_stamp count row) (and_left (is_good row) (nat_le 1 row.stamp && nat_lt row.stamp stamp) rest)
-    (earlier_stamp row.stamp stamp count (and_right (is_good row) (nat_le 1 row.stamp && nat_lt row.stamp stamp) rest) later))
+    (and_parts (same_key row.key key) (is_good row && (nat_le 1 row.stamp && nat_lt row.stamp stamp)) e).1 in
+    and_from (is_row row) (is_good row && has_stamp count row) row_is (and_from (is_good row) (has_stamp count row) (and_parts (is_good row) (nat_le 1 row.stamp && nat_lt row.stamp stamp) rest).0 (earlier_stamp row.stamp stamp count (and_parts (is_good row) (nat_le 1 row.stamp && nat_lt row.stamp stamp) rest).1 later))
 
 module _ (state : State) (valid : is_valid state ≡ true) where
   -- what is known of the row of a key in a valid state
@@ -99,18 +97,17 @@ module _ (state : State) (valid : is_valid state ≡ true) where
       → is_valid (changed book (count_of state book + 1) key (Some row) state) ≡ true
   next_valid book key row has is good stamp =
       is_valid_changed book (count_of state book + 1) key (Some row) (next_count (count_of state book)) has
-      (and_both (is_row row) (is_good row && has_stamp (count_of state book + 1) row) is
-      (and_both (is_good row) (has_stamp (count_of state book + 1) row) good (rw stamp (next_stamp (count_of state book)))))
+      (and_from (is_row row) (is_good row && has_stamp (count_of state book + 1) row) is (and_from (is_good row) (has_stamp (count_of state book + 1) row) good (rw stamp (next_stamp (count_of state book)))))
       state (later_count (count_of state book)) valid
 
   -- learning keeps it valid
   learn_keeps : (book : ℕ) (key : RowKey) (okuri : Option (List ℕ)) (cand : Cand) → is_call (Learn book key okuri cand) ≡ true
       → moves state (Learn book key okuri cand) ≡ true → is_valid (moved state (Learn book key okuri cand)) ≡ true
   learn_keeps book key okuri cand call e =
-      let is : is_key key ≡ true = and_left (is_key key) (is_okuri_or_none okuri && is_cand cand) call in
-      let rest : (is_okuri_or_none okuri && is_cand cand) ≡ true = and_right (is_key key) (is_okuri_or_none okuri && is_cand cand) call in
-      let okuri_is : is_okuri_or_none okuri ≡ true = and_left (is_okuri_or_none okuri) (is_cand cand) rest in
-      let cand_is : is_cand cand ≡ true = and_right (is_okuri_or_none okuri) (is_cand cand) rest in
+      let is : is_key key ≡ true = (and_parts (is_key key) (is_okuri_or_none okuri && is_cand cand) call).0 in
+      let rest : (is_okuri_or_none okuri && is_cand cand) ≡ true = (and_parts (is_key key) (is_okuri_or_none okuri && is_cand cand) call).1 in
+      let okuri_is : is_okuri_or_none okuri ≡ true = (and_parts (is_okuri_or_none okuri) (is_cand cand) rest).0 in
+      let cand_is : is_cand cand ≡ true = (and_parts (is_okuri_or_none okuri) (is_cand cand) rest).1 in
       let stamp : ℕ = count_of state book + 1 in
       let row : Row = learnt (row_at state book key) key okuri cand stamp in
       next_valid book key row (same_key_itself key)
@@ -146,20 +143,20 @@ module _ (state : State) (valid : is_valid state ≡ true) where
       (some_count learned.stamp (count_of state learned.book) stamp)
       (before_has_key learned.key learned.stamp learned.before before)
       (before_fits learned.key learned.stamp (count_of state learned.book) learned.before before rows
-      (and_right (nat_le 1 learned.stamp) (nat_le learned.stamp (count_of state learned.book)) stamp))
+      (and_parts (nat_le 1 learned.stamp) (nat_le learned.stamp (count_of state learned.book)) stamp).1)
       state (same_count (count_of state learned.book)) valid
     where
       found : Option Row
       found = row_at state learned.book learned.key
 
       rest : (is_learned learned && is_row_or_none learned.before) ≡ true
-      rest = and_right (is_key learned.key) (is_learned learned && is_row_or_none learned.before) call
+      rest = (and_parts (is_key learned.key) (is_learned learned && is_row_or_none learned.before) call).1
 
       before : is_before learned.key learned.stamp learned.before ≡ true
-      before = and_left (is_learned learned) (is_row_or_none learned.before) rest
+      before = (and_parts (is_learned learned) (is_row_or_none learned.before) rest).0
 
       rows : is_row_or_none learned.before ≡ true
-      rows = and_right (is_learned learned) (is_row_or_none learned.before) rest
+      rows = (and_parts (is_learned learned) (is_row_or_none learned.before) rest).1
 
       by : (b : Bool) → is_change (cond b replies.Restored (replies.Overtaken (stamp_of found))) ≡ true → b ≡ true
       by true told = refl

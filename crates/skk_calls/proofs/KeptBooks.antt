@@ -3,6 +3,7 @@ use Rattle.std.proofs.Common.{◌≡◌, ℕ, Bool, true, false, cond, not, ◌&
 use Rattle.std.proofs.Math.Dec.{eqb}
 use Rattle.std.proofs.lemmas.Bool.Decides.{nat_tests}
 use Rattle.std.specs.List.{list_all}
+use Rattle.std.proofs.lemmas.Bool.{and_from, and_parts}
 use Rattle.skk_calls.specs.declared.book.NumberedBook.{NumberedBook}
 use Rattle.skk_calls.specs.Canonical.{is_good}
 use Rattle.skk_calls.specs.Orders.{key_less}
@@ -10,7 +11,7 @@ use Rattle.skk_calls.specs.Rows.{RowKey, Row, same_key, is_row}
 use Rattle.skk_calls.specs.States.{State, rows_of, row_at, count_of, without_row, with_row, book_with, changed, rows_ascend, has_stamp, is_book, books_ascend, is_valid}
 use Rattle.skk_calls.proofs.Ascending.{rows_ascend_changed, books_ascend_changed}
 use Rattle.skk_calls.proofs.Changing.{has_key}
-use Rattle.skk_calls.proofs.Filtered.{and_left, and_right, and_both, list_all_filter, list_all_found, list_all_so}
+use Rattle.skk_calls.proofs.Filtered.{list_all_filter, list_all_found, list_all_so}
 use Rattle.skk_calls.proofs.Placing.{list_all_placed}
 
 -- a row may stand in a book with this count
@@ -31,12 +32,8 @@ stamp_later stamp count later e h = grind (arith, nat_tests)
 pub fits_later : (count later : ℕ) → nat_le count later ≡ true → (row : Row) → fits_count count row ≡ true
     → fits_count later row ≡ true
 fits_later count later e row fits =
-    let right : (is_good row && has_stamp count row) ≡ true = and_right (is_row row) (is_good row && has_stamp count row) fits in
-    and_both (is_row row) (is_good row && has_stamp later row)
-    (and_left (is_row row) (is_good row && has_stamp count row) fits)
-    (and_both (is_good row) (has_stamp later row)
-    (and_left (is_good row) (has_stamp count row) right)
-    (stamp_later row.stamp count later e (and_right (is_good row) (has_stamp count row) right)))
+    let right : (is_good row && has_stamp count row) ≡ true = (and_parts (is_row row) (is_good row && has_stamp count row) fits).1 in
+    and_from (is_row row) (is_good row && has_stamp later row) (and_parts (is_row row) (is_good row && has_stamp count row) fits).0 (and_from (is_good row) (has_stamp later row) (and_parts (is_good row) (has_stamp count row) right).0 (stamp_later row.stamp count later e (and_parts (is_good row) (has_stamp count row) right).1))
 
 -- rows that may stand in a book, with a row of a key that may stand in it
 pub fits_with_row : (count : ℕ) (key : RowKey) (after : Option Row) (rows : List Row) → fits_after count after ≡ true
@@ -48,38 +45,36 @@ fits_with_row count key (Some row) rows new all =
 
 -- a book has changed
 pub book_count : (book : NumberedBook) → is_book book ≡ true → nat_le 1 book.count ≡ true
-book_count book e = and_left (nat_le 1 book.count) (rows_ascend book.rows && list_all (fits_count book.count) book.rows) e
+book_count book e = (and_parts (nat_le 1 book.count) (rows_ascend book.rows && list_all (fits_count book.count) book.rows) e).0
 
 -- its rows ascend
 pub book_ascends : (book : NumberedBook) → is_book book ≡ true → rows_ascend book.rows ≡ true
 book_ascends book e =
-    and_left (rows_ascend book.rows) (list_all (fits_count book.count) book.rows)
-    (and_right (nat_le 1 book.count) (rows_ascend book.rows && list_all (fits_count book.count) book.rows) e)
+    (and_parts (rows_ascend book.rows) (list_all (fits_count book.count) book.rows) (and_parts (nat_le 1 book.count) (rows_ascend book.rows && list_all (fits_count book.count) book.rows) e).1).0
 
 -- and may stand in it
 pub book_fits : (book : NumberedBook) → is_book book ≡ true → list_all (fits_count book.count) book.rows ≡ true
 book_fits book e =
-    and_right (rows_ascend book.rows) (list_all (fits_count book.count) book.rows)
-    (and_right (nat_le 1 book.count) (rows_ascend book.rows && list_all (fits_count book.count) book.rows) e)
+    (and_parts (rows_ascend book.rows) (list_all (fits_count book.count) book.rows) (and_parts (nat_le 1 book.count) (rows_ascend book.rows && list_all (fits_count book.count) book.rows) e).1).1
 
 -- the books of a valid state ascend
 pub state_ascends : (state : State) → is_valid state ≡ true → books_ascend state ≡ true
-state_ascends state e = and_left (books_ascend state) (list_all is_book state) e
+state_ascends state e = (and_parts (books_ascend state) (list_all is_book state) e).0
 
 -- and are books
 pub state_books : (state : State) → is_valid state ≡ true → list_all is_book state ≡ true
-state_books state e = and_right (books_ascend state) (list_all is_book state) e
+state_books state e = (and_parts (books_ascend state) (list_all is_book state) e).1
 
 -- the rows of a book in a state of books may stand in it
 pub fits_rows_of : (state : State) (number : ℕ) → list_all is_book state ≡ true
     → list_all (fits_count (count_of state number)) (rows_of state number) ≡ true
 fits_rows_of [] number e = refl
 fits_rows_of (book ∷ state) number e =
-    by (eqb book.number number) (fits_rows_of state number (and_right (is_book book) (list_all is_book state) e))
+    by (eqb book.number number) (fits_rows_of state number (and_parts (is_book book) (list_all is_book state) e).1)
   where
     by : (b : Bool) → list_all (fits_count (count_of state number)) (rows_of state number) ≡ true
         → list_all (fits_count (cond b book.count (count_of state number))) (cond b book.rows (rows_of state number)) ≡ true
-    by true rest = book_fits book (and_left (is_book book) (list_all is_book state) e)
+    by true rest = book_fits book (and_parts (is_book book) (list_all is_book state) e).0
     by false rest = rest
 
 -- the row of a key in a valid state may stand in its book
@@ -99,41 +94,35 @@ module _ (number count : ℕ) (key : RowKey) (after : Option Row) (changes : nat
   book_with_is_book : (rows : List Row) → rows_ascend rows ≡ true → list_all (fits_count count) rows ≡ true
       → is_book (book_with number count key after rows) ≡ true
   book_with_is_book rows ascend all =
-      and_both (nat_le 1 count) (rows_ascend (with_row key after rows) && list_all (fits_count count) (with_row key after rows)) changes
-      (and_both (rows_ascend (with_row key after rows)) (list_all (fits_count count) (with_row key after rows))
-      (rows_ascend_changed key after rows has ascend) (fits_with_row count key after rows fits all))
+      and_from (nat_le 1 count) (rows_ascend (with_row key after rows) && list_all (fits_count count) (with_row key after rows)) changes (and_from (rows_ascend (with_row key after rows)) (list_all (fits_count count) (with_row key after rows)) (rows_ascend_changed key after rows has ascend) (fits_with_row count key after rows fits all))
 
   -- the books after a change are books
   books_changed : (state : State) → nat_le (count_of state number) count ≡ true → list_all is_book state ≡ true
       → list_all is_book (changed number count key after state) ≡ true
-  books_changed [] later all = and_both (is_book (book_with number count key after [])) true (book_with_is_book [] refl refl) refl
+  books_changed [] later all = and_from (is_book (book_with number count key after [])) true (book_with_is_book [] refl refl) refl
   books_changed (book ∷ state) later all =
       by (eqb book.number number) (nat_lt number book.number) later
       (λ (more : nat_le (count_of state number) count ≡ true). books_changed state more others)
     where
       this : is_book book ≡ true
-      this = and_left (is_book book) (list_all is_book state) all
+      this = (and_parts (is_book book) (list_all is_book state) all).0
 
       others : list_all is_book state ≡ true
-      others = and_right (is_book book) (list_all is_book state) all
+      others = (and_parts (is_book book) (list_all is_book state) all).1
 
       by : (b c : Bool) → nat_le (cond b book.count (count_of state number)) count ≡ true
           → (nat_le (count_of state number) count ≡ true → list_all is_book (changed number count key after state) ≡ true)
           → list_all is_book (cond b (book_with number count key after book.rows ∷ state)
           (cond c (book_with number count key after [] ∷ book ∷ state) (book ∷ changed number count key after state))) ≡ true
       by true c more rest =
-          and_both (is_book (book_with number count key after book.rows)) (list_all is_book state)
-          (book_with_is_book book.rows (book_ascends book this)
-          (list_all_so (fits_count book.count) (fits_count count) (fits_later book.count count more) book.rows (book_fits book this)))
-          others
+          and_from (is_book (book_with number count key after book.rows)) (list_all is_book state) (book_with_is_book book.rows (book_ascends book this)
+          (list_all_so (fits_count book.count) (fits_count count) (fits_later book.count count more) book.rows (book_fits book this))) others
       by false true more rest =
-          and_both (is_book (book_with number count key after [])) (list_all is_book (book ∷ state)) (book_with_is_book [] refl refl) all
-      by false false more rest = and_both (is_book book) (list_all is_book (changed number count key after state)) this (rest more)
+          and_from (is_book (book_with number count key after [])) (list_all is_book (book ∷ state)) (book_with_is_book [] refl refl) all
+      by false false more rest = and_from (is_book book) (list_all is_book (changed number count key after state)) this (rest more)
 
   -- a valid state stays valid
   pub is_valid_changed : (state : State) → nat_le (count_of state number) count ≡ true → is_valid state ≡ true
       → is_valid (changed number count key after state) ≡ true
   is_valid_changed state later valid =
-      and_both (books_ascend (changed number count key after state)) (list_all is_book (changed number count key after state))
-      (books_ascend_changed number count key after state (state_ascends state valid))
-      (books_changed state later (state_books state valid))
+      and_from (books_ascend (changed number count key after state)) (list_all is_book (changed number count key after state)) (books_ascend_changed number count key after state (state_ascends state valid)) (books_changed state later (state_books state valid))

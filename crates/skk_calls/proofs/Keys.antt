@@ -1,9 +1,9 @@
 -- Keys that are the same are equal.
 use Rattle.std.proofs.Common.{◌≡◌, ℕ, Bool, true, false, List, refl, ◌∙◌, ap}
+use Rattle.std.proofs.lemmas.Bool.{and_from, and_parts}
 use Rattle.skk_calls.specs.declared.part.Part.{Part}
 use Rattle.skk_calls.specs.declared.part.Part.TheVariants.{Nasi, Ari}
 use Rattle.skk_calls.specs.Rows.{RowKey, same, same_part, same_key}
-use Rattle.skk_calls.proofs.Filtered.{and_left, and_right, and_both}
 use Rattle.skk_calls.proofs.Texts.{same_itself, same_equal}
 
 -- a part is the same as itself
@@ -21,7 +21,7 @@ same_part_equal Ari Nasi e = cc
 -- a key is the same as itself
 pub same_key_itself : (key : RowKey) → same_key key key ≡ true
 same_key_itself key =
-    and_both (same_part key.part key.part) (same key.reading key.reading) (same_part_itself key.part) (same_itself key.reading)
+    and_from (same_part key.part key.part) (same key.reading key.reading) (same_part_itself key.part) (same_itself key.reading)
 
 -- the key of a part and a reading
 abbrev key_of : Part → List ℕ → RowKey
@@ -31,9 +31,9 @@ key_of part reading = record { part = part; reading = reading }
 pub same_key_equal : (key other : RowKey) → same_key key other ≡ true → key ≡ other
 same_key_equal key other e =
     let part : key.part ≡ other.part =
-    same_part_equal key.part other.part (and_left (same_part key.part other.part) (same key.reading other.reading) e) in
+    same_part_equal key.part other.part (and_parts (same_part key.part other.part) (same key.reading other.reading) e).0 in
     let reading : key.reading ≡ other.reading =
-    same_equal key.reading other.reading (and_right (same_part key.part other.part) (same key.reading other.reading) e) in
+    same_equal key.reading other.reading (and_parts (same_part key.part other.part) (same key.reading other.reading) e).1 in
     ap (λ (p : Part). key_of p key.reading) part ∙ ap (key_of other.part) reading
 
 -- keys that differ differ in either order

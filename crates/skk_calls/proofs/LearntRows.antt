@@ -2,6 +2,7 @@
 use Rattle.std.proofs.Common.{◌≡◌, ℕ, Bool, true, false, cond, not, nat_le, None, Some, Option, List, [], ◌∷◌, length, refl, sym, ap, subst, arith}
 use Rattle.std.proofs.lemmas.Bool.Decides.{nat_tests}
 use Rattle.std.specs.List.{list_all}
+use Rattle.std.proofs.lemmas.Bool.{and_from, and_parts, not-true, or_parts}
 use Rattle.skk_text.specs.Text.{byte_len}
 use Rattle.skk_calls.specs.declared.part.Part.{Part}
 use Rattle.skk_calls.specs.declared.part.Part.TheVariants.{Nasi, Ari}
@@ -10,7 +11,7 @@ use Rattle.skk_calls.specs.Dictionary.{is_okuri_or_none}
 use Rattle.skk_calls.specs.Found.{note_of}
 use Rattle.skk_calls.specs.Learning.{without, without_word, learnt_note, learnt_cands, block_learnt, learnt_blocks, learnt, row_or_none}
 use Rattle.skk_calls.specs.Rows.{RowKey, Cand, Block, Row, same, has, differ, is_key, is_okuri, is_word, is_cand, is_block, fits_blocks, is_row}
-use Rattle.skk_calls.proofs.Filtered.{and_left, and_right, and_both, or_left, or_right, or_neither, false_from_not, list_all_filter}
+use Rattle.skk_calls.proofs.Filtered.{or_neither, list_all_filter}
 use Rattle.skk_calls.proofs.RowParts.{RowParts, BeforeParts, row_from_parts, good_from_parts, block_from_parts, block_parts, cand_word, cand_with_note_of}
 use Rattle.skk_calls.proofs.Texts.{words_of, okuri_of, differ_front, differ_filter, words_without}
 
@@ -31,8 +32,7 @@ learnt_is_cand cands cand e all = by (some cand.note)
 pub cands_learnt : (cands : List Cand) (cand : Cand) → is_cand cand ≡ true → list_all is_cand cands ≡ true
     → list_all is_cand (learnt_cands cands cand) ≡ true
 cands_learnt cands cand e all =
-    and_both (is_cand (record { word = cand.word; note = learnt_note cands cand })) (list_all is_cand (without_word cand.word cands))
-    (learnt_is_cand cands cand e all) (list_all_filter is_cand (λ (other : Cand). not (same other.word cand.word)) cands all)
+    and_from (is_cand (record { word = cand.word; note = learnt_note cands cand })) (list_all is_cand (without_word cand.word cands)) (learnt_is_cand cands cand e all) (list_all_filter is_cand (λ (other : Cand). not (same other.word cand.word)) cands all)
 
 -- and their words differ
 pub words_learnt : (cands : List Cand) (cand : Cand) → differ (words_of cands) ≡ true
@@ -55,8 +55,7 @@ module _ (okuri word : List ℕ) where
         okuri = parts.okuri;
         some = one_more word (without word block.words);
         words =
-            and_both (is_word word) (list_all is_word (without word block.words)) fits
-            (list_all_filter is_word (λ other. not (same other word)) block.words parts.words);
+            and_from (is_word word) (list_all is_word (without word block.words)) fits (list_all_filter is_word (λ other. not (same other word)) block.words parts.words);
         different = differ_front word block.words parts.different;
       })
 
@@ -64,36 +63,31 @@ module _ (okuri word : List ℕ) where
   pub block_learnt_blocks : (blocks : List Block) → is_okuri okuri ≡ true → is_word word ≡ true → list_all is_block blocks ≡ true
       → list_all is_block (block_learnt okuri word blocks) ≡ true
   block_learnt_blocks [] is fits all =
-      and_both (is_block (record { okuri = okuri; words = word ∷ [] })) true
-      (block_from_parts (record { okuri = okuri; words = word ∷ [] })
-      (record { okuri = is; some = refl; words = and_both (is_word word) true fits refl; different = refl }))
-      refl
+      and_from (is_block (record { okuri = okuri; words = word ∷ [] })) true (block_from_parts (record { okuri = okuri; words = word ∷ [] })
+      (record { okuri = is; some = refl; words = and_from (is_word word) true fits refl; different = refl })) refl
   block_learnt_blocks (block ∷ blocks) is fits all =
-      by (same block.okuri okuri) (block_learnt_blocks blocks is fits (and_right (is_block block) (list_all is_block blocks) all))
+      by (same block.okuri okuri) (block_learnt_blocks blocks is fits (and_parts (is_block block) (list_all is_block blocks) all).1)
     where
       by : (b : Bool) → list_all is_block (block_learnt okuri word blocks) ≡ true
           → list_all is_block (cond b (chosen word block ∷ blocks) (block ∷ block_learnt okuri word blocks)) ≡ true
       by true rest =
-          and_both (is_block (chosen word block)) (list_all is_block blocks)
-          (block_with_word block (and_left (is_block block) (list_all is_block blocks) all) fits)
-          (and_right (is_block block) (list_all is_block blocks) all)
+          and_from (is_block (chosen word block)) (list_all is_block blocks) (block_with_word block (and_parts (is_block block) (list_all is_block blocks) all).0 fits) (and_parts (is_block block) (list_all is_block blocks) all).1
       by false rest =
-          and_both (is_block block) (list_all is_block (block_learnt okuri word blocks))
-          (and_left (is_block block) (list_all is_block blocks) all) rest
+          and_from (is_block block) (list_all is_block (block_learnt okuri word blocks)) (and_parts (is_block block) (list_all is_block blocks) all).0 rest
 
   -- an okurigana that they have not, and that is another, they still have not
   has_okuri_learnt : (blocks : List Block) (text : List ℕ) → has (okuri_of blocks) text ≡ false → same text okuri ≡ false
       → has (okuri_of (block_learnt okuri word blocks)) text ≡ false
   has_okuri_learnt [] text e other = or_neither (same text okuri) false other refl
   has_okuri_learnt (block ∷ blocks) text e other =
-      by (same block.okuri okuri) (has_okuri_learnt blocks text (or_right (same text block.okuri) (has (okuri_of blocks) text) e) other)
+      by (same block.okuri okuri) (has_okuri_learnt blocks text (or_parts (same text block.okuri) (has (okuri_of blocks) text) e).1 other)
     where
       by : (b : Bool) → has (okuri_of (block_learnt okuri word blocks)) text ≡ false
           → has (okuri_of (cond b (chosen word block ∷ blocks) (block ∷ block_learnt okuri word blocks))) text ≡ false
       by true rest = e
       by false rest =
           or_neither (same text block.okuri) (has (okuri_of (block_learnt okuri word blocks)) text)
-          (or_left (same text block.okuri) (has (okuri_of blocks) text) e) rest
+          (or_parts (same text block.okuri) (has (okuri_of blocks) text) e).0 rest
 
   -- their okurigana differ
   pub block_learnt_differ : (blocks : List Block) → differ (okuri_of blocks) ≡ true
@@ -101,18 +95,15 @@ module _ (okuri word : List ℕ) where
   block_learnt_differ [] e = refl
   block_learnt_differ (block ∷ blocks) e =
       by (same block.okuri okuri) refl
-      (block_learnt_differ blocks (and_right (not (has (okuri_of blocks) block.okuri)) (differ (okuri_of blocks)) e))
+      (block_learnt_differ blocks (and_parts (not (has (okuri_of blocks) block.okuri)) (differ (okuri_of blocks)) e).1)
     where
       by : (b : Bool) → same block.okuri okuri ≡ b → differ (okuri_of (block_learnt okuri word blocks)) ≡ true
           → differ (okuri_of (cond b (chosen word block ∷ blocks) (block ∷ block_learnt okuri word blocks))) ≡ true
       by true found rest = e
       by false other rest =
-          and_both (not (has (okuri_of (block_learnt okuri word blocks)) block.okuri)) (differ (okuri_of (block_learnt okuri word blocks)))
-          (ap not (has_okuri_learnt blocks block.okuri
-          (false_from_not (has (okuri_of blocks) block.okuri)
-          (and_left (not (has (okuri_of blocks) block.okuri)) (differ (okuri_of blocks)) e))
-          other))
-          rest
+          and_from (not (has (okuri_of (block_learnt okuri word blocks)) block.okuri)) (differ (okuri_of (block_learnt okuri word blocks))) (ap not (has_okuri_learnt blocks block.okuri
+          (not-true (has (okuri_of blocks) block.okuri) (and_parts (not (has (okuri_of blocks) block.okuri)) (differ (okuri_of blocks)) e).0)
+          other)) rest
 
 -- the blocks after a candidate is learnt fit the part
 pub learnt_blocks_fit : (part : Part) (okuri : Option (List ℕ)) (word : List ℕ) (blocks : List Block)

@@ -2,6 +2,7 @@
 use Rattle.std.proofs.Common.{◌≡◌, ℕ, ◌+◌, Bool, true, false, ◌&&◌, ◌==◌, Some, Option, refl, sym, ◌∙◌, ap}
 use Rattle.std.specs.List.{list_all}
 use Rattle.std.proofs.lemmas.Bool.Decides.{Decides-eqb}
+use Rattle.std.proofs.lemmas.Bool.{and_parts}
 use Rattle.skk_calls.specs.declared.call.Call.{Call}
 use Rattle.skk_calls.specs.declared.call.Call.TheVariants.{Lookup, Complete, Learn, Purge, Unlearn}
 use Rattle.skk_calls.specs.Dictionary.{after, moves, moved, is_call, is_row_or_none, speaks_of}
@@ -9,7 +10,6 @@ use Rattle.skk_calls.specs.Learning.{learnt, purged, is_learned}
 use Rattle.skk_calls.specs.Rows.{RowKey, Row, same_key, is_key}
 use Rattle.skk_calls.specs.States.{State, row_at, count_of, changed, books_ascend, is_book, is_valid}
 use Rattle.skk_calls.proofs.Changing.{has_key}
-use Rattle.skk_calls.proofs.Filtered.{and_left, and_right}
 use Rattle.skk_calls.proofs.Keeping.{before_has_key}
 use Rattle.skk_calls.proofs.Keys.{same_key_itself}
 use Rattle.skk_calls.proofs.OtherRows.{row_at_other_key, row_at_other_book}
@@ -49,7 +49,7 @@ moved_leaves state (Purge number key word) book other ascend typed e =
 moved_leaves state (Unlearn learned) book other ascend typed e =
     other_row learned.book (count_of state learned.book) learned.key learned.before state book other ascend
     (before_has_key learned.key learned.stamp learned.before
-    (and_left (is_learned learned) (is_row_or_none learned.before) (and_right (is_key learned.key) (is_learned learned && is_row_or_none learned.before) typed)))
+    (and_parts (is_learned learned) (is_row_or_none learned.before) (and_parts (is_key learned.key) (is_learned learned && is_row_or_none learned.before) typed).1).0)
     e
 
 -- so does every call
@@ -60,5 +60,5 @@ leaves_alone state call book other valid typed e = by (moves state call) refl
     by : (b : Bool) → moves state call ≡ b → row_at (after state call) book other ≡ row_at state book other
     by true f =
         ap (λ (s : State). row_at s book other) (after_moved state call f)
-        ∙ moved_leaves state call book other (and_left (books_ascend state) (list_all is_book state) valid) typed e
+        ∙ moved_leaves state call book other (and_parts (books_ascend state) (list_all is_book state) valid).0 typed e
     by false f = ap (λ (s : State). row_at s book other) (after_unmoved state call f)

@@ -1,11 +1,11 @@
 -- How many bytes a line of plain words has, and which word is too long to stand beside fifteen others.
-use Rattle.std.proofs.Common.{◌≡◌, ◌∙◌, ap, ℕ, ◌+◌, ◌*◌, ◌==◌, Bool, true, false, not, ◌&&◌, ◌||◌, List, [], ◌∷◌, ◌++◌, codes, length, map, None, Some, refl, arith, length-append, encode_utf8_all}
+use Rattle.std.proofs.Common.{◌≡◌, ◌∙◌, ap, ℕ, ◌+◌, ◌*◌, ◌==◌, Bool, true, false, not, ◌&&◌, ◌||◌, List, [], ◌∷◌, ◌++◌, codes, length, map, None, Some, refl, arith}
 use Rattle.std.specs.List.{flat_map, list_all, list_any, sum_by}
-use Rattle.std.proofs.lemmas.Bool.{and_parts, and_from, not-true, eqb-true}
+use Rattle.std.proofs.lemmas.Bool.{and_parts, and_from, not-true, eqb-true, both_ways}
 use Rattle.std.proofs.lemmas.List.{append-nil}
 use Rattle.std.proofs.lemmas.List.Folds.{list_all-map}
 use Rattle.std.proofs.lemmas.List.Sums.{sum_by-cons}
-use Rattle.std.proofs.lemmas.Str.{encodes-append}
+use Rattle.skk_text.proofs.Characters.{byte_len-append}
 use Rattle.skk_text.specs.Text.{byte_len}
 use Rattle.skk_calls.specs.declared.answer.Reply.TheVariants as replies
 use Rattle.skk_calls.specs.declared.call.Call.TheVariants.{Learn}
@@ -15,7 +15,7 @@ use Rattle.skk_calls.specs.Found.{note_of}
 use Rattle.skk_calls.specs.Learning.{learnt, without_word}
 use Rattle.skk_calls.specs.Rows.{RowKey, Cand, Row, same, has}
 use Rattle.skk_calls.specs.States.{State}
-use Rattle.skk_calls.proofs.Filtered.{true_not_false, filter_all}
+use Rattle.skk_calls.proofs.Filtered.{filter_all}
 use Rattle.skk_calls.proofs.Samples.{plain, nasi}
 use Rattle.skk_calls.proofs.Seen.{has_none}
 use Rattle.skk_calls.proofs.Texts.{words_of}
@@ -33,10 +33,6 @@ is_plain cand = not (some cand.note) && needs_no_quotes cand.word
 -- the bytes of a word and of its slash
 abbrev pub slashed : List ℕ → ℕ
 slashed word = byte_len word + 1
-
--- joined texts have the bytes of both
-pub byte_len-append : (front back : List ℕ) → byte_len (front ++ back) ≡ byte_len front + byte_len back
-byte_len-append front back = ap length (encodes-append front back) ∙ length-append (encode_utf8_all front) (encode_utf8_all back)
 
 -- a slash has one byte
 length_of_slash : byte_len (0x2F ∷ []) ≡ 1
@@ -57,7 +53,7 @@ plain_item cand e = by cand.note refl
 
     by : (note : List ℕ) → cand.note ≡ note → item cand ≡ cand.word
     by [] f = rw (f, not-true (list_any is_special cand.word || begins_form cand.word) parts.1) (append-nil cand.word)
-    by (c ∷ note) f = true_not_false (not (some cand.note)) parts.0 (ap (λ text. not (some text)) f)
+    by (c ∷ note) f = absurd (both_ways (not (some cand.note)) (ap (λ text. not (some text)) f) parts.0)
 
 -- the items of plain candidates have the bytes of their words and slashes
 length_of_items : (cands : List Cand) → list_all is_plain cands ≡ true

@@ -3,13 +3,14 @@ use Rattle.std.proofs.Common.{◌≡◌, ℕ, Bool, true, false, cond, not, nat_
 use Rattle.std.proofs.Math.Dec.{eqb}
 use Rattle.std.proofs.lemmas.Bool.Decides.{Decides-eqb, nat_tests}
 use Rattle.std.specs.List.{filter, list_all}
+use Rattle.std.proofs.lemmas.Bool.{and_parts}
 use Rattle.skk_calls.specs.declared.book.NumberedBook.{NumberedBook}
 use Rattle.skk_calls.specs.Orders.{key_less, placed}
 use Rattle.skk_calls.specs.Rows.{RowKey, Row, same_key}
 use Rattle.skk_calls.specs.States.{State, row_in, rows_of, count_of, row_at, without_row, with_row, book_with, changed, books_ascend}
 use Rattle.skk_calls.proofs.Ascending.{lt_trans}
 use Rattle.skk_calls.proofs.Changing.{has_key, number_itself}
-use Rattle.skk_calls.proofs.Filtered.{and_left, and_right, list_all_so}
+use Rattle.skk_calls.proofs.Filtered.{list_all_so}
 use Rattle.skk_calls.proofs.Keys.{same_key_equal}
 
 module _ {X : Type 0} (p : X → Bool) where
@@ -69,8 +70,8 @@ pub rows_of_none : (state : State) (number : ℕ) → list_all (λ (book : Numbe
     → rows_of state number ≡ []
 rows_of_none [] number e = refl
 rows_of_none (book ∷ state) number e =
-    rw (greater number book.number (and_left (nat_lt number book.number) (list_all (λ (b : NumberedBook). nat_lt number b.number) state) e))
-    (rows_of_none state number (and_right (nat_lt number book.number) (list_all (λ (b : NumberedBook). nat_lt number b.number) state) e))
+    rw (greater number book.number (and_parts (nat_lt number book.number) (list_all (λ (b : NumberedBook). nat_lt number b.number) state) e).0)
+    (rows_of_none state number (and_parts (nat_lt number book.number) (list_all (λ (b : NumberedBook). nat_lt number b.number) state) e).1)
   where
     greater : (a b : ℕ) → nat_lt a b ≡ true → eqb b a ≡ false
     greater a b less = grind (arith, nat_tests)
@@ -82,10 +83,10 @@ module _ (number count : ℕ) (key : RowKey) (after : Option Row) where
   rows_of_changed [] e = rw (number_itself number)
   rows_of_changed (book ∷ state) e =
       by (eqb book.number number) refl (nat_lt number book.number) refl
-      (rows_of_changed state (and_right (list_all (λ (other : NumberedBook). nat_lt book.number other.number) state) (books_ascend state) e))
+      (rows_of_changed state (and_parts (list_all (λ (other : NumberedBook). nat_lt book.number other.number) state) (books_ascend state) e).1)
     where
       above : list_all (λ (other : NumberedBook). nat_lt book.number other.number) state ≡ true
-      above = and_left (list_all (λ (other : NumberedBook). nat_lt book.number other.number) state) (books_ascend state) e
+      above = (and_parts (list_all (λ (other : NumberedBook). nat_lt book.number other.number) state) (books_ascend state) e).0
 
       later : nat_lt number book.number ≡ true → list_all (λ (other : NumberedBook). nat_lt number other.number) state ≡ true
       later less =

@@ -2,13 +2,14 @@
 use Rattle.std.proofs.Common.{◌≡◌, ℕ, Bool, true, false, cond, not, nat_le, Option, List, [], ◌∷◌, ◌++◌, length, refl, sym, ap, subst, arith}
 use Rattle.std.proofs.lemmas.Bool.Decides.{nat_tests}
 use Rattle.std.specs.List.{list_all}
+use Rattle.std.proofs.lemmas.Bool.{and_from, and_parts, not-true, or_parts}
 use Rattle.skk_text.specs.Text.{byte_len}
 use Rattle.skk_calls.specs.declared.part.Part.{Part}
 use Rattle.skk_calls.specs.declared.part.Part.TheVariants.{Nasi, Ari}
 use Rattle.skk_calls.specs.Canonical.{canonical, is_good, some, line_limit}
 use Rattle.skk_calls.specs.Learning.{without, without_word, block_without, blocks_without, hidden_too, purged, row_or_none}
 use Rattle.skk_calls.specs.Rows.{RowKey, Cand, Block, Row, same, has, differ, is_key, is_word, is_cand, is_block, fits_blocks, is_row}
-use Rattle.skk_calls.proofs.Filtered.{and_left, and_right, and_both, or_left, or_right, or_neither, or_last, false_from_not, list_all_filter}
+use Rattle.skk_calls.proofs.Filtered.{or_neither, or_last, list_all_filter}
 use Rattle.skk_calls.proofs.RowParts.{RowParts, BeforeParts, row_from_parts, good_from_parts, block_from_parts, block_parts}
 use Rattle.skk_calls.proofs.Texts.{words_of, okuri_of, differ_filter, differ_end, words_without}
 
@@ -37,20 +38,18 @@ module _ (word : List ℕ) where
       → list_all is_block (blocks_without word blocks) ≡ true
   blocks_without_all [] all = refl
   blocks_without_all (block ∷ blocks) all =
-      by (some (without word block.words)) refl (blocks_without_all blocks (and_right (is_block block) (list_all is_block blocks) all))
+      by (some (without word block.words)) refl (blocks_without_all blocks (and_parts (is_block block) (list_all is_block blocks) all).1)
     where
       by : (b : Bool) → some (without word block.words) ≡ b → list_all is_block (blocks_without word blocks) ≡ true
           → list_all is_block (cond b (block_without word block ∷ blocks_without word blocks) (blocks_without word blocks)) ≡ true
       by true more rest =
-          let parts = block_parts block (and_left (is_block block) (list_all is_block blocks) all) in
-          and_both (is_block (block_without word block)) (list_all is_block (blocks_without word blocks))
-          (block_from_parts (block_without word block) (record {
+          let parts = block_parts block (and_parts (is_block block) (list_all is_block blocks) all).0 in
+          and_from (is_block (block_without word block)) (list_all is_block (blocks_without word blocks)) (block_from_parts (block_without word block) (record {
             okuri = parts.okuri;
             some = some_length (without word block.words) more;
             words = list_all_filter is_word (λ other. not (same other word)) block.words parts.words;
             different = differ_filter (λ other. not (same other word)) block.words parts.different;
-          }))
-          rest
+          })) rest
       by false none rest = rest
 
   -- an okurigana that the blocks have not, those that are left have not
@@ -58,13 +57,13 @@ module _ (word : List ℕ) where
       → has (okuri_of (blocks_without word blocks)) text ≡ false
   has_okuri_left [] text e = refl
   has_okuri_left (block ∷ blocks) text e =
-      by (some (without word block.words)) (has_okuri_left blocks text (or_right (same text block.okuri) (has (okuri_of blocks) text) e))
+      by (some (without word block.words)) (has_okuri_left blocks text (or_parts (same text block.okuri) (has (okuri_of blocks) text) e).1)
     where
       by : (b : Bool) → has (okuri_of (blocks_without word blocks)) text ≡ false
           → has (okuri_of (cond b (block_without word block ∷ blocks_without word blocks) (blocks_without word blocks))) text ≡ false
       by true rest =
           or_neither (same text block.okuri) (has (okuri_of (blocks_without word blocks)) text)
-          (or_left (same text block.okuri) (has (okuri_of blocks) text) e) rest
+          (or_parts (same text block.okuri) (has (okuri_of blocks) text) e).0 rest
       by false rest = rest
 
   -- their okurigana differ
@@ -73,16 +72,13 @@ module _ (word : List ℕ) where
   blocks_without_differ [] e = refl
   blocks_without_differ (block ∷ blocks) e =
       by (some (without word block.words))
-      (blocks_without_differ blocks (and_right (not (has (okuri_of blocks) block.okuri)) (differ (okuri_of blocks)) e))
+      (blocks_without_differ blocks (and_parts (not (has (okuri_of blocks) block.okuri)) (differ (okuri_of blocks)) e).1)
     where
       by : (b : Bool) → differ (okuri_of (blocks_without word blocks)) ≡ true
           → differ (okuri_of (cond b (block_without word block ∷ blocks_without word blocks) (blocks_without word blocks))) ≡ true
       by true rest =
-          and_both (not (has (okuri_of (blocks_without word blocks)) block.okuri)) (differ (okuri_of (blocks_without word blocks)))
-          (ap not (has_okuri_left blocks block.okuri
-          (false_from_not (has (okuri_of blocks) block.okuri)
-          (and_left (not (has (okuri_of blocks) block.okuri)) (differ (okuri_of blocks)) e))))
-          rest
+          and_from (not (has (okuri_of (blocks_without word blocks)) block.okuri)) (differ (okuri_of (blocks_without word blocks))) (ap not (has_okuri_left blocks block.okuri
+          (not-true (has (okuri_of blocks) block.okuri) (and_parts (not (has (okuri_of blocks) block.okuri)) (differ (okuri_of blocks)) e).0))) rest
       by false rest = rest
 
   -- the words that are hidden with one more differ
@@ -105,10 +101,9 @@ module _ (word : List ℕ) where
   -- words with one at their end are words
   words_end : (hides : List (List ℕ)) → is_word word ≡ true → list_all is_word hides ≡ true
       → list_all is_word (hides ++ word ∷ []) ≡ true
-  words_end [] e all = and_both (is_word word) true e refl
+  words_end [] e all = and_from (is_word word) true e refl
   words_end (text ∷ texts) e all =
-      and_both (is_word text) (list_all is_word (texts ++ word ∷ [])) (and_left (is_word text) (list_all is_word texts) all)
-      (words_end texts e (and_right (is_word text) (list_all is_word texts) all))
+      and_from (is_word text) (list_all is_word (texts ++ word ∷ [])) (and_parts (is_word text) (list_all is_word texts) all).0 (words_end texts e (and_parts (is_word text) (list_all is_word texts) all).1)
 
   -- and they are words
   pub hidden_too_words : (hides : List (List ℕ)) → is_word word ≡ true → list_all is_word hides ≡ true

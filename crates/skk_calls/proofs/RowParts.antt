@@ -2,6 +2,7 @@
 use Rattle.std.proofs.Common.{◌≡◌, ℕ, ◌+◌, Bool, true, false, cond, ◌&&◌, ◌||◌, nat_le, None, Some, Option, List, [], ◌∷◌, length, refl, subst, arith}
 use Rattle.std.proofs.lemmas.Bool.Decides.{nat_tests}
 use Rattle.std.specs.List.{list_all}
+use Rattle.std.proofs.lemmas.Bool.{and_from, and_parts}
 use Rattle.skk_text.specs.Text.{byte_len}
 use Rattle.skk_calls.specs.declared.part.Part.{Part}
 use Rattle.skk_calls.specs.declared.part.Part.TheVariants.{Nasi, Ari}
@@ -11,7 +12,7 @@ use Rattle.skk_calls.specs.Learning.{row_or_none}
 use Rattle.skk_calls.specs.Rows.{RowKey, Cand, Block, Row, same, differ, is_key, is_okuri, is_note, is_word, word_limit, is_cand, is_block, fits_blocks, is_row}
 use Rattle.skk_calls.specs.States.{has_stamp}
 use Rattle.skk_calls.proofs.Changing.{has_key}
-use Rattle.skk_calls.proofs.Filtered.{and_left, and_right, and_both, list_all_so}
+use Rattle.skk_calls.proofs.Filtered.{list_all_so}
 use Rattle.skk_calls.proofs.KeptBooks.{fits_after}
 use Rattle.skk_calls.proofs.Keys.{same_key_equal}
 use Rattle.skk_calls.proofs.Texts.{same_equal, words_of, okuri_of}
@@ -37,19 +38,19 @@ row_from_parts row parts = cc (parts.key, parts.cands, parts.words, parts.part, 
 -- a row has its parts
 pub row_parts : (row : Row) → is_row row ≡ true → RowParts row
 row_parts row e =
-    let rest = and_right (is_key row.key) cands_and_blocks e in
-    let cands = and_left some_cands some_blocks rest in
-    let blocks = and_right some_cands some_blocks rest in
-    let fits = and_left all_blocks (differ row.hides) blocks in
-    let both = and_left (fits_blocks row.key.part row.blocks && list_all is_block row.blocks) (differ (okuri_of row.blocks)) fits in
+    let rest = (and_parts (is_key row.key) cands_and_blocks e).1 in
+    let cands = (and_parts some_cands some_blocks rest).0 in
+    let blocks = (and_parts some_cands some_blocks rest).1 in
+    let fits = (and_parts all_blocks (differ row.hides) blocks).0 in
+    let both = (and_parts (fits_blocks row.key.part row.blocks && list_all is_block row.blocks) (differ (okuri_of row.blocks)) fits).0 in
     record {
-      key = and_left (is_key row.key) cands_and_blocks e;
-      cands = and_left (list_all is_cand row.cands) (differ (words_of row.cands)) cands;
-      words = and_right (list_all is_cand row.cands) (differ (words_of row.cands)) cands;
-      part = and_left (fits_blocks row.key.part row.blocks) (list_all is_block row.blocks) both;
-      blocks = and_right (fits_blocks row.key.part row.blocks) (list_all is_block row.blocks) both;
-      okuri = and_right (fits_blocks row.key.part row.blocks && list_all is_block row.blocks) (differ (okuri_of row.blocks)) fits;
-      hides = and_right all_blocks (differ row.hides) blocks;
+      key = (and_parts (is_key row.key) cands_and_blocks e).0;
+      cands = (and_parts (list_all is_cand row.cands) (differ (words_of row.cands)) cands).0;
+      words = (and_parts (list_all is_cand row.cands) (differ (words_of row.cands)) cands).1;
+      part = (and_parts (fits_blocks row.key.part row.blocks) (list_all is_block row.blocks) both).0;
+      blocks = (and_parts (fits_blocks row.key.part row.blocks) (list_all is_block row.blocks) both).1;
+      okuri = (and_parts (fits_blocks row.key.part row.blocks && list_all is_block row.blocks) (differ (okuri_of row.blocks)) fits).1;
+      hides = (and_parts all_blocks (differ row.hides) blocks).1;
     }
   where
     some_cands : Bool
@@ -78,13 +79,13 @@ block_from_parts block parts = cc (parts.okuri, parts.some, parts.words, parts.d
 -- a block has its parts
 pub block_parts : (block : Block) → is_block block ≡ true → BlockParts block
 block_parts block e =
-    let rest = and_right (is_okuri block.okuri) (nat_le 1 (length block.words) && (list_all is_word block.words && differ block.words)) e in
-    let words = and_right (nat_le 1 (length block.words)) (list_all is_word block.words && differ block.words) rest in
+    let rest = (and_parts (is_okuri block.okuri) (nat_le 1 (length block.words) && (list_all is_word block.words && differ block.words)) e).1 in
+    let words = (and_parts (nat_le 1 (length block.words)) (list_all is_word block.words && differ block.words) rest).1 in
     record {
-      okuri = and_left (is_okuri block.okuri) (nat_le 1 (length block.words) && (list_all is_word block.words && differ block.words)) e;
-      some = and_left (nat_le 1 (length block.words)) (list_all is_word block.words && differ block.words) rest;
-      words = and_left (list_all is_word block.words) (differ block.words) words;
-      different = and_right (list_all is_word block.words) (differ block.words) words;
+      okuri = (and_parts (is_okuri block.okuri) (nat_le 1 (length block.words) && (list_all is_word block.words && differ block.words)) e).0;
+      some = (and_parts (nat_le 1 (length block.words)) (list_all is_word block.words && differ block.words) rest).0;
+      words = (and_parts (list_all is_word block.words) (differ block.words) words).0;
+      different = (and_parts (list_all is_word block.words) (differ block.words) words).1;
     }
 
 -- what is known of the row of a key before a change
@@ -96,9 +97,7 @@ pub record BeforeParts (key : RowKey) (row : Row) : Type 0 where
 -- the words that a good row hides are words
 pub good_hides : (row : Row) → is_good row ≡ true → list_all is_word row.hides ≡ true
 good_hides row e =
-    and_left (list_all is_word row.hides) (list_all has_words row.blocks && nat_le (byte_len (canonical row)) line_limit)
-    (and_right (some row.cands || (some row.blocks || some row.hides))
-    (list_all is_word row.hides && (list_all has_words row.blocks && nat_le (byte_len (canonical row)) line_limit)) e)
+    (and_parts (list_all is_word row.hides) (list_all has_words row.blocks && nat_le (byte_len (canonical row)) line_limit) (and_parts (some row.cands || (some row.blocks || some row.hides)) (list_all is_word row.hides && (list_all has_words row.blocks && nat_le (byte_len (canonical row)) line_limit)) e).1).0
 
 -- each part fits no blocks
 fits_no_blocks : (part : Part) → fits_blocks part [] ≡ true
@@ -116,16 +115,16 @@ before_parts count key None e has fits = record {
 }
 before_parts count key (Some row) e has fits = record {
   same = same_key_equal row.key key has;
-  parts = row_parts row (and_left (is_row row) (is_good row && has_stamp count row) fits);
-  hidden = good_hides row (and_left (is_good row) (has_stamp count row) (and_right (is_row row) (is_good row && has_stamp count row) fits));
+  parts = row_parts row (and_parts (is_row row) (is_good row && has_stamp count row) fits).0;
+  hidden = good_hides row (and_parts (is_good row) (has_stamp count row) (and_parts (is_row row) (is_good row && has_stamp count row) fits).1).0;
 }
 
 -- the word of a candidate is one
 pub cand_word : (cand : Cand) → is_cand cand ≡ true → is_word cand.word ≡ true
 cand_word cand e =
     by (length cand.word) (byte_len cand.word) (byte_len cand.note)
-    (and_left (nat_le 1 (length cand.word)) (is_note cand.note && short) e)
-    (and_right (is_note cand.note) short (and_right (nat_le 1 (length cand.word)) (is_note cand.note && short) e))
+    (and_parts (nat_le 1 (length cand.word)) (is_note cand.note && short) e).0
+    (and_parts (is_note cand.note) short (and_parts (nat_le 1 (length cand.word)) (is_note cand.note && short) e).1).1
   where
     short : Bool
     short = nat_le (byte_len cand.word + byte_len cand.note) word_limit
@@ -141,13 +140,13 @@ cand_with_note_of [] word e all = by (length word) (byte_len word) e
     by : (l w : ℕ) → (nat_le 1 l && nat_le w 4095) ≡ true → (nat_le 1 l && (true && nat_le (w + 0) 4095)) ≡ true
     by l w h = grind (arith, nat_tests)
 cand_with_note_of (cand ∷ cands) word e all =
-    by (same cand.word word) refl (cand_with_note_of cands word e (and_right (is_cand cand) (list_all is_cand cands) all))
+    by (same cand.word word) refl (cand_with_note_of cands word e (and_parts (is_cand cand) (list_all is_cand cands) all).1)
   where
     by : (b : Bool) → same cand.word word ≡ b → is_cand (record { word = word; note = note_of cands word }) ≡ true
         → is_cand (record { word = word; note = cond b cand.note (note_of cands word) }) ≡ true
     by true found rest =
         subst (λ (w : List ℕ). is_cand (record { word = w; note = cand.note }) ≡ true) (same_equal cand.word word found)
-        (and_left (is_cand cand) (list_all is_cand cands) all)
+        (and_parts (is_cand cand) (list_all is_cand cands) all).0
     by false found rest = rest
 
 -- a row that says something, hides words alone and is short is good
@@ -158,9 +157,4 @@ good_from_parts row parts hidden says short =
     let words : list_all has_words row.blocks ≡ true =
     list_all_so is_block has_words (λ (block : Block) (e : is_block block ≡ true). (block_parts block e).words)
     row.blocks parts.blocks in
-    and_both (some row.cands || (some row.blocks || some row.hides))
-    (list_all is_word row.hides && (list_all has_words row.blocks && nat_le (byte_len (canonical row)) line_limit))
-    says
-    (and_both (list_all is_word row.hides) (list_all has_words row.blocks && nat_le (byte_len (canonical row)) line_limit)
-    hidden
-    (and_both (list_all has_words row.blocks) (nat_le (byte_len (canonical row)) line_limit) words short))
+    and_from (some row.cands || (some row.blocks || some row.hides)) (list_all is_word row.hides && (list_all has_words row.blocks && nat_le (byte_len (canonical row)) line_limit)) says (and_from (list_all is_word row.hides) (list_all has_words row.blocks && nat_le (byte_len (canonical row)) line_limit) hidden (and_from (list_all has_words row.blocks) (nat_le (byte_len (canonical row)) line_limit) words short))

@@ -1,21 +1,17 @@
 -- Texts in a list: which it has, when they differ, and what the first of each keeps.
-use Rattle.std.proofs.Common.{◌≡◌, ℕ, Bool, true, false, not, ◌||◌, List, [], ◌∷◌, ◌++◌, refl, sym, ◌∙◌, ap, take, zero, suc}
+use Rattle.std.proofs.Common.{◌≡◌, ℕ, Bool, true, false, not, List, [], ◌∷◌, ◌++◌, refl, sym, ◌∙◌, ap, take, zero, suc}
 use Rattle.std.specs.List.{list_all, flat_map}
-use Rattle.std.proofs.lemmas.Bool.{and_parts, and_from, not-true}
+use Rattle.std.proofs.lemmas.Bool.{and_parts, and_from, not-true, both_ways, or_parts}
 use Rattle.std.proofs.lemmas.List.Folds.{list_any-append, list_all-append}
 use Rattle.skk_calls.specs.Completions.{first_texts}
 use Rattle.skk_calls.specs.Found.{first_words}
 use Rattle.skk_calls.specs.Rows.{Cand, same, has, differ}
-use Rattle.skk_calls.proofs.Filtered.{true_not_false, or_left, or_right, or_neither, list_all_so}
+use Rattle.skk_calls.proofs.Filtered.{or_neither, list_all_so}
 use Rattle.skk_calls.proofs.Texts.{words_of, same_itself, same_equal, same_other}
 
 -- a test that is false has its negation true
 pub not_from_false : (b : Bool) → b ≡ false → not b ≡ true
 not_from_false b e = ap not e
-
--- a disjunction that does not hold has no part that does
-pub or_parts : (a b : Bool) → (a || b) ≡ false → (a ≡ false) × (b ≡ false)
-or_parts a b e = (or_left a b e, or_right a b e)
 
 module _ {X : Type 0} where
   -- a front of a list passes what the list passes
@@ -94,7 +90,7 @@ first_texts_unseen seen (other ∷ texts) text h =
         → (has (other ∷ seen) text ≡ true → has (first_texts (other ∷ seen) texts) text ≡ false)
         → has (first_texts seen (other ∷ texts)) text ≡ false
     by true e c f old new = rw e old
-    by false e true f old new = true_not_false (has seen other) (ap (has seen) (sym (same_equal text other f)) ∙ h) e
+    by false e true f old new = absurd (both_ways (has seen other) e (ap (has seen) (sym (same_equal text other f)) ∙ h))
     by false e false f old new = rw e (or_neither (same text other) (has (first_texts (other ∷ seen) texts) text) f (new (rw f h)))
 
 -- the first of each text differ

@@ -3,9 +3,10 @@ use Rattle.std.proofs.Common.{◌≡◌, ℕ, Bool, true, false, cond, not, List
 use Rattle.std.proofs.lemmas.Slice.Eq.{bytes_eq-Decides}
 use Rattle.std.proofs.lemmas.Bool.Decides.{same_from_decides, Decides-like}
 use Rattle.std.specs.List.{filter}
+use Rattle.std.proofs.lemmas.Bool.{and_from, and_parts, not-true, or_parts}
 use Rattle.skk_calls.specs.Learning.{without, without_word}
 use Rattle.skk_calls.specs.Rows.{Cand, Block, same, has, differ}
-use Rattle.skk_calls.proofs.Filtered.{and_left, and_right, and_both, or_left, or_right, or_neither, false_from_not, filter_twice, map_filter}
+use Rattle.skk_calls.proofs.Filtered.{or_neither, filter_twice, map_filter}
 
 -- the words of candidates
 abbrev pub words_of : List Cand → List (List ℕ)
@@ -42,21 +43,20 @@ same_other text other =
 pub has_filter : (q : List ℕ → Bool) (texts : List (List ℕ)) (text : List ℕ) → has texts text ≡ false
     → has (filter q texts) text ≡ false
 has_filter q [] text e = refl
-has_filter q (t ∷ ts) text e = by (q t) (has_filter q ts text (or_right (same text t) (has ts text) e))
+has_filter q (t ∷ ts) text e = by (q t) (has_filter q ts text (or_parts (same text t) (has ts text) e).1)
   where
     by : (b : Bool) → has (filter q ts) text ≡ false → has (cond b (t ∷ filter q ts) (filter q ts)) text ≡ false
-    by true rest = or_neither (same text t) (has (filter q ts) text) (or_left (same text t) (has ts text) e) rest
+    by true rest = or_neither (same text t) (has (filter q ts) text) (or_parts (same text t) (has ts text) e).0 rest
     by false rest = rest
 
 -- texts that differ still do where some are left out
 pub differ_filter : (q : List ℕ → Bool) (texts : List (List ℕ)) → differ texts ≡ true → differ (filter q texts) ≡ true
 differ_filter q [] e = refl
-differ_filter q (t ∷ ts) e = by (q t) (differ_filter q ts (and_right (not (has ts t)) (differ ts) e))
+differ_filter q (t ∷ ts) e = by (q t) (differ_filter q ts (and_parts (not (has ts t)) (differ ts) e).1)
   where
     by : (b : Bool) → differ (filter q ts) ≡ true → differ (cond b (t ∷ filter q ts) (filter q ts)) ≡ true
     by true rest =
-        and_both (not (has (filter q ts) t)) (differ (filter q ts))
-        (ap not (has_filter q ts t (false_from_not (has ts t) (and_left (not (has ts t)) (differ ts) e)))) rest
+        and_from (not (has (filter q ts) t)) (differ (filter q ts)) (ap not (has_filter q ts t (not-true (has ts t) (and_parts (not (has ts t)) (differ ts) e).0))) rest
     by false rest = rest
 
 -- texts without one of them have it not
@@ -72,26 +72,23 @@ has_without text (t ∷ ts) = by (same t text) refl (has_without text ts)
 -- a text that is put in front of the others differs from them
 pub differ_front : (text : List ℕ) (texts : List (List ℕ)) → differ texts ≡ true → differ (text ∷ without text texts) ≡ true
 differ_front text texts e =
-    and_both (not (has (without text texts) text)) (differ (without text texts)) (ap not (has_without text texts))
-    (differ_filter (λ other. not (same other text)) texts e)
+    and_from (not (has (without text texts) text)) (differ (without text texts)) (ap not (has_without text texts)) (differ_filter (λ other. not (same other text)) texts e)
 
 -- a list with one text more at its end has what it had and that text
 pub has_end : (texts : List (List ℕ)) (last text : List ℕ) → has texts text ≡ false → same text last ≡ false
     → has (texts ++ last ∷ []) text ≡ false
 has_end [] last text e other = or_neither (same text last) false other refl
 has_end (t ∷ ts) last text e other =
-    or_neither (same text t) (has (ts ++ last ∷ []) text) (or_left (same text t) (has ts text) e)
-    (has_end ts last text (or_right (same text t) (has ts text) e) other)
+    or_neither (same text t) (has (ts ++ last ∷ []) text) (or_parts (same text t) (has ts text) e).0
+    (has_end ts last text (or_parts (same text t) (has ts text) e).1 other)
 
 -- texts that differ, with a new one at their end
 pub differ_end : (texts : List (List ℕ)) (last : List ℕ) → differ texts ≡ true → has texts last ≡ false
     → differ (texts ++ last ∷ []) ≡ true
 differ_end [] last e new = refl
 differ_end (t ∷ ts) last e new =
-    and_both (not (has (ts ++ last ∷ []) t)) (differ (ts ++ last ∷ []))
-    (ap not (has_end ts last t (false_from_not (has ts t) (and_left (not (has ts t)) (differ ts) e))
-    (same_other t last ∙ or_left (same last t) (has ts last) new)))
-    (differ_end ts last (and_right (not (has ts t)) (differ ts) e) (or_right (same last t) (has ts last) new))
+    and_from (not (has (ts ++ last ∷ []) t)) (differ (ts ++ last ∷ [])) (ap not (has_end ts last t (not-true (has ts t) (and_parts (not (has ts t)) (differ ts) e).0)
+    (same_other t last ∙ (or_parts (same last t) (has ts last) new).0))) (differ_end ts last (and_parts (not (has ts t)) (differ ts) e).1 (or_parts (same last t) (has ts last) new).1)
 
 -- the words of candidates without a word are their words without it
 pub words_without : (word : List ℕ) (cands : List Cand) → words_of (without_word word cands) ≡ without word (words_of cands)

@@ -5,13 +5,17 @@ use Rattle.std.specs.Str.{chars, IsUtf8, IsCharBoundary}
 use Rattle.std.specs.Char.{IsScalar}
 use Rattle.std.proofs.Math.Seq.{drop-append_seam, take-append_seam}
 use Rattle.std.proofs.lemmas.List.{nil_from_length, append-nil, take-append-drop, length_push}
-use Rattle.skk_text.specs.Text.{without_last}
+use Rattle.skk_text.specs.Text.{byte_len, without_last}
 use Rattle.std.proofs.lemmas.Str.{chars-append, chars-nil, chars_past_char, encodes-append, encodes-chars, encodes_same, IsCharBoundary-from_take, IsUtf8-encode, IsUtf8-string_bytes}
 
 -- a character alone
 pub chars-encode : (c : ℕ) → IsScalar c → chars (encode_utf8 c) ≡ c ∷ []
 chars-encode c scalar =
     chars_past_char (encode_utf8 c) [] c (IsUtf8-encode c scalar) (sym (append-nil (encode_utf8 c))) ∙ ap (λ cs. c ∷ cs) chars-nil
+
+-- joined texts have the bytes of both
+pub byte_len-append : (front back : List ℕ) → byte_len (front ++ back) ≡ byte_len front + byte_len back
+byte_len-append front back = ap length (encodes-append front back) ∙ length-append (encode_utf8_all front) (encode_utf8_all back)
 
 -- one more character
 pub chars-push : (bytes : List ℕ) (c : ℕ) → IsUtf8 bytes → IsScalar c → chars (bytes ++ encode_utf8 c) ≡ chars bytes ++ c ∷ []

@@ -1,8 +1,8 @@
 -- No text passes its limit.
-use Rattle.std.proofs.Common.{◌≡◌, ◌≤◌, ◌+◌, ◌-◌, ◌∙◌, sym, ap, ℕ, Bool, true, false, nat_le, Option, Some, None, List, [], ◌∷◌, ◌++◌, length, drop, length-append, leb-true, encode_utf8_all, subst, arith, refl}
+use Rattle.std.proofs.Common.{◌≡◌, ◌≤◌, ◌+◌, ◌-◌, ◌∙◌, sym, ap, ℕ, Bool, true, false, nat_le, Option, Some, None, List, [], ◌∷◌, length, drop, leb-true, subst, arith, refl}
 use Rattle.std.proofs.lemmas.List.{take-append-drop}
-use Rattle.std.proofs.lemmas.Str.{encodes-append}
 use Rattle.std.specs.Option.{option_and_then}
+use Rattle.skk_text.proofs.Characters.{byte_len-append}
 use Rattle.skk_text.specs.Text.{byte_len, without_last}
 use Rattle.skk_text.specs.declared.key.Key.{Key}
 use Rattle.romaji_rules.specs.declared.rule.Rule.{Rule}
@@ -15,9 +15,6 @@ use Rattle.skk_top.specs.declared.session_machine.Session.{Session}
 -- the text is within its limit
 abbrev pub Fits : Session → Type 0
 Fits session = byte_len session.text ≤ text_limit
-
-byte_len-append : (front back : List ℕ) → byte_len (front ++ back) ≡ byte_len front + byte_len back
-byte_len-append front back = ap length (encodes-append front back) ∙ length-append (encode_utf8_all front) (encode_utf8_all back)
 
 -- a text without its last character is no longer
 shorter : (text : List ℕ) → byte_len (without_last text) ≤ byte_len text

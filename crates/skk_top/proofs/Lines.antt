@@ -1,5 +1,5 @@
 -- Lines cut at LF.
-use Rattle.std.proofs.Common.{◌≡◌, ◌≢◌, ◌<◌, ◌==◌, ◌+◌, ◌-◌, sym, add-one, ℕ, zero, suc, Bool, true, false, ◌&&◌, List, [], ◌∷◌, length, take, drop, get_or, refl, ap, ◌∙◌, arith, if◌then◌else◌, inl, inr}
+use Rattle.std.proofs.Common.{◌≡◌, ◌≢◌, ◌<◌, ◌==◌, ◌+◌, ◌-◌, sym, add-one, ℕ, zero, suc, true, false, List, [], ◌∷◌, length, take, drop, get_or, refl, ap, ◌∙◌, arith, if◌then◌else◌, inl, inr}
 use Rattle.std.proofs.Math.Seq.{take-length}
 use Rattle.std.proofs.lemmas.List.{length-drop}
 use Rattle.std.proofs.lemmas.Bool.{eq-eqb}
@@ -46,15 +46,6 @@ cut-some [] some = absurd (omega arith)
 cut-some (byte ∷ bytes) some =
     elim (byte == 10) as (λ b. (first : List ℕ) × ((others : List (List ℕ)) × ((if b then [] ∷ cut bytes else lengthened byte (cut bytes)) ≡ first ∷ others)))
     [ true ↦ ([], (cut bytes, refl)) | false ↦ lengthened-some byte (cut bytes) ]
-
--- both tests hold
-pub and-first : (a b : Bool) → (a && b) ≡ true → a ≡ true
-and-first true b h = refl
-and-first false b h = cc
-
-pub and-second : (a b : Bool) → (a && b) ≡ true → b ≡ true
-and-second true b h = h
-and-second false b h = cc
 
 -- what stands from a place on, counted from the end
 pub from-place : (bytes : List ℕ) (place : ℕ) → take (length bytes - place) (drop place bytes) ≡ drop place bytes

@@ -2,6 +2,7 @@
 use Rattle.std.proofs.Common.{◌≡◌, ◌∙◌, sym, ap, subst, refl, ℕ, true, false, Option, Some, None, List, [], ◌∷◌, ◌++◌}
 use Rattle.std.specs.List.{flat_map, list_all}
 use Rattle.std.specs.Option.{option_map_or}
+use Rattle.std.proofs.lemmas.Bool.{and_parts}
 use Rattle.skk_text.specs.KeyText.{spelled, AreKeys}
 use Rattle.skk_text.specs.declared.key.Key.{Key}
 use Rattle.romaji_rules.specs.declared.rule.Rule.{Rule}
@@ -11,7 +12,6 @@ use Rattle.skk_top.specs.Script.{Line, keys, Spells, Says, named_by, is_built_li
 use Rattle.skk_top.specs.SessionMachine.{played, line}
 use Rattle.skk_top.specs.Typed.{typed_from, typed_with, typed_text, takes_from, takes_all, session_or_new}
 use Rattle.skk_top.specs.declared.session_machine.Session.{Session}
-use Rattle.skk_top.proofs.Lines.{and-first, and-second}
 use Rattle.skk_top.proofs.Pages.{Appends-none, Printed-more, Printed-rest, Printed-written}
 use Rattle.skk_top.proofs.Scripts.{one_line}
 
@@ -44,8 +44,8 @@ part named text others (first ∷ behind) says built =
       parts = refl;
       spells = says.0;
       says = says.2;
-      first_built = and-first (is_built_line first) (list_all is_built_line behind) built;
-      behind_built = and-second (is_built_line first) (list_all is_built_line behind) built;
+      first_built = (and_parts (is_built_line first) (list_all is_built_line behind) built).0;
+      behind_built = (and_parts (is_built_line first) (list_all is_built_line behind) built).1;
     }
 
 pub parted : (named : List ℕ) (texts : List (List ℕ)) (text : List ℕ) (others : List (List ℕ)) (lines : List Line) → texts ≡ text ∷ others → Says named texts lines → list_all is_built_line lines ≡ true → Parted named text others lines
