@@ -17,6 +17,7 @@ pub mod LearntRows
 pub mod LearntTwice
 pub mod LeftAlone
 pub mod LineLength
+pub mod NextAbove
 pub mod OtherRows
 pub mod Placing
 pub mod PurgedRows

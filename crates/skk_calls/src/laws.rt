@@ -1,4 +1,4 @@
-ghost use Rattle.std.specs.Prelude.{◌≡◌, ◌≤◌, ℕ, List, [], ◌∷◌, ◌++◌, Option, Some, length, map, true, false};
+ghost use Rattle.std.specs.Prelude.{◌≡◌, ◌≤◌, ℕ, List, [], ◌∷◌, ◌++◌, Option, Some, None, length, map, not, true, false};
 ghost use Rattle.std.specs.List.{list_all};
 ghost use Rattle.skk_calls.specs.declared.call.Call.{Call};
 ghost use Rattle.skk_calls.specs.declared.call.Call.TheVariants.{Learn, Unlearn};
@@ -8,9 +8,11 @@ ghost use Rattle.skk_calls.specs.Dictionary.{answer, after, is_call, is_fit, spe
 ghost use Rattle.skk_calls.specs.Found.{found, merged, ordered};
 ghost use Rattle.skk_calls.specs.Histories.{Opening, Entry, IsLegal};
 ghost use Rattle.skk_calls.specs.Learning.{learnt};
-ghost use Rattle.skk_calls.specs.Rows.{RowKey, Cand, Row, Learned, differ, is_row};
+ghost use Rattle.skk_calls.specs.Orders.{text_less};
+ghost use Rattle.skk_calls.specs.Rows.{RowKey, Cand, Row, Learned, has, differ, is_row};
 ghost use Rattle.skk_calls.specs.States.{State, row_at, is_valid};
 ghost use Rattle.skk_calls.specs.Tallies.{no_calls, counted, tally_of};
+ghost use Rattle.skk_calls.specs.Walks.{texts_ascend, next_above, is_least_above};
 
 /// Whatever call is made, a valid state stays valid.
 pub fn changes_keep_states_valid()
@@ -55,6 +57,14 @@ pub fn completions_go_on_and_differ()
     ensures few { (files : List (List Row)) (state : State) (who : ℕ) (prefix : List ℕ) → length (completions files state who prefix) ≤ completion_limit }
     ensures differ { (files : List (List Row)) (state : State) (who : ℕ) (prefix : List ℕ) → differ (completions files state who prefix) ≡ true }
     ensures go_on { (files : List (List Row)) (state : State) (who : ℕ) (prefix : List ℕ) → list_all (goes_on_from prefix) (completions files state who prefix) ≡ true }
+{}
+
+/// The next reading of a file is one of its readings, is greater, and is the least that is so; where there is none, no
+/// reading is greater.
+pub fn the_next_reading_is_the_least_above()
+    ensures some { (texts : List (List ℕ)) (low next : List ℕ) → texts_ascend texts ≡ true → next_above texts low ≡ Some next →
+        (has texts next ≡ true) × (text_less low next ≡ true) × (list_all (is_least_above low next) texts ≡ true) }
+    ensures none { (texts : List (List ℕ)) (low : List ℕ) → next_above texts low ≡ None → list_all (λ text. not (text_less low text)) texts ≡ true }
 {}
 
 /// A front of a legal history is legal.
