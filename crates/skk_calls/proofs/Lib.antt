@@ -21,6 +21,7 @@ pub mod NextAbove
 pub mod OtherRows
 pub mod Placing
 pub mod PurgedRows
+pub mod PurgesTold
 pub mod RowParts
 pub mod Samples
 pub mod Seen

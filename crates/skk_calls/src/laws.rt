@@ -1,4 +1,4 @@
-ghost use Rattle.std.specs.Prelude.{◌≡◌, ◌≤◌, ℕ, List, [], ◌∷◌, ◌++◌, Option, Some, None, length, map, not, true, false};
+ghost use Rattle.std.specs.Prelude.{◌≡◌, ◌≢◌, ◌≤◌, ℕ, List, [], ◌∷◌, ◌++◌, Option, Some, None, length, map, not, true, false};
 ghost use Rattle.std.specs.List.{list_all};
 ghost use Rattle.skk_calls.specs.declared.call.Call.{Call};
 ghost use Rattle.skk_calls.specs.declared.call.Call.TheVariants.{Learn, Unlearn};
@@ -7,7 +7,7 @@ ghost use Rattle.skk_calls.specs.Completions.{completions, completion_limit, goe
 ghost use Rattle.skk_calls.specs.Dictionary.{answer, after, is_call, is_fit, speaks_of};
 ghost use Rattle.skk_calls.specs.Found.{found, merged, ordered};
 ghost use Rattle.skk_calls.specs.Histories.{Opening, Entry, IsLegal};
-ghost use Rattle.skk_calls.specs.Learning.{learnt};
+ghost use Rattle.skk_calls.specs.Learning.{learnt, purged, purge_changes};
 ghost use Rattle.skk_calls.specs.Orders.{text_less};
 ghost use Rattle.skk_calls.specs.Rows.{RowKey, Cand, Row, Learned, has, differ, is_row};
 ghost use Rattle.skk_calls.specs.States.{State, row_at, is_valid};
@@ -38,6 +38,12 @@ pub fn unlearning_gives_the_row_back()
 pub fn learning_twice_is_learning_once()
     ensures { (before : Option Row) (key : RowKey) (okuri : Option (List ℕ)) (cand : Cand) (first second : ℕ) →
         learnt (Some (learnt before key okuri cand first)) key okuri cand second ≡ learnt before key okuri cand second }
+{}
+
+/// A purge is told to change something exactly where it makes another row.
+pub fn purges_are_told_to_change_what_they_change()
+    ensures leaves { (row : Row) (word : List ℕ) → is_row row ≡ true → purge_changes (Some row) row.key word ≡ false → purged (Some row) row.key word row.stamp ≡ row }
+    ensures alters { (row : Row) (word : List ℕ) → purge_changes (Some row) row.key word ≡ true → purged (Some row) row.key word row.stamp ≢ row }
 {}
 
 /// A row hides no word of its own: of the first layer every candidate is found, in its order.
