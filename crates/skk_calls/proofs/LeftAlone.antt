@@ -12,7 +12,7 @@ use Rattle.skk_calls.specs.States.{State, row_at, count_of, changed, books_ascen
 use Rattle.skk_calls.proofs.Changing.{has_key}
 use Rattle.skk_calls.proofs.Keeping.{before_has_key}
 use Rattle.skk_calls.proofs.Keys.{same_key_itself}
-use Rattle.skk_calls.proofs.OtherRows.{row_at_other_key, row_at_other_book}
+use Rattle.skk_calls.proofs.OtherRows.{row_at_other_key, row_at_other_book, count_of_other}
 use Rattle.skk_calls.proofs.TakenBack.{after_moved, after_unmoved}
 
 -- of two parts of a test that fails, the second fails where the first does not
@@ -62,3 +62,37 @@ leaves_alone state call book other valid typed e = by (moves state call) refl
         ap (λ (s : State). row_at s book other) (after_moved state call f)
         ∙ moved_leaves state call book other (and_parts (books_ascend state) (list_all is_book state) valid).0 typed e
     by false f = ap (λ (s : State). row_at s book other) (after_unmoved state call f)
+
+-- of two parts of a test that fails, the first fails where the second does not
+first_fails : (a b : Bool) → (a && b) ≡ false → b ≡ true → a ≡ false
+first_fails true b e f = cc
+first_fails false b e f = refl
+
+-- the count of another book is what it was
+other_count : (number count : ℕ) (key : RowKey) (new : Option Row) (state : State) (book : ℕ) → (number == book && same_key key key) ≡ false
+    → count_of (changed number count key new state) book ≡ count_of state book
+other_count number count key new state book e =
+    count_of_other number count key new state book (first_fails (number == book) (same_key key key) e (same_key_itself key))
+
+-- a call that is made leaves the count of a book of which it speaks no row
+moved_counts : (state : State) (call : Call) (book : ℕ) → ((key : RowKey) → speaks_of call book key ≡ false)
+    → count_of (moved state call) book ≡ count_of state book
+moved_counts state (Lookup who key okuri) book silent = refl
+moved_counts state (Complete who prefix) book silent = refl
+moved_counts state (Learn number key okuri cand) book silent =
+    let stamp = count_of state number + 1 in
+    other_count number stamp key (Some (learnt (row_at state number key) key okuri cand stamp)) state book (silent key)
+moved_counts state (Purge number key word) book silent =
+    let stamp = count_of state number + 1 in
+    other_count number stamp key (Some (purged (row_at state number key) key word stamp)) state book (silent key)
+moved_counts state (Unlearn learned) book silent =
+    other_count learned.book (count_of state learned.book) learned.key learned.before state book (silent learned.key)
+
+-- so does every call
+pub leaves_count : (state : State) (call : Call) (book : ℕ) → ((key : RowKey) → speaks_of call book key ≡ false)
+    → count_of (after state call) book ≡ count_of state book
+leaves_count state call book silent = by (moves state call) refl
+  where
+    by : (b : Bool) → moves state call ≡ b → count_of (after state call) book ≡ count_of state book
+    by true f = ap (λ (s : State). count_of s book) (after_moved state call f) ∙ moved_counts state call book silent
+    by false f = ap (λ (s : State). count_of s book) (after_unmoved state call f)

@@ -10,7 +10,7 @@ ghost use Rattle.skk_calls.specs.Histories.{Opening, Entry, IsLegal};
 ghost use Rattle.skk_calls.specs.Learning.{learnt, purged, purge_changes};
 ghost use Rattle.skk_calls.specs.Orders.{text_less};
 ghost use Rattle.skk_calls.specs.Rows.{RowKey, Cand, Row, Learned, has, differ, is_row};
-ghost use Rattle.skk_calls.specs.States.{State, row_at, is_valid};
+ghost use Rattle.skk_calls.specs.States.{State, row_at, count_of, is_valid};
 ghost use Rattle.skk_calls.specs.Tallies.{no_calls, counted, tally_of};
 ghost use Rattle.skk_calls.specs.Walks.{texts_ascend, next_above, is_least_above};
 
@@ -19,9 +19,11 @@ pub fn changes_keep_states_valid()
     ensures { (state : State) (call : Call) → is_valid state ≡ true → is_call call ≡ true → is_fit call ≡ true → is_valid (after state call) ≡ true }
 {}
 
-/// A call changes one row of one book at most: every other row is as it was.
+/// A call changes one row of one book at most: every other row is as it was, and so is the count of every other book.
 pub fn changes_leave_other_rows()
-    ensures { (state : State) (call : Call) (book : ℕ) (key : RowKey) → is_valid state ≡ true → is_call call ≡ true → speaks_of call book key ≡ false →
+    ensures count { (state : State) (call : Call) (book : ℕ) → ((key : RowKey) → speaks_of call book key ≡ false) →
+        count_of (after state call) book ≡ count_of state book }
+    ensures row { (state : State) (call : Call) (book : ℕ) (key : RowKey) → is_valid state ≡ true → is_call call ≡ true → speaks_of call book key ≡ false →
         row_at (after state call) book key ≡ row_at state book key }
 {}
 
