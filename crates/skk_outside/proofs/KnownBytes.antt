@@ -6,7 +6,7 @@ use Rattle.std.proofs.Math.Seq.{take-add}
 use Rattle.std.specs.Bool.{⊤}
 use Rattle.std.specs.Io.KnownBytes.{Appends, Keeps, Consumes}
 use Rattle.std.proofs.KnownBytes.{Appends-trans, Appends-kept, Consumes-trans}
-use Rattle.skk_outside.specs.Written.{AppendsFront}
+use Rattle.skk_outside.specs.Written.{AppendsPrefix}
 use Rattle.skk_outside.specs.Taken.{TakesAtMost}
 
 -- a front of the bytes was written, and then a front of the others
@@ -17,8 +17,8 @@ Appends-more a b c n m bytes p q =
     (Appends-trans a b c (take n bytes) (take m (take (length bytes - n) (drop n bytes))) p q)
 
 -- a front of the bytes was written, and then none
-pub AppendsFront-kept : (a b c : Option (List ℕ)) (n : ℕ) (bytes : List ℕ) → Appends a b (take n bytes) → Keeps b c → AppendsFront a c bytes
-AppendsFront-kept a b c n bytes p q =
+pub AppendsPrefix-kept : (a b c : Option (List ℕ)) (n : ℕ) (bytes : List ℕ) → Appends a b (take n bytes) → Keeps b c → AppendsPrefix a c bytes
+AppendsPrefix-kept a b c n bytes p q =
     (take n bytes, (drop n bytes, sym (take-append-drop n bytes)), Appends-kept a b c (take n bytes) p q)
 
 -- some bytes were taken, and then some more

@@ -2,7 +2,7 @@ ghost use Rattle.std.specs.Prelude.{◌≡◌, ◌≤◌, ◌<◌, ◌+◌, ℕ,
 ghost use Rattle.std.specs.Io.{WritesAtMost};
 ghost use Rattle.std.specs.Io.KnownBytes.{Appends, Keeps, WriteAppends};
 ghost use Rattle.skk_outside.specs.Faults.{Rose};
-ghost use Rattle.skk_outside.specs.Written.{AppendsFront};
+ghost use Rattle.skk_outside.specs.Written.{AppendsPrefix};
 
 use crate::outside::{Failed, Outside};
 
@@ -31,7 +31,7 @@ pub trait Sink: Outside {
 /// is written.
 pub fn write_all<S: Sink>(sink: &mut S, bytes: &[u8]) -> Result<(), Failed>
     ensures ok { OnOk result (Appends (S.written sink.old) (S.written sink.new) bytes.now) }
-    ensures err { OnErr result (AppendsFront (S.written sink.old) (S.written sink.new) bytes.now) }
+    ensures err { OnErr result (AppendsPrefix (S.written sink.old) (S.written sink.new) bytes.now) }
     ensures failed { OnErr result (Rose (S.faults sink.old) (S.faults sink.new)) }
     ensures counted { S.faults sink.old ≤ S.faults sink.new }
 {

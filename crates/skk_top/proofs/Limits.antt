@@ -2,7 +2,7 @@
 use Rattle.std.proofs.Common.{◌≡◌, ◌≤◌, ◌+◌, ◌-◌, ◌∙◌, sym, ap, ℕ, Bool, true, false, nat_le, Option, Some, None, List, [], ◌∷◌, length, drop, leb-true, subst, arith, refl}
 use Rattle.std.proofs.lemmas.List.{take-append-drop}
 use Rattle.std.specs.Option.{option_and_then}
-use Rattle.skk_text.proofs.Characters.{byte_len-append}
+use Rattle.skk_text.specs.TextLaws.{byte_len-append}
 use Rattle.skk_text.specs.Text.{byte_len, without_last}
 use Rattle.skk_text.specs.declared.key.Key.{Key}
 use Rattle.romaji_rules.specs.declared.rule.Rule.{Rule}

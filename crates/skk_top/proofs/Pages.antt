@@ -4,7 +4,7 @@ use Rattle.std.proofs.KnownBytes.{Appends-trans}
 use Rattle.std.proofs.lemmas.List.{append-nil}
 use Rattle.std.proofs.lemmas.Str.{encodes-append}
 use Rattle.std.specs.Io.KnownBytes.{Appends}
-use Rattle.skk_outside.specs.Written.{AppendsFront}
+use Rattle.skk_outside.specs.Written.{AppendsPrefix}
 use Rattle.skk_top.specs.Printed.{Printed}
 use Rattle.skk_top.specs.Status.{ComesOfPress}
 use Rattle.skk_top.specs.declared.fault.RunFault.{RunFault}
@@ -51,12 +51,12 @@ Printed-written old mid new page left rest whole printed written = (
         ∙ ap (λ p. done ++ p) (sym (append_assoc more left rest) ∙ ap (λ p. p ++ rest) (ap (λ l. more ++ l) (sym (append-nil left)) ∙ e))
 
 -- what was written is a front of the whole
-pub Printed-front : (old new : Option (List ℕ)) (page rest whole : List ℕ) → Printed old new page rest whole → AppendsFront old new (encode_utf8_all whole)
+pub Printed-front : (old new : Option (List ℕ)) (page rest whole : List ℕ) → Printed old new page rest whole → AppendsPrefix old new (encode_utf8_all whole)
 Printed-front old new page rest whole printed =
     (encode_utf8_all printed.0, (encode_utf8_all (page ++ rest), ap encode_utf8_all (sym printed.2) ∙ encodes-append printed.0 (page ++ rest)), printed.1)
 
 -- so it is where a front of the page was written as well
-pub Printed-front_of_page : (old mid new : Option (List ℕ)) (page rest whole : List ℕ) → Printed old mid page rest whole → AppendsFront mid new (encode_utf8_all page) → AppendsFront old new (encode_utf8_all whole)
+pub Printed-front_of_page : (old mid new : Option (List ℕ)) (page rest whole : List ℕ) → Printed old mid page rest whole → AppendsPrefix mid new (encode_utf8_all page) → AppendsPrefix old new (encode_utf8_all whole)
 Printed-front_of_page old mid new page rest whole printed written =
     let done = encode_utf8_all printed.0 in
     let more = written.1.0 ++ encode_utf8_all rest in (
@@ -83,18 +83,18 @@ Printed-last old new page last whole longer pushed printed =
 
 -- a page that is all of the rest, whether it is written or a write of it fails
 pub Printed-tried : {T E : Type 0} (old mid new : Option (List ℕ)) (page whole : List ℕ) (r : Result T E) → Printed old mid page [] whole
-    → OnOk r (Appends mid new (encode_utf8_all page)) → OnErr r (AppendsFront mid new (encode_utf8_all page)) → AppendsFront old new (encode_utf8_all whole)
+    → OnOk r (Appends mid new (encode_utf8_all page)) → OnErr r (AppendsPrefix mid new (encode_utf8_all page)) → AppendsPrefix old new (encode_utf8_all whole)
 Printed-tried old mid new page whole (Ok x) printed ok err =
     Printed-front_of_page old mid new page [] whole printed (encode_utf8_all page, ([], sym (append-nil (encode_utf8_all page))), ok)
 Printed-tried old mid new page whole (Err e) printed ok err = Printed-front_of_page old mid new page [] whole printed err
 
 -- a front of what comes first is a front of all
-pub Front-more : (old new : Option (List ℕ)) (first more : List ℕ) → AppendsFront old new first → AppendsFront old new (first ++ more)
+pub Front-more : (old new : Option (List ℕ)) (first more : List ℕ) → AppendsPrefix old new first → AppendsPrefix old new (first ++ more)
 Front-more old new first more front =
     (front.0, (front.1.0 ++ more, ap (λ bytes. bytes ++ more) front.1.1 ∙ append_assoc front.0 front.1.0 more), front.2)
 
 -- so is a front of what comes behind what was written
-pub Front-behind : (old mid new : Option (List ℕ)) (first more : List ℕ) → Appends old mid first → AppendsFront mid new more → AppendsFront old new (first ++ more)
+pub Front-behind : (old mid new : Option (List ℕ)) (first more : List ℕ) → Appends old mid first → AppendsPrefix mid new more → AppendsPrefix old new (first ++ more)
 Front-behind old mid new first more written front = (
   first ++ front.0,
   (front.1.0, ap (λ bytes. first ++ bytes) front.1.1 ∙ sym (append_assoc first front.0 front.1.0)),
@@ -112,5 +112,5 @@ same-fault (Ok done) fault other is e = absurd (search (rules, is))
 same-fault (Err handed) fault other is e = cc
 
 -- all that is typed is a front of it
-pub AppendsFront-whole : (old new : Option (List ℕ)) (whole : List ℕ) → Appends old new whole → AppendsFront old new whole
-AppendsFront-whole old new whole appends = (whole, ([], sym (append-nil whole)), appends)
+pub AppendsPrefix-whole : (old new : Option (List ℕ)) (whole : List ℕ) → Appends old new whole → AppendsPrefix old new whole
+AppendsPrefix-whole old new whole appends = (whole, ([], sym (append-nil whole)), appends)

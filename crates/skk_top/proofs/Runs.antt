@@ -2,7 +2,7 @@
 use Rattle.std.proofs.Common.{◌≡◌, ◌≢◌, ◌≤◌, ◌∙◌, sym, ap, subst, refl, rules, ℕ, Option, Some, None, List, [], length, Result, Ok, Err, IsErr, OnOk, OnErr, IfSome, true, false, MatchBool, arith, inl, inr}
 use Rattle.std.specs.Io.KnownBytes.{Appends, Keeps}
 use Rattle.std.specs.List.{list_all}
-use Rattle.skk_outside.specs.Written.{AppendsFront}
+use Rattle.skk_outside.specs.Written.{AppendsPrefix}
 use Rattle.romaji_rules.specs.declared.rule.Rule.{Rule}
 use Rattle.skk_top.specs.Run.{IsRefused, PrintsScript}
 use Rattle.skk_top.specs.Script.{Line, Says, cut, is_built_line, script_limit}
@@ -38,18 +38,18 @@ Keeps-self (Some bytes) = refl
 -- nothing was printed
 pub Prints-nothing : (rules : List Rule) (status : ℕ) (bytes : List ℕ) (known : Option (List ℕ)) → status ≢ 0 → PrintsScript rules status bytes known known
 Prints-nothing rules status bytes known undone lines script =
-    elim (list_all is_built_line lines) as (λ b. MatchBool b (AppendsFront known known (typed_one rules lines) × (status ≡ 0 → Appends known known (typed_one rules lines))) (Keeps known known)) [
+    elim (list_all is_built_line lines) as (λ b. MatchBool b (AppendsPrefix known known (typed_one rules lines) × (status ≡ 0 → Appends known known (typed_one rules lines))) (Keeps known known)) [
       | true ↦ (([], (typed_one rules lines, refl), Appends-none known), λ e. absurd (undone e))
       | false ↦ Keeps-self known
     ]
 
 -- it was typed, whole or not
 pub Prints-typed : (rules : List Rule) (status : ℕ) (bytes : List ℕ) (said : List Line) (old new : Option (List ℕ)) → Says [] (cut bytes) said → true ≡ list_all is_built_line said
-    → ((lines : List Line) → SaysBuilt bytes lines → AppendsFront old new (typed_one rules lines)) → ((lines : List Line) → SaysBuilt bytes lines → status ≡ 0 → Appends old new (typed_one rules lines)) → PrintsScript rules status bytes old new
+    → ((lines : List Line) → SaysBuilt bytes lines → AppendsPrefix old new (typed_one rules lines)) → ((lines : List Line) → SaysBuilt bytes lines → status ≡ 0 → Appends old new (typed_one rules lines)) → PrintsScript rules status bytes old new
 Prints-typed rules status bytes said old new says built front whole lines script =
     let same : lines ≡ said = one_list_of_lines [] (cut bytes) lines said script.1 says in
     let all_built : list_all is_built_line lines ≡ true = ap (list_all is_built_line) same ∙ sym built in
-    subst (λ b. MatchBool b (AppendsFront old new (typed_one rules lines) × (status ≡ 0 → Appends old new (typed_one rules lines))) (Keeps old new)) (sym all_built)
+    subst (λ b. MatchBool b (AppendsPrefix old new (typed_one rules lines) × (status ≡ 0 → Appends old new (typed_one rules lines))) (Keeps old new)) (sym all_built)
     (front lines (script.1, all_built), whole lines (script.1, all_built))
 
 -- a script is not refused

@@ -3,7 +3,7 @@ use Rattle.std.specs.Prelude.{◌≡◌, ◌⊎◌, ◌<◌, ◌≤◌, ◌==◌
 use Rattle.std.specs.List.{list_all}
 use Rattle.std.specs.Io.KnownBytes.{Appends, Keeps}
 use Rattle.skk_outside.specs.Faults.{Rose}
-use Rattle.skk_outside.specs.Written.{AppendsFront}
+use Rattle.skk_outside.specs.Written.{AppendsPrefix}
 use Rattle.romaji_rules.specs.declared.rule.Rule.{Rule}
 use Rattle.skk_top.specs.Script.{Line, IsScript, IsFirstBad, cut, is_built_line, script_limit}
 use Rattle.skk_top.specs.Status.{message_of}
@@ -40,7 +40,7 @@ IsRefusal bytes message =
 abbrev pub PrintsScript : List Rule → ℕ → List ℕ → Option (List ℕ) → Option (List ℕ) → Type 0
 PrintsScript rules status bytes old new =
     (lines : List Line) → IsScript bytes lines → MatchBool (list_all is_built_line lines)
-    (AppendsFront old new (typed_one rules lines) × (status ≡ 0 → Appends old new (typed_one rules lines)))
+    (AppendsPrefix old new (typed_one rules lines) × (status ≡ 0 → Appends old new (typed_one rules lines)))
     (Keeps old new)
 
 -- nothing was written, where the bytes are no script
@@ -60,7 +60,7 @@ IsNotBuilt rules bytes =
 -- a message was written whole, or a front of it where a write failed
 abbrev pub Tells : List ℕ → Option (List ℕ) → Option (List ℕ) → ℕ → ℕ → Type 0
 Tells message old new faults_before faults_after =
-    Appends old new message ⊎ (AppendsFront old new message × Rose faults_before faults_after)
+    Appends old new message ⊎ (AppendsPrefix old new message × Rose faults_before faults_after)
 
 -- the line on standard error for each status but 2
 abbrev pub message_at : ℕ → List ℕ

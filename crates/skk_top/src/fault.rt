@@ -28,7 +28,7 @@ impl RunFault {
     ghost use Rattle.std.specs.Prelude.{◌≡◌, ◌≤◌, OnOk, OnErr};
     ghost use Rattle.std.specs.Io.KnownBytes.{Appends};
     ghost use Rattle.skk_outside.specs.Faults.{Rose};
-    ghost use Rattle.skk_outside.specs.Written.{AppendsFront};
+    ghost use Rattle.skk_outside.specs.Written.{AppendsPrefix};
     ghost use Rattle.skk_top.specs.Status.{status_of, message_of};
 
     /// The status that the program exits with.
@@ -46,7 +46,7 @@ impl RunFault {
     /// Writes the line on standard error. Takes no memory.
     pub fn tell<E: Sink>(self, err: &mut E) -> Result<(), Failed>
         ensures ok { OnOk result (Appends (E.written err.old) (E.written err.new) (message_of self)) }
-        ensures err { OnErr result (AppendsFront (E.written err.old) (E.written err.new) (message_of self)) }
+        ensures err { OnErr result (AppendsPrefix (E.written err.old) (E.written err.new) (message_of self)) }
         ensures failed { OnErr result (Rose (E.faults err.old) (E.faults err.new)) }
         ensures counted { E.faults err.old ≤ E.faults err.new }
     {

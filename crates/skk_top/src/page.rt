@@ -1,7 +1,7 @@
 ghost use Rattle.std.specs.Prelude.{◌≡◌, ◌≤◌, ◌++◌, [], ℕ, List, OnOk, OnErr, encode_utf8_all};
 ghost use Rattle.std.specs.Io.KnownBytes.{Appends};
 ghost use Rattle.skk_outside.specs.Faults.{Rose};
-ghost use Rattle.skk_outside.specs.Written.{AppendsFront};
+ghost use Rattle.skk_outside.specs.Written.{AppendsPrefix};
 ghost use Rattle.skk_top.specs.Printed.{Printed};
 
 use skk_outside::{Failed, Sink, write_all};
@@ -14,7 +14,7 @@ pub const PAGE: usize = 65536;
 /// Writes a page.
 pub fn print<O: Sink>(out: &mut O, page: &Text) -> Result<(), Failed>
     ensures ok { OnOk result (Appends (O.written out.old) (O.written out.new) (encode_utf8_all page.now)) }
-    ensures err { OnErr result (AppendsFront (O.written out.old) (O.written out.new) (encode_utf8_all page.now)) }
+    ensures err { OnErr result (AppendsPrefix (O.written out.old) (O.written out.new) (encode_utf8_all page.now)) }
     ensures failed { OnErr result (Rose (O.faults out.old) (O.faults out.new)) }
     ensures counted { O.faults out.old ≤ O.faults out.new }
 {
@@ -24,7 +24,7 @@ pub fn print<O: Sink>(out: &mut O, page: &Text) -> Result<(), Failed>
 /// Writes a page that is full, and begins a new one.
 pub fn print_full<O: Sink>(alloc: Global, out: &mut O, page: &mut Text) -> Result<(), Failed>
     ensures ok { OnOk result (Printed (O.written out.old) (O.written out.new) page.new [] page.old) }
-    ensures err { OnErr result (AppendsFront (O.written out.old) (O.written out.new) (encode_utf8_all page.old)) }
+    ensures err { OnErr result (AppendsPrefix (O.written out.old) (O.written out.new) (encode_utf8_all page.old)) }
     ensures failed { OnErr result (Rose (O.faults out.old) (O.faults out.new)) }
     ensures counted { O.faults out.old ≤ O.faults out.new }
 {

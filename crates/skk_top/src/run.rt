@@ -2,7 +2,7 @@ ghost use Rattle.std.specs.Prelude.{◌≡◌, ◌≢◌, ◌≤◌, ◌+◌, �
 ghost use Rattle.std.specs.Io.KnownBytes.{Appends, Keeps, IsAtEnd};
 ghost use Rattle.skk_outside.specs.Faults.{Rose};
 ghost use Rattle.skk_outside.specs.Taken.{TakesAtMost};
-ghost use Rattle.skk_outside.specs.Written.{AppendsFront};
+ghost use Rattle.skk_outside.specs.Written.{AppendsPrefix};
 ghost use Rattle.romaji_rules.specs.Standard.{standard};
 ghost use Rattle.skk_top.specs.Run.{IsType, IsStatus, IsTooLong, IsBadAt, IsRefused, IsRefusal, PrintsScript, PrintsNothing, IsTaken, IsNotBuilt, Tells, message_at};
 ghost use Rattle.skk_top.specs.Script.{Line, script_limit};
@@ -149,7 +149,7 @@ fn run_type<I: Source, O: Sink>(alloc: Global, input: &mut I, out: &mut O) -> Re
 fn type_built<O: Sink>(alloc: Global, script: &[u8], out: &mut O) -> Result<(), RunFault>
     ensures ok { OnOk result ((lines : List Line) → SaysBuilt script.now lines → Appends (O.written out.old) (O.written out.new) (typed_one standard lines)) }
     ensures taken { OnOk result ((lines : List Line) → SaysBuilt script.now lines → takes_all standard lines ≡ true) }
-    ensures err { OnErr result ((lines : List Line) → SaysBuilt script.now lines → AppendsFront (O.written out.old) (O.written out.new) (typed_one standard lines)) }
+    ensures err { OnErr result ((lines : List Line) → SaysBuilt script.now lines → AppendsPrefix (O.written out.old) (O.written out.new) (typed_one standard lines)) }
     ensures not_built { IsErrOf result RunFault.NotBuilt → (lines : List Line) → SaysBuilt script.now lines → takes_all standard lines ≡ false }
     ensures outside { IsErrOf result RunFault.Outside → Rose (O.faults out.old) (O.faults out.new) }
     ensures fault { IfErr result ComesOfTyping }

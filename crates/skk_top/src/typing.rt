@@ -3,7 +3,7 @@ ghost use Rattle.std.specs.Io.KnownBytes.{Appends};
 ghost use Rattle.skk_text.specs.KeyText.{spelled, AreKeys};
 ghost use Rattle.skk_text.specs.declared.key.Key.{Key};
 ghost use Rattle.skk_outside.specs.Faults.{Rose};
-ghost use Rattle.skk_outside.specs.Written.{AppendsFront};
+ghost use Rattle.skk_outside.specs.Written.{AppendsPrefix};
 ghost use Rattle.skk_top.specs.Printed.{Printed};
 ghost use Rattle.skk_top.specs.Script.{Line};
 ghost use Rattle.skk_top.specs.SessionMachine.{played, line as line_of};
@@ -30,7 +30,7 @@ pub fn type_script<O: Sink>(
 ) -> Result<(), RunFault>
     ensures ok { OnOk result ((lines : List Line) → SaysBuilt script.now lines → Appends (O.written out.old) (O.written out.new) (typed_one rules.now lines)) }
     ensures taken { OnOk result ((lines : List Line) → SaysBuilt script.now lines → takes_all rules.now lines ≡ true) }
-    ensures err { OnErr result ((lines : List Line) → SaysBuilt script.now lines → AppendsFront (O.written out.old) (O.written out.new) (typed_one rules.now lines)) }
+    ensures err { OnErr result ((lines : List Line) → SaysBuilt script.now lines → AppendsPrefix (O.written out.old) (O.written out.new) (typed_one rules.now lines)) }
     ensures not_built { IsErrOf result RunFault.NotBuilt → (lines : List Line) → SaysBuilt script.now lines → takes_all rules.now lines ≡ false }
     ensures outside { IsErrOf result RunFault.Outside → Rose (O.faults out.old) (O.faults out.new) }
     ensures fault { IfErr result ComesOfTyping }
@@ -68,7 +68,7 @@ fn type_lines<O: Sink>(
     ensures not_built { IsErrOf result RunFault.NotBuilt → (lines : List Line) → SaysBuilt script.now lines → takes_all rules.now lines ≡ false }
     ensures waiting { IsErrOf result RunFault.NotBuilt → (lines : List Line) → SaysBuilt script.now lines
         → Printed (O.written out.old) (O.written out.new) page.new [] (typed_text rules.now lines) }
-    ensures err { OnErr result ((lines : List Line) → SaysBuilt script.now lines → AppendsFront (O.written out.old) (O.written out.new) (typed_one rules.now lines)) }
+    ensures err { OnErr result ((lines : List Line) → SaysBuilt script.now lines → AppendsPrefix (O.written out.old) (O.written out.new) (typed_one rules.now lines)) }
     ensures outside { IsErrOf result RunFault.Outside → Rose (O.faults out.old) (O.faults out.new) }
     ensures fault { IfErr result ComesOfTyping }
     ensures counted { O.faults out.old ≤ O.faults out.new }

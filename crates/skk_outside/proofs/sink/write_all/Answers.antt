@@ -1,11 +1,11 @@
 use Rattle.std.proofs.Common.{arith}
-use Rattle.skk_outside.proofs.KnownBytes.{Appends-more, AppendsFront-kept, OnErr-known}
+use Rattle.skk_outside.proofs.KnownBytes.{Appends-more, AppendsPrefix-kept, OnErr-known}
 use Rattle.skk_outside.proofs.sink.write_all.Goals as goal
 
 pub returns-in_err-done-clause-err : goal.returns-in_err-done-clause-err
 returns-in_err-done-clause-err g c =
     OnErr-known c.from_residual.result c.from_residual.ensures.0
-    (AppendsFront-kept _ _ _ c.loop.done c.args.bytes.now c.loop.invariant.written c.in_err-done.ensures.bytes)
+    (AppendsPrefix-kept _ _ _ c.loop.done c.args.bytes.now c.loop.invariant.written c.in_err-done.ensures.bytes)
 
 pub loop-preserved : goal.loop-preserved
 loop-preserved g c = record {

@@ -1,7 +1,7 @@
 use Rattle.std.proofs.Common.{◌≡◌, ◌∙◌, sym, ap, refl, ℕ, Option, Some, None, rules, List, Result, Ok, Err, OnOk, OnErr, IfSome, inl, inr, arith}
 use Rattle.std.specs.Io.KnownBytes.{Appends}
 use Rattle.skk_outside.specs.Faults.{Rose}
-use Rattle.skk_outside.specs.Written.{AppendsFront}
+use Rattle.skk_outside.specs.Written.{AppendsPrefix}
 use Rattle.skk_top.specs.Run.{IsTooLong, IsBadAt, IsRefused, IsRefusal, Tells}
 use Rattle.skk_top.specs.Status.{status_of, message_of}
 use Rattle.skk_top.specs.declared.fault.RunFault.{RunFault}
@@ -9,7 +9,7 @@ use Rattle.skk_top.specs.declared.fault.RunFault.TheVariants.{TooLong, BadLine, 
 use Rattle.skk_top.proofs.run.run_alone.Goals as goal
 
 -- the line was written, or a front of it
-told : {T E : Type 0} (fault : RunFault) (old new : Option (List ℕ)) (before after : ℕ) (r : Result T E) → OnOk r (Appends old new (message_of fault)) → OnErr r (AppendsFront old new (message_of fault))
+told : {T E : Type 0} (fault : RunFault) (old new : Option (List ℕ)) (before after : ℕ) (r : Result T E) → OnOk r (Appends old new (message_of fault)) → OnErr r (AppendsPrefix old new (message_of fault))
     → OnErr r (Rose before after) → Tells (message_of fault) old new before after
 told fault old new before after (Ok x) ok err failed = inl ok
 told fault old new before after (Err e) ok err failed = inr (err, failed)

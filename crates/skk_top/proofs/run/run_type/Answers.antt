@@ -4,7 +4,7 @@ use Rattle.skk_top.specs.Run.{PrintsScript, PrintsNothing}
 use Rattle.skk_top.specs.Script.{script_limit}
 use Rattle.skk_top.specs.Status.{run_status}
 use Rattle.skk_top.specs.Typed.{typed_one}
-use Rattle.skk_top.proofs.Pages.{AppendsFront-whole}
+use Rattle.skk_top.proofs.Pages.{AppendsPrefix-whole}
 use Rattle.skk_top.proofs.Runs.{IfSome-same, Prints-typed, script-not_refused, front_of-result, whole_of-result, each_ok}
 use Rattle.skk_top.proofs.run.run_type.Goals as goal
 
@@ -19,7 +19,7 @@ returns-in-Ok-true-clause-prints g c =
     let (said, says, built) = c.in-Ok-true.ensures.ok in
     IfSome-same known (λ b. PrintsScript standard status b old new) bytes told
     (Prints-typed standard status bytes said old new says (sym c.in-Ok-true.field-0-test ∙ built)
-    (front_of-result c.type_built.result (each_ok c.type_built.result c.type_built.ensures.ok (λ typed lines of_bytes. AppendsFront-whole old new (typed_one standard lines) (typed lines of_bytes))) c.type_built.ensures.err)
+    (front_of-result c.type_built.result (each_ok c.type_built.result c.type_built.ensures.ok (λ typed lines of_bytes. AppendsPrefix-whole old new (typed_one standard lines) (typed lines of_bytes))) c.type_built.ensures.err)
     (λ lines of_bytes e. whole_of-result c.type_built.result c.type_built.ensures.ok e lines of_bytes))
 
 pub returns-in-Ok-true-clause-nothing : goal.returns-in-Ok-true-clause-nothing
