@@ -41,20 +41,20 @@ chars-popped old new None split none bound =
     ap chars new_empty ∙ chars-nil ∙ sym (ap (λ bytes. without_last (chars bytes)) old_empty ∙ ap without_last chars-nil)
 
 -- a text is its first characters and the others
-pub text-split : (text front : List ℕ) (k : ℕ) → IsUtf8 text → IsUtf8 front → chars front ≡ take k (chars text) → text ≡ front ++ encode_utf8_all (drop k (chars text))
-text-split text front k utf8 front_utf8 e =
+pub text-split : (text prefix : List ℕ) (k : ℕ) → IsUtf8 text → IsUtf8 prefix → chars prefix ≡ take k (chars text) → text ≡ prefix ++ encode_utf8_all (drop k (chars text))
+text-split text prefix k utf8 front_utf8 e =
     sym (encodes-chars text utf8) ∙ ap encode_utf8_all (sym (take-append-drop k (chars text))) ∙ encodes-append (take k (chars text)) (drop k (chars text))
-    ∙ ap (λ bs. bs ++ encode_utf8_all (drop k (chars text))) (ap encode_utf8_all (sym e) ∙ encodes-chars front front_utf8)
+    ∙ ap (λ bs. bs ++ encode_utf8_all (drop k (chars text))) (ap encode_utf8_all (sym e) ∙ encodes-chars prefix front_utf8)
 
 -- so it may be cut behind its first characters
-pub IsCharBoundary-split : (text front : List ℕ) (k : ℕ) → IsUtf8 text → IsUtf8 front → chars front ≡ take k (chars text) → IsCharBoundary text (length front)
-IsCharBoundary-split text front k utf8 front_utf8 e =
+pub IsCharBoundary-split : (text prefix : List ℕ) (k : ℕ) → IsUtf8 text → IsUtf8 prefix → chars prefix ≡ take k (chars text) → IsCharBoundary text (length prefix)
+IsCharBoundary-split text prefix k utf8 front_utf8 e =
     let rest = encode_utf8_all (drop k (chars text)) in
-    let split : text ≡ front ++ rest = text-split text front k utf8 front_utf8 e in
-    IsCharBoundary-from_take text (length front) utf8 (omega (arith, ap length split ∙ length-append front rest))
-    (subst IsUtf8 (sym (ap (take (length front)) split ∙ take-append_seam front rest)) front_utf8)
+    let split : text ≡ prefix ++ rest = text-split text prefix k utf8 front_utf8 e in
+    IsCharBoundary-from_take text (length prefix) utf8 (omega (arith, ap length split ∙ length-append prefix rest))
+    (subst IsUtf8 (sym (ap (take (length prefix)) split ∙ take-append_seam prefix rest)) front_utf8)
 
 -- and these are the others
-pub drop-split : (text front : List ℕ) (k : ℕ) → IsUtf8 text → IsUtf8 front → chars front ≡ take k (chars text) → drop (length front) text ≡ encode_utf8_all (drop k (chars text))
-drop-split text front k utf8 front_utf8 e =
-    ap (drop (length front)) (text-split text front k utf8 front_utf8 e) ∙ drop-append_seam front (encode_utf8_all (drop k (chars text)))
+pub drop-split : (text prefix : List ℕ) (k : ℕ) → IsUtf8 text → IsUtf8 prefix → chars prefix ≡ take k (chars text) → drop (length prefix) text ≡ encode_utf8_all (drop k (chars text))
+drop-split text prefix k utf8 front_utf8 e =
+    ap (drop (length prefix)) (text-split text prefix k utf8 front_utf8 e) ∙ drop-append_seam prefix (encode_utf8_all (drop k (chars text)))

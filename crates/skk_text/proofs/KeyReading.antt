@@ -6,7 +6,7 @@ use Rattle.std.proofs.lemmas.Bool.{and_from}
 use Rattle.std.proofs.lemmas.Grind.{flat_map-append}
 use Rattle.std.proofs.lemmas.List.{append-nil, length-take-le, nil_from_length, take-append-drop}
 use Rattle.std.proofs.lemmas.List.Folds.{list_all-append}
-use Rattle.skk_text.specs.KeyText.{spell, spelled, is_key, is_printable, AreKeys, BeginsBadName, BeginsNotAscii, HasBadName, HasNotAscii, Answers}
+use Rattle.skk_text.specs.KeyText.{spell, spelled, is_keyboard_key, is_printable, AreKeys, BeginsBadName, BeginsNotAscii, HasBadName, HasNotAscii, HasFault, Answers}
 use Rattle.skk_text.specs.declared.key.Key.{Key}
 use Rattle.skk_text.specs.declared.key_text.KeyFault.{KeyFault}
 use Rattle.skk_text.specs.declared.key_text.KeyFault.TheVariants.{BadName, NotAscii, Memory}
@@ -19,33 +19,53 @@ pub record Read (bytes : List ℕ) (keys : List Key) (at : ℕ) : Type 0 where
   pub spelling : spelled keys ≡ take at bytes
 
 -- one more key
-pub read_more : (bytes : List ℕ) (keys : List Key) (at : ℕ) (k : Key) (size : ℕ) → Read bytes keys at → is_key k ≡ true → size ≡ length (spell k) → drop at bytes ≡ spell k ++ drop (at + size) bytes → Read bytes (keys ++ k ∷ []) (at + size)
+pub read_more : (bytes : List ℕ) (keys : List Key) (at : ℕ) (k : Key) (size : ℕ) → Read bytes keys at → is_keyboard_key k ≡ true → size ≡ length (spell k) → drop at bytes ≡ spell k ++ drop (at + size) bytes → Read bytes (keys ++ k ∷ []) (at + size)
 read_more bytes keys at k size read h n e =
     let left : length (drop at bytes) ≡ length (spell k) + length (drop (at + size) bytes) = ap length e ∙ length-append (spell k) (drop (at + size) bytes) in
     record {
       within = omega (arith, left, length-drop at bytes, length-drop (at + size) bytes);
-      are_keys = list_all-append is_key keys (k ∷ []) ∙ and_from (list_all is_key keys) _ read.are_keys (and_from (is_key k) true h refl);
+      are_keys = list_all-append is_keyboard_key keys (k ∷ []) ∙ and_from (list_all is_keyboard_key keys) _ read.are_keys (and_from (is_keyboard_key k) true h refl);
       spelling =
           flat_map-append spell keys (k ∷ []) ∙ (ap (λ bs. spelled keys ++ bs) (append-nil (spell k)) ∙ (ap (λ bs. bs ++ spell k) read.spelling
           ∙ sym (take-add at size bytes ∙ ap (λ bs. take at bytes ++ bs) (ap (take size) e ∙ (ap (λ m. take m (spell k ++ drop (at + size) bytes)) n ∙ take-append_seam (spell k) (drop (at + size) bytes))))));
     }
 
--- at a place where no key begins, each reading has come to that place
-same_place : (bytes : List ℕ) (keys others : List Key) (rest : List ℕ) (at : ℕ) → Read bytes keys at → first_key (drop at bytes) ≡ None → AreKeys others → first_key rest ≡ None → bytes ≡ spelled others ++ rest → (keys ≡ others) × (drop at bytes ≡ rest)
-same_place bytes keys others rest at read ends os none e =
-    same_reading keys others (drop at bytes) rest read.are_keys os ends none (ap (λ bs. bs ++ drop at bytes) read.spelling ∙ (take-append-drop at bytes ∙ e))
+module _ (bytes : List ℕ) (keys : List Key) (at : ℕ) (read : Read bytes keys at) where
+  -- the bytes are the spelling of what was read, and what is left
+  read_prefix : bytes ≡ spelled keys ++ drop at bytes
+  read_prefix = sym (take-append-drop at bytes) ∙ ap (λ bs. bs ++ drop at bytes) (sym read.spelling)
 
--- and that place is the length of its spelling
-place_is : (bytes : List ℕ) (keys others : List Key) (at : ℕ) → Read bytes keys at → keys ≡ others → at ≡ length (spelled others)
-place_is bytes keys others at read same = sym (length-take-le at bytes read.within) ∙ (ap length (sym read.spelling) ∙ ap (λ ks. length (spelled ks)) same)
+  -- the place is the length of that spelling
+  place-spelled : at ≡ length (spelled keys)
+  place-spelled = sym (length-take-le at bytes read.within) ∙ ap length (sym read.spelling)
 
--- the bytes are what was read and what is left
-read_front : (bytes : List ℕ) (keys : List Key) (at : ℕ) → Read bytes keys at → bytes ≡ spelled keys ++ drop at bytes
-read_front bytes keys at read = sym (take-append-drop at bytes) ∙ ap (λ bs. bs ++ drop at bytes) (sym read.spelling)
+  -- where no key begins at the place, each reading has come to it
+  same_place : first_key (drop at bytes) ≡ None → (others : List Key) (rest : List ℕ) → AreKeys others → first_key rest ≡ None → bytes ≡ spelled others ++ rest
+      → (keys ≡ others) × (drop at bytes ≡ rest)
+  same_place ends others rest os none e = same_reading keys others (drop at bytes) rest read.are_keys os ends none (sym read_prefix ∙ e)
 
--- which is nothing at the end
-nothing_left : (bytes : List ℕ) (at : ℕ) → length bytes ≤ at → drop at bytes ≡ []
-nothing_left bytes at full = nil_from_length (drop at bytes) (length-drop at bytes ∙ omega arith)
+  -- so keys whose spelling the bytes are, are those that were read, and nothing is left
+  same_spelling : first_key (drop at bytes) ≡ None → (others : List Key) → AreKeys others → spelled others ≡ bytes → (keys ≡ others) × (drop at bytes ≡ [])
+  same_spelling ends others os e = same_place ends others [] os refl (sym (append-nil (spelled others) ∙ e))
+
+  -- and a fault of the whole stands at the place
+  fault_place : (BeginsFault : List ℕ → Type 0) → ((rest : List ℕ) → BeginsFault rest → first_key rest ≡ None) → first_key (drop at bytes) ≡ None
+      → (place : ℕ) → HasFault BeginsFault bytes place → (place ≡ at) × BeginsFault (drop at bytes)
+  fault_place BeginsFault no_key ends place has =
+      let found : (keys ≡ has.keys) × (drop at bytes ≡ has.rest) = same_place ends has.keys has.rest has.are_keys (no_key has.rest has.fault) has.spelling in
+      (has.place ∙ ap (λ ks. length (spelled ks)) (sym found.0) ∙ sym place-spelled, subst BeginsFault (sym found.1) has.fault)
+
+  -- what begins with a fault at the place has it there
+  pub has_fault : (BeginsFault : List ℕ → Type 0) (place : ℕ) → (place ≡ at) × BeginsFault (drop at bytes) → HasFault BeginsFault bytes place
+  has_fault BeginsFault place (same, fault) =
+      record {
+        keys = keys;
+        rest = drop at bytes;
+        are_keys = read.are_keys;
+        spelling = read_prefix;
+        place = same ∙ place-spelled;
+        fault = fault;
+      }
 
 -- no bytes begin with both faults
 one_fault : (bytes : List ℕ) → BeginsBadName bytes → BeginsNotAscii bytes → ⊥
@@ -75,83 +95,52 @@ fault-first_key bytes at (BadName place) (e, bad) = first_key-bad_name (drop at 
 fault-first_key bytes at (NotAscii place) (e, other) = first_key-not_ascii (drop at bytes) other
 fault-first_key bytes at Memory h = absurd h
 
--- and a fault of that place is this one
-bad_name_at : (bytes : List ℕ) (at : ℕ) (fault : KeyFault) → FaultAt bytes at fault → (place : ℕ) → place ≡ at → BeginsBadName (drop at bytes) → Answers (Err fault) (Err (BadName place))
-bad_name_at bytes at (BadName p) (e, _) place same bad = inr (ap (λ n. Err (BadName n)) (e ∙ sym same))
-bad_name_at bytes at (NotAscii p) (_, other) place same bad = absurd (one_fault (drop at bytes) bad other)
-bad_name_at bytes at Memory h place same bad = absurd h
-
-not_ascii_at : (bytes : List ℕ) (at : ℕ) (fault : KeyFault) → FaultAt bytes at fault → (place : ℕ) → place ≡ at → BeginsNotAscii (drop at bytes) → Answers (Err fault) (Err (NotAscii place))
-not_ascii_at bytes at (BadName p) (_, bad) place same other = absurd (one_fault (drop at bytes) bad other)
-not_ascii_at bytes at (NotAscii p) (e, _) place same other = inr (ap (λ n. Err (NotAscii n)) (e ∙ sym same))
-not_ascii_at bytes at Memory h place same other = absurd h
-
 -- and the bytes are not at their end
 fault-more : (bytes : List ℕ) (at : ℕ) (fault : KeyFault) → FaultAt bytes at fault → drop at bytes ≡ [] → ⊥
 fault-more bytes at (BadName place) (_, (rest, e, none)) end = let h : 60 ∷ rest ≡ [] = sym e ∙ end in cc
 fault-more bytes at (NotAscii place) (_, (byte, rest, e, other)) end = let h : byte ∷ rest ≡ [] = sym e ∙ end in cc
 fault-more bytes at Memory h end = h
 
--- what a fault says of the whole
-pub fault-none : (bytes : List ℕ) (keys : List Key) (at : ℕ) (fault : KeyFault) → Read bytes keys at → FaultAt bytes at fault → (others : List Key) → AreKeys others → spelled others ≢ bytes
-fault-none bytes keys at fault read h others os e =
-    fault-more bytes at fault h (same_place bytes keys others [] at read (fault-first_key bytes at fault h) os refl (sym (append-nil (spelled others) ∙ e))).1
+-- two faults of one place are one
+fault-same : (bytes : List ℕ) (at : ℕ) (fault other : KeyFault) → FaultAt bytes at fault → FaultAt bytes at other → fault ≡ other
+fault-same bytes at (BadName p) (BadName q) (e, _) (f, _) = ap BadName (e ∙ sym f)
+fault-same bytes at (BadName p) (NotAscii q) (_, bad) (_, other) = absurd (one_fault (drop at bytes) bad other)
+fault-same bytes at (NotAscii p) (BadName q) (_, other) (_, bad) = absurd (one_fault (drop at bytes) bad other)
+fault-same bytes at (NotAscii p) (NotAscii q) (e, _) (f, _) = ap NotAscii (e ∙ sym f)
+fault-same bytes at Memory other h k = absurd h
+fault-same bytes at fault Memory h k = absurd k
 
-pub fault-only : (bytes : List ℕ) (keys : List Key) (at : ℕ) (fault : KeyFault) → Read bytes keys at → FaultAt bytes at fault → (others : List Key) → AreKeys others → spelled others ≡ bytes → Answers (Err fault) (Ok others)
-fault-only bytes keys at fault read h others os e = absurd (fault-none bytes keys at fault read h others os e)
+-- what a fault at the place that was read up to says of the whole
+module _ (bytes : List ℕ) (keys : List Key) (at : ℕ) (read : Read bytes keys at) (fault : KeyFault) (told : FaultAt bytes at fault) where
+  ends : first_key (drop at bytes) ≡ None
+  ends = fault-first_key bytes at fault told
 
-pub fault-only_bad_name : (bytes : List ℕ) (keys : List Key) (at : ℕ) (fault : KeyFault) → Read bytes keys at → FaultAt bytes at fault → (place : ℕ) → HasBadName bytes place → Answers (Err fault) (Err (BadName place))
-fault-only_bad_name bytes keys at fault read h place has =
-    let found : (keys ≡ has.keys) × (drop at bytes ≡ has.rest) = same_place bytes keys has.keys has.rest at read (fault-first_key bytes at fault h) has.are_keys (first_key-bad_name has.rest has.fault) has.spelling in
-    let there : place ≡ at = has.place ∙ sym (place_is bytes keys has.keys at read found.0) in
-    bad_name_at bytes at fault h place there (subst BeginsBadName (sym found.1) has.fault)
+  pub fault-none : (others : List Key) → AreKeys others → spelled others ≢ bytes
+  fault-none others os e = fault-more bytes at fault told (same_spelling bytes keys at read ends others os e).1
 
-pub fault-only_not_ascii : (bytes : List ℕ) (keys : List Key) (at : ℕ) (fault : KeyFault) → Read bytes keys at → FaultAt bytes at fault → (place : ℕ) → HasNotAscii bytes place → Answers (Err fault) (Err (NotAscii place))
-fault-only_not_ascii bytes keys at fault read h place has =
-    let found : (keys ≡ has.keys) × (drop at bytes ≡ has.rest) = same_place bytes keys has.keys has.rest at read (fault-first_key bytes at fault h) has.are_keys (first_key-not_ascii has.rest has.fault) has.spelling in
-    let there : place ≡ at = has.place ∙ sym (place_is bytes keys has.keys at read found.0) in
-    not_ascii_at bytes at fault h place there (subst BeginsNotAscii (sym found.1) has.fault)
+  pub fault-only_keys : (others : List Key) → AreKeys others → spelled others ≡ bytes → Answers (Err fault) (Ok others)
+  fault-only_keys others os e = absurd (fault-none others os e)
 
--- what a place says of the whole
-pub has_bad_name : (bytes : List ℕ) (keys : List Key) (at place : ℕ) → Read bytes keys at → (place ≡ at) × BeginsBadName (drop at bytes) → HasBadName bytes place
-has_bad_name bytes keys at place read (same, bad) =
-    record {
-      keys = keys;
-      rest = drop at bytes;
-      are_keys = read.are_keys;
-      spelling = read_front bytes keys at read;
-      place = same ∙ place_is bytes keys keys at read refl;
-      fault = bad;
-    }
+  pub fault-only_bad_name : (place : ℕ) → HasBadName bytes place → Answers (Err fault) (Err (BadName place))
+  fault-only_bad_name place has =
+      inr (ap Err (fault-same bytes at fault (BadName place) told (fault_place bytes keys at read BeginsBadName first_key-bad_name ends place has)))
 
-pub has_not_ascii : (bytes : List ℕ) (keys : List Key) (at place : ℕ) → Read bytes keys at → (place ≡ at) × BeginsNotAscii (drop at bytes) → HasNotAscii bytes place
-has_not_ascii bytes keys at place read (same, other) =
-    record {
-      keys = keys;
-      rest = drop at bytes;
-      are_keys = read.are_keys;
-      spelling = read_front bytes keys at read;
-      place = same ∙ place_is bytes keys keys at read refl;
-      fault = other;
-    }
+  pub fault-only_not_ascii : (place : ℕ) → HasNotAscii bytes place → Answers (Err fault) (Err (NotAscii place))
+  fault-only_not_ascii place has =
+      inr (ap Err (fault-same bytes at fault (NotAscii place) told (fault_place bytes keys at read BeginsNotAscii first_key-not_ascii ends place has)))
 
--- at the end
-pub end-spelled : (bytes : List ℕ) (keys : List Key) (at : ℕ) → Read bytes keys at → length bytes ≤ at → spelled keys ≡ bytes
-end-spelled bytes keys at read full = sym (append-nil (spelled keys)) ∙ (ap (λ bs. spelled keys ++ bs) (sym (nothing_left bytes at full)) ∙ sym (read_front bytes keys at read))
+-- what the end of the bytes says of the whole
+module _ (bytes : List ℕ) (keys : List Key) (at : ℕ) (read : Read bytes keys at) (full : length bytes ≤ at) where
+  nothing_left : drop at bytes ≡ []
+  nothing_left = nil_from_length (drop at bytes) (length-drop at bytes ∙ omega arith)
 
-pub end-only : (bytes : List ℕ) (keys : List Key) (at : ℕ) → Read bytes keys at → length bytes ≤ at → (others : List Key) → AreKeys others → spelled others ≡ bytes → Answers (Ok keys) (Ok others)
-end-only bytes keys at read full others os e =
-    let end : drop at bytes ≡ [] = nothing_left bytes at full in
-    inr (ap Ok (same_place bytes keys others [] at read (ap first_key end) os refl (sym (append-nil (spelled others) ∙ e))).0)
+  pub end-only_keys : (others : List Key) → AreKeys others → spelled others ≡ bytes → Answers (Ok keys) (Ok others)
+  end-only_keys others os e = inr (ap Ok (same_spelling bytes keys at read (ap first_key nothing_left) others os e).0)
 
-pub end-only_bad_name : (bytes : List ℕ) (keys : List Key) (at : ℕ) → Read bytes keys at → length bytes ≤ at → (place : ℕ) → HasBadName bytes place → Answers (Ok keys) (Err (BadName place))
-end-only_bad_name bytes keys at read full place has =
-    let end : drop at bytes ≡ [] = nothing_left bytes at full in
-    let found : (keys ≡ has.keys) × (drop at bytes ≡ has.rest) = same_place bytes keys has.keys has.rest at read (ap first_key end) has.are_keys (first_key-bad_name has.rest has.fault) has.spelling in
-    let none : [] ≡ 60 ∷ has.fault.0 = sym end ∙ (found.1 ∙ has.fault.1) in cc
+  pub end-only_bad_name : (place : ℕ) → HasBadName bytes place → Answers (Ok keys) (Err (BadName place))
+  end-only_bad_name place has =
+      absurd (fault-more bytes at (BadName place) (fault_place bytes keys at read BeginsBadName first_key-bad_name (ap first_key nothing_left) place has) nothing_left)
 
-pub end-only_not_ascii : (bytes : List ℕ) (keys : List Key) (at : ℕ) → Read bytes keys at → length bytes ≤ at → (place : ℕ) → HasNotAscii bytes place → Answers (Ok keys) (Err (NotAscii place))
-end-only_not_ascii bytes keys at read full place has =
-    let end : drop at bytes ≡ [] = nothing_left bytes at full in
-    let found : (keys ≡ has.keys) × (drop at bytes ≡ has.rest) = same_place bytes keys has.keys has.rest at read (ap first_key end) has.are_keys (first_key-not_ascii has.rest has.fault) has.spelling in
-    let none : [] ≡ has.fault.0 ∷ has.fault.1 = sym end ∙ (found.1 ∙ has.fault.2) in cc
+  pub end-only_not_ascii : (place : ℕ) → HasNotAscii bytes place → Answers (Ok keys) (Err (NotAscii place))
+  end-only_not_ascii place has =
+      absurd (fault-more bytes at (NotAscii place) (fault_place bytes keys at read BeginsNotAscii first_key-not_ascii (ap first_key nothing_left) place has) nothing_left)

@@ -5,7 +5,7 @@ use Rattle.std.proofs.lemmas.Bool.{and_parts, eqb-true}
 use Rattle.std.proofs.lemmas.Grind.{flat_map-append}
 use Rattle.std.proofs.lemmas.List.{append-nil, append_cancel_left, take_more}
 use Rattle.std.proofs.lemmas.Option.{slice_get_within, get_or_from_slice_get}
-use Rattle.skk_text.specs.KeyText.{spell, spelled, is_key, is_printable, AreKeys, BeginsBadName, BeginsNotAscii}
+use Rattle.skk_text.specs.KeyText.{spell, spelled, is_keyboard_key, is_printable, AreKeys, BeginsBadName, BeginsNotAscii}
 use Rattle.skk_text.specs.declared.key.Key.{Key}
 use Rattle.skk_text.specs.declared.key.Key.TheVariants.{Char, Cj, Cg, Bs, Ret, Tab, Undo}
 
@@ -35,7 +35,7 @@ first_key-char : (c : ℕ) (rest : List ℕ) (b : Bool) → (c == 60) ≡ b → 
 first_key-char c rest true e h = ap (λ x. Some (Char x)) (sym (eqb-true c 60 e))
 first_key-char c rest false e h = rw (e, h)
 
-first_key-spell : (k : Key) (rest : List ℕ) → is_key k ≡ true → first_key (spell k ++ rest) ≡ Some k
+first_key-spell : (k : Key) (rest : List ℕ) → is_keyboard_key k ≡ true → first_key (spell k ++ rest) ≡ Some k
 first_key-spell (Char c) rest h = first_key-char c rest (c == 60) refl h
 first_key-spell Cj rest h = refl
 first_key-spell Cg rest h = refl
@@ -45,7 +45,7 @@ first_key-spell Tab rest h = refl
 first_key-spell Undo rest h = refl
 
 -- keys begin with the first of them
-first_key-spelled : (k : Key) (keys : List Key) (tail : List ℕ) → is_key k ≡ true → first_key (spelled (k ∷ keys) ++ tail) ≡ Some k
+first_key-spelled : (k : Key) (keys : List Key) (tail : List ℕ) → is_keyboard_key k ≡ true → first_key (spelled (k ∷ keys) ++ tail) ≡ Some k
 first_key-spelled k keys tail h = ap first_key (append_assoc (spell k) (spelled keys) tail) ∙ first_key-spell k (spelled keys ++ tail) h
 
 -- a fault begins with no key
@@ -73,15 +73,15 @@ first_key-not_ascii bytes (byte, rest, e, other) = ap first_key e ∙ first_key-
 pub same_reading : (keys others : List Key) (rest tail : List ℕ) → AreKeys keys → AreKeys others → first_key rest ≡ None → first_key tail ≡ None → spelled keys ++ rest ≡ spelled others ++ tail → (keys ≡ others) × (rest ≡ tail)
 same_reading [] [] rest tail ks os r t e = (refl, e)
 same_reading [] (o ∷ others) rest tail ks os r t e =
-    let some : first_key rest ≡ Some o = ap first_key e ∙ first_key-spelled o others tail (and_parts (is_key o) _ os).0 in cc
+    let some : first_key rest ≡ Some o = ap first_key e ∙ first_key-spelled o others tail (and_parts (is_keyboard_key o) _ os).0 in cc
 same_reading (k ∷ keys) [] rest tail ks os r t e =
-    let some : first_key tail ≡ Some k = ap first_key (sym e) ∙ first_key-spelled k keys rest (and_parts (is_key k) _ ks).0 in cc
+    let some : first_key tail ≡ Some k = ap first_key (sym e) ∙ first_key-spelled k keys rest (and_parts (is_keyboard_key k) _ ks).0 in cc
 same_reading (k ∷ keys) (o ∷ others) rest tail ks os r t e =
-    let first : Some k ≡ Some o = sym (first_key-spelled k keys rest (and_parts (is_key k) _ ks).0) ∙ (ap first_key e ∙ first_key-spelled o others tail (and_parts (is_key o) _ os).0) in
+    let first : Some k ≡ Some o = sym (first_key-spelled k keys rest (and_parts (is_keyboard_key k) _ ks).0) ∙ (ap first_key e ∙ first_key-spelled o others tail (and_parts (is_keyboard_key o) _ os).0) in
     let same : k ≡ o = cc in
     let behind : spelled keys ++ rest ≡ spelled others ++ tail =
     append_cancel_left (spell k) _ _ (sym (append_assoc (spell k) (spelled keys) rest) ∙ (e ∙ (append_assoc (spell o) (spelled others) tail ∙ ap (λ x. spell x ++ (spelled others ++ tail)) (sym same)))) in
-    let more : (keys ≡ others) × (rest ≡ tail) = same_reading keys others rest tail (and_parts (is_key k) _ ks).1 (and_parts (is_key o) _ os).1 r t behind in
+    let more : (keys ≡ others) × (rest ≡ tail) = same_reading keys others rest tail (and_parts (is_keyboard_key k) _ ks).1 (and_parts (is_keyboard_key o) _ os).1 r t behind in
     (cc, more.1)
 
 -- where nothing stands behind them, by their spelling

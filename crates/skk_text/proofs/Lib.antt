@@ -1,4 +1,5 @@
 pub mod Characters
+mod Examples
 pub mod KeyNames
 pub mod KeyReading
 pub mod KeySpelling

@@ -1,11 +1,11 @@
 -- What contracts say of texts, which they see as lists of characters.
 use Rattle.std.specs.Prelude.{ℕ, ◌-◌, List, length, take, drop, encode_utf8_all}
 
--- how many bytes the characters take in UTF-8
+-- how many bytes a text takes in UTF-8
 abbrev pub byte_len : List ℕ → ℕ
 byte_len text = length (encode_utf8_all text)
 
--- the last characters of a text, at most so many
+-- the last characters of a text, at most so many as the count says
 abbrev pub last_chars : ℕ → List ℕ → List ℕ
 last_chars count text = drop (length text - count) text
 

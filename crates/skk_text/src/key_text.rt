@@ -1,6 +1,6 @@
 ghost use Rattle.std.specs.Prelude.{◌≡◌, ◌≢◌, ◌<◌, ◌+◌, ◌++◌, ℕ, List, length, drop, nat_eq, true, false, IfOk, OnOk, IsErrOf, IfSome, IsNone, IsTrue, Ok, Err};
 ghost use Rattle.std.specs.List.{list_any, starts_with};
-ghost use Rattle.skk_text.specs.KeyText.{spell, spelled, is_key, is_printable, names, AreKeys, BeginsBadName, BeginsNotAscii, HasBadName, HasNotAscii, Answers};
+ghost use Rattle.skk_text.specs.KeyText.{spell, spelled, is_keyboard_key, is_printable, names, AreKeys, BeginsBadName, BeginsNotAscii, HasBadName, HasNotAscii, Answers};
 ghost use Rattle.skk_text.specs.declared.key.Key.{Key};
 
 use crate::key::{Key, Keys};
@@ -18,7 +18,7 @@ pub enum KeyFault {
     /// A byte outside 0x20 to 0x7E.
     #[error("bad byte at {at}")]
     NotAscii { at: usize },
-    /// Want of memory.
+    /// Out of memory.
     #[error("out of memory")]
     Memory,
 }
@@ -37,7 +37,7 @@ impl From<Memory> for KeyFault {
 /// Reads key text. The first fault is answered.
 pub fn read_keys(alloc: Global, bytes: &[u8]) -> Result<Keys, KeyFault>
     ensures found { IfOk result (λ keys. AreKeys keys × (spelled keys ≡ bytes.now)) }
-    ensures only { (keys : List Key) → AreKeys keys → spelled keys ≡ bytes.now → Answers result (Ok keys) }
+    ensures only_keys { (keys : List Key) → AreKeys keys → spelled keys ≡ bytes.now → Answers result (Ok keys) }
     ensures bad_name { (at : ℕ) → IsErrOf result (KeyFault.BadName at) → HasBadName bytes.now at }
     ensures only_bad_name { (at : ℕ) → HasBadName bytes.now at → Answers result (Err (KeyFault.BadName at)) }
     ensures not_ascii { (at : ℕ) → IsErrOf result (KeyFault.NotAscii at) → HasNotAscii bytes.now at }
@@ -75,7 +75,7 @@ pub fn is_key_text(bytes: &[u8]) -> bool
 // The key that is spelled at a place, and how many bytes its spelling has.
 fn key_at(bytes: &[u8], at: usize) -> Result<(Key, usize), KeyFault>
     requires { at < length bytes.now }
-    ensures ok { IfOk result (λ found. (is_key found.0 ≡ true) × (found.1 ≡ length (spell found.0))
+    ensures ok { IfOk result (λ found. (is_keyboard_key found.0 ≡ true) × (found.1 ≡ length (spell found.0))
         × (drop at bytes.now ≡ spell found.0 ++ drop (at + found.1) bytes.now)) }
     ensures bad_name { (place : ℕ) → IsErrOf result (KeyFault.BadName place) → (place ≡ at) × BeginsBadName (drop at bytes.now) }
     ensures not_ascii { (place : ℕ) → IsErrOf result (KeyFault.NotAscii place) → (place ≡ at) × BeginsNotAscii (drop at bytes.now) }
@@ -83,7 +83,7 @@ fn key_at(bytes: &[u8], at: usize) -> Result<(Key, usize), KeyFault>
 {
     let byte = bytes[at];
     if byte == b'<' {
-        return match named(&bytes[at..]) {
+        return match key_of_name(&bytes[at..]) {
             Some(found) => Ok(found),
             None => Err(KeyFault::BadName { at }),
         };
@@ -102,8 +102,8 @@ fn is_printable(byte: u8) -> bool
 }
 
 // The key whose name the bytes begin with, and how many bytes the name has.
-fn named(bytes: &[u8]) -> Option<(Key, usize)>
-    ensures found { IfSome result (λ found. (is_key found.0 ≡ true) × (found.1 ≡ length (spell found.0))
+fn key_of_name(bytes: &[u8]) -> Option<(Key, usize)>
+    ensures found { IfSome result (λ found. (is_keyboard_key found.0 ≡ true) × (found.1 ≡ length (spell found.0))
         × (bytes.now ≡ spell found.0 ++ drop found.1 bytes.now)) }
     ensures none { IsNone result → list_any (λ name. starts_with nat_eq bytes.now name) names ≡ false }
 {

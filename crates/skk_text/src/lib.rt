@@ -3,7 +3,7 @@
 //!
 //! It stands on nothing but the standard library. A list is seen by contracts as the list of its
 //! items, a text as the list of its characters, and each call says exactly what it makes of them.
-//! What takes memory answers `Memory` where that is wanting, and leaves the value as it was.
+//! What takes memory answers `Memory` where it is out of memory, and leaves the value as it was.
 #![tactic(auto)]
 
 mod bytes;

@@ -94,11 +94,11 @@ fn last_of(text: &str, count: usize) -> &str
     ensures value { result.now ≡ encode_utf8_all (last_chars count (chars text.now)) }
     ensures characters { chars result.now ≡ last_chars count (chars text.now) }
 {
-    let mut front = text;
+    let mut prefix = text;
     for _ in 0..count {
-        front = without_last(front);
+        prefix = without_last(prefix);
     }
-    &text[front.len()..]
+    &text[prefix.len()..]
 }
 
 // The string without its last character, where it has one.

@@ -12,5 +12,5 @@ loop-at-preserved c =
 pub returns-in-Err-clause-none : goal.returns-in-Err-clause-none
 returns-in-Err-clause-none c none =
     let (keys, read) = c.loop-at.invariant in
-    fault-none c.args.bytes.now keys c.loop-at.at c.in-Err.field-0 read
+    fault-none c.args.bytes.now keys c.loop-at.at read c.in-Err.field-0
     (fault_at (Key × ℕ) c.args.bytes.now c.loop-at.at c.in-Err.field-0 c.in-Err.ensures.bad_name c.in-Err.ensures.not_ascii c.in-Err.ensures.no_memory)

@@ -1,7 +1,8 @@
 use Rattle.std.proofs.Common.{◌≡◌, ◌+◌, ℕ, Err, ap, sym, subst}
+use Rattle.skk_text.specs.KeyText.{BeginsBadName, BeginsNotAscii}
 use Rattle.skk_text.specs.declared.key.Key.{Key}
 use Rattle.skk_text.specs.declared.key_text.KeyFault.TheVariants.{BadName, NotAscii}
-use Rattle.skk_text.proofs.KeyReading.{Read, FaultAt, fault_at, read_more, has_bad_name, has_not_ascii, fault-only, fault-only_bad_name, fault-only_not_ascii, end-only, end-only_bad_name, end-only_not_ascii}
+use Rattle.skk_text.proofs.KeyReading.{Read, FaultAt, fault_at, read_more, has_fault, fault-only_keys, fault-only_bad_name, fault-only_not_ascii, end-only_keys, end-only_bad_name, end-only_not_ascii}
 use Rattle.skk_text.proofs.key_text.read_keys.Goals as goal
 
 pub loop-at-preserved : goal.loop-at-preserved
@@ -20,15 +21,15 @@ returns-in-Err c =
     let told : FaultAt bytes at fault = fault_at (Key × ℕ) bytes at fault c.in-Err.ensures.bad_name c.in-Err.ensures.not_ascii c.in-Err.ensures.no_memory in
     record {
       found = tt;
-      only = fault-only bytes keys at fault read told;
-      bad_name = λ place e. let is : fault ≡ BadName place = cc in has_bad_name bytes keys at place read (c.in-Err.ensures.bad_name place (ap Err is));
-      only_bad_name = fault-only_bad_name bytes keys at fault read told;
-      not_ascii = λ place e. let is : fault ≡ NotAscii place = cc in has_not_ascii bytes keys at place read (c.in-Err.ensures.not_ascii place (ap Err is));
-      only_not_ascii = fault-only_not_ascii bytes keys at fault read told;
+      only_keys = fault-only_keys bytes keys at read fault told;
+      bad_name = λ place e. let is : fault ≡ BadName place = cc in has_fault bytes keys at read BeginsBadName place (c.in-Err.ensures.bad_name place (ap Err is));
+      only_bad_name = fault-only_bad_name bytes keys at read fault told;
+      not_ascii = λ place e. let is : fault ≡ NotAscii place = cc in has_fault bytes keys at read BeginsNotAscii place (c.in-Err.ensures.not_ascii place (ap Err is));
+      only_not_ascii = fault-only_not_ascii bytes keys at read fault told;
     }
 
-pub returns-clause-only : goal.returns-clause-only
-returns-clause-only c = end-only c.args.bytes.now c.loop-at.keys c.loop-at.at c.loop-at.invariant c.loop-at-test.false
+pub returns-clause-only_keys : goal.returns-clause-only_keys
+returns-clause-only_keys c = end-only_keys c.args.bytes.now c.loop-at.keys c.loop-at.at c.loop-at.invariant c.loop-at-test.false
 
 pub returns-clause-only_bad_name : goal.returns-clause-only_bad_name
 returns-clause-only_bad_name c = end-only_bad_name c.args.bytes.now c.loop-at.keys c.loop-at.at c.loop-at.invariant c.loop-at-test.false
