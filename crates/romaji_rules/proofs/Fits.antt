@@ -5,37 +5,37 @@ use Rattle.std.proofs.lemmas.List.Folds.{list_all-append}
 use Rattle.std.proofs.lemmas.Bool.{and_parts}
 use Rattle.romaji_rules.specs.declared.out.Out.{Out}
 use Rattle.romaji_rules.specs.declared.rule.Rule.{Rule}
-use Rattle.romaji_rules.specs.Fed.{IsProperPrefix, IsBegun, IsRule, FedAlone, FedAfter, Fed}
-use Rattle.romaji_rules.specs.Fitting.{is_typed, is_input_text, is_next_text, inputs_differ, is_rule_set}
-use Rattle.romaji_rules.specs.Typed.{rule_of, fed}
-use Rattle.romaji_rules.proofs.Begun.{is_begun-Decides, rule_of-Some}
+use Rattle.romaji_rules.specs.Fed.{IsProperPrefix, BeginsInput, IsRule, FedAlone, FedAfter, Fed}
+use Rattle.romaji_rules.specs.Fitting.{is_input_char, is_input_text, is_next_text, inputs_differ, is_rule_set}
+use Rattle.romaji_rules.specs.Typed.{begins_input, rule_of, fed}
+use Rattle.romaji_rules.proofs.Begins.{begins_input-Decides, rule_of-Some}
 use Rattle.romaji_rules.proofs.Found.{list_all-Contains}
 use Rattle.romaji_rules.proofs.Step.{Fed-computed}
 
 -- characters that may be typed are ASCII
-below_128 : (c : ℕ) → is_typed c ≡ true → c < 128
+below_128 : (c : ℕ) → is_input_char c ≡ true → c < 128
 below_128 c e =
     let in_range : (nat_le 0x21 c && nat_le c 0x7E) ≡ true = (and_parts (nat_le 0x21 c && nat_le c 0x7E) (not (nat_le 0x41 c && nat_le c 0x5A)) e).0 in
     let below : c ≤ 0x7E = leb-true c 0x7E (and_parts (nat_le 0x21 c) (nat_le c 0x7E) in_range).1 in
     omega (arith, below)
 
-typed-IsAscii : (text : List ℕ) → list_all is_typed text ≡ true → IsAscii text
-typed-IsAscii [] e i = lit< tt
-typed-IsAscii (c ∷ text) e zero = below_128 c (and_parts (is_typed c) (list_all is_typed text) e).0
-typed-IsAscii (c ∷ text) e (suc i) = typed-IsAscii text (and_parts (is_typed c) (list_all is_typed text) e).1 i
+chars-IsAscii : (text : List ℕ) → list_all is_input_char text ≡ true → IsAscii text
+chars-IsAscii [] e i = lit< tt
+chars-IsAscii (c ∷ text) e zero = below_128 c (and_parts (is_input_char c) (list_all is_input_char text) e).0
+chars-IsAscii (c ∷ text) e (suc i) = chars-IsAscii text (and_parts (is_input_char c) (list_all is_input_char text) e).1 i
 
 -- an input, and what begins one
-front-IsAscii : (front whole : List ℕ) → is_input_text whole ≡ true → IsProperPrefix front whole → IsAscii front
-front-IsAscii front whole e h =
-    let all : list_all is_typed whole ≡ true = (and_parts (nat_le 1 (length whole) && nat_le (length whole) 8) (list_all is_typed whole) e).1 in
-    typed-IsAscii front (and_parts (list_all is_typed front) (list_all is_typed (h.0 ∷ h.1)) (sym (list_all-append is_typed front (h.0 ∷ h.1)) ∙ ap (list_all is_typed) (sym h.2) ∙ all)).0
+prefix-IsAscii : (prefix whole : List ℕ) → is_input_text whole ≡ true → IsProperPrefix prefix whole → IsAscii prefix
+prefix-IsAscii prefix whole e h =
+    let all : list_all is_input_char whole ≡ true = (and_parts (nat_le 1 (length whole) && nat_le (length whole) 8) (list_all is_input_char whole) e).1 in
+    chars-IsAscii prefix (and_parts (list_all is_input_char prefix) (list_all is_input_char (h.0 ∷ h.1)) (sym (list_all-append is_input_char prefix (h.0 ∷ h.1)) ∙ ap (list_all is_input_char) (sym h.2) ∙ all)).0
 
-front-short : (front whole : List ℕ) → is_input_text whole ≡ true → IsProperPrefix front whole → length front < 8
-front-short front whole e h =
-    let sizes : (nat_le 1 (length whole) && nat_le (length whole) 8) ≡ true = (and_parts (nat_le 1 (length whole) && nat_le (length whole) 8) (list_all is_typed whole) e).0 in
+prefix-short : (prefix whole : List ℕ) → is_input_text whole ≡ true → IsProperPrefix prefix whole → length prefix < 8
+prefix-short prefix whole e h =
+    let sizes : (nat_le 1 (length whole) && nat_le (length whole) 8) ≡ true = (and_parts (nat_le 1 (length whole) && nat_le (length whole) 8) (list_all is_input_char whole) e).0 in
     let size : nat_le (length whole) 8 ≡ true = (and_parts (nat_le 1 (length whole)) (nat_le (length whole) 8) sizes).1 in
     let bound : length whole ≤ 8 = leb-true (length whole) 8 size in
-    omega (arith, bound, ap length h.2, length-append front (h.0 ∷ h.1))
+    omega (arith, bound, ap length h.2, length-append prefix (h.0 ∷ h.1))
 
 module _ (rules : List Rule) (fits : is_rule_set rules ≡ true) where
   rule_fits : (rule : Rule) → Contains rules rule → (is_input_text rule.input && is_next_text rules rule.next) ≡ true
@@ -43,52 +43,58 @@ module _ (rules : List Rule) (fits : is_rule_set rules ≡ true) where
       let test : Rule → Bool = λ r. is_input_text r.input && is_next_text rules r.next in
       list_all-Contains test rules rule (and_parts (list_all test rules) (inputs_differ rules) fits).0 h
 
-  pub begun-IsAscii : (text : List ℕ) → IsBegun rules text → IsAscii text
-  begun-IsAscii text h =
-      front-IsAscii text h.0.input (and_parts (is_input_text h.0.input) (is_next_text rules h.0.next) (rule_fits h.0 h.1)).0 h.2
+  begins-IsAscii : (text : List ℕ) → BeginsInput rules text → IsAscii text
+  begins-IsAscii text h =
+      prefix-IsAscii text h.0.input (and_parts (is_input_text h.0.input) (is_next_text rules h.0.next) (rule_fits h.0 h.1)).0 h.2
 
-  pub begun-short : (text : List ℕ) → IsBegun rules text → length text < 8
-  begun-short text h =
-      front-short text h.0.input (and_parts (is_input_text h.0.input) (is_next_text rules h.0.next) (rule_fits h.0 h.1)).0 h.2
+  begins-short : (text : List ℕ) → BeginsInput rules text → length text < 8
+  begins-short text h =
+      prefix-short text h.0.input (and_parts (is_input_text h.0.input) (is_next_text rules h.0.next) (rule_fits h.0 h.1)).0 h.2
+
+  -- a text that begins an input is ASCII, and short enough to be pending
+  pub begins-fits : (text other : List ℕ) → begins_input rules text ≡ true → other ≡ text → IsAscii other × (length other ≤ 8)
+  begins-fits text other e same =
+      let begin : BeginsInput rules other = (begins_input-Decides rules other).0 (ap (begins_input rules) same ∙ e) in
+      let short : length other < 8 = begins-short other begin in
+      (begins-IsAscii other begin, omega (arith, short))
 
   -- a rule's next text is empty or begins an input
-  pub next-waits : (rule : Rule) → Contains rules rule → (rule.next ≡ []) ⊎ IsBegun rules rule.next
+  pub next-waits : (rule : Rule) → Contains rules rule → (rule.next ≡ []) ⊎ BeginsInput rules rule.next
   next-waits rule h = by rule.next (and_parts (is_input_text rule.input) (is_next_text rules rule.next) (rule_fits rule h)).1
     where
-      by : (next : List ℕ) → is_next_text rules next ≡ true → (next ≡ []) ⊎ IsBegun rules next
+      by : (next : List ℕ) → is_next_text rules next ≡ true → (next ≡ []) ⊎ BeginsInput rules next
       by [] e = inl refl
-      by (c ∷ next) e = inr ((is_begun-Decides rules (c ∷ next)).0 e)
+      by (c ∷ next) e = inr ((begins_input-Decides rules (c ∷ next)).0 e)
 
-  -- so is that of the rule that is found
-  pub found-waits : (text next : List ℕ) (rule : Rule) → Some rule ≡ rule_of rules text → next ≡ rule.next → (next ≡ []) ⊎ IsBegun rules next
+  -- so is that of the rule that is found, and it is ASCII, and short enough to be pending
+  pub found-waits : (text next : List ℕ) (rule : Rule) → rule_of rules text ≡ Some rule → next ≡ rule.next → (next ≡ []) ⊎ BeginsInput rules next
   found-waits text next rule e same =
-      subst (λ (n : List ℕ). (n ≡ []) ⊎ IsBegun rules n) (sym same) (next-waits rule (rule_of-Some rules text rule (sym e)).0)
+      subst (λ (n : List ℕ). (n ≡ []) ⊎ BeginsInput rules n) (sym same) (next-waits rule (rule_of-Some rules text rule e).0)
 
-  pub waits-IsAscii : (text : List ℕ) → (text ≡ []) ⊎ IsBegun rules text → IsAscii text
-  waits-IsAscii text (inl e) = subst IsAscii (sym e) (typed-IsAscii [] refl)
-  waits-IsAscii text (inr h) = begun-IsAscii text h
+  pub found-fits : (text next : List ℕ) (rule : Rule) → rule_of rules text ≡ Some rule → next ≡ rule.next → IsAscii next × (length next ≤ 8)
+  found-fits text next rule e same = by (found-waits text next rule e same)
+    where
+      by : (next ≡ []) ⊎ BeginsInput rules next → IsAscii next × (length next ≤ 8)
+      by (inl none) = (subst IsAscii (sym none) (chars-IsAscii [] refl), omega (arith, ap length none))
+      by (inr begin) = let short : length next < 8 = begins-short next begin in (begins-IsAscii next begin, omega (arith, short))
 
-  pub waits-short : (text : List ℕ) → (text ≡ []) ⊎ IsBegun rules text → length text < 8
-  waits-short text (inl e) = omega (arith, ap length e)
-  waits-short text (inr h) = begun-short text h
+  rule-waits : (text next : List ℕ) (out : Out) → IsRule rules text next out → (next ≡ []) ⊎ BeginsInput rules next
+  rule-waits text next out h = subst (λ (n : List ℕ). (n ≡ []) ⊎ BeginsInput rules n) h.3 (next-waits h.0 h.1)
 
-  rule-waits : (text next : List ℕ) (out : Out) → IsRule rules text next out → (next ≡ []) ⊎ IsBegun rules next
-  rule-waits text next out h = subst (λ (n : List ℕ). (n ≡ []) ⊎ IsBegun rules n) h.3 (next-waits h.0 h.1)
-
-  alone-waits : (c : ℕ) (next : List ℕ) (out : Out) → FedAlone rules c next out → (next ≡ []) ⊎ IsBegun rules next
-  alone-waits c next out (inl h) = inr (subst (IsBegun rules) (sym h.1) h.0)
+  alone-waits : (c : ℕ) (next : List ℕ) (out : Out) → FedAlone rules c next out → (next ≡ []) ⊎ BeginsInput rules next
+  alone-waits c next out (inl h) = inr (subst (BeginsInput rules) (sym h.1) h.0)
   alone-waits c next out (inr (inl h)) = rule-waits (c ∷ []) next out h.1
   alone-waits c next out (inr (inr h)) = inl h.2
 
-  after-waits : (pending : List ℕ) (c : ℕ) (next : List ℕ) (out : Out) → FedAfter rules pending c next out → (next ≡ []) ⊎ IsBegun rules next
-  after-waits pending c next out (inl h) = inr (subst (IsBegun rules) (sym h.1) h.0)
+  after-waits : (pending : List ℕ) (c : ℕ) (next : List ℕ) (out : Out) → FedAfter rules pending c next out → (next ≡ []) ⊎ BeginsInput rules next
+  after-waits pending c next out (inl h) = inr (subst (BeginsInput rules) (sym h.1) h.0)
   after-waits pending c next out (inr (inl h)) = rule-waits (pending ++ c ∷ []) next out h.1
   after-waits pending c next out (inr (inr h)) = alone-waits c next h.2.1 h.2.3
 
   -- what is pending after a step is nothing, or begins an input
-  pub Fed-waits : (pending : List ℕ) (c : ℕ) (next : List ℕ) (out : Out) → Fed rules pending c next out → (next ≡ []) ⊎ IsBegun rules next
+  pub Fed-waits : (pending : List ℕ) (c : ℕ) (next : List ℕ) (out : Out) → Fed rules pending c next out → (next ≡ []) ⊎ BeginsInput rules next
   Fed-waits [] c next out h = alone-waits c next out h
   Fed-waits (b ∷ pending) c next out h = after-waits (b ∷ pending) c next out h
 
-  pub fed-waits : (pending : List ℕ) (c : ℕ) (next : List ℕ) (out : Out) → fed rules pending c ≡ record { pending = next; out = out } → (next ≡ []) ⊎ IsBegun rules next
+  pub fed-waits : (pending : List ℕ) (c : ℕ) (next : List ℕ) (out : Out) → fed rules pending c ≡ record { pending = next; out = out } → (next ≡ []) ⊎ BeginsInput rules next
   fed-waits pending c next out e = Fed-waits pending c next out (Fed-computed rules pending c next out e)

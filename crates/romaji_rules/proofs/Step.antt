@@ -1,21 +1,21 @@
 -- The step that is computed is the step of the relation, and where no two rules have one input it is the only one.
 use Rattle.std.proofs.Common.{◌≡◌, ℕ, Bool, true, false, cond, not, Option, None, Some, List, [], ◌∷◌, ◌++◌, refl, sym, ◌∙◌, ap, subst, inl, inr, ◌⊎◌, Contains, arith, Result, Ok, Err, IfOk}
-use Rattle.std.specs.List.{list_any}
+use Rattle.std.specs.List.{list_all}
 use Rattle.std.specs.Str.{bytes_eq}
 use Rattle.std.proofs.lemmas.Slice.Eq.{bytes_eq-Decides}
 use Rattle.std.proofs.lemmas.Bool.{and_parts, both_ways, false_from_ne_true, not-true}
 use Rattle.romaji_rules.specs.declared.out.Out.{Out}
 use Rattle.romaji_rules.specs.declared.rule.Rule.{Rule}
-use Rattle.romaji_rules.specs.Fed.{IsBegun, IsRule, IsInput, Flushed, FedAlone, FedAfter, Fed}
+use Rattle.romaji_rules.specs.Fed.{BeginsInput, IsRule, IsInput, Flushed, FedAlone, FedAfter, Fed}
 use Rattle.romaji_rules.specs.Fitting.{inputs_differ}
-use Rattle.romaji_rules.specs.Output.{nothing, itself, joined}
-use Rattle.romaji_rules.specs.Typed.{Step, is_begun, rule_of, out_of, flushed, step_of, after_out, fed_alone, fed_after, fed}
-use Rattle.romaji_rules.proofs.Begun.{is_begun-Decides, rule_of-Some, rule_of-None}
-use Rattle.romaji_rules.proofs.Found.{Contains-cases, list_any-Contains}
+use Rattle.romaji_rules.specs.Output.{nothing, itself, appended}
+use Rattle.romaji_rules.specs.Typed.{Step, begins_input, rule_of, out_of, flushed, step_of, after_out, fed_alone, fed_after, fed}
+use Rattle.romaji_rules.proofs.Begins.{begins_input-Decides, rule_of-Some, rule_of-None}
+use Rattle.romaji_rules.proofs.Found.{Contains-cases, list_all-Contains}
 
 module _ (rules : List Rule) where
-  not_begun : (text : List ℕ) → is_begun rules text ≡ false → ¬ IsBegun rules text
-  not_begun text e h = absurd (both_ways (is_begun rules text) e ((is_begun-Decides rules text).1 h))
+  not-BeginsInput : (text : List ℕ) → begins_input rules text ≡ false → ¬ BeginsInput rules text
+  not-BeginsInput text e h = absurd (both_ways (begins_input rules text) e ((begins_input-Decides rules text).1 h))
 
   -- a rule that is found is that of the text
   found : (text : List ℕ) (rule : Rule) → rule_of rules text ≡ Some rule → IsRule rules text rule.next rule.out
@@ -29,7 +29,7 @@ module _ (rules : List Rule) where
       by (Some rule) e = inl (rule.next, found pending rule e)
 
   fed_alone-exact : (c : ℕ) → FedAlone rules c (fed_alone rules c).pending (fed_alone rules c).out
-  fed_alone-exact c = by (is_begun rules text) refl (rule_of rules text) refl
+  fed_alone-exact c = by (begins_input rules text) refl (rule_of rules text) refl
     where
       text : List ℕ
       text = c ∷ []
@@ -37,13 +37,13 @@ module _ (rules : List Rule) where
       step : Bool → Option Rule → Step
       step b o = cond b (record { pending = text; out = nothing }) (step_of o (record { pending = []; out = itself c }))
 
-      by : (b : Bool) → is_begun rules text ≡ b → (o : Option Rule) → rule_of rules text ≡ o → FedAlone rules c (step b o).pending (step b o).out
-      by true e o r = inl ((is_begun-Decides rules text).0 e, refl, refl)
-      by false e None r = inr (inr (not_begun text e, rule_of-None rules text r, refl, refl))
-      by false e (Some rule) r = inr (inl (not_begun text e, found text rule r))
+      by : (b : Bool) → begins_input rules text ≡ b → (o : Option Rule) → rule_of rules text ≡ o → FedAlone rules c (step b o).pending (step b o).out
+      by true e o r = inl ((begins_input-Decides rules text).0 e, refl, refl)
+      by false e None r = inr (inr (not-BeginsInput text e, rule_of-None rules text r, refl, refl))
+      by false e (Some rule) r = inr (inl (not-BeginsInput text e, found text rule r))
 
   fed_after-exact : (pending : List ℕ) (c : ℕ) → FedAfter rules pending c (fed_after rules pending c).pending (fed_after rules pending c).out
-  fed_after-exact pending c = by (is_begun rules text) refl (rule_of rules text) refl
+  fed_after-exact pending c = by (begins_input rules text) refl (rule_of rules text) refl
     where
       text : List ℕ
       text = pending ++ c ∷ []
@@ -51,11 +51,11 @@ module _ (rules : List Rule) where
       step : Bool → Option Rule → Step
       step b o = cond b (record { pending = text; out = nothing }) (step_of o (after_out (flushed rules pending) (fed_alone rules c)))
 
-      by : (b : Bool) → is_begun rules text ≡ b → (o : Option Rule) → rule_of rules text ≡ o → FedAfter rules pending c (step b o).pending (step b o).out
-      by true e o r = inl ((is_begun-Decides rules text).0 e, refl, refl)
+      by : (b : Bool) → begins_input rules text ≡ b → (o : Option Rule) → rule_of rules text ≡ o → FedAfter rules pending c (step b o).pending (step b o).out
+      by true e o r = inl ((begins_input-Decides rules text).0 e, refl, refl)
       by false e None r =
-          inr (inr (not_begun text e, rule_of-None rules text r, (flushed rules pending, (fed_alone rules c).out, flushed-exact pending, fed_alone-exact c, refl)))
-      by false e (Some rule) r = inr (inl (not_begun text e, found text rule r))
+          inr (inr (not-BeginsInput text e, rule_of-None rules text r, (flushed rules pending, (fed_alone rules c).out, flushed-exact pending, fed_alone-exact c, refl)))
+      by false e (Some rule) r = inr (inl (not-BeginsInput text e, found text rule r))
 
   -- the step that is computed is one of the relation
   pub fed-exact : (pending : List ℕ) (c : ℕ) → Fed rules pending c (fed rules pending c).pending (fed rules pending c).out
@@ -70,14 +70,17 @@ module _ (rules : List Rule) where
 -- two rules with one input are one rule
 same_rule : (rules : List Rule) → inputs_differ rules ≡ true → (a b : Rule) → Contains rules a → Contains rules b → a.input ≡ b.input → a ≡ b
 same_rule [] d a b x y e = absurd (omega (arith, x.1))
-same_rule (rule ∷ rules) d a b x y e = by (Contains-cases rule rules a x) (Contains-cases rule rules b y) (same_rule rules (and_parts (not other) (inputs_differ rules) d).1 a b)
+same_rule (rule ∷ rules) d a b x y e = by (Contains-cases rule rules a x) (Contains-cases rule rules b y) (same_rule rules parts.1 a b)
   where
-    other : Bool
-    other = list_any (λ r. bytes_eq rule.input r.input) rules
+    differs_from : Rule → Bool
+    differs_from other = not (bytes_eq rule.input other.input)
+
+    parts : (list_all differs_from rules ≡ true) × (inputs_differ rules ≡ true)
+    parts = and_parts (list_all differs_from rules) (inputs_differ rules) d
 
     differs : (r : Rule) → Contains rules r → rule.input ≡ r.input → ⊥
     differs r at same =
-        absurd (both_ways other (not-true other (and_parts (not other) (inputs_differ rules) d).0) (list_any-Contains (λ r. bytes_eq rule.input r.input) rules r at ((bytes_eq-Decides rule.input r.input).1 same)))
+        absurd (both_ways (bytes_eq rule.input r.input) (not-true (bytes_eq rule.input r.input) (list_all-Contains differs_from rules r parts.0 at)) ((bytes_eq-Decides rule.input r.input).1 same))
 
     by : (rule ≡ a) ⊎ Contains rules a → (rule ≡ b) ⊎ Contains rules b → (Contains rules a → Contains rules b → a.input ≡ b.input → a ≡ b) → a ≡ b
     by (inl f) (inl g) rest = sym f ∙ g
@@ -103,37 +106,37 @@ module _ (rules : List Rule) (differ : inputs_differ rules ≡ true) where
       by None e = e
       by (Some rule) e = let at = rule_of-Some rules text rule e in absurd (none (rule, at.0, at.1))
 
-  begun : (text : List ℕ) → IsBegun rules text → is_begun rules text ≡ true
-  begun text h = (is_begun-Decides rules text).1 h
+  begins_input-true : (text : List ℕ) → BeginsInput rules text → begins_input rules text ≡ true
+  begins_input-true text h = (begins_input-Decides rules text).1 h
 
-  unbegun : (text : List ℕ) → ¬ IsBegun rules text → is_begun rules text ≡ false
-  unbegun text none = false_from_ne_true (is_begun rules text) (λ t. none ((is_begun-Decides rules text).0 t))
+  begins_input-false : (text : List ℕ) → ¬ BeginsInput rules text → begins_input rules text ≡ false
+  begins_input-false text none = false_from_ne_true (begins_input rules text) (λ t. none ((begins_input-Decides rules text).0 t))
 
   pub one_flushed : (pending : List ℕ) (out : Out) → Flushed rules pending out → flushed rules pending ≡ out
   one_flushed pending out (inl h) = let rule = one_rule pending h.0 out h.1 in ap out_of rule.1 ∙ rule.3
   one_flushed pending out (inr h) = ap out_of (no_rule pending h.0) ∙ sym h.1
 
   one_alone : (c : ℕ) (next : List ℕ) (out : Out) → FedAlone rules c next out → fed_alone rules c ≡ record { pending = next; out = out }
-  one_alone c next out (inl h) = rw (begun (c ∷ []) h.0) cc
-  one_alone c next out (inr (inl h)) = let rule = one_rule (c ∷ []) next out h.1 in rw (unbegun (c ∷ []) h.0, rule.1) cc
-  one_alone c next out (inr (inr h)) = rw (unbegun (c ∷ []) h.0, no_rule (c ∷ []) h.1) cc
+  one_alone c next out (inl h) = rw (begins_input-true (c ∷ []) h.0) cc
+  one_alone c next out (inr (inl h)) = let rule = one_rule (c ∷ []) next out h.1 in rw (begins_input-false (c ∷ []) h.0, rule.1) cc
+  one_alone c next out (inr (inr h)) = rw (begins_input-false (c ∷ []) h.0, no_rule (c ∷ []) h.1) cc
 
   one_after : (pending : List ℕ) (c : ℕ) (next : List ℕ) (out : Out) → FedAfter rules pending c next out → fed_after rules pending c ≡ record { pending = next; out = out }
-  one_after pending c next out (inl h) = rw (begun (pending ++ c ∷ []) h.0) cc
-  one_after pending c next out (inr (inl h)) = let rule = one_rule (pending ++ c ∷ []) next out h.1 in rw (unbegun (pending ++ c ∷ []) h.0, rule.1) cc
+  one_after pending c next out (inl h) = rw (begins_input-true (pending ++ c ∷ []) h.0) cc
+  one_after pending c next out (inr (inl h)) = let rule = one_rule (pending ++ c ∷ []) next out h.1 in rw (begins_input-false (pending ++ c ∷ []) h.0, rule.1) cc
   one_after pending c next out (inr (inr h)) =
       let text = pending ++ c ∷ [] in
       let alone = one_alone c next h.2.1 h.2.3 in
       let first = one_flushed pending h.2.0 h.2.2 in
-      rw (unbegun text h.0, no_rule text h.1) (ap (λ s. after_out (flushed rules pending) s) alone ∙ ap (λ o. record { pending = next; out = joined o h.2.1 }) first ∙ ap (λ o. record { pending = next; out = o }) (sym h.2.4))
+      rw (begins_input-false text h.0, no_rule text h.1) (ap (λ s. after_out (flushed rules pending) s) alone ∙ ap (λ o. record { pending = next; out = appended o h.2.1 }) first ∙ ap (λ o. record { pending = next; out = o }) (sym h.2.4))
 
   -- a step of the relation is the one that is computed
   pub Fed-one : (pending : List ℕ) (c : ℕ) (next : List ℕ) (out : Out) → Fed rules pending c next out → fed rules pending c ≡ record { pending = next; out = out }
   Fed-one [] c next out h = one_alone c next out h
   Fed-one (b ∷ pending) c next out h = one_after (b ∷ pending) c next out h
 
--- the same of an answer that may be want of memory, with nothing pending
-pub alone-exact : {E : Type 0} (rules : List Rule) (pending : List ℕ) (c : ℕ) (next : List ℕ) (answer : Result Out E) → pending ≡ []
-    → IfOk answer (λ out. fed_alone rules c ≡ record { pending = next; out = out }) → IfOk answer (λ out. Fed rules pending c next out)
-alone-exact rules pending c next (Ok out) e h = subst (λ (p : List ℕ). Fed rules p c next out) (sym e) (Fed-computed rules [] c next out h)
-alone-exact rules pending c next (Err failed) e h = h
+-- the same of an answer that may be a fault, where the same is pending as before another call
+pub Fed-answered : {E : Type 0} (rules : List Rule) (pending before : List ℕ) (c : ℕ) (next : List ℕ) (answer : Result Out E) → pending ≡ before
+    → IfOk answer (λ out. fed rules pending c ≡ record { pending = next; out = out }) → IfOk answer (λ out. Fed rules before c next out)
+Fed-answered rules pending before c next (Ok out) e h = subst (λ (p : List ℕ). Fed rules p c next out) e (Fed-computed rules pending c next out h)
+Fed-answered rules pending before c next (Err failed) e h = h

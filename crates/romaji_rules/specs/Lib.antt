@@ -2,5 +2,6 @@ pub mod Fed
 pub mod Fitting
 pub mod Output
 pub mod Standard
+pub mod Standing
 pub mod Table
 pub mod Typed

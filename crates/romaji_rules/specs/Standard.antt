@@ -1,25 +1,26 @@
--- The standard table. The five columns of a row are the inputs that end in a, i, u, e and o.
+-- The standard table, with a row for each of what stands before the vowels a, i, u, e and o.
 use Rattle.std.specs.Prelude.{ℕ, List, [], ◌∷◌, ◌++◌, map, codes}
 use Prim.Native.String.{String}
 use Rattle.romaji_rules.specs.declared.rule.Rule.{Rule}
 use Rattle.romaji_rules.specs.Output.{of_hiragana}
 
--- a rule with an empty next text
+-- the rule of an input that gives a kana text and leaves nothing pending
 abbrev pub rule : List ℕ → List ℕ → Rule
 rule input kana = record { input = input; next = []; out = of_hiragana kana }
 
--- each vowel behind what stands before it, and each ending behind the stem
+-- the rules of a row: each vowel behind what stands before it gives the ending of its column behind the stem
 abbrev pub row_rules : List ℕ → List ℕ → List ℕ → List (List ℕ) → List Rule
 row_rules before stem [] endings = []
 row_rules before stem (vowel ∷ vowels) [] = []
 row_rules before stem (vowel ∷ vowels) (ending ∷ endings) =
     rule (before ++ vowel ∷ []) (stem ++ ending) ∷ row_rules before stem vowels endings
 
--- a row of the table
+-- the row of the table of what stands before the vowels, with the outputs for a, i, u, e and o
 abbrev pub row : String → String → String → String → String → String → List Rule
 row before a i u e o =
     row_rules (codes before) [] (codes "aiueo") (codes a ∷ codes i ∷ codes u ∷ codes e ∷ codes o ∷ [])
 
+-- the rows of the table whose outputs stand in it one by one
 abbrev pub vowel_rows : List Rule
 vowel_rows =
     row "" "あ" "い" "う" "え" "お"
@@ -48,11 +49,12 @@ vowel_rows =
     ++ row "fy" "ふゃ" "ふぃ" "ふゅ" "ふぇ" "ふょ"
     ++ row "x" "ぁ" "ぃ" "ぅ" "ぇ" "ぉ"
 
--- a contracted row: the kana, followed by the small ゃ, ぃ, ゅ, ぇ and ょ
+-- the contracted row of what stands before the vowels: a kana, followed by the small ゃ, ぃ, ゅ, ぇ and ょ
 abbrev pub contracted : String → String → List Rule
 contracted before kana =
     row_rules (codes before) (codes kana) (codes "aiueo") (codes "ゃ" ∷ codes "ぃ" ∷ codes "ゅ" ∷ codes "ぇ" ∷ codes "ょ" ∷ [])
 
+-- the rows of the table that are contracted
 abbrev pub contracted_rows : List Rule
 contracted_rows =
     contracted "ky" "き"
@@ -70,10 +72,11 @@ contracted_rows =
     ++ contracted "by" "び"
     ++ contracted "py" "ぴ"
 
--- a rule of its own
+-- the one rule of an input and its kana
 abbrev pub single : String → String → List Rule
 single input kana = rule (codes input) (codes kana) ∷ []
 
+-- the rules of the table that stand in no row
 abbrev pub single_rules : List Rule
 single_rules =
     single "n" "ん"
@@ -103,13 +106,14 @@ single_rules =
     ++ single "z[" "『"
     ++ single "z]" "』"
 
--- a doubled consonant gives っ and leaves its second letter pending
+-- the rule of a doubled consonant, which gives っ and leaves its second letter pending
 abbrev pub doubled : ℕ → Rule
 doubled c = record { input = c ∷ c ∷ []; next = c ∷ []; out = of_hiragana (codes "っ") }
 
+-- the rules of the doubled consonants
 abbrev pub doubled_rules : List Rule
 doubled_rules = map doubled (codes "bcdfghjkprstvwxyz")
 
--- the whole table
+-- the rules of the whole standard table
 abbrev pub standard : List Rule
 standard = vowel_rows ++ contracted_rows ++ single_rules ++ doubled_rules

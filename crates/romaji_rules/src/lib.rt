@@ -12,6 +12,7 @@ mod pending;
 mod rule;
 mod rules;
 mod standard;
+mod standing;
 #[cfg(test)]
 mod tests;
 

@@ -12,7 +12,7 @@ pub struct Out {
 
 impl Out {
     ghost use Rattle.std.specs.Prelude.{◌≡◌, OnOk, IfOk};
-    ghost use Rattle.romaji_rules.specs.Output.{nothing, itself, of_hiragana, joined};
+    ghost use Rattle.romaji_rules.specs.Output.{nothing, itself, of_hiragana, appended};
 
     /// No output. Takes no memory.
     pub fn nothing(alloc: Global) -> Out
@@ -44,7 +44,7 @@ impl Out {
 
     /// Adds another output behind this one. After `Memory` the output is of no use.
     pub fn append(&mut self, other: &Out) -> Result<(), Memory>
-        ensures { OnOk result (self.new ≡ joined self.old other.now) }
+        ensures { OnOk result (self.new ≡ appended self.old other.now) }
     {
         self.hira.push_str(other.hira.as_str())?;
         self.kata.push_str(other.kata.as_str())?;

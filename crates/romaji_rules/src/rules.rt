@@ -1,7 +1,8 @@
-ghost use Rattle.std.specs.Prelude.{◌≡◌, ◌≤◌, ◌<◌, ◌↔◌, ◌⊎◌, IsTrue, ℕ, List, [], ◌∷◌, ◌++◌, length, OnOk, OnErr, IfOk};
+ghost use Rattle.std.specs.Prelude.{◌≡◌, ◌≤◌, ◌<◌, ◌↔◌, ◌⊎◌, IsTrue, true, false, ℕ, List, [], ◌∷◌, ◌++◌, length, is_some, OnOk, OnErr, IfOk, IfSome, IsSome, IsNone};
 ghost use Rattle.std.specs.Option.{option_copied};
-ghost use Rattle.romaji_rules.specs.Typed.{rule_of, is_begun, goes_on, flushed, fed, fed_alone};
-ghost use Rattle.romaji_rules.specs.Fed.{Fed, Flushed, GoesOn, IsBegun};
+ghost use Rattle.romaji_rules.specs.Standing.{IsStanding};
+ghost use Rattle.romaji_rules.specs.Typed.{rule_of, goes_on, flushed, fed, fed_alone};
+ghost use Rattle.romaji_rules.specs.Fed.{Fed, Flushed, GoesOn, BeginsInput};
 ghost use Rattle.romaji_rules.specs.Fitting.{is_rule_set};
 ghost use Rattle.romaji_rules.specs.Standard.{standard};
 
@@ -9,6 +10,7 @@ use crate::out::Out;
 use crate::pending::Pending;
 use crate::rule::Rule;
 use crate::standard::standard_rules;
+use crate::standing::Standing;
 use arrayvec::ArrayVec;
 use skk_text::Memory;
 use std::alloc::Global;
@@ -47,8 +49,10 @@ impl Rules {
         ensures exact { IsTrue result ↔ GoesOn self.now (pending.now ++ c ∷ []) }
         ensures computed { result ≡ goes_on self.now (pending.now ++ c ∷ []) }
     {
-        let text = typed(pending, c);
-        self.is_begun(text.as_slice()) || self.rule_of(text.as_slice()).is_some()
+        match self.standing(typed(pending, c).as_slice()) {
+            Standing::Begins | Standing::Input(_) => true,
+            Standing::Neither => false,
+        }
     }
 
     /// Reads a character: what is pending changes, and the output comes out. After `Memory` the same is
@@ -56,22 +60,51 @@ impl Rules {
     pub fn feed(&self, alloc: Global, pending: &mut Pending, c: u8) -> Result<Out, Memory>
         ensures exact { IfOk result (λ out. Fed self.now pending.old c pending.new out) }
         ensures computed { IfOk result (λ out. fed self.now pending.old c ≡ record { pending = pending.new; out = out }) }
-        ensures waits { OnOk result ((pending.new ≡ []) ⊎ IsBegun self.now pending.new) }
+        ensures waits { OnOk result ((pending.new ≡ []) ⊎ BeginsInput self.now pending.new) }
         ensures err { OnErr result (pending.new ≡ pending.old) }
     {
-        let _ = &self.rules;
-        if pending.is_empty() {
-            return self.feed_alone(alloc, pending, c);
+        match self.go_on(alloc, pending, c)? {
+            Some(out) => Ok(out),
+            None => self.begin_anew(alloc, pending, c),
         }
+    }
+
+    /// Reads a character as `feed` does, where it goes on with what is pending. Where it does not, there is
+    /// no output, and then, as after `Memory`, the same is pending as before. Takes time in the number of
+    /// rules.
+    pub fn go_on(&self, alloc: Global, pending: &mut Pending, c: u8) -> Result<Option<Out>, Memory>
+        ensures exact { IfOk result (λ out. is_some out ≡ goes_on self.now (pending.old ++ c ∷ [])) }
+        ensures computed { IfOk result (λ out. IfSome out (λ o. fed self.now pending.old c ≡ record { pending = pending.new; out = o })) }
+        ensures waits { IfOk result (λ out. IsSome out → (pending.new ≡ []) ⊎ BeginsInput self.now pending.new) }
+        ensures none { IfOk result (λ out. IsNone out → pending.new ≡ pending.old) }
+        ensures err { OnErr result (pending.new ≡ pending.old) }
+    {
         let text = typed(pending, c);
-        if self.is_begun(text.as_slice()) {
-            *pending = Pending::of(text.as_slice());
-            return Ok(Out::nothing(alloc));
+        match self.standing(text.as_slice()) {
+            Standing::Begins => {
+                *pending = Pending::of(text.as_slice());
+                Ok(Some(Out::nothing(alloc)))
+            }
+            Standing::Input(rule) => {
+                let out = rule.out.copy(alloc)?;
+                *pending = Pending::of(rule.next.as_slice());
+                Ok(Some(out))
+            }
+            Standing::Neither => Ok(None),
         }
-        if let Some(rule) = self.rule_of(text.as_slice()) {
-            let out = rule.out.copy(alloc)?;
-            *pending = Pending::of(rule.next.as_slice());
-            return Ok(out);
+    }
+
+    /// Reads a character as `feed` does, where it does not go on with what is pending: that is flushed, and
+    /// the character is read alone. After `Memory` the same is pending as before. Takes time in the number
+    /// of rules.
+    pub fn begin_anew(&self, alloc: Global, pending: &mut Pending, c: u8) -> Result<Out, Memory>
+        requires { goes_on self.now (pending.old ++ c ∷ []) ≡ false }
+        ensures computed { IfOk result (λ out. fed self.now pending.old c ≡ record { pending = pending.new; out = out }) }
+        ensures waits { OnOk result ((pending.new ≡ []) ⊎ BeginsInput self.now pending.new) }
+        ensures err { OnErr result (pending.new ≡ pending.old) }
+    {
+        if pending.is_empty() {
+            return Out::itself(alloc, c);
         }
         let mut out = self.flushed(alloc, pending)?;
         let mut alone = Pending::new();
@@ -97,21 +130,13 @@ impl Rules {
     fn feed_alone(&self, alloc: Global, pending: &mut Pending, c: u8) -> Result<Out, Memory>
         requires { pending.old ≡ [] }
         ensures computed { IfOk result (λ out. fed_alone self.now c ≡ record { pending = pending.new; out = out }) }
-        ensures waits { OnOk result ((pending.new ≡ []) ⊎ IsBegun self.now pending.new) }
+        ensures waits { OnOk result ((pending.new ≡ []) ⊎ BeginsInput self.now pending.new) }
         ensures err { OnErr result (pending.new ≡ pending.old) }
     {
-        let _ = &self.rules;
-        let text = [c];
-        if self.is_begun(&text) {
-            *pending = Pending::of(&text);
-            return Ok(Out::nothing(alloc));
+        match self.go_on(alloc, pending, c)? {
+            Some(out) => Ok(out),
+            None => Out::itself(alloc, c),
         }
-        if let Some(rule) = self.rule_of(&text) {
-            let out = rule.out.copy(alloc)?;
-            *pending = Pending::of(rule.next.as_slice());
-            return Ok(out);
-        }
-        Out::itself(alloc, c)
     }
 
     // The output of what is pending, where that is an input.
@@ -124,19 +149,32 @@ impl Rules {
         }
     }
 
-    // Whether some input begins with the text and goes on.
-    fn is_begun(&self, text: &[u8]) -> bool
-        ensures { result ≡ is_begun self.now text.now }
-    {
-        self.rules.iter().any(|rule| text.len() < rule.input.as_slice().len()
-            && rule.input.as_slice().starts_with(text))
-    }
-
     // The rule whose input is the text.
     fn rule_of(&self, text: &[u8]) -> Option<&Rule>
         ensures { option_copied result ≡ rule_of self.now text.now }
     {
         self.rules.iter().find(|rule| rule.input.as_slice() == text)
+    }
+
+    // What the text is among the inputs. Goes over the rules once.
+    fn standing(&self, text: &[u8]) -> Standing<'_>
+        ensures standing { IsStanding self.now text.now result }
+        ensures fits { is_rule_set self.now ≡ true }
+    {
+        let mut found = None;
+        for rule in &self.rules {
+            let input = rule.input.as_slice();
+            if input.starts_with(text) {
+                if text.len() < input.len() {
+                    return Standing::Begins;
+                }
+                found = found.or(Some(rule));
+            }
+        }
+        match found {
+            Some(rule) => Standing::Input(rule),
+            None => Standing::Neither,
+        }
     }
 }
 

@@ -221,11 +221,11 @@ fn doubled(alloc: Global, letter: u8) -> Result<Rule, Memory>
 }
 
 // The bytes of both slices.
-fn bytes_of(alloc: Global, front: &[u8], back: &[u8]) -> Result<Bytes, Memory>
-    ensures { IfOk result (λ bytes. bytes ≡ front.now ++ back.now) }
+fn bytes_of(alloc: Global, first: &[u8], second: &[u8]) -> Result<Bytes, Memory>
+    ensures { IfOk result (λ bytes. bytes ≡ first.now ++ second.now) }
 {
     let mut bytes = Vec::new(alloc);
-    bytes.extend_from_slice(front)?;
-    bytes.extend_from_slice(back)?;
+    bytes.extend_from_slice(first)?;
+    bytes.extend_from_slice(second)?;
     Ok(Bytes::of(bytes))
 }

@@ -1,5 +1,5 @@
 use crate::{Out, Pending, Rules};
-use skk_text::Memory;
+use skk_text::{Memory, Text};
 use std::alloc::Global;
 use std::test::Fail;
 
@@ -82,48 +82,47 @@ fn reads_the_standard_table(rt: HostRuntime) -> Result<(), Fail> {
 }
 
 #[test]
-fn reads_words(rt: HostRuntime) -> Result<(), Fail> {
-    let alloc = rt.alloc();
-    let rules = Rules::standard(alloc)?;
-    for (letters, hira, kata, pending) in [
-        ("kitte", "きって", "キッテ", ""),
-        ("nya", "にゃ", "ニャ", ""),
-        ("ky", "", "", "ky"),
-        ("kq", "q", "q", ""),
-        ("nk", "ん", "ン", "k"),
+fn letters_go_on_or_begin_anew(rt: HostRuntime) -> Result<(), Fail> {
+    let rules = Rules::standard(rt.alloc())?;
+    for (letters, c, hira, kata, left) in [
+        ("n", b'y', "", "", "ny"),
+        ("ny", b'a', "にゃ", "ニャ", ""),
+        ("n", b'k', "ん", "ン", "k"),
+        ("k", b'q', "q", "q", ""),
+        ("", b'q', "q", "q", ""),
     ] {
-        let (out, left) = typed(alloc, &rules, letters)?;
-        assert_eq!(rt; out.hira.as_str(), hira, "typed {letters}");
-        assert_eq!(rt; out.kata.as_str(), kata, "typed {letters}");
-        assert_eq!(rt; left.as_str(), pending, "left by {letters}");
-        assert_eq!(rt; left.is_empty(), pending.is_empty(), "left by {letters}");
-    }
-    let z = Pending::of(b"z");
-    assert!(rt; rules.goes_on(&z, b'l'));
-    assert!(rt; !rules.goes_on(&Pending::new(), b'q'));
-    Ok(())
-}
-
-#[test]
-fn gives_out_what_is_pending(rt: HostRuntime) -> Result<(), Fail> {
-    let alloc = rt.alloc();
-    let rules = Rules::standard(alloc)?;
-    for (letters, hira, kata) in [("", "", ""), ("n", "ん", "ン"), ("ky", "", "")] {
         let mut pending = Pending::of(letters.as_bytes());
-        let out = rules.flush(alloc, &mut pending)?;
-        assert_eq!(rt; out.hira.as_str(), hira, "pending {letters}");
-        assert_eq!(rt; out.kata.as_str(), kata, "pending {letters}");
-        assert_eq!(rt; pending.as_str(), "", "pending {letters}");
+        let out = match rules.go_on(rt.alloc(), &mut pending, c)? {
+            Some(out) => out,
+            None => rules.begin_anew(rt.alloc(), &mut pending, c)?,
+        };
+        assert_eq!(rt; out.hira.as_str(), hira, "after {letters}");
+        assert_eq!(rt; out.kata.as_str(), kata, "after {letters}");
+        assert_eq!(rt; pending.as_str(), left, "after {letters}");
     }
     Ok(())
 }
 
 #[test]
-fn pending_letters_are_deleted_from_the_end(rt: HostRuntime) -> Result<(), Fail> {
-    let mut pending = Pending::of(b"ky");
-    for left in ["k", "", ""] {
-        pending.delete_last();
-        assert_eq!(rt; pending.as_str(), left);
-    }
+fn what_is_pending_comes_out(rt: HostRuntime) -> Result<(), Fail> {
+    let rules = Rules::standard(rt.alloc())?;
+    let mut pending = Pending::of(b"ny");
+    assert!(rt; !rules.goes_on(&pending, b'q'));
+    pending.delete_last();
+    let out = rules.flush(rt.alloc(), &mut pending)?;
+    assert_eq!(rt; out.hira.as_str(), "ん");
+    assert!(rt; pending.is_empty());
+    Ok(())
+}
+
+#[test]
+fn outputs_are_made_and_appended(rt: HostRuntime) -> Result<(), Fail> {
+    let mut hira = Text::new(rt.alloc());
+    hira.push('な')?;
+    let mut out = Out::of_hiragana(rt.alloc(), hira)?;
+    out.append(&Out::itself(rt.alloc(), b'q')?)?;
+    let copy = out.copy(rt.alloc())?;
+    assert_eq!(rt; copy.hira.as_str(), "なq");
+    assert_eq!(rt; copy.kata.as_str(), "ナq");
     Ok(())
 }

@@ -1,9 +1,11 @@
-use Rattle.std.proofs.Common.{rules, ◌∷◌, [], ◌++◌}
-use Rattle.romaji_rules.proofs.Begun.{goes_on-exact}
+use Rattle.std.proofs.Common.{◌∙◌, ◌∷◌, [], ◌++◌, false, rules}
+use Rattle.romaji_rules.proofs.Begins.{goes_on-exact, standing-goes_on}
 use Rattle.romaji_rules.proofs.rules.Rules.goes_on.Goals as goal
 
-pub returns-then-is_begun-clause-exact : goal.returns-then-is_begun-clause-exact
-returns-then-is_begun-clause-exact c = goes_on-exact c.args.self.now (c.args.pending.now ++ c.args.c ∷ []) c.is_begun.result (search rules)
+pub returns-in-Begins : goal.returns-in-Begins
+returns-in-Begins c =
+    let goes = standing-goes_on c.args.self.now c.as_slice.result.now (c.args.pending.now ++ c.args.c ∷ []) c.standing.result c.standing.ensures.standing c.in-Begins.is (c.as_slice.ensures.value ∙ c.typed.ensures) in
+    record { exact = goes.0; computed = goes.1 }
 
-pub returns-else-is_begun-clause-exact : goal.returns-else-is_begun-clause-exact
-returns-else-is_begun-clause-exact c = goes_on-exact c.args.self.now (c.args.pending.now ++ c.args.c ∷ []) c.is_some.result (search rules)
+pub returns-in-Neither-clause-exact : goal.returns-in-Neither-clause-exact
+returns-in-Neither-clause-exact c = goes_on-exact c.args.self.now (c.args.pending.now ++ c.args.c ∷ []) false (search rules)
