@@ -9,14 +9,14 @@ use Rattle.std.proofs.KnownBytes.{Appends-trans, Appends-kept, Consumes-trans}
 use Rattle.skk_outside.specs.Written.{AppendsPrefix}
 use Rattle.skk_outside.specs.Taken.{TakesAtMost}
 
--- a front of the bytes was written, and then a front of the others
+-- a prefix of the bytes was written, and then a prefix of the others
 pub Appends-more : (a b c : Option (List ℕ)) (n m : ℕ) (bytes : List ℕ) → Appends a b (take n bytes)
     → Appends b c (take m (take (length bytes - n) (drop n bytes))) → Appends a c (take (n + m) bytes)
 Appends-more a b c n m bytes p q =
     subst (Appends a c) (ap (λ rest. take n bytes ++ take m rest) (take_rest bytes n) ∙ sym (take-add n m bytes))
     (Appends-trans a b c (take n bytes) (take m (take (length bytes - n) (drop n bytes))) p q)
 
--- a front of the bytes was written, and then none
+-- a prefix of the bytes was written, and then none
 pub AppendsPrefix-kept : (a b c : Option (List ℕ)) (n : ℕ) (bytes : List ℕ) → Appends a b (take n bytes) → Keeps b c → AppendsPrefix a c bytes
 AppendsPrefix-kept a b c n bytes p q =
     (take n bytes, (drop n bytes, sym (take-append-drop n bytes)), Appends-kept a b c (take n bytes) p q)

@@ -3,35 +3,35 @@ use Rattle.std.specs.Prelude.{ℕ, List, [], ◌∷◌, drop, Contains}
 use Rattle.std.specs.List.{flat_map}
 use Rattle.skk_outside.specs.Faults.{one_more}
 
--- the calls of a memory form that can fail: which of them are to fail, how many there were, how many failed
+-- the calls of a memory form that can fail: which of them are to fail, how many there were, and how many failed
 pub record CallCount : Type 0 where
   pub fails : List ℕ
   pub calls : ℕ
   pub faults : ℕ
 
--- what a source in memory has left, piece by piece
+-- what a source in memory has left, piece by piece, and its calls so far
 pub record SourceState : Type 0 where
   pub pieces : List (List ℕ)
   pub count : CallCount
 
--- what a sink in memory was written
+-- what a sink in memory was written, and its calls so far
 pub record SinkState : Type 0 where
   pub written : List ℕ
   pub count : CallCount
 
--- no call yet
-abbrev pub no_calls : List ℕ → CallCount
-no_calls fails = record { fails = fails; calls = 0; faults = 0 }
+-- the count of calls where there was none yet, of which these are to fail
+abbrev pub no_call_yet : List ℕ → CallCount
+no_call_yet fails = record { fails = fails; calls = 0; faults = 0 }
 
--- after one more call, which went well
+-- the count of calls after one more, which went well
 abbrev pub after_success : CallCount → CallCount
 after_success count = record { fails = count.fails; calls = one_more count.calls; faults = count.faults }
 
--- with one more fault
+-- the count of calls with one more fault
 abbrev pub with_fault : CallCount → CallCount
 with_fault count = record { fails = count.fails; calls = count.calls; faults = one_more count.faults }
 
--- after one more call, which failed
+-- the count of calls after one more, which failed
 abbrev pub after_failure : CallCount → CallCount
 after_failure count = with_fault (after_success count)
 
@@ -40,16 +40,16 @@ abbrev pub FailsNext : CallCount → Type 0
 FailsNext count = Contains count.fails (one_more count.calls)
 
 -- the bytes of the pieces, one piece after another
-abbrev pub joined : List (List ℕ) → List ℕ
-joined pieces = flat_map (λ piece. piece) pieces
+abbrev pub bytes_of_pieces : List (List ℕ) → List ℕ
+bytes_of_pieces pieces = flat_map (λ piece. piece) pieces
 
--- the first piece that has any byte, or none
-abbrev pub first_bytes : List (List ℕ) → List ℕ
-first_bytes [] = []
-first_bytes ([] ∷ pieces) = first_bytes pieces
-first_bytes ((byte ∷ bytes) ∷ pieces) = byte ∷ bytes
+-- the first piece that has any byte, or no bytes where none has
+abbrev pub first_nonempty_piece : List (List ℕ) → List ℕ
+first_nonempty_piece [] = []
+first_nonempty_piece ([] ∷ pieces) = first_nonempty_piece pieces
+first_nonempty_piece ((byte ∷ bytes) ∷ pieces) = byte ∷ bytes
 
--- the pieces without the first bytes of the first one
-abbrev pub without_front : ℕ → List (List ℕ) → List (List ℕ)
-without_front taken [] = []
-without_front taken (piece ∷ pieces) = drop taken piece ∷ pieces
+-- the pieces without so many bytes at the head of the first one
+abbrev pub without_first_bytes : ℕ → List (List ℕ) → List (List ℕ)
+without_first_bytes taken [] = []
+without_first_bytes taken (piece ∷ pieces) = drop taken piece ∷ pieces

@@ -1,6 +1,7 @@
 ghost use Rattle.std.specs.Prelude.{◌≡◌, ◌↔◌, ◌≤◌, OnOk, OnErr, IsErr};
-ghost use Rattle.skk_outside.specs.Memory.{no_calls, after_success, after_failure, with_fault, FailsNext};
+ghost use Rattle.skk_outside.specs.Memory.{no_call_yet, after_success, after_failure, with_fault, FailsNext};
 
+use crate::count::Count;
 use crate::outside::Failed;
 use std::marker::Model;
 
@@ -9,8 +10,8 @@ use std::marker::Model;
 #[derive(Debug, Drop)]
 pub struct Calls {
     fails: Vec<u64>,
-    calls: u64,
-    faults: u64,
+    calls: Count,
+    faults: Count,
 }
 
 impl Model for Calls {
@@ -24,12 +25,12 @@ impl Model for Calls {
 impl Calls {
     /// No call yet. Takes no memory.
     pub fn new(fails: Vec<u64>) -> Calls
-        ensures { result ≡ no_calls fails.items }
+        ensures { result ≡ no_call_yet fails.items }
     {
         Calls {
             fails,
-            calls: 0,
-            faults: 0,
+            calls: Count::new(),
+            faults: Count::new(),
         }
     }
 
@@ -40,10 +41,9 @@ impl Calls {
         ensures err { OnErr result (self.new ≡ after_failure self.old) }
         ensures counted { self.old.faults ≤ self.new.faults }
     {
-        self.calls = self.calls.saturating_add(1);
-        if self.fails.contains(&self.calls) {
-            self.faults = self.faults.saturating_add(1);
-            return Err(Failed);
+        self.calls.add_one();
+        if self.fails.contains(&self.calls.value()) {
+            return Err(self.faults.fail());
         }
         Ok(())
     }
@@ -53,7 +53,6 @@ impl Calls {
         ensures fault { self.new ≡ with_fault self.old }
         ensures counted { self.old.faults ≤ self.new.faults }
     {
-        self.faults = self.faults.saturating_add(1);
-        Failed
+        self.faults.fail()
     }
 }

@@ -3,11 +3,12 @@
 //!
 //! It stands on `skk_text`. A source and a sink have two meanings each, the bytes that are left or
 //! were written, where they tell them, and a count of faults. A call answers `Failed` only where
-//! that count rose, and has then moved no byte. `read_to_end` and `write_all` are loops over them
+//! that count rose, and has then moved no byte; the adapters raise it by one then, and leave it else. `read_to_end` and `write_all` are loops over them
 //! that lose nothing.
 #![tactic(auto)]
 
 mod calls;
+mod count;
 mod mem_sink;
 mod mem_source;
 mod outside;

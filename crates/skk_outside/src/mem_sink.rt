@@ -2,7 +2,7 @@ ghost use Rattle.std.specs.Prelude.{◌≡◌, ◌↔◌, ◌<◌, ◌≤◌, []
 ghost use Rattle.std.specs.Io.{WritesAtMost};
 ghost use Rattle.std.specs.Io.KnownBytes.{Keeps, WriteAppends};
 ghost use Rattle.skk_outside.specs.Faults.{Rose};
-ghost use Rattle.skk_outside.specs.Memory.{no_calls, after_success, after_failure, FailsNext};
+ghost use Rattle.skk_outside.specs.Memory.{no_call_yet, after_success, after_failure, FailsNext};
 
 use crate::calls::Calls;
 use crate::outside::{Failed, Outside};
@@ -30,7 +30,7 @@ impl MemSink {
     /// its writes and flushes. Takes no memory.
     pub fn new(alloc: Global, fails: Vec<u64>) -> MemSink
         ensures written { result.written ≡ [] }
-        ensures count { result.count ≡ no_calls fails.items }
+        ensures count { result.count ≡ no_call_yet fails.items }
     {
         MemSink {
             written: Vec::new(alloc),
@@ -53,10 +53,10 @@ impl Outside for MemSink {
 impl Sink for MemSink {
     ghost written = { λ s. Some s.written };
 
-    /// Writes all of `from`. Fails also where memory for it is wanting.
+    /// Writes all of `from`. Fails also where it is out of memory.
     fn write(&mut self, from: &[u8]) -> Result<usize, Failed>
         ensures bound { WritesAtMost result from.now }
-        ensures some { 0 < length from.now → IfOk result (λ n. 1 ≤ n) }
+        ensures progress { 0 < length from.now → IfOk result (λ n. 1 ≤ n) }
         ensures bytes { WriteAppends (Some self.old.written) (Some self.new.written) result from.now }
         ensures failed { OnErr result (Rose self.old.count.faults self.new.count.faults) }
         ensures counted { self.old.count.faults ≤ self.new.count.faults }

@@ -2,7 +2,7 @@ ghost use Rattle.std.specs.Prelude.{◌≡◌, ◌↔◌, ◌<◌, ◌≤◌, �
 ghost use Rattle.std.specs.Io.{ReadsAtMost};
 ghost use Rattle.std.specs.Io.KnownBytes.{ReadConsumes};
 ghost use Rattle.skk_outside.specs.Faults.{Rose};
-ghost use Rattle.skk_outside.specs.Memory.{no_calls, after_success, after_failure, FailsNext, joined, first_bytes};
+ghost use Rattle.skk_outside.specs.Memory.{no_call_yet, after_success, after_failure, FailsNext, bytes_of_pieces, first_nonempty_piece};
 ghost use Rattle.skk_outside.specs.Pieces.{pieces_left};
 
 use crate::calls::Calls;
@@ -37,7 +37,7 @@ impl MemSource {
     /// A source of these pieces, whose reads with these numbers fail: they count from 1. Takes no memory.
     pub fn new(pieces: Vec<Bytes>, fails: Vec<u64>) -> MemSource
         ensures pieces { result.pieces ≡ pieces.items }
-        ensures count { result.count ≡ no_calls fails.items }
+        ensures count { result.count ≡ no_call_yet fails.items }
     {
         MemSource {
             pieces,
@@ -53,27 +53,27 @@ impl Outside for MemSource {
 }
 
 impl Source for MemSource {
-    ghost left = { λ s. Some (joined s.pieces) };
+    ghost left = { λ s. Some (bytes_of_pieces s.pieces) };
 
     fn read(&mut self, into: &mut [u8]) -> Result<usize, Failed>
         ensures bound { ReadsAtMost result into.new }
-        ensures bytes { ReadConsumes (Some (joined self.old.pieces)) (Some (joined self.new.pieces)) result into.new }
+        ensures bytes { ReadConsumes (Some (bytes_of_pieces self.old.pieces)) (Some (bytes_of_pieces self.new.pieces)) result into.new }
         ensures failed { OnErr result (Rose self.old.count.faults self.new.count.faults) }
         ensures counted { self.old.count.faults ≤ self.new.count.faults }
 
         // As many bytes as there is room for, of the first piece that has any.
-        ensures piece { IfOk result (λ n. n ≡ min (length into.old) (length (first_bytes self.old.pieces))) }
+        ensures piece { IfOk result (λ n. n ≡ min (length into.old) (length (first_nonempty_piece self.old.pieces))) }
         ensures fails { IsErr result ↔ FailsNext self.old.count }
         ensures ok { OnOk result (self.new.count ≡ after_success self.old.count) }
         ensures err { OnErr result (self.new.count ≡ after_failure self.old.count) }
     {
         self.calls.next()?;
         let pieces = self.pieces.as_slice();
-        (self.place, self.taken) = next_byte(pieces, self.place, self.taken);
+        (self.place, self.taken) = place_of_next_byte(pieces, self.place, self.taken);
         if self.place == pieces.len() {
             return Ok(0);
         }
-        let n = copy_front(rest_at(pieces, self.place, self.taken), into);
+        let n = copy_what_fits(rest_of_piece(pieces, self.place, self.taken), into);
         self.taken += n;
         Ok(n)
     }
@@ -81,13 +81,13 @@ impl Source for MemSource {
 
 // The place of the first piece with a byte left, and how many of its bytes were taken: behind the
 // pieces, if none has any.
-fn next_byte(pieces: &[Bytes], place: usize, taken: usize) -> (usize, usize)
+fn place_of_next_byte(pieces: &[Bytes], place: usize, taken: usize) -> (usize, usize)
     requires { taken ≤ length (slice_index_or pieces.now place []) }
     ensures within { result.0 ≤ length pieces.now }
-    ensures some { result.0 < length pieces.now → result.1 < length (slice_index_or pieces.now result.0 []) }
-    ensures none { result.0 ≡ length pieces.now → result.1 ≡ 0 }
-    ensures bytes { joined (pieces_left result.0 result.1 pieces.now) ≡ joined (pieces_left place taken pieces.now) }
-    ensures first { first_bytes (pieces_left result.0 result.1 pieces.now) ≡ first_bytes (pieces_left place taken pieces.now) }
+    ensures byte_left { result.0 < length pieces.now → result.1 < length (slice_index_or pieces.now result.0 []) }
+    ensures at_end { result.0 ≡ length pieces.now → result.1 ≡ 0 }
+    ensures bytes { bytes_of_pieces (pieces_left result.0 result.1 pieces.now) ≡ bytes_of_pieces (pieces_left place taken pieces.now) }
+    ensures first { first_nonempty_piece (pieces_left result.0 result.1 pieces.now) ≡ first_nonempty_piece (pieces_left place taken pieces.now) }
 {
     let mut taken = taken;
     for at in place..pieces.len() {
@@ -100,9 +100,9 @@ fn next_byte(pieces: &[Bytes], place: usize, taken: usize) -> (usize, usize)
 }
 
 // What is left of the piece at a place, of which so many bytes were taken.
-fn rest_at(pieces: &[Bytes], place: usize, taken: usize) -> &[u8]
+fn rest_of_piece(pieces: &[Bytes], place: usize, taken: usize) -> &[u8]
     requires within { place < length pieces.now }
-    requires some { taken ≤ length (slice_index_or pieces.now place []) }
+    requires taken { taken ≤ length (slice_index_or pieces.now place []) }
     ensures rest { result.now ≡ drop taken (slice_index_or pieces.now place []) }
     ensures fits { taken + length result.now < 2 ^ 64 }
 {
@@ -110,7 +110,7 @@ fn rest_at(pieces: &[Bytes], place: usize, taken: usize) -> &[u8]
 }
 
 // Copies as many bytes as there is room for, and answers how many.
-fn copy_front(from: &[u8], into: &mut [u8]) -> usize
+fn copy_what_fits(from: &[u8], into: &mut [u8]) -> usize
     ensures count { result ≡ min (length into.old) (length from.now) }
     ensures room { length into.new ≡ length into.old }
     ensures bytes { take result into.new ≡ take result from.now }

@@ -1,5 +1,9 @@
-ghost use Rattle.std.specs.Prelude.{◌≡◌};
+ghost use Rattle.std.specs.Prelude.{◌≡◌, ◌≤◌, OnOk, OnErr};
+ghost use Rattle.std.specs.Io.{ReadsAtMost};
+ghost use Rattle.std.specs.Io.KnownBytes.{ReadConsumes};
+ghost use Rattle.skk_outside.specs.Faults.{Rose, one_more};
 
+use crate::count::Count;
 use crate::outside::{Failed, Outside};
 use crate::source::Source;
 use std::io::Read;
@@ -8,7 +12,7 @@ use std::io::Read;
 #[derive(Drop)]
 pub struct ReaderSource<R> {
     reader: R,
-    faults: u64,
+    faults: Count,
 }
 
 impl<R: Read> ReaderSource<R> {
@@ -17,7 +21,10 @@ impl<R: Read> ReaderSource<R> {
         ensures left { ⟦<ReaderSource<R> as Source>⟧.left result ≡ R.remaining reader }
         ensures faults { ⟦<ReaderSource<R> as Outside>⟧.faults result ≡ 0 }
     {
-        ReaderSource { reader, faults: 0 }
+        ReaderSource {
+            reader,
+            faults: Count::new(),
+        }
     }
 }
 
@@ -28,13 +35,18 @@ impl<R: Read> Outside for ReaderSource<R> {
 impl<R: Read> Source for ReaderSource<R> {
     ghost left = { λ s. R.remaining s.reader };
 
-    fn read(&mut self, into: &mut [u8]) -> Result<usize, Failed> {
+    /// A read that goes well leaves the count of faults, and one that fails raises it by one.
+    fn read(&mut self, into: &mut [u8]) -> Result<usize, Failed>
+        ensures bound { ReadsAtMost result into.new }
+        ensures bytes { ReadConsumes (⟦<ReaderSource<R> as Source>⟧.left self.old) (⟦<ReaderSource<R> as Source>⟧.left self.new) result into.new }
+        ensures failed { OnErr result (Rose (⟦<ReaderSource<R> as Outside>⟧.faults self.old) (⟦<ReaderSource<R> as Outside>⟧.faults self.new)) }
+        ensures counted { ⟦<ReaderSource<R> as Outside>⟧.faults self.old ≤ ⟦<ReaderSource<R> as Outside>⟧.faults self.new }
+        ensures no_fault { OnOk result (⟦<ReaderSource<R> as Outside>⟧.faults self.new ≡ ⟦<ReaderSource<R> as Outside>⟧.faults self.old) }
+        ensures one_fault { OnErr result (⟦<ReaderSource<R> as Outside>⟧.faults self.new ≡ one_more (⟦<ReaderSource<R> as Outside>⟧.faults self.old)) }
+    {
         match self.reader.read(into) {
             Ok(n) => Ok(n),
-            Err(_) => {
-                self.faults = self.faults.saturating_add(1);
-                Err(Failed)
-            }
+            Err(_) => Err(self.faults.fail()),
         }
     }
 }

@@ -11,11 +11,11 @@ pub trait Sink: Outside {
     /// The bytes that were written, where the sink tells them.
     ghost written: { Self → Option (List ℕ) };
 
-    /// Writes a front of `from`, and answers how many bytes: at least 1 where there is any. A write
+    /// Writes a prefix of `from`, and answers how many bytes: at least 1 where there is any. A write
     /// that fails writes none.
     fn write(&mut self, from: &[u8]) -> Result<usize, Failed>
         ensures bound { WritesAtMost result from.now }
-        ensures some { 0 < length from.now → IfOk result (λ n. 1 ≤ n) }
+        ensures progress { 0 < length from.now → IfOk result (λ n. 1 ≤ n) }
         ensures bytes { WriteAppends (written self.old) (written self.new) result from.now }
         ensures failed { OnErr result (Rose (Self.faults self.old) (Self.faults self.new)) }
         ensures counted { Self.faults self.old ≤ Self.faults self.new };
@@ -27,8 +27,8 @@ pub trait Sink: Outside {
         ensures counted { Self.faults self.old ≤ Self.faults self.new };
 }
 
-/// Writes all the bytes, in as many writes as the sink takes. Where one fails, a front of the bytes
-/// is written.
+/// Writes all the bytes, in as many writes as the sink takes. Where one fails, a prefix of the
+/// bytes is written.
 pub fn write_all<S: Sink>(sink: &mut S, bytes: &[u8]) -> Result<(), Failed>
     ensures ok { OnOk result (Appends (S.written sink.old) (S.written sink.new) bytes.now) }
     ensures err { OnErr result (AppendsPrefix (S.written sink.old) (S.written sink.new) bytes.now) }

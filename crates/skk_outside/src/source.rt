@@ -14,7 +14,7 @@ pub trait Source: Outside {
     /// The bytes that are still to come, where the source tells them.
     ghost left: { Self → Option (List ℕ) };
 
-    /// Reads the next bytes into the front of `into`, and answers how many: 0 only at the end of the
+    /// Reads the next bytes into the head of `into`, and answers how many: 0 only at the end of the
     /// input, or where `into` has no room. A read that fails takes none, and may be tried again.
     fn read(&mut self, into: &mut [u8]) -> Result<usize, Failed>
         ensures bound { ReadsAtMost result into.new }
@@ -35,7 +35,7 @@ pub enum ReadFault {
     /// A read failed.
     #[error("the source failed")]
     Failed,
-    /// Want of memory.
+    /// Out of memory.
     #[error("out of memory")]
     Memory,
 }

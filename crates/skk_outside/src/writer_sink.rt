@@ -1,6 +1,9 @@
-ghost use Rattle.std.specs.Prelude.{◌≡◌, ◌+◌};
-ghost use Rattle.skk_outside.specs.Faults.{one_more};
+ghost use Rattle.std.specs.Prelude.{◌≡◌, ◌≤◌, ◌<◌, length, IfOk, OnOk, OnErr};
+ghost use Rattle.std.specs.Io.{WritesAtMost};
+ghost use Rattle.std.specs.Io.KnownBytes.{Keeps, WriteAppends};
+ghost use Rattle.skk_outside.specs.Faults.{Rose, one_more};
 
+use crate::count::Count;
 use crate::outside::{Failed, Outside};
 use crate::sink::Sink;
 use std::io::Write;
@@ -9,7 +12,7 @@ use std::io::Write;
 #[derive(Drop)]
 pub struct WriterSink<W> {
     writer: W,
-    faults: u64,
+    faults: Count,
 }
 
 impl<W: Write> WriterSink<W> {
@@ -18,7 +21,10 @@ impl<W: Write> WriterSink<W> {
         ensures written { ⟦<WriterSink<W> as Sink>⟧.written result ≡ W.contents writer }
         ensures faults { ⟦<WriterSink<W> as Outside>⟧.faults result ≡ 0 }
     {
-        WriterSink { writer, faults: 0 }
+        WriterSink {
+            writer,
+            faults: Count::new(),
+        }
     }
 }
 
@@ -29,24 +35,34 @@ impl<W: Write> Outside for WriterSink<W> {
 impl<W: Write> Sink for WriterSink<W> {
     ghost written = { λ s. W.contents s.writer };
 
-    /// A write of 0 bytes of some is a fault.
-    fn write(&mut self, from: &[u8]) -> Result<usize, Failed> {
+    /// A write of 0 bytes of some is a fault. A write that goes well leaves the count of faults, and one
+    /// that fails raises it by one.
+    fn write(&mut self, from: &[u8]) -> Result<usize, Failed>
+        ensures bound { WritesAtMost result from.now }
+        ensures progress { 0 < length from.now → IfOk result (λ n. 1 ≤ n) }
+        ensures bytes { WriteAppends (⟦<WriterSink<W> as Sink>⟧.written self.old) (⟦<WriterSink<W> as Sink>⟧.written self.new) result from.now }
+        ensures failed { OnErr result (Rose (⟦<WriterSink<W> as Outside>⟧.faults self.old) (⟦<WriterSink<W> as Outside>⟧.faults self.new)) }
+        ensures counted { ⟦<WriterSink<W> as Outside>⟧.faults self.old ≤ ⟦<WriterSink<W> as Outside>⟧.faults self.new }
+        ensures no_fault { OnOk result (⟦<WriterSink<W> as Outside>⟧.faults self.new ≡ ⟦<WriterSink<W> as Outside>⟧.faults self.old) }
+        ensures one_fault { OnErr result (⟦<WriterSink<W> as Outside>⟧.faults self.new ≡ one_more (⟦<WriterSink<W> as Outside>⟧.faults self.old)) }
+    {
         match self.writer.write(from) {
             Ok(n) if n > 0 || from.is_empty() => Ok(n),
-            _ => {
-                self.faults = self.faults.saturating_add(1);
-                Err(Failed)
-            }
+            _ => Err(self.faults.fail()),
         }
     }
 
-    fn flush(&mut self) -> Result<(), Failed> {
+    /// A flush that goes well leaves the count of faults, and one that fails raises it by one.
+    fn flush(&mut self) -> Result<(), Failed>
+        ensures bytes { Keeps (⟦<WriterSink<W> as Sink>⟧.written self.old) (⟦<WriterSink<W> as Sink>⟧.written self.new) }
+        ensures failed { OnErr result (Rose (⟦<WriterSink<W> as Outside>⟧.faults self.old) (⟦<WriterSink<W> as Outside>⟧.faults self.new)) }
+        ensures counted { ⟦<WriterSink<W> as Outside>⟧.faults self.old ≤ ⟦<WriterSink<W> as Outside>⟧.faults self.new }
+        ensures no_fault { OnOk result (⟦<WriterSink<W> as Outside>⟧.faults self.new ≡ ⟦<WriterSink<W> as Outside>⟧.faults self.old) }
+        ensures one_fault { OnErr result (⟦<WriterSink<W> as Outside>⟧.faults self.new ≡ one_more (⟦<WriterSink<W> as Outside>⟧.faults self.old)) }
+    {
         match self.writer.flush() {
             Ok(()) => Ok(()),
-            Err(_) => {
-                self.faults = self.faults.saturating_add(1);
-                Err(Failed)
-            }
+            Err(_) => Err(self.faults.fail()),
         }
     }
 }

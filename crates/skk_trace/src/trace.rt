@@ -26,8 +26,9 @@ impl<E> Model for Trace<E> {
 }
 
 impl<E> Trace<E> {
-    /// A trace that begins with what `first` shows. `AllocError` is want of memory, and nothing is
-    /// left of the trace then. Takes two blocks of memory, of one word and of none, and constant time.
+    /// A trace that begins with what `first` shows. `AllocError` says that it is out of memory, and
+    /// nothing is left of the trace then. Takes two blocks of memory, of one word and of none, and
+    /// constant time.
     pub fn new<X: Shows<E>>(alloc: Global, first: &X) -> Result<Trace<E>, AllocError>
         ensures { IfOk result (λ trace. trace ≡ X.shows first.now ∷ []) }
     {

@@ -2,7 +2,7 @@ use Rattle.std.proofs.Common.{◌≤◌, length, take}
 use Rattle.std.specs.Io.KnownBytes.{Appends}
 use Rattle.skk_outside.proofs.sink.write_all.Given as goal
 
--- a front of the bytes is written, at least a byte in each round
+-- a prefix of the bytes is written, at least a byte in each round
 abbrev pub invariant-loop : goal.invariant-loop
 invariant-loop g l = record {
   within : l.done ≤ length l.bytes;

@@ -1,0 +1,50 @@
+ghost use Rattle.std.specs.Prelude.{◌≡◌, ◌≤◌};
+ghost use Rattle.skk_outside.specs.Faults.{one_more};
+
+use crate::outside::Failed;
+use std::marker::Model;
+
+// A count that stands still at 2^64 - 1: contracts see the number.
+#[derive(Debug, Drop)]
+pub(crate) struct Count {
+    count: u64,
+}
+
+impl Model for Count {
+    ghost use Rattle.std.specs.Prelude.{ℕ};
+
+    ghost Value = { ℕ };
+
+    ghost view = { λ c. c.count };
+}
+
+impl Count {
+    // Nothing counted yet. Takes no memory.
+    pub(crate) fn new() -> Count
+        ensures { result ≡ 0 }
+    {
+        Count { count: 0 }
+    }
+
+    pub(crate) fn value(&self) -> u64
+        ensures { result ≡ self.now }
+    {
+        self.count
+    }
+
+    pub(crate) fn add_one(&mut self)
+        ensures one_more { self.new ≡ one_more self.old }
+        ensures counted { self.old ≤ self.new }
+    {
+        self.count = self.count.saturating_add(1);
+    }
+
+    // Counts a call that failed.
+    pub(crate) fn fail(&mut self) -> Failed
+        ensures one_more { self.new ≡ one_more self.old }
+        ensures counted { self.old ≤ self.new }
+    {
+        self.add_one();
+        Failed
+    }
+}
