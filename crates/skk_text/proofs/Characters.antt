@@ -5,7 +5,7 @@ use Rattle.std.specs.Str.{chars, IsUtf8, IsCharBoundary}
 use Rattle.std.specs.Char.{IsScalar}
 use Rattle.std.proofs.Math.Seq.{drop-append_seam, take-append_seam}
 use Rattle.std.proofs.lemmas.List.{nil_from_length, append-nil, take-append-drop, length_push}
-use Rattle.skk_text.specs.Text.{byte_len, without_last}
+use Rattle.skk_text.specs.Text.{without_last}
 use Rattle.std.proofs.lemmas.Str.{chars-append, chars-nil, chars_past_char, encodes-append, encodes-chars, encodes_same, IsCharBoundary-from_take, IsUtf8-encode, IsUtf8-string_bytes}
 
 -- a character alone

@@ -1,11 +1,10 @@
 -- The definitions at small examples, each worked out by hand.
-use Rattle.std.proofs.Common.{◌≡◌, ℕ, ◌+◌, ◌<◌, Bool, true, false, nat_lt, List, [], ◌∷◌, ◌++◌, refl, map, codes, replicate}
+use Rattle.std.proofs.Common.{◌≡◌, true, false, nat_lt, [], ◌∷◌, refl, map, codes}
 use lib.Utf8.{encode}
-use Rattle.skk_text.specs.Kana.{is_hiragana, is_katakana, katakana, hiragana, in_katakana, in_hiragana, wide}
-use Rattle.skk_text.specs.KeyText.{spell, spelled, is_printable, is_keyboard_key, names}
+use Rattle.skk_text.specs.Kana.{is_hiragana, is_katakana, in_katakana, in_hiragana, wide}
+use Rattle.skk_text.specs.KeyText.{spell, spelled, is_keyboard_key, names}
 use Rattle.skk_text.specs.Pairs.{all_pairs}
 use Rattle.skk_text.specs.Text.{byte_len, last_chars, without_last}
-use Rattle.skk_text.specs.declared.key.Key.{Key}
 use Rattle.skk_text.specs.declared.key.Key.TheVariants.{Char, Cj, Cg, Bs, Ret, Tab, Undo}
 
 -- the first and the last of each run of kana, and their neighbours
