@@ -1,4 +1,4 @@
-use Rattle.std.proofs.Common.{◌∙◌, ◌∷◌, [], ◌++◌, false, rules}
+use Rattle.std.proofs.Common.{◌∙◌, ◌∷◌, [], ◌++◌, rules}
 use Rattle.romaji_rules.proofs.Begins.{goes_on-exact, standing-goes_on}
 use Rattle.romaji_rules.proofs.rules.Rules.goes_on.Goals as goal
 
@@ -8,4 +8,4 @@ returns-in-Begins c =
     record { exact = goes.0; computed = goes.1 }
 
 pub returns-in-Neither-clause-exact : goal.returns-in-Neither-clause-exact
-returns-in-Neither-clause-exact c = goes_on-exact c.args.self.now (c.args.pending.now ++ c.args.c ∷ []) false (search rules)
+returns-in-Neither-clause-exact c = goes_on-exact c.args.self.now (c.args.pending.now ++ c.args.c ∷ []) _ (search rules)
