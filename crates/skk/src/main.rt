@@ -3,7 +3,7 @@
 
 use skk_outside::{ReaderSource, WriterSink};
 use skk_text::Text;
-use skk_top::run_alone;
+use skk_top::{RunFault, end_run, run_alone};
 use std::io::ErrorKind;
 use std::process::ExitCode;
 use std::{env, io};
@@ -11,7 +11,10 @@ use std::{env, io};
 fn main(rt: HostRuntime) -> ExitCode {
     match words(&rt) {
         Ok(words) => run(&rt, &words),
-        Err(fault) if fault.kind() == ErrorKind::OutOfMemory => ExitCode::from(6),
+        Err(fault) if fault.kind() == ErrorKind::OutOfMemory => {
+            let mut err = WriterSink::new(rt.stderr());
+            ExitCode::from(end_run(Err(RunFault::Memory), &mut err))
+        }
         // A word that is not UTF-8 is in no command, and so is no word at all.
         Err(_) => run(&rt, &[]),
     }

@@ -5,8 +5,8 @@ use Rattle.std.proofs.lemmas.List.{append-nil}
 use Rattle.std.proofs.lemmas.Str.{encodes-append}
 use Rattle.std.specs.Io.KnownBytes.{Appends}
 use Rattle.skk_outside.specs.Written.{AppendsPrefix}
-use Rattle.skk_top.specs.Printed.{Printed}
-use Rattle.skk_top.specs.Status.{ComesOfPress}
+use Rattle.skk_top.specs.Page.{Printed}
+use Rattle.skk_top.specs.Status.{fault_of_press}
 use Rattle.skk_top.specs.declared.fault.RunFault.{RunFault}
 use Rattle.skk_top.specs.declared.fault.RunFault.TheVariants as told
 use Rattle.skk_top.specs.declared.session_machine.PressFault.{PressFault}
@@ -22,6 +22,11 @@ pub each_err : {T E : Type 0} {P Q : Type 0} (r : Result T E) → OnErr r P → 
 each_err (Ok x) p q = search rules
 each_err (Err e) p q = q p
 
+-- what follows of what holds where all went well
+pub each_ok : {T E : Type 0} {P Q : Type 0} (r : Result T E) → OnOk r P → (P → Q) → OnOk r Q
+each_ok (Ok x) p q = q p
+each_ok (Err e) p q = search rules
+
 -- nothing was written
 pub Appends-none : (known : Option (List ℕ)) → Appends known known []
 Appends-none None = search rules
@@ -31,6 +36,11 @@ Appends-none (Some bytes) = sym (append-nil bytes)
 pub Printed-rest : (old new : Option (List ℕ)) (page rest other whole : List ℕ) → rest ≡ other → Printed old new page rest whole → Printed old new page other whole
 Printed-rest old new page rest other whole same printed =
     (printed.0, printed.1, ap (λ r. printed.0 ++ (page ++ r)) (sym same) ∙ printed.2)
+
+-- the page and the rest may be parted otherwise
+pub Printed-parted : (old new : Option (List ℕ)) (page rest longer other whole : List ℕ) → longer ++ other ≡ page ++ rest → Printed old new page rest whole → Printed old new longer other whole
+Printed-parted old new page rest longer other whole same printed =
+    (printed.0, printed.1, ap (λ p. printed.0 ++ p) same ∙ printed.2)
 
 -- the head of the rest goes to the page
 pub Printed-more : (old new : Option (List ℕ)) (page more rest whole longer : List ℕ) → longer ≡ page ++ more → Printed old new page (more ++ rest) whole → Printed old new longer rest whole
@@ -102,7 +112,7 @@ Front-behind old mid new first more written front = (
 )
 
 -- a key that is not built is told as such
-pub press-not_built : {T : Type 0} (r : Result T RunFault) (fault : PressFault) → IsErrAnd r (ComesOfPress fault) → IsErrOf r told.NotBuilt → fault ≡ pressing.NotBuilt
+pub press-not_built : {T : Type 0} (r : Result T RunFault) (fault : PressFault) → IsErrAnd r (λ told. told ≡ fault_of_press fault) → IsErrOf r told.NotBuilt → fault ≡ pressing.NotBuilt
 press-not_built r pressing.NotBuilt comes e = refl
 press-not_built r pressing.Memory comes e = absurd (search (rules, comes, e))
 

@@ -1,75 +1,208 @@
--- What a run printed, by how it ended.
-use Rattle.std.proofs.Common.{◌≡◌, ◌≢◌, ◌≤◌, ◌∙◌, sym, ap, subst, refl, rules, ℕ, Option, Some, None, List, [], length, Result, Ok, Err, IsErr, OnOk, OnErr, IfSome, true, false, MatchBool, arith, inl, inr}
+-- What a run of `type` leaves, of what its parts leave.
+use Rattle.std.proofs.Common.{◌≡◌, ◌≢◌, ◌≤◌, ◌∙◌, sym, ap, subst, refl, rules, ℕ, Option, Some, None, List, [], Ok, Err, OnOk, OnErr, IfErr, IfSome, IsErrOf, true, false, MatchBool, arith, inl, inr}
 use Rattle.std.specs.Io.KnownBytes.{Appends, Keeps}
-use Rattle.std.specs.List.{list_all}
+use Rattle.std.proofs.lemmas.Bool.{cases_Bool}
 use Rattle.skk_outside.specs.Written.{AppendsPrefix}
 use Rattle.romaji_rules.specs.declared.rule.Rule.{Rule}
-use Rattle.skk_top.specs.Run.{IsRefused, PrintsScript}
-use Rattle.skk_top.specs.Script.{Line, Says, cut, is_built_line, script_limit}
-use Rattle.skk_top.specs.Status.{run_status}
-use Rattle.skk_top.specs.Typed.{typed_one, SaysBuilt}
+use Rattle.skk_top.specs.Script.{IsScript, lines_of, are_built, without_skipped}
+use Rattle.skk_top.specs.Status.{Ended, run_status, run_message, status_of, message_of, ComesOfTyping}
+use Rattle.skk_top.specs.TypeCommand.{LeavesTyped, LeavesScript, LeavesLines, IsTooLong, IsBadAt, IsRefused, IsRefusal, PrintsScript}
+use Rattle.skk_top.specs.Typed.{typed, are_taken}
+use Rattle.std.proofs.Common.{encode_utf8_all}
 use Rattle.skk_top.specs.declared.fault.RunFault.{RunFault}
 use Rattle.skk_top.specs.declared.fault.RunFault.TheVariants.{TooLong, BadLine, Outside, Memory, NotBuilt}
-use Rattle.skk_top.proofs.Pages.{Appends-none}
-use Rattle.skk_top.proofs.Scripts.{no_bad_line, one_list_of_lines}
-
--- a run that was not done has no status 0
-pub status-not_done : (r : Result (Unit {0}) RunFault) → IsErr r → run_status r ≢ 0
-status-not_done (Ok done) failed = absurd (search (rules, failed))
-status-not_done (Err TooLong) failed = λ e. omega arith
-status-not_done (Err (BadLine number)) failed = λ e. omega arith
-status-not_done (Err Outside) failed = λ e. omega arith
-status-not_done (Err Memory) failed = λ e. omega arith
-status-not_done (Err NotBuilt) failed = λ e. omega arith
+use Rattle.skk_top.specs.declared.line.Line.{Line}
+use Rattle.skk_top.proofs.Pages.{Appends-none, AppendsPrefix-whole}
+use Rattle.skk_top.proofs.Scripts.{OneListOfKeys, no_bad_line, one_list_of_lines}
+use Rattle.skk_top.proofs.LinesLeft.{typed-said, taken-said, built-said}
 
 -- what is known of bytes that are told
-pub IfSome-same : (known : Option (List ℕ)) (P : List ℕ → Type 0) (bytes : List ℕ) → IfSome known (λ left. bytes ≡ left) → P bytes → IfSome known P
-IfSome-same None P bytes same p = search rules
-IfSome-same (Some left) P bytes same p = subst P same p
-
-pub IfSome-all : (known : Option (List ℕ)) (P : List ℕ → Type 0) → ((bytes : List ℕ) → P bytes) → IfSome known P
+IfSome-all : (known : Option (List ℕ)) (P : List ℕ → Type 0) → ((bytes : List ℕ) → P bytes) → IfSome known P
 IfSome-all None P p = search rules
 IfSome-all (Some left) P p = p left
 
-pub Keeps-self : (known : Option (List ℕ)) → Keeps known known
+each_some : {P Q : List ℕ → Type 0} (known : Option (List ℕ)) → ((bytes : List ℕ) → P bytes → Q bytes) → IfSome known P → IfSome known Q
+each_some None q p = search rules
+each_some (Some bytes) q p = q bytes p
+
+Keeps-self : (known : Option (List ℕ)) → Keeps known known
 Keeps-self None = search rules
 Keeps-self (Some bytes) = refl
 
--- nothing was printed
-pub Prints-nothing : (rules : List Rule) (status : ℕ) (bytes : List ℕ) (known : Option (List ℕ)) → status ≢ 0 → PrintsScript rules status bytes known known
-Prints-nothing rules status bytes known undone lines script =
-    elim (list_all is_built_line lines) as (λ b. MatchBool b (AppendsPrefix known known (typed_one rules lines) × (status ≡ 0 → Appends known known (typed_one rules lines))) (Keeps known known)) [
-      | true ↦ (([], (typed_one rules lines, refl), Appends-none known), λ e. absurd (undone e))
+-- a fault has no status 0
+fault-status : (fault : RunFault) → status_of fault ≢ 0
+fault-status TooLong = λ e. omega arith
+fault-status (BadLine number) = λ e. omega arith
+fault-status Outside = λ e. omega arith
+fault-status Memory = λ e. omega arith
+fault-status NotBuilt = λ e. omega arith
+
+-- how a run ended, by its status
+done-of : {P : Type 0} (ended : Ended) → OnOk ended P → run_status ended ≡ 0 → P
+done-of (Ok done) ok e = ok
+done-of (Err fault) ok e = absurd (fault-status fault e)
+
+outside-of : (ended : Ended) → run_status ended ≡ 4 → IsErrOf ended Outside
+outside-of (Ok done) e = absurd (omega (arith, e))
+outside-of (Err TooLong) e = absurd (omega (arith, e))
+outside-of (Err (BadLine number)) e = absurd (omega (arith, e))
+outside-of (Err Outside) e = refl
+outside-of (Err Memory) e = absurd (omega (arith, e))
+outside-of (Err NotBuilt) e = absurd (omega (arith, e))
+
+not_built-of : (ended : Ended) → run_status ended ≡ 8 → IsErrOf ended NotBuilt
+not_built-of (Ok done) e = absurd (omega (arith, e))
+not_built-of (Err TooLong) e = absurd (omega (arith, e))
+not_built-of (Err (BadLine number)) e = absurd (omega (arith, e))
+not_built-of (Err Outside) e = absurd (omega (arith, e))
+not_built-of (Err Memory) e = absurd (omega (arith, e))
+not_built-of (Err NotBuilt) e = refl
+
+-- a script that was typed is not refused
+typing-status : (ended : Ended) → IfErr ended ComesOfTyping → run_status ended ≢ 2
+typing-status (Ok done) comes = λ e. omega arith
+typing-status (Err TooLong) comes = absurd comes
+typing-status (Err (BadLine number)) comes = absurd comes
+typing-status (Err Outside) comes = λ e. omega arith
+typing-status (Err Memory) comes = λ e. omega arith
+typing-status (Err NotBuilt) comes = λ e. omega arith
+
+-- all or a prefix of it was written
+prefix-of : (ended : Ended) (old new : Option (List ℕ)) (whole : List ℕ) → OnOk ended (Appends old new whole) → OnErr ended (AppendsPrefix old new whole) → AppendsPrefix old new whole
+prefix-of (Ok done) old new whole ok err = AppendsPrefix-whole old new whole ok
+prefix-of (Err fault) old new whole ok err = err
+
+-- a fault with status 2 says why the bytes are no script
+refusal : (fault : RunFault) (known : Option (List ℕ)) → (fault ≡ TooLong → IfSome known IsTooLong) → ((number : ℕ) → fault ≡ BadLine number → IfSome known (λ bytes. IsBadAt bytes number))
+    → status_of fault ≡ 2 → IfSome known (λ bytes. IsRefusal bytes (message_of fault))
+refusal TooLong known long bad two = each_some known (λ bytes is. inl (is, refl)) (long refl)
+refusal (BadLine number) known long bad two = each_some known (λ bytes is. inr (number, is, refl)) (bad number refl)
+refusal Outside known long bad two = absurd (omega (arith, two))
+refusal Memory known long bad two = absurd (omega (arith, two))
+refusal NotBuilt known long bad two = absurd (omega (arith, two))
+
+-- a fault with status 4 or 8 is the one that there is
+outside-fault : (fault : RunFault) → status_of fault ≡ 4 → fault ≡ Outside
+outside-fault fault e = let is : IsErrOf {T = Unit {0}} (Err fault) Outside = outside-of (Err fault) e in cc
+
+not_built-fault : (fault : RunFault) → status_of fault ≡ 8 → fault ≡ NotBuilt
+not_built-fault fault e = let is : IsErrOf {T = Unit {0}} (Err fault) NotBuilt = not_built-of (Err fault) e in cc
+
+-- where no script was read, nothing was printed
+prints-nothing : (rules : List Rule) (status : ℕ) (bytes : List ℕ) (known : Option (List ℕ)) → status ≢ 0 → PrintsScript rules status bytes known known
+prints-nothing rules status bytes known undone lines script =
+    elim (are_built lines) as (λ b. MatchBool b (AppendsPrefix known known (typed rules lines) × (status ≡ 0 → Appends known known (typed rules lines))) (Keeps known known)) [
+      | true ↦ (([], (typed rules lines, refl), Appends-none known), λ e. absurd (undone e))
       | false ↦ Keeps-self known
     ]
 
--- it was typed, whole or not
-pub Prints-typed : (rules : List Rule) (status : ℕ) (bytes : List ℕ) (said : List Line) (old new : Option (List ℕ)) → Says [] (cut bytes) said → true ≡ list_all is_built_line said
-    → ((lines : List Line) → SaysBuilt bytes lines → AppendsPrefix old new (typed_one rules lines)) → ((lines : List Line) → SaysBuilt bytes lines → status ≡ 0 → Appends old new (typed_one rules lines)) → PrintsScript rules status bytes old new
-Prints-typed rules status bytes said old new says built front whole lines script =
-    let same : lines ≡ said = one_list_of_lines [] (cut bytes) lines said script.1 says in
-    let all_built : list_all is_built_line lines ≡ true = ap (list_all is_built_line) same ∙ sym built in
-    subst (λ b. MatchBool b (AppendsPrefix old new (typed_one rules lines) × (status ≡ 0 → Appends old new (typed_one rules lines))) (Keeps old new)) (sym all_built)
-    (front lines (script.1, all_built), whole lines (script.1, all_built))
+pub leaves-refused : (rules : List Rule) (fault : RunFault) (left left' : Option (List ℕ)) (reads reads' : ℕ) (written : Option (List ℕ)) (writes : ℕ)
+    → LeavesScript (Err fault) left left' reads reads' → LeavesTyped rules (status_of fault) (message_of fault) left left' reads reads' written written writes writes
+leaves-refused rules fault left left' reads reads' written writes script = record {
+  ended = λ e. absurd (fault-status fault e);
+  whole = λ e. absurd (fault-status fault e);
+  read = script.read;
+  prints = IfSome-all left _ (λ bytes. prints-nothing rules (status_of fault) bytes written (fault-status fault));
+  nothing = IfSome-all left _ (λ bytes refused. Keeps-self written);
+  nothing_refused = λ e. Keeps-self written;
+  refused = λ e. refusal fault left (λ is. script.too_long (ap Err is)) (λ number is. script.bad_line number (ap Err is)) e;
+  outside = λ e. inl (script.outside (ap Err (outside-fault fault e)));
+  not_built = λ e. absurd (script.built (ap Err (not_built-fault fault e)));
+  reads_counted = script.counted;
+  writes_counted = omega arith;
+}
 
--- a script is not refused
-pub script-not_refused : (bytes : List ℕ) (said : List Line) → length bytes ≤ script_limit → Says [] (cut bytes) said → ¬ IsRefused bytes
-script-not_refused bytes said fits says refused =
-    elim refused [ inl long ↦ omega (arith, fits, long) | inr bad ↦ no_bad_line (cut bytes) said bad.0 says bad.1.1 ]
+-- what is known of all lines that bytes say, where those of some are held
+pub record Agrees (rules : List Rule) (said lines : List Line) : Type 0 where
+  pub built : are_built lines ≡ are_built said
+  pub typed_same : typed rules lines ≡ typed rules said
+  pub taken_same : are_taken rules lines ≡ are_taken rules said
 
--- what was typed by a result is typed by its status
-pub front_of-result : {P : Type 0} (r : Result (Unit {0}) RunFault) → OnOk r P → OnErr r P → P
-front_of-result (Ok done) ok err = ok
-front_of-result (Err fault) ok err = err
+-- the lines that say something agree with all lines
+agrees : (rules : List Rule) (said lines : List Line) → said ≡ without_skipped lines → Agrees rules said lines
+agrees rules said lines same = record {
+  built = sym (built-said lines) ∙ ap are_built (sym same);
+  typed_same = ap encode_utf8_all (sym (typed-said rules [] lines)) ∙ ap (typed rules) (sym same);
+  taken_same = sym (taken-said rules [] lines) ∙ ap (are_taken rules) (sym same);
+}
 
-pub whole_of-result : {P : Type 0} (r : Result (Unit {0}) RunFault) → OnOk r P → run_status r ≡ 0 → P
-whole_of-result (Ok done) ok e = ok
-whole_of-result (Err TooLong) ok e = absurd (omega (arith, e))
-whole_of-result (Err (BadLine number)) ok e = absurd (omega (arith, e))
-whole_of-result (Err Outside) ok e = absurd (omega (arith, e))
-whole_of-result (Err Memory) ok e = absurd (omega (arith, e))
-whole_of-result (Err NotBuilt) ok e = absurd (omega (arith, e))
+-- a script whose lines are held
+abbrev pub Holds : List Line → List ℕ → Type 0
+Holds said bytes = (lines : List Line) × IsScript bytes lines × (said ≡ without_skipped lines)
 
-pub each_ok : {P Q : Type 0} (r : Result (Unit {0}) RunFault) → OnOk r P → (P → Q) → OnOk r Q
-each_ok (Ok done) p q = q p
-each_ok (Err fault) p q = search rules
+all-agree : OneListOfKeys → (rules : List Rule) (said : List Line) (bytes : List ℕ) → Holds said bytes → (lines : List Line) → IsScript bytes lines → Agrees rules said lines
+all-agree unique rules said bytes holds lines script =
+    let same : lines ≡ holds.0 = one_list_of_lines unique [] (lines_of bytes) lines holds.0 script.1 holds.1.1 in
+    subst (Agrees rules said) (sym same) (agrees rules said holds.0 holds.2)
+
+not_refused : OneListOfKeys → (said : List Line) (bytes : List ℕ) → Holds said bytes → ¬ IsRefused bytes
+not_refused unique said bytes holds refused =
+    elim refused [ inl long ↦ omega (arith, holds.1.0, long) | inr bad ↦ no_bad_line unique (lines_of bytes) holds.0 bad.0 holds.1.1 bad.1.1 ]
+
+-- what was printed for a script that is built
+prints-built : OneListOfKeys → (rules : List Rule) (said : List Line) (ended : Ended) (old new : Option (List ℕ)) (writes writes' : ℕ) (bytes : List ℕ) → Holds said bytes → are_built said ≡ true
+    → LeavesLines rules said ended old new writes writes' → PrintsScript rules (run_status ended) bytes old new
+prints-built unique rules said ended old new writes writes' bytes holds built typing lines script =
+    let same = all-agree unique rules said bytes holds lines script in
+    subst (λ b. MatchBool b (AppendsPrefix old new (typed rules lines) × (run_status ended ≡ 0 → Appends old new (typed rules lines))) (Keeps old new)) (sym (same.built ∙ built))
+    (subst (λ (bs : List ℕ). AppendsPrefix old new bs × (run_status ended ≡ 0 → Appends old new bs)) (sym same.typed_same)
+    (prefix-of ended old new (typed rules said) typing.whole typing.prefix, λ e. done-of ended typing.whole e))
+
+-- and for one that is not
+prints-not_built : OneListOfKeys → (rules : List Rule) (said : List Line) (status : ℕ) (old new : Option (List ℕ)) (bytes : List ℕ) → Holds said bytes → are_built said ≡ false → Keeps old new → PrintsScript rules status bytes old new
+prints-not_built unique rules said status old new bytes holds unbuilt keeps lines script =
+    let same = all-agree unique rules said bytes holds lines script in
+    subst (λ b. MatchBool b (AppendsPrefix old new (typed rules lines) × (status ≡ 0 → Appends old new (typed rules lines))) (Keeps old new)) (sym (same.built ∙ unbuilt)) keeps
+
+leaves-built : OneListOfKeys → (rules : List Rule) (said : List Line) (ended : Ended) (left left' : Option (List ℕ)) (reads reads' : ℕ) (old new : Option (List ℕ)) (writes writes' : ℕ)
+    → LeavesScript (Ok said) left left' reads reads' → are_built said ≡ true → LeavesLines rules said ended old new writes writes'
+    → LeavesTyped rules (run_status ended) (run_message ended) left left' reads reads' old new writes writes'
+leaves-built unique rules said ended left left' reads reads' old new writes writes' script built typing = record {
+  ended = λ e. script.ended;
+  whole = λ e. each_some left (λ bytes holds.
+      let same = all-agree unique rules said bytes holds holds.0 holds.1 in
+      (holds.0, holds.1, same.built ∙ built, same.taken_same ∙ done-of ended typing.taken e)) script.whole;
+  read = script.read;
+  prints = each_some left (λ bytes holds. prints-built unique rules said ended old new writes writes' bytes holds built typing) script.whole;
+  nothing = each_some left (λ bytes holds refused. absurd (not_refused unique said bytes holds refused)) script.whole;
+  nothing_refused = λ e. absurd (typing-status ended typing.fault e);
+  refused = λ e. absurd (typing-status ended typing.fault e);
+  outside = λ e. inr (typing.outside (outside-of ended e));
+  not_built = λ e. each_some left (λ bytes holds.
+      let same = all-agree unique rules said bytes holds holds.0 holds.1 in
+      (holds.0, holds.1, inr (same.taken_same ∙ typing.not_built (not_built-of ended e)))) script.whole;
+  reads_counted = script.counted;
+  writes_counted = typing.counted;
+}
+
+leaves-not_built : OneListOfKeys → (rules : List Rule) (said : List Line) (left left' : Option (List ℕ)) (reads reads' : ℕ) (old new : Option (List ℕ)) (writes writes' : ℕ)
+    → LeavesScript (Ok said) left left' reads reads' → are_built said ≡ false → Keeps old new → writes ≤ writes'
+    → LeavesTyped rules 8 (message_of NotBuilt) left left' reads reads' old new writes writes'
+leaves-not_built unique rules said left left' reads reads' old new writes writes' script unbuilt keeps counted = record {
+  ended = λ e. absurd (omega (arith, e));
+  whole = λ e. absurd (omega (arith, e));
+  read = script.read;
+  prints = each_some left (λ bytes holds. prints-not_built unique rules said 8 old new bytes holds unbuilt keeps) script.whole;
+  nothing = each_some left (λ bytes holds refused. keeps) script.whole;
+  nothing_refused = λ e. keeps;
+  refused = λ e. absurd (omega (arith, e));
+  outside = λ e. absurd (omega (arith, e));
+  not_built = λ e. each_some left (λ bytes holds.
+      let same = all-agree unique rules said bytes holds holds.0 holds.1 in
+      (holds.0, holds.1, inl (same.built ∙ unbuilt))) script.whole;
+  reads_counted = script.counted;
+  writes_counted = counted;
+}
+
+-- a script that was read, whether it is built or not
+pub leaves-read : OneListOfKeys → (rules : List Rule) (said : List Line) (ended : Ended) (left left' : Option (List ℕ)) (reads reads' : ℕ) (old new : Option (List ℕ)) (writes writes' : ℕ)
+    → LeavesScript (Ok said) left left' reads reads' → (are_built said ≡ true → LeavesLines rules said ended old new writes writes')
+    → (are_built said ≡ false → ended ≡ Err NotBuilt) → (are_built said ≡ false → Keeps old new) → writes ≤ writes'
+    → LeavesTyped rules (run_status ended) (run_message ended) left left' reads reads' old new writes writes'
+leaves-read unique rules said ended left left' reads reads' old new writes writes' script typing refused keeps counted =
+    elim (cases_Bool (are_built said)) [
+      | inl built ↦ leaves-built unique rules said ended left left' reads reads' old new writes writes' script built (typing built)
+      | inr unbuilt ↦
+          subst (λ (r : Ended). LeavesTyped rules (run_status r) (run_message r) left left' reads reads' old new writes writes') (sym (refused unbuilt))
+          (leaves-not_built unique rules said left left' reads reads' old new writes writes' script unbuilt (keeps unbuilt) counted)
+    ]

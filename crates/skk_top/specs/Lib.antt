@@ -1,10 +1,13 @@
-pub mod Check
+pub mod Characters
+pub mod Command
+pub mod Held
 pub mod KanaInput
-pub mod Printed
+pub mod Marks
+pub mod Page
 pub mod Printing
-pub mod Read
-pub mod Run
 pub mod Script
 pub mod SessionMachine
+pub mod Sessions
 pub mod Status
+pub mod TypeCommand
 pub mod Typed

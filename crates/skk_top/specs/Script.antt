@@ -1,64 +1,73 @@
 -- Scripts: what each line says, and which line is the first that says nothing.
 use Rattle.std.specs.Prelude.{◌≡◌, ◌⊎◌, ◌≤◌, ◌+◌, ℕ, Bool, true, false, ◌==◌, nat_eq, if◌then◌else◌, List, [], ◌∷◌, ◌++◌, length, ⊤, Contains}
 use Rattle.std.specs.Fmt.{decimal}
-use Rattle.std.specs.List.{flat_map, list_any}
+use Rattle.std.specs.List.{flat_map, list_all, list_any}
 use Rattle.skk_text.specs.KeyText.{spelled, AreKeys}
-use Rattle.skk_text.specs.declared.key.Key.{Key}
+use Rattle.skk_top.specs.Characters.{code, line_feed, carriage_return}
+use Rattle.skk_top.specs.declared.line.Line.{Line}
+use Rattle.skk_top.specs.declared.line.Line.TheVariants.{Skipped, Keys, Opening}
 
 -- the most bytes of a script
 abbrev pub script_limit : ℕ
 script_limit = 4194304
 
--- a byte at the head of the first line
-abbrev pub lengthened : ℕ → List (List ℕ) → List (List ℕ)
-lengthened byte [] = (byte ∷ []) ∷ []
-lengthened byte (line ∷ lines) = (byte ∷ line) ∷ lines
+-- the lines with a byte before the first of them, which is a line of its own where there is none
+abbrev pub with_first_byte : ℕ → List (List ℕ) → List (List ℕ)
+with_first_byte byte [] = (byte ∷ []) ∷ []
+with_first_byte byte (line ∷ lines) = (byte ∷ line) ∷ lines
 
--- the lines, each ended by LF, which the last one may lack
-abbrev pub cut : List ℕ → List (List ℕ)
-cut [] = []
-cut (byte ∷ bytes) = if byte == 10 then [] ∷ cut bytes else lengthened byte (cut bytes)
+-- the lines of a script as texts, each ended by LF, which the last one may lack
+abbrev pub lines_of : List ℕ → List (List ℕ)
+lines_of [] = []
+lines_of (byte ∷ bytes) = if byte == line_feed then [] ∷ lines_of bytes else with_first_byte byte (lines_of bytes)
 
--- what a line says: nothing; keys for a session; or that a session is a typist's, with a book
-pub data Line : Type 0 where
-  skipped : Line
-  keys : ℕ → List Key → Line
-  opening : ℕ → ℕ → ℕ → Line
-
--- a session's number
+-- a session's number is from 1 to 64
 abbrev pub IsSession : ℕ → Type 0
 IsSession number = (1 ≤ number) × (number ≤ 64)
 
--- a typist's number, or a book's
+-- a typist's number, or a book's, is at most 65,535
 abbrev pub IsTypist : ℕ → Type 0
 IsTypist number = number ≤ 65535
 
--- a CR is somewhere in the text
+-- whether a CR is somewhere in a text
 abbrev pub has_return : List ℕ → Bool
-has_return text = list_any (λ byte. nat_eq byte 13) text
+has_return text = list_any (λ byte. nat_eq byte carriage_return) text
 
--- the text is an empty line or a comment, which has no CR; a session, `:` and keys; or a session, `=`, a typist, `,`
--- and a book, which is 0 or the typist's own
+-- a text says a line: nothing, where it is empty or a comment, which has no CR; keys, where it is a session, `:` and
+-- their spelling; or an opening, where it is a session, `=`, a typist, `,` and a book, which is 0 or the typist's own
 abbrev pub Spells : List ℕ → Line → Type 0
-Spells text skipped = (text ≡ []) ⊎ ((comment : List ℕ) × (text ≡ 35 ∷ comment) × (has_return comment ≡ false))
-Spells text (keys session ks) = IsSession session × AreKeys ks × (text ≡ decimal session ++ 58 ∷ spelled ks)
-Spells text (opening session typist book) =
+Spells text Skipped = (text ≡ []) ⊎ ((comment : List ℕ) × (text ≡ code "#" ∷ comment) × (has_return comment ≡ false))
+Spells text (Keys session ks) = IsSession session × AreKeys ks × (text ≡ decimal session ++ code ":" ∷ spelled ks)
+Spells text (Opening session typist book) =
     IsSession session × IsTypist typist × ((book ≡ 0) ⊎ (book ≡ typist))
-    × (text ≡ decimal session ++ 61 ∷ decimal typist ++ 44 ∷ decimal book)
+    × (text ≡ decimal session ++ code "=" ∷ decimal typist ++ code "," ∷ decimal book)
+
+-- what stands behind a session's number, a byte and the rest, says a line of that session
+abbrev pub Follows : ℕ → ℕ → List ℕ → Line → Type 0
+Follows number mark rest Skipped = ⊥
+Follows number mark rest (Keys session ks) = (session ≡ number) × (mark ≡ code ":") × AreKeys ks × (rest ≡ spelled ks)
+Follows number mark rest (Opening session typist book) =
+    (session ≡ number) × (mark ≡ code "=") × IsTypist typist × ((book ≡ 0) ⊎ (book ≡ typist)) × (rest ≡ decimal typist ++ code "," ∷ decimal book)
+
+-- the session that a line names, if it names one, has a session's number
+abbrev pub IsNumbered : Line → Type 0
+IsNumbered Skipped = ⊤
+IsNumbered (Keys session ks) = IsSession session
+IsNumbered (Opening session typist book) = IsSession session
 
 -- the sessions that a line names
 abbrev pub named_by : Line → List ℕ
-named_by skipped = []
-named_by (keys session ks) = session ∷ []
-named_by (opening session typist book) = session ∷ []
+named_by Skipped = []
+named_by (Keys session ks) = session ∷ []
+named_by (Opening session typist book) = session ∷ []
 
--- no earlier line names the session that an opening line opens
+-- a line may stand behind lines that name these sessions: it opens none of them
 abbrev pub MayFollow : List ℕ → Line → Type 0
-MayFollow named skipped = ⊤
-MayFollow named (keys session ks) = ⊤
-MayFollow named (opening session typist book) = ¬ Contains named session
+MayFollow named Skipped = ⊤
+MayFollow named (Keys session ks) = ⊤
+MayFollow named (Opening session typist book) = ¬ Contains named session
 
--- the texts say these lines, one after another, where these sessions are named already
+-- texts say lines, one after another, behind lines that name these sessions
 abbrev pub Says : List ℕ → List (List ℕ) → List Line → Type 0
 Says named [] [] = ⊤
 Says named [] (line ∷ lines) = ⊥
@@ -66,11 +75,11 @@ Says named (text ∷ texts) [] = ⊥
 Says named (text ∷ texts) (line ∷ lines) =
     Spells text line × MayFollow named line × Says (named ++ named_by line) texts lines
 
--- the bytes are a script of these lines
+-- bytes are a script of these lines: they are not too many, and their texts say the lines
 abbrev pub IsScript : List ℕ → List Line → Type 0
-IsScript bytes lines = (length bytes ≤ script_limit) × Says [] (cut bytes) lines
+IsScript bytes lines = (length bytes ≤ script_limit) × Says [] (lines_of bytes) lines
 
--- of these texts the first that says nothing has this number, counted from 1
+-- of the texts the first that says nothing has this number, counted from 1
 pub record IsFirstBad (texts : List (List ℕ)) (number : ℕ) : Type 0 where
   pub before : List (List ℕ)
   pub bad : List ℕ
@@ -81,14 +90,22 @@ pub record IsFirstBad (texts : List (List ℕ)) (number : ℕ) : Type 0 where
   pub none : (line : Line) → Spells bad line → MayFollow (flat_map named_by lines) line → ⊥
   pub place : number ≡ length before + 1
 
--- the lines that are built so far: comments, and key lines of session 1
+-- whether what a line says is built so far: comments and empty lines, and keys of session 1
 abbrev pub is_built_line : Line → Bool
-is_built_line skipped = true
-is_built_line (keys session ks) = session == 1
-is_built_line (opening session typist book) = false
+is_built_line Skipped = true
+is_built_line (Keys session ks) = session == 1
+is_built_line (Opening session typist book) = false
 
--- the keys of each key line
-abbrev pub keys_of : Line → List (List Key)
-keys_of skipped = []
-keys_of (keys session ks) = ks ∷ []
-keys_of (opening session typist book) = []
+-- whether each of the lines is built
+abbrev pub are_built : List Line → Bool
+are_built lines = list_all is_built_line lines
+
+-- a line as the one line of a list, which is empty where the line says nothing
+abbrev pub said_by : Line → List Line
+said_by Skipped = []
+said_by (Keys session ks) = Keys session ks ∷ []
+said_by (Opening session typist book) = Opening session typist book ∷ []
+
+-- the lines that say something
+abbrev pub without_skipped : List Line → List Line
+without_skipped lines = flat_map said_by lines

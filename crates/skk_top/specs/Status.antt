@@ -1,13 +1,24 @@
--- The statuses, and their lines on standard error.
-use Rattle.std.specs.Prelude.{◌≡◌, ⊤, ℕ, Result, Ok, Err, List, ◌++◌, [], ◌∷◌, codes}
+-- How a run ends: its status, and its line on standard error.
+use Rattle.std.specs.Prelude.{◌≡◌, ◌⊎◌, ⊤, ℕ, ◌==◌, if◌then◌else◌, Option, Result, Ok, Err, List, ◌++◌, [], ◌∷◌, codes}
 use Rattle.std.specs.Fmt.{decimal}
+use Rattle.std.specs.Io.KnownBytes.{Appends}
+use Rattle.skk_outside.specs.Faults.{Rose}
+use Rattle.skk_outside.specs.Written.{AppendsPrefix}
 use Rattle.skk_outside.specs.declared.source.ReadFault.{ReadFault}
 use Rattle.skk_outside.specs.declared.source.ReadFault.TheVariants as reading
+use Rattle.skk_top.specs.Characters.{line_feed}
 use Rattle.skk_top.specs.declared.session_machine.PressFault.{PressFault}
 use Rattle.skk_top.specs.declared.session_machine.PressFault.TheVariants as pressing
+use Rattle.skk_top.specs.declared.script.ScriptFault.{ScriptFault}
+use Rattle.skk_top.specs.declared.script.ScriptFault.TheVariants as scripts
 use Rattle.skk_top.specs.declared.fault.RunFault.{RunFault}
 use Rattle.skk_top.specs.declared.fault.RunFault.TheVariants.{TooLong, BadLine, Outside, Memory, NotBuilt}
 
+-- how a run ends: done, or with a fault
+abbrev pub Ended : Type 0
+Ended = Result (Unit {0}) RunFault
+
+-- the status of a fault
 abbrev pub status_of : RunFault → ℕ
 status_of TooLong = 2
 status_of (BadLine number) = 2
@@ -15,20 +26,42 @@ status_of Outside = 4
 status_of Memory = 6
 status_of NotBuilt = 8
 
--- the status of a run
-abbrev pub run_status : Result (Unit {0}) RunFault → ℕ
+-- the status of a run by how it ends
+abbrev pub run_status : Ended → ℕ
 run_status (Ok done) = 0
 run_status (Err fault) = status_of fault
 
--- the line, with its LF
-abbrev pub message_of : RunFault → List ℕ
-message_of TooLong = codes "skk: script too long" ++ 10 ∷ []
-message_of (BadLine number) = codes "skk: line " ++ decimal number ++ 10 ∷ []
-message_of Outside = codes "skk: outside" ++ 10 ∷ []
-message_of Memory = codes "skk: memory" ++ 10 ∷ []
-message_of NotBuilt = codes "skk: not built" ++ 10 ∷ []
+-- the statuses that there are so far
+abbrev pub IsStatus : ℕ → Type 0
+IsStatus status = (status ≡ 0) ⊎ ((status ≡ 2) ⊎ ((status ≡ 4) ⊎ ((status ≡ 6) ⊎ (status ≡ 8))))
 
--- the faults that come while keys are typed
+-- the line of a fault on standard error, with its LF
+abbrev pub message_of : RunFault → List ℕ
+message_of TooLong = codes "skk: script too long" ++ line_feed ∷ []
+message_of (BadLine number) = codes "skk: line " ++ decimal number ++ line_feed ∷ []
+message_of Outside = codes "skk: outside" ++ line_feed ∷ []
+message_of Memory = codes "skk: memory" ++ line_feed ∷ []
+message_of NotBuilt = codes "skk: not built" ++ line_feed ∷ []
+
+-- what a run tells on standard error by how it ends
+abbrev pub run_message : Ended → List ℕ
+run_message (Ok done) = []
+run_message (Err fault) = message_of fault
+
+-- what is told on standard error with each status but 2
+abbrev pub message_at : ℕ → List ℕ
+message_at status =
+    if status == 4 then message_of Outside
+    else if status == 6 then message_of Memory
+    else if status == 8 then message_of NotBuilt
+    else []
+
+-- a message was written whole, or a prefix of it where a write failed
+abbrev pub Tells : List ℕ → Option (List ℕ) → Option (List ℕ) → ℕ → ℕ → Type 0
+Tells message old new faults_before faults_after =
+    Appends old new message ⊎ (AppendsPrefix old new message × Rose faults_before faults_after)
+
+-- a fault that may come while lines are typed
 abbrev pub ComesOfTyping : RunFault → Type 0
 ComesOfTyping TooLong = ⊥
 ComesOfTyping (BadLine number) = ⊥
@@ -36,12 +69,18 @@ ComesOfTyping Outside = ⊤
 ComesOfTyping Memory = ⊤
 ComesOfTyping NotBuilt = ⊤
 
--- what a fault of a key, or of reading the script, is for the run
-abbrev pub ComesOfPress : PressFault → RunFault → Type 0
-ComesOfPress pressing.NotBuilt fault = fault ≡ NotBuilt
-ComesOfPress pressing.Memory fault = fault ≡ Memory
+-- what a fault of a key is for the run
+abbrev pub fault_of_press : PressFault → RunFault
+fault_of_press pressing.NotBuilt = NotBuilt
+fault_of_press pressing.Memory = Memory
 
-abbrev pub ComesOfRead : ReadFault → RunFault → Type 0
-ComesOfRead reading.TooLong fault = fault ≡ TooLong
-ComesOfRead reading.Failed fault = fault ≡ Outside
-ComesOfRead reading.Memory fault = fault ≡ Memory
+-- what a fault of reading a source is for the run
+abbrev pub fault_of_read : ReadFault → RunFault
+fault_of_read reading.TooLong = TooLong
+fault_of_read reading.Failed = Outside
+fault_of_read reading.Memory = Memory
+
+-- what a fault of reading a script is for the run
+abbrev pub fault_of_script : ScriptFault → RunFault
+fault_of_script (scripts.BadLine number) = BadLine number
+fault_of_script scripts.Memory = Memory

@@ -1,48 +1,43 @@
--- What is printed for a script.
-use Rattle.std.specs.Prelude.{◌≡◌, ℕ, Bool, true, false, Option, None, Some, List, [], ◌∷◌, ◌++◌, encode_utf8_all}
-use Rattle.std.specs.List.{flat_map, list_all}
+-- What is printed for the lines of a script.
+use Rattle.std.specs.Prelude.{ℕ, Bool, true, false, List, [], ◌∷◌, ◌++◌, encode_utf8_all}
+use Rattle.std.specs.List.{flat_map}
 use Rattle.std.specs.Option.{option_map_or}
-use Rattle.skk_text.specs.declared.key.Key.{Key}
 use Rattle.romaji_rules.specs.declared.rule.Rule.{Rule}
-use Rattle.skk_top.specs.declared.session_machine.Session.{Session}
-use Rattle.skk_top.specs.Script.{Line, Says, cut, keys_of, is_built_line}
-use Rattle.skk_top.specs.SessionMachine.{new_session, played, line, closing_line}
+use Rattle.skk_top.specs.Printing.{output_line, closing_line}
+use Rattle.skk_top.specs.SessionMachine.{new_session, after_keys}
+use Rattle.skk_top.specs.Sessions.{SessionMap, session_or_new, with_session}
+use Rattle.skk_top.specs.declared.line.Line.{Line}
+use Rattle.skk_top.specs.declared.line.Line.TheVariants.{Skipped, Keys, Opening}
 
--- from a session on: a line for each line of keys, up to the first that is not taken whole, and the closing line
--- where there is none such
-abbrev pub typed_from : List Rule → Session → List (List Key) → List ℕ
-typed_from rules session [] = closing_line 1 session
-typed_from rules session (keys ∷ lines) =
-    option_map_or (λ next. line 1 next ++ typed_from rules next lines) (played rules session keys) []
+-- the closing lines of sessions, in the order of their numbers
+abbrev pub closing_lines : SessionMap → List ℕ
+closing_lines sessions = flat_map (λ entry. closing_line entry.0 entry.1) sessions
 
--- where no line named the session yet it is not there, and has no closing line
-abbrev pub typed_with : List Rule → Option Session → List (List Key) → List ℕ
-typed_with rules None [] = []
-typed_with rules None (keys ∷ lines) = typed_from rules new_session (keys ∷ lines)
-typed_with rules (Some session) lines = typed_from rules session lines
+-- the characters printed for lines from these sessions on: an output line for each key line, up to the first with a
+-- key that is not taken, and the closing lines where there is none such
+abbrev pub typed_from : List Rule → SessionMap → List Line → List ℕ
+typed_from rules sessions [] = closing_lines sessions
+typed_from rules sessions (Skipped ∷ lines) = typed_from rules sessions lines
+typed_from rules sessions (Keys number ks ∷ lines) =
+    option_map_or (λ next. output_line number next ++ typed_from rules (with_session sessions number next) lines)
+    (after_keys rules (session_or_new sessions number) ks) []
+typed_from rules sessions (Opening number typist book ∷ lines) =
+    typed_from rules (with_session sessions number new_session) lines
 
--- the characters for the lines of a script
-abbrev pub typed_text : List Rule → List Line → List ℕ
-typed_text rules lines = typed_with rules None (flat_map keys_of lines)
+-- the bytes printed for the lines of a script
+abbrev pub typed : List Rule → List Line → List ℕ
+typed rules lines = encode_utf8_all (typed_from rules [] lines)
 
--- the same as bytes
-abbrev pub typed_one : List Rule → List Line → List ℕ
-typed_one rules lines = encode_utf8_all (typed_text rules lines)
+-- whether each key of the lines is taken, from these sessions on
+abbrev pub are_taken_from : List Rule → SessionMap → List Line → Bool
+are_taken_from rules sessions [] = true
+are_taken_from rules sessions (Skipped ∷ lines) = are_taken_from rules sessions lines
+are_taken_from rules sessions (Keys number ks ∷ lines) =
+    option_map_or (λ next. are_taken_from rules (with_session sessions number next) lines)
+    (after_keys rules (session_or_new sessions number) ks) false
+are_taken_from rules sessions (Opening number typist book ∷ lines) =
+    are_taken_from rules (with_session sessions number new_session) lines
 
--- whether each key is taken
-abbrev pub takes_from : List Rule → Session → List (List Key) → Bool
-takes_from rules session [] = true
-takes_from rules session (keys ∷ lines) =
-    option_map_or (λ next. takes_from rules next lines) (played rules session keys) false
-
-abbrev pub takes_all : List Rule → List Line → Bool
-takes_all rules lines = takes_from rules new_session (flat_map keys_of lines)
-
--- a session, which is new where it is not there yet
-abbrev pub session_or_new : Option Session → Session
-session_or_new None = new_session
-session_or_new (Some session) = session
-
--- the bytes say these lines, and each is built
-abbrev pub SaysBuilt : List ℕ → List Line → Type 0
-SaysBuilt bytes lines = Says [] (cut bytes) lines × (list_all is_built_line lines ≡ true)
+-- whether each key of a script's lines is taken
+abbrev pub are_taken : List Rule → List Line → Bool
+are_taken rules lines = are_taken_from rules [] lines

@@ -1,27 +1,40 @@
+ghost use Rattle.std.specs.Prelude.{◌≡◌, ◌≤◌};
+ghost use Rattle.skk_top.specs.Status.{run_status, run_message, Tells};
+
+use crate::script::ScriptFault;
 use crate::session_machine::PressFault;
 use itoa::Buffer;
 use skk_outside::{Failed, ReadFault, Sink, write_all};
 use skk_text::Memory;
-use thiserror::Error;
 
 /// Why a run was not done.
-#[derive(Clone, Copy, Debug, PartialEq, Eq, Error)]
+#[derive(Clone, Copy, Debug, PartialEq, Eq)]
 pub enum RunFault {
     /// The script is longer than its limit.
-    #[error("skk: script too long")]
     TooLong,
     /// The first line of the script that is none, counted from 1.
-    #[error("skk: line {number}")]
     BadLine { number: usize },
     /// A call on the outside failed.
-    #[error("skk: outside")]
     Outside,
-    /// Want of memory.
-    #[error("skk: memory")]
+    /// Out of memory.
     Memory,
     /// The words, a line of the script or a key are not built.
-    #[error("skk: not built")]
     NotBuilt,
+}
+
+/// Ends a run: tells its fault on `err`, and answers the status to exit with. Takes no memory.
+pub fn end_run<E: Sink>(ended: Result<(), RunFault>, err: &mut E) -> u8
+    ensures status { result ≡ run_status ended }
+    ensures told { Tells (run_message ended) (E.written err.old) (E.written err.new) (E.faults err.old) (E.faults err.new) }
+    ensures counted { E.faults err.old ≤ E.faults err.new }
+{
+    match ended {
+        Ok(()) => 0,
+        Err(fault) => {
+            let _ = fault.tell(err);
+            fault.status()
+        }
+    }
 }
 
 impl RunFault {
@@ -31,8 +44,8 @@ impl RunFault {
     ghost use Rattle.skk_outside.specs.Written.{AppendsPrefix};
     ghost use Rattle.skk_top.specs.Status.{status_of, message_of};
 
-    /// The status that the program exits with.
-    pub fn status(self) -> u8
+    // The status that the program exits with.
+    fn status(self) -> u8
         ensures { result ≡ status_of self }
     {
         match self {
@@ -43,8 +56,8 @@ impl RunFault {
         }
     }
 
-    /// Writes the line on standard error. Takes no memory.
-    pub fn tell<E: Sink>(self, err: &mut E) -> Result<(), Failed>
+    // Writes the line on standard error.
+    fn tell<E: Sink>(self, err: &mut E) -> Result<(), Failed>
         ensures ok { OnOk result (Appends (E.written err.old) (E.written err.new) (message_of self)) }
         ensures err { OnErr result (AppendsPrefix (E.written err.old) (E.written err.new) (message_of self)) }
         ensures failed { OnErr result (Rose (E.faults err.old) (E.faults err.new)) }
@@ -87,9 +100,10 @@ impl From<Failed> for RunFault {
 }
 
 impl From<PressFault> for RunFault {
-    ghost use Rattle.skk_top.specs.Status.{ComesOfPress};
+    ghost use Rattle.std.specs.Prelude.{◌≡◌};
+    ghost use Rattle.skk_top.specs.Status.{fault_of_press};
 
-    ghost from_gives = { ComesOfPress };
+    ghost from_gives = { λ fault told. told ≡ fault_of_press fault };
 
     fn from(fault: PressFault) -> RunFault {
         match fault {
@@ -100,15 +114,30 @@ impl From<PressFault> for RunFault {
 }
 
 impl From<ReadFault> for RunFault {
-    ghost use Rattle.skk_top.specs.Status.{ComesOfRead};
+    ghost use Rattle.std.specs.Prelude.{◌≡◌};
+    ghost use Rattle.skk_top.specs.Status.{fault_of_read};
 
-    ghost from_gives = { ComesOfRead };
+    ghost from_gives = { λ fault told. told ≡ fault_of_read fault };
 
     fn from(fault: ReadFault) -> RunFault {
         match fault {
             ReadFault::TooLong => RunFault::TooLong,
             ReadFault::Failed => RunFault::Outside,
             ReadFault::Memory => RunFault::Memory,
+        }
+    }
+}
+
+impl From<ScriptFault> for RunFault {
+    ghost use Rattle.std.specs.Prelude.{◌≡◌};
+    ghost use Rattle.skk_top.specs.Status.{fault_of_script};
+
+    ghost from_gives = { λ fault told. told ≡ fault_of_script fault };
+
+    fn from(fault: ScriptFault) -> RunFault {
+        match fault {
+            ScriptFault::BadLine { number } => RunFault::BadLine { number },
+            ScriptFault::Memory => RunFault::Memory,
         }
     }
 }

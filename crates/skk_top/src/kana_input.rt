@@ -1,5 +1,5 @@
 ghost use Rattle.std.specs.Prelude.{◌≡◌};
-ghost use Rattle.skk_top.specs.KanaInput.{only, in_kana, other_kana, formed};
+ghost use Rattle.skk_top.specs.KanaInput.{no_insertion, in_kana, other_kana, char_in_mode};
 
 use romaji_rules::{Out, Pending, Rules};
 use skk_text::{Key, Memory, Mode, Text, to_wide};
@@ -41,7 +41,7 @@ pub struct Plain {
 impl Plain {
     ghost use Rattle.std.specs.Prelude.{◌≡◌, ℕ, IfOk, OnErr, List, ◌∷◌, []};
     ghost use Rattle.std.specs.Str.{chars};
-    ghost use Rattle.skk_top.specs.KanaInput.{new_plain, plain_step, kana_step, kana_char, ascii_step, flush_step, fed_step, continues};
+    ghost use Rattle.skk_top.specs.KanaInput.{new_plain, plain_step, kana_step, kana_char_step, ascii_step, flush_step, feed_step, extends_pending};
 
     /// Hiragana mode, with nothing pending. Takes no memory.
     pub fn new() -> Plain
@@ -75,31 +75,31 @@ impl Plain {
             Key::Cj => self.flush(alloc, rules, self.mode, "", PlainThen::Stay),
             Key::Cg => {
                 if self.pending.is_empty() {
-                    return Ok(only(alloc, PlainThen::Cancel));
+                    return Ok(no_insertion(alloc, PlainThen::Cancel));
                 }
                 self.pending = Pending::new();
-                Ok(only(alloc, PlainThen::Stay))
+                Ok(no_insertion(alloc, PlainThen::Stay))
             }
             Key::Bs => {
                 if self.pending.is_empty() {
-                    return Ok(only(alloc, PlainThen::DeleteLast));
+                    return Ok(no_insertion(alloc, PlainThen::DeleteLast));
                 }
                 self.pending.delete_last();
-                Ok(only(alloc, PlainThen::Stay))
+                Ok(no_insertion(alloc, PlainThen::Stay))
             }
             Key::Ret => self.flush(alloc, rules, self.mode, "", PlainThen::Newline),
-            Key::Tab => Ok(only(alloc, PlainThen::Stay)),
-            Key::Undo => Ok(only(alloc, PlainThen::AskUndo)),
+            Key::Tab => Ok(no_insertion(alloc, PlainThen::Stay)),
+            Key::Undo => Ok(no_insertion(alloc, PlainThen::AskUndo)),
         }
     }
 
     // Reads a character in a kana mode.
     #[tactic(auto, using(crate::proofs::Words::words))]
     fn press_kana_char(&mut self, alloc: Global, rules: &Rules, c: u8) -> Result<PlainDo, Memory>
-        ensures ok { IfOk result (λ done. kana_char rules.now self.old c ≡ record { plain = self.new; done = done }) }
+        ensures ok { IfOk result (λ done. kana_char_step rules.now self.old c ≡ record { plain = self.new; done = done }) }
         ensures err { OnErr result (self.new ≡ self.old) }
     {
-        if self.continues(rules, c) {
+        if self.extends_pending(rules, c) {
             return self.feed(alloc, rules, c);
         }
         let mode = self.mode;
@@ -119,15 +119,15 @@ impl Plain {
     }
 
     // Whether something is pending, and the character goes on with it.
-    fn continues(&self, rules: &Rules, c: u8) -> bool
-        ensures { result ≡ continues rules.now self.now.pending c }
+    fn extends_pending(&self, rules: &Rules, c: u8) -> bool
+        ensures { result ≡ extends_pending rules.now self.now.pending c }
     {
         !self.pending.is_empty() && rules.goes_on(&self.pending, c)
     }
 
     // Has the rules read a character.
     fn feed(&mut self, alloc: Global, rules: &Rules, c: u8) -> Result<PlainDo, Memory>
-        ensures ok { IfOk result (λ done. fed_step rules.now self.old c ≡ record { plain = self.new; done = done }) }
+        ensures ok { IfOk result (λ done. feed_step rules.now self.old c ≡ record { plain = self.new; done = done }) }
         ensures err { OnErr result (self.new ≡ self.old) }
     {
         let out = rules.feed(alloc, &mut self.pending, c)?;
@@ -166,7 +166,7 @@ impl Plain {
         match key {
             Key::Char(c) => {
                 let mut insert = Text::new(alloc);
-                insert.push(formed(self.mode, c))?;
+                insert.push(char_in_mode(self.mode, c))?;
                 Ok(PlainDo {
                     insert,
                     then: PlainThen::Stay,
@@ -174,19 +174,19 @@ impl Plain {
             }
             Key::Cj => {
                 self.mode = Mode::Hira;
-                Ok(only(alloc, PlainThen::Stay))
+                Ok(no_insertion(alloc, PlainThen::Stay))
             }
-            Key::Bs => Ok(only(alloc, PlainThen::DeleteLast)),
+            Key::Bs => Ok(no_insertion(alloc, PlainThen::DeleteLast)),
             Key::Ret => self.flush(alloc, rules, self.mode, "", PlainThen::Newline),
-            Key::Cg | Key::Tab => Ok(only(alloc, PlainThen::Stay)),
-            Key::Undo => Ok(only(alloc, PlainThen::AskUndo)),
+            Key::Cg | Key::Tab => Ok(no_insertion(alloc, PlainThen::Stay)),
+            Key::Undo => Ok(no_insertion(alloc, PlainThen::AskUndo)),
         }
     }
 }
 
 // Nothing is inserted.
-fn only(alloc: Global, then: PlainThen) -> PlainDo
-    ensures { result ≡ only (then) }
+fn no_insertion(alloc: Global, then: PlainThen) -> PlainDo
+    ensures { result ≡ no_insertion (then) }
 {
     PlainDo {
         insert: Text::new(alloc),
@@ -217,8 +217,8 @@ fn other_kana(mode: Mode) -> Mode
 }
 
 // A character in the form that a mode inserts without the rules.
-fn formed(mode: Mode, c: u8) -> char
-    ensures { result ≡ formed mode c }
+fn char_in_mode(mode: Mode, c: u8) -> char
+    ensures { result ≡ char_in_mode mode c }
 {
     match mode {
         Mode::Wide => to_wide(c),

@@ -1,12 +1,12 @@
 //! The top call: all that the program does, over what it is handed of the outside.
 //!
-//! It stands on all crates below. `run_alone` reads the words and the script, checks the script
-//! whole, types its keys, prints the lines, and answers the status; its contract says what was
-//! printed for the script that was read, and why a run was not done. The plain state and the session
-//! are private parts, in modules named as the crates that they are to become.
+//! It stands on all crates below. `run_alone` reads the words to a command, runs it, tells on standard
+//! error why a run was not done, and answers the status. Each command has a module of its own and one
+//! relation that says what a run of it leaves. The plain state and the session are private parts, in
+//! modules named as the crates that they are to become.
 #![tactic(auto)]
 
-mod check;
+mod command;
 mod fault;
 mod kana_input;
 mod laws;
@@ -17,9 +17,12 @@ mod printing;
 mod run;
 mod script;
 mod session_machine;
+mod sessions;
 #[cfg(test)]
 mod tests;
+mod type_command;
 mod typing;
 
+pub use fault::{RunFault, end_run};
 pub use laws::{no_bad_line_in_a_script, one_bad_line, one_script, texts_have_a_limit};
 pub use run::run_alone;

@@ -1,80 +1,101 @@
-ghost use Rattle.std.specs.Prelude.{◌≡◌, ◌≢◌, ◌≤◌, ◌⊎◌, ◌++◌, ◌∷◌, IfSome, IsNone, ℕ, List};
+ghost use Rattle.std.specs.Prelude.{◌≡◌, ◌≢◌, ◌<◌, ◌≤◌, ◌⊎◌, [], ◌++◌, ◌∷◌, IfOk, IsErrOf, IfSome, IsNone, MatchOption, ℕ, List, length, slice_index};
 ghost use Rattle.std.specs.Fmt.{decimal};
-ghost use Rattle.skk_top.specs.Script.{Line, Spells, IsTypist};
-ghost use Rattle.skk_top.specs.Read.{Stands, SaysKeys, SaysNoKeys};
+ghost use Rattle.skk_top.specs.Characters.{code};
+ghost use Rattle.skk_top.specs.Script.{Spells, Follows, IsTypist, lines_of};
+ghost use Rattle.skk_top.specs.declared.line.Line.{Line};
 
 use crate::number::{number, number_then};
-use skk_text::is_key_text;
+use skk_text::{KeyFault, Keys, Memory, read_keys};
+use std::alloc::Global;
+use thiserror::Error;
 
 /// What a line of a script says.
-#[derive(Clone, Copy, Debug, PartialEq, Eq)]
-pub enum ScriptLine {
+#[derive(Debug, Drop)]
+pub enum Line {
     /// Nothing: it is empty or a comment.
     Skipped,
-    /// Keys for a session. Their text begins at a place of the line, in bytes.
-    Keys { session: u8, start: usize },
+    /// Keys for a session.
+    Keys { session: u8, keys: Keys },
     /// That a session is a typist's, with a book.
     Opening { session: u8, typist: u16, book: u16 },
 }
 
+/// Why no line was read.
+#[derive(Clone, Copy, Debug, PartialEq, Eq, Error)]
+pub enum LineFault {
+    /// The text says nothing.
+    #[error("no line")]
+    NoLine,
+    /// Out of memory.
+    #[error("out of memory")]
+    Memory,
+}
+
+impl From<Memory> for LineFault {
+    ghost use Rattle.std.specs.Prelude.{◌≡◌};
+    ghost use Rattle.skk_top.specs.declared.line.LineFault.TheVariants as faults;
+
+    ghost from_gives = { λ _ fault. fault ≡ faults.Memory };
+
+    fn from(_memory: Memory) -> LineFault {
+        LineFault::Memory
+    }
+}
+
 /// Reads a line. Whether its session was named before is not looked at.
-pub fn read_line(text: &[u8]) -> Option<ScriptLine>
-    ensures some { IfSome result (λ read. (line : Line) × Spells text.now line × Stands text.now read line) }
-    ensures none { IsNone result → (line : Line) → ¬ Spells text.now line }
+pub fn read_line(alloc: Global, text: &[u8]) -> Result<Line, LineFault>
+    ensures ok { IfOk result (λ line. Spells text.now line) }
+    ensures none { IsErrOf result LineFault.NoLine → (line : Line) → ¬ Spells text.now line }
 {
     if text.is_empty() {
-        return Some(ScriptLine::Skipped);
+        return Ok(Line::Skipped);
     }
     if text[0] == b'#' {
         if text.contains(&b'\r') {
-            return None;
+            return Err(LineFault::NoLine);
         }
-        return Some(ScriptLine::Skipped);
+        return Ok(Line::Skipped);
     }
-    let (session, mark, rest) = number_then(text)?;
+    let Some((session, mark, rest)) = number_then(text) else {
+        return Err(LineFault::NoLine);
+    };
     if session < 1 || session > 64 {
-        return None;
+        return Err(LineFault::NoLine);
     }
-    let session = session as u8;
-    if mark == b':' && is_key_text(rest) {
-        return Some(ScriptLine::Keys {
-            session,
-            start: text.len() - rest.len(),
-        });
-    }
-    if mark == b'=' {
-        let (typist, book) = typist_and_book(rest)?;
-        return Some(ScriptLine::Opening {
-            session,
-            typist,
-            book,
-        });
-    }
-    None
+    read_behind(alloc, session as u8, mark, rest)
 }
 
-/// The key text of a key line; nothing for another line.
-pub fn key_text(line: &[u8]) -> Option<&[u8]>
-    ensures some { IfSome result (λ text. SaysKeys line.now text.now) }
-    ensures none { IsNone result → SaysNoKeys line.now }
+// Reads what stands behind a session's number: the byte next to it, and the rest.
+fn read_behind(alloc: Global, session: u8, mark: u8, rest: &[u8]) -> Result<Line, LineFault>
+    ensures ok { IfOk result (Follows session mark rest.now) }
+    ensures none { IsErrOf result LineFault.NoLine → (line : Line) → ¬ Follows session mark rest.now line }
 {
-    match read_line(line)? {
-        ScriptLine::Keys { session: _, start } => Some(&line[start..]),
-        ScriptLine::Skipped
-        | ScriptLine::Opening {
-            session: _,
-            typist: _,
-            book: _,
-        } => None,
+    match mark {
+        b':' => match read_keys(alloc, rest) {
+            Ok(keys) => Ok(Line::Keys { session, keys }),
+            Err(KeyFault::Memory) => Err(LineFault::Memory),
+            Err(KeyFault::BadName { at: _ } | KeyFault::NotAscii { at: _ }) => Err(
+                LineFault::NoLine,
+            ),
+        },
+        b'=' => match typist_and_book(rest) {
+            Some((typist, book)) => Ok(Line::Opening {
+                session,
+                typist,
+                book,
+            }),
+            None => Err(LineFault::NoLine),
+        },
+        _ => Err(LineFault::NoLine),
     }
 }
 
 // The typist and the book of an opening line, which stand behind its `=`.
 fn typist_and_book(text: &[u8]) -> Option<(u16, u16)>
     ensures some { IfSome result (λ found. IsTypist found.0 × ((found.1 ≡ 0) ⊎ (found.1 ≡ found.0))
-        × (text.now ≡ decimal found.0 ++ 44 ∷ decimal found.1)) }
+        × (text.now ≡ decimal found.0 ++ code "," ∷ decimal found.1)) }
     ensures none { IsNone result → (typist book : ℕ) → IsTypist typist → ((book ≡ 0) ⊎ (book ≡ typist))
-        → text.now ≢ decimal typist ++ 44 ∷ decimal book }
+        → text.now ≢ decimal typist ++ code "," ∷ decimal book }
 {
     let (typist, mark, rest) = number_then(text)?;
     if typist > 65535 || mark != b',' {
@@ -85,4 +106,32 @@ fn typist_and_book(text: &[u8]) -> Option<(u16, u16)>
         return None;
     }
     Some((typist as u16, book as u16))
+}
+
+/// The first line without its LF, and what follows it; nothing where there is no line.
+pub fn next_line(bytes: &[u8]) -> Option<(&[u8], &[u8])>
+    ensures { MatchOption result (bytes.now ≡ []) (λ p. (lines_of bytes.now ≡ p.0.now ∷ lines_of p.1.now) × (length p.1.now < length bytes.now)) }
+{
+    if bytes.is_empty() {
+        return None;
+    }
+    let end = line_end(bytes);
+    if end == bytes.len() {
+        return Some((bytes, &[]));
+    }
+    Some((&bytes[..end], &bytes[end + 1..]))
+}
+
+// The place of the first LF, or the length.
+fn line_end(bytes: &[u8]) -> usize
+    ensures within { result ≤ length bytes.now }
+    ensures none_before { (k : ℕ) → k < result → slice_index bytes.now k ≢ 10 }
+    ensures found { result < length bytes.now → slice_index bytes.now result ≡ 10 }
+{
+    for (place, byte) in bytes.iter().enumerate() {
+        if *byte == b'\n' {
+            return place;
+        }
+    }
+    bytes.len()
 }

@@ -2,14 +2,14 @@ ghost use Rattle.std.specs.Prelude.{◌≡◌, ◌≤◌, ◌++◌, [], ℕ, Lis
 ghost use Rattle.std.specs.Io.KnownBytes.{Appends};
 ghost use Rattle.skk_outside.specs.Faults.{Rose};
 ghost use Rattle.skk_outside.specs.Written.{AppendsPrefix};
-ghost use Rattle.skk_top.specs.Printed.{Printed};
+ghost use Rattle.skk_top.specs.Page.{Printed};
 
 use skk_outside::{Failed, Sink, write_all};
 use skk_text::Text;
 use std::alloc::Global;
 
 /// How many bytes a page has before it is written.
-pub const PAGE: usize = 65536;
+const PAGE: usize = 65536;
 
 /// Writes a page.
 pub fn print<O: Sink>(out: &mut O, page: &Text) -> Result<(), Failed>

@@ -1,15 +1,11 @@
 use crate::kana_input::{Plain, PlainDo, PlainThen};
-use crate::printing::{indicator, notice_text, push_escaped, push_field, push_number};
 use romaji_rules::Rules;
-use skk_text::{Key, Keys, Memory, Notice, Text};
+use skk_text::{Key, Memory, Notice, Text};
 use std::alloc::Global;
 use thiserror::Error;
 
 /// The most bytes of a frame's text.
-pub const TEXT_LIMIT: usize = 1_048_576;
-
-/// The most characters of a text that are shown.
-pub const SHOWN: usize = 64;
+const TEXT_LIMIT: usize = 1_048_576;
 
 /// Why a key was not taken.
 #[derive(Clone, Copy, Debug, PartialEq, Eq, Error)]
@@ -17,7 +13,7 @@ pub enum PressFault {
     /// What the key does is not built.
     #[error("not built")]
     NotBuilt,
-    /// Want of memory.
+    /// Out of memory.
     #[error("out of memory")]
     Memory,
 }
@@ -36,9 +32,9 @@ impl From<Memory> for PressFault {
 /// A typist's session: the text so far, the plain state, and the notice of the last key.
 #[derive(Drop)]
 pub struct Session {
-    plain: Plain,
-    text: Text,
-    notice: Notice,
+    pub plain: Plain,
+    pub text: Text,
+    pub notice: Notice,
 }
 
 impl Session {
@@ -46,7 +42,7 @@ impl Session {
     ghost use Rattle.std.specs.List.{flat_map};
     ghost use Rattle.std.specs.Str.{chars};
     ghost use Rattle.skk_text.specs.Text.{byte_len};
-    ghost use Rattle.skk_top.specs.SessionMachine.{text_limit, new_session, inserted, finished, pressed, played, display, line, closing_line};
+    ghost use Rattle.skk_top.specs.SessionMachine.{text_limit, new_session, with_insertion, with_effect, after_key, after_keys};
 
     /// Hiragana mode, and an empty text. Takes no memory.
     pub fn new(alloc: Global) -> Session
@@ -61,32 +57,32 @@ impl Session {
 
     /// Presses a key. After a fault the session is gone.
     pub fn press(self, alloc: Global, rules: &Rules, key: Key) -> Result<Session, PressFault>
-        ensures ok { IfOk result (λ session. pressed rules.now self key ≡ Some session) }
-        ensures not_built { IsErrOf result PressFault.NotBuilt → pressed rules.now self key ≡ None }
+        ensures ok { IfOk result (λ session. after_key rules.now self key ≡ Some session) }
+        ensures not_built { IsErrOf result PressFault.NotBuilt → after_key rules.now self key ≡ None }
     {
         let mut session = self;
         let PlainDo { insert, then } = session.plain.press(alloc, rules, key)?;
         session.notice = Notice::Empty;
         session.insert(insert.as_str())?;
-        session.finish(then)?;
+        session.apply(then)?;
         Ok(session)
     }
 
     /// Presses the keys in order. After a fault the session is gone.
-    pub fn play(self, alloc: Global, rules: &Rules, keys: &Keys) -> Result<Session, PressFault>
-        ensures ok { IfOk result (λ session. played rules.now self keys.now ≡ Some session) }
-        ensures not_built { IsErrOf result PressFault.NotBuilt → played rules.now self keys.now ≡ None }
+    pub fn play(self, alloc: Global, rules: &Rules, keys: &[Key]) -> Result<Session, PressFault>
+        ensures ok { IfOk result (λ session. after_keys rules.now self keys.now ≡ Some session) }
+        ensures not_built { IsErrOf result PressFault.NotBuilt → after_keys rules.now self keys.now ≡ None }
     {
         let mut session = self;
-        for place in 0..keys.len() {
-            session = session.press(alloc, rules, *keys.at(place))?;
+        for key in keys {
+            session = session.press(alloc, rules, *key)?;
         }
         Ok(session)
     }
 
     // Puts a text at the end, unless the whole would pass the limit.
     fn insert(&mut self, piece: &str) -> Result<(), Memory>
-        ensures { OnOk result (self.new ≡ inserted self.old (chars piece.now)) }
+        ensures { OnOk result (self.new ≡ with_insertion self.old (chars piece.now)) }
     {
         if !self.has_room(piece) {
             self.notice = Notice::Limit;
@@ -104,9 +100,9 @@ impl Session {
 
     // Does what a key does behind its insertion.
     #[tactic(auto, using(crate::proofs::Words::words))]
-    fn finish(&mut self, then: PlainThen) -> Result<(), PressFault>
-        ensures ok { OnOk result (finished self.old (then) ≡ Some self.new) }
-        ensures not_built { IsErrOf result PressFault.NotBuilt → finished self.old (then) ≡ None }
+    fn apply(&mut self, then: PlainThen) -> Result<(), PressFault>
+        ensures ok { OnOk result (with_effect self.old (then) ≡ Some self.new) }
+        ensures not_built { IsErrOf result PressFault.NotBuilt → with_effect self.old (then) ≡ None }
     {
         match then {
             PlainThen::Stay | PlainThen::Cancel => {}
@@ -115,41 +111,6 @@ impl Session {
             PlainThen::OpenReading(_) | PlainThen::OpenAbbrev => return Err(PressFault::NotBuilt),
             PlainThen::AskUndo => self.notice = Notice::NoUndo,
         }
-        Ok(())
-    }
-
-    /// The last characters of the text and what is pending, as they are printed. Takes time in the
-    /// characters shown, not in the length of the text.
-    pub fn display(&self, alloc: Global) -> Result<Text, Memory>
-        ensures { IfOk result (λ shown. shown ≡ display self.now) }
-    {
-        let mut shown = Text::new(alloc);
-        push_escaped(&mut shown, self.text.last(SHOWN))?;
-        push_escaped(&mut shown, self.plain.pending.as_str())?;
-        Ok(shown)
-    }
-
-    /// Adds the session's line behind a page.
-    pub fn push_line(&self, alloc: Global, page: &mut Text, number: u8) -> Result<(), Memory>
-        ensures { OnOk result (page.new ≡ page.old ++ line number self.now) }
-    {
-        let shown = self.display(alloc)?;
-        push_number(page, number)?;
-        push_field(page, indicator(self.plain.mode))?;
-        push_field(page, shown.as_str())?;
-        push_field(page, notice_text(self.notice))?;
-        page.push('\n')?;
-        Ok(())
-    }
-
-    /// Adds the session's closing line, with its whole text, behind a page.
-    pub fn push_closing_line(&self, page: &mut Text, number: u8) -> Result<(), Memory>
-        ensures { OnOk result (page.new ≡ page.old ++ closing_line number self.now) }
-    {
-        push_number(page, number)?;
-        page.push('=')?;
-        push_escaped(page, self.text.as_str())?;
-        page.push('\n')?;
         Ok(())
     }
 }

@@ -3,4 +3,4 @@ use Rattle.skk_top.proofs.Scripts.{one_list_of_lines}
 use Rattle.skk_top.proofs.laws.one_script.Goals as goal
 
 pub returns : goal.returns
-returns c = one_list_of_lines []
+returns c = one_list_of_lines c.one_list_of_keys.ensures []

@@ -1,15 +1,13 @@
-use Rattle.std.proofs.Common.{◌≤◌, List, length}
-use Rattle.skk_top.specs.Script.{Line, cut}
-use Rattle.skk_top.specs.Typed.{SaysBuilt}
-use Rattle.skk_top.proofs.LinesLeft.{Left}
+use Rattle.std.proofs.Common.{◌≡◌, ◌≤◌, [], drop}
+use Rattle.skk_top.specs.Page.{Printed}
+use Rattle.skk_top.specs.Sessions.{sessions_from}
+use Rattle.skk_top.specs.Typed.{typed_from, are_taken_from}
 use Rattle.skk_top.proofs.typing.type_lines.Given as goal
 
 -- what was written, the page, and what is typed for the lines left are what is typed for all of them
-abbrev pub invariant-loop-line : goal.invariant-loop-line
-invariant-loop-line g l = record {
-  left : (all : List Line) → SaysBuilt l.fn.script all → Left l.rules l.session (cut l.rest) all (g.O.Sink.written l.fn.out) (g.O.Sink.written l.out) l.page;
+abbrev pub invariant-loop-place : goal.invariant-loop-place
+invariant-loop-place g l = record {
+  printed : Printed (g.O.Sink.written l.fn.out) (g.O.Sink.written l.out) l.page (typed_from l.rules (sessions_from 1 l.sessions.places.items) (drop l.place l.script)) (typed_from l.rules [] l.script);
+  taken : are_taken_from l.rules (sessions_from 1 l.sessions.places.items) (drop l.place l.script) ≡ are_taken_from l.rules [] l.script;
   counted : g.O.Outside.faults l.fn.out ≤ g.O.Outside.faults l.out;
 }
-
-abbrev pub decreases-loop-line : goal.decreases-loop-line
-decreases-loop-line g l = length l.rest

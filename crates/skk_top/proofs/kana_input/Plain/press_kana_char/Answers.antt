@@ -6,7 +6,7 @@ use Rattle.skk_top.proofs.kana_input.Plain.press_kana_char.Goals as goal
 pub returns-in-65-to-90-clause-ok : goal.returns-in-65-to-90-clause-ok
 returns-in-65-to-90-clause-ok c =
     rw (
-      kana_char-upper c.args.rules.now c.args.self.now c.args.c (sym c.continues.ensures ∙ c.if-continues.false) (omega arith) (omega arith) (λ e. omega (arith, e)) (λ e. omega (arith, e)),
+      kana_char-upper c.args.rules.now c.args.self.now c.args.c (sym c.extends_pending.ensures ∙ c.if-extends_pending.false) (omega arith) (omega arith) (λ e. omega (arith, e)) (λ e. omega (arith, e)),
       ← c.to_ascii_lowercase-letter.ensures.value,
     )
     (rw empty at c.flush-in-65-to-90.ensures.ok)

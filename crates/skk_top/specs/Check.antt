@@ -1,6 +1,0 @@
--- What the check of a script keeps of the lines it has passed.
-use Rattle.std.specs.Prelude.{◌≤◌, ◌↔◌, ℕ, Bool, false, IsTrue, List, slice_index_or, Contains}
-
--- the marks tell which sessions are among these
-abbrev pub Mark : List Bool → List ℕ → Type 0
-Mark marks sessions = (session : ℕ) → session ≤ 64 → IsTrue (slice_index_or marks session false) ↔ Contains sessions session
