@@ -40,6 +40,10 @@ in_kana Kata out = out.kata
 in_kana Ascii out = out.hira
 in_kana Wide out = out.hira
 
+-- a key's effect on the frame where an output is inserted
+abbrev pub insertion : Mode → Out → PlainDo
+insertion mode out = record { insert = in_kana mode out; then = Stay }
+
 -- the mode of the other kana, where a mode writes kana
 abbrev pub other_kana : Mode → Mode
 other_kana Hira = Kata
@@ -56,7 +60,7 @@ extends_pending rules (b ∷ pending) c = goes_on rules ((b ∷ pending) ++ c �
 abbrev pub feed_step : List Rule → Plain → ℕ → PlainStep
 feed_step rules plain c =
     let step = fed rules plain.pending c in
-    record { plain = record { mode = plain.mode; pending = step.pending }; done = record { insert = in_kana plain.mode step.out; then = Stay } }
+    record { plain = record { mode = plain.mode; pending = step.pending }; done = insertion plain.mode step.out }
 
 -- the step that gives out what is pending, with a text behind it, goes to a mode and does more to the frame
 abbrev pub flush_step : List Rule → Plain → Mode → List ℕ → PlainThen → PlainStep

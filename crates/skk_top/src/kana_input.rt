@@ -1,5 +1,5 @@
 ghost use Rattle.std.specs.Prelude.{◌≡◌};
-ghost use Rattle.skk_top.specs.KanaInput.{no_insertion, in_kana, other_kana, char_in_mode};
+ghost use Rattle.skk_top.specs.KanaInput.{no_insertion, insertion, in_kana, other_kana, char_in_mode};
 
 use romaji_rules::{Out, Pending, Rules};
 use skk_text::{Key, Memory, Mode, Text, to_wide};
@@ -39,7 +39,7 @@ pub struct Plain {
 }
 
 impl Plain {
-    ghost use Rattle.std.specs.Prelude.{◌≡◌, ℕ, IfOk, OnErr, List, ◌∷◌, []};
+    ghost use Rattle.std.specs.Prelude.{◌≡◌, ℕ, IfOk, OnErr, List, ◌∷◌, [], false};
     ghost use Rattle.std.specs.Str.{chars};
     ghost use Rattle.skk_top.specs.KanaInput.{new_plain, plain_step, kana_step, kana_char_step, ascii_step, flush_step, feed_step, extends_pending};
 
@@ -93,15 +93,27 @@ impl Plain {
         }
     }
 
-    // Reads a character in a kana mode.
-    #[tactic(auto, using(crate::proofs::Words::words))]
+    // Reads a character in a kana mode. A character that goes on with what is pending does nothing else.
     fn press_kana_char(&mut self, alloc: Global, rules: &Rules, c: u8) -> Result<PlainDo, Memory>
         ensures ok { IfOk result (λ done. kana_char_step rules.now self.old c ≡ record { plain = self.new; done = done }) }
         ensures err { OnErr result (self.new ≡ self.old) }
     {
-        if self.extends_pending(rules, c) {
-            return self.feed(alloc, rules, c);
+        if self.pending.is_empty() {
+            return self.press_anew(alloc, rules, c);
         }
+        match rules.go_on(alloc, &mut self.pending, c)? {
+            Some(out) => Ok(insertion(self.mode, out)),
+            None => self.press_anew(alloc, rules, c),
+        }
+    }
+
+    // Reads a character in a kana mode that does not go on with what is pending.
+    #[tactic(auto, using(crate::proofs::Words::words))]
+    fn press_anew(&mut self, alloc: Global, rules: &Rules, c: u8) -> Result<PlainDo, Memory>
+        requires { extends_pending rules.now self.old.pending c ≡ false }
+        ensures ok { IfOk result (λ done. kana_char_step rules.now self.old c ≡ record { plain = self.new; done = done }) }
+        ensures err { OnErr result (self.new ≡ self.old) }
+    {
         let mode = self.mode;
         match c {
             b' ' => self.flush(alloc, rules, mode, " ", PlainThen::Stay),
@@ -114,27 +126,22 @@ impl Plain {
                 let letter = c.to_ascii_lowercase();
                 self.flush(alloc, rules, mode, "", PlainThen::OpenReading(Some(letter)))
             }
-            _ => self.feed(alloc, rules, c),
+            _ => self.feed_anew(alloc, rules, c),
         }
     }
 
-    // Whether something is pending, and the character goes on with it.
-    fn extends_pending(&self, rules: &Rules, c: u8) -> bool
-        ensures { result ≡ extends_pending rules.now self.now.pending c }
-    {
-        !self.pending.is_empty() && rules.goes_on(&self.pending, c)
-    }
-
-    // Has the rules read a character.
-    fn feed(&mut self, alloc: Global, rules: &Rules, c: u8) -> Result<PlainDo, Memory>
+    // Has the rules read a character that does not go on with what is pending.
+    fn feed_anew(&mut self, alloc: Global, rules: &Rules, c: u8) -> Result<PlainDo, Memory>
+        requires { extends_pending rules.now self.old.pending c ≡ false }
         ensures ok { IfOk result (λ done. feed_step rules.now self.old c ≡ record { plain = self.new; done = done }) }
         ensures err { OnErr result (self.new ≡ self.old) }
     {
-        let out = rules.feed(alloc, &mut self.pending, c)?;
-        Ok(PlainDo {
-            insert: in_kana(self.mode, out),
-            then: PlainThen::Stay,
-        })
+        if self.pending.is_empty() {
+            let out = rules.feed(alloc, &mut self.pending, c)?;
+            return Ok(insertion(self.mode, out));
+        }
+        let out = rules.begin_anew(alloc, &mut self.pending, c)?;
+        Ok(insertion(self.mode, out))
     }
 
     // Gives out what is pending, with a text behind it, and goes to a mode.
@@ -181,6 +188,16 @@ impl Plain {
             Key::Cg | Key::Tab => Ok(no_insertion(alloc, PlainThen::Stay)),
             Key::Undo => Ok(no_insertion(alloc, PlainThen::AskUndo)),
         }
+    }
+}
+
+// An output is inserted.
+fn insertion(mode: Mode, out: Out) -> PlainDo
+    ensures { result ≡ insertion mode out }
+{
+    PlainDo {
+        insert: in_kana(mode, out),
+        then: PlainThen::Stay,
     }
 }
 

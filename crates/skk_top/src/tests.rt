@@ -1,0 +1,116 @@
+ghost use Rattle.std.specs.Prelude.{Some};
+
+use crate::kana_input::Plain;
+use crate::printing::push_closing_line;
+use crate::run_alone;
+use crate::session_machine::Session;
+use skk_outside::{Failed, MemSink, MemSource, Outside, Sink};
+use skk_text::{Bytes, Notice, Text};
+use std::alloc::{AllocError, Global};
+use std::test::Fail;
+
+const LINES: &[u8] = b"1:kitte\n1:kanji\n1:zl\n";
+
+const TYPED: &str = "1\tかな\tきって\t\n1\tかな\tきってかんじ\t\n1\tかな\tきってかんじ→\t\n1=きってかんじ→\n";
+
+// Runs the word `type` on the lines, which come in two pieces, with the number of the read that is to fail.
+fn type_lines<O: Sink>(
+    alloc: Global,
+    read: u64,
+    out: &mut O,
+    err: &mut MemSink,
+) -> Result<u8, AllocError> {
+    let mut pieces = Vec::new(alloc);
+    pieces.push(Bytes::of(Vec::from_slice(alloc, &LINES[..9])?))?;
+    pieces.push(Bytes::of(Vec::from_slice(alloc, &LINES[9..])?))?;
+    let mut input = MemSource::new(pieces, vec![in alloc; read]?);
+    let words = [Text::of(String::from_str(alloc, "type")?)];
+    Ok(run_alone(alloc, &words, &mut input, out, err))
+}
+
+// The script is read in two pieces and then to its end; the output is written at once and flushed; a fault is told
+// in one write.
+#[test]
+fn calls_that_fail_end_the_run(rt: HostRuntime) -> Result<(), Fail> {
+    let alloc = rt.alloc();
+    for (read, write, tell, status, out, err) in [
+        (0, 0, 0, 0, TYPED, ""),
+        (1, 0, 0, 4, "", "skk: outside\n"),
+        (2, 0, 0, 4, "", "skk: outside\n"),
+        (3, 0, 0, 4, "", "skk: outside\n"),
+        (4, 0, 0, 0, TYPED, ""),
+        (0, 1, 0, 4, "", "skk: outside\n"),
+        (0, 2, 0, 4, TYPED, "skk: outside\n"),
+        (0, 3, 0, 0, TYPED, ""),
+        (1, 0, 1, 4, "", ""),
+    ] {
+        let mut written = MemSink::new(alloc, vec![in alloc; write]?);
+        let mut told = MemSink::new(alloc, vec![in alloc; tell]?);
+        let ended = type_lines(alloc, read, &mut written, &mut told)?;
+        assert_eq!(rt; ended, status, "at {read}, {write} and {tell}");
+        assert_eq!(rt;
+            written.written(),
+            out.as_bytes(),
+            "at {read}, {write} and {tell}"
+        );
+        assert_eq!(rt;
+            told.written(),
+            err.as_bytes(),
+            "at {read}, {write} and {tell}"
+        );
+    }
+    Ok(())
+}
+
+// A sink that takes one byte at a time.
+#[derive(Drop)]
+struct OneByOne(MemSink);
+
+impl Outside for OneByOne {
+    ghost faults = { λ s. s.0.count.faults };
+}
+
+impl Sink for OneByOne {
+    ghost written = { λ s. Some s.0.written };
+
+    fn write(&mut self, from: &[u8]) -> Result<usize, Failed> {
+        self.0.write(&from[..from.len().min(1)])
+    }
+
+    fn flush(&mut self) -> Result<(), Failed> {
+        self.0.flush()
+    }
+}
+
+// Each byte is written by a call of its own, and the flush is the last call.
+#[test]
+fn bytes_are_written_one_by_one(rt: HostRuntime) -> Result<(), Fail> {
+    let alloc = rt.alloc();
+    let whole = TYPED.as_bytes();
+    for call in 1..=whole.len() as u64 + 2 {
+        let mut out = OneByOne(MemSink::new(alloc, vec![in alloc; call]?));
+        let mut err = MemSink::new(alloc, Vec::new(alloc));
+        let status = type_lines(alloc, 0, &mut out, &mut err)?;
+        let written = out.0.written();
+        let failed = call < whole.len() as u64 + 2;
+        assert_eq!(rt; status, if failed { 4 } else { 0 }, "at call {call}");
+        assert_eq!(rt; written.len() as u64, (call - 1).min(whole.len() as u64));
+        assert!(rt; whole.starts_with(written), "at call {call}");
+    }
+    Ok(())
+}
+
+// No key puts a CR or a TAB into a text yet.
+#[test]
+fn four_characters_are_escaped(rt: HostRuntime) -> Result<(), Fail> {
+    let alloc = rt.alloc();
+    let session = Session {
+        plain: Plain::new(),
+        text: Text::of(String::from_str(alloc, "あ\nb\r\r\td\\\\え")?),
+        notice: Notice::Empty,
+    };
+    let mut page = Text::new(alloc);
+    push_closing_line(&mut page, 64, &session)?;
+    assert_eq!(rt; page.as_str(), "64=あ\\nb\\r\\r\\td\\\\\\\\え\n");
+    Ok(())
+}
