@@ -1,5 +1,6 @@
 pub mod Commands
 pub mod Escapes
+mod Examples
 pub mod HeldLines
 pub mod LineReading
 pub mod Limits
