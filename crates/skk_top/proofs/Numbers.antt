@@ -28,7 +28,7 @@ pub decimal-zero_alone : (number : ℕ) → number ≤ 99999 → get_or (decimal
 decimal-zero_alone number small first =
     elim (cases_eq number 0) [ inl e ↦ ap length (ap decimal e ∙ decimal_digit 0 (omega arith)) | inr some ↦ absurd (omega (arith, first_decimal number (omega arith) (omega arith))) ]
 
--- the digits at the front of a text that begins with a number and a byte that is none are the number's
+-- the digits that a text begins with are those of the number, where a number and a byte that is no digit begin it
 pub decimal-ends : (text rest : List ℕ) (number mark end : ℕ) → number ≤ 99999 → (¬ IsInRange 48 57 mark) → text ≡ decimal number ++ mark ∷ rest →
     ((place : ℕ) → place < end → IsInRange 48 57 (get_or text place 0)) → (end < length text → ¬ IsInRange 48 57 (get_or text end 0)) →
     end ≡ length (decimal number)

@@ -60,14 +60,14 @@ Printed-written old mid new page left rest whole printed written = (
         append_assoc done more (left ++ rest)
         ∙ ap (λ p. done ++ p) (sym (append_assoc more left rest) ∙ ap (λ p. p ++ rest) (ap (λ l. more ++ l) (sym (append-nil left)) ∙ e))
 
--- what was written is a front of the whole
-pub Printed-front : (old new : Option (List ℕ)) (page rest whole : List ℕ) → Printed old new page rest whole → AppendsPrefix old new (encode_utf8_all whole)
-Printed-front old new page rest whole printed =
+-- what was written is a prefix of the whole
+pub Printed-prefix : (old new : Option (List ℕ)) (page rest whole : List ℕ) → Printed old new page rest whole → AppendsPrefix old new (encode_utf8_all whole)
+Printed-prefix old new page rest whole printed =
     (encode_utf8_all printed.0, (encode_utf8_all (page ++ rest), ap encode_utf8_all (sym printed.2) ∙ encodes-append printed.0 (page ++ rest)), printed.1)
 
--- so it is where a front of the page was written as well
-pub Printed-front_of_page : (old mid new : Option (List ℕ)) (page rest whole : List ℕ) → Printed old mid page rest whole → AppendsPrefix mid new (encode_utf8_all page) → AppendsPrefix old new (encode_utf8_all whole)
-Printed-front_of_page old mid new page rest whole printed written =
+-- so it is where a prefix of the page was written as well
+pub Printed-prefix_of_page : (old mid new : Option (List ℕ)) (page rest whole : List ℕ) → Printed old mid page rest whole → AppendsPrefix mid new (encode_utf8_all page) → AppendsPrefix old new (encode_utf8_all whole)
+Printed-prefix_of_page old mid new page rest whole printed written =
     let done = encode_utf8_all printed.0 in
     let more = written.1.0 ++ encode_utf8_all rest in (
       done ++ written.0,
@@ -95,17 +95,17 @@ Printed-last old new page last whole longer pushed printed =
 pub Printed-tried : {T E : Type 0} (old mid new : Option (List ℕ)) (page whole : List ℕ) (r : Result T E) → Printed old mid page [] whole
     → OnOk r (Appends mid new (encode_utf8_all page)) → OnErr r (AppendsPrefix mid new (encode_utf8_all page)) → AppendsPrefix old new (encode_utf8_all whole)
 Printed-tried old mid new page whole (Ok x) printed ok err =
-    Printed-front_of_page old mid new page [] whole printed (encode_utf8_all page, ([], sym (append-nil (encode_utf8_all page))), ok)
-Printed-tried old mid new page whole (Err e) printed ok err = Printed-front_of_page old mid new page [] whole printed err
+    Printed-prefix_of_page old mid new page [] whole printed (encode_utf8_all page, ([], sym (append-nil (encode_utf8_all page))), ok)
+Printed-tried old mid new page whole (Err e) printed ok err = Printed-prefix_of_page old mid new page [] whole printed err
 
--- a front of what comes first is a front of all
-pub Front-more : (old new : Option (List ℕ)) (first more : List ℕ) → AppendsPrefix old new first → AppendsPrefix old new (first ++ more)
-Front-more old new first more front =
+-- a prefix of what comes first is a prefix of all
+pub AppendsPrefix-more : (old new : Option (List ℕ)) (first more : List ℕ) → AppendsPrefix old new first → AppendsPrefix old new (first ++ more)
+AppendsPrefix-more old new first more front =
     (front.0, (front.1.0 ++ more, ap (λ bytes. bytes ++ more) front.1.1 ∙ append_assoc front.0 front.1.0 more), front.2)
 
--- so is a front of what comes behind what was written
-pub Front-behind : (old mid new : Option (List ℕ)) (first more : List ℕ) → Appends old mid first → AppendsPrefix mid new more → AppendsPrefix old new (first ++ more)
-Front-behind old mid new first more written front = (
+-- so is a prefix of what comes behind what was written
+pub AppendsPrefix-behind : (old mid new : Option (List ℕ)) (first more : List ℕ) → Appends old mid first → AppendsPrefix mid new more → AppendsPrefix old new (first ++ more)
+AppendsPrefix-behind old mid new first more written front = (
   first ++ front.0,
   (front.1.0, ap (λ bytes. first ++ bytes) front.1.1 ∙ sym (append_assoc first front.0 front.1.0)),
   Appends-trans old mid new first front.0 written front.2,
@@ -121,6 +121,6 @@ pub same-fault : {T E : Type 0} (r : Result T E) (fault other : E) → IsErrAnd 
 same-fault (Ok done) fault other is e = absurd (search (rules, is))
 same-fault (Err handed) fault other is e = cc
 
--- all that is typed is a front of it
+-- all that is typed is a prefix of it
 pub AppendsPrefix-whole : (old new : Option (List ℕ)) (whole : List ℕ) → Appends old new whole → AppendsPrefix old new whole
 AppendsPrefix-whole old new whole appends = (whole, ([], sym (append-nil whole)), appends)

@@ -119,21 +119,21 @@ no_bad_line unique texts lines number says bad =
     let at = says-at unique [] bad.before bad.behind bad.bad bad.lines lines bad.said (subst (λ (ts : List (List ℕ)). Says [] ts lines) bad.parts says) in
     bad.none at.0 at.1 at.2
 
--- a shorter front of a list is the front of a longer one
-front-of : (before others behind rest : List (List ℕ)) (bad other : List ℕ) → before ++ bad ∷ behind ≡ others ++ other ∷ rest → length before < length others →
+-- a shorter prefix of a list is a prefix of a longer one
+prefix-of : (before others behind rest : List (List ℕ)) (bad other : List ℕ) → before ++ bad ∷ behind ≡ others ++ other ∷ rest → length before < length others →
     (more : List (List ℕ)) × (others ≡ before ++ bad ∷ more)
-front-of [] [] behind rest bad other e less = absurd (omega arith)
-front-of [] (first ∷ others) behind rest bad other e less = (others, let same : first ≡ bad = cc in ap (λ t. t ∷ others) same)
-front-of (one ∷ before) [] behind rest bad other e less = absurd (omega arith)
-front-of (one ∷ before) (first ∷ others) behind rest bad other e less =
+prefix-of [] [] behind rest bad other e less = absurd (omega arith)
+prefix-of [] (first ∷ others) behind rest bad other e less = (others, let same : first ≡ bad = cc in ap (λ t. t ∷ others) same)
+prefix-of (one ∷ before) [] behind rest bad other e less = absurd (omega arith)
+prefix-of (one ∷ before) (first ∷ others) behind rest bad other e less =
     let same : first ≡ one = cc in
-    let more = front-of before others behind rest bad other (cc) (omega arith) in
+    let more = prefix-of before others behind rest bad other (cc) (omega arith) in
     (more.0, ap (λ t. t ∷ others) same ∙ ap (λ ts. one ∷ ts) more.1)
 
 -- the first line that is none does not stand before another that is so
 not_before : OneListOfKeys → (texts : List (List ℕ)) (number other : ℕ) → IsFirstBad texts number → IsFirstBad texts other → ¬ (number < other)
 not_before unique texts number other bad also less =
-    let more = front-of bad.before also.before bad.behind also.behind bad.bad also.bad (sym bad.parts ∙ also.parts) (omega (arith, bad.place, also.place)) in
+    let more = prefix-of bad.before also.before bad.behind also.behind bad.bad also.bad (sym bad.parts ∙ also.parts) (omega (arith, bad.place, also.place)) in
     let at = says-at unique [] bad.before more.0 bad.bad bad.lines also.lines bad.said (subst (λ (ts : List (List ℕ)). Says [] ts also.lines) more.1 also.said) in
     bad.none at.0 at.1 at.2
 

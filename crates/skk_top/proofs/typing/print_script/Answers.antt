@@ -2,7 +2,7 @@ use Rattle.std.proofs.Common.{◌++◌, [], refl, ap, arith, Err, rules}
 use Rattle.skk_top.specs.Sessions.{sessions_from}
 use Rattle.skk_top.specs.Typed.{closing_lines}
 use Rattle.skk_top.specs.declared.fault.RunFault.TheVariants.{Outside, NotBuilt}
-use Rattle.skk_top.proofs.Pages.{Printed-front_of_page, Printed-last, Printed-tried, Printed-whole, Printed-written}
+use Rattle.skk_top.proofs.Pages.{Printed-prefix_of_page, Printed-last, Printed-tried, Printed-whole, Printed-written}
 use Rattle.skk_top.proofs.Typed.{leaves-fault, leaves-handed, leaves-whole, Rose-behind}
 use Rattle.skk_top.proofs.typing.print_script.Goals as goal
 
@@ -12,7 +12,7 @@ returns-in_err-close_sessions-in-Ok g c =
     let fault = c.in_err-close_sessions-in-Ok.field-0.0 in
     leaves-handed c.args.rules.now c.args.script.now c.from_residual-in_err-close_sessions-in-Ok.result fault _ _ _ _ c.from_residual-in_err-close_sessions-in-Ok.ensures.1
     (leaves-fault c.args.rules.now c.args.script.now fault _ _ _ _
-    (Printed-front_of_page _ _ _ (c.type_lines.new.page ++ closing) [] _ (Printed-last _ _ c.type_lines.new.page closing _ (c.type_lines.new.page ++ closing) refl c.in-Ok.ensures.ok) c.in_err-close_sessions-in-Ok.ensures.err)
+    (Printed-prefix_of_page _ _ _ (c.type_lines.new.page ++ closing) [] _ (Printed-last _ _ c.type_lines.new.page closing _ (c.type_lines.new.page ++ closing) refl c.in-Ok.ensures.ok) c.in_err-close_sessions-in-Ok.ensures.err)
     (λ e. absurd (c.in_err-close_sessions-in-Ok.ensures.built (ap Err e))) (λ e. Rose-behind _ _ _ c.in-Ok.ensures.counted (c.in_err-close_sessions-in-Ok.ensures.outside (ap Err e))) c.in_err-close_sessions-in-Ok.ensures.fault (omega (arith, c.in-Ok.ensures.counted, c.in_err-close_sessions-in-Ok.ensures.counted)))
 
 pub returns-in_err-print-in-Ok : goal.returns-in_err-print-in-Ok
@@ -20,7 +20,7 @@ returns-in_err-print-in-Ok g c =
     let closing = closing_lines (sessions_from 1 c.type_lines.new.sessions.places.items) in
     leaves-handed c.args.rules.now c.args.script.now c.from_residual-in_err-print-in-Ok.result Outside _ _ _ _ c.from_residual-in_err-print-in-Ok.ensures.1
     (leaves-fault c.args.rules.now c.args.script.now Outside _ _ _ _
-    (Printed-front_of_page _ _ _ c.close_sessions.new.page [] _
+    (Printed-prefix_of_page _ _ _ c.close_sessions.new.page [] _
     (Printed-written _ _ _ (c.type_lines.new.page ++ closing) c.close_sessions.new.page [] _
     (Printed-last _ _ c.type_lines.new.page closing _ (c.type_lines.new.page ++ closing) refl c.in-Ok.ensures.ok) c.in_ok-close_sessions-in-Ok.ensures.ok)
     c.in_err-print-in-Ok.ensures.err)

@@ -3,7 +3,7 @@ use Rattle.skk_top.specs.Held.{line_at}
 use Rattle.skk_top.specs.Sessions.{sessions_from}
 use Rattle.skk_top.specs.Typed.{typed_from, are_taken_from}
 use Rattle.skk_top.proofs.LinesLeft.{at-line}
-use Rattle.skk_top.proofs.Pages.{on_err, press-not_built, Printed-front, Printed-front_of_page, Printed-parted, Printed-rest, Printed-written}
+use Rattle.skk_top.proofs.Pages.{on_err, press-not_built, Printed-prefix, Printed-prefix_of_page, Printed-parted, Printed-rest, Printed-written}
 use Rattle.skk_top.proofs.typing.type_lines.Goals as goal
 
 pub returns-in_err-type_line-clause-not_built : goal.returns-in_err-type_line-clause-not_built
@@ -26,7 +26,7 @@ returns-in_err-type_line-clause-waiting g c e =
     ∙ c.in_err-type_line.ensures.stops not_built (drop (place + 1) script)) c.loop-place.invariant.printed)
 
 pub returns-in_err-type_line-clause-err : goal.returns-in_err-type_line-clause-err
-returns-in_err-type_line-clause-err g c = on_err c.from_residual.result (Printed-front _ _ c.loop-place.page _ _ c.loop-place.invariant.printed)
+returns-in_err-type_line-clause-err g c = on_err c.from_residual.result (Printed-prefix _ _ c.loop-place.page _ _ c.loop-place.invariant.printed)
 
 pub returns-in_err-print_full-clause-err : goal.returns-in_err-print_full-clause-err
 returns-in_err-print_full-clause-err g c =
@@ -35,7 +35,7 @@ returns-in_err-print_full-clause-err g c =
     let behind = drop (place + 1) script in
     let typed = typed_from c.args.rules.now (sessions_from 1 c.loop-place.sessions.places.items) in
     on_err c.from_residual-in_err-print_full.result
-    (Printed-front_of_page _ _ _ c.type_line.new.page _ _
+    (Printed-prefix_of_page _ _ _ c.type_line.new.page _ _
     (Printed-parted _ _ c.loop-place.page (typed (drop place script)) c.type_line.new.page (typed_from c.args.rules.now (sessions_from 1 c.type_line.new.sessions.places.items) behind) _
     (c.in_ok-type_line.ensures.page behind ∙ ap (λ t. c.loop-place.page ++ t) (sym (at-line typed script place (line_at c.at.result) c.at.ensures.line))) c.loop-place.invariant.printed)
     c.in_err-print_full.ensures.err)

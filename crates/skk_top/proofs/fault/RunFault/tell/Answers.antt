@@ -1,7 +1,7 @@
 use Rattle.std.proofs.Common.{◌≡◌, ◌++◌, ◌∷◌, ◌∙◌, [], codes}
 use Rattle.std.specs.Fmt.{decimal}
 use Rattle.std.proofs.KnownBytes.{Appends-trans}
-use Rattle.skk_top.proofs.Pages.{on_err, each_err, Front-more, Front-behind}
+use Rattle.skk_top.proofs.Pages.{on_err, each_err, AppendsPrefix-more, AppendsPrefix-behind}
 use Rattle.skk_top.proofs.fault.RunFault.tell.Goals as goal
 
 pub returns-in-TooLong-clause-ok : goal.returns-in-TooLong-clause-ok
@@ -19,18 +19,18 @@ returns-in-NotBuilt-clause-ok g c = rw c.in-NotBuilt.is c.write_all-in-NotBuilt.
 pub returns-in_err-write_all-in-BadLine-clause-err : goal.returns-in_err-write_all-in-BadLine-clause-err
 returns-in_err-write_all-in-BadLine-clause-err g c =
     rw c.in-BadLine.is
-    (on_err c.from_residual.result (Front-more _ _ (codes "skk: line " ++ decimal c.in-BadLine.number) (10 ∷ []) (Front-more _ _ (codes "skk: line ") (decimal c.in-BadLine.number) c.in_err-write_all-in-BadLine.ensures.err)))
+    (on_err c.from_residual.result (AppendsPrefix-more _ _ (codes "skk: line " ++ decimal c.in-BadLine.number) (10 ∷ []) (AppendsPrefix-more _ _ (codes "skk: line ") (decimal c.in-BadLine.number) c.in_err-write_all-in-BadLine.ensures.err)))
 
 pub returns-in_err-write_all-in-BadLine-2-clause-err : goal.returns-in_err-write_all-in-BadLine-2-clause-err
 returns-in_err-write_all-in-BadLine-2-clause-err g c =
     let digits : c.as_bytes.result.now ≡ decimal c.in-BadLine.number = c.as_bytes.ensures.value ∙ c.format.ensures.text in
     rw c.in-BadLine.is
-    (on_err c.from_residual-in_err-write_all-in-BadLine-2.result (Front-more _ _ (codes "skk: line " ++ decimal c.in-BadLine.number) (10 ∷ [])
-    (Front-behind _ _ _ (codes "skk: line ") (decimal c.in-BadLine.number) c.in_ok-write_all-in-BadLine.ensures.ok (rw digits at c.in_err-write_all-in-BadLine-2.ensures.err))))
+    (on_err c.from_residual-in_err-write_all-in-BadLine-2.result (AppendsPrefix-more _ _ (codes "skk: line " ++ decimal c.in-BadLine.number) (10 ∷ [])
+    (AppendsPrefix-behind _ _ _ (codes "skk: line ") (decimal c.in-BadLine.number) c.in_ok-write_all-in-BadLine.ensures.ok (rw digits at c.in_err-write_all-in-BadLine-2.ensures.err))))
 
 pub returns-in_ok-write_all-in-BadLine-2-clause-err : goal.returns-in_ok-write_all-in-BadLine-2-clause-err
 returns-in_ok-write_all-in-BadLine-2-clause-err g c =
     let digits : c.as_bytes.result.now ≡ decimal c.in-BadLine.number = c.as_bytes.ensures.value ∙ c.format.ensures.text in
     let written = Appends-trans _ _ _ (codes "skk: line ") (decimal c.in-BadLine.number) c.in_ok-write_all-in-BadLine.ensures.ok (rw digits at c.in_ok-write_all-in-BadLine-2.ensures.ok) in
     rw c.in-BadLine.is
-    (each_err c.write_all-in-BadLine-3.result c.write_all-in-BadLine-3.ensures.err (λ front. Front-behind _ _ _ (codes "skk: line " ++ decimal c.in-BadLine.number) (10 ∷ []) written front))
+    (each_err c.write_all-in-BadLine-3.result c.write_all-in-BadLine-3.ensures.err (λ front. AppendsPrefix-behind _ _ _ (codes "skk: line " ++ decimal c.in-BadLine.number) (10 ∷ []) written front))
