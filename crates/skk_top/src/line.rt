@@ -9,6 +9,9 @@ use skk_text::{KeyFault, Keys, Memory, read_keys};
 use std::alloc::Global;
 use thiserror::Error;
 
+/// The greatest number of a session.
+pub const SESSIONS: u32 = 64;
+
 /// What a line of a script says.
 #[derive(Debug, Drop)]
 pub enum Line {
@@ -59,7 +62,7 @@ pub fn read_line(alloc: Global, text: &[u8]) -> Result<Line, LineFault>
     let Some((session, mark, rest)) = number_then(text) else {
         return Err(LineFault::NoLine);
     };
-    if session < 1 || session > 64 {
+    if session < 1 || session > SESSIONS {
         return Err(LineFault::NoLine);
     }
     read_behind(alloc, session as u8, mark, rest)

@@ -1,11 +1,9 @@
 ghost use Rattle.std.specs.Prelude.{◌≡◌, vec_len};
 
+use crate::line::SESSIONS;
 use crate::session_machine::Session;
 use skk_text::Memory;
 use std::alloc::Global;
-
-/// How many sessions a script may have.
-pub const SESSIONS: u8 = 64;
 
 /// The sessions of a script, each in the place of its number. One that no line named is not there, and costs
 /// its place alone.

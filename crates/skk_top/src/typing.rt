@@ -15,11 +15,12 @@ ghost use Rattle.skk_top.specs.declared.line.Line.{Line};
 ghost use Rattle.skk_top.specs.declared.session_machine.Session.{Session};
 
 use crate::fault::RunFault;
+use crate::line::SESSIONS;
 use crate::page::{print, print_full};
 use crate::printing::{push_closing_line, push_output_line};
 use crate::script::{Script, ScriptLine};
 use crate::session_machine::{PressFault, Session};
-use crate::sessions::{SESSIONS, Sessions};
+use crate::sessions::Sessions;
 use romaji_rules::Rules;
 use skk_outside::Sink;
 use skk_text::{Key, Memory, Text};
@@ -166,7 +167,7 @@ fn close_sessions<O: Sink>(
     ensures counted { O.faults out.old ≤ O.faults out.new }
 {
     for place in 0..SESSIONS {
-        close_session(sessions, place + 1, page)?;
+        close_session(sessions, place as u8 + 1, page)?;
         print_full(alloc, out, page)?;
     }
     Ok(())
