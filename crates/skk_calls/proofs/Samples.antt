@@ -1,7 +1,17 @@
--- A small dictionary, on which the definitions can be checked by hand.
-use Rattle.std.proofs.Common.{ℕ, List, [], ◌∷◌, codes}
+-- A small dictionary, on which the definitions can be checked by hand, and tables of what definitions give.
+use Rattle.std.proofs.Common.{◌≡◌, ℕ, List, [], ◌∷◌, codes, map}
+use Rattle.skk_calls.specs.declared.book.NumberedBook.{NumberedBook}
 use Rattle.skk_calls.specs.declared.part.Part.TheVariants.{Nasi, Ari}
 use Rattle.skk_calls.specs.Rows.{RowKey, Cand, Block, Row}
+use Rattle.skk_calls.specs.States.{State}
+
+-- a function gives what a table says of each argument
+abbrev pub Gives : {X Y : Type 0} → (X → Y) → List (X × Y) → Type 0
+Gives f table = map (λ line. f line.0) table ≡ map (λ line. line.1) table
+
+-- a function of two arguments gives what a table says of each pair
+abbrev pub Gives2 : {X Y Z : Type 0} → (X → Y → Z) → List (X × Y × Z) → Type 0
+Gives2 f table = map (λ line. f line.0 line.1) table ≡ map (λ line. line.2) table
 
 -- a word without a note, and a word with one
 abbrev pub plain : List ℕ → Cand
@@ -27,6 +37,28 @@ plain_row reading cands = record { key = nasi reading; cands = cands; blocks = [
 
 abbrev pub block_row : List ℕ → List Cand → List Block → Row
 block_row reading cands blocks = record { key = ari reading; cands = cands; blocks = blocks; hides = []; stamp = 0 }
+
+-- a row of a book: its key, candidates, blocks, hidden words and stamp
+abbrev pub row : RowKey → List Cand → List Block → List (List ℕ) → ℕ → Row
+row key cands blocks hides stamp = record { key = key; cands = cands; blocks = blocks; hides = hides; stamp = stamp }
+
+-- a book: its number, its count and its rows
+abbrev pub book : ℕ → ℕ → List Row → NumberedBook
+book number count rows = record { number = number; count = count; rows = rows }
+
+-- a state of these books
+abbrev pub books : List NumberedBook → State
+books all = record { books = all }
+
+-- short texts
+abbrev pub a : List ℕ
+a = codes "a"
+
+abbrev pub b : List ℕ
+b = codes "b"
+
+abbrev pub c : List ℕ
+c = codes "c"
 
 -- the rows of the dictionary
 abbrev pub nen : Row

@@ -14,9 +14,9 @@ use Rattle.skk_calls.specs.declared.part.Part.TheVariants.{Nasi}
 use Rattle.skk_calls.specs.Canonical.{canonical, line_limit}
 use Rattle.skk_calls.specs.Completions.{completions}
 use Rattle.skk_calls.specs.Found.{found}
-use Rattle.skk_calls.specs.Learning.{learnt, purged, purge_changes, is_learned}
-use Rattle.skk_calls.specs.Rows.{RowKey, Row, same_key, is_key, is_okuri, is_cand, is_row, is_word}
-use Rattle.skk_calls.specs.States.{State, row_at, count_of, changed}
+use Rattle.skk_calls.specs.Learning.{learnt, purged, purge_changes, unlearnt, is_valid_learned}
+use Rattle.skk_calls.specs.Rows.{RowKey, Row, same_key, is_row_key, is_okuri, is_cand, is_row, is_word}
+use Rattle.skk_calls.specs.States.{State, row_at, count_of, state_with}
 
 -- the last count of a book, and the greatest number that is told
 abbrev pub last_count : ℕ
@@ -26,17 +26,18 @@ last_count = 2 ^ 64 - 1
 abbrev pub line_length : Row → ℕ
 line_length row = min (byte_len (canonical row)) last_count
 
--- the reply to a change of a book with this count, to a row: the stamps have ended, the row is too big, or this one
-abbrev pub allowed : ℕ → Row → Reply → Reply
-allowed count after reply =
+-- the reply to a change of a book with this count that would leave this row: the stamps have ended, the row is too big,
+-- or the reply that tells of the change
+abbrev pub change_reply : ℕ → Row → Reply → Reply
+change_reply count after reply =
     if count == last_count then replies.StampsEnd
     else if nat_lt line_limit (line_length after) then replies.TooBig (line_length after)
     else reply
 
--- the row is there with exactly this stamp
-abbrev pub has_exactly : ℕ → Option Row → Bool
-has_exactly stamp None = false
-has_exactly stamp (Some row) = row.stamp == stamp
+-- a row is there, with exactly this stamp
+abbrev pub is_stamped : ℕ → Option Row → Bool
+is_stamped stamp None = false
+is_stamped stamp (Some row) = row.stamp == stamp
 
 -- the stamp of a row, 0 where there is none
 abbrev pub stamp_of : Option Row → ℕ
@@ -50,18 +51,18 @@ answer files state (Complete who prefix) = replies.Readings (completions files s
 answer files state (Learn book key okuri cand) =
     let before = row_at state book key in
     let stamp = count_of state book + 1 in
-    allowed (count_of state book) (learnt before key okuri cand stamp)
+    change_reply (count_of state book) (learnt before key okuri cand stamp)
     (replies.Learned (record { book = book; key = key; stamp = stamp; before = before }))
 answer files state (Purge book key word) =
     let before = row_at state book key in
     if purge_changes before key word
-    then allowed (count_of state book) (purged before key word (count_of state book + 1)) replies.Purged
+    then change_reply (count_of state book) (purged before key word (count_of state book + 1)) replies.Purged
     else replies.Unchanged
 answer files state (Unlearn learned) =
     let row = row_at state learned.book learned.key in
-    if has_exactly learned.stamp row then replies.Restored else replies.Overtaken (stamp_of row)
+    if is_stamped learned.stamp row then replies.Restored else replies.Overtaken (stamp_of row)
 
--- the replies that tell of a change
+-- a reply tells of a change
 abbrev pub is_change : Reply → Bool
 is_change (replies.Learned learned) = true
 is_change replies.Purged = true
@@ -72,56 +73,58 @@ is_change reply = false
 abbrev pub moves : State → Call → Bool
 moves state call = is_change (answer [] state call)
 
--- the state that a call makes where it changes it
-abbrev pub moved : State → Call → State
-moved state (Lookup who key okuri) = state
-moved state (Complete who prefix) = state
-moved state (Learn book key okuri cand) =
+-- the state that a call makes where it changes the state
+abbrev pub state_moved : State → Call → State
+state_moved state (Lookup who key okuri) = state
+state_moved state (Complete who prefix) = state
+state_moved state (Learn book key okuri cand) =
     let stamp = count_of state book + 1 in
-    changed book stamp key (Some (learnt (row_at state book key) key okuri cand stamp)) state
-moved state (Purge book key word) =
+    state_with state book stamp key (Some (learnt (row_at state book key) key okuri cand stamp))
+state_moved state (Purge book key word) =
     let stamp = count_of state book + 1 in
-    changed book stamp key (Some (purged (row_at state book key) key word stamp)) state
-moved state (Unlearn learned) = changed learned.book (count_of state learned.book) learned.key learned.before state
+    state_with state book stamp key (Some (purged (row_at state book key) key word stamp))
+state_moved state (Unlearn learned) =
+    state_with state learned.book (count_of state learned.book) learned.key (unlearnt learned)
 
 -- the state after a call
 abbrev pub after : State → Call → State
-after state call = if moves state call then moved state call else state
+after state call = if moves state call then state_moved state call else state
 
--- a call speaks of a row: the one of its key in its book, which it may change
+-- a call speaks of a row: the one of its key in its book, which the call may change
 abbrev pub speaks_of : Call → ℕ → RowKey → Bool
 speaks_of (Learn book key okuri cand) number other = book == number && same_key key other
 speaks_of (Purge book key word) number other = book == number && same_key key other
 speaks_of (Unlearn learned) number other = learned.book == number && same_key learned.key other
 speaks_of call number other = false
 
--- the word of a purge is a word; every other call is fit by its types
+-- a call may be made: the word of a purge is a word, and every other call is fit by its types
 abbrev pub is_fit : Call → Bool
 is_fit (Purge book key word) = is_word word
 is_fit call = true
 
--- an okurigana that may not be there, and a row
+-- an okurigana is valid, where there is one
 abbrev pub is_okuri_or_none : Option (List ℕ) → Bool
 is_okuri_or_none None = true
 is_okuri_or_none (Some okuri) = is_okuri okuri
 
+-- a row is one, where there is one
 abbrev pub is_row_or_none : Option Row → Bool
 is_row_or_none None = true
 is_row_or_none (Some row) = is_row row
 
--- what the types of a call's parts keep
+-- a call has what the types of its parts keep
 abbrev pub is_call : Call → Bool
-is_call (Lookup who key okuri) = is_key key && is_okuri_or_none okuri
+is_call (Lookup who key okuri) = is_row_key key && is_okuri_or_none okuri
 is_call (Complete who prefix) = true
-is_call (Learn book key okuri cand) = is_key key && (is_okuri_or_none okuri && is_cand cand)
-is_call (Purge book key word) = is_key key
-is_call (Unlearn learned) = is_key learned.key && (is_learned learned && is_row_or_none learned.before)
+is_call (Learn book key okuri cand) = is_row_key key && (is_okuri_or_none okuri && is_cand cand)
+is_call (Purge book key word) = is_row_key key
+is_call (Unlearn learned) = is_row_key learned.key && (is_valid_learned learned && is_row_or_none learned.before)
 
--- a reading without okurigana that is valid
+-- a reading is valid without okurigana
 abbrev pub is_plain_reading : List ℕ → Bool
-is_plain_reading reading = is_key (record { part = Nasi; reading = reading })
+is_plain_reading reading = is_row_key (record { part = Nasi; reading = reading })
 
--- the replies of each kind of call; the readings of a completion are valid
+-- a call may get this reply: one of its kind, with valid readings where it is a completion
 abbrev pub may_reply : Call → Reply → Bool
 may_reply (Lookup who key okuri) (replies.Found cands) = true
 may_reply (Complete who prefix) (replies.Readings readings) = list_all is_plain_reading readings
@@ -136,14 +139,14 @@ may_reply (Unlearn learned) replies.Restored = true
 may_reply (Unlearn learned) (replies.Overtaken stamp) = true
 may_reply call reply = false
 
--- lookups and completions are refused for want of memory alone
+-- a call may be refused so: a lookup or a completion for lack of memory alone
 abbrev pub may_refuse : Call → Refusal → Bool
 may_refuse call refusals.Memory = true
 may_refuse (Lookup who key okuri) refusal = false
 may_refuse (Complete who prefix) refusal = false
 may_refuse call refusal = true
 
--- the answers that a caller may give to a call
+-- a call may be answered so
 abbrev pub may_answer : Call → Answer → Bool
 may_answer call (Done reply) = may_reply call reply
 may_answer call (Refused refusal) = may_refuse call refusal

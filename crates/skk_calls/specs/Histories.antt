@@ -9,7 +9,7 @@ use Rattle.skk_calls.specs.declared.call.Call.{Call}
 use Rattle.skk_calls.specs.declared.call.Call.TheVariants.{Lookup, Complete, Learn, Purge, Unlearn}
 use Rattle.skk_calls.specs.Canonical.{canonical}
 use Rattle.skk_calls.specs.Dictionary.{answer, is_change, moves, after}
-use Rattle.skk_calls.specs.Learning.{learnt, purged}
+use Rattle.skk_calls.specs.Learning.{learnt, purged, unlearnt}
 use Rattle.skk_calls.specs.Rows.{RowKey, Row}
 use Rattle.skk_calls.specs.States.{State, row_at, count_of}
 
@@ -27,58 +27,101 @@ pub record Opening : Type 0 where
   pub end : ℕ
   pub limit : ℕ
 
--- an answer that tells of a change
-abbrev pub is_changed : Answer → Bool
-is_changed (Done reply) = is_change reply
-is_changed (Refused refusal) = false
+-- an answer tells of a change
+abbrev pub tells_change : Answer → Bool
+tells_change (Done reply) = is_change reply
+tells_change (Refused refusal) = false
 
--- the state after a call with this answer: a refused call changes nothing
-abbrev pub answered : State → Call → Answer → State
-answered state call (Done reply) = after state call
-answered state call (Refused refusal) = state
+-- the state after a call with this answer, where a refused call changes nothing
+abbrev pub after_answer : State → Call → Answer → State
+after_answer state call (Done reply) = after state call
+after_answer state call (Refused refusal) = state
 
 -- the state after an entry
-abbrev pub entered : State → Entry → State
-entered state entry = answered state entry.call entry.answer
+abbrev pub after_entry : State → Entry → State
+after_entry state entry = after_answer state entry.call entry.answer
 
 -- the state after a history
 abbrev pub state_after : State → List Entry → State
 state_after state [] = state
-state_after state (entry ∷ history) = state_after (entered state entry) history
+state_after state (entry ∷ history) = state_after (after_entry state entry) history
 
--- the entries that changed something
-abbrev pub changes : List Entry → List Entry
-changes history = filter (λ entry. is_changed entry.answer) history
+-- the calls of a history that changed something, in order
+abbrev pub changes : List Entry → List Call
+changes history = map (λ entry. entry.call) (filter (λ entry. tells_change entry.answer) history)
 
--- the bytes that the record of a row needs in the learned file, and that of a row that is taken out
+-- the bytes of the gate of a record in the learned file
+abbrev pub gate_bytes : ℕ
+gate_bytes = 1
+
+-- the bytes of a record's length
+abbrev pub length_bytes : ℕ
+length_bytes = 4
+
+-- the bytes that tell a record's kind
+abbrev pub kind_bytes : ℕ
+kind_bytes = 1
+
+-- the bytes of a book's number
+abbrev pub book_bytes : ℕ
+book_bytes = 2
+
+-- the bytes of a book's count
+abbrev pub count_bytes : ℕ
+count_bytes = 8
+
+-- the bytes of a row's stamp
+abbrev pub stamp_bytes : ℕ
+stamp_bytes = 8
+
+-- the bytes that tell a part of the dictionary
+abbrev pub part_bytes : ℕ
+part_bytes = 1
+
+-- the bytes that the record of a row needs
 abbrev pub put_need : Row → ℕ
-put_need row = 25 + byte_len (canonical row)
+put_need row =
+    gate_bytes + length_bytes + kind_bytes + book_bytes + count_bytes + stamp_bytes + part_bytes + byte_len (canonical row)
 
+-- the bytes that the record of a row that is taken out needs
 abbrev pub drop_need : RowKey → ℕ
-drop_need key = 17 + byte_len key.reading
+drop_need key =
+    gate_bytes + length_bytes + kind_bytes + book_bytes + count_bytes + part_bytes + byte_len key.reading
 
--- the bytes that a change needs
+-- the bytes that the record of what a key has after it was taken back needs
 abbrev pub restored_need : RowKey → Option Row → ℕ
 restored_need key None = drop_need key
 restored_need key (Some row) = put_need row
 
+-- the bytes that a call needs in the learned file where it changes something
 abbrev pub need : State → Call → ℕ
 need state (Lookup who key okuri) = 0
 need state (Complete who prefix) = 0
 need state (Learn book key okuri cand) = put_need (learnt (row_at state book key) key okuri cand (count_of state book + 1))
 need state (Purge book key word) = put_need (purged (row_at state book key) key word (count_of state book + 1))
-need state (Unlearn learned) = restored_need learned.key learned.before
+need state (Unlearn learned) = restored_need learned.key (unlearnt learned)
 
--- the end of the learned file after an entry, and after a history
+-- the end of the learned file after an entry
 abbrev pub end_after : State → ℕ → Entry → ℕ
-end_after state end entry = if is_changed entry.answer then end + need state entry.call else end
+end_after state end entry = if tells_change entry.answer then end + need state entry.call else end
 
+-- the end of the learned file after a history
 abbrev pub room : State → ℕ → List Entry → ℕ
 room state end [] = end
-room state end (entry ∷ history) = room (entered state entry) (end_after state end entry) history
+room state end (entry ∷ history) = room (after_entry state entry) (end_after state end entry) history
 
--- the answer is the dictionary's at this state and end, or a refusal with its cause: want of memory, a disk that
--- failed a change, or a learned file that has no room for a change
+-- the state after calls, one after another
+abbrev pub after_calls : State → List Call → State
+after_calls state [] = state
+after_calls state (call ∷ calls) = after_calls (after state call) calls
+
+-- the bytes that calls need, each at the state that those before it leave
+abbrev pub needs : State → List Call → ℕ
+needs state [] = 0
+needs state (call ∷ calls) = need state call + needs (after state call) calls
+
+-- an answer is the dictionary's at this state and end, or a refusal with its cause: lack of memory, a disk that failed a
+-- change, or a learned file that has no room for a change
 abbrev pub IsLegalAnswer : Opening → State → ℕ → Call → Answer → Type 0
 IsLegalAnswer opening state end call (Done reply) = reply ≡ answer opening.files state call
 IsLegalAnswer opening state end call (Refused refusals.Memory) = ⊤
@@ -90,29 +133,30 @@ IsLegalAnswer opening state end call (Refused (refusals.JournalFull told_end tol
 -- each answer of a history is legal at its place
 abbrev pub IsLegal : Opening → List Entry → Type 0
 IsLegal opening history =
-    (front : List Entry) (entry : Entry) (rest : List Entry) → history ≡ front ++ entry ∷ rest
-    → IsLegalAnswer opening (state_after opening.state front) (room opening.state opening.end front) entry.call entry.answer
+    (prefix : List Entry) (entry : Entry) (rest : List Entry) → history ≡ prefix ++ entry ∷ rest
+    → IsLegalAnswer opening (state_after opening.state prefix) (room opening.state opening.end prefix) entry.call entry.answer
 
--- the calls of one caller with their answers, in order
+-- what an entry says of a caller: its call and its answer, where the entry is this caller's
 abbrev pub said_by : ℕ → Entry → Option (Call × Answer)
 said_by number entry = if entry.number == number then Some (entry.call, entry.answer) else None
 
+-- the calls of one caller with their answers, in order
 abbrev pub dialog : List Entry → ℕ → List (Call × Answer)
 dialog history number = filter_map (said_by number) history
 
--- the calls that are in doubt after an answer: a change ends all doubt, and a change that a disk failed is in doubt
-abbrev pub doubted : List Call → Call → Answer → List Call
-doubted calls call (Done reply) = if is_change reply then [] else calls
-doubted calls call (Refused refusals.Disk) = calls ++ call ∷ []
-doubted calls call (Refused refusal) = calls
+-- the calls in doubt after an answer, where a change ends all doubt and a change that a disk failed is in doubt
+abbrev pub in_doubt_after : List Call → Call → Answer → List Call
+in_doubt_after calls call (Done reply) = if is_change reply then [] else calls
+in_doubt_after calls call (Refused refusals.Disk) = calls ++ call ∷ []
+in_doubt_after calls call (Refused refusal) = calls
 
--- the calls that were refused for a disk that failed, since the last change
+-- the calls in doubt after a history: those that were refused for a disk that failed, since the last change
 abbrev pub in_doubt : List Call → List Entry → List Call
 in_doubt calls [] = calls
-in_doubt calls (entry ∷ history) = in_doubt (doubted calls entry.call entry.answer) history
+in_doubt calls (entry ∷ history) = in_doubt (in_doubt_after calls entry.call entry.answer) history
 
 -- the states that a stop may leave: the one after the history, and those after each change in doubt
-abbrev pub left : State → List Entry → List State
-left state history =
+abbrev pub states_left : State → List Entry → List State
+states_left state history =
     let now = state_after state history in
     now ∷ map (after now) (in_doubt [] history)

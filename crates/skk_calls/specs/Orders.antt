@@ -6,30 +6,31 @@ use Rattle.skk_calls.specs.declared.part.Part.{Part}
 use Rattle.skk_calls.specs.declared.part.Part.TheVariants.{Nasi, Ari}
 use Rattle.skk_calls.specs.Rows.{RowKey, Row}
 
--- the text is less than the other by its bytes
+-- a text is less than another by its bytes
 abbrev pub text_less : List ℕ → List ℕ → Bool
 text_less text other = is_lt (slice_cmp nat_cmp (encode_utf8_all text) (encode_utf8_all other))
 
--- keys without okurigana stand before those with it, and each part ascends by the bytes of the reading
-abbrev pub by_part : Part → Part → Bool → Bool
-by_part Nasi Ari less = true
-by_part Ari Nasi less = false
-by_part part other less = less
+-- a part without okurigana stands before one with it, and within a part the readings decide
+abbrev pub less_by_part : Part → Part → Bool → Bool
+less_by_part Nasi Ari reading_less = true
+less_by_part Ari Nasi reading_less = false
+less_by_part part other reading_less = reading_less
 
+-- a key is less than another: by its part, and then by the bytes of its reading
 abbrev pub key_less : RowKey → RowKey → Bool
-key_less key other = by_part key.part other.part (text_less key.reading other.reading)
+key_less key other = less_by_part key.part other.part (text_less key.reading other.reading)
 
--- of two rows the one with the greater stamp is newer; of equal stamps the one whose reading is less
+-- a row is newer than another: its stamp is greater, or equal and its reading less
 abbrev pub is_newer : Row → Row → Bool
 is_newer row other =
     nat_lt other.stamp row.stamp || (nat_eq row.stamp other.stamp && text_less row.key.reading other.key.reading)
 
--- an item put in its place among others that are in order
-abbrev pub placed : {X : Type 0} → (X → X → Bool) → X → List X → List X
-placed before x [] = x ∷ []
-placed before x (y ∷ ys) = if before x y then x ∷ y ∷ ys else y ∷ placed before x ys
+-- a list that is in order with one more item at its place
+abbrev pub insert_by : {X : Type 0} → (X → X → Bool) → X → List X → List X
+insert_by before x [] = x ∷ []
+insert_by before x (y ∷ ys) = if before x y then x ∷ y ∷ ys else y ∷ insert_by before x ys
 
 -- a list in order
-abbrev pub in_order : {X : Type 0} → (X → X → Bool) → List X → List X
-in_order before [] = []
-in_order before (x ∷ xs) = placed before x (in_order before xs)
+abbrev pub sort_by : {X : Type 0} → (X → X → Bool) → List X → List X
+sort_by before [] = []
+sort_by before (x ∷ xs) = insert_by before x (sort_by before xs)

@@ -3,6 +3,7 @@ use Rattle.std.specs.Prelude.{◌≡◌, ◌++◌, ℕ, ◌+◌, Bool, true, fal
 use Rattle.std.specs.List.{list_any, list_all}
 use Rattle.std.specs.Str.{bytes_eq}
 use Rattle.skk_text.specs.Kana.{is_hiragana}
+use Rattle.skk_text.specs.Pairs.{all_pairs}
 use Rattle.skk_text.specs.Text.{byte_len, last_chars}
 use Rattle.skk_calls.specs.declared.part.Part.{Part}
 use Rattle.skk_calls.specs.declared.part.Part.TheVariants.{Nasi, Ari}
@@ -37,53 +38,55 @@ pub record Learned : Type 0 where
   pub stamp : ℕ
   pub before : Option Row
 
--- texts are the same, and stand in a list
-abbrev pub same : List ℕ → List ℕ → Bool
-same text other = bytes_eq text other
+-- two texts have the same characters
+abbrev pub same_text : List ℕ → List ℕ → Bool
+same_text text other = bytes_eq text other
 
-abbrev pub has : List (List ℕ) → List ℕ → Bool
-has texts text = list_any (same text) texts
+-- a text stands in a list of texts
+abbrev pub has_text : List (List ℕ) → List ℕ → Bool
+has_text texts text = list_any (same_text text) texts
 
--- no text stands twice
-abbrev pub differ : List (List ℕ) → Bool
-differ [] = true
-differ (text ∷ texts) = not (has texts text) && differ texts
+-- no text stands twice in a list
+abbrev pub texts_differ : List (List ℕ) → Bool
+texts_differ texts = all_pairs (λ text other. not (same_text text other)) texts
 
--- parts, and keys, are the same
+-- two parts of a dictionary are the same
 abbrev pub same_part : Part → Part → Bool
 same_part Nasi Nasi = true
 same_part Ari Ari = true
 same_part part other = false
 
+-- two keys have the same part and the same reading
 abbrev pub same_key : RowKey → RowKey → Bool
-same_key key other = same_part key.part other.part && same key.reading other.reading
+same_key key other = same_part key.part other.part && same_text key.reading other.reading
 
--- the text is not empty, and begins with something else than `;`
+-- a text is not empty, and begins with something else than `;`
 abbrev pub begins_well : List ℕ → Bool
 begins_well [] = false
 begins_well (c ∷ text) = not (c == 0x3B)
 
--- a character of a reading: none up to the space, and no DEL
+-- a character may stand in a reading: it lies behind the space, and is no DEL
 abbrev pub is_reading_char : ℕ → Bool
 is_reading_char c = nat_lt 0x20 c && not (c == 0x7F)
 
--- the text is one letter from `a` to `z`
+-- a text is one letter from `a` to `z`
 abbrev pub is_letter : List ℕ → Bool
 is_letter [] = false
 is_letter (c ∷ []) = nat_le 0x61 c && nat_le c 0x7A
 is_letter (c ∷ d ∷ text) = false
 
--- a reading without okurigana has at most 254 bytes; one with it has at most 255, and ends in its letter behind
+-- a reading without okurigana has at most 254 bytes, and one with it has at most 255 and ends in its letter behind
 -- something else
 abbrev pub fits_part : Part → List ℕ → Bool
 fits_part Nasi text = nat_le (byte_len text) 254
 fits_part Ari text = nat_le (byte_len text) 255 && (nat_le 2 (length text) && is_letter (last_chars 1 text))
 
--- a key whose reading is valid
-abbrev pub is_key : RowKey → Bool
-is_key key = begins_well key.reading && (list_all is_reading_char key.reading && fits_part key.part key.reading)
+-- a key has a reading that is valid in its part
+abbrev pub is_row_key : RowKey → Bool
+is_row_key key =
+    begins_well key.reading && (list_all is_reading_char key.reading && fits_part key.part key.reading)
 
--- a character of an okurigana: a hiragana that has a katakana, or ー
+-- a character may stand in an okurigana: it is a hiragana that has a katakana, or ー
 abbrev pub is_okuri_char : ℕ → Bool
 is_okuri_char c = is_hiragana c || c == 0x30FC
 
@@ -91,31 +94,33 @@ is_okuri_char c = is_hiragana c || c == 0x30FC
 abbrev pub is_okuri : List ℕ → Bool
 is_okuri text = nat_le 1 (byte_len text) && (nat_le (byte_len text) 60 && list_all is_okuri_char text)
 
--- a character of a note is no `/`, CR or LF
+-- a character may stand in a note: it is no `/`, CR or LF
 abbrev pub is_note_char : ℕ → Bool
 is_note_char c = not (c == 0x2F || (c == 13 || c == 10))
 
--- a note may stand in an item
+-- a note has such characters alone
 abbrev pub is_note : List ℕ → Bool
 is_note note = list_all is_note_char note
 
--- the most bytes of a word, with its note
+-- the most bytes of a word with its note
 abbrev pub word_limit : ℕ
 word_limit = 4095
 
--- a word that is not empty, and not too long
+-- a word is not empty, and not too long
 abbrev pub is_word : List ℕ → Bool
 is_word word = nat_le 1 (length word) && nat_le (byte_len word) word_limit
 
--- a candidate has a word, and a note that stands in an item; both together are not too long
+-- a candidate has a word and a valid note, which are not too long together
 abbrev pub is_cand : Cand → Bool
 is_cand cand =
     nat_le 1 (length cand.word)
     && (is_note cand.note && nat_le (byte_len cand.word + byte_len cand.note) word_limit)
 
--- a block has words, which differ
+-- a block has a valid okurigana, and at least one word, all of them words that differ
 abbrev pub is_block : Block → Bool
-is_block block = is_okuri block.okuri && (nat_le 1 (length block.words) && (list_all is_word block.words && differ block.words))
+is_block block =
+    is_okuri block.okuri
+    && (nat_le 1 (length block.words) && (list_all is_word block.words && texts_differ block.words))
 
 -- a key without okurigana has no blocks
 abbrev pub fits_blocks : Part → List Block → Bool
@@ -123,21 +128,29 @@ fits_blocks Nasi [] = true
 fits_blocks Nasi (block ∷ blocks) = false
 fits_blocks Ari blocks = true
 
--- a row's words differ, its blocks' okurigana differ, and so do the words that it hides
+-- the words of candidates, in order
+abbrev pub words_of : List Cand → List (List ℕ)
+words_of cands = map (λ cand. cand.word) cands
+
+-- the okurigana of blocks, in order
+abbrev pub okuri_of : List Block → List (List ℕ)
+okuri_of blocks = map (λ block. block.okuri) blocks
+
+-- a row has a valid key, candidates whose words differ, blocks that fit its part and whose okurigana differ, and hidden
+-- words that differ
 abbrev pub is_row : Row → Bool
 is_row row =
-    is_key row.key
-    && (list_all is_cand row.cands && differ (map (λ cand. cand.word) row.cands)
-    && (fits_blocks row.key.part row.blocks && list_all is_block row.blocks && differ (map (λ block. block.okuri) row.blocks)
-    && differ row.hides))
+    is_row_key row.key
+    && (list_all is_cand row.cands && texts_differ (words_of row.cands)
+    && (fits_blocks row.key.part row.blocks && list_all is_block row.blocks && texts_differ (okuri_of row.blocks)
+    && texts_differ row.hides))
 
--- no key has two rows
+-- no key has two of the rows
 abbrev pub keys_differ : List Row → Bool
-keys_differ [] = true
-keys_differ (row ∷ rows) = not (list_any (λ other. same_key row.key other.key) rows) && keys_differ rows
+keys_differ rows = all_pairs (λ row other. not (same_key row.key other.key)) rows
 
--- the first character that no note has stands at this byte
+-- the first character of a text that no note has stands at this byte
 abbrev pub IsBadNote : List ℕ → ℕ → Type 0
 IsBadNote note at =
-    (front : List ℕ) × (c : ℕ) × (back : List ℕ) × (note ≡ front ++ c ∷ back)
-    × (is_note front ≡ true) × (is_note_char c ≡ false) × (at ≡ byte_len front)
+    (prefix : List ℕ) × (c : ℕ) × (rest : List ℕ) × (note ≡ prefix ++ c ∷ rest)
+    × (is_note prefix ≡ true) × (is_note_char c ≡ false) × (at ≡ byte_len prefix)

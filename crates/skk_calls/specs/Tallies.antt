@@ -1,5 +1,5 @@
 -- What a run of calls came to.
-use Rattle.std.specs.Prelude.{ℕ, ◌+◌, Bool, true, false, ◌||◌, min, List, [], ◌∷◌, length}
+use Rattle.std.specs.Prelude.{ℕ, ◌+◌, Bool, true, false, ◌||◌, min, List, length, sum_by}
 use Rattle.std.specs.List.{count_by, list_any}
 use Rattle.skk_calls.specs.declared.answer.Answer.{Answer}
 use Rattle.skk_calls.specs.declared.answer.Answer.TheVariants.{Done, Refused}
@@ -18,28 +18,31 @@ pub record Tally : Type 0 where
   pub disk : Bool
   pub full : Bool
 
--- no calls, over no rows
-abbrev pub no_calls : Tally
-no_calls = record { learned = 0; restored = 0; rows = 0; memory = false; disk = false; full = false }
+-- the tally of no calls, over no rows
+abbrev pub empty_tally : Tally
+empty_tally = record { learned = 0; restored = 0; rows = 0; memory = false; disk = false; full = false }
 
--- learnings, and restored rows
-abbrev pub is_learned : Answer → Bool
-is_learned (Done (replies.Learned learned)) = true
-is_learned answer = false
+-- an answer tells of a learning
+abbrev pub tells_learned : Answer → Bool
+tells_learned (Done (replies.Learned learned)) = true
+tells_learned answer = false
 
-abbrev pub is_restored : Answer → Bool
-is_restored (Done replies.Restored) = true
-is_restored answer = false
+-- an answer tells of a learning that was taken back
+abbrev pub tells_restored : Answer → Bool
+tells_restored (Done replies.Restored) = true
+tells_restored answer = false
 
--- refusals for want of memory, for a disk that failed, and for a learned file that is full
+-- an answer is a refusal for lack of memory
 abbrev pub lacks_memory : Answer → Bool
 lacks_memory (Refused refusals.Memory) = true
 lacks_memory answer = false
 
+-- an answer is a refusal for a disk that failed
 abbrev pub lacks_disk : Answer → Bool
 lacks_disk (Refused refusals.Disk) = true
 lacks_disk answer = false
 
+-- an answer is a refusal for a learned file that is full
 abbrev pub lacks_room : Answer → Bool
 lacks_room (Refused (refusals.JournalFull end need limit)) = true
 lacks_room answer = false
@@ -50,36 +53,35 @@ one_more_if true count = min (count + 1) last_count
 one_more_if false count = count
 
 -- a tally with one more answer
-abbrev pub counted : Tally → Answer → Tally
-counted tally answer = record {
-  learned = one_more_if (is_learned answer) tally.learned;
-  restored = one_more_if (is_restored answer) tally.restored;
+abbrev pub tally_with : Tally → Answer → Tally
+tally_with tally answer = record {
+  learned = one_more_if (tells_learned answer) tally.learned;
+  restored = one_more_if (tells_restored answer) tally.restored;
   rows = tally.rows;
   memory = tally.memory || lacks_memory answer;
   disk = tally.disk || lacks_disk answer;
   full = tally.full || lacks_room answer;
 }
 
--- how many entries have such an answer, as far as a number can tell
+-- how many entries have an answer that passes the test, as far as a number can tell
 abbrev pub count_answers : (Answer → Bool) → List Entry → ℕ
 count_answers test history = min (count_by (λ entry. test entry.answer) history) last_count
 
--- whether some entry has such an answer
-abbrev pub any_answer : (Answer → Bool) → List Entry → Bool
-any_answer test history = list_any (λ entry. test entry.answer) history
+-- some entry has an answer that passes the test
+abbrev pub has_answer : (Answer → Bool) → List Entry → Bool
+has_answer test history = list_any (λ entry. test entry.answer) history
 
--- the rows of all books
+-- how many rows the books of a state have
 abbrev pub count_rows : State → ℕ
-count_rows [] = 0
-count_rows (book ∷ state) = length book.rows + count_rows state
+count_rows state = sum_by (λ book. length book.rows) state.books
 
 -- what a history over a state came to
 abbrev pub tally_of : State → List Entry → Tally
 tally_of state history = record {
-  learned = count_answers is_learned history;
-  restored = count_answers is_restored history;
+  learned = count_answers tells_learned history;
+  restored = count_answers tells_restored history;
   rows = min (count_rows (state_after state history)) last_count;
-  memory = any_answer lacks_memory history;
-  disk = any_answer lacks_disk history;
-  full = any_answer lacks_room history;
+  memory = has_answer lacks_memory history;
+  disk = has_answer lacks_disk history;
+  full = has_answer lacks_room history;
 }

@@ -28,7 +28,7 @@ pub enum Reply {
 /// Why a call was refused. A refused call changes nothing.
 #[derive(Clone, Copy, Debug, PartialEq, Eq)]
 pub enum Refusal {
-    /// Want of memory.
+    /// Out of memory.
     Memory,
     /// The disk failed.
     Disk,

@@ -51,5 +51,5 @@ pub struct NumberedBook {
     pub rows: Rows,
 }
 
-/// The books of a state.
+/// The books of a state, in order.
 pub type NumberedBooks = Sequence<NumberedBook>;

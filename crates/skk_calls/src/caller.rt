@@ -19,7 +19,7 @@ pub trait Caller {
     fn number(&self) -> u32
         ensures { result ≡ number self.now };
 
-    /// Makes a call. The answer is of the call's kind, and a lookup or a completion is refused for want of memory
+    /// Makes a call. The answer is of the call's kind, and a lookup or a completion is refused for lack of memory
     /// alone.
     fn call(&mut self, alloc: Global, call: &Call) -> Answer
         requires { is_fit call.now ≡ true }

@@ -1,6 +1,7 @@
 use crate::answer::Answer;
-use crate::book::{Books, NumberedBooks};
+use crate::book::Books;
 use crate::call::Call;
+use crate::state::State;
 use skk_trace::Trace;
 use std::marker::Model;
 
@@ -11,7 +12,7 @@ pub enum Noted {
     /// disk's time and count of faults.
     Opened {
         files: Books,
-        state: NumberedBooks,
+        state: State,
         end: u64,
         limit: u64,
         time: u64,
@@ -27,7 +28,8 @@ pub enum Noted {
     },
 }
 
-/// The history of a run, for contracts alone: nothing, or an opening and what was entered behind it.
+/// The history of a run, for contracts alone: nothing, or an opening and what was entered behind it. No other opening
+/// stands there.
 #[derive(Drop)]
 pub struct Chronicle {
     trace: Option<Trace<Noted>>,
@@ -36,28 +38,28 @@ pub struct Chronicle {
 impl Model for Chronicle {
     ghost use Rattle.std.specs.Prelude.{◌≡◌, true, List};
     ghost use Rattle.skk_calls.specs.declared.chronicle.Noted.{Noted};
-    ghost use Rattle.skk_calls.specs.Chronicles.{noted, begins_opened};
+    ghost use Rattle.skk_calls.specs.Chronicles.{noted, is_chronicle_or_none};
 
     ghost Value = { List Noted };
 
     ghost view = { λ c. noted c.trace };
 
-    ghost invariant = { λ c. begins_opened c.trace ≡ true };
+    ghost invariant = { λ c. is_chronicle_or_none c.trace ≡ true };
 }
 
 impl Chronicle {
     ghost use Rattle.std.specs.Prelude.{◌≡◌, [], true};
-    ghost use Rattle.skk_calls.specs.Chronicles.{is_opened};
+    ghost use Rattle.skk_calls.specs.Chronicles.{is_chronicle};
 
-    /// The chronicle of a trace that begins with an opening. Takes no memory.
+    /// The chronicle of a trace that has an opening first and nowhere else. Takes no memory.
     pub fn of(trace: Trace<Noted>) -> Chronicle
-        requires { is_opened trace ≡ true }
+        requires { is_chronicle trace ≡ true }
         ensures { result ≡ trace }
     {
         Chronicle { trace: Some(trace) }
     }
 
-    /// A chronicle without an entry. Takes no memory.
+    /// A chronicle that notes nothing. Takes no memory.
     pub fn none() -> Chronicle
         ensures { result ≡ [] }
     {

@@ -15,23 +15,23 @@ pub struct Learned {
 impl Model for Learned {
     ghost use Rattle.std.specs.Prelude.{◌≡◌, true};
     ghost use Rattle.skk_calls.specs.Rows.{Learned};
-    ghost use Rattle.skk_calls.specs.Learning.{is_learned};
+    ghost use Rattle.skk_calls.specs.Learning.{is_valid_learned};
 
     ghost Value = { Learned };
 
     ghost view = { λ l. record { book = l.book; key = l.key; stamp = l.stamp; before = l.before } };
 
-    ghost invariant = { λ l. is_learned (record { book = l.book; key = l.key; stamp = l.stamp; before = l.before }) ≡ true };
+    ghost invariant = { λ l. is_valid_learned (record { book = l.book; key = l.key; stamp = l.stamp; before = l.before }) ≡ true };
 }
 
 impl Learned {
     ghost use Rattle.std.specs.Prelude.{◌≡◌, true};
     ghost use Rattle.std.specs.Option.{option_copied};
-    ghost use Rattle.skk_calls.specs.Learning.{is_learned};
+    ghost use Rattle.skk_calls.specs.Learning.{is_valid_learned};
 
     /// What was learnt, with these fields. Takes no memory and constant time.
     pub fn new(book: u16, key: RowKey, stamp: u64, before: Option<Row>) -> Learned
-        requires { is_learned (record { book = book; key = key; stamp = stamp; before = before }) ≡ true }
+        requires { is_valid_learned (record { book = book; key = key; stamp = stamp; before = before }) ≡ true }
         ensures { result ≡ record { book = book; key = key; stamp = stamp; before = before } }
     {
         Learned {
@@ -45,7 +45,7 @@ impl Learned {
     /// The book.
     pub fn book(&self) -> u16
         ensures value { result ≡ self.now.book }
-        ensures valid { is_learned self.now ≡ true }
+        ensures valid { is_valid_learned self.now ≡ true }
     {
         self.book
     }
@@ -53,7 +53,7 @@ impl Learned {
     /// The key.
     pub fn key(&self) -> &RowKey
         ensures value { result.now ≡ self.now.key }
-        ensures valid { is_learned self.now ≡ true }
+        ensures valid { is_valid_learned self.now ≡ true }
     {
         &self.key
     }
@@ -61,7 +61,7 @@ impl Learned {
     /// The stamp that the row got.
     pub fn stamp(&self) -> u64
         ensures value { result ≡ self.now.stamp }
-        ensures valid { is_learned self.now ≡ true }
+        ensures valid { is_valid_learned self.now ≡ true }
     {
         self.stamp
     }
@@ -69,7 +69,7 @@ impl Learned {
     /// The row before, where there was one.
     pub fn before(&self) -> Option<&Row>
         ensures value { option_copied result ≡ self.now.before }
-        ensures valid { is_learned self.now ≡ true }
+        ensures valid { is_valid_learned self.now ≡ true }
     {
         self.before.as_ref()
     }

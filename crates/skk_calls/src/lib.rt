@@ -4,8 +4,8 @@
 //! It stands on `skk_text` and `skk_trace`. Its types keep what the format of a dictionary asks of readings,
 //! okurigana, words and notes, and its definitions say what the crates above are proved to do: what is found for a
 //! key, which readings go on from a prefix, what learning, purging and taking back make of a row and of a state, what
-//! a dictionary of one thread answers, and which histories of calls and answers are legal. Laws say of the
-//! definitions what a typist relies on.
+//! a dictionary of one thread answers, and which histories of calls and answers are legal. The crate `dict_laws` has
+//! the laws of these definitions.
 #![tactic(auto)]
 
 mod answer;
@@ -14,13 +14,13 @@ mod call;
 mod caller;
 mod cand;
 mod chronicle;
-mod laws;
 mod learned;
 mod office;
 mod okuri;
 mod part;
 mod row;
 mod row_key;
+mod state;
 mod tally;
 #[cfg(test)]
 mod tests;
@@ -32,18 +32,12 @@ pub use call::{Call, Calls};
 pub use caller::{Caller, Kept};
 pub use cand::{Cand, CandFault, Cands};
 pub use chronicle::{Chronicle, Noted};
-pub use laws::{
-    changes_keep_states_valid, changes_leave_other_rows, completions_go_on_and_differ,
-    counting_comes_to_the_tally, found_words_differ, fronts_of_legal_histories_are_legal,
-    learning_twice_is_learning_once, no_row_hides_its_own_words,
-    purges_are_told_to_change_what_they_change, the_next_reading_is_the_least_above,
-    unlearning_gives_the_row_back,
-};
 pub use learned::Learned;
 pub use office::Office;
 pub use okuri::{Okuri, OkuriFault};
 pub use part::Part;
 pub use row::{Block, Blocks, Row, Rows};
 pub use row_key::{RowKey, RowKeyFault};
+pub use state::State;
 pub use tally::Tally;
 pub use walk::Walk;

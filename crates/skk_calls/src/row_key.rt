@@ -2,7 +2,7 @@ ghost use Rattle.std.specs.Prelude.{◌≡◌, ◌&&◌, nat_le, length};
 ghost use Rattle.std.specs.List.{list_all};
 ghost use Rattle.std.specs.Str.{chars};
 ghost use Rattle.skk_text.specs.Text.{last_chars};
-ghost use Rattle.skk_calls.specs.Rows.{is_key, begins_well, is_reading_char, is_letter, fits_part};
+ghost use Rattle.skk_calls.specs.Rows.{is_row_key, begins_well, is_reading_char, is_letter, fits_part};
 
 use crate::part::Part;
 use skk_text::Text;
@@ -22,13 +22,13 @@ pub struct RowKey {
 
 impl Model for RowKey {
     ghost use Rattle.std.specs.Prelude.{◌≡◌, true};
-    ghost use Rattle.skk_calls.specs.Rows.{RowKey, is_key};
+    ghost use Rattle.skk_calls.specs.Rows.{RowKey, is_row_key};
 
     ghost Value = { RowKey };
 
     ghost view = { λ k. record { part = k.part; reading = k.reading } };
 
-    ghost invariant = { λ k. is_key (record { part = k.part; reading = k.reading }) ≡ true };
+    ghost invariant = { λ k. is_row_key (record { part = k.part; reading = k.reading }) ≡ true };
 }
 
 /// Why a text is no reading of a key.
@@ -41,14 +41,14 @@ pub enum RowKeyFault {
 
 impl RowKey {
     ghost use Rattle.std.specs.Prelude.{◌≡◌, ◌↔◌, true, false, IfOk, IsErr};
-    ghost use Rattle.skk_calls.specs.Rows.{is_key};
+    ghost use Rattle.skk_calls.specs.Rows.{is_row_key};
 
     /// The key of a reading, unless that is not valid. Takes no memory, and time in the reading's length.
     pub fn new(part: Part, reading: Text) -> Result<RowKey, RowKeyFault>
         ensures ok { IfOk result (λ key. key ≡ record { part = part; reading = reading }) }
-        ensures invalid { IsErr result ↔ (is_key (record { part = part; reading = reading }) ≡ false) }
+        ensures invalid { IsErr result ↔ (is_row_key (record { part = part; reading = reading }) ≡ false) }
     {
-        if !is_key(part, &reading) {
+        if !is_row_key(part, &reading) {
             return Err(RowKeyFault::Invalid);
         }
         Ok(RowKey { part, reading })
@@ -57,7 +57,7 @@ impl RowKey {
     /// The part.
     pub fn part(&self) -> Part
         ensures value { result ≡ self.now.part }
-        ensures valid { is_key self.now ≡ true }
+        ensures valid { is_row_key self.now ≡ true }
     {
         self.part
     }
@@ -65,15 +65,15 @@ impl RowKey {
     /// The reading.
     pub fn reading(&self) -> &Text
         ensures value { result.now ≡ self.now.reading }
-        ensures valid { is_key self.now ≡ true }
+        ensures valid { is_row_key self.now ≡ true }
     {
         &self.reading
     }
 }
 
 // Whether a reading is valid in its part.
-fn is_key(part: Part, reading: &Text) -> bool
-    ensures { result ≡ is_key (record { part = part; reading = reading.now }) }
+fn is_row_key(part: Part, reading: &Text) -> bool
+    ensures { result ≡ is_row_key (record { part = part; reading = reading.now }) }
 {
     let text = reading.as_str();
     begins_well(text) && are_reading_chars(text) && fits_part(part, reading)

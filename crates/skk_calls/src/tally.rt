@@ -24,7 +24,7 @@ impl Model for Tally {
 
 impl Tally {
     ghost use Rattle.std.specs.Prelude.{◌≡◌};
-    ghost use Rattle.skk_calls.specs.Tallies.{no_calls, counted};
+    ghost use Rattle.skk_calls.specs.Tallies.{empty_tally, tally_with};
 
     /// The tally with these fields. Takes no memory.
     pub fn new(
@@ -49,14 +49,14 @@ impl Tally {
 
     /// The tally of no calls, over no rows. Takes no memory.
     pub fn none() -> Tally
-        ensures { result ≡ no_calls }
+        ensures { result ≡ empty_tally }
     {
         Tally::new(0, 0, 0, false, false, false)
     }
 
     /// Counts one more answer. The number of rows stays. Takes no memory.
     pub fn count(&mut self, answer: &Answer)
-        ensures { self.new ≡ counted self.old answer.now }
+        ensures { self.new ≡ tally_with self.old answer.now }
     {
         match answer {
             Answer::Done(Reply::Learned(_)) => self.learned = self.learned.saturating_add(1),

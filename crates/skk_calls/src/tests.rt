@@ -3,16 +3,13 @@ ghost use Rattle.skk_calls.specs.declared.part.Part.TheVariants.{Nasi};
 
 use crate::{
     Answer, Block, Blocks, Book, Call, Caller, Cand, CandFault, Cands, Chronicle, Learned, Noted,
-    Okuri, OkuriFault, Part, Refusal, Reply, Row, RowKey, RowKeyFault, Rows, Tally,
+    NumberedBooks, Okuri, OkuriFault, Part, Refusal, Reply, Row, RowKey, RowKeyFault, Rows, State,
+    Tally,
 };
 use skk_text::{Memory, Text, Texts};
 use skk_trace::{Shows, Trace};
-use std::alloc::{AllocError, Global};
+use std::alloc::Global;
 use std::test::Fail;
-
-fn text(alloc: Global, content: &str) -> Result<Text, AllocError> {
-    Ok(Text::of(String::from_str(alloc, content)?))
-}
 
 // A text that is `unit` so many times, and then `end`.
 fn repeated(alloc: Global, unit: &str, count: usize, end: &str) -> Result<Text, Memory> {
@@ -24,50 +21,19 @@ fn repeated(alloc: Global, unit: &str, count: usize, end: &str) -> Result<Text, 
     Ok(text)
 }
 
+// The readings of 254 and 255 bytes are at the limits; 84 times あ, of 3 bytes, are 252 bytes.
 #[test]
 fn readings_of_keys_are_checked(rt: HostRuntime) -> Result<(), Fail> {
     let alloc = rt.alloc();
-    for (part, reading) in [
-        (Part::Nasi, "かんじ"),
-        (Part::Nasi, "125"),
-        (Part::Nasi, "p#"),
-        (Part::Nasi, "ちょう>"),
-        (Part::Nasi, ">x"),
-        (Part::Nasi, "a;"),
-        (Part::Nasi, "a\u{80}b\u{3000}c"),
-        (Part::Ari, "おおk"),
-        (Part::Ari, "いt"),
-        (Part::Ari, "うごk"),
-    ] {
-        let key = RowKey::new(part, text(alloc, reading)?)?;
-        assert_eq!(rt; key.part(), part);
-        assert_eq!(rt; key.reading().as_str(), reading);
-    }
-    for (part, reading) in [
-        (Part::Nasi, ""),
-        (Part::Nasi, "a b"),
-        (Part::Nasi, "a\tb"),
-        (Part::Nasi, "a\u{7F}b"),
-        (Part::Nasi, ";a"),
-        (Part::Ari, ""),
-        (Part::Ari, "おお"),
-        (Part::Ari, "k"),
-        (Part::Ari, "おおK"),
-        (Part::Ari, "おお1"),
-    ] {
-        let fault = RowKey::new(part, text(alloc, reading)?).err();
-        assert_eq!(rt; fault, Some(RowKeyFault::Invalid), "at {reading:?}");
-    }
-    Ok(())
-}
-
-// 84 times あ, of 3 bytes, are 252 bytes.
-#[test]
-fn readings_of_keys_have_limits(rt: HostRuntime) -> Result<(), Fail> {
-    let alloc = rt.alloc();
     for (part, unit, count, end, fault) in [
+        (Part::Nasi, "かんじ", 1, "", None),
+        (Part::Nasi, "a", 1, "\u{80}b\u{3000};", None),
+        (Part::Nasi, "", 0, "", Some(RowKeyFault::Invalid)),
+        (Part::Nasi, "a", 1, "\u{7F}", Some(RowKeyFault::Invalid)),
         (Part::Nasi, "a", 254, "", None),
         (Part::Nasi, "a", 255, "", Some(RowKeyFault::Invalid)),
+        (Part::Ari, "おおk", 1, "", None),
+        (Part::Ari, "おおK", 1, "", Some(RowKeyFault::Invalid)),
         (Part::Ari, "あ", 84, "aaz", None),
         (Part::Ari, "あ", 84, "aaaz", Some(RowKeyFault::Invalid)),
     ] {
@@ -75,53 +41,44 @@ fn readings_of_keys_have_limits(rt: HostRuntime) -> Result<(), Fail> {
         assert_eq!(rt;
             RowKey::new(part, reading).err(),
             fault,
-            "at {count} and {end:?}"
+            "at {count} {unit:?} {end:?}"
         );
     }
     Ok(())
 }
 
+// 20 times く, of 3 bytes, are the 60 bytes of the limit.
 #[test]
 fn okurigana_are_checked(rt: HostRuntime) -> Result<(), Fail> {
     let alloc = rt.alloc();
-    for okuri in ["く", "った", "ー", "ゝ", "ゞ", "ゖ"] {
-        let made = Okuri::new(text(alloc, okuri)?)?;
-        assert_eq!(rt; made.text().as_str(), okuri);
-    }
-    for okuri in ["", "ク", "k", "\u{3097}", "くa"] {
-        let fault = Okuri::new(text(alloc, okuri)?).err();
-        assert_eq!(rt; fault, Some(OkuriFault::Invalid), "at {okuri:?}");
-    }
-    for (count, fault) in [(20, None), (21, Some(OkuriFault::Invalid))] {
-        let okuri = repeated(alloc, "く", count, "")?;
-        assert_eq!(rt; Okuri::new(okuri).err(), fault, "at {count}");
+    for (unit, count, fault) in [
+        ("ったーゝゞゖ", 1, None),
+        ("", 0, Some(OkuriFault::Invalid)),
+        ("クa", 1, Some(OkuriFault::Invalid)),
+        ("く", 20, None),
+        ("く", 21, Some(OkuriFault::Invalid)),
+    ] {
+        let okuri = repeated(alloc, unit, count, "")?;
+        assert_eq!(rt; Okuri::new(okuri).err(), fault, "at {count} {unit:?}");
     }
     Ok(())
 }
 
+// The word and the note of 4,095 bytes together are at the limit.
 #[test]
 fn candidates_are_checked(rt: HostRuntime) -> Result<(), Fail> {
     let alloc = rt.alloc();
-    for (word, note) in [("漢字", ""), ("幹事", "宴会の"), ("a/b\n", "x; y ")] {
-        let cand = Cand::new(text(alloc, word)?, text(alloc, note)?)?;
-        assert_eq!(rt; cand.word().as_str(), word);
-        assert_eq!(rt; cand.note().as_str(), note);
-    }
     for (count, note, fault) in [
-        (0, "", Some(CandFault::Empty)),
         (0, "a/b", Some(CandFault::Empty)),
-        (1, "/", Some(CandFault::BadNote { at: 0 })),
-        (1, "a/b", Some(CandFault::BadNote { at: 1 })),
-        (1, "宴\rb", Some(CandFault::BadNote { at: 3 })),
-        (1, "x\ny/", Some(CandFault::BadNote { at: 1 })),
+        (1, "宴\rb/", Some(CandFault::BadNote { at: 3 })),
         (4_095, "x\ny/", Some(CandFault::BadNote { at: 1 })),
         (4_095, "x", Some(CandFault::TooLong { bytes: 4_096 })),
         (4_094, "x", None),
         (4_095, "", None),
     ] {
         let word = repeated(alloc, "a", count, "")?;
-        let made = Cand::new(word, text(alloc, note)?);
-        assert_eq!(rt; made.err(), fault, "at {count} and {note:?}");
+        let note = repeated(alloc, note, 1, "")?;
+        assert_eq!(rt; Cand::new(word, note).err(), fault, "at {count}");
     }
     Ok(())
 }
@@ -143,15 +100,6 @@ fn short_block(alloc: Global) -> Result<Block, Fail> {
     Ok(Block::new(okuri, words))
 }
 
-#[test]
-fn blocks_show_their_words(rt: HostRuntime) -> Result<(), Fail> {
-    let block = short_block(rt.alloc())?;
-    assert_eq!(rt; block.okuri().text().as_str(), "い");
-    assert_eq!(rt; block.words().len(), 1);
-    assert_eq!(rt; block.words().at(0).as_str(), "大");
-    Ok(())
-}
-
 // The key か without okurigana.
 fn short_key(alloc: Global) -> Result<RowKey, Fail>
     ensures { IfOk result (λ key. key ≡ record { part = Nasi; reading = 0x304B ∷ [] }) }
@@ -169,24 +117,6 @@ fn short_row(alloc: Global) -> Result<Row, Fail>
     Ok(Row::new(key, cands, Blocks::new(alloc), Texts::new(alloc), 1))
 }
 
-#[test]
-fn rows_stand_in_books(rt: HostRuntime) -> Result<(), Fail> {
-    let alloc = rt.alloc();
-    let row = short_row(alloc)?;
-    assert_eq!(rt; row.key().reading().as_str(), "か");
-    assert_eq!(rt; row.cands().len(), 1);
-    assert_eq!(rt; row.cands().at(0).word().as_str(), "蚊");
-    assert_eq!(rt; row.blocks().len(), 0);
-    assert_eq!(rt; row.hides().len(), 0);
-    assert_eq!(rt; row.stamp(), 1);
-    let mut rows = Rows::new(alloc);
-    rows.push(row)?;
-    let book = Book::new(rows);
-    assert_eq!(rt; book.rows().len(), 1);
-    assert_eq!(rt; book.rows().at(0).stamp(), 1);
-    Ok(())
-}
-
 // What was learnt over the row of stamp 1.
 fn learned(alloc: Global) -> Result<Learned, Fail> {
     let before = short_row(alloc)?;
@@ -194,12 +124,34 @@ fn learned(alloc: Global) -> Result<Learned, Fail> {
 }
 
 #[test]
-fn what_was_learnt_shows_its_row_before(rt: HostRuntime) -> Result<(), Fail> {
-    let learned = learned(rt.alloc())?;
+fn rows_show_their_parts(rt: HostRuntime) -> Result<(), Fail> {
+    let alloc = rt.alloc();
+    let block = short_block(alloc)?;
+    assert_eq!(rt; block.okuri().text().as_str(), "い");
+    assert_eq!(rt; block.words().at(0).as_str(), "大");
+    let row = short_row(alloc)?;
+    assert_eq!(rt; row.key().part(), Part::Nasi);
+    assert_eq!(rt; row.key().reading().as_str(), "か");
+    assert_eq!(rt; row.cands().at(0).word().as_str(), "蚊");
+    assert_eq!(rt; row.cands().at(0).note().as_str(), "");
+    assert_eq!(rt; row.blocks().len(), 0);
+    assert_eq!(rt; row.hides().len(), 0);
+    assert_eq!(rt; row.stamp(), 1);
+    Ok(())
+}
+
+#[test]
+fn books_and_learnings_show_their_rows(rt: HostRuntime) -> Result<(), Fail> {
+    let alloc = rt.alloc();
+    let learned = learned(alloc)?;
     assert_eq!(rt; learned.book(), 3);
     assert_eq!(rt; learned.key().reading().as_str(), "か");
     assert_eq!(rt; learned.stamp(), 2);
     assert_eq!(rt; learned.before().map(Row::stamp), Some(1));
+    let mut rows = Rows::new(alloc);
+    rows.push(short_row(alloc)?)?;
+    assert_eq!(rt; Book::new(rows).rows().at(0).stamp(), 1);
+    assert_eq!(rt; State::new(NumberedBooks::new(alloc)).books().len(), 0);
     Ok(())
 }
 
@@ -207,7 +159,6 @@ fn what_was_learnt_shows_its_row_before(rt: HostRuntime) -> Result<(), Fail> {
 fn answers_are_counted(rt: HostRuntime) -> Result<(), Fail> {
     let alloc = rt.alloc();
     let mut tally = Tally::none();
-    assert_eq!(rt; tally, Tally::new(0, 0, 0, false, false, false));
     for (answer, counted) in [
         (
             Answer::Done(Reply::Learned(learned(alloc)?)),
@@ -218,7 +169,7 @@ fn answers_are_counted(rt: HostRuntime) -> Result<(), Fail> {
             Tally::new(1, 1, 0, false, false, false),
         ),
         (
-            Answer::Done(Reply::Found(Cands::new(alloc))),
+            Answer::Done(Reply::Purged),
             Tally::new(1, 1, 0, false, false, false),
         ),
         (
@@ -246,11 +197,10 @@ fn answers_are_counted(rt: HostRuntime) -> Result<(), Fail> {
 
 #[test]
 fn tallies_show_their_fields_and_stop_at_the_last_number(rt: HostRuntime) -> Result<(), Fail> {
-    let mut tally = Tally::new(u64::MAX, u64::MAX, 7, true, false, true);
-    tally.count(&Answer::Done(Reply::Learned(learned(rt.alloc())?)));
+    let mut tally = Tally::new(4, 18_446_744_073_709_551_615, 7, true, false, true);
     tally.count(&Answer::Done(Reply::Restored));
-    assert_eq!(rt; tally.learned(), u64::MAX);
-    assert_eq!(rt; tally.restored(), u64::MAX);
+    assert_eq!(rt; tally.learned(), 4);
+    assert_eq!(rt; tally.restored(), 18_446_744_073_709_551_615);
     assert_eq!(rt; tally.rows(), 7);
     assert!(rt; tally.memory());
     assert!(rt; !tally.disk());
@@ -266,7 +216,7 @@ impl Shows<Noted> for Opening {
     ghost use Rattle.std.specs.Prelude.{[]};
     ghost use Rattle.skk_calls.specs.declared.chronicle.Noted.TheVariants.{Opened};
 
-    ghost shows = { λ _. Opened [] [] 0 16777216 0 0 };
+    ghost shows = { λ _. Opened [] (record { books = [] }) 0 16777216 0 0 };
 }
 
 #[test]
@@ -276,7 +226,7 @@ fn chronicles_begin_with_an_opening(rt: HostRuntime) -> Result<(), Fail> {
     Ok(())
 }
 
-// A caller whose calls are all refused for want of memory. Its trace notes nothing first, and then each call.
+// A caller whose calls are all refused for lack of memory. Its trace notes nothing first, and then each call.
 #[derive(Drop)]
 struct Lacking {
     calls: u32,
@@ -293,7 +243,7 @@ impl Shows<Option<(Call, Answer)>> for Silence {
     ghost shows = { λ _. None };
 }
 
-// A call that was refused for want of memory.
+// A call that was refused for lack of memory.
 #[derive(Drop)]
 struct Lacked<'a> {
     call: &'a Call,

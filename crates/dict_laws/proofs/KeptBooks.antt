@@ -1,0 +1,171 @@
+-- A valid state stays valid where a row that may stand in a book changes there.
+use Rattle.std.proofs.Common.{◌≡◌, ℕ, Bool, true, false, not, ◌&&◌, ◌||◌, ◌==◌, nat_lt, nat_le, None, Some, Option, List, refl, sym, subst, arith}
+use Rattle.std.proofs.lemmas.Bool.Decides.{nat_tests}
+use Rattle.std.specs.List.{list_all}
+use Rattle.std.proofs.lemmas.Bool.{and_from, and_parts, not-true}
+use Rattle.skk_text.specs.PairsLaws.{list_all-filter, list_all-weaker, all_pairs-filter}
+use Rattle.skk_calls.specs.declared.book.NumberedBook.{NumberedBook}
+use Rattle.skk_calls.specs.Canonical.{is_good}
+use Rattle.skk_calls.specs.Orders.{key_less}
+use Rattle.skk_calls.specs.Rows.{RowKey, Row, same_key, is_row}
+use Rattle.skk_calls.specs.States.{State, book_at, book_rows, book_count, rows_of, row_at, count_of, without_row, with_row, without_book, with_book, state_with, rows_ascend, has_stamp, fits_count, is_book, books_ascend, is_valid}
+use Rattle.dict_laws.proofs.Changing.{has_key, changed_book}
+use Rattle.dict_laws.proofs.Filtered.{list_all_found, list_all_kept}
+use Rattle.dict_laws.proofs.KeyOrder.{key_less_trans, key_less_total}
+use Rattle.dict_laws.proofs.Keys.{same_key_equal, same_key_other}
+use Rattle.dict_laws.proofs.Placing.{list_all-insert_by, all_pairs-insert_by}
+
+-- Rows
+
+-- a row of another key is less or greater
+keys_apart : (row other : Row) → not (same_key other.key row.key) ≡ true
+    → (key_less row.key other.key || key_less other.key row.key) ≡ true
+keys_apart row other apart =
+    by (key_less row.key other.key) (key_less_total row.key other.key)
+    (same_key_other other.key row.key (not-true (same_key other.key row.key) apart))
+  where
+    by : (b : Bool) → (b ≡ false → same_key row.key other.key ≡ false → key_less other.key row.key ≡ true)
+        → same_key row.key other.key ≡ false → (b || key_less other.key row.key) ≡ true
+    by true so unlike = refl
+    by false so unlike = so refl unlike
+
+-- rows ascend after a change
+rows_ascend_with_row : (key : RowKey) (row : Option Row) (rows : List Row) → has_key key row ≡ true
+    → rows_ascend rows ≡ true → rows_ascend (with_row key row rows) ≡ true
+rows_ascend_with_row key None rows has ascend =
+    all_pairs-filter (λ (r other : Row). key_less r.key other.key) (λ (r : Row). not (same_key r.key key)) rows ascend
+rows_ascend_with_row key (Some row) rows has ascend =
+    all_pairs-insert_by (λ (r other : Row). key_less r.key other.key)
+    (λ (a b c : Row). key_less_trans a.key b.key c.key) row (without_row key rows)
+    (list_all-weaker (λ (other : Row). not (same_key other.key row.key))
+    (λ (other : Row). key_less row.key other.key || key_less other.key row.key) (keys_apart row) (without_row key rows)
+    (subst (λ (k : RowKey). list_all (λ (other : Row). not (same_key other.key k)) (without_row key rows) ≡ true)
+    (sym (same_key_equal row.key key has)) (list_all_kept (λ (other : Row). not (same_key other.key key)) rows)))
+    (all_pairs-filter (λ (r other : Row). key_less r.key other.key) (λ (r : Row). not (same_key r.key key)) rows ascend)
+
+-- a row, where there is one, may stand in a book with this count
+abbrev pub fits_after : ℕ → Option Row → Bool
+fits_after count None = true
+fits_after count (Some row) = fits_count count row
+
+-- a stamp up to a count is one up to a greater count
+stamp_later : (stamp count later : ℕ) → nat_le count later ≡ true → (nat_le 1 stamp && nat_le stamp count) ≡ true
+    → (nat_le 1 stamp && nat_le stamp later) ≡ true
+stamp_later stamp count later e h = grind (arith, nat_tests)
+
+-- a row that may stand in a book may stand in it later
+fits_later : (count later : ℕ) → nat_le count later ≡ true → (row : Row) → fits_count count row ≡ true
+    → fits_count later row ≡ true
+fits_later count later e row fits =
+    let parts = and_parts (is_row row) (is_good row && has_stamp count row) fits in
+    let rest = and_parts (is_good row) (has_stamp count row) parts.1 in
+    and_from (is_row row) (is_good row && has_stamp later row) parts.0
+    (and_from (is_good row) (has_stamp later row) rest.0 (stamp_later row.stamp count later e rest.1))
+
+-- rows that may stand in a book, with a row of a key that may stand in it
+fits_with_row : (count : ℕ) (key : RowKey) (row : Option Row) (rows : List Row) → fits_after count row ≡ true
+    → list_all (fits_count count) rows ≡ true → list_all (fits_count count) (with_row key row rows) ≡ true
+fits_with_row count key None rows new all = list_all-filter (fits_count count) (λ (r : Row). not (same_key r.key key)) rows all
+fits_with_row count key (Some row) rows new all =
+    list_all-insert_by (λ (r other : Row). key_less r.key other.key) (fits_count count) row (without_row key rows) new
+    (list_all-filter (fits_count count) (λ (r : Row). not (same_key r.key key)) rows all)
+
+-- Books
+
+-- what a book keeps
+record BookParts (book : NumberedBook) : Type 0 where
+  count : nat_le 1 book.count ≡ true
+  ascend : rows_ascend book.rows ≡ true
+  fit : list_all (fits_count book.count) book.rows ≡ true
+
+-- a book has its parts
+book_parts : (book : NumberedBook) → is_book book ≡ true → BookParts book
+book_parts book e =
+    let parts = and_parts (nat_le 1 book.count) (rows_ascend book.rows && list_all (fits_count book.count) book.rows) e in
+    let rest = and_parts (rows_ascend book.rows) (list_all (fits_count book.count) book.rows) parts.1 in
+    record { count = parts.0; ascend = rest.0; fit = rest.1 }
+
+module _ (state : State) (number : ℕ) (valid : is_valid state ≡ true) where
+  -- the books of a valid state may be
+  state_books : list_all is_book state.books ≡ true
+  state_books = (and_parts (books_ascend state.books) (list_all is_book state.books) valid).1
+
+  -- each book of a valid state has its parts
+  parts_at : (book : NumberedBook) → book_at state number ≡ Some book → BookParts book
+  parts_at book e =
+      book_parts book
+      (list_all_found is_book (λ (b : NumberedBook). b.number == number) state.books book state_books e)
+
+  -- the rows of a book of a valid state ascend
+  rows_of_ascend : rows_ascend (rows_of state number) ≡ true
+  rows_of_ascend = by (book_at state number) parts_at
+    where
+      by : (book : Option NumberedBook) → ((b : NumberedBook) → book ≡ Some b → BookParts b) → rows_ascend (book_rows book) ≡ true
+      by None parts = refl
+      by (Some book) parts = (parts book refl).ascend
+
+  -- and may stand in it
+  rows_of_fit : list_all (fits_count (count_of state number)) (rows_of state number) ≡ true
+  rows_of_fit = by (book_at state number) parts_at
+    where
+      by : (book : Option NumberedBook) → ((b : NumberedBook) → book ≡ Some b → BookParts b)
+          → list_all (fits_count (book_count book)) (book_rows book) ≡ true
+      by None parts = refl
+      by (Some book) parts = (parts book refl).fit
+
+  -- the row of a key in a valid state may stand in its book
+  pub fits_row_at : (key : RowKey) → fits_after (count_of state number) (row_at state number key) ≡ true
+  fits_row_at key = by (row_at state number key) refl
+    where
+      by : (found : Option Row) → row_at state number key ≡ found → fits_after (count_of state number) found ≡ true
+      by None found = refl
+      by (Some row) found =
+          list_all_found (fits_count (count_of state number)) (λ (r : Row). same_key r.key key) (rows_of state number) row
+          rows_of_fit found
+
+-- of two numbers that differ one is less
+numbers_apart : (a b : ℕ) → not (b == a) ≡ true → (nat_lt a b || nat_lt b a) ≡ true
+numbers_apart a b other = grind (arith, nat_tests)
+
+-- of three numbers in order the first is less than the last
+lt_trans : (a b c : ℕ) → nat_lt a b ≡ true → nat_lt b c ≡ true → nat_lt a c ≡ true
+lt_trans a b c ab bc = grind (arith, nat_tests)
+
+-- books with one in place of that of its number ascend
+books_ascend_with_book : (book : NumberedBook) (books : List NumberedBook) → books_ascend books ≡ true
+    → books_ascend (with_book book books) ≡ true
+books_ascend_with_book book books ascend =
+    all_pairs-insert_by (λ (b other : NumberedBook). nat_lt b.number other.number)
+    (λ (a b c : NumberedBook). lt_trans a.number b.number c.number) book (without_book book.number books)
+    (list_all-weaker (λ (other : NumberedBook). not (other.number == book.number))
+    (λ (other : NumberedBook). nat_lt book.number other.number || nat_lt other.number book.number)
+    (λ (other : NumberedBook). numbers_apart book.number other.number) (without_book book.number books)
+    (list_all_kept (λ (other : NumberedBook). not (other.number == book.number)) books))
+    (all_pairs-filter (λ (b other : NumberedBook). nat_lt b.number other.number)
+    (λ (other : NumberedBook). not (other.number == book.number)) books ascend)
+
+module _ (state : State) (number count : ℕ) (key : RowKey) (row : Option Row) (valid : is_valid state ≡ true)
+    (changes : nat_le 1 count ≡ true) (later : nat_le (count_of state number) count ≡ true)
+    (has : has_key key row ≡ true) (fits : fits_after count row ≡ true) where
+  -- the changed book may be
+  changed_is_book : is_book (changed_book state number count key row) ≡ true
+  changed_is_book =
+      let rows = rows_of state number in
+      and_from (nat_le 1 count) (rows_ascend (with_row key row rows) && list_all (fits_count count) (with_row key row rows))
+      changes
+      (and_from (rows_ascend (with_row key row rows)) (list_all (fits_count count) (with_row key row rows))
+      (rows_ascend_with_row key row rows has (rows_of_ascend state number valid))
+      (fits_with_row count key row rows fits
+      (list_all-weaker (fits_count (count_of state number)) (fits_count count) (fits_later (count_of state number) count later)
+      rows (rows_of_fit state number valid))))
+
+  -- a valid state stays valid
+  pub is_valid_changed : is_valid (state_with state number count key row) ≡ true
+  is_valid_changed =
+      let book = changed_book state number count key row in
+      let parts = and_parts (books_ascend state.books) (list_all is_book state.books) valid in
+      and_from (books_ascend (with_book book state.books)) (list_all is_book (with_book book state.books))
+      (books_ascend_with_book book state.books parts.0)
+      (list_all-insert_by (λ (b other : NumberedBook). nat_lt b.number other.number) is_book book
+      (without_book number state.books) changed_is_book
+      (list_all-filter is_book (λ (b : NumberedBook). not (b.number == number)) state.books parts.1))

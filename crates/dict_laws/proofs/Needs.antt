@@ -1,0 +1,80 @@
+-- The state and the room after a legal history, by its changes.
+use Rattle.std.proofs.Common.{◌≡◌, ℕ, ◌+◌, Bool, true, false, cond, List, [], ◌∷◌, refl, ◌∙◌, ap, map, arith}
+use Rattle.std.specs.List.{filter}
+use Rattle.skk_calls.specs.declared.answer.Answer.{Answer}
+use Rattle.skk_calls.specs.declared.answer.Answer.TheVariants.{Done, Refused}
+use Rattle.skk_calls.specs.declared.call.Call.{Call}
+use Rattle.skk_calls.specs.declared.call.Call.TheVariants.{Lookup, Complete, Learn, Purge, Unlearn}
+use Rattle.skk_calls.specs.Dictionary.{answer, is_change, moves, after}
+use Rattle.skk_calls.specs.Histories.{Entry, Opening, IsLegalAnswer, IsLegal, tells_change, after_answer, after_entry, state_after, end_after, room, changes, after_calls, need, needs}
+use Rattle.skk_calls.specs.Rows.{Row}
+use Rattle.skk_calls.specs.States.{State}
+use Rattle.dict_laws.proofs.TakenBack.{after_unmoved}
+
+-- no system file has a say in whether a call changes the state
+files_have_no_say : (files : List (List Row)) (state : State) (call : Call) → is_change (answer files state call) ≡ moves state call
+files_have_no_say files state (Lookup who key okuri) = refl
+files_have_no_say files state (Complete who prefix) = refl
+files_have_no_say files state (Learn book key okuri cand) = refl
+files_have_no_say files state (Purge book key word) = refl
+files_have_no_say files state (Unlearn learned) = refl
+
+-- a call with a legal answer makes another state exactly where the answer tells of a change
+state_as_told : (opening : Opening) (state : State) (end : ℕ) (call : Call) (told : Answer) → IsLegalAnswer opening state end call told
+    → after_answer state call told ≡ cond (tells_change told) (after state call) state
+state_as_told opening state end call (Refused refusal) legal = refl
+state_as_told opening state end call (Done reply) legal = by (is_change reply) refl
+  where
+    by : (b : Bool) → is_change reply ≡ b → after state call ≡ cond b (after state call) state
+    by true e = refl
+    by false e =
+        let unmoved : moves state call ≡ false = cc (files_have_no_say opening.files state call, ap is_change legal) in
+        after_unmoved state call unmoved
+
+-- an opening with another state and another end
+abbrev moved_on : Opening → State → ℕ → Opening
+moved_on opening state end = record { files = opening.files; state = state; end = end; limit = opening.limit }
+
+-- of a legal history what stands behind the first entry is legal from there on
+legal_rest : (opening : Opening) (entry : Entry) (history : List Entry) → IsLegal opening (entry ∷ history)
+    → IsLegal (moved_on opening (after_entry opening.state entry) (end_after opening.state opening.end entry)) history
+legal_rest opening entry history legal prefix next rest e = legal (entry ∷ prefix) next rest (ap (λ l. entry ∷ l) e)
+
+-- the state after a legal history is the one after its changes
+pub state_by_changes : (opening : Opening) (history : List Entry) → IsLegal opening history
+    → state_after opening.state history ≡ after_calls opening.state (changes history)
+state_by_changes opening [] legal = refl
+state_by_changes opening (entry ∷ history) legal =
+    by (tells_change entry.answer)
+    (state_as_told opening opening.state opening.end entry.call entry.answer (legal [] entry history refl))
+    (state_by_changes (moved_on opening (after_entry opening.state entry) (end_after opening.state opening.end entry)) history (legal_rest opening entry history legal))
+  where
+    by : (b : Bool) → after_entry opening.state entry ≡ cond b (after opening.state entry.call) opening.state
+        → state_after (after_entry opening.state entry) history ≡ after_calls (after_entry opening.state entry) (changes history)
+        → state_after (after_entry opening.state entry) history
+        ≡ after_calls opening.state (map (λ (e : Entry). e.call) (cond b (entry ∷ filter (λ (e : Entry). tells_change e.answer) history) (filter (λ (e : Entry). tells_change e.answer) history)))
+    by true same rest = rest ∙ ap (λ (s : State). after_calls s (changes history)) same
+    by false same rest = rest ∙ ap (λ (s : State). after_calls s (changes history)) same
+
+-- a sum of three numbers
+three : (a b c : ℕ) → a + b + c ≡ a + (b + c)
+three a b c = omega arith
+
+-- the room after a legal history is the opened end and what its changes need
+pub room_by_changes : (opening : Opening) (history : List Entry) → IsLegal opening history
+    → room opening.state opening.end history ≡ opening.end + needs opening.state (changes history)
+room_by_changes opening [] legal = omega arith
+room_by_changes opening (entry ∷ history) legal =
+    by (tells_change entry.answer)
+    (state_as_told opening opening.state opening.end entry.call entry.answer (legal [] entry history refl))
+    (room_by_changes (moved_on opening (after_entry opening.state entry) (end_after opening.state opening.end entry)) history (legal_rest opening entry history legal))
+  where
+    by : (b : Bool) → after_entry opening.state entry ≡ cond b (after opening.state entry.call) opening.state
+        → room (after_entry opening.state entry) (cond b (opening.end + need opening.state entry.call) opening.end) history
+        ≡ cond b (opening.end + need opening.state entry.call) opening.end + needs (after_entry opening.state entry) (changes history)
+        → room (after_entry opening.state entry) (cond b (opening.end + need opening.state entry.call) opening.end) history
+        ≡ opening.end + needs opening.state (map (λ (e : Entry). e.call) (cond b (entry ∷ filter (λ (e : Entry). tells_change e.answer) history) (filter (λ (e : Entry). tells_change e.answer) history)))
+    by true same rest =
+        rest ∙ ap (λ (s : State). opening.end + need opening.state entry.call + needs s (changes history)) same
+        ∙ three opening.end (need opening.state entry.call) (needs (after opening.state entry.call) (changes history))
+    by false same rest = rest ∙ ap (λ (s : State). opening.end + needs s (changes history)) same

@@ -1,5 +1,0 @@
-use Rattle.skk_calls.proofs.FirstLayer.{first_layer}
-use Rattle.skk_calls.proofs.laws.no_row_hides_its_own_words.Goals as goal
-
-pub returns : goal.returns
-returns c = first_layer
