@@ -40,41 +40,34 @@ legal_rest : (opening : Opening) (entry : Entry) (history : List Entry) → IsLe
     → IsLegal (moved_on opening (after_entry opening.state entry) (end_after opening.state opening.end entry)) history
 legal_rest opening entry history legal prefix next rest e = legal (entry ∷ prefix) next rest (ap (λ l. entry ∷ l) e)
 
--- the state after a legal history is the one after its changes
-pub state_by_changes : (opening : Opening) (history : List Entry) → IsLegal opening history
-    → state_after opening.state history ≡ after_calls opening.state (changes history)
-state_by_changes opening [] legal = refl
-state_by_changes opening (entry ∷ history) legal =
-    by (tells_change entry.answer)
-    (state_as_told opening opening.state opening.end entry.call entry.answer (legal [] entry history refl))
-    (state_by_changes (moved_on opening (after_entry opening.state entry) (end_after opening.state opening.end entry)) history (legal_rest opening entry history legal))
-  where
-    by : (b : Bool) → after_entry opening.state entry ≡ cond b (after opening.state entry.call) opening.state
-        → state_after (after_entry opening.state entry) history ≡ after_calls (after_entry opening.state entry) (changes history)
-        → state_after (after_entry opening.state entry) history
-        ≡ after_calls opening.state (map (λ (e : Entry). e.call) (cond b (entry ∷ filter (λ (e : Entry). tells_change e.answer) history) (filter (λ (e : Entry). tells_change e.answer) history)))
-    by true same rest = rest ∙ ap (λ (s : State). after_calls s (changes history)) same
-    by false same rest = rest ∙ ap (λ (s : State). after_calls s (changes history)) same
-
 -- a sum of three numbers
 three : (a b c : ℕ) → a + b + c ≡ a + (b + c)
 three a b c = omega arith
 
--- the room after a legal history is the opened end and what its changes need
-pub room_by_changes : (opening : Opening) (history : List Entry) → IsLegal opening history
-    → room opening.state opening.end history ≡ opening.end + needs opening.state (changes history)
-room_by_changes opening [] legal = omega arith
-room_by_changes opening (entry ∷ history) legal =
+-- the state after a legal history is the one after its changes, and the room is the opened end and what they need
+pub by_changes : (opening : Opening) (history : List Entry) → IsLegal opening history
+    → (state_after opening.state history ≡ after_calls opening.state (changes history))
+    × (room opening.state opening.end history ≡ opening.end + needs opening.state (changes history))
+by_changes opening [] legal = (refl, omega arith)
+by_changes opening (entry ∷ history) legal =
     by (tells_change entry.answer)
     (state_as_told opening opening.state opening.end entry.call entry.answer (legal [] entry history refl))
-    (room_by_changes (moved_on opening (after_entry opening.state entry) (end_after opening.state opening.end entry)) history (legal_rest opening entry history legal))
+    (by_changes (moved_on opening (after_entry opening.state entry) (end_after opening.state opening.end entry)) history (legal_rest opening entry history legal))
   where
     by : (b : Bool) → after_entry opening.state entry ≡ cond b (after opening.state entry.call) opening.state
-        → room (after_entry opening.state entry) (cond b (opening.end + need opening.state entry.call) opening.end) history
-        ≡ cond b (opening.end + need opening.state entry.call) opening.end + needs (after_entry opening.state entry) (changes history)
-        → room (after_entry opening.state entry) (cond b (opening.end + need opening.state entry.call) opening.end) history
-        ≡ opening.end + needs opening.state (map (λ (e : Entry). e.call) (cond b (entry ∷ filter (λ (e : Entry). tells_change e.answer) history) (filter (λ (e : Entry). tells_change e.answer) history)))
-    by true same rest =
-        rest ∙ ap (λ (s : State). opening.end + need opening.state entry.call + needs s (changes history)) same
-        ∙ three opening.end (need opening.state entry.call) (needs (after opening.state entry.call) (changes history))
-    by false same rest = rest ∙ ap (λ (s : State). opening.end + needs s (changes history)) same
+        → (state_after (after_entry opening.state entry) history ≡ after_calls (after_entry opening.state entry) (changes history))
+        × (room (after_entry opening.state entry) (cond b (opening.end + need opening.state entry.call) opening.end) history
+        ≡ cond b (opening.end + need opening.state entry.call) opening.end + needs (after_entry opening.state entry) (changes history))
+        → (state_after (after_entry opening.state entry) history
+        ≡ after_calls opening.state (map (λ (e : Entry). e.call) (cond b (entry ∷ filter (λ (e : Entry). tells_change e.answer) history) (filter (λ (e : Entry). tells_change e.answer) history))))
+        × (room (after_entry opening.state entry) (cond b (opening.end + need opening.state entry.call) opening.end) history
+        ≡ opening.end + needs opening.state (map (λ (e : Entry). e.call) (cond b (entry ∷ filter (λ (e : Entry). tells_change e.answer) history) (filter (λ (e : Entry). tells_change e.answer) history))))
+    by true same rest = (
+      rest.0 ∙ ap (λ (s : State). after_calls s (changes history)) same,
+      rest.1 ∙ ap (λ (s : State). opening.end + need opening.state entry.call + needs s (changes history)) same
+          ∙ three opening.end (need opening.state entry.call) (needs (after opening.state entry.call) (changes history)),
+    )
+    by false same rest = (
+      rest.0 ∙ ap (λ (s : State). after_calls s (changes history)) same,
+      rest.1 ∙ ap (λ (s : State). opening.end + needs s (changes history)) same,
+    )

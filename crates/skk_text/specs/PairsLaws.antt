@@ -1,9 +1,8 @@
 -- What holds of lists of which each item passes a test, or every two items stand in a relation.
-use Rattle.std.specs.Prelude.{◌≡◌, ℕ, Bool, true, false, if◌then◌else◌, ◌&&◌, List, [], ◌∷◌, take, map}
+use Rattle.std.specs.Prelude.{◌≡◌, ℕ, Bool, true, false, List, [], ◌∷◌, take}
 use Rattle.std.specs.List.{filter, list_all}
-use Rattle.std.proofs.Common.{cond, refl, ap, ◌∙◌, zero, suc}
+use Rattle.std.proofs.Common.{cond, refl, zero, suc}
 use Rattle.std.proofs.lemmas.Bool.{and_from, and_parts}
-use Rattle.std.proofs.lemmas.List.Folds.{list_all-map}
 use Rattle.skk_text.specs.Pairs.{all_pairs}
 
 module _ {X : Type 0} (test : X → Bool) where
