@@ -15,7 +15,7 @@ use Rattle.skk_calls.specs.Dictionary.{answer}
 use Rattle.skk_calls.specs.Histories.{Entry, Opening, IsLegalAnswer, IsLegal, after_entry, state_after, end_after, room, changes, after_calls, need, needs, dialog, in_doubt, states_left}
 use Rattle.skk_calls.specs.Rows.{Row, Learned}
 use Rattle.skk_calls.specs.States.{State, empty_state}
-use Rattle.skk_calls.specs.Tallies.{tally_of}
+use Rattle.skk_calls.specs.Tallies.{Tally, empty_tally, tally_with, tally_of}
 use Rattle.skk_calls.proofs.AnswerExamples.{learn_kanji, first_row, first_state}
 use Rattle.skk_calls.proofs.Samples.{Gives, Gives2, plain, nasi, row, book, books, files, kanji_key, a}
 
@@ -155,6 +155,21 @@ tallies : Gives (tally_of empty_state) (
     ∷ [])
 unfolding lib.Utf8.encode
 tallies = refl
+
+-- nothing came of no calls
+empty_tallied : tally_of empty_state [] ≡ empty_tally
+empty_tallied = refl
+
+-- a tally to which one more answer is counted, of which the learnings have ended
+abbrev tally_so_far : Tally
+tally_so_far = record { learned = 18446744073709551615; restored = 3; rows = 7; memory = false; disk = false; full = false }
+
+answers_counted : Gives (tally_with tally_so_far) (
+    (learned_kanji, tally_so_far) ∷ (Done replies.Restored, record tally_so_far { restored = 4 }) ∷ (Done replies.Purged, tally_so_far)
+    ∷ (Refused Memory, record tally_so_far { memory = true }) ∷ (Refused Disk, record tally_so_far { disk = true })
+    ∷ (Refused (JournalFull 61 49 64), record tally_so_far { full = true })
+    ∷ [])
+answers_counted = refl
 
 -- the rows of all books are counted
 rows_counted : (tally_of (books (book 0 2 (first_row ∷ katsushika_row ∷ []) ∷ book 1 1 (first_row ∷ []) ∷ [])) []).rows ≡ 3

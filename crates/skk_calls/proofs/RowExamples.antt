@@ -4,7 +4,7 @@ use Rattle.std.proofs.lemmas.Bool.{and_from, and_right, le-leb}
 use Rattle.std.specs.List.{list_all}
 use Rattle.skk_text.specs.Text.{byte_len}
 use Rattle.skk_calls.specs.Orders.{key_less, text_less, is_newer, sort_by}
-use Rattle.skk_calls.specs.Rows.{Row, same_key, texts_differ, is_row_key, is_okuri, is_word, is_cand, is_block, is_row, keys_differ}
+use Rattle.skk_calls.specs.Rows.{Row, same_key, texts_differ, is_row_key, is_okuri, is_word, is_cand, is_block, is_row, keys_differ, IsBadNote}
 use Rattle.skk_calls.proofs.Samples.{Gives, Gives2, plain, noted, nasi, ari, block, row, a, b, c, dictionary, kanji_key, ook_key}
 
 -- Texts
@@ -92,6 +92,11 @@ candidates : Gives is_cand (
     ∷ [])
 unfolding lib.Utf8.encode
 candidates = refl
+
+-- the first bad character of a note, and the bytes before it
+bad_note : IsBadNote (codes "宴/\n") 3
+unfolding lib.Utf8.encode
+bad_note = (codes "宴", 0x2F, 10 ∷ [], refl, refl, refl, refl)
 
 -- word and note have at most 4,095 bytes together
 longest_cand : (rest : List ℕ) → byte_len (0x61 ∷ rest) ≡ 4094 → is_cand (noted (0x61 ∷ rest) b) ≡ true
