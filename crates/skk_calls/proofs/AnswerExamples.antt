@@ -10,6 +10,7 @@ use Rattle.skk_calls.specs.declared.call.Call.{Call}
 use Rattle.skk_calls.specs.declared.call.Call.TheVariants.{Lookup, Complete, Learn, Purge, Unlearn}
 use Rattle.skk_calls.specs.Canonical.{canonical}
 use Rattle.skk_calls.specs.Dictionary.{answer, after, moves, speaks_of, is_fit, is_call, may_answer, change_reply, line_length}
+use Rattle.skk_calls.specs.Learning.{learnt, purged}
 use Rattle.skk_calls.specs.Rows.{Row, Learned}
 use Rattle.skk_calls.specs.States.{State, empty_state, is_valid}
 use Rattle.skk_calls.proofs.Samples.{Gives, Gives2, plain, noted, nasi, block, row, book, books, files, kanji_key, ook_key, a, b}
@@ -152,6 +153,22 @@ module _ (long : Row) (reply : Reply) where
   -- the length of a line is told up to the last number
   length_told : byte_len (canonical long) ≡ 18446744073709551616 → line_length long ≡ 18446744073709551615
   length_told e = rw e
+
+-- the line that counts is that of the row after the call, with all that the row before had
+module _ (long : List ℕ) where
+  abbrev long_row : Row
+  long_row = row ook_key (plain a ∷ plain long ∷ []) (block (codes "く") (long ∷ []) ∷ []) [] 1
+
+  abbrev long_state : State
+  long_state = books (book 1 1 (long_row ∷ []) ∷ [])
+
+  too_long_learning : line_length (learnt (Some long_row) ook_key (Some (codes "く")) (plain a) 2) ≡ 65536
+      → answer files long_state (Learn 1 ook_key (Some (codes "く")) (plain a)) ≡ replies.TooBig 65536
+  too_long_learning e = rw e
+
+  too_long_purge : line_length (purged (Some long_row) ook_key a 2) ≡ 65536
+      → answer files long_state (Purge 1 ook_key a) ≡ replies.TooBig 65536
+  too_long_purge e = rw e
 
 -- Calls
 
