@@ -139,7 +139,7 @@ may_reply (Unlearn learned) replies.Restored = true
 may_reply (Unlearn learned) (replies.Overtaken stamp) = true
 may_reply call reply = false
 
--- a call may be refused so: a lookup or a completion for lack of memory alone
+-- a call may be refused so: a lookup or a completion as out of memory alone
 abbrev pub may_refuse : Call → Refusal → Bool
 may_refuse call refusals.Memory = true
 may_refuse (Lookup who key okuri) refusal = false

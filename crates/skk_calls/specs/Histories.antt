@@ -120,7 +120,7 @@ abbrev pub needs : State → List Call → ℕ
 needs state [] = 0
 needs state (call ∷ calls) = need state call + needs (after state call) calls
 
--- an answer is the dictionary's at this state and end, or a refusal with its cause: lack of memory, a disk that failed a
+-- an answer is the dictionary's at this state and end, or a refusal with its cause: out of memory, a disk that failed a
 -- change, or a learned file that has no room for a change
 abbrev pub IsLegalAnswer : Opening → State → ℕ → Call → Answer → Type 0
 IsLegalAnswer opening state end call (Done reply) = reply ≡ answer opening.files state call

@@ -32,7 +32,7 @@ abbrev pub tells_restored : Answer → Bool
 tells_restored (Done replies.Restored) = true
 tells_restored answer = false
 
--- an answer is a refusal for lack of memory
+-- an answer is a refusal as out of memory
 abbrev pub lacks_memory : Answer → Bool
 lacks_memory (Refused refusals.Memory) = true
 lacks_memory answer = false

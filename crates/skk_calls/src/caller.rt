@@ -19,8 +19,8 @@ pub trait Caller {
     fn number(&self) -> u32
         ensures { result ≡ number self.now };
 
-    /// Makes a call. The answer is of the call's kind, and a lookup or a completion is refused for lack of memory
-    /// alone.
+    /// Makes a call. The answer is of the call's kind, and a lookup or a completion is refused only where the caller is
+    /// out of memory.
     fn call(&mut self, alloc: Global, call: &Call) -> Answer
         requires { is_fit call.now ≡ true }
         ensures said { said self.new ≡ said self.old ++ (call.now, result) ∷ [] }

@@ -89,7 +89,7 @@ impl Tally {
         self.rows
     }
 
-    /// Whether a call was refused for lack of memory.
+    /// Whether a call was refused as out of memory.
     pub fn memory(&self) -> bool
         ensures { result ≡ self.now.memory }
     {

@@ -193,7 +193,7 @@ fn chronicles_begin_with_an_opening(rt: HostRuntime) -> Result<(), Fail> {
     Ok(())
 }
 
-// A caller whose calls are all refused for lack of memory. Its trace notes nothing first, and then each call.
+// A caller whose calls are all refused as out of memory. Its trace notes nothing first, and then each call.
 #[derive(Drop)]
 struct Lacking {
     calls: u32,
@@ -210,7 +210,7 @@ impl Shows<Option<(Call, Answer)>> for Silence {
     ghost shows = { λ _. None };
 }
 
-// A call that was refused for lack of memory.
+// A call that was refused as out of memory.
 #[derive(Drop)]
 struct Lacked<'a> {
     call: &'a Call,
