@@ -4,7 +4,7 @@ use Rattle.std.proofs.lemmas.Bool.Decides.{nat_tests}
 use Rattle.std.specs.List.{list_all}
 use Rattle.std.proofs.lemmas.Bool.{and_from, and_parts, or_from, or_parts}
 use Rattle.skk_text.specs.Text.{byte_len}
-use Rattle.skk_text.specs.PairsLaws.{list_all-filter}
+use Rattle.dict_laws.proofs.PairsLaws.{list_all-filter}
 use Rattle.skk_calls.specs.declared.part.Part.{Part}
 use Rattle.skk_calls.specs.declared.part.Part.TheVariants.{Nasi, Ari}
 use Rattle.skk_calls.specs.Canonical.{canonical, is_good, has_item, line_limit}

@@ -13,6 +13,7 @@ pub mod LeftAlone
 pub mod LineLength
 pub mod Needs
 pub mod NextAbove
+pub mod PairsLaws
 pub mod Placing
 pub mod PurgedRows
 pub mod PurgesTold

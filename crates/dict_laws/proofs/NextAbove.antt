@@ -2,7 +2,7 @@
 use Rattle.std.proofs.Common.{◌≡◌, ℕ, Bool, true, false, cond, not, ◌||◌, None, Some, List, [], ◌∷◌, refl, ap, subst}
 use Rattle.std.proofs.lemmas.Bool.{and_parts, and_from}
 use Rattle.std.specs.List.{list_all}
-use Rattle.skk_text.specs.PairsLaws.{list_all-weaker}
+use Rattle.dict_laws.proofs.PairsLaws.{list_all-weaker}
 use Rattle.skk_calls.specs.Orders.{text_less}
 use Rattle.skk_calls.specs.Rows.{same_text, has_text}
 use Rattle.skk_calls.specs.Walks.{texts_ascend, next_above, is_least_above}

@@ -3,7 +3,7 @@ use Rattle.std.proofs.Common.{◌≡◌, Bool, true, false, cond, not, ◌&&◌,
 use Rattle.std.specs.List.{list_all}
 use Rattle.std.proofs.lemmas.Bool.{and_from, and_parts, not-true}
 use Rattle.skk_text.specs.Pairs.{all_pairs}
-use Rattle.skk_text.specs.PairsLaws.{list_all-weaker}
+use Rattle.dict_laws.proofs.PairsLaws.{list_all-weaker}
 use Rattle.skk_calls.specs.Orders.{insert_by, sort_by}
 
 module _ {X : Type 0} (before : X → X → Bool) (p : X → Bool) where

@@ -5,7 +5,7 @@ use Rattle.std.proofs.lemmas.Bool.Decides.{same_from_decides, Decides-like}
 use Rattle.std.specs.List.{filter, list_all}
 use Rattle.std.proofs.lemmas.Bool.{and_from, and_parts, not-true, not_from_false, or_from, or_parts}
 use Rattle.std.proofs.lemmas.List.Folds.{list_any-append}
-use Rattle.skk_text.specs.PairsLaws.{list_all-weaker, all_pairs-filter}
+use Rattle.dict_laws.proofs.PairsLaws.{list_all-weaker, all_pairs-filter}
 use Rattle.skk_calls.specs.Learning.{without_text, without_word}
 use Rattle.skk_calls.specs.Rows.{Cand, same_text, has_text, texts_differ, words_of}
 use Rattle.dict_laws.proofs.Filtered.{filter_twice, map_filter}

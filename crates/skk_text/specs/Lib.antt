@@ -1,6 +1,5 @@
 pub mod Kana
 pub mod KeyText
 pub mod Pairs
-pub mod PairsLaws
 pub mod Text
 pub mod TextLaws
