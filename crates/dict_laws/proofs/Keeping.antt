@@ -8,7 +8,8 @@ use Rattle.skk_calls.specs.declared.answer.Reply.TheVariants as replies
 use Rattle.skk_calls.specs.declared.call.Call.{Call}
 use Rattle.skk_calls.specs.declared.call.Call.TheVariants.{Lookup, Complete, Learn, Purge, Unlearn}
 use Rattle.skk_calls.specs.Canonical.{canonical, is_good, line_limit}
-use Rattle.skk_calls.specs.Dictionary.{change_reply, after, moves, state_moved, is_change, is_stamped, stamp_of, last_count, line_length, is_call, is_fit, is_okuri_or_none, is_row_or_none}
+use Rattle.skk_text.specs.Counts.{last_count}
+use Rattle.skk_calls.specs.Dictionary.{change_reply, after, moves, state_moved, is_change, is_stamped, stamp_of, line_length, is_call, is_fit, is_okuri_or_none, is_row_or_none}
 use Rattle.skk_calls.specs.Learning.{learnt, purged, purge_changes, is_row_before, is_valid_learned, row_or_empty}
 use Rattle.skk_calls.specs.Rows.{RowKey, Cand, Row, Learned, same_key, is_row_key, is_cand, is_word, is_row}
 use Rattle.skk_calls.specs.States.{State, row_at, rows_of, count_of, state_with, has_stamp, is_valid}

@@ -5,7 +5,8 @@ use Rattle.skk_calls.specs.declared.answer.Reply.TheVariants as replies
 use Rattle.skk_calls.specs.declared.call.Call.{Call}
 use Rattle.skk_calls.specs.declared.call.Call.TheVariants.{Learn, Unlearn}
 use Rattle.skk_calls.specs.Canonical.{line_limit}
-use Rattle.skk_calls.specs.Dictionary.{change_reply, answer, after, moves, state_moved, is_change, is_stamped, last_count, line_length}
+use Rattle.skk_text.specs.Counts.{last_count}
+use Rattle.skk_calls.specs.Dictionary.{change_reply, answer, after, moves, state_moved, is_change, is_stamped, line_length}
 use Rattle.skk_calls.specs.Learning.{learnt}
 use Rattle.skk_calls.specs.Rows.{RowKey, Cand, Row, Learned}
 use Rattle.skk_calls.specs.States.{State, row_at, rows_of, count_of}

@@ -5,8 +5,8 @@ use Rattle.skk_text.specs.Text.{byte_len}
 use Rattle.skk_calls.specs.Rows.{Cand, Block, Row, is_word}
 
 -- a character as it stands in a string, where what an item cannot hold is escaped
-abbrev pub escaped : ℕ → List ℕ
-escaped c =
+abbrev pub char_in_string : ℕ → List ℕ
+char_in_string c =
     if c == 0x2F then codes "\\057"
     else if c == 0x3B then codes "\\073"
     else if c == 0x22 then codes "\\\""
@@ -17,7 +17,7 @@ escaped c =
 
 -- a text as a string in double quotes
 abbrev pub quoted : List ℕ → List ℕ
-quoted text = 0x22 ∷ flat_map escaped text ++ 0x22 ∷ []
+quoted text = 0x22 ∷ flat_map char_in_string text ++ 0x22 ∷ []
 
 -- a character stands in no plain word: it is `/`, `;`, `"`, `\`, CR or LF
 abbrev pub is_special : ℕ → Bool

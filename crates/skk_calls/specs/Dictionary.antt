@@ -1,6 +1,7 @@
 -- The dictionary of one thread: what each call is answered, and the state after it.
 use Rattle.std.specs.Prelude.{ℕ, ◌+◌, ◌-◌, ◌^◌, Bool, true, false, ◌&&◌, ◌==◌, nat_lt, min, if◌then◌else◌, Option, None, Some, List, []}
 use Rattle.std.specs.List.{list_all}
+use Rattle.skk_text.specs.Counts.{last_count}
 use Rattle.skk_text.specs.Text.{byte_len}
 use Rattle.skk_calls.specs.declared.answer.Answer.{Answer}
 use Rattle.skk_calls.specs.declared.answer.Answer.TheVariants.{Done, Refused}
@@ -17,10 +18,6 @@ use Rattle.skk_calls.specs.Found.{found}
 use Rattle.skk_calls.specs.Learning.{learnt, purged, purge_changes, unlearnt, is_valid_learned}
 use Rattle.skk_calls.specs.Rows.{RowKey, Row, same_key, is_row_key, is_okuri, is_cand, is_row, is_word}
 use Rattle.skk_calls.specs.States.{State, row_at, count_of, state_with}
-
--- the last count of a book, and the greatest number that is told
-abbrev pub last_count : ℕ
-last_count = 2 ^ 64 - 1
 
 -- how many bytes a row's line has, as far as a number can tell
 abbrev pub line_length : Row → ℕ

@@ -5,7 +5,7 @@ use Rattle.skk_calls.specs.declared.answer.Answer.{Answer}
 use Rattle.skk_calls.specs.declared.answer.Answer.TheVariants.{Done, Refused}
 use Rattle.skk_calls.specs.declared.answer.Refusal.TheVariants as refusals
 use Rattle.skk_calls.specs.declared.answer.Reply.TheVariants as replies
-use Rattle.skk_calls.specs.Dictionary.{last_count}
+use Rattle.skk_text.specs.Counts.{last_count, one_more}
 use Rattle.skk_calls.specs.Histories.{Entry, state_after}
 use Rattle.skk_calls.specs.States.{State}
 
@@ -49,7 +49,7 @@ lacks_room answer = false
 
 -- a number with one more where the test holds, as far as a number can tell
 abbrev pub one_more_if : Bool → ℕ → ℕ
-one_more_if true count = min (count + 1) last_count
+one_more_if true count = one_more count
 one_more_if false count = count
 
 -- a tally with one more answer

@@ -1,6 +1,6 @@
 -- The definitions at small examples, each worked out by hand.
 use Rattle.std.proofs.Common.{◌≡◌, ℕ, ◌^◌, ◌-◌, List, [], ◌∷◌, refl, map, codes}
-use Rattle.skk_outside.specs.Faults.{one_more}
+use Rattle.skk_text.specs.Counts.{one_more}
 use Rattle.skk_outside.specs.Memory.{CallCount, no_call_yet, after_success, after_failure, with_fault, bytes_of_pieces, first_nonempty_piece, without_first_bytes}
 use Rattle.skk_outside.specs.Pieces.{pieces_left}
 use Rattle.skk_outside.specs.Written.{IsPrefix}

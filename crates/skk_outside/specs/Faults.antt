@@ -1,13 +1,6 @@
--- Counts of faults, which stand still at their last value.
-use Rattle.std.specs.Prelude.{ℕ, ◌+◌, ◌-◌, ◌^◌, ◌≤◌, min}
-
--- the last value of a count, which is kept in 64 bits
-abbrev pub last_count : ℕ
-last_count = 2 ^ 64 - 1
-
--- a count with one more, which stands still at its last value
-abbrev pub one_more : ℕ → ℕ
-one_more count = min (count + 1) last_count
+-- Counts of faults, which rise where a call fails.
+use Rattle.std.specs.Prelude.{ℕ, ◌≤◌}
+use Rattle.skk_text.specs.Counts.{one_more}
 
 -- a count rose, or stands at its last value
 abbrev pub Rose : ℕ → ℕ → Type 0

@@ -1,7 +1,7 @@
 -- What contracts see of the memory forms.
 use Rattle.std.specs.Prelude.{ℕ, List, [], ◌∷◌, drop, Contains}
 use Rattle.std.specs.List.{flat_map}
-use Rattle.skk_outside.specs.Faults.{one_more}
+use Rattle.skk_text.specs.Counts.{one_more}
 
 -- the calls of a memory form that can fail: which of them are to fail, how many there were, and how many failed
 pub record CallCount : Type 0 where

@@ -1,5 +1,5 @@
 ghost use Rattle.std.specs.Prelude.{◌≡◌, ◌≤◌};
-ghost use Rattle.skk_outside.specs.Faults.{one_more};
+ghost use Rattle.skk_text.specs.Counts.{one_more};
 
 use crate::outside::Failed;
 use std::marker::Model;

@@ -1,7 +1,8 @@
 ghost use Rattle.std.specs.Prelude.{◌≡◌, ◌≤◌, OnOk, OnErr};
 ghost use Rattle.std.specs.Io.{ReadsAtMost};
 ghost use Rattle.std.specs.Io.KnownBytes.{ReadConsumes};
-ghost use Rattle.skk_outside.specs.Faults.{Rose, one_more};
+ghost use Rattle.skk_text.specs.Counts.{one_more};
+ghost use Rattle.skk_outside.specs.Faults.{Rose};
 
 use crate::count::Count;
 use crate::outside::{Failed, Outside};

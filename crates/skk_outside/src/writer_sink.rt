@@ -1,7 +1,8 @@
 ghost use Rattle.std.specs.Prelude.{◌≡◌, ◌≤◌, ◌<◌, length, IfOk, OnOk, OnErr};
 ghost use Rattle.std.specs.Io.{WritesAtMost};
 ghost use Rattle.std.specs.Io.KnownBytes.{Keeps, WriteAppends};
-ghost use Rattle.skk_outside.specs.Faults.{Rose, one_more};
+ghost use Rattle.skk_text.specs.Counts.{one_more};
+ghost use Rattle.skk_outside.specs.Faults.{Rose};
 
 use crate::count::Count;
 use crate::outside::{Failed, Outside};

@@ -1,3 +1,4 @@
+pub mod Counts
 pub mod Kana
 pub mod KeyText
 pub mod Pairs

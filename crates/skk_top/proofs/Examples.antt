@@ -16,7 +16,7 @@ use Rattle.skk_top.specs.Command.{command_of}
 use Rattle.skk_top.specs.Held.{is_session, is_held, line_held}
 use Rattle.skk_top.specs.KanaInput.{in_mode, kana_char_step, other_kana}
 use Rattle.skk_top.specs.Printing.{escaped, has_escape, notice_text, indicator, display, output_line, closing_line}
-use Rattle.skk_top.specs.Script.{IsSession, IsTypist, Spells, MayFollow, lines_of, script_limit, named_by, said_by, is_built_line, are_built}
+use Rattle.skk_top.specs.Script.{IsSession, IsTypist, Spells, MayFollow, lines_of, script_limit, named_by, lines_said, is_built_line, are_built}
 use Rattle.skk_top.specs.SessionMachine.{text_limit, new_session, with_insertion, after_keys}
 use Rattle.skk_top.specs.Sessions.{SessionMap, session_at, session_or_new, with_session, sessions_from}
 use Rattle.skk_top.specs.Status.{status_of, message_of, message_at, run_status, run_message, fault_of_press, fault_of_read, fault_of_script}
@@ -182,7 +182,7 @@ built_lines = refl
 built_scripts : map are_built ([] ∷ (Skipped ∷ Keys 1 [] ∷ []) ∷ (Keys 1 [] ∷ Keys 2 [] ∷ []) ∷ []) ≡ true ∷ true ∷ false ∷ []
 built_scripts = refl
 
-said_and_named : (map said_by (Skipped ∷ Keys 4 [] ∷ Opening 5 6 0 ∷ []) ≡ [] ∷ (Keys 4 [] ∷ []) ∷ (Opening 5 6 0 ∷ []) ∷ []) × (map named_by (Skipped ∷ Keys 4 [] ∷ Opening 5 6 0 ∷ []) ≡ [] ∷ (4 ∷ []) ∷ (5 ∷ []) ∷ [])
+said_and_named : (map lines_said (Skipped ∷ Keys 4 [] ∷ Opening 5 6 0 ∷ []) ≡ [] ∷ (Keys 4 [] ∷ []) ∷ (Opening 5 6 0 ∷ []) ∷ []) × (map named_by (Skipped ∷ Keys 4 [] ∷ Opening 5 6 0 ∷ []) ≡ [] ∷ (4 ∷ []) ∷ (5 ∷ []) ∷ [])
 said_and_named = (refl, refl)
 
 -- the words of a command

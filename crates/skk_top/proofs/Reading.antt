@@ -4,7 +4,7 @@ use Rattle.std.specs.List.{flat_map}
 use Rattle.std.proofs.lemmas.List.{append_assoc, append-nil, length_push, get_or-replicate}
 use Rattle.std.proofs.lemmas.List.Concat.{flat_map-append}
 use Rattle.skk_top.specs.Marks.{Mark}
-use Rattle.skk_top.specs.Script.{Spells, Says, MayFollow, IsFirstBad, named_by, lines_of, said_by, without_skipped}
+use Rattle.skk_top.specs.Script.{Spells, Says, MayFollow, IsFirstBad, named_by, lines_of, lines_said, without_skipped}
 use Rattle.skk_top.specs.declared.line.Line.{Line}
 use Rattle.skk_top.proofs.Scripts.{says-push}
 
@@ -35,7 +35,7 @@ none_read bytes held empty = record {
 -- what is known of a line that was read
 abbrev pub IsReadNext : List ℕ → List Line → List Line → List Bool → List Bool → Type 0
 IsReadNext text held longer marks new =
-    (line : Line) × Spells text line × (longer ≡ held ++ said_by line) × ((sessions : List ℕ) → Mark marks sessions → MayFollow sessions line × Mark new (sessions ++ named_by line))
+    (line : Line) × Spells text line × (longer ≡ held ++ lines_said line) × ((sessions : List ℕ) → Mark marks sessions → MayFollow sessions line × Mark new (sessions ++ named_by line))
 
 -- the lists of lines, with one line more
 each-more : {A : Type 0} (f : Line → List A) (lines : List Line) (line : Line) → flat_map f (lines ++ line ∷ []) ≡ flat_map f lines ++ f line
@@ -54,7 +54,7 @@ one_more_line bytes rest text behind number held longer marks new read first les
       said = says-push [] read.before read.lines text line read.said next.1 after.0;
       count = omega (arith, read.count, length_push read.before text);
       room = omega (arith, read.room);
-      holds = next.2 ∙ ap (λ ls. ls ++ said_by line) read.holds ∙ sym (each-more said_by read.lines line);
+      holds = next.2 ∙ ap (λ ls. ls ++ lines_said line) read.holds ∙ sym (each-more lines_said read.lines line);
       marked = subst (Mark new) (sym (each-more named_by read.lines line)) after.1;
     }
 

@@ -101,11 +101,11 @@ abbrev pub are_built : List Line → Bool
 are_built lines = list_all is_built_line lines
 
 -- a line as the one line of a list, which is empty where the line says nothing
-abbrev pub said_by : Line → List Line
-said_by Skipped = []
-said_by (Keys session ks) = Keys session ks ∷ []
-said_by (Opening session typist book) = Opening session typist book ∷ []
+abbrev pub lines_said : Line → List Line
+lines_said Skipped = []
+lines_said (Keys session ks) = Keys session ks ∷ []
+lines_said (Opening session typist book) = Opening session typist book ∷ []
 
 -- the lines that say something
 abbrev pub without_skipped : List Line → List Line
-without_skipped lines = flat_map said_by lines
+without_skipped lines = flat_map lines_said lines

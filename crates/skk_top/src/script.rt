@@ -78,7 +78,7 @@ impl Model for Script {
 }
 
 impl Script {
-    ghost use Rattle.skk_top.specs.Script.{Says, IsFirstBad, IsNumbered, IsSession, Spells, MayFollow, lines_of, named_by, without_skipped, said_by, are_built};
+    ghost use Rattle.skk_top.specs.Script.{Says, IsFirstBad, IsNumbered, IsSession, Spells, MayFollow, lines_of, named_by, without_skipped, lines_said, are_built};
     ghost use Rattle.skk_top.specs.Held.{line_at};
     ghost use Rattle.skk_top.specs.Marks.{Mark};
     ghost use Rattle.skk_top.specs.declared.line.Line.{Line};
@@ -159,7 +159,7 @@ impl Script {
         text: &[u8],
         named: &mut [bool; 65],
     ) -> Result<(), LineFault>
-        ensures ok { OnOk result ((line : Line) × Spells text.now line × (self.new ≡ self.old ++ said_by line)
+        ensures ok { OnOk result ((line : Line) × Spells text.now line × (self.new ≡ self.old ++ lines_said line)
             × ((sessions : List ℕ) → Mark named.old sessions → MayFollow sessions line × Mark named.new (sessions ++ named_by line))) }
         ensures none { IsErrOf result LineFault.NoLine → (sessions : List ℕ) → Mark named.old sessions
             → (line : Line) → Spells text.now line → ¬ MayFollow sessions line }
@@ -176,7 +176,7 @@ impl Script {
     // Holds one line more, if it says something.
     fn push(&mut self, line: Line) -> Result<(), Memory>
         requires { IsNumbered line }
-        ensures { OnOk result (self.new ≡ self.old ++ said_by line) }
+        ensures { OnOk result (self.new ≡ self.old ++ lines_said line) }
     {
         match line {
             Line::Skipped => Ok(()),
