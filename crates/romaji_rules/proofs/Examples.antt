@@ -1,11 +1,10 @@
 -- The definitions at a small rule set, each worked out by hand.
-use Rattle.std.proofs.Common.{◌≡◌, ℕ, Bool, true, false, Option, Some, None, List, [], ◌∷◌, ◌++◌, refl, map, codes, replicate}
-use Rattle.romaji_rules.specs.declared.out.Out.{Out}
+use Rattle.std.proofs.Common.{◌≡◌, ℕ, true, false, List, [], ◌∷◌, ◌++◌, refl, map, codes}
 use Rattle.romaji_rules.specs.declared.rule.Rule.{Rule}
 use Rattle.romaji_rules.specs.Fitting.{is_input_char, is_input_text, is_next_text, inputs_differ, is_rule_set}
-use Rattle.romaji_rules.specs.Output.{nothing, itself, of_hiragana, appended}
+use Rattle.romaji_rules.specs.Output.{nothing}
 use Rattle.romaji_rules.specs.Standard.{rule, row, contracted, single, doubled}
-use Rattle.romaji_rules.specs.Typed.{Step, rule_of, begins_input, goes_on, flushed, fed}
+use Rattle.romaji_rules.specs.Typed.{Step, begins_input, goes_on, flushed, fed}
 
 -- n, na, ka and kk: an input that begins another, and one that leaves a letter pending
 abbrev rules : List Rule

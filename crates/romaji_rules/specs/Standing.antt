@@ -1,5 +1,5 @@
 -- What a text is among the inputs of a rule set.
-use Rattle.std.specs.Prelude.{◌≡◌, ℕ, false, true, Option, None, Some, List}
+use Rattle.std.specs.Prelude.{◌≡◌, ℕ, false, true, None, Some, List}
 use Rattle.romaji_rules.specs.declared.rule.Rule.{Rule}
 use Rattle.romaji_rules.specs.declared.standing.Standing.{Standing}
 use Rattle.romaji_rules.specs.declared.standing.Standing.TheVariants.{Begins, Input, Neither}

@@ -1,5 +1,5 @@
 -- What a run of calls came to.
-use Rattle.std.specs.Prelude.{ℕ, ◌+◌, Bool, true, false, ◌||◌, min, List, length, sum_by}
+use Rattle.std.specs.Prelude.{ℕ, Bool, true, false, ◌||◌, min, List, length, sum_by}
 use Rattle.std.specs.List.{count_by, list_any}
 use Rattle.skk_calls.specs.declared.answer.Answer.{Answer}
 use Rattle.skk_calls.specs.declared.answer.Answer.TheVariants.{Done, Refused}
