@@ -1,0 +1,260 @@
+-- Blocks are joined by their okurigana.
+use Rattle.std.proofs.Common.{◌≡◌, ℕ, ◌+◌, suc, Bool, true, false, not, ◌||◌, if◌then◌else◌, String, List, [], ◌∷◌, ◌++◌, map, get_or, length, ◌<◌, refl, sym, ap, ◌∙◌, arith}
+use Rattle.std.specs.declared.alloc.Global.{Global}
+use Rattle.std.specs.List.{list_any, filter, flat_map, position_or_len}
+use Rattle.std.specs.String.{string_eq}
+use Rattle.std.proofs.Math.ListN.{set, get_or-map}
+use Rattle.std.proofs.lemmas.Bool.{and_parts, or_parts, both_ways, not-true}
+use Rattle.std.proofs.lemmas.List.{append-nil, map-append, map-set, length-map}
+use Rattle.indexmap.specs.IndexSet.{insert_key}
+use Rattle.std.proofs.lemmas.List.Elements.{filter-append}
+use Rattle.std.proofs.lemmas.Grind.{flat_map-append}
+use Rattle.skk_calls.specs.Canonical.{has_item}
+use Rattle.skk_calls.specs.Rows.{Block, same_text, has_text, texts_differ, is_okuri}
+use Rattle.dict_format.proofs.Differing.{texts_differ-cons}
+use Rattle.dict_format.specs.Building.{Strings, texts_in, JoinsBlocks, made_blocks}
+use Rattle.skk_calls.specs.Found.{first_of_each}
+use Rattle.dict_format.specs.RowOfItems.{words_once, words_with, joined_blocks, has_word}
+use Rattle.dict_format.specs.Views.{characters}
+use Rattle.dict_format.proofs.Firsts.{same-is, same-refl, same-sym, with_new, first_of_each-push, firsts_differ, firsts_have}
+use Rattle.dict_format.proofs.StringSets.{same_strings, insert_string}
+
+-- Values beside texts
+
+-- the place of a string among others is that of its characters
+pub place_of_string : (keys : List (String Global)) (string : String Global) → position_or_len (string_eq string) keys ≡ position_or_len (same_text (characters string)) (map characters keys)
+place_of_string [] string = refl
+place_of_string (key ∷ keys) string = rw (same_strings string key, place_of_string keys string) refl
+
+module _ {V : Type 0} (text : List ℕ) (old new : List ℕ → V) (others : (other : List ℕ) → same_text text other ≡ false → new other ≡ old other) where
+  -- where the text doesn't stand nothing changes
+  map_others : (texts : List (List ℕ)) → has_text texts text ≡ false → map new texts ≡ map old texts
+  map_others [] none = refl
+  map_others (other ∷ texts) none =
+      let parts = or_parts (same_text text other) (has_text texts text) none in
+      ap (λ v. v ∷ map new texts) (others other parts.0) ∙ ap (λ vs. old other ∷ vs) (map_others texts parts.1)
+
+  -- where it stands its value alone is set
+  set_there : (texts : List (List ℕ)) → texts_differ texts ≡ true → has_text texts text ≡ true → set (map old texts) (position_or_len (same_text text) texts) (new text) ≡ map new texts
+  set_there [] all there = absurd (both_ways false refl there)
+  set_there (other ∷ texts) all there =
+      let parts = and_parts (not (has_text texts other)) (texts_differ texts) (sym (texts_differ-cons other texts) ∙ all) in
+      by (same_text text other) refl (not-true (has_text texts other) parts.0) (λ h. set_there texts parts.1 h) there
+    where
+      by : (b : Bool) → same_text text other ≡ b → has_text texts other ≡ false → (has_text texts text ≡ true → set (map old texts) (position_or_len (same_text text) texts) (new text) ≡ map new texts)
+          → (same_text text other || has_text texts text) ≡ true
+          → set (map old (other ∷ texts)) (position_or_len (same_text text) (other ∷ texts)) (new text) ≡ map new (other ∷ texts)
+      by true e none later h =
+          let is = same-is text other e in
+          let none_here : has_text texts text ≡ false = ap (has_text texts) is ∙ none in
+          rw e (ap (λ v. v ∷ map old texts) (ap new is) ∙ ap (λ vs. new other ∷ vs) (sym (map_others texts none_here)))
+      by false e none later h =
+          let there_later : has_text texts text ≡ true = rw e at h in
+          let next : 1 + position_or_len (same_text text) texts ≡ suc (position_or_len (same_text text) texts) = omega arith in
+          rw (e, next) (ap (λ v. v ∷ set (map old texts) (position_or_len (same_text text) texts) (new text)) (sym (others other e)) ∙ ap (λ vs. new other ∷ vs) (later there_later))
+
+-- Words of blocks
+
+-- the words with an okurigana, with one more block
+words_with-push : (okuri : List ℕ) (blocks : List Block) (block : Block) → words_with okuri (blocks ++ block ∷ []) ≡ (if same_text block.okuri okuri then words_with okuri blocks ++ block.words else words_with okuri blocks)
+words_with-push okuri blocks block =
+    ap (flat_map (λ b. b.words)) (filter-append (λ b. same_text b.okuri okuri) blocks (block ∷ []))
+    ∙ flat_map-append (λ b. b.words) (filter (λ b. same_text b.okuri okuri) blocks) (filter (λ b. same_text b.okuri okuri) (block ∷ []))
+    ∙ by (same_text block.okuri okuri)
+  where
+    by : (b : Bool) → words_with okuri blocks ++ flat_map (λ b. b.words) (if b then block ∷ [] else []) ≡ (if b then words_with okuri blocks ++ block.words else words_with okuri blocks)
+    by true = ap (λ ws. words_with okuri blocks ++ ws) (append-nil block.words)
+    by false = append-nil (words_with okuri blocks)
+
+words_with-same : (okuri : List ℕ) (blocks : List Block) (block : Block) → block.okuri ≡ okuri → words_with okuri (blocks ++ block ∷ []) ≡ words_with okuri blocks ++ block.words
+words_with-same okuri blocks block e =
+    let here : same_text block.okuri okuri ≡ true = ap (λ o. same_text o okuri) e ∙ same-refl okuri in
+    words_with-push okuri blocks block ∙ (rw here refl)
+
+words_with-other : (okuri : List ℕ) (blocks : List Block) (block : Block) → same_text block.okuri okuri ≡ false → words_with okuri (blocks ++ block ∷ []) ≡ words_with okuri blocks
+words_with-other okuri blocks block e = words_with-push okuri blocks block ∙ (rw e refl)
+
+-- no block has an okurigana that is none of theirs
+words_with-none : (okuri : List ℕ) (blocks : List Block) → has_text (map (λ b. b.okuri) blocks) okuri ≡ false → words_with okuri blocks ≡ []
+words_with-none okuri [] none = refl
+words_with-none okuri (block ∷ blocks) none =
+    let parts = or_parts (same_text okuri block.okuri) (has_text (map (λ b. b.okuri) blocks) okuri) none in
+    let apart : same_text block.okuri okuri ≡ false = same-sym block.okuri okuri ∙ parts.0 in
+    rw apart (words_with-none okuri blocks parts.1)
+
+-- One more block
+
+-- the okurigana of blocks
+abbrev pub okuris_of : List Block → List (List ℕ)
+okuris_of blocks = map (λ b. b.okuri) (first_of_each (λ b. b.okuri) [] blocks)
+
+okuris_of-push : (blocks : List Block) (block : Block) → okuris_of (blocks ++ block ∷ []) ≡ with_new (λ text. text) (okuris_of blocks) block.okuri
+okuris_of-push blocks block =
+    ap (map (λ b. b.okuri)) (first_of_each-push (λ b. b.okuri) blocks block) ∙ by (has_text (okuris_of blocks) block.okuri) refl
+  where
+    texts : (ts : List (List ℕ)) → map (λ text. text) ts ≡ ts
+    texts [] = refl
+    texts (t ∷ ts) = ap (λ us. t ∷ us) (texts ts)
+
+    by : (b : Bool) → has_text (okuris_of blocks) block.okuri ≡ b
+        → map (λ b. b.okuri) (with_new (λ b. b.okuri) (first_of_each (λ b. b.okuri) [] blocks) block) ≡ with_new (λ text. text) (okuris_of blocks) block.okuri
+    by true e = rw (e, texts (okuris_of blocks), e) refl
+    by false e = rw (e, texts (okuris_of blocks), e) (map-append (λ b. b.okuri) (first_of_each (λ b. b.okuri) [] blocks) (block ∷ []))
+
+-- the value of a text that stands there, and of one that is new
+there_value : {V : Type 0} (old : List ℕ → V) (text : List ℕ) (texts : List (List ℕ)) (d : V) → has_text texts text ≡ true → get_or (map old texts) (position_or_len (same_text text) texts) d ≡ old text
+there_value old text [] d there = absurd (both_ways false refl there)
+there_value old text (other ∷ texts) d there = by (same_text text other) refl (λ h. there_value old text texts d h) there
+  where
+    by : (b : Bool) → same_text text other ≡ b → (has_text texts text ≡ true → get_or (map old texts) (position_or_len (same_text text) texts) d ≡ old text) → (same_text text other || has_text texts text) ≡ true
+        → get_or (map old (other ∷ texts)) (position_or_len (same_text text) (other ∷ texts)) d ≡ old text
+    by true e later h = rw e (ap old (sym (same-is text other e)))
+    by false e later h =
+        let there_later : has_text texts text ≡ true = rw e at h in
+        let next : 1 + position_or_len (same_text text) texts ≡ suc (position_or_len (same_text text) texts) = omega arith in
+        rw (e, next) (later there_later)
+
+-- the place of a text that stands there
+there_within : (text : List ℕ) (texts : List (List ℕ)) → has_text texts text ≡ true → position_or_len (same_text text) texts < length texts
+there_within text [] there = absurd (both_ways false refl there)
+there_within text (other ∷ texts) there = by (same_text text other) refl (λ h. there_within text texts h) there
+  where
+    by : (b : Bool) → same_text text other ≡ b → (has_text texts text ≡ true → position_or_len (same_text text) texts < length texts) → (same_text text other || has_text texts text) ≡ true
+        → position_or_len (same_text text) (other ∷ texts) < length (other ∷ texts)
+    by true e later h = rw e (omega arith)
+    by false e later h =
+        let there_later : has_text texts text ≡ true = rw e at h in
+        let lt = later there_later in
+        rw e (omega arith)
+
+-- One more block
+
+-- what stands before a block is added: the okurigana and their words
+module _ (okuris more_okuris : Strings) (groups : List Strings) (okuri : String Global) (before : List Block) (block : Block)
+    (is_okuri_of : block.okuri ≡ characters okuri)
+    (keys : more_okuris.keys ≡ insert_key string_eq okuris.keys okuri)
+    (joins : JoinsBlocks okuris groups before) where
+  -- the words of each okurigana, before the block and with it
+  abbrev old_words : List ℕ → List (List ℕ)
+  old_words other = words_once (words_with other before)
+
+  abbrev new_words : List ℕ → List (List ℕ)
+  new_words other = words_once (words_with other (before ++ block ∷ []))
+
+  -- the block's words are those of its okurigana alone
+  others : (other : List ℕ) → same_text (characters okuri) other ≡ false → new_words other ≡ old_words other
+  others other apart = ap words_once (words_with-other other before block (ap (λ o. same_text o other) is_okuri_of ∙ apart))
+
+  here : new_words (characters okuri) ≡ words_once (words_with (characters okuri) before ++ block.words)
+  here = ap words_once (words_with-same (characters okuri) before block is_okuri_of)
+
+  more_texts : texts_in more_okuris ≡ with_new (λ text. text) (texts_in okuris) (characters okuri)
+  more_texts = ap (map characters) keys ∙ insert_string okuris.keys okuri
+
+  more_okuris_are : texts_in more_okuris ≡ okuris_of (before ++ block ∷ [])
+  more_okuris_are =
+      more_texts ∙ ap (λ ts. with_new (λ text. text) ts (characters okuri)) joins.okuris_are
+      ∙ ap (λ o. with_new (λ text. text) (okuris_of before) o) (sym is_okuri_of) ∙ sym (okuris_of-push before block)
+
+  same_texts : (ts : List (List ℕ)) → map (λ text. text) ts ≡ ts
+  same_texts [] = refl
+  same_texts (t ∷ ts) = ap (λ us. t ∷ us) (same_texts ts)
+
+  -- a new okurigana has the block's words alone
+  pub joins_new : has_text (texts_in okuris) (characters okuri) ≡ false → (first : Strings) → texts_in first ≡ words_once block.words → JoinsBlocks more_okuris (groups ++ first ∷ []) (before ++ block ∷ [])
+  joins_new none first words =
+      let texts = texts_in okuris in
+      let no_words : words_with (characters okuri) before ≡ [] =
+      words_with-none (characters okuri) before (sym (firsts_have (λ b. b.okuri) [] before (characters okuri)) ∙ ap (λ ts. has_text ts (characters okuri)) (sym joins.okuris_are) ∙ none) in
+      let value : texts_in first ≡ new_words (characters okuri) = words ∙ ap (λ ws. words_once (ws ++ block.words)) (sym no_words) ∙ sym here in
+      let longer : texts_in more_okuris ≡ texts ++ characters okuri ∷ [] =
+      more_texts ∙ ap (λ b. if b then texts else texts ++ characters okuri ∷ []) (ap (λ ts. has_text ts (characters okuri)) (same_texts texts) ∙ none) in
+      record {
+        okuris_are = more_okuris_are;
+        words_are =
+            map-append texts_in groups (first ∷ [])
+            ∙ ap (λ gs. gs ++ texts_in first ∷ []) (joins.words_are ∙ sym (map_others (characters okuri) old_words new_words others texts none))
+            ∙ ap (λ ws. map new_words texts ++ ws ∷ []) value
+            ∙ sym (map-append new_words texts (characters okuri ∷ []))
+            ∙ ap (map new_words) (sym longer);
+      }
+
+  module _ (place : ℕ) (place_is : place ≡ position_or_len (string_eq okuri) okuris.keys) (there : has_text (texts_in okuris) (characters okuri) ≡ true) where
+    place_of_text : place ≡ position_or_len (same_text (characters okuri)) (texts_in okuris)
+    place_of_text = place_is ∙ place_of_string okuris.keys okuri
+
+    -- one that is there has its place
+    pub known_place : place < length groups
+    known_place =
+        omega (arith, place_of_text, there_within (characters okuri) (texts_in okuris) there, sym (length-map groups texts_in) ∙ ap length joins.words_are ∙ length-map (texts_in okuris) old_words)
+
+    -- and has the block's words too
+    pub joins_known : (known added : Strings) → known ≡ get_or groups place known
+        → ((words : List (List ℕ)) → texts_in known ≡ words_once words → texts_in added ≡ words_once (words ++ block.words))
+        → JoinsBlocks more_okuris (set groups place added) (before ++ block ∷ [])
+    joins_known known added is adds =
+        let texts = texts_in okuris in
+        let all : texts_differ texts ≡ true = ap texts_differ joins.okuris_are ∙ firsts_differ (λ b. b.okuri) [] before in
+        let value : texts_in known ≡ old_words (characters okuri) =
+        ap texts_in is ∙ sym (get_or-map texts_in groups place known) ∙ ap (λ gs. get_or gs place (texts_in known)) joins.words_are
+        ∙ ap (λ n. get_or (map old_words texts) n (texts_in known)) place_of_text ∙ there_value old_words (characters okuri) texts (texts_in known) there in
+        let after : texts_in added ≡ new_words (characters okuri) = adds (words_with (characters okuri) before) value ∙ sym here in
+        let unchanged : texts_in more_okuris ≡ texts =
+        more_texts ∙ ap (λ b. if b then texts else texts ++ characters okuri ∷ []) (ap (λ ts. has_text ts (characters okuri)) (same_texts texts) ∙ there) in
+        record {
+          okuris_are = more_okuris_are;
+          words_are =
+              map-set texts_in groups place added
+              ∙ ap (λ gs. set gs place (texts_in added)) joins.words_are
+              ∙ ap (λ n. set (map old_words texts) n (texts_in added)) place_of_text
+              ∙ ap (set (map old_words texts) (position_or_len (same_text (characters okuri)) texts)) after
+              ∙ set_there (characters okuri) old_words new_words others texts all there
+              ∙ ap (map new_words) (sym unchanged);
+        }
+
+-- The blocks that are made
+
+-- the words beside okurigana make the blocks of those that are valid
+pub made_blocks-is : (words_of : List ℕ → List (List ℕ)) (firsts : List Block) → made_blocks (map (λ b. b.okuri) firsts) (map words_of (map (λ b. b.okuri) firsts))
+    ≡ filter (λ b. is_okuri b.okuri) (map (λ first. record { okuri = first.okuri; words = words_of first.okuri }) firsts)
+made_blocks-is words_of [] = refl
+made_blocks-is words_of (first ∷ firsts) = by (is_okuri first.okuri) refl (made_blocks-is words_of firsts)
+  where
+    by : (b : Bool) → is_okuri first.okuri ≡ b
+        → made_blocks (map (λ b. b.okuri) firsts) (map words_of (map (λ b. b.okuri) firsts)) ≡ filter (λ b. is_okuri b.okuri) (map (λ f. record { okuri = f.okuri; words = words_of f.okuri }) firsts)
+        → made_blocks (map (λ b. b.okuri) (first ∷ firsts)) (map words_of (map (λ b. b.okuri) (first ∷ firsts)))
+        ≡ filter (λ b. is_okuri b.okuri) (map (λ f. record { okuri = f.okuri; words = words_of f.okuri }) (first ∷ firsts))
+    by true e later = rw e (ap (λ bs. record { okuri = first.okuri; words = words_of first.okuri } ∷ bs) later)
+    by false e later = rw e later
+
+-- so okurigana with their words make the joined blocks
+pub joined-made : (okuris : Strings) (groups : List Strings) (blocks : List Block) → JoinsBlocks okuris groups blocks
+    → made_blocks (texts_in okuris) (map texts_in groups) ≡ filter (λ b. is_okuri b.okuri) (joined_blocks blocks)
+joined-made okuris groups blocks joins =
+    let words_of : List ℕ → List (List ℕ) = λ okuri. words_once (words_with okuri blocks) in
+    ap (made_blocks (texts_in okuris)) joins.words_are
+    ∙ ap (λ ts. made_blocks ts (map words_of ts)) joins.okuris_are
+    ∙ made_blocks-is words_of (first_of_each (λ b. b.okuri) [] blocks)
+
+-- a block has a word where its strings have one
+pub has_word-is : (okuri : String Global) (words : List (String Global)) (result : Bool) → result ≡ list_any (λ word. has_item (characters word)) words
+    → has_word (record { okuri = characters okuri; words = map characters words }) ≡ result
+has_word-is okuri words result e = of words ∙ sym e
+  where
+    of : (strings : List (String Global)) → list_any has_item (map characters strings) ≡ list_any (λ word. has_item (characters word)) strings
+    of [] = refl
+    of (string ∷ strings) = ap (λ b. has_item (characters string) || b) (of strings)
+
+-- the first okurigana makes its block before those of the others
+pub made_blocks-cons : (okuri : List ℕ) (words : List (List ℕ)) (okuris : List (List ℕ)) (more : List (List (List ℕ)))
+    → made_blocks (okuri ∷ okuris) (words ∷ more) ≡ made_blocks (okuri ∷ []) (words ∷ []) ++ made_blocks okuris more
+made_blocks-cons okuri words okuris more = by (is_okuri okuri) refl
+  where
+    by : (b : Bool) → is_okuri okuri ≡ b → made_blocks (okuri ∷ okuris) (words ∷ more) ≡ made_blocks (okuri ∷ []) (words ∷ []) ++ made_blocks okuris more
+    by true e = rw e refl
+    by false e = rw e refl
+
+-- without words no block is made
+pub made_blocks-none : (okuris : List (List ℕ)) → made_blocks okuris [] ≡ []
+made_blocks-none [] = refl
+made_blocks-none (okuri ∷ okuris) = refl

@@ -1,0 +1,75 @@
+-- What is printed piece by piece.
+use Rattle.std.proofs.Common.{◌≡◌, ℕ, ◌+◌, Some, List, [], ◌∷◌, ◌++◌, codes, map, take, length, refl, sym, ap, ◌∙◌, append_assoc, arith}
+use Rattle.std.specs.List.{flat_map, slice_get}
+use Rattle.std.proofs.lemmas.Grind.{flat_map-append}
+use Rattle.std.proofs.lemmas.List.{append-nil, take_more}
+use Rattle.std.proofs.lemmas.Option.{slice_get_within, get_or_from_slice_get}
+use Rattle.std.proofs.lemmas.Str.{length-le-encodes}
+use Rattle.skk_text.specs.Text.{byte_len}
+use Rattle.skk_calls.specs.Canonical.{with_slash, quoted, mark_items, written_note, items, item, written_block}
+use Rattle.skk_calls.specs.Rows.{Row}
+
+-- one more piece
+pub piece_more : {X : Type 0} (f : X → List ℕ) (xs : List X) (place : ℕ) (x : X) (old line new : List ℕ) → slice_get xs place ≡ Some x
+    → line ≡ old ++ flat_map f (take place xs) → new ≡ line ++ f x → new ≡ old ++ flat_map f (take (place + 1) xs)
+piece_more f xs place x old line new at so_far more =
+    let next : flat_map f (take (place + 1) xs) ≡ flat_map f (take place xs) ++ f x =
+    rw (take_more xs place x (slice_get_within xs place x at), get_or_from_slice_get xs place x x at, flat_map-append f (take place xs) (x ∷ []))
+    (ap (λ ys. flat_map f (take place xs) ++ ys) (append-nil (f x))) in
+    more ∙ ap (λ ys. ys ++ f x) so_far ∙ append_assoc old (flat_map f (take place xs)) (f x) ∙ ap (λ ys. old ++ ys) (sym next)
+
+-- a text and a slash
+pub slash_behind : (line text middle new : List ℕ) → middle ≡ line ++ text → new ≡ middle ++ 0x2F ∷ [] → new ≡ line ++ with_slash text
+slash_behind line text middle new first last = last ∙ ap (λ ys. ys ++ 0x2F ∷ []) first ∙ append_assoc line text (0x2F ∷ [])
+
+-- a space and a text
+pub with_space : (line text middle new : List ℕ) → middle ≡ line ++ 0x20 ∷ [] → new ≡ middle ++ text → new ≡ line ++ 0x20 ∷ text
+with_space line text middle new first last = last ∙ ap (λ ys. ys ++ text) first ∙ append_assoc line (0x20 ∷ []) text
+
+-- no hidden words, no mark
+pub mark_none : (hides : List (List ℕ)) → length hides ≡ 0 → flat_map with_slash (mark_items hides) ≡ []
+mark_none [] e = refl
+mark_none (word ∷ words) e = absurd (omega arith)
+
+-- one mark with its slash
+pub mark_some : (hides : List (List ℕ)) → (length hides ≡ 0 → ⊥) → flat_map with_slash (mark_items hides) ≡ codes "(skk-ignore-dic-word" ++ flat_map (λ w. 0x20 ∷ quoted w) hides ++ codes ")/"
+mark_some [] e = absurd (e refl)
+mark_some (word ∷ words) e =
+    append-nil (with_slash (codes "(skk-ignore-dic-word" ++ flat_map (λ w. 0x20 ∷ quoted w) (word ∷ words) ++ codes ")"))
+    ∙ append_assoc (codes "(skk-ignore-dic-word" ++ flat_map (λ w. 0x20 ∷ quoted w) (word ∷ words)) (codes ")") (0x2F ∷ [])
+
+-- no note, nothing
+pub note_none : (note : List ℕ) → byte_len note ≡ 0 → written_note note ≡ []
+note_none [] e = refl
+note_none (c ∷ note) e = absurd (omega (arith, e, length-le-encodes (c ∷ note)))
+
+-- texts that are made are ended as they are made
+ended_map : {X : Type 0} (f : X → List ℕ) (xs : List X) → flat_map with_slash (map f xs) ≡ flat_map (λ x. with_slash (f x)) xs
+ended_map f [] = refl
+ended_map f (x ∷ xs) = ap (λ ys. with_slash (f x) ++ ys) (ended_map f xs)
+
+-- the items of a row with their slashes
+pub items_ended : (row : Row) → flat_map with_slash (items row)
+    ≡ (flat_map (λ cand. with_slash (item cand)) row.cands ++ flat_map (λ block. with_slash (written_block block)) row.blocks) ++ flat_map with_slash (mark_items row.hides)
+items_ended row =
+    flat_map-append with_slash (map item row.cands ++ map written_block row.blocks) (mark_items row.hides)
+    ∙ ap (λ ys. ys ++ flat_map with_slash (mark_items row.hides)) (flat_map-append with_slash (map item row.cands) (map written_block row.blocks))
+    ∙ ap (λ ys. (ys ++ flat_map with_slash (map written_block row.blocks)) ++ flat_map with_slash (mark_items row.hides)) (ended_map item row.cands)
+    ∙ ap (λ ys. (flat_map (λ cand. with_slash (item cand)) row.cands ++ ys) ++ flat_map with_slash (mark_items row.hides)) (ended_map written_block row.blocks)
+
+-- three pieces, one after another
+pub three_pieces : (line a b c first second new : List ℕ) → first ≡ line ++ a → second ≡ first ++ b → new ≡ second ++ c → new ≡ line ++ ((a ++ b) ++ c)
+three_pieces line a b c first second new e f g =
+    g ∙ ap (λ ys. ys ++ c) (f ∙ ap (λ ys. ys ++ b) e) ∙ regroup
+  where
+    regroup : ((line ++ a) ++ b) ++ c ≡ line ++ ((a ++ b) ++ c)
+    regroup = simp append_assoc
+
+-- the pieces of a line
+pub line_pieces : (reading cands blocks mark none first second third fourth new : List ℕ) → none ≡ [] → first ≡ none ++ reading → second ≡ first ++ codes " /" → third ≡ second ++ cands
+    → fourth ≡ third ++ blocks → new ≡ fourth ++ mark → new ≡ reading ++ 0x20 ∷ 0x2F ∷ ((cands ++ blocks) ++ mark)
+line_pieces reading cands blocks mark none first second third fourth new n e f g h i =
+    i ∙ ap (λ ys. ys ++ mark) (h ∙ ap (λ ys. ys ++ blocks) (g ∙ ap (λ ys. ys ++ cands) (f ∙ ap (λ ys. ys ++ codes " /") (e ∙ ap (λ ys. ys ++ reading) n)))) ∙ regroup
+  where
+    regroup : (((reading ++ codes " /") ++ cands) ++ blocks) ++ mark ≡ reading ++ 0x20 ∷ 0x2F ∷ ((cands ++ blocks) ++ mark)
+    regroup = simp append_assoc

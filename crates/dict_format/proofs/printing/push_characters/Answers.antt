@@ -1,0 +1,18 @@
+use Rattle.std.proofs.Common.{◌++◌, ◌∙◌, sym, ap}
+use Rattle.std.specs.List.{flat_map}
+use Rattle.std.specs.Str.{chars}
+use Rattle.std.specs.Str.Iter.{chars_rest}
+use Rattle.std.proofs.lemmas.Str.{Chars-Drains, encodes-chars}
+use Rattle.skk_calls.specs.Canonical.{char_in_string}
+use Rattle.dict_format.proofs.printing.push_characters.Goals as goal
+
+-- the loop ends where each character was taken
+pub returns : goal.returns
+returns c =
+    let text = c.as_str.result.now in
+    c.loop-c.invariant
+    ∙ ap (λ cs. c.args.line.now ++ flat_map char_in_string cs)
+    (Chars-Drains (chars text) c.loop-c.yielded c.into_iter-c-iterator.result
+    (encodes-chars text c.as_str.utf8 ∙ sym (ap chars_rest c.into_iter-c-iterator.ensures.into_iter_gives ∙ c.chars-c-items.ensures.rest))
+    (c.next.new.self, (c.loop-c.c-iterator, c.loop-c.yielded_by, c.in-None.ensures.steps))
+    ∙ c.as_str.ensures.characters)

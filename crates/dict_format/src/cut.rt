@@ -1,0 +1,41 @@
+ghost use Rattle.std.specs.Prelude.{◌≡◌, ◌==◌, ◌<◌, length, position, IfSome};
+ghost use Rattle.skk_calls.specs.Canonical.{has_item};
+ghost use Rattle.std.specs.Option.{option_map};
+ghost use Rattle.dict_format.specs.Reading.{cut, without_spaces};
+
+// What stands before the first such character and what stands behind it, where there is one.
+pub fn cut_at(text: &[char], end: char) -> Option<(&[char], &[char])>
+    ensures { option_map (λ parts. (parts.0.now, parts.1.now)) result ≡ cut (λ c. c == end) text.now }
+{
+    match place_of(text, end) {
+        Some(at) => Some((&text[..at], &text[at + 1..])),
+        None => None,
+    }
+}
+
+// Where the first such character stands.
+pub fn place_of(text: &[char], end: char) -> Option<usize>
+    ensures value { result ≡ position (λ c. c == end) text.now }
+    ensures within { IfSome result (λ at. at < length text.now) }
+{
+    text.iter().position(|c| *c == end)
+}
+
+// The text behind its leading spaces.
+pub fn behind_spaces(text: &[char]) -> &[char]
+    ensures { result.now ≡ without_spaces text.now }
+{
+    let mut rest = text;
+    while let [' ', behind @ ..] = rest {
+        rest = behind;
+    }
+    rest
+}
+
+// Whether there is an item.
+#[tactic(auto, using(crate::proofs::Cutting::has_some_not_empty))]
+pub fn has_some<T>(items: &[T]) -> bool
+    ensures { result ≡ has_item items.now }
+{
+    !items.is_empty()
+}

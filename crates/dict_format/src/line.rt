@@ -1,0 +1,182 @@
+ghost use Rattle.std.specs.Prelude.{◌≡◌, ◌&&◌, not, length, map, true, ℕ, IfOk, IsErrOf, Ok, Err};
+ghost use Rattle.skk_calls.specs.Canonical.{has_item};
+ghost use Rattle.std.specs.List.{list_any, list_all};
+ghost use Rattle.skk_calls.specs.Rows.{Row, begins_well, is_row};
+ghost use Rattle.dict_format.specs.declared.reason.LineReason.{LineReason};
+ghost use Rattle.dict_format.specs.declared.reason.LineReason.TheVariants as reasons;
+ghost use Rattle.dict_format.specs.Lines.{lacks, SpellsRow};
+ghost use Rattle.dict_format.specs.Reading.{and_then, taken, cut, is_slash, is_space, or_reason, texts_at, key_at, row_at, line_at, some_row_of};
+ghost use Rattle.dict_format.specs.Reasons.{is_control, is_bad_reading, reading_limit, Answers, IsReason};
+ghost use Rattle.dict_format.specs.RowOfItems.{row_of_items, says_something};
+ghost use Rattle.dict_format.specs.Views.{item_said, Gives};
+
+use crate::cut::{behind_spaces, cut_at, has_some};
+use crate::items::{Item, items_of};
+use crate::reason::{LineFault, LineReason};
+use crate::row::row_of;
+use crate::words::plain;
+use skk_calls::{Part, Row, RowKey};
+use skk_text::{Memory, Text};
+use std::alloc::Global;
+
+/// The most bytes of a line.
+const LINE_LIMIT: usize = 65_535;
+
+/// Reads a line of a part of a dictionary: the row that it spells, of stamp 0, or the first reason that fits it.
+/// Takes time in the length of the line.
+pub fn read_line(alloc: Global, part: Part, line: &Text) -> Result<Row, LineFault>
+    ensures ok { IfOk result (SpellsRow part line.now) }
+    ensures only { (row : Row) → SpellsRow part line.now row → Answers result (Ok row) }
+    ensures reason { (first : LineReason) → IsErrOf result (LineFault.Reason first) → IsReason part line.now first }
+    ensures only_reason { (first : LineReason) → IsReason part line.now first → Answers result (Err (LineFault.Reason first)) }
+{
+    read(alloc, part, line)
+}
+
+// Reads a line, as its characters are read from left to right.
+#[tactic(auto, unfolding(crate::specs::Reading::line_at))]
+fn read(alloc: Global, part: Part, line: &Text) -> Result<Row, LineFault>
+    ensures { Gives (λ row. row) result (line_at part line.now) }
+{
+    if line.byte_len() > LINE_LIMIT {
+        return Err(LineFault::Reason(LineReason::LongLine));
+    }
+    let characters = characters_of(alloc, line)?;
+    read_characters(alloc, part, &characters)
+}
+
+// The characters of a text.
+fn characters_of(alloc: Global, text: &Text) -> Result<Vec<char>, Memory>
+    ensures { IfOk result (λ characters. characters.items ≡ text.now) }
+{
+    Ok(text.as_str().chars().collect(alloc)?)
+}
+
+// Reads the characters of a line that is not too long.
+fn read_characters(alloc: Global, part: Part, line: &[char]) -> Result<Row, LineFault>
+    ensures { Gives (λ row. row) result (and_then (or_reason reasons.NoSpace (cut is_space line.now)) (row_at part)) }
+{
+    match cut_at(line, ' ') {
+        Some((reading, rest)) => read_parts(alloc, part, reading, rest),
+        None => Err(LineFault::Reason(LineReason::NoSpace)),
+    }
+}
+
+// Reads what stands before and behind the first space of a line.
+#[tactic(auto, unfolding(crate::specs::Reading::row_at))]
+fn read_parts(alloc: Global, part: Part, reading: &[char], rest: &[char]) -> Result<Row, LineFault>
+    requires { lacks 0x20 reading.now ≡ true }
+    ensures { Gives (λ row. row) result (row_at part (reading.now, rest.now)) }
+{
+    let key = key_of(alloc, part, reading)?;
+    let texts = texts_between(alloc, behind_spaces(rest))?;
+    let items = items_of(alloc, part, &texts)?;
+    some_row(alloc, key, items)
+}
+
+// The row that items make of a key, which says something.
+#[tactic(auto, unfolding(crate::specs::Reading::some_row_of))]
+fn some_row(alloc: Global, key: RowKey, items: Vec<Item>) -> Result<Row, LineFault>
+    requires { is_row (row_of_items key (map item_said items.items)) ≡ true }
+    ensures { Gives (λ row. row) result (some_row_of key (map item_said items.items)) }
+{
+    let row = row_of(alloc, key, items)?;
+    if says_something(&row) {
+        Ok(row)
+    } else {
+        Err(LineFault::Reason(LineReason::Empty))
+    }
+}
+
+// Whether a row has a candidate, a block or a hidden word.
+fn says_something(row: &Row) -> bool
+    ensures { result ≡ says_something row.now }
+{
+    row.cands().len() > 0 || row.blocks().len() > 0 || row.hides().len() > 0
+}
+
+// The key of a reading, which holds no space.
+#[tactic(auto, unfolding(crate::specs::Reading::key_at))]
+fn key_of(alloc: Global, part: Part, reading: &[char]) -> Result<RowKey, LineFault>
+    requires { lacks 0x20 reading.now ≡ true }
+    ensures { Gives (λ key. key) result (key_at part reading.now) }
+{
+    if is_bad_reading(reading) {
+        return Err(LineFault::Reason(LineReason::BadReading));
+    }
+    let text = Text::of(plain(alloc, reading)?);
+    if text.byte_len() > reading_limit(part) {
+        return Err(LineFault::Reason(LineReason::LongReading));
+    }
+    match RowKey::new(part, text) {
+        Ok(key) => Ok(key),
+        Err(_) => Err(LineFault::Reason(LineReason::OkuriKey)),
+    }
+}
+
+// Whether a reading is empty, begins with `;`, or holds a control character.
+fn is_bad_reading(reading: &[char]) -> bool
+    ensures { result ≡ is_bad_reading reading.now }
+{
+    !begins_well(reading) || holds_control(reading)
+}
+
+// Whether a text begins, and with something else than `;`.
+fn begins_well(text: &[char]) -> bool
+    ensures { result ≡ begins_well text.now }
+{
+    !matches!(text, [] | [';', ..])
+}
+
+// Whether a text holds a control character.
+fn holds_control(text: &[char]) -> bool
+    ensures { result ≡ list_any is_control text.now }
+{
+    text.iter().any(|c| *c < ' ' || *c == '\u{7F}')
+}
+
+// The most bytes of a reading.
+fn reading_limit(part: Part) -> usize
+    ensures { result ≡ reading_limit part }
+{
+    match part {
+        Part::Nasi => 254,
+        Part::Ari => 255,
+    }
+}
+
+// The texts between the slashes of a body that begins and ends with one.
+#[tactic(auto, unfolding(crate::specs::Reading::texts_at))]
+fn texts_between(alloc: Global, body: &[char]) -> Result<Vec<&[char]>, LineFault>
+    ensures { Gives (λ texts. map (λ text. text.now) texts.items) result (or_reason reasons.NoSlash (texts_at body.now)) }
+{
+    let ['/', behind @ ..] = body else {
+        return Err(LineFault::Reason(LineReason::NoSlash));
+    };
+    let (texts, rest) = all_texts(alloc, behind)?;
+    if ends_body(&texts, rest) {
+        Ok(texts)
+    } else {
+        Err(LineFault::Reason(LineReason::NoSlash))
+    }
+}
+
+// The texts that are ended by a slash, and what stands behind the last of them.
+fn all_texts(alloc: Global, text: &[char]) -> Result<(Vec<&[char]>, &[char]), Memory>
+    ensures { IfOk result (λ parts. taken (cut is_slash) text.now ≡ (map (λ text. text.now) parts.0.items, parts.1.now)) }
+{
+    let mut texts = Vec::new(alloc);
+    let mut rest = text;
+    while let Some((text, behind)) = cut_at(rest, '/') {
+        texts.push(text)?;
+        rest = behind;
+    }
+    Ok((texts, rest))
+}
+
+// Whether there are texts, and nothing stands behind the last slash.
+fn ends_body(texts: &[&[char]], rest: &[char]) -> bool
+    ensures { result ≡ (has_item texts.now && not (has_item rest.now)) }
+{
+    has_some(texts) && !has_some(rest)
+}

@@ -1,0 +1,207 @@
+ghost use Rattle.std.specs.Prelude.{◌≡◌, ◌++◌, ◌∷◌, ◌||◌, nat_eq, nat_lt, true, IfOk, OnOk};
+ghost use Rattle.std.specs.List.{flat_map, list_all, list_any, starts_with};
+ghost use Rattle.std.specs.Str.{chars};
+ghost use Rattle.skk_calls.specs.Canonical.{canonical, item, with_slash, char_in_string, quoted, is_special, begins_form, written_word, written_note, written_block, mark_items};
+
+use skk_calls::{Block, Blocks, Cand, Cands, Row};
+use skk_text::{Memory, Text, Texts};
+use std::alloc::Global;
+
+/// The canonical line of a row, which says nothing of its stamp.
+pub fn print_line(alloc: Global, row: &Row) -> Result<Text, Memory>
+    ensures { IfOk result (λ line. line ≡ canonical row.now) }
+{
+    let mut line = Text::new(alloc);
+    line.push_str(row.key().reading().as_str())?;
+    line.push_str(" /")?;
+    push_cands(&mut line, row.cands())?;
+    push_blocks(&mut line, row.blocks())?;
+    push_mark(&mut line, row.hides())?;
+    Ok(line)
+}
+
+/// A candidate as an item of a line.
+pub fn print_item(alloc: Global, cand: &Cand) -> Result<Text, Memory>
+    ensures { IfOk result (λ text. text ≡ item cand.now) }
+{
+    let mut text = Text::new(alloc);
+    push_item(&mut text, cand)?;
+    Ok(text)
+}
+
+// Adds the items of candidates, each with its slash.
+fn push_cands(line: &mut Text, cands: &Cands) -> Result<(), Memory>
+    ensures { OnOk result (line.new ≡ line.old ++ flat_map (λ cand. with_slash (item cand)) cands.now) }
+{
+    for place in 0..cands.len() {
+        push_item(line, cands.at(place))?;
+        line.push('/')?;
+    }
+    Ok(())
+}
+
+// Adds a candidate: its word, and its note where it has one.
+fn push_item(line: &mut Text, cand: &Cand) -> Result<(), Memory>
+    ensures { OnOk result (line.new ≡ line.old ++ item cand.now) }
+{
+    push_word(line, cand.word())?;
+    push_note(line, cand.note())
+}
+
+// Adds a note behind its semicolon, where there is one.
+fn push_note(line: &mut Text, note: &Text) -> Result<(), Memory>
+    ensures { OnOk result (line.new ≡ line.old ++ written_note note.now) }
+{
+    if note.byte_len() == 0 {
+        return Ok(());
+    }
+    line.push(';')?;
+    line.push_str(note.as_str())
+}
+
+// Adds blocks, each with its slash.
+fn push_blocks(line: &mut Text, blocks: &Blocks) -> Result<(), Memory>
+    ensures { OnOk result (line.new ≡ line.old ++ flat_map (λ block. with_slash (written_block block)) blocks.now) }
+{
+    for place in 0..blocks.len() {
+        push_block(line, blocks.at(place))?;
+        line.push('/')?;
+    }
+    Ok(())
+}
+
+// Adds a block: its okurigana and its words between brackets.
+fn push_block(line: &mut Text, block: &Block) -> Result<(), Memory>
+    ensures { OnOk result (line.new ≡ line.old ++ written_block block.now) }
+{
+    line.push('[')?;
+    line.push_str(block.okuri().text().as_str())?;
+    line.push('/')?;
+    push_words(line, block.words())?;
+    line.push(']')
+}
+
+// Adds words, each with its slash.
+fn push_words(line: &mut Text, words: &Texts) -> Result<(), Memory>
+    ensures { OnOk result (line.new ≡ line.old ++ flat_map (λ word. with_slash (written_word word)) words.now) }
+{
+    for place in 0..words.len() {
+        push_word(line, words.at(place))?;
+        line.push('/')?;
+    }
+    Ok(())
+}
+
+// Adds a word, quoted where it could not be read as it is.
+#[tactic(auto, using(crate::proofs::PrintedCharacters::forms))]
+fn push_word(line: &mut Text, word: &Text) -> Result<(), Memory>
+    ensures { OnOk result (line.new ≡ line.old ++ written_word word.now) }
+{
+    if !needs_quotes(word) {
+        line.push_str(word.as_str())?;
+        return Ok(());
+    }
+    line.push_str("(concat ")?;
+    push_string(line, word)?;
+    line.push(')')?;
+    Ok(())
+}
+
+// Whether a word could not be read as it is.
+fn needs_quotes(word: &Text) -> bool
+    ensures { result ≡ (list_any is_special word.now || begins_form word.now) }
+{
+    holds_special(word.as_str()) || begins_form(word)
+}
+
+// Whether a text holds a character that no plain word has.
+fn holds_special(text: &str) -> bool
+    ensures { result ≡ list_any is_special (chars text.now) }
+{
+    text.chars().any(is_special)
+}
+
+// Whether no plain word holds a character.
+fn is_special(c: char) -> bool
+    ensures { result ≡ is_special c }
+{
+    matches!(c, '/' | ';' | '"' | '\\' | '\r' | '\n')
+}
+
+// Whether no plain word begins so.
+fn begins_form(word: &Text) -> bool
+    ensures { result ≡ begins_form word.now }
+{
+    begins(word, b"[")
+        || begins(word, b"]")
+        || begins(word, b"(concat ")
+        || begins(word, b"(skk-ignore-dic-word ")
+}
+
+// Whether a word begins with ASCII text.
+fn begins(word: &Text, prefix: &[u8]) -> bool
+    requires { list_all (λ c. nat_lt c 128) prefix.now ≡ true }
+    ensures { result ≡ starts_with nat_eq word.now prefix.now }
+{
+    word.as_str().as_bytes().starts_with(prefix)
+}
+
+// Adds a text as a string in double quotes.
+fn push_string(line: &mut Text, text: &Text) -> Result<(), Memory>
+    ensures { OnOk result (line.new ≡ line.old ++ quoted text.now) }
+{
+    line.push('"')?;
+    push_characters(line, text)?;
+    line.push('"')
+}
+
+// Adds the characters of a text as they stand in a string.
+fn push_characters(line: &mut Text, text: &Text) -> Result<(), Memory>
+    ensures { OnOk result (line.new ≡ line.old ++ flat_map char_in_string text.now) }
+{
+    for c in text.as_str().chars() {
+        push_character(line, c)?;
+    }
+    Ok(())
+}
+
+// Adds a character as it stands in a string.
+#[tactic(auto, using(crate::proofs::PrintedCharacters::escapes))]
+fn push_character(line: &mut Text, c: char) -> Result<(), Memory>
+    ensures { OnOk result (line.new ≡ line.old ++ char_in_string c) }
+{
+    match c {
+        '/' => line.push_str("\\057"),
+        ';' => line.push_str("\\073"),
+        '"' => line.push_str("\\\""),
+        '\\' => line.push_str("\\\\"),
+        '\r' => line.push_str("\\r"),
+        '\n' => line.push_str("\\n"),
+        _ => line.push(c),
+    }
+}
+
+// Adds one mark with all words that are hidden, and its slash, where there are any.
+#[tactic(auto, using(crate::proofs::PrintedCharacters::forms))]
+fn push_mark(line: &mut Text, hides: &Texts) -> Result<(), Memory>
+    ensures { OnOk result (line.new ≡ line.old ++ flat_map with_slash (mark_items hides.now)) }
+{
+    if hides.len() == 0 {
+        return Ok(());
+    }
+    line.push_str("(skk-ignore-dic-word")?;
+    push_strings(line, hides)?;
+    line.push_str(")/")?;
+    Ok(())
+}
+
+// Adds words as strings, each behind a space.
+fn push_strings(line: &mut Text, words: &Texts) -> Result<(), Memory>
+    ensures { OnOk result (line.new ≡ line.old ++ flat_map (λ word. 0x20 ∷ quoted word) words.now) }
+{
+    for place in 0..words.len() {
+        line.push(' ')?;
+        push_string(line, words.at(place))?;
+    }
+    Ok(())
+}
