@@ -13,7 +13,7 @@ use Rattle.dict_format.specs.declared.reason.LineReason.{LineReason}
 use Rattle.dict_format.specs.declared.reason.LineReason.TheVariants as reason
 use Rattle.dict_format.specs.Items.{Item, SpellsItems}
 use Rattle.dict_format.specs.Lines.{HasBody, HasTexts, SpellsRow}
-use Rattle.dict_format.specs.Reading.{cut, is_space, without_spaces, texts_at, items_at, or_reason, and_then, key_at, fit_items_at, some_row_of, row_at, line_at}
+use Rattle.dict_format.specs.Reading.{cut, is_space, without_spaces, texts_at, items_at, or_reason, and_then, key_at, fit_items_at, some_row_of, row_reading, line_reading}
 use Rattle.dict_format.specs.Reasons.{is_bad_reading, reading_limit, lacks_letter, is_slashed, Fits, reasons, Answers, IsReason}
 use Rattle.dict_format.specs.RowOfItems.{item_fits, row_of_items, says_something}
 use Rattle.dict_format.specs.Views.{Gives}
@@ -337,8 +337,8 @@ module _ (part : Part) (line : List ℕ) (short : byte_len line ≤ line_limit) 
               by (Some texts) e = told_items texts e
 
     -- by the reading
-    told_reading : Told part line (row_at part (reading, rest))
-    unfolding row_at key_at
+    told_reading : Told part line (row_reading part (reading, rest))
+    unfolding row_reading key_at
     told_reading = by_bad (is_bad_reading reading) refl
       where
         go_on : RowKey → Result Row LineReason
@@ -360,19 +360,19 @@ module _ (part : Part) (line : List ℕ) (short : byte_len line ≤ line_limit) 
         by_bad false e = by_long e (nat_lt (reading_limit part) (byte_len reading)) refl
 
   -- by the space
-  told_line : Told part line (and_then (or_reason reason.NoSpace (cut is_space line)) (row_at part))
+  told_line : Told part line (and_then (or_reason reason.NoSpace (cut is_space line)) (row_reading part))
   told_line = by (cut is_space line) refl
     where
-      by : (o : Option (List ℕ × List ℕ)) → cut is_space line ≡ o → Told part line (and_then (or_reason reason.NoSpace o) (row_at part))
+      by : (o : Option (List ℕ × List ℕ)) → cut is_space line ≡ o → Told part line (and_then (or_reason reason.NoSpace o) (row_reading part))
       by None e = no_space e
       by (Some (reading, rest)) e = told_reading reading rest e
 
 -- what reading gives is told of the line
-pub told : (part : Part) (line : List ℕ) → Told part line (line_at part line)
-unfolding line_at
+pub told : (part : Part) (line : List ℕ) → Told part line (line_reading part line)
+unfolding line_reading
 told part line = by (nat_lt line_limit (byte_len line)) refl
   where
-    by : (b : Bool) → nat_lt line_limit (byte_len line) ≡ b → Told part line (if b then Err reason.LongLine else and_then (or_reason reason.NoSpace (cut is_space line)) (row_at part))
+    by : (b : Bool) → nat_lt line_limit (byte_len line) ≡ b → Told part line (if b then Err reason.LongLine else and_then (or_reason reason.NoSpace (cut is_space line)) (row_reading part))
     by true e =
         let long = ltb-true line_limit (byte_len line) e in (
           record {
@@ -389,8 +389,8 @@ told part line = by (nat_lt line_limit (byte_len line)) refl
 -- What is told is all
 
 -- so reading gives each row that is spelled, and each first reason
-pub line_at-row : (part : Part) (line : List ℕ) (row : Row) → SpellsRow part line row → line_at part line ≡ Ok row
-line_at-row part line row is = by (line_at part line) (told part line)
+pub line_reading-row : (part : Part) (line : List ℕ) (row : Row) → SpellsRow part line row → line_reading part line ≡ Ok row
+line_reading-row part line row is = by (line_reading part line) (told part line)
   where
     by : (read : Result Row LineReason) → Told part line read → read ≡ Ok row
     by (Ok other) tells = ap Ok (row_once part line other row tells.0 is)
@@ -403,8 +403,8 @@ never part line [] first later (x ∷ all) e none here = let same : first ≡ x 
 never part line (y ∷ earlier) first later [] e none here = cc
 never part line (y ∷ earlier) first later (x ∷ all) e none here = let rest : all ≡ earlier ++ first ∷ later = cc in never part line earlier first later all rest none.1 here
 
-pub line_at-reason : (part : Part) (line : List ℕ) (first : LineReason) → IsReason part line first → line_at part line ≡ Err first
-line_at-reason part line first is = by (line_at part line) (told part line)
+pub line_reading-reason : (part : Part) (line : List ℕ) (first : LineReason) → IsReason part line first → line_reading part line ≡ Err first
+line_reading-reason part line first is = by (line_reading part line) (told part line)
   where
     by : (read : Result Row LineReason) → Told part line read → read ≡ Err first
     by (Ok other) tells = absurd (never part line is.earlier first is.later reasons is.order tells.1 is.fits)
@@ -412,7 +412,7 @@ line_at-reason part line first is = by (line_at part line) (told part line)
 
 -- a line spells a row or has a first reason
 pub row_or_reason : (part : Part) (line : List ℕ) → ((row : Row) × SpellsRow part line row) ⊎ ((first : LineReason) × IsReason part line first)
-row_or_reason part line = by (line_at part line) (told part line)
+row_or_reason part line = by (line_reading part line) (told part line)
   where
     by : (read : Result Row LineReason) → Told part line read → ((row : Row) × SpellsRow part line row) ⊎ ((first : LineReason) × IsReason part line first)
     by (Ok row) tells = inl (row, tells.0)
@@ -421,28 +421,28 @@ row_or_reason part line = by (line_at part line) (told part line)
 -- and never both
 pub not_both : (part : Part) (line : List ℕ) (row : Row) (first : LineReason) → SpellsRow part line row → IsReason part line first → ⊥
 not_both part line row first is why =
-    let e : ◌≡◌ {A = Result Row LineReason} (Ok row) (Err first) = sym (line_at-row part line row is) ∙ line_at-reason part line first why in cc
+    let e : ◌≡◌ {A = Result Row LineReason} (Ok row) (Err first) = sym (line_reading-row part line row is) ∙ line_reading-reason part line first why in cc
 
 -- Answers
 
 -- what is answered of a line
 module _ (part : Part) (line : List ℕ) where
-  pub answers_ok : (answer : Result Row LineFault) → Gives (λ row. row) answer (line_at part line) → IfOk answer (SpellsRow part line)
+  pub answers_ok : (answer : Result Row LineFault) → Gives (λ row. row) answer (line_reading part line) → IfOk answer (SpellsRow part line)
   answers_ok (Ok other) e = (subst (Told part line) e (told part line)).0
   answers_ok (Err fault) e = tt
 
-  pub answers_only : (answer : Result Row LineFault) → Gives (λ row. row) answer (line_at part line) → (row : Row) → SpellsRow part line row → Answers answer (Ok row)
-  answers_only (Ok other) e row is = let same : ◌≡◌ {A = Result Row LineReason} (Ok other) (Ok row) = sym e ∙ line_at-row part line row is in let one : other ≡ row = cc in inr (ap Ok one)
+  pub answers_only : (answer : Result Row LineFault) → Gives (λ row. row) answer (line_reading part line) → (row : Row) → SpellsRow part line row → Answers answer (Ok row)
+  answers_only (Ok other) e row is = let same : ◌≡◌ {A = Result Row LineReason} (Ok other) (Ok row) = sym e ∙ line_reading-row part line row is in let one : other ≡ row = cc in inr (ap Ok one)
   answers_only (Err Memory) e row is = inl refl
-  answers_only (Err (Reason first)) e row is = let same : ◌≡◌ {A = Result Row LineReason} (Err first) (Ok row) = sym e ∙ line_at-row part line row is in cc
+  answers_only (Err (Reason first)) e row is = let same : ◌≡◌ {A = Result Row LineReason} (Err first) (Ok row) = sym e ∙ line_reading-row part line row is in cc
 
-  pub answers_reason : (answer : Result Row LineFault) → Gives (λ row. row) answer (line_at part line) → (first : LineReason) → IsErrOf answer (Reason first) → IsReason part line first
-  answers_reason answer e first is = (subst (Told part line) (subst (λ (a : Result Row LineFault). Gives (λ row. row) a (line_at part line)) is e) (told part line)).0
+  pub answers_reason : (answer : Result Row LineFault) → Gives (λ row. row) answer (line_reading part line) → (first : LineReason) → IsErrOf answer (Reason first) → IsReason part line first
+  answers_reason answer e first is = (subst (Told part line) (subst (λ (a : Result Row LineFault). Gives (λ row. row) a (line_reading part line)) is e) (told part line)).0
 
-  pub answers_only_reason : (answer : Result Row LineFault) → Gives (λ row. row) answer (line_at part line) → (first : LineReason) → IsReason part line first → Answers answer (Err (Reason first))
-  answers_only_reason (Ok other) e first is = let same : ◌≡◌ {A = Result Row LineReason} (Ok other) (Err first) = sym e ∙ line_at-reason part line first is in cc
+  pub answers_only_reason : (answer : Result Row LineFault) → Gives (λ row. row) answer (line_reading part line) → (first : LineReason) → IsReason part line first → Answers answer (Err (Reason first))
+  answers_only_reason (Ok other) e first is = let same : ◌≡◌ {A = Result Row LineReason} (Ok other) (Err first) = sym e ∙ line_reading-reason part line first is in cc
   answers_only_reason (Err Memory) e first is = inl refl
   answers_only_reason (Err (Reason told_first)) e first is =
-      let same : ◌≡◌ {A = Result Row LineReason} (Err told_first) (Err first) = sym e ∙ line_at-reason part line first is in
+      let same : ◌≡◌ {A = Result Row LineReason} (Err told_first) (Err first) = sym e ∙ line_reading-reason part line first is in
       let one : told_first ≡ first = cc in
       inr (ap (λ r. Err (Reason r)) one)

@@ -198,14 +198,14 @@ some_row_of key items =
     if says_something row then Ok row else Err reasons.Empty
 
 -- the row that the parts of a line before and behind its first space spell
-unfoldable pub row_at : Part → List ℕ × List ℕ → Result Row LineReason
-row_at part line =
+unfoldable pub row_reading : Part → List ℕ × List ℕ → Result Row LineReason
+row_reading part line =
     and_then (key_at part line.0) (λ key.
     and_then (or_reason reasons.NoSlash (texts_at (without_spaces line.1))) (λ texts.
     and_then (fit_items_at part texts) (λ items. some_row_of key items)))
 
 -- the row that a line spells, or its first reason
-unfoldable pub line_at : Part → List ℕ → Result Row LineReason
-line_at part line =
+unfoldable pub line_reading : Part → List ℕ → Result Row LineReason
+line_reading part line =
     if nat_lt line_limit (byte_len line) then Err reasons.LongLine
-    else and_then (or_reason reasons.NoSpace (cut is_space line)) (row_at part)
+    else and_then (or_reason reasons.NoSpace (cut is_space line)) (row_reading part)

@@ -5,7 +5,7 @@ ghost use Rattle.skk_calls.specs.Rows.{Row, begins_well, is_row};
 ghost use Rattle.dict_format.specs.declared.reason.LineReason.{LineReason};
 ghost use Rattle.dict_format.specs.declared.reason.LineReason.TheVariants as reasons;
 ghost use Rattle.dict_format.specs.Lines.{lacks, SpellsRow};
-ghost use Rattle.dict_format.specs.Reading.{and_then, taken, cut, is_slash, is_space, or_reason, texts_at, key_at, row_at, line_at, some_row_of};
+ghost use Rattle.dict_format.specs.Reading.{and_then, taken, cut, is_slash, is_space, or_reason, texts_at, key_at, row_reading, line_reading, some_row_of};
 ghost use Rattle.dict_format.specs.Reasons.{is_control, is_bad_reading, reading_limit, Answers, IsReason};
 ghost use Rattle.dict_format.specs.RowOfItems.{row_of_items, says_something};
 ghost use Rattle.dict_format.specs.Views.{item_said, Gives};
@@ -34,9 +34,9 @@ pub fn read_line(alloc: Global, part: Part, line: &Text) -> Result<Row, LineFaul
 }
 
 // Reads a line, as its characters are read from left to right.
-#[tactic(auto, unfolding(crate::specs::Reading::line_at))]
+#[tactic(auto, unfolding(crate::specs::Reading::line_reading))]
 fn read(alloc: Global, part: Part, line: &Text) -> Result<Row, LineFault>
-    ensures { Gives (λ row. row) result (line_at part line.now) }
+    ensures { Gives (λ row. row) result (line_reading part line.now) }
 {
     if line.byte_len() > LINE_LIMIT {
         return Err(LineFault::Reason(LineReason::LongLine));
@@ -54,7 +54,7 @@ fn characters_of(alloc: Global, text: &Text) -> Result<Vec<char>, Memory>
 
 // Reads the characters of a line that is not too long.
 fn read_characters(alloc: Global, part: Part, line: &[char]) -> Result<Row, LineFault>
-    ensures { Gives (λ row. row) result (and_then (or_reason reasons.NoSpace (cut is_space line.now)) (row_at part)) }
+    ensures { Gives (λ row. row) result (and_then (or_reason reasons.NoSpace (cut is_space line.now)) (row_reading part)) }
 {
     match cut_at(line, ' ') {
         Some((reading, rest)) => read_parts(alloc, part, reading, rest),
@@ -63,10 +63,10 @@ fn read_characters(alloc: Global, part: Part, line: &[char]) -> Result<Row, Line
 }
 
 // Reads what stands before and behind the first space of a line.
-#[tactic(auto, unfolding(crate::specs::Reading::row_at))]
+#[tactic(auto, unfolding(crate::specs::Reading::row_reading))]
 fn read_parts(alloc: Global, part: Part, reading: &[char], rest: &[char]) -> Result<Row, LineFault>
     requires { lacks 0x20 reading.now ≡ true }
-    ensures { Gives (λ row. row) result (row_at part (reading.now, rest.now)) }
+    ensures { Gives (λ row. row) result (row_reading part (reading.now, rest.now)) }
 {
     let key = key_of(alloc, part, reading)?;
     let texts = texts_between(alloc, behind_spaces(rest))?;
