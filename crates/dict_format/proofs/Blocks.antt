@@ -56,7 +56,7 @@ module _ {V : Type 0} (text : List ℕ) (old new : List ℕ → V) (others : (ot
 -- Words of blocks
 
 -- the words with an okurigana, with one more block
-words_with-push : (okuri : List ℕ) (blocks : List Block) (block : Block) → words_with okuri (blocks ++ block ∷ []) ≡ (if same_text block.okuri okuri then words_with okuri blocks ++ block.words else words_with okuri blocks)
+pub words_with-push : (okuri : List ℕ) (blocks : List Block) (block : Block) → words_with okuri (blocks ++ block ∷ []) ≡ (if same_text block.okuri okuri then words_with okuri blocks ++ block.words else words_with okuri blocks)
 words_with-push okuri blocks block =
     ap (flat_map (λ b. b.words)) (filter-append (λ b. same_text b.okuri okuri) blocks (block ∷ []))
     ∙ flat_map-append (λ b. b.words) (filter (λ b. same_text b.okuri okuri) blocks) (filter (λ b. same_text b.okuri okuri) (block ∷ []))
@@ -75,7 +75,7 @@ words_with-other : (okuri : List ℕ) (blocks : List Block) (block : Block) → 
 words_with-other okuri blocks block e = words_with-push okuri blocks block ∙ (rw e refl)
 
 -- no block has an okurigana that is none of theirs
-words_with-none : (okuri : List ℕ) (blocks : List Block) → has_text (map (λ b. b.okuri) blocks) okuri ≡ false → words_with okuri blocks ≡ []
+pub words_with-none : (okuri : List ℕ) (blocks : List Block) → has_text (map (λ b. b.okuri) blocks) okuri ≡ false → words_with okuri blocks ≡ []
 words_with-none okuri [] none = refl
 words_with-none okuri (block ∷ blocks) none =
     let parts = or_parts (same_text okuri block.okuri) (has_text (map (λ b. b.okuri) blocks) okuri) none in

@@ -44,7 +44,7 @@ note_none [] e = refl
 note_none (c ∷ note) e = absurd (omega (arith, e, length-le-encodes (c ∷ note)))
 
 -- texts that are made are ended as they are made
-ended_map : {X : Type 0} (f : X → List ℕ) (xs : List X) → flat_map with_slash (map f xs) ≡ flat_map (λ x. with_slash (f x)) xs
+pub ended_map : {X : Type 0} (f : X → List ℕ) (xs : List X) → flat_map with_slash (map f xs) ≡ flat_map (λ x. with_slash (f x)) xs
 ended_map f [] = refl
 ended_map f (x ∷ xs) = ap (λ ys. with_slash (f x) ++ ys) (ended_map f xs)
 

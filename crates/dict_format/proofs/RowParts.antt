@@ -31,7 +31,7 @@ has_note (block okuri words) = true
 has_note (mark words) = true
 
 -- a text that is not empty has a character
-some-longer : (text : List ℕ) → has_item text ≡ true → nat_le 1 (length text) ≡ true
+pub some-longer : (text : List ℕ) → has_item text ≡ true → nat_le 1 (length text) ≡ true
 some-longer [] e = absurd (both_ways false refl e)
 some-longer (c ∷ text) e = le-leb 1 (length (c ∷ text)) (omega arith)
 
@@ -70,7 +70,7 @@ words_valid : (words : List (List ℕ)) → list_all fits words ≡ true → lis
 words_valid words fit = firsts_all (λ word. word) is_word [] (filter has_item words) (not_empty_words words fit)
 
 -- a text in a list
-texts_same : (ts : List (List ℕ)) → map (λ text. text) ts ≡ ts
+pub texts_same : (ts : List (List ℕ)) → map (λ text. text) ts ≡ ts
 texts_same [] = refl
 texts_same (t ∷ ts) = ap (λ us. t ∷ us) (texts_same ts)
 

@@ -1,6 +1,7 @@
-ghost use Rattle.std.specs.Prelude.{◌≡◌, ◌⊎◌, ℕ, List};
+ghost use Rattle.std.specs.Prelude.{◌≡◌, ◌⊎◌, ℕ, true, List};
 ghost use Rattle.skk_calls.specs.declared.part.Part.{Part};
-ghost use Rattle.skk_calls.specs.Rows.{Row};
+ghost use Rattle.skk_calls.specs.Canonical.{canonical, is_good};
+ghost use Rattle.skk_calls.specs.Rows.{Row, is_row};
 ghost use Rattle.dict_format.specs.declared.reason.LineReason.{LineReason};
 ghost use Rattle.dict_format.specs.Lines.{SpellsRow};
 ghost use Rattle.dict_format.specs.Reasons.{IsReason};
@@ -15,4 +16,9 @@ pub fn lines_spell_rows_or_have_reasons()
 pub fn lines_spell_one_row()
     ensures row { (part : Part) (line : List ℕ) (row other : Row) → SpellsRow part line row → SpellsRow part line other → row ≡ other }
     ensures reason { (part : Part) (line : List ℕ) (first other : LineReason) → IsReason part line first → IsReason part line other → first ≡ other }
+{}
+
+/// The canonical line of a good row spells that row, with stamp 0: a learned dictionary can be read again.
+pub fn good_rows_are_read_again()
+    ensures { (row : Row) → is_row row ≡ true → is_good row ≡ true → SpellsRow row.key.part (canonical row) (record row { stamp = 0 }) }
 {}

@@ -1,16 +1,21 @@
 ghost use Rattle.std.specs.Prelude.{◌≡◌, ◌++◌, ◌∷◌, ◌||◌, nat_eq, nat_lt, true, IfOk, OnOk};
 ghost use Rattle.std.specs.List.{flat_map, list_all, list_any, starts_with};
 ghost use Rattle.std.specs.Str.{chars};
-ghost use Rattle.skk_calls.specs.Canonical.{canonical, item, with_slash, char_in_string, quoted, is_special, begins_form, written_word, written_note, written_block, mark_items};
+ghost use Rattle.dict_format.specs.Lines.{SpellsRow};
+ghost use Rattle.skk_calls.specs.Canonical.{canonical, is_good, item, with_slash, char_in_string, quoted, is_special, begins_form, written_word, written_note, written_block, mark_items};
 
+use crate::laws::good_rows_are_read_again;
 use skk_calls::{Block, Blocks, Cand, Cands, Row};
 use skk_text::{Memory, Text, Texts};
 use std::alloc::Global;
 
-/// The canonical line of a row, which says nothing of its stamp.
+/// The canonical line of a row, which says nothing of its stamp. That of a good row is read again as the row, with
+/// stamp 0.
 pub fn print_line(alloc: Global, row: &Row) -> Result<Text, Memory>
-    ensures { IfOk result (λ line. line ≡ canonical row.now) }
+    ensures canonical { IfOk result (λ line. line ≡ canonical row.now) }
+    ensures read_again { is_good row.now ≡ true → IfOk result (λ line. SpellsRow row.now.key.part line (record row.now { stamp = 0 })) }
 {
+    good_rows_are_read_again();
     let mut line = Text::new(alloc);
     line.push_str(row.key().reading().as_str())?;
     line.push_str(" /")?;
