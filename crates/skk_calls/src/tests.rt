@@ -2,11 +2,10 @@ ghost use Rattle.std.specs.Prelude.{◌≡◌, [], ◌∷◌, IfOk};
 ghost use Rattle.skk_calls.specs.declared.part.Part.TheVariants.{Nasi};
 
 use crate::{
-    Answer, Block, Blocks, Book, Call, Caller, Cand, CandFault, Cands, Chronicle, Learned, Noted,
-    NumberedBooks, Okuri, OkuriFault, Part, Refusal, Reply, Row, RowKey, RowKeyFault, Rows, State,
-    Tally,
+    Answer, Call, Caller, Cand, CandFault, Chronicle, Noted, Okuri, OkuriFault, Part, Refusal,
+    Reply, RowKey, RowKeyFault, Tally,
 };
-use skk_text::{Memory, Text, Texts};
+use skk_text::{Memory, Text};
 use skk_trace::{Shows, Trace};
 use std::alloc::Global;
 use std::test::Fail;
@@ -92,67 +91,11 @@ fn one_character(alloc: Global, c: char) -> Result<Text, Memory>
     Ok(text)
 }
 
-// The word 大 under the okurigana い.
-fn short_block(alloc: Global) -> Result<Block, Fail> {
-    let mut words = Texts::new(alloc);
-    words.push(one_character(alloc, '大')?)?;
-    let okuri = Okuri::new(one_character(alloc, 'い')?)?;
-    Ok(Block::new(okuri, words))
-}
-
 // The key か without okurigana.
 fn short_key(alloc: Global) -> Result<RowKey, Fail>
     ensures { IfOk result (λ key. key ≡ record { part = Nasi; reading = 0x304B ∷ [] }) }
 {
     Ok(RowKey::new(Part::Nasi, one_character(alloc, 'か')?)?)
-}
-
-// Its row with the candidate 蚊, of stamp 1.
-fn short_row(alloc: Global) -> Result<Row, Fail>
-    ensures { IfOk result (λ row. row ≡ record { key = record { part = Nasi; reading = 0x304B ∷ [] }; cands = record { word = 0x868A ∷ []; note = [] } ∷ []; blocks = []; hides = []; stamp = 1 }) }
-{
-    let mut cands = Cands::new(alloc);
-    cands.push(Cand::new(one_character(alloc, '蚊')?, Text::new(alloc))?)?;
-    let key = short_key(alloc)?;
-    Ok(Row::new(key, cands, Blocks::new(alloc), Texts::new(alloc), 1))
-}
-
-// What was learnt over the row of stamp 1.
-fn learned(alloc: Global) -> Result<Learned, Fail> {
-    let before = short_row(alloc)?;
-    Ok(Learned::new(3, short_key(alloc)?, 2, Some(before)))
-}
-
-#[test]
-fn rows_show_their_parts(rt: HostRuntime) -> Result<(), Fail> {
-    let alloc = rt.alloc();
-    let block = short_block(alloc)?;
-    assert_eq!(rt; block.okuri().text().as_str(), "い");
-    assert_eq!(rt; block.words().at(0).as_str(), "大");
-    let row = short_row(alloc)?;
-    assert_eq!(rt; row.key().part(), Part::Nasi);
-    assert_eq!(rt; row.key().reading().as_str(), "か");
-    assert_eq!(rt; row.cands().at(0).word().as_str(), "蚊");
-    assert_eq!(rt; row.cands().at(0).note().as_str(), "");
-    assert_eq!(rt; row.blocks().len(), 0);
-    assert_eq!(rt; row.hides().len(), 0);
-    assert_eq!(rt; row.stamp(), 1);
-    Ok(())
-}
-
-#[test]
-fn books_and_learnings_show_their_rows(rt: HostRuntime) -> Result<(), Fail> {
-    let alloc = rt.alloc();
-    let learned = learned(alloc)?;
-    assert_eq!(rt; learned.book(), 3);
-    assert_eq!(rt; learned.key().reading().as_str(), "か");
-    assert_eq!(rt; learned.stamp(), 2);
-    assert_eq!(rt; learned.before().map(Row::stamp), Some(1));
-    let mut rows = Rows::new(alloc);
-    rows.push(short_row(alloc)?)?;
-    assert_eq!(rt; Book::new(rows).rows().at(0).stamp(), 1);
-    assert_eq!(rt; State::new(NumberedBooks::new(alloc)).books().len(), 0);
-    Ok(())
 }
 
 #[test]
