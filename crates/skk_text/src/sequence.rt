@@ -47,6 +47,13 @@ impl<T> Sequence<T> {
     {
         &self.items[place]
     }
+
+    /// All items, in order.
+    pub fn as_slice(&self) -> &[T]
+        ensures { result.now ≡ self.now }
+    {
+        &self.items
+    }
 }
 
 impl<T: Drop> Sequence<T> {

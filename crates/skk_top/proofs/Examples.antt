@@ -1,5 +1,5 @@
 -- The definitions at small examples, each worked out by hand.
-use Rattle.std.proofs.Common.{◌≡◌, ◌*◌, ℕ, Option, None, Some, Ok, Err, true, false, List, [], ◌∷◌, ◌++◌, refl, map, codes, replicate, lit≤, arith, encode_utf8_all}
+use Rattle.std.proofs.Common.{◌≡◌, ◌*◌, ℕ, Option, None, Some, Ok, Err, true, false, List, [], ◌∷◌, ◌++◌, refl, map, codes, replicate, lit≤, arith}
 use lib.Utf8.{encode}
 use Prim.Native.String.{String}
 use Rattle.std.specs.Fmt.{digits}
@@ -13,19 +13,17 @@ use Rattle.romaji_rules.specs.declared.rule.Rule.{Rule}
 use Rattle.romaji_rules.specs.Standard.{rule}
 use Rattle.skk_top.specs.Characters.{code}
 use Rattle.skk_top.specs.Command.{command_of}
-use Rattle.skk_top.specs.Held.{is_session, is_held, line_held}
 use Rattle.skk_top.specs.KanaInput.{in_mode, kana_char_step, other_kana}
-use Rattle.skk_top.specs.Printing.{escaped, has_escape, notice_text, indicator, display, output_line, closing_line}
-use Rattle.skk_top.specs.Script.{IsSession, IsTypist, Spells, MayFollow, lines_of, script_limit, named_by, lines_said, is_built_line, are_built}
-use Rattle.skk_top.specs.SessionMachine.{text_limit, new_session, with_insertion, after_keys}
-use Rattle.skk_top.specs.Sessions.{SessionMap, session_at, session_or_new, with_session, sessions_from}
-use Rattle.skk_top.specs.Status.{status_of, message_of, message_at, run_status, run_message, fault_of_press, fault_of_read, fault_of_script}
+use Rattle.skk_top.specs.Printing.{escaped, has_escape, notice_text, indicator, display}
+use Rattle.skk_top.specs.Script.{IsSession, IsTypist, lines_of, script_limit, session_of, with_said, is_built_line, are_built}
+use Rattle.skk_top.specs.SessionMachine.{text_limit, new_session, after_keys}
+use Rattle.skk_top.specs.Sessions.{session_at, session_or_new, with_session}
+use Rattle.skk_top.specs.Status.{message_at, run_status, run_message, fault_of_press, fault_of_read, fault_of_script}
 use Rattle.skk_top.specs.Typed.{typed_from, are_taken_from}
 use Rattle.skk_top.specs.declared.command.Command.TheVariants.{TypeScript}
 use Rattle.skk_top.specs.declared.fault.RunFault.TheVariants.{TooLong, BadLine, Outside, Memory, NotBuilt}
 use Rattle.skk_top.specs.declared.kana_input.PlainThen.TheVariants.{Stay, OpenReading, OpenAbbrev}
-use Rattle.skk_top.specs.declared.line.Line.TheVariants.{Skipped, Keys, Opening}
-use Rattle.skk_top.specs.declared.script.HeldLine.TheVariants as held
+use Rattle.skk_top.specs.declared.line.Line.TheVariants.{Keys, Opening}
 use Rattle.skk_top.specs.declared.script.ScriptFault.TheVariants as scripts
 use Rattle.skk_top.specs.declared.session_machine.PressFault.TheVariants as pressing
 use Rattle.skk_top.specs.declared.session_machine.Session.{Session}
@@ -106,19 +104,19 @@ abbrev fields : String → String → String → String → List ℕ
 fields number mode shown notice = codes number ++ 9 ∷ codes mode ++ 9 ∷ codes shown ++ 9 ∷ codes notice ++ 10 ∷ []
 
 -- sessions as they come, also one that is only opened, and closing lines ascending by number
-three_sessions : typed_from table [] (Keys 3 (letters "a") ∷ Skipped ∷ Keys 1 (letters "kak") ∷ Opening 2 7 0 ∷ Keys 3 (Undo ∷ []) ∷ Keys 3 [] ∷ Keys 1 (letters "al") ∷ [])
+three_sessions : typed_from table [] (Keys 3 (letters "a") ∷ Keys 1 (letters "kak") ∷ Opening 2 7 0 ∷ Keys 3 (Undo ∷ []) ∷ Keys 3 [] ∷ Keys 1 (letters "al") ∷ [])
     ≡ fields "3" "かな" "あ" "" ++ fields "1" "かな" "かk" "" ++ fields "3" "かな" "あ" "no-undo" ++ fields "3" "かな" "あ" "no-undo" ++ fields "1" "SKK" "かか" ""
     ++ codes "1=かか" ++ 10 ∷ codes "2=" ++ 10 ∷ codes "3=あ" ++ 10 ∷ []
 unfolding encode digits
 three_sessions = refl
 
 -- nothing for no line; and up to the first key that is not taken
-typed_so_far : map (typed_from table []) ([] ∷ (Skipped ∷ []) ∷ (Keys 1 (letters "a") ∷ Keys 1 (letters "aQ") ∷ Keys 1 (letters "a") ∷ []) ∷ [])
-    ≡ [] ∷ [] ∷ fields "1" "かな" "あ" "" ∷ []
+typed_so_far : map (typed_from table []) ([] ∷ (Keys 1 (letters "a") ∷ Keys 1 (letters "aQ") ∷ Keys 1 (letters "a") ∷ []) ∷ [])
+    ≡ [] ∷ fields "1" "かな" "あ" "" ∷ []
 unfolding encode digits
 typed_so_far = refl
 
-taken_or_not : map (are_taken_from table []) ([] ∷ (Skipped ∷ Opening 1 1 0 ∷ Keys 2 (letters "aq") ∷ []) ∷ (Keys 1 (letters "a") ∷ Keys 2 (letters "Q") ∷ Keys 1 [] ∷ []) ∷ [])
+taken_or_not : map (are_taken_from table []) ([] ∷ (Opening 1 1 0 ∷ Keys 2 (letters "aq") ∷ []) ∷ (Keys 1 (letters "a") ∷ Keys 2 (letters "Q") ∷ Keys 1 [] ∷ []) ∷ [])
     ≡ true ∷ true ∷ false ∷ []
 unfolding encode
 taken_or_not = refl
@@ -137,9 +135,6 @@ sessions_found = refl
 
 sessions_or_new : map (session_or_new ((2, with_text "b") ∷ [])) (1 ∷ 2 ∷ []) ≡ with_text "" ∷ with_text "b" ∷ []
 sessions_or_new = refl
-
-sessions_in_places : sessions_from 1 (None ∷ Some (with_text "b") ∷ None ∷ None ∷ Some (with_text "e") ∷ []) ≡ (2, with_text "b") ∷ (5, with_text "e") ∷ []
-sessions_in_places = refl
 
 -- what is shown of a text of 65 characters, and of pending letters; and the whole of it
 shown_at_most : display (record { plain = record { mode = Hira; pending = codes "ky" }; text = 0x62 ∷ replicate 64 0x61; notice = notices.Limit }) ≡ replicate 64 0x61 ++ codes "ky"
@@ -164,26 +159,18 @@ script_lines = refl
 numbers : IsSession 1 × IsSession 64 × (¬ IsSession 0) × (¬ IsSession 65) × IsTypist 65535 × (¬ IsTypist 65536)
 numbers = ((lit≤ tt, lit≤ tt), (lit≤ tt, lit≤ tt), λ is. omega (arith, is), λ is. omega (arith, is), lit≤ tt, λ is. omega (arith, is))
 
-session_numbers : map is_session (0 ∷ 1 ∷ 64 ∷ 65 ∷ []) ≡ false ∷ true ∷ true ∷ false ∷ []
-session_numbers = refl
-
--- lines that are held within three keys
-held_lines : map (is_held 3) (held.Keys 1 0 3 ∷ held.Keys 1 2 2 ∷ held.Keys 1 3 3 ∷ held.Keys 1 0 4 ∷ held.Keys 1 3 2 ∷ held.Keys 65 0 1 ∷ held.Opening 64 9 0 ∷ held.Opening 0 9 0 ∷ [])
-    ≡ true ∷ true ∷ true ∷ false ∷ false ∷ false ∷ true ∷ false ∷ []
-held_lines = refl
-
-lines_shown : map (line_held (letters "abc")) (held.Keys 4 1 2 ∷ held.Keys 5 2 2 ∷ held.Opening 6 7 8 ∷ []) ≡ Keys 4 (letters "b") ∷ Keys 5 [] ∷ Opening 6 7 8 ∷ []
-lines_shown = refl
-
--- what is built, what is said and who is named by a line of each kind
-built_lines : map is_built_line (Skipped ∷ Keys 1 [] ∷ Keys 2 [] ∷ Keys 0 [] ∷ Opening 1 1 0 ∷ []) ≡ true ∷ true ∷ false ∷ false ∷ false ∷ []
+-- what is built, and which session is named, by a line of each kind; and a line more
+built_lines : map is_built_line (Keys 1 [] ∷ Keys 2 [] ∷ Keys 0 [] ∷ Opening 1 1 0 ∷ []) ≡ true ∷ false ∷ false ∷ false ∷ []
 built_lines = refl
 
-built_scripts : map are_built ([] ∷ (Skipped ∷ Keys 1 [] ∷ []) ∷ (Keys 1 [] ∷ Keys 2 [] ∷ []) ∷ []) ≡ true ∷ true ∷ false ∷ []
+built_scripts : map are_built ([] ∷ (Keys 1 [] ∷ []) ∷ (Keys 1 [] ∷ Keys 2 [] ∷ []) ∷ []) ≡ true ∷ true ∷ false ∷ []
 built_scripts = refl
 
-said_and_named : (map lines_said (Skipped ∷ Keys 4 [] ∷ Opening 5 6 0 ∷ []) ≡ [] ∷ (Keys 4 [] ∷ []) ∷ (Opening 5 6 0 ∷ []) ∷ []) × (map named_by (Skipped ∷ Keys 4 [] ∷ Opening 5 6 0 ∷ []) ≡ [] ∷ (4 ∷ []) ∷ (5 ∷ []) ∷ [])
-said_and_named = (refl, refl)
+named_sessions : map session_of (Keys 4 [] ∷ Opening 5 6 0 ∷ []) ≡ 4 ∷ 5 ∷ []
+named_sessions = refl
+
+lines_with_said : map (with_said (Keys 4 [] ∷ [])) (None ∷ Some (Opening 5 6 0) ∷ []) ≡ (Keys 4 [] ∷ []) ∷ (Keys 4 [] ∷ Opening 5 6 0 ∷ []) ∷ []
+lines_with_said = refl
 
 -- the words of a command
 commands : map command_of ([] ∷ (codes "type" ∷ []) ∷ (codes "typ" ∷ []) ∷ (codes "Type" ∷ []) ∷ (codes "type" ∷ codes "type" ∷ []) ∷ ([] ∷ []) ∷ []) ≡ None ∷ Some TypeScript ∷ None ∷ None ∷ None ∷ None ∷ []

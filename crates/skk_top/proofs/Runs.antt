@@ -1,20 +1,18 @@
 -- What a run of `type` leaves, of what its parts leave.
-use Rattle.std.proofs.Common.{◌≡◌, ◌≢◌, ◌≤◌, ◌∙◌, sym, ap, subst, refl, rules, ℕ, Option, Some, None, List, [], Ok, Err, OnOk, OnErr, IfErr, IfSome, IsErrOf, true, false, MatchBool, arith, inl, inr}
+use Rattle.std.proofs.Common.{◌≡◌, ◌≢◌, ◌≤◌, sym, ap, subst, refl, rules, ℕ, Option, Some, None, List, [], Ok, Err, OnOk, OnErr, IfErr, IfSome, IsErrOf, true, false, MatchBool, arith, inl, inr}
 use Rattle.std.specs.Io.KnownBytes.{Appends, Keeps}
 use Rattle.std.proofs.lemmas.Bool.{cases_Bool}
 use Rattle.skk_outside.specs.Written.{AppendsPrefix}
 use Rattle.romaji_rules.specs.declared.rule.Rule.{Rule}
-use Rattle.skk_top.specs.Script.{IsScript, lines_of, are_built, without_skipped}
+use Rattle.skk_top.specs.Script.{IsScript, lines_of, are_built}
 use Rattle.skk_top.specs.Status.{Ended, run_status, run_message, status_of, message_of, ComesOfTyping}
 use Rattle.skk_top.specs.TypeCommand.{LeavesTyped, LeavesScript, LeavesLines, IsTooLong, IsBadAt, IsRefused, IsRefusal, PrintsScript}
-use Rattle.skk_top.specs.Typed.{typed, are_taken}
-use Rattle.std.proofs.Common.{encode_utf8_all}
+use Rattle.skk_top.specs.Typed.{typed}
 use Rattle.skk_top.specs.declared.fault.RunFault.{RunFault}
 use Rattle.skk_top.specs.declared.fault.RunFault.TheVariants.{TooLong, BadLine, Outside, Memory, NotBuilt}
 use Rattle.skk_top.specs.declared.line.Line.{Line}
 use Rattle.skk_top.proofs.Pages.{Appends-none, AppendsPrefix-whole}
 use Rattle.skk_top.proofs.Scripts.{OneListOfKeys, no_bad_line, one_list_of_lines}
-use Rattle.skk_top.proofs.LinesLeft.{typed-said, taken-said, built-said}
 
 -- what is known of bytes that are told
 IfSome-all : (known : Option (List ℕ)) (P : List ℕ → Type 0) → ((bytes : List ℕ) → P bytes) → IfSome known P
@@ -112,97 +110,66 @@ leaves-refused rules fault left left' reads reads' written writes script = recor
   writes_counted = omega arith;
 }
 
--- what is known of all lines that bytes say, where those of some are held
-pub record Agrees (rules : List Rule) (said lines : List Line) : Type 0 where
-  pub built : are_built lines ≡ are_built said
-  pub typed_same : typed rules lines ≡ typed rules said
-  pub taken_same : are_taken rules lines ≡ are_taken rules said
+-- a script is not refused
+not_refused : OneListOfKeys → (lines : List Line) (bytes : List ℕ) → IsScript bytes lines → ¬ IsRefused bytes
+not_refused unique lines bytes script refused =
+    elim refused [ inl long ↦ omega (arith, script.0, long) | inr bad ↦ no_bad_line unique (lines_of bytes) lines bad.0 script.1 bad.1.1 ]
 
--- the lines that say something agree with all lines
-agrees : (rules : List Rule) (said lines : List Line) → said ≡ without_skipped lines → Agrees rules said lines
-agrees rules said lines same = record {
-  built = sym (built-said lines) ∙ ap are_built (sym same);
-  typed_same = ap encode_utf8_all (sym (typed-said rules [] lines)) ∙ ap (typed rules) (sym same);
-  taken_same = sym (taken-said rules [] lines) ∙ ap (are_taken rules) (sym same);
-}
+-- what was printed for a script, by whether it is built
+prints-script : OneListOfKeys → (rules : List Rule) (lines : List Line) (status : ℕ) (old new : Option (List ℕ)) (bytes : List ℕ) → IsScript bytes lines
+    → MatchBool (are_built lines) (AppendsPrefix old new (typed rules lines) × (status ≡ 0 → Appends old new (typed rules lines))) (Keeps old new) → PrintsScript rules status bytes old new
+prints-script unique rules lines status old new bytes script prints others other =
+    subst (λ (ls : List Line). MatchBool (are_built ls) (AppendsPrefix old new (typed rules ls) × (status ≡ 0 → Appends old new (typed rules ls))) (Keeps old new))
+    (one_list_of_lines unique [] (lines_of bytes) lines others script.1 other.1) prints
 
--- a script whose lines are held
-abbrev pub Holds : List Line → List ℕ → Type 0
-Holds said bytes = (lines : List Line) × IsScript bytes lines × (said ≡ without_skipped lines)
-
-all-agree : OneListOfKeys → (rules : List Rule) (said : List Line) (bytes : List ℕ) → Holds said bytes → (lines : List Line) → IsScript bytes lines → Agrees rules said lines
-all-agree unique rules said bytes holds lines script =
-    let same : lines ≡ holds.0 = one_list_of_lines unique [] (lines_of bytes) lines holds.0 script.1 holds.1.1 in
-    subst (Agrees rules said) (sym same) (agrees rules said holds.0 holds.2)
-
-not_refused : OneListOfKeys → (said : List Line) (bytes : List ℕ) → Holds said bytes → ¬ IsRefused bytes
-not_refused unique said bytes holds refused =
-    elim refused [ inl long ↦ omega (arith, holds.1.0, long) | inr bad ↦ no_bad_line unique (lines_of bytes) holds.0 bad.0 holds.1.1 bad.1.1 ]
-
--- what was printed for a script that is built
-prints-built : OneListOfKeys → (rules : List Rule) (said : List Line) (ended : Ended) (old new : Option (List ℕ)) (writes writes' : ℕ) (bytes : List ℕ) → Holds said bytes → are_built said ≡ true
-    → LeavesLines rules said ended old new writes writes' → PrintsScript rules (run_status ended) bytes old new
-prints-built unique rules said ended old new writes writes' bytes holds built typing lines script =
-    let same = all-agree unique rules said bytes holds lines script in
-    subst (λ b. MatchBool b (AppendsPrefix old new (typed rules lines) × (run_status ended ≡ 0 → Appends old new (typed rules lines))) (Keeps old new)) (sym (same.built ∙ built))
-    (subst (λ (bs : List ℕ). AppendsPrefix old new bs × (run_status ended ≡ 0 → Appends old new bs)) (sym same.typed_same)
-    (prefix-of ended old new (typed rules said) typing.whole typing.prefix, λ e. done-of ended typing.whole e))
-
--- and for one that is not
-prints-not_built : OneListOfKeys → (rules : List Rule) (said : List Line) (status : ℕ) (old new : Option (List ℕ)) (bytes : List ℕ) → Holds said bytes → are_built said ≡ false → Keeps old new → PrintsScript rules status bytes old new
-prints-not_built unique rules said status old new bytes holds unbuilt keeps lines script =
-    let same = all-agree unique rules said bytes holds lines script in
-    subst (λ b. MatchBool b (AppendsPrefix old new (typed rules lines) × (status ≡ 0 → Appends old new (typed rules lines))) (Keeps old new)) (sym (same.built ∙ unbuilt)) keeps
-
-leaves-built : OneListOfKeys → (rules : List Rule) (said : List Line) (ended : Ended) (left left' : Option (List ℕ)) (reads reads' : ℕ) (old new : Option (List ℕ)) (writes writes' : ℕ)
-    → LeavesScript (Ok said) left left' reads reads' → are_built said ≡ true → LeavesLines rules said ended old new writes writes'
+leaves-built : OneListOfKeys → (rules : List Rule) (lines : List Line) (ended : Ended) (left left' : Option (List ℕ)) (reads reads' : ℕ) (old new : Option (List ℕ)) (writes writes' : ℕ)
+    → LeavesScript (Ok lines) left left' reads reads' → are_built lines ≡ true → LeavesLines rules lines ended old new writes writes'
     → LeavesTyped rules (run_status ended) (run_message ended) left left' reads reads' old new writes writes'
-leaves-built unique rules said ended left left' reads reads' old new writes writes' script built typing = record {
+leaves-built unique rules lines ended left left' reads reads' old new writes writes' script built typing = record {
   ended = λ e. script.ended;
-  whole = λ e. each_some left (λ bytes holds.
-      let same = all-agree unique rules said bytes holds holds.0 holds.1 in
-      (holds.0, holds.1, same.built ∙ built, same.taken_same ∙ done-of ended typing.taken e)) script.whole;
+  whole = λ e. each_some left (λ bytes is. (lines, is, built, done-of ended typing.taken e)) script.whole;
   read = script.read;
-  prints = each_some left (λ bytes holds. prints-built unique rules said ended old new writes writes' bytes holds built typing) script.whole;
-  nothing = each_some left (λ bytes holds refused. absurd (not_refused unique said bytes holds refused)) script.whole;
+  prints = each_some left (λ bytes is.
+      prints-script unique rules lines (run_status ended) old new bytes is
+      (subst (λ b. MatchBool b (AppendsPrefix old new (typed rules lines) × (run_status ended ≡ 0 → Appends old new (typed rules lines))) (Keeps old new)) (sym built)
+      (prefix-of ended old new (typed rules lines) typing.whole typing.prefix, λ e. done-of ended typing.whole e))) script.whole;
+  nothing = each_some left (λ bytes is refused. absurd (not_refused unique lines bytes is refused)) script.whole;
   nothing_refused = λ e. absurd (typing-status ended typing.fault e);
   refused = λ e. absurd (typing-status ended typing.fault e);
   outside = λ e. inr (typing.outside (outside-of ended e));
-  not_built = λ e. each_some left (λ bytes holds.
-      let same = all-agree unique rules said bytes holds holds.0 holds.1 in
-      (holds.0, holds.1, inr (same.taken_same ∙ typing.not_built (not_built-of ended e)))) script.whole;
+  not_built = λ e. each_some left (λ bytes is. (lines, is, inr (typing.not_built (not_built-of ended e)))) script.whole;
   reads_counted = script.counted;
   writes_counted = typing.counted;
 }
 
-leaves-not_built : OneListOfKeys → (rules : List Rule) (said : List Line) (left left' : Option (List ℕ)) (reads reads' : ℕ) (old new : Option (List ℕ)) (writes writes' : ℕ)
-    → LeavesScript (Ok said) left left' reads reads' → are_built said ≡ false → Keeps old new → writes ≤ writes'
+leaves-not_built : OneListOfKeys → (rules : List Rule) (lines : List Line) (left left' : Option (List ℕ)) (reads reads' : ℕ) (old new : Option (List ℕ)) (writes writes' : ℕ)
+    → LeavesScript (Ok lines) left left' reads reads' → are_built lines ≡ false → Keeps old new → writes ≤ writes'
     → LeavesTyped rules 8 (message_of NotBuilt) left left' reads reads' old new writes writes'
-leaves-not_built unique rules said left left' reads reads' old new writes writes' script unbuilt keeps counted = record {
+leaves-not_built unique rules lines left left' reads reads' old new writes writes' script unbuilt keeps counted = record {
   ended = λ e. absurd (omega (arith, e));
   whole = λ e. absurd (omega (arith, e));
   read = script.read;
-  prints = each_some left (λ bytes holds. prints-not_built unique rules said 8 old new bytes holds unbuilt keeps) script.whole;
-  nothing = each_some left (λ bytes holds refused. keeps) script.whole;
+  prints = each_some left (λ bytes is.
+      prints-script unique rules lines 8 old new bytes is
+      (subst (λ b. MatchBool b (AppendsPrefix old new (typed rules lines) × (status_of NotBuilt ≡ 0 → Appends old new (typed rules lines))) (Keeps old new)) (sym unbuilt) keeps)) script.whole;
+  nothing = each_some left (λ bytes is refused. keeps) script.whole;
   nothing_refused = λ e. keeps;
   refused = λ e. absurd (omega (arith, e));
   outside = λ e. absurd (omega (arith, e));
-  not_built = λ e. each_some left (λ bytes holds.
-      let same = all-agree unique rules said bytes holds holds.0 holds.1 in
-      (holds.0, holds.1, inl (same.built ∙ unbuilt))) script.whole;
+  not_built = λ e. each_some left (λ bytes is. (lines, is, inl unbuilt)) script.whole;
   reads_counted = script.counted;
   writes_counted = counted;
 }
 
 -- a script that was read, whether it is built or not
-pub leaves-read : OneListOfKeys → (rules : List Rule) (said : List Line) (ended : Ended) (left left' : Option (List ℕ)) (reads reads' : ℕ) (old new : Option (List ℕ)) (writes writes' : ℕ)
-    → LeavesScript (Ok said) left left' reads reads' → (are_built said ≡ true → LeavesLines rules said ended old new writes writes')
-    → (are_built said ≡ false → ended ≡ Err NotBuilt) → (are_built said ≡ false → Keeps old new) → writes ≤ writes'
+pub leaves-read : OneListOfKeys → (rules : List Rule) (lines : List Line) (ended : Ended) (left left' : Option (List ℕ)) (reads reads' : ℕ) (old new : Option (List ℕ)) (writes writes' : ℕ)
+    → LeavesScript (Ok lines) left left' reads reads' → (are_built lines ≡ true → LeavesLines rules lines ended old new writes writes')
+    → (are_built lines ≡ false → ended ≡ Err NotBuilt) → (are_built lines ≡ false → Keeps old new) → writes ≤ writes'
     → LeavesTyped rules (run_status ended) (run_message ended) left left' reads reads' old new writes writes'
-leaves-read unique rules said ended left left' reads reads' old new writes writes' script typing refused keeps counted =
-    elim (cases_Bool (are_built said)) [
-      | inl built ↦ leaves-built unique rules said ended left left' reads reads' old new writes writes' script built (typing built)
+leaves-read unique rules lines ended left left' reads reads' old new writes writes' script typing refused keeps counted =
+    elim (cases_Bool (are_built lines)) [
+      | inl built ↦ leaves-built unique rules lines ended left left' reads reads' old new writes writes' script built (typing built)
       | inr unbuilt ↦
           subst (λ (r : Ended). LeavesTyped rules (run_status r) (run_message r) left left' reads reads' old new writes writes') (sym (refused unbuilt))
-          (leaves-not_built unique rules said left left' reads reads' old new writes writes' script unbuilt (keeps unbuilt) counted)
+          (leaves-not_built unique rules lines left left' reads reads' old new writes writes' script unbuilt (keeps unbuilt) counted)
     ]

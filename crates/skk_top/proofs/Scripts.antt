@@ -1,15 +1,15 @@
 -- Scripts line by line: there is one list of lines, and one first line that is none.
-use Rattle.std.proofs.Common.{true, false, ◌≡◌, ◌≢◌, ◌<◌, ◌≤◌, sym, ℕ, List, [], ◌∷◌, ◌++◌, length, get_or, refl, ap, ◌∙◌, subst, arith, inl, inr}
+use Rattle.std.proofs.Common.{true, false, ◌≡◌, ◌≢◌, ◌<◌, ◌≤◌, sym, ℕ, Option, Some, None, List, [], ◌∷◌, ◌++◌, length, get_or, refl, ap, ◌∙◌, subst, arith, inl, inr}
 use Rattle.std.specs.Fmt.{decimal}
-use Rattle.std.specs.List.{flat_map}
+use Rattle.std.specs.Int.{IsInRange}
 use Rattle.std.proofs.lemmas.Bool.{cases_order}
 use Rattle.std.proofs.lemmas.Fmt.{decimal_injective}
-use Rattle.std.proofs.lemmas.List.{append_assoc, append-nil, length-append, get_or_append_left}
+use Rattle.std.proofs.lemmas.List.{append_assoc, length-append, get_or_append_left}
 use Rattle.skk_text.specs.KeyText.{spelled, AreKeys}
 use Rattle.skk_text.specs.declared.key.Key.{Key}
-use Rattle.skk_top.specs.Script.{Spells, Follows, Says, MayFollow, IsFirstBad, named_by, has_return}
+use Rattle.skk_top.specs.Script.{Spells, Follows, Says, MayFollow, IsFirstBad, with_said, has_return}
 use Rattle.skk_top.specs.declared.line.Line.{Line}
-use Rattle.skk_top.specs.declared.line.Line.TheVariants.{Skipped, Keys, Opening}
+use Rattle.skk_top.specs.declared.line.Line.TheVariants.{Keys, Opening}
 use Rattle.skk_top.proofs.Numbers.{one_number, decimal-digit_at, decimal-length}
 use Rattle.skk_top.proofs.LineReading.{line-follows, colon_no_digit, equals_no_digit, comma_no_digit, book-small}
 
@@ -26,25 +26,22 @@ no_comment session mark text rest small e =
     (λ none. omega (arith, ap length (sym e ∙ none), length-append (decimal session) (mark ∷ rest)), λ comment. omega (arith, digit, first, comment))
 
 -- a comment with a CR is no line
-pub return-no_line : (text : List ℕ) (line : Line) → text ≢ [] → get_or text 0 0 ≡ 35 → has_return text ≡ true → ¬ Spells text line
-return-no_line text Skipped some first return spells =
+pub return-no_line : (text : List ℕ) (said : Option Line) → text ≢ [] → get_or text 0 0 ≡ 35 → has_return text ≡ true → ¬ Spells text said
+return-no_line text None some first return spells =
     elim spells [
       | inl none ↦ some none
       | inr comment ↦ let clean : has_return text ≡ false = ap has_return comment.1 ∙ comment.2 in cc
     ]
-return-no_line text (Keys session ks) some first return spells = (no_comment session 58 text (spelled ks) (omega arith) spells.2).1 first
-return-no_line text (Opening session typist book) some first return spells =
+return-no_line text (Some (Keys session ks)) some first return spells = (no_comment session 58 text (spelled ks) (omega arith) spells.2).1 first
+return-no_line text (Some (Opening session typist book)) some first return spells =
     (no_comment session 61 text (decimal typist ++ 44 ∷ decimal book) (omega arith) (spells.3 ∙ append_assoc (decimal session) (61 ∷ decimal typist) (44 ∷ decimal book))).1 first
 
 -- two lines of which both say the same behind one number are one
 same_follows : OneListOfKeys → (number mark : ℕ) (rest : List ℕ) (line other : Line) → Follows number mark rest line → Follows number mark rest other → line ≡ other
-same_follows unique number mark rest Skipped other follows others = absurd follows
-same_follows unique number mark rest (Keys session ks) Skipped follows others = absurd others
 same_follows unique number mark rest (Keys session ks) (Keys session' ks') follows others =
     let same : session ≡ session' = follows.0 ∙ sym others.0 in
     let same_ks : ks ≡ ks' = unique ks ks' follows.2 others.2 (sym follows.3 ∙ others.3) in cc
 same_follows unique number mark rest (Keys session ks) (Opening session' typist book) follows others = absurd (omega (arith, follows.1, others.1))
-same_follows unique number mark rest (Opening session typist book) Skipped follows others = absurd others
 same_follows unique number mark rest (Opening session typist book) (Keys session' ks) follows others = absurd (omega (arith, follows.1, others.1))
 same_follows unique number mark rest (Opening session typist book) (Opening session' typist' book') follows others =
     let same : session ≡ session' = follows.0 ∙ sym others.0 in
@@ -54,64 +51,50 @@ same_follows unique number mark rest (Opening session typist book) (Opening sess
     let bound' = book-small typist' book' others.2 others.3 in
     let same_book : book ≡ book' = decimal_injective book book' (omega arith) (omega arith) one.2 in cc
 
--- a text says one line
-pub one_line : OneListOfKeys → (text : List ℕ) (line other : Line) → Spells text line → Spells text other → line ≡ other
-one_line unique text Skipped Skipped spells others = refl
-one_line unique text Skipped (Keys session ks) spells others =
-    let no = no_comment session 58 text (spelled ks) (omega arith) others.2 in
-    elim spells [ inl none ↦ absurd (no.0 none) | inr comment ↦ absurd (no.1 (ap (λ t. get_or t 0 0) comment.1)) ]
-one_line unique text Skipped (Opening session typist book) spells others =
-    let no = no_comment session 61 text (decimal typist ++ 44 ∷ decimal book) (omega arith) (others.3 ∙ append_assoc (decimal session) (61 ∷ decimal typist) (44 ∷ decimal book)) in
-    elim spells [ inl none ↦ absurd (no.0 none) | inr comment ↦ absurd (no.1 (ap (λ t. get_or t 0 0) comment.1)) ]
-one_line unique text (Keys session ks) other spells others =
-    let no = no_comment session 58 text (spelled ks) (omega arith) spells.2 in
-    let says = line-follows text (spelled ks) other session 58 others no.0 no.1 (omega arith) colon_no_digit spells.2 in
-    same_follows unique session 58 (spelled ks) (Keys session ks) other (refl, refl, spells.1, refl) says.1
-one_line unique text (Opening session typist book) other spells others =
-    let rest = decimal typist ++ 44 ∷ decimal book in
-    let e : text ≡ decimal session ++ 61 ∷ rest = spells.3 ∙ append_assoc (decimal session) (61 ∷ decimal typist) (44 ∷ decimal book) in
-    let no = no_comment session 61 text rest (omega arith) e in
-    let says = line-follows text rest other session 61 others no.0 no.1 (omega arith) equals_no_digit e in
-    same_follows unique session 61 rest (Opening session typist book) other (refl, refl, spells.1, spells.2, refl) says.1
+-- a text that begins with a session says one line
+one_follows : OneListOfKeys → (text rest : List ℕ) (line : Line) (other : Option Line) (session mark : ℕ) → Spells text other → session ≤ 99999 → (¬ IsInRange 48 57 mark)
+    → text ≡ decimal session ++ mark ∷ rest → Follows session mark rest line → Some line ≡ other
+one_follows unique text rest line other session mark others small no_digit e follows =
+    let no = no_comment session mark text rest small e in
+    let says = line-follows text rest other session mark others no.0 no.1 small no_digit e in
+    ap Some (same_follows unique session mark rest line says.1.0 follows says.1.2) ∙ sym says.1.1
 
--- a line more
-pub says-push : (named : List ℕ) (before : List (List ℕ)) (lines : List Line) (text : List ℕ) (line : Line) →
-    Says named before lines → Spells text line → MayFollow (named ++ flat_map named_by lines) line → Says named (before ++ text ∷ []) (lines ++ line ∷ [])
-says-push named [] [] text line says spells follows = (spells, subst (λ (ns : List ℕ). MayFollow ns line) (append-nil named) follows, tt)
-says-push named [] (first ∷ lines) text line says spells follows = absurd says
-says-push named (first_text ∷ before) [] text line says spells follows = absurd says
-says-push named (first_text ∷ before) (first ∷ lines) text line says spells follows = (
-  says.0,
-  says.1,
-  says-push (named ++ named_by first) before lines text line says.2 spells
-      (subst (λ (ns : List ℕ). MayFollow ns line) (sym (append_assoc named (named_by first) (flat_map named_by lines))) follows),
-)
+-- a text that says a line says nothing else
+one_line : OneListOfKeys → (text : List ℕ) (line : Line) (other : Option Line) → Spells text (Some line) → Spells text other → Some line ≡ other
+one_line unique text (Keys session ks) other spells others =
+    one_follows unique text (spelled ks) (Keys session ks) other session 58 others (omega arith) colon_no_digit spells.2 (refl, refl, spells.1, refl)
+one_line unique text (Opening session typist book) other spells others =
+    one_follows unique text (decimal typist ++ 44 ∷ decimal book) (Opening session typist book) other session 61 others (omega arith) equals_no_digit
+    (spells.3 ∙ append_assoc (decimal session) (61 ∷ decimal typist) (44 ∷ decimal book)) (refl, refl, spells.1, spells.2, refl)
+
+-- a text says one thing
+pub one_said : OneListOfKeys → (text : List ℕ) (said other : Option Line) → Spells text said → Spells text other → said ≡ other
+one_said unique text None None spells others = refl
+one_said unique text None (Some line) spells others = sym (one_line unique text line None others spells)
+one_said unique text (Some line) other spells others = one_line unique text line other spells others
+
+-- a text more
+pub says-push : (before : List Line) (texts : List (List ℕ)) (lines : List Line) (text : List ℕ) (said : Option Line) →
+    Says before texts lines → Spells text said → MayFollow lines said → Says before (texts ++ text ∷ []) (with_said lines said)
+says-push before [] lines text said says spells follows =
+    (said, spells, subst (λ (ls : List Line). MayFollow ls said) says follows, ap (λ ls. with_said ls said) says)
+says-push before (first ∷ texts) lines text said says spells follows =
+    (says.0, says.1, says.2, says-push (with_said before says.0) texts lines text said says.3 spells follows)
 
 -- the texts say one list of lines
-pub one_list_of_lines : OneListOfKeys → (named : List ℕ) (texts : List (List ℕ)) (lines others : List Line) → Says named texts lines → Says named texts others → lines ≡ others
-one_list_of_lines unique named [] [] [] says also = refl
-one_list_of_lines unique named [] [] (other ∷ others) says also = absurd also
-one_list_of_lines unique named [] (line ∷ lines) others says also = absurd says
-one_list_of_lines unique named (text ∷ texts) [] others says also = absurd says
-one_list_of_lines unique named (text ∷ texts) (line ∷ lines) [] says also = absurd also
-one_list_of_lines unique named (text ∷ texts) (line ∷ lines) (other ∷ others) says also =
-    let same : line ≡ other = one_line unique text line other says.0 also.0 in
-    let also' : Says (named ++ named_by line) texts others = subst (λ (l : Line). Says (named ++ named_by l) texts others) (sym same) also.2 in
-    ap (λ l. l ∷ lines) same ∙ ap (λ ls. other ∷ ls) (one_list_of_lines unique (named ++ named_by line) texts lines others says.2 also')
+pub one_list_of_lines : OneListOfKeys → (before : List Line) (texts : List (List ℕ)) (lines others : List Line) → Says before texts lines → Says before texts others → lines ≡ others
+one_list_of_lines unique before [] lines others says also = says ∙ sym also
+one_list_of_lines unique before (text ∷ texts) lines others says also =
+    let same : says.0 ≡ also.0 = one_said unique text says.0 also.0 says.1 also.1 in
+    one_list_of_lines unique (with_said before also.0) texts lines others (subst (λ (s : Option Line). Says (with_said before s) texts lines) same says.3) also.3
 
--- in a script each text behind those that say some lines says a line that may follow them
-pub says-at : OneListOfKeys → (named : List ℕ) (before behind : List (List ℕ)) (text : List ℕ) (said lines : List Line) →
-    Says named before said → Says named (before ++ text ∷ behind) lines → (line : Line) × Spells text line × MayFollow (named ++ flat_map named_by said) line
-says-at unique named [] behind text [] [] said says = absurd says
-says-at unique named [] behind text [] (line ∷ lines) said says = (line, says.0, subst (λ (ns : List ℕ). MayFollow ns line) (sym (append-nil named)) says.1)
-says-at unique named [] behind text (first ∷ firsts) lines said says = absurd said
-says-at unique named (other ∷ before) behind text [] lines said says = absurd said
-says-at unique named (other ∷ before) behind text (first ∷ firsts) [] said says = absurd says
-says-at unique named (other ∷ before) behind text (first ∷ firsts) (line ∷ lines) said says =
-    let same : line ≡ first = one_line unique other line first says.0 said.0 in
-    let rest = subst (λ (l : Line). Says (named ++ named_by l) (before ++ text ∷ behind) lines) same says.2 in
-    let at = says-at unique (named ++ named_by first) before behind text firsts lines said.2 rest in
-    (at.0, at.1, subst (λ (ns : List ℕ). MayFollow ns at.0) (append_assoc named (named_by first) (flat_map named_by firsts)) at.2)
+-- in a script each text behind those that say some lines says what may follow them
+pub says-at : OneListOfKeys → (before : List Line) (texts behind : List (List ℕ)) (text : List ℕ) (lines all : List Line) →
+    Says before texts lines → Says before (texts ++ text ∷ behind) all → (said : Option Line) × Spells text said × MayFollow lines said
+says-at unique before [] behind text lines all says whole = (whole.0, whole.1, subst (λ (ls : List Line). MayFollow ls whole.0) (sym says) whole.2)
+says-at unique before (first ∷ texts) behind text lines all says whole =
+    let same : whole.0 ≡ says.0 = one_said unique first whole.0 says.0 whole.1 says.1 in
+    says-at unique (with_said before says.0) texts behind text lines all says.3 (subst (λ (s : Option Line). Says (with_said before s) (texts ++ text ∷ behind) all) same whole.3)
 
 -- so a script has no line that is none
 pub no_bad_line : OneListOfKeys → (texts : List (List ℕ)) (lines : List Line) (number : ℕ) → Says [] texts lines → ¬ IsFirstBad texts number

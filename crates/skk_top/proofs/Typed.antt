@@ -1,15 +1,32 @@
 -- What the typing of lines leaves, by how it ends.
-use Rattle.std.proofs.Common.{◌≡◌, ◌≤◌, sym, subst, ℕ, true, false, Option, List, Ok, Err, IsErrAnd, rules, arith}
+use Rattle.std.proofs.Common.{◌≡◌, ◌≤◌, ◌<◌, ◌+◌, ◌∙◌, ap, sym, subst, ℕ, true, false, Option, List, ◌∷◌, ◌++◌, length, drop, get_or, Ok, Err, IsErrAnd, rules, arith}
+use Rattle.std.proofs.lemmas.List.{at_drop_more}
 use Rattle.std.specs.Io.KnownBytes.{Appends}
 use Rattle.skk_outside.specs.Faults.{Rose}
 use Rattle.skk_outside.specs.Written.{AppendsPrefix}
 use Rattle.romaji_rules.specs.declared.rule.Rule.{Rule}
+use Rattle.skk_top.specs.Page.{Printed}
+use Rattle.skk_top.specs.Sessions.{SessionMap}
 use Rattle.skk_top.specs.Status.{Ended, ComesOfTyping}
 use Rattle.skk_top.specs.TypeCommand.{LeavesLines}
-use Rattle.skk_top.specs.Typed.{typed, are_taken}
+use Rattle.skk_top.specs.Typed.{typed, typed_from, are_taken}
 use Rattle.skk_top.specs.declared.fault.RunFault.{RunFault}
 use Rattle.skk_top.specs.declared.fault.RunFault.TheVariants.{Outside, NotBuilt}
 use Rattle.skk_top.specs.declared.line.Line.{Line}
+use Rattle.skk_top.proofs.Pages.{Printed-parted}
+
+-- what is left of lines begins with the one at its place
+pub at-line : {Y : Type 0} (F : List Line → Y) (lines : List Line) (place : ℕ) (line : Line) → place < length lines → line ≡ get_or lines place line → F (drop place lines) ≡ F (line ∷ drop (place + 1) lines)
+at-line F lines place line within is = at_drop_more F lines place line within ∙ ap (λ l. F (l ∷ drop (place + 1) lines)) (sym is)
+
+-- what a line prints goes to the page
+pub printed-line : (table : List Rule) (sessions sessions' : SessionMap) (lines : List Line) (place : ℕ) (line : Line) (old new : Option (List ℕ)) (page page' whole : List ℕ)
+    → place < length lines → line ≡ get_or lines place line
+    → page' ++ typed_from table sessions' (drop (place + 1) lines) ≡ page ++ typed_from table sessions (line ∷ drop (place + 1) lines)
+    → Printed old new page (typed_from table sessions (drop place lines)) whole → Printed old new page' (typed_from table sessions' (drop (place + 1) lines)) whole
+printed-line table sessions sessions' lines place line old new page page' whole within is pushed printed =
+    Printed-parted old new page (typed_from table sessions (drop place lines)) page' (typed_from table sessions' (drop (place + 1) lines)) whole
+    (pushed ∙ ap (λ t. page ++ t) (sym (at-line (typed_from table sessions) lines place line within is))) printed
 
 -- with a fault
 pub leaves-fault : (table : List Rule) (lines : List Line) (fault : RunFault) (old new : Option (List ℕ)) (writes writes' : ℕ) → AppendsPrefix old new (typed table lines)

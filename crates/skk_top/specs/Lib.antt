@@ -1,6 +1,5 @@
 pub mod Characters
 pub mod Command
-pub mod Held
 pub mod KanaInput
 pub mod Marks
 pub mod Page

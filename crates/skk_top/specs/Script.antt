@@ -1,11 +1,11 @@
--- Scripts: what each line says, and which line is the first that says nothing.
-use Rattle.std.specs.Prelude.{◌≡◌, ◌⊎◌, ◌≤◌, ◌+◌, ℕ, Bool, true, false, ◌==◌, nat_eq, if◌then◌else◌, List, [], ◌∷◌, ◌++◌, length, ⊤, Contains}
+-- Scripts: what each line says, and which line is the first that is none.
+use Rattle.std.specs.Prelude.{◌≡◌, ◌⊎◌, ◌≤◌, ◌+◌, ℕ, Bool, false, ◌==◌, nat_eq, if◌then◌else◌, Option, Some, None, List, [], ◌∷◌, ◌++◌, length, map, ⊤, Contains}
 use Rattle.std.specs.Fmt.{decimal}
-use Rattle.std.specs.List.{flat_map, list_all, list_any}
+use Rattle.std.specs.List.{list_all, list_any}
 use Rattle.skk_text.specs.KeyText.{spelled, AreKeys}
 use Rattle.skk_top.specs.Characters.{code, line_feed, carriage_return}
 use Rattle.skk_top.specs.declared.line.Line.{Line}
-use Rattle.skk_top.specs.declared.line.Line.TheVariants.{Skipped, Keys, Opening}
+use Rattle.skk_top.specs.declared.line.Line.TheVariants.{Keys, Opening}
 
 -- the most bytes of a script
 abbrev pub script_limit : ℕ
@@ -33,53 +33,48 @@ IsTypist number = number ≤ 65535
 abbrev pub has_return : List ℕ → Bool
 has_return text = list_any (λ byte. nat_eq byte carriage_return) text
 
--- a text says a line: nothing, where it is empty or a comment, which has no CR; keys, where it is a session, `:` and
--- their spelling; or an opening, where it is a session, `=`, a typist, `,` and a book, which is 0 or the typist's own
-abbrev pub Spells : List ℕ → Line → Type 0
-Spells text Skipped = (text ≡ []) ⊎ ((comment : List ℕ) × (text ≡ code "#" ∷ comment) × (has_return comment ≡ false))
-Spells text (Keys session ks) = IsSession session × AreKeys ks × (text ≡ decimal session ++ code ":" ∷ spelled ks)
-Spells text (Opening session typist book) =
+-- what a text says: nothing, where it is skipped, being empty or a comment, which has no CR; keys, where it is a session,
+-- `:` and their spelling; or an opening, where it is a session, `=`, a typist, `,` and a book, which is 0 or the typist's
+abbrev pub Spells : List ℕ → Option Line → Type 0
+Spells text None = (text ≡ []) ⊎ ((comment : List ℕ) × (text ≡ code "#" ∷ comment) × (has_return comment ≡ false))
+Spells text (Some (Keys session ks)) = IsSession session × AreKeys ks × (text ≡ decimal session ++ code ":" ∷ spelled ks)
+Spells text (Some (Opening session typist book)) =
     IsSession session × IsTypist typist × ((book ≡ 0) ⊎ (book ≡ typist))
     × (text ≡ decimal session ++ code "=" ∷ decimal typist ++ code "," ∷ decimal book)
 
 -- what stands behind a session's number, a byte and the rest, says a line of that session
 abbrev pub Follows : ℕ → ℕ → List ℕ → Line → Type 0
-Follows number mark rest Skipped = ⊥
 Follows number mark rest (Keys session ks) = (session ≡ number) × (mark ≡ code ":") × AreKeys ks × (rest ≡ spelled ks)
 Follows number mark rest (Opening session typist book) =
     (session ≡ number) × (mark ≡ code "=") × IsTypist typist × ((book ≡ 0) ⊎ (book ≡ typist)) × (rest ≡ decimal typist ++ code "," ∷ decimal book)
 
--- the session that a line names, if it names one, has a session's number
-abbrev pub IsNumbered : Line → Type 0
-IsNumbered Skipped = ⊤
-IsNumbered (Keys session ks) = IsSession session
-IsNumbered (Opening session typist book) = IsSession session
+-- the session that a line names
+abbrev pub session_of : Line → ℕ
+session_of (Keys session ks) = session
+session_of (Opening session typist book) = session
 
--- the sessions that a line names
-abbrev pub named_by : Line → List ℕ
-named_by Skipped = []
-named_by (Keys session ks) = session ∷ []
-named_by (Opening session typist book) = session ∷ []
+-- what a text says may stand behind these lines: it opens no session that one of them names
+abbrev pub MayFollow : List Line → Option Line → Type 0
+MayFollow before None = ⊤
+MayFollow before (Some (Keys session ks)) = ⊤
+MayFollow before (Some (Opening session typist book)) = ¬ Contains (map session_of before) session
 
--- a line may stand behind lines that name these sessions: it opens none of them
-abbrev pub MayFollow : List ℕ → Line → Type 0
-MayFollow named Skipped = ⊤
-MayFollow named (Keys session ks) = ⊤
-MayFollow named (Opening session typist book) = ¬ Contains named session
+-- these lines, and the one that a text says, if it says one
+abbrev pub with_said : List Line → Option Line → List Line
+with_said before None = before
+with_said before (Some line) = before ++ line ∷ []
 
--- texts say lines, one after another, behind lines that name these sessions
-abbrev pub Says : List ℕ → List (List ℕ) → List Line → Type 0
-Says named [] [] = ⊤
-Says named [] (line ∷ lines) = ⊥
-Says named (text ∷ texts) [] = ⊥
-Says named (text ∷ texts) (line ∷ lines) =
-    Spells text line × MayFollow named line × Says (named ++ named_by line) texts lines
+-- texts behind these lines make them those: one after another is skipped, or says a line that may follow
+abbrev pub Says : List Line → List (List ℕ) → List Line → Type 0
+Says before [] lines = lines ≡ before
+Says before (text ∷ texts) lines =
+    (said : Option Line) × Spells text said × MayFollow before said × Says (with_said before said) texts lines
 
 -- bytes are a script of these lines: they are not too many, and their texts say the lines
 abbrev pub IsScript : List ℕ → List Line → Type 0
 IsScript bytes lines = (length bytes ≤ script_limit) × Says [] (lines_of bytes) lines
 
--- of the texts the first that says nothing has this number, counted from 1
+-- of the texts the first that is no line has this number, counted from 1
 pub record IsFirstBad (texts : List (List ℕ)) (number : ℕ) : Type 0 where
   pub before : List (List ℕ)
   pub bad : List ℕ
@@ -87,25 +82,14 @@ pub record IsFirstBad (texts : List (List ℕ)) (number : ℕ) : Type 0 where
   pub lines : List Line
   pub parts : texts ≡ before ++ bad ∷ behind
   pub said : Says [] before lines
-  pub none : (line : Line) → Spells bad line → MayFollow (flat_map named_by lines) line → ⊥
+  pub none : (said : Option Line) → Spells bad said → MayFollow lines said → ⊥
   pub place : number ≡ length before + 1
 
--- whether what a line says is built so far: comments and empty lines, and keys of session 1
+-- whether a line is built so far: keys of session 1
 abbrev pub is_built_line : Line → Bool
-is_built_line Skipped = true
 is_built_line (Keys session ks) = session == 1
 is_built_line (Opening session typist book) = false
 
 -- whether each of the lines is built
 abbrev pub are_built : List Line → Bool
 are_built lines = list_all is_built_line lines
-
--- a line as the one line of a list, which is empty where the line says nothing
-abbrev pub lines_said : Line → List Line
-lines_said Skipped = []
-lines_said (Keys session ks) = Keys session ks ∷ []
-lines_said (Opening session typist book) = Opening session typist book ∷ []
-
--- the lines that say something
-abbrev pub without_skipped : List Line → List Line
-without_skipped lines = flat_map lines_said lines

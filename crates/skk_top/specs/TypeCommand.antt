@@ -6,7 +6,7 @@ use Rattle.skk_outside.specs.Taken.{TakesAtMost}
 use Rattle.skk_outside.specs.Written.{AppendsPrefix}
 use Rattle.skk_outside.specs.declared.source.TheConstants.{PIECE}
 use Rattle.romaji_rules.specs.declared.rule.Rule.{Rule}
-use Rattle.skk_top.specs.Script.{IsScript, IsFirstBad, lines_of, are_built, script_limit, without_skipped}
+use Rattle.skk_top.specs.Script.{IsScript, IsFirstBad, lines_of, are_built, script_limit}
 use Rattle.skk_top.specs.Status.{Ended, message_of, ComesOfTyping}
 use Rattle.skk_top.specs.Typed.{typed, are_taken}
 use Rattle.skk_top.specs.declared.fault.RunFault.{RunFault}
@@ -17,7 +17,7 @@ use Rattle.skk_top.specs.declared.line.Line.{Line}
 abbrev pub IsTooLong : List ℕ → Type 0
 IsTooLong bytes = script_limit < length bytes
 
--- bytes are not too many for a script, and of their lines the first that says nothing has this number
+-- bytes are not too many for a script, and of their lines the first that is none has this number
 abbrev pub IsBadAt : List ℕ → ℕ → Type 0
 IsBadAt bytes number = (length bytes ≤ script_limit) × IsFirstBad (lines_of bytes) number
 
@@ -64,9 +64,9 @@ pub record LeavesTyped (rules : List Rule) (status : ℕ) (message : List ℕ) (
   pub reads_counted : reads ≤ reads'
   pub writes_counted : writes ≤ writes'
 
--- what the reading of a script leaves, by the lines that say something or the fault
+-- what the reading of a script leaves, by its lines or the fault
 pub record LeavesScript (result : Result (List Line) RunFault) (left left' : Option (List ℕ)) (reads reads' : ℕ) : Type 0 where
-  pub whole : IfOk result (λ said. IfSome left (λ bytes. (lines : List Line) × IsScript bytes lines × (said ≡ without_skipped lines)))
+  pub whole : IfOk result (λ lines. IfSome left (λ bytes. IsScript bytes lines))
   pub ended : OnOk result (IsAtEnd left')
   pub too_long : IsErrOf result TooLong → IfSome left IsTooLong
   pub bad_line : (number : ℕ) → IsErrOf result (BadLine number) → IfSome left (λ bytes. IsBadAt bytes number)

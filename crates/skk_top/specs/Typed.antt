@@ -7,7 +7,7 @@ use Rattle.skk_top.specs.Printing.{output_line, closing_line}
 use Rattle.skk_top.specs.SessionMachine.{new_session, after_keys}
 use Rattle.skk_top.specs.Sessions.{SessionMap, session_or_new, with_session}
 use Rattle.skk_top.specs.declared.line.Line.{Line}
-use Rattle.skk_top.specs.declared.line.Line.TheVariants.{Skipped, Keys, Opening}
+use Rattle.skk_top.specs.declared.line.Line.TheVariants.{Keys, Opening}
 
 -- the closing lines of sessions, in the order of their numbers
 abbrev pub closing_lines : SessionMap → List ℕ
@@ -17,7 +17,6 @@ closing_lines sessions = flat_map (λ entry. closing_line entry.0 entry.1) sessi
 -- key that is not taken, and the closing lines where there is none such
 abbrev pub typed_from : List Rule → SessionMap → List Line → List ℕ
 typed_from rules sessions [] = closing_lines sessions
-typed_from rules sessions (Skipped ∷ lines) = typed_from rules sessions lines
 typed_from rules sessions (Keys number ks ∷ lines) =
     option_map_or (λ next. output_line number next ++ typed_from rules (with_session sessions number next) lines)
     (after_keys rules (session_or_new sessions number) ks) []
@@ -31,7 +30,6 @@ typed rules lines = encode_utf8_all (typed_from rules [] lines)
 -- whether each key of the lines is taken, from these sessions on
 abbrev pub are_taken_from : List Rule → SessionMap → List Line → Bool
 are_taken_from rules sessions [] = true
-are_taken_from rules sessions (Skipped ∷ lines) = are_taken_from rules sessions lines
 are_taken_from rules sessions (Keys number ks ∷ lines) =
     option_map_or (λ next. are_taken_from rules (with_session sessions number next) lines)
     (after_keys rules (session_or_new sessions number) ks) false

@@ -16,14 +16,14 @@ pub fn one_script()
     one_list_of_keys();
 }
 
-/// Texts that say lines have no first line that says nothing.
+/// Texts that say lines have no first line that is none.
 pub fn no_bad_line_in_a_script()
     ensures { (texts : List (List ℕ)) (lines : List Line) (number : ℕ) → Says [] texts lines → ¬ IsFirstBad texts number }
 {
     one_list_of_keys();
 }
 
-/// One line at most is the first that says nothing.
+/// One line at most is the first that is none.
 pub fn one_bad_line()
     ensures { (texts : List (List ℕ)) (number other : ℕ) → IsFirstBad texts number → IsFirstBad texts other → number ≡ other }
 {

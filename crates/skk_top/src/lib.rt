@@ -17,7 +17,6 @@ mod printing;
 mod run;
 mod script;
 mod session_machine;
-mod sessions;
 #[cfg(test)]
 mod tests;
 mod type_command;

@@ -1,4 +1,4 @@
-ghost use Rattle.std.specs.Prelude.{◌≡◌, ◌≢◌, ◌<◌, ◌≤◌, ◌⊎◌, [], ◌++◌, ◌∷◌, IfOk, IsErrOf, IfSome, IsNone, MatchOption, ℕ, List, length, slice_index};
+ghost use Rattle.std.specs.Prelude.{◌≡◌, ◌≢◌, ◌<◌, ◌≤◌, ◌⊎◌, [], ◌++◌, ◌∷◌, IfOk, IsErrOf, IfSome, IsNone, MatchOption, ℕ, Option, List, length, slice_index};
 ghost use Rattle.std.specs.Fmt.{decimal};
 ghost use Rattle.skk_top.specs.Characters.{code};
 ghost use Rattle.skk_top.specs.Script.{Spells, Follows, IsTypist, lines_of};
@@ -12,11 +12,9 @@ use thiserror::Error;
 /// The greatest number of a session.
 pub const SESSIONS: u32 = 64;
 
-/// What a line of a script says.
+/// A line of a script that says something.
 #[derive(Debug, Drop)]
 pub enum Line {
-    /// Nothing: it is empty or a comment.
-    Skipped,
     /// Keys for a session.
     Keys { session: u8, keys: Keys },
     /// That a session is a typist's, with a book.
@@ -26,7 +24,7 @@ pub enum Line {
 /// Why no line was read.
 #[derive(Clone, Copy, Debug, PartialEq, Eq, Error)]
 pub enum LineFault {
-    /// The text says nothing.
+    /// The text is no line.
     #[error("no line")]
     NoLine,
     /// Out of memory.
@@ -45,19 +43,20 @@ impl From<Memory> for LineFault {
     }
 }
 
-/// Reads a line. Whether its session was named before is not looked at.
-pub fn read_line(alloc: Global, text: &[u8]) -> Result<Line, LineFault>
-    ensures ok { IfOk result (λ line. Spells text.now line) }
-    ensures none { IsErrOf result LineFault.NoLine → (line : Line) → ¬ Spells text.now line }
+/// Reads what a text says, which is nothing where it is empty or a comment. Whether its session was named before is
+/// not looked at.
+pub fn read_line(alloc: Global, text: &[u8]) -> Result<Option<Line>, LineFault>
+    ensures ok { IfOk result (λ said. Spells text.now said) }
+    ensures none { IsErrOf result LineFault.NoLine → (said : Option Line) → ¬ Spells text.now said }
 {
     if text.is_empty() {
-        return Ok(Line::Skipped);
+        return Ok(None);
     }
     if text[0] == b'#' {
         if text.contains(&b'\r') {
             return Err(LineFault::NoLine);
         }
-        return Ok(Line::Skipped);
+        return Ok(None);
     }
     let Some((session, mark, rest)) = number_then(text) else {
         return Err(LineFault::NoLine);
@@ -65,7 +64,8 @@ pub fn read_line(alloc: Global, text: &[u8]) -> Result<Line, LineFault>
     if session < 1 || session > SESSIONS {
         return Err(LineFault::NoLine);
     }
-    read_behind(alloc, session as u8, mark, rest)
+    let line = read_behind(alloc, session as u8, mark, rest)?;
+    Ok(Some(line))
 }
 
 // Reads what stands behind a session's number: the byte next to it, and the rest.

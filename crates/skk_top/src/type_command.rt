@@ -50,5 +50,5 @@ fn type_built<O: Sink>(alloc: Global, script: &Script, out: &mut O) -> Result<()
     if !script.is_built() {
         return Err(RunFault::NotBuilt);
     }
-    type_script(alloc, script, out)
+    type_script(alloc, script.lines(), out)
 }

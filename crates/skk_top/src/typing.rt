@@ -2,12 +2,10 @@ ghost use Rattle.std.specs.Prelude.{◌≡◌, ◌≤◌, ◌<◌, ◌++◌, ◌
 ghost use Rattle.skk_outside.specs.Faults.{Rose};
 ghost use Rattle.skk_outside.specs.Written.{AppendsPrefix};
 ghost use Rattle.romaji_rules.specs.Standard.{standard};
-ghost use Rattle.skk_top.specs.Held.{line_at};
 ghost use Rattle.skk_top.specs.Page.{Printed};
 ghost use Rattle.skk_top.specs.Printing.{output_line};
-ghost use Rattle.skk_top.specs.Script.{IsNumbered, IsSession};
 ghost use Rattle.skk_top.specs.SessionMachine.{after_keys};
-ghost use Rattle.skk_top.specs.Sessions.{sessions_from, session_or_new, with_session};
+ghost use Rattle.skk_top.specs.Sessions.{session_at, session_or_new, with_session};
 ghost use Rattle.skk_top.specs.Status.{ComesOfTyping};
 ghost use Rattle.skk_top.specs.TypeCommand.{LeavesLines};
 ghost use Rattle.skk_top.specs.Typed.{typed, typed_from, are_taken, are_taken_from, closing_lines};
@@ -15,24 +13,23 @@ ghost use Rattle.skk_top.specs.declared.line.Line.{Line};
 ghost use Rattle.skk_top.specs.declared.session_machine.Session.{Session};
 
 use crate::fault::RunFault;
-use crate::line::SESSIONS;
+use crate::line::Line;
 use crate::page::{print, print_full};
 use crate::printing::{push_closing_line, push_output_line};
-use crate::script::{Script, ScriptLine};
 use crate::session_machine::{PressFault, Session};
-use crate::sessions::Sessions;
 use romaji_rules::Rules;
 use skk_outside::Sink;
-use skk_text::{Key, Memory, Text};
+use skk_text::{Keys, Memory, Text};
 use std::alloc::Global;
+use std::collections::BTreeMap;
 
 /// Types the lines of a script by the standard rules, and prints an output line for each key line and the
 /// closing lines. At a key that is not built the lines before it are printed.
-pub fn type_script<O: Sink>(alloc: Global, script: &Script, out: &mut O) -> Result<(), RunFault>
-    ensures { LeavesLines standard script.now result (O.written out.old) (O.written out.new) (O.faults out.old) (O.faults out.new) }
+pub fn type_script<O: Sink>(alloc: Global, lines: &[Line], out: &mut O) -> Result<(), RunFault>
+    ensures { LeavesLines standard lines.now result (O.written out.old) (O.written out.new) (O.faults out.old) (O.faults out.new) }
 {
     let rules = Rules::standard(alloc)?;
-    print_script(alloc, &rules, script, out)?;
+    print_script(alloc, &rules, lines, out)?;
     out.flush()?;
     Ok(())
 }
@@ -41,14 +38,14 @@ pub fn type_script<O: Sink>(alloc: Global, script: &Script, out: &mut O) -> Resu
 fn print_script<O: Sink>(
     alloc: Global,
     rules: &Rules,
-    script: &Script,
+    lines: &[Line],
     out: &mut O,
 ) -> Result<(), RunFault>
-    ensures { LeavesLines rules.now script.now result (O.written out.old) (O.written out.new) (O.faults out.old) (O.faults out.new) }
+    ensures { LeavesLines rules.now lines.now result (O.written out.old) (O.written out.new) (O.faults out.old) (O.faults out.new) }
 {
-    let mut sessions = Sessions::new(alloc)?;
+    let mut sessions = BTreeMap::new(alloc);
     let mut page = Text::new(alloc);
-    match type_lines(alloc, rules, script, &mut sessions, &mut page, out) {
+    match type_lines(alloc, rules, lines, &mut sessions, &mut page, out) {
         Ok(()) => {
             close_sessions(alloc, &sessions, &mut page, out)?;
             print(out, &page)?;
@@ -66,25 +63,25 @@ fn print_script<O: Sink>(
 fn type_lines<O: Sink>(
     alloc: Global,
     rules: &Rules,
-    script: &Script,
-    sessions: &mut Sessions,
+    lines: &[Line],
+    sessions: &mut BTreeMap<u8, Session>,
     page: &mut Text,
     out: &mut O,
 ) -> Result<(), RunFault>
-    requires none_there { sessions_from 1 sessions.old.places.items ≡ [] }
+    requires none_there { sessions.old.entries ≡ [] }
     requires empty { page.old ≡ [] }
     ensures ok { OnOk result (Printed (O.written out.old) (O.written out.new) page.new
-        (closing_lines (sessions_from 1 sessions.new.places.items)) (typed_from rules.now [] script.now)) }
-    ensures taken { OnOk result (are_taken rules.now script.now ≡ true) }
-    ensures not_built { IsErrOf result RunFault.NotBuilt → are_taken rules.now script.now ≡ false }
-    ensures waiting { IsErrOf result RunFault.NotBuilt → Printed (O.written out.old) (O.written out.new) page.new [] (typed_from rules.now [] script.now) }
-    ensures err { OnErr result (AppendsPrefix (O.written out.old) (O.written out.new) (typed rules.now script.now)) }
+        (closing_lines sessions.new.entries) (typed_from rules.now [] lines.now)) }
+    ensures taken { OnOk result (are_taken rules.now lines.now ≡ true) }
+    ensures not_built { IsErrOf result RunFault.NotBuilt → are_taken rules.now lines.now ≡ false }
+    ensures waiting { IsErrOf result RunFault.NotBuilt → Printed (O.written out.old) (O.written out.new) page.new [] (typed_from rules.now [] lines.now) }
+    ensures err { OnErr result (AppendsPrefix (O.written out.old) (O.written out.new) (typed rules.now lines.now)) }
     ensures outside { IsErrOf result RunFault.Outside → Rose (O.faults out.old) (O.faults out.new) }
     ensures fault { IfErr result ComesOfTyping }
     ensures counted { O.faults out.old ≤ O.faults out.new }
 {
-    for place in 0..script.len() {
-        type_line(alloc, rules, script.at(place), sessions, page)?;
+    for line in lines {
+        type_line(alloc, rules, line, sessions, page)?;
         print_full(alloc, out, page)?;
     }
     Ok(())
@@ -95,31 +92,28 @@ fn type_lines<O: Sink>(
 fn type_line(
     alloc: Global,
     rules: &Rules,
-    line: ScriptLine<'_>,
-    sessions: &mut Sessions,
+    line: &Line,
+    sessions: &mut BTreeMap<u8, Session>,
     page: &mut Text,
 ) -> Result<(), PressFault>
-    requires { IsNumbered (line_at line) }
-    ensures page { OnOk result ((lines : List Line) → page.new ++ typed_from rules.now (sessions_from 1 sessions.new.places.items) lines
-        ≡ page.old ++ typed_from rules.now (sessions_from 1 sessions.old.places.items) (line_at line.entry ∷ lines)) }
-    ensures taken { OnOk result ((lines : List Line) → are_taken_from rules.now (sessions_from 1 sessions.new.places.items) lines
-        ≡ are_taken_from rules.now (sessions_from 1 sessions.old.places.items) (line_at line.entry ∷ lines)) }
+    ensures page { OnOk result ((lines : List Line) → page.new ++ typed_from rules.now sessions.new.entries lines
+        ≡ page.old ++ typed_from rules.now sessions.old.entries (line.now ∷ lines)) }
+    ensures taken { OnOk result ((lines : List Line) → are_taken_from rules.now sessions.new.entries lines
+        ≡ are_taken_from rules.now sessions.old.entries (line.now ∷ lines)) }
     ensures stops { IsErrOf result PressFault.NotBuilt → (lines : List Line)
-        → typed_from rules.now (sessions_from 1 sessions.old.places.items) (line_at line.entry ∷ lines) ≡ [] }
+        → typed_from rules.now sessions.old.entries (line.now ∷ lines) ≡ [] }
     ensures not_built { IsErrOf result PressFault.NotBuilt → (lines : List Line)
-        → are_taken_from rules.now (sessions_from 1 sessions.old.places.items) (line_at line.entry ∷ lines) ≡ false }
+        → are_taken_from rules.now sessions.old.entries (line.now ∷ lines) ≡ false }
     ensures waiting { IsErrOf result PressFault.NotBuilt → page.new ≡ page.old }
 {
     match line {
-        ScriptLine::Keys { session, keys } => type_keys(
-            alloc, rules, session, keys, sessions, page,
-        ),
-        ScriptLine::Opening {
+        Line::Keys { session, keys } => type_keys(alloc, rules, *session, keys, sessions, page),
+        Line::Opening {
             session,
             typist: _,
             book: _,
         } => {
-            sessions.put(session, Session::new(alloc));
+            put_session(*session, Session::new(alloc), sessions)?;
             Ok(())
         }
     }
@@ -130,57 +124,69 @@ fn type_keys(
     alloc: Global,
     rules: &Rules,
     number: u8,
-    keys: &[Key],
-    sessions: &mut Sessions,
+    keys: &Keys,
+    sessions: &mut BTreeMap<u8, Session>,
     page: &mut Text,
 ) -> Result<(), PressFault>
-    requires { IsSession number }
     ensures ok { OnOk result ((next : Session)
-        × (after_keys rules.now (session_or_new (sessions_from 1 sessions.old.places.items) number) keys.now ≡ Some next)
-        × (sessions_from 1 sessions.new.places.items ≡ with_session (sessions_from 1 sessions.old.places.items) number next)
+        × (after_keys rules.now (session_or_new sessions.old.entries number) keys.now ≡ Some next)
+        × (sessions.new.entries ≡ with_session sessions.old.entries number next)
         × (page.new ≡ page.old ++ output_line number next)) }
     ensures not_built { IsErrOf result PressFault.NotBuilt
-        → after_keys rules.now (session_or_new (sessions_from 1 sessions.old.places.items) number) keys.now ≡ None }
+        → after_keys rules.now (session_or_new sessions.old.entries number) keys.now ≡ None }
     ensures waiting { IsErrOf result PressFault.NotBuilt → page.new ≡ page.old }
 {
-    let session = sessions.take(alloc, number);
-    let next = session.play(alloc, rules, keys)?;
+    let session = take_session(alloc, number, sessions)?;
+    let next = session.play(alloc, rules, keys.as_slice())?;
     push_output_line(page, number, &next)?;
-    sessions.put(number, next);
+    put_session(number, next, sessions)?;
     Ok(())
+}
+
+// Takes a session out, to be put back: it is new where it was not there, and a new one stands for it meanwhile.
+#[tactic(auto, using(crate::proofs::SessionMaps::put_again))]
+fn take_session(
+    alloc: Global,
+    number: u8,
+    sessions: &mut BTreeMap<u8, Session>,
+) -> Result<Session, Memory>
+    ensures session { IfOk result (λ session. session ≡ session_or_new sessions.old.entries number) }
+    ensures others { OnOk result ((session : Session) → with_session sessions.new.entries number session ≡ with_session sessions.old.entries number session) }
+{
+    let before = put_session(number, Session::new(alloc), sessions)?;
+    Ok(before.unwrap_or(Session::new(alloc)))
+}
+
+// Puts a session into the place of its number, and hands out the one that was there.
+fn put_session(
+    number: u8,
+    session: Session,
+    sessions: &mut BTreeMap<u8, Session>,
+) -> Result<Option<Session>, Memory>
+    ensures before { IfOk result (λ before. before ≡ session_at sessions.old.entries number) }
+    ensures put { OnOk result (sessions.new.entries ≡ with_session sessions.old.entries number session) }
+{
+    let before = sessions.insert(number, session)?;
+    Ok(before)
 }
 
 // Adds the closing lines of all sessions to the page.
 fn close_sessions<O: Sink>(
     alloc: Global,
-    sessions: &Sessions,
+    sessions: &BTreeMap<u8, Session>,
     page: &mut Text,
     out: &mut O,
 ) -> Result<(), RunFault>
-    ensures ok { OnOk result (Printed (O.written out.old) (O.written out.new) page.new []
-        (page.old ++ closing_lines (sessions_from 1 sessions.now.places.items))) }
-    ensures err { OnErr result (AppendsPrefix (O.written out.old) (O.written out.new)
-        (encode_utf8_all (page.old ++ closing_lines (sessions_from 1 sessions.now.places.items)))) }
+    ensures ok { OnOk result (Printed (O.written out.old) (O.written out.new) page.new [] (page.old ++ closing_lines sessions.now.entries)) }
+    ensures err { OnErr result (AppendsPrefix (O.written out.old) (O.written out.new) (encode_utf8_all (page.old ++ closing_lines sessions.now.entries))) }
     ensures outside { IsErrOf result RunFault.Outside → Rose (O.faults out.old) (O.faults out.new) }
     ensures fault { IfErr result (λ fault. ComesOfTyping fault) }
     ensures built { IsErrOf result RunFault.NotBuilt → ⊥ }
     ensures counted { O.faults out.old ≤ O.faults out.new }
 {
-    for place in 0..SESSIONS {
-        close_session(sessions, place as u8 + 1, page)?;
+    for (number, session) in sessions {
+        push_closing_line(page, *number, session)?;
         print_full(alloc, out, page)?;
     }
     Ok(())
-}
-
-// Adds the closing line of a session to the page, where it is there.
-fn close_session(sessions: &Sessions, number: u8, page: &mut Text) -> Result<(), Memory>
-    requires { IsSession number }
-    ensures { OnOk result (page.new ++ closing_lines (sessions_from (number + 1) (drop number sessions.now.places.items))
-        ≡ page.old ++ closing_lines (sessions_from number (drop (number - 1) sessions.now.places.items))) }
-{
-    match sessions.get(number) {
-        Some(session) => push_closing_line(page, number, session),
-        None => Ok(()),
-    }
 }
