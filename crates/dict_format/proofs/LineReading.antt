@@ -4,6 +4,7 @@ use Rattle.std.specs.List.{list_all, AllByRecursion}
 use Rattle.std.proofs.lemmas.Bool.{both_ways, ltb-true, ltb-false}
 use Rattle.std.proofs.lemmas.Option.{none-some, same_Some, some_pair_parts}
 use Rattle.skk_text.specs.Text.{byte_len}
+use Rattle.skk_text.specs.Results.{AnswersUnless}
 use Rattle.skk_calls.specs.declared.part.Part.{Part}
 use Rattle.skk_calls.specs.Canonical.{line_limit}
 use Rattle.skk_calls.specs.Rows.{Row, RowKey, is_row_key}
@@ -14,7 +15,7 @@ use Rattle.dict_format.specs.declared.reason.LineReason.TheVariants as reason
 use Rattle.dict_format.specs.Items.{Item, SpellsItems}
 use Rattle.dict_format.specs.Lines.{HasBody, HasTexts, SpellsRow}
 use Rattle.dict_format.specs.Reading.{cut, is_space, without_spaces, texts_at, items_at, or_reason, and_then, key_at, fit_items_at, some_row_of, row_reading, line_reading}
-use Rattle.dict_format.specs.Reasons.{is_bad_reading, reading_limit, lacks_letter, is_slashed, Fits, reasons, Answers, IsReason}
+use Rattle.dict_format.specs.Reasons.{is_bad_reading, reading_limit, lacks_letter, is_slashed, Fits, reasons, IsReason}
 use Rattle.dict_format.specs.RowOfItems.{item_fits, row_of_items, says_something}
 use Rattle.dict_format.specs.Views.{Gives}
 use Rattle.dict_format.proofs.Cutting.{cut-none, cut-nowhere}
@@ -431,7 +432,7 @@ module _ (part : Part) (line : List ℕ) where
   answers_ok (Ok other) e = (subst (Told part line) e (told part line)).0
   answers_ok (Err fault) e = tt
 
-  pub answers_only : (answer : Result Row LineFault) → Gives (λ row. row) answer (line_reading part line) → (row : Row) → SpellsRow part line row → Answers answer (Ok row)
+  pub answers_only : (answer : Result Row LineFault) → Gives (λ row. row) answer (line_reading part line) → (row : Row) → SpellsRow part line row → AnswersUnless Memory answer (Ok row)
   answers_only (Ok other) e row is = let same : ◌≡◌ {A = Result Row LineReason} (Ok other) (Ok row) = sym e ∙ line_reading-row part line row is in let one : other ≡ row = cc in inr (ap Ok one)
   answers_only (Err Memory) e row is = inl refl
   answers_only (Err (Reason first)) e row is = let same : ◌≡◌ {A = Result Row LineReason} (Err first) (Ok row) = sym e ∙ line_reading-row part line row is in cc
@@ -439,7 +440,7 @@ module _ (part : Part) (line : List ℕ) where
   pub answers_reason : (answer : Result Row LineFault) → Gives (λ row. row) answer (line_reading part line) → (first : LineReason) → IsErrOf answer (Reason first) → IsReason part line first
   answers_reason answer e first is = (subst (Told part line) (subst (λ (a : Result Row LineFault). Gives (λ row. row) a (line_reading part line)) is e) (told part line)).0
 
-  pub answers_only_reason : (answer : Result Row LineFault) → Gives (λ row. row) answer (line_reading part line) → (first : LineReason) → IsReason part line first → Answers answer (Err (Reason first))
+  pub answers_only_reason : (answer : Result Row LineFault) → Gives (λ row. row) answer (line_reading part line) → (first : LineReason) → IsReason part line first → AnswersUnless Memory answer (Err (Reason first))
   answers_only_reason (Ok other) e first is = let same : ◌≡◌ {A = Result Row LineReason} (Ok other) (Err first) = sym e ∙ line_reading-reason part line first is in cc
   answers_only_reason (Err Memory) e first is = inl refl
   answers_only_reason (Err (Reason told_first)) e first is =

@@ -10,7 +10,7 @@ use Rattle.dict_format.specs.Items.{Item, SpellsItem, SpellsItems}
 use Rattle.dict_format.specs.Lines.{lacks, HasBody, HasTexts, SpellsRow}
 use Rattle.dict_format.specs.RowOfItems.{fits, item_fits, row_of_items}
 use Rattle.dict_format.proofs.ItemsAgain.{block_texts}
-use Rattle.dict_format.proofs.RowsAgain.{row_texts, cand_piece, block_piece, mark_pieces, row_pieces, row_items, pieces_texts, all_append, cands_spell, block_words, blocks_spell, mark_spells, texts_ended, cands_slash, blocks_slash, marks_slash}
+use Rattle.dict_format.proofs.RowsAgain.{lacks-failing, row_texts, cand_piece, block_piece, mark_pieces, row_pieces, row_items, pieces_texts, all_append, cands_spell, block_words, blocks_spell, mark_spells, texts_ended, cands_slash, blocks_slash, marks_slash}
 
 -- What is known of the row
 
@@ -49,17 +49,6 @@ good_row row valid good =
 
 -- The reading
 
--- a reading has no space
-reading_space : (text : List ℕ) → list_all is_reading_char text ≡ true → lacks 0x20 text ≡ true
-reading_space [] e = refl
-reading_space (c ∷ text) e =
-    let parts = and_parts (is_reading_char c) (list_all is_reading_char text) e in
-    and_from (not (c == 0x20)) _ (not_from_false (c == 0x20) (by (c == 0x20) refl parts.0)) (reading_space text parts.1)
-  where
-    by : (b : Bool) → (c == 0x20) ≡ b → is_reading_char c ≡ true → b ≡ false
-    by true f reading = absurd (both_ways (is_reading_char c) (ap is_reading_char (eqb-true c 0x20 f)) reading)
-    by false f reading = refl
-
 canonical_body : (row : Row) → is_row_key row.key ≡ true → HasBody (canonical row) row.key.reading (0x2F ∷ flat_map with_slash (row_items_written row))
 canonical_body row key =
     let begins = and_parts (begins_well row.key.reading) (list_all is_reading_char row.key.reading && fits_part row.key.part row.key.reading) key in
@@ -68,7 +57,7 @@ canonical_body row key =
       spaces = 1;
       some_space = omega arith;
       line_is = sym (append_assoc row.key.reading (0x20 ∷ []) (0x2F ∷ flat_map with_slash (row_items_written row)));
-      before = reading_space row.key.reading chars.0;
+      before = lacks-failing is_reading_char 0x20 refl row.key.reading chars.0;
       behind = refl;
     }
 

@@ -119,17 +119,21 @@ texts_ended row =
     (flat_map-append with_slash (map item row.cands) (map written_block row.blocks) ∙ ap (λ ys. flat_map with_slash (map item row.cands) ++ ys) (blocks_ended row.blocks) ∙ sym (flat_map-append with_slash (map item row.cands) (flat_map block_texts row.blocks)))
     ∙ sym (flat_map-append with_slash (map item row.cands ++ flat_map block_texts row.blocks) (mark_items row.hides))
 
+-- a text whose characters pass a test lacks a character that doesn't
+pub lacks-failing : (test : ℕ → Bool) (code : ℕ) → test code ≡ false → (text : List ℕ) → list_all test text ≡ true → lacks code text ≡ true
+lacks-failing test code fails [] all = refl
+lacks-failing test code fails (c ∷ text) all =
+    let parts = and_parts (test c) (list_all test text) all in
+    and_from (not (c == code)) _ (not_from_false (c == code) (by (c == code) refl parts.0)) (lacks-failing test code fails text parts.1)
+  where
+    by : (b : Bool) → (c == code) ≡ b → test c ≡ true → b ≡ false
+    by true same passes = absurd (both_ways (test c) (ap test (eqb-true c code same) ∙ fails) passes)
+    by false same passes = refl
+
 -- no text has a slash
 note_slash : (note : List ℕ) → is_note note ≡ true → lacks 0x2F (written_note note) ≡ true
 note_slash [] e = refl
-note_slash (c ∷ note) e = all (c ∷ note) e
-  where
-    all : (text : List ℕ) → is_note text ≡ true → lacks 0x2F text ≡ true
-    all [] e = refl
-    all (d ∷ text) e =
-        let parts = and_parts (is_note_char d) (is_note text) e in
-        let slash = or_parts (d == 0x2F) (d == 13 || d == 10) (not-true (d == 0x2F || (d == 13 || d == 10)) parts.0) in
-        and_from (not (d == 0x2F)) _ (not_from_false (d == 0x2F) slash.0) (all text parts.1)
+note_slash (c ∷ note) e = lacks-failing is_note_char 0x2F refl (c ∷ note) e
 
 item_slash : (c : Cand) → is_cand c ≡ true → lacks 0x2F (item c) ≡ true
 item_slash c e =
@@ -141,16 +145,6 @@ item_slash c e =
 pub cands_slash : (cs : List Cand) → list_all is_cand cs ≡ true → list_all (lacks 0x2F) (map item cs) ≡ true
 cands_slash [] all = refl
 cands_slash (c ∷ cs) all = let parts = and_parts (is_cand c) (list_all is_cand cs) all in and_from (lacks 0x2F (item c)) _ (item_slash c parts.0) (cands_slash cs parts.1)
-
-okuri_slash : (text : List ℕ) → list_all is_okuri_char text ≡ true → lacks 0x2F text ≡ true
-okuri_slash [] e = refl
-okuri_slash (c ∷ text) e =
-    let parts = and_parts (is_okuri_char c) (list_all is_okuri_char text) e in
-    and_from (not (c == 0x2F)) _ (not_from_false (c == 0x2F) (by (c == 0x2F) refl parts.0)) (okuri_slash text parts.1)
-  where
-    by : (b : Bool) → (c == 0x2F) ≡ b → is_okuri_char c ≡ true → b ≡ false
-    by true f okuri = absurd (both_ways (is_okuri_char c) (ap is_okuri_char (eqb-true c 0x2F f)) okuri)
-    by false f okuri = refl
 
 words_slash : (words : List (List ℕ)) → list_all (lacks 0x2F) (map written_word words) ≡ true
 words_slash [] = refl
@@ -164,7 +158,7 @@ blocks_slash (b ∷ bs) all =
     let chars = and_parts (nat_le (byte_len b.okuri) 60) (list_all is_okuri_char b.okuri) (and_parts (nat_le 1 (byte_len b.okuri)) (nat_le (byte_len b.okuri) 60 && list_all is_okuri_char b.okuri) okuri).1 in
     list_all-append (lacks 0x2F) (block_texts b) (flat_map block_texts bs)
     ∙ and_from (list_all (lacks 0x2F) (block_texts b)) _
-    (and_from (lacks 0x2F (0x5B ∷ b.okuri)) _ (okuri_slash b.okuri chars.1) (list_all-append (lacks 0x2F) (map written_word b.words) (codes "]" ∷ []) ∙ and_from (list_all (lacks 0x2F) (map written_word b.words)) true (words_slash b.words) refl))
+    (and_from (lacks 0x2F (0x5B ∷ b.okuri)) _ (lacks-failing is_okuri_char 0x2F refl b.okuri chars.1) (list_all-append (lacks 0x2F) (map written_word b.words) (codes "]" ∷ []) ∙ and_from (list_all (lacks 0x2F) (map written_word b.words)) true (words_slash b.words) refl))
     (blocks_slash bs parts.1)
 
 strings_slash : (words : List (List ℕ)) → lacks 0x2F (flat_map (λ w. 0x20 ∷ quoted w) words) ≡ true

@@ -70,7 +70,3 @@ pub record IsReason (part : Part) (line : List ℕ) (reason : LineReason) : Type
   pub order : reasons ≡ earlier ++ reason ∷ later
   pub fits : Fits part line reason
   pub none_before : AllByRecursion (λ other. Fits part line other → ⊥) earlier
-
--- the answer is this one, unless memory is out
-abbrev pub Answers : Result Row LineFault → Result Row LineFault → Type 0
-Answers result wanted = (result ≡ Err Memory) ⊎ (result ≡ wanted)

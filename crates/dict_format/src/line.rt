@@ -1,4 +1,5 @@
 ghost use Rattle.std.specs.Prelude.{◌≡◌, ◌&&◌, not, length, map, true, ℕ, IfOk, IsErrOf, Ok, Err};
+ghost use Rattle.skk_text.specs.Results.{AnswersUnless};
 ghost use Rattle.skk_calls.specs.Canonical.{has_item};
 ghost use Rattle.std.specs.List.{list_any, list_all};
 ghost use Rattle.skk_calls.specs.Rows.{Row, begins_well, is_row};
@@ -6,7 +7,7 @@ ghost use Rattle.dict_format.specs.declared.reason.LineReason.{LineReason};
 ghost use Rattle.dict_format.specs.declared.reason.LineReason.TheVariants as reasons;
 ghost use Rattle.dict_format.specs.Lines.{lacks, SpellsRow};
 ghost use Rattle.dict_format.specs.Reading.{and_then, taken, cut, is_slash, is_space, or_reason, texts_at, key_at, row_reading, line_reading, some_row_of};
-ghost use Rattle.dict_format.specs.Reasons.{is_control, is_bad_reading, reading_limit, Answers, IsReason};
+ghost use Rattle.dict_format.specs.Reasons.{is_control, is_bad_reading, reading_limit, IsReason};
 ghost use Rattle.dict_format.specs.RowOfItems.{row_of_items, says_something};
 ghost use Rattle.dict_format.specs.Views.{item_said, Gives};
 
@@ -26,9 +27,9 @@ const LINE_LIMIT: usize = 65_535;
 /// Takes time in the length of the line.
 pub fn read_line(alloc: Global, part: Part, line: &Text) -> Result<Row, LineFault>
     ensures ok { IfOk result (SpellsRow part line.now) }
-    ensures only { (row : Row) → SpellsRow part line.now row → Answers result (Ok row) }
+    ensures only { (row : Row) → SpellsRow part line.now row → AnswersUnless LineFault.Memory result (Ok row) }
     ensures reason { (first : LineReason) → IsErrOf result (LineFault.Reason first) → IsReason part line.now first }
-    ensures only_reason { (first : LineReason) → IsReason part line.now first → Answers result (Err (LineFault.Reason first)) }
+    ensures only_reason { (first : LineReason) → IsReason part line.now first → AnswersUnless LineFault.Memory result (Err (LineFault.Reason first)) }
 {
     read(alloc, part, line)
 }

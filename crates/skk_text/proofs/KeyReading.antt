@@ -6,7 +6,8 @@ use Rattle.std.proofs.lemmas.Bool.{and_from}
 use Rattle.std.proofs.lemmas.Grind.{flat_map-append}
 use Rattle.std.proofs.lemmas.List.{append-nil, length-take-le, nil_from_length, take-append-drop}
 use Rattle.std.proofs.lemmas.List.Folds.{list_all-append}
-use Rattle.skk_text.specs.KeyText.{spell, spelled, is_keyboard_key, is_printable, AreKeys, BeginsBadName, BeginsNotAscii, HasBadName, HasNotAscii, HasFault, Answers}
+use Rattle.skk_text.specs.KeyText.{spell, spelled, is_keyboard_key, is_printable, AreKeys, BeginsBadName, BeginsNotAscii, HasBadName, HasNotAscii, HasFault}
+use Rattle.skk_text.specs.Results.{AnswersUnless}
 use Rattle.skk_text.specs.declared.key.Key.{Key}
 use Rattle.skk_text.specs.declared.key_text.KeyFault.{KeyFault}
 use Rattle.skk_text.specs.declared.key_text.KeyFault.TheVariants.{BadName, NotAscii, Memory}
@@ -118,14 +119,14 @@ module _ (bytes : List ℕ) (keys : List Key) (at : ℕ) (read : Read bytes keys
   pub fault-none : (others : List Key) → AreKeys others → spelled others ≢ bytes
   fault-none others os e = fault-more bytes at fault told (same_spelling bytes keys at read ends others os e).1
 
-  pub fault-only_keys : (others : List Key) → AreKeys others → spelled others ≡ bytes → Answers (Err fault) (Ok others)
+  pub fault-only_keys : (others : List Key) → AreKeys others → spelled others ≡ bytes → AnswersUnless Memory (Err fault) (Ok others)
   fault-only_keys others os e = absurd (fault-none others os e)
 
-  pub fault-only_bad_name : (place : ℕ) → HasBadName bytes place → Answers (Err fault) (Err (BadName place))
+  pub fault-only_bad_name : (place : ℕ) → HasBadName bytes place → AnswersUnless {T = List Key} Memory (Err fault) (Err (BadName place))
   fault-only_bad_name place has =
       inr (ap Err (fault-same bytes at fault (BadName place) told (fault_place bytes keys at read BeginsBadName first_key-bad_name ends place has)))
 
-  pub fault-only_not_ascii : (place : ℕ) → HasNotAscii bytes place → Answers (Err fault) (Err (NotAscii place))
+  pub fault-only_not_ascii : (place : ℕ) → HasNotAscii bytes place → AnswersUnless {T = List Key} Memory (Err fault) (Err (NotAscii place))
   fault-only_not_ascii place has =
       inr (ap Err (fault-same bytes at fault (NotAscii place) told (fault_place bytes keys at read BeginsNotAscii first_key-not_ascii ends place has)))
 
@@ -134,13 +135,13 @@ module _ (bytes : List ℕ) (keys : List Key) (at : ℕ) (read : Read bytes keys
   nothing_left : drop at bytes ≡ []
   nothing_left = nil_from_length (drop at bytes) (length-drop at bytes ∙ omega arith)
 
-  pub end-only_keys : (others : List Key) → AreKeys others → spelled others ≡ bytes → Answers (Ok keys) (Ok others)
+  pub end-only_keys : (others : List Key) → AreKeys others → spelled others ≡ bytes → AnswersUnless Memory (Ok keys) (Ok others)
   end-only_keys others os e = inr (ap Ok (same_spelling bytes keys at read (ap first_key nothing_left) others os e).0)
 
-  pub end-only_bad_name : (place : ℕ) → HasBadName bytes place → Answers (Ok keys) (Err (BadName place))
+  pub end-only_bad_name : (place : ℕ) → HasBadName bytes place → AnswersUnless Memory (Ok keys) (Err (BadName place))
   end-only_bad_name place has =
       absurd (fault-more bytes at (BadName place) (fault_place bytes keys at read BeginsBadName first_key-bad_name (ap first_key nothing_left) place has) nothing_left)
 
-  pub end-only_not_ascii : (place : ℕ) → HasNotAscii bytes place → Answers (Ok keys) (Err (NotAscii place))
+  pub end-only_not_ascii : (place : ℕ) → HasNotAscii bytes place → AnswersUnless Memory (Ok keys) (Err (NotAscii place))
   end-only_not_ascii place has =
       absurd (fault-more bytes at (NotAscii place) (fault_place bytes keys at read BeginsNotAscii first_key-not_ascii (ap first_key nothing_left) place has) nothing_left)

@@ -1,10 +1,8 @@
 -- Key text: the one spelling of each key, and what is no spelling.
-use Rattle.std.specs.Prelude.{◌≡◌, ◌⊎◌, ℕ, Bool, true, false, ◌&&◌, ◌==◌, nat_eq, nat_le, if◌then◌else◌, List, [], ◌∷◌, ◌++◌, codes, length, Result, Err}
+use Rattle.std.specs.Prelude.{◌≡◌, ℕ, Bool, true, false, ◌&&◌, ◌==◌, nat_eq, nat_le, if◌then◌else◌, List, [], ◌∷◌, ◌++◌, codes, length}
 use Rattle.std.specs.List.{flat_map, list_all, list_any, starts_with}
 use Rattle.skk_text.specs.declared.key.Key.{Key}
 use Rattle.skk_text.specs.declared.key.Key.TheVariants.{Char, Cj, Cg, Bs, Ret, Tab, Undo}
-use Rattle.skk_text.specs.declared.key_text.KeyFault.{KeyFault}
-use Rattle.skk_text.specs.declared.key_text.KeyFault.TheVariants.{Memory}
 
 -- the spelling of a key: a character is spelled by itself but for `<` (60), and each other key by its name
 abbrev pub spell : Key → List ℕ
@@ -66,7 +64,3 @@ HasBadName bytes at = HasFault BeginsBadName bytes at
 -- the bytes are the spelling of keys up to a place, at which a byte stands that is no character key
 abbrev pub HasNotAscii : List ℕ → ℕ → Type 0
 HasNotAscii bytes at = HasFault BeginsNotAscii bytes at
-
--- the answer is the wanted one, or says that it is out of memory
-abbrev pub Answers : Result (List Key) KeyFault → Result (List Key) KeyFault → Type 0
-Answers result wanted = (result ≡ Err Memory) ⊎ (result ≡ wanted)

@@ -1,6 +1,7 @@
 ghost use Rattle.std.specs.Prelude.{◌≡◌, ◌≢◌, ◌<◌, ◌+◌, ◌++◌, ℕ, List, length, drop, nat_eq, true, false, IfOk, OnOk, IsErrOf, IfSome, IsNone, IsTrue, Ok, Err};
 ghost use Rattle.std.specs.List.{list_any, starts_with};
-ghost use Rattle.skk_text.specs.KeyText.{spell, spelled, is_keyboard_key, is_printable, names, AreKeys, BeginsBadName, BeginsNotAscii, HasBadName, HasNotAscii, Answers};
+ghost use Rattle.skk_text.specs.KeyText.{spell, spelled, is_keyboard_key, is_printable, names, AreKeys, BeginsBadName, BeginsNotAscii, HasBadName, HasNotAscii};
+ghost use Rattle.skk_text.specs.Results.{AnswersUnless};
 ghost use Rattle.skk_text.specs.declared.key.Key.{Key};
 
 use crate::key::{Key, Keys};
@@ -37,11 +38,11 @@ impl From<Memory> for KeyFault {
 /// Reads key text. The first fault is answered.
 pub fn read_keys(alloc: Global, bytes: &[u8]) -> Result<Keys, KeyFault>
     ensures found { IfOk result (λ keys. AreKeys keys × (spelled keys ≡ bytes.now)) }
-    ensures only_keys { (keys : List Key) → AreKeys keys → spelled keys ≡ bytes.now → Answers result (Ok keys) }
+    ensures only_keys { (keys : List Key) → AreKeys keys → spelled keys ≡ bytes.now → AnswersUnless KeyFault.Memory result (Ok keys) }
     ensures bad_name { (at : ℕ) → IsErrOf result (KeyFault.BadName at) → HasBadName bytes.now at }
-    ensures only_bad_name { (at : ℕ) → HasBadName bytes.now at → Answers result (Err (KeyFault.BadName at)) }
+    ensures only_bad_name { (at : ℕ) → HasBadName bytes.now at → AnswersUnless KeyFault.Memory result (Err (KeyFault.BadName at)) }
     ensures not_ascii { (at : ℕ) → IsErrOf result (KeyFault.NotAscii at) → HasNotAscii bytes.now at }
-    ensures only_not_ascii { (at : ℕ) → HasNotAscii bytes.now at → Answers result (Err (KeyFault.NotAscii at)) }
+    ensures only_not_ascii { (at : ℕ) → HasNotAscii bytes.now at → AnswersUnless KeyFault.Memory result (Err (KeyFault.NotAscii at)) }
 {
     let mut keys = Keys::new(alloc);
     let mut at = 0;
