@@ -1,6 +1,8 @@
 pub mod Counts
 pub mod Kana
 pub mod KeyText
+pub mod LineLaws
+pub mod Lines
 pub mod Pairs
 pub mod Results
 pub mod Text

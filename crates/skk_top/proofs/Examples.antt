@@ -11,11 +11,12 @@ use Rattle.skk_text.specs.declared.mode.Mode.TheVariants.{Hira, Kata, Ascii, Wid
 use Rattle.skk_text.specs.declared.notice.Notice.TheVariants as notices
 use Rattle.romaji_rules.specs.declared.rule.Rule.{Rule}
 use Rattle.romaji_rules.specs.Standard.{rule}
+use Rattle.skk_text.specs.Lines.{lines_of}
 use Rattle.skk_top.specs.Characters.{code}
 use Rattle.skk_top.specs.Command.{command_of}
 use Rattle.skk_top.specs.KanaInput.{in_mode, kana_char_step, other_kana}
 use Rattle.skk_top.specs.Printing.{escaped, has_escape, notice_text, indicator, display}
-use Rattle.skk_top.specs.Script.{IsSession, IsTypist, lines_of, script_limit, session_of, with_said, is_built_line, are_built}
+use Rattle.skk_top.specs.Script.{IsSession, IsTypist, script_limit, session_of, with_said, is_built_line, are_built}
 use Rattle.skk_top.specs.SessionMachine.{text_limit, new_session, after_keys}
 use Rattle.skk_top.specs.Sessions.{session_at, session_or_new, with_session}
 use Rattle.skk_top.specs.Status.{message_at, run_status, run_message, fault_of_press, fault_of_read, fault_of_script}

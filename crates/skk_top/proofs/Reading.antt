@@ -1,8 +1,9 @@
 -- A script as far as it is read.
 use Rattle.std.proofs.Common.{◌≡◌, ◌<◌, ◌≤◌, ◌+◌, sym, ℕ, Bool, false, Option, List, [], ◌∷◌, ◌++◌, length, get_or, replicate, refl, ap, ◌∙◌, subst, arith}
 use Rattle.std.proofs.lemmas.List.{append_assoc, append-nil, length_push, get_or-replicate}
+use Rattle.skk_text.specs.Lines.{lines_of}
 use Rattle.skk_top.specs.Marks.{Mark}
-use Rattle.skk_top.specs.Script.{Spells, Says, MayFollow, IsFirstBad, with_said, lines_of}
+use Rattle.skk_top.specs.Script.{Spells, Says, MayFollow, IsFirstBad, with_said}
 use Rattle.skk_top.specs.declared.line.Line.{Line}
 use Rattle.skk_top.proofs.Scripts.{says-push}
 

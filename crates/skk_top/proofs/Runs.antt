@@ -4,7 +4,8 @@ use Rattle.std.specs.Io.KnownBytes.{Appends, Keeps}
 use Rattle.std.proofs.lemmas.Bool.{cases_Bool}
 use Rattle.skk_outside.specs.Written.{AppendsPrefix}
 use Rattle.romaji_rules.specs.declared.rule.Rule.{Rule}
-use Rattle.skk_top.specs.Script.{IsScript, lines_of, are_built}
+use Rattle.skk_text.specs.Lines.{lines_of}
+use Rattle.skk_top.specs.Script.{IsScript, are_built}
 use Rattle.skk_top.specs.Status.{Ended, run_status, run_message, status_of, message_of, ComesOfTyping}
 use Rattle.skk_top.specs.TypeCommand.{LeavesTyped, LeavesScript, LeavesLines, IsTooLong, IsBadAt, IsRefused, IsRefusal, PrintsScript}
 use Rattle.skk_top.specs.Typed.{typed}

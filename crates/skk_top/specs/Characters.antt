@@ -11,10 +11,6 @@ first_code (c ∷ cs) = c
 abbrev pub code : String → ℕ
 code text = first_code (codes text)
 
--- the end of a line
-abbrev pub line_feed : ℕ
-line_feed = 10
-
 -- the character that is part of no line
 abbrev pub carriage_return : ℕ
 carriage_return = 13

@@ -7,7 +7,8 @@ use Rattle.skk_text.specs.declared.mode.Mode.{Mode}
 use Rattle.skk_text.specs.declared.mode.Mode.TheVariants.{Hira, Kata, Ascii, Wide}
 use Rattle.skk_text.specs.declared.notice.Notice.{Notice}
 use Rattle.skk_text.specs.declared.notice.Notice.TheVariants as notices
-use Rattle.skk_top.specs.Characters.{code, line_feed, carriage_return, tab, backslash}
+use Rattle.skk_text.specs.Lines.{line_feed}
+use Rattle.skk_top.specs.Characters.{code, carriage_return, tab, backslash}
 use Rattle.skk_top.specs.declared.session_machine.Session.{Session}
 
 -- a character as it is printed: LF as \n, CR as \r, TAB as \t, and a backslash doubled

@@ -1,25 +1,16 @@
 -- Scripts: what each line says, and which line is the first that is none.
-use Rattle.std.specs.Prelude.{◌≡◌, ◌⊎◌, ◌≤◌, ◌+◌, ℕ, Bool, false, ◌==◌, nat_eq, if◌then◌else◌, Option, Some, None, List, [], ◌∷◌, ◌++◌, length, map, ⊤, Contains}
+use Rattle.std.specs.Prelude.{◌≡◌, ◌⊎◌, ◌≤◌, ◌+◌, ℕ, Bool, false, ◌==◌, nat_eq, Option, Some, None, List, [], ◌∷◌, ◌++◌, length, map, ⊤, Contains}
 use Rattle.std.specs.Fmt.{decimal}
 use Rattle.std.specs.List.{list_all, list_any}
 use Rattle.skk_text.specs.KeyText.{spelled, AreKeys}
-use Rattle.skk_top.specs.Characters.{code, line_feed, carriage_return}
+use Rattle.skk_text.specs.Lines.{lines_of}
+use Rattle.skk_top.specs.Characters.{code, carriage_return}
 use Rattle.skk_top.specs.declared.line.Line.{Line}
 use Rattle.skk_top.specs.declared.line.Line.TheVariants.{Keys, Opening}
 
 -- the most bytes of a script
 abbrev pub script_limit : ℕ
 script_limit = 4194304
-
--- the lines with a byte before the first of them, which is a line of its own where there is none
-abbrev pub with_first_byte : ℕ → List (List ℕ) → List (List ℕ)
-with_first_byte byte [] = (byte ∷ []) ∷ []
-with_first_byte byte (line ∷ lines) = (byte ∷ line) ∷ lines
-
--- the lines of a script as texts, each ended by LF, which the last one may lack
-abbrev pub lines_of : List ℕ → List (List ℕ)
-lines_of [] = []
-lines_of (byte ∷ bytes) = if byte == line_feed then [] ∷ lines_of bytes else with_first_byte byte (lines_of bytes)
 
 -- a session's number is from 1 to 64
 abbrev pub IsSession : ℕ → Type 0

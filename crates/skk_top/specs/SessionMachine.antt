@@ -5,7 +5,7 @@ use Rattle.skk_text.specs.Text.{byte_len, without_last}
 use Rattle.skk_text.specs.declared.key.Key.{Key}
 use Rattle.skk_text.specs.declared.notice.Notice.TheVariants as notices
 use Rattle.romaji_rules.specs.declared.rule.Rule.{Rule}
-use Rattle.skk_top.specs.Characters.{line_feed}
+use Rattle.skk_text.specs.Lines.{line_feed}
 use Rattle.skk_top.specs.declared.kana_input.Plain.{Plain}
 use Rattle.skk_top.specs.declared.kana_input.PlainThen.{PlainThen}
 use Rattle.skk_top.specs.declared.kana_input.PlainThen.TheVariants.{Stay, DeleteLast, Newline, OpenReading, OpenAbbrev, Cancel, AskUndo}

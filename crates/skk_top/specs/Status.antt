@@ -6,7 +6,7 @@ use Rattle.skk_outside.specs.Faults.{Rose}
 use Rattle.skk_outside.specs.Written.{AppendsPrefix}
 use Rattle.skk_outside.specs.declared.source.ReadFault.{ReadFault}
 use Rattle.skk_outside.specs.declared.source.ReadFault.TheVariants as reading
-use Rattle.skk_top.specs.Characters.{line_feed}
+use Rattle.skk_text.specs.Lines.{line_feed}
 use Rattle.skk_top.specs.declared.session_machine.PressFault.{PressFault}
 use Rattle.skk_top.specs.declared.session_machine.PressFault.TheVariants as pressing
 use Rattle.skk_top.specs.declared.script.ScriptFault.{ScriptFault}

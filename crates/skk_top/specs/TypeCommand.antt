@@ -6,7 +6,8 @@ use Rattle.skk_outside.specs.Taken.{TakesAtMost}
 use Rattle.skk_outside.specs.Written.{AppendsPrefix}
 use Rattle.skk_outside.specs.declared.source.TheConstants.{PIECE}
 use Rattle.romaji_rules.specs.declared.rule.Rule.{Rule}
-use Rattle.skk_top.specs.Script.{IsScript, IsFirstBad, lines_of, are_built, script_limit}
+use Rattle.skk_text.specs.Lines.{lines_of}
+use Rattle.skk_top.specs.Script.{IsScript, IsFirstBad, are_built, script_limit}
 use Rattle.skk_top.specs.Status.{Ended, message_of, ComesOfTyping}
 use Rattle.skk_top.specs.Typed.{typed, are_taken}
 use Rattle.skk_top.specs.declared.fault.RunFault.{RunFault}

@@ -36,7 +36,8 @@ impl Model for Script {
 
 impl Script {
     ghost use Rattle.std.specs.Prelude.{◌≡◌, ℕ, [], IfOk, IsErrOf};
-    ghost use Rattle.skk_top.specs.Script.{Says, IsFirstBad, lines_of, are_built};
+    ghost use Rattle.skk_text.specs.Lines.{lines_of};
+    ghost use Rattle.skk_top.specs.Script.{Says, IsFirstBad, are_built};
 
     /// Reads a script, and checks it whole. Whether a session was named before costs constant time a line.
     pub fn read(alloc: Global, bytes: &[u8]) -> Result<Script, ScriptFault>

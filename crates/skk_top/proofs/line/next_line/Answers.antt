@@ -1,11 +1,12 @@
 use Rattle.std.proofs.Common.{◌<◌, length, arith}
-use Rattle.skk_top.proofs.Lines.{cut-line, cut-last}
+use Rattle.skk_text.specs.LineLaws.{lines_of-last}
+use Rattle.skk_top.proofs.Lines.{cut-line}
 use Rattle.skk_top.proofs.line.next_line.Goals as goal
 
 pub returns-then-end-bytes : goal.returns-then-end-bytes
 returns-then-end-bytes c =
     let some : 0 < length c.args.bytes.now = grind arith in
-    (cut-last c.args.bytes.now some (λ i within. c.line_end-end.ensures.none_before i (omega arith)), some)
+    (lines_of-last c.args.bytes.now some (λ i within. c.line_end-end.ensures.none_before i (omega arith)), some)
 
 pub returns : goal.returns
 returns c =
