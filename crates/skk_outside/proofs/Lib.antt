@@ -1,3 +1,4 @@
 mod Examples
 mod KnownBytes
 mod Pieces
+mod Shelves

@@ -1,7 +1,9 @@
 -- What contracts see of the memory forms.
-use Rattle.std.specs.Prelude.{ℕ, List, [], ◌∷◌, drop, Contains}
+use Rattle.std.specs.Prelude.{ℕ, Bool, not, Option, List, [], ◌∷◌, drop, find, option_map, Contains}
 use Rattle.std.specs.List.{flat_map}
+use Rattle.std.specs.Str.{bytes_eq}
 use Rattle.skk_text.specs.Counts.{one_more}
+use Rattle.skk_text.specs.Pairs.{all_pairs}
 
 -- the calls of a memory form that can fail: which of them are to fail, how many there were, and how many failed
 pub record CallCount : Type 0 where
@@ -17,6 +19,11 @@ pub record SourceState : Type 0 where
 -- what a sink in memory was written, and its calls so far
 pub record SinkState : Type 0 where
   pub written : List ℕ
+  pub count : CallCount
+
+-- what a shelf in memory has, each file with its name and its bytes, and its calls so far
+pub record ShelfState : Type 0 where
+  pub files : List (List ℕ × List ℕ)
   pub count : CallCount
 
 -- the count of calls where there was none yet, of which these are to fail
@@ -53,3 +60,11 @@ first_nonempty_piece ((byte ∷ bytes) ∷ pieces) = byte ∷ bytes
 abbrev pub without_first_bytes : ℕ → List (List ℕ) → List (List ℕ)
 without_first_bytes taken [] = []
 without_first_bytes taken (piece ∷ pieces) = drop taken piece ∷ pieces
+
+-- no name stands twice among named files
+abbrev pub names_differ : List (List ℕ × List ℕ) → Bool
+names_differ files = all_pairs (λ file other. not (bytes_eq file.0 other.0)) files
+
+-- the bytes of the file of a name among named files, where there is one
+abbrev pub file_named : List (List ℕ × List ℕ) → List ℕ → Option (List ℕ)
+file_named files name = option_map (λ file. file.1) (find (λ file. bytes_eq file.0 name) files)

@@ -1,4 +1,4 @@
-ghost use Rattle.std.specs.Prelude.{◌≡◌, ◌↔◌, ◌<◌, ◌≤◌, ◌+◌, ◌^◌, [], length, take, drop, min, slice_index_or, Some, IsErr, IfOk, OnOk, OnErr};
+ghost use Rattle.std.specs.Prelude.{◌≡◌, ◌↔◌, ◌<◌, ◌≤◌, ◌+◌, ◌^◌, [], length, drop, min, slice_index_or, Some, IsErr, IfOk, OnOk, OnErr};
 ghost use Rattle.std.specs.Io.{ReadsAtMost};
 ghost use Rattle.std.specs.Io.KnownBytes.{ReadConsumes};
 ghost use Rattle.skk_outside.specs.Faults.{Rose};
@@ -6,6 +6,7 @@ ghost use Rattle.skk_outside.specs.Memory.{no_call_yet, after_success, after_fai
 ghost use Rattle.skk_outside.specs.Pieces.{pieces_left};
 
 use crate::calls::Calls;
+use crate::copying::copy_what_fits;
 use crate::outside::{Failed, Outside};
 use crate::source::Source;
 use skk_text::Bytes;
@@ -107,15 +108,4 @@ fn rest_of_piece(pieces: &[Bytes], place: usize, taken: usize) -> &[u8]
     ensures fits { taken + length result.now < 2 ^ 64 }
 {
     &pieces[place].as_slice()[taken..]
-}
-
-// Copies as many bytes as there is room for, and answers how many.
-fn copy_what_fits(from: &[u8], into: &mut [u8]) -> usize
-    ensures count { result ≡ min (length into.old) (length from.now) }
-    ensures room { length into.new ≡ length into.old }
-    ensures bytes { take result into.new ≡ take result from.now }
-{
-    let n = from.len().min(into.len());
-    into[..n].copy_from_slice(&from[..n]);
-    n
 }

@@ -26,14 +26,14 @@ pub trait Source: Outside {
 /// How many bytes `read_to_end` reads at once.
 pub const PIECE: usize = 65536;
 
-/// Why a source was not read to its end.
+/// Why a source, or a file, was not read to its end.
 #[derive(Clone, Copy, Debug, PartialEq, Eq, Error)]
 pub enum ReadFault {
     /// It has more bytes than the limit.
     #[error("too long")]
     TooLong,
     /// A read failed.
-    #[error("the source failed")]
+    #[error("a read failed")]
     Failed,
     /// Out of memory.
     #[error("out of memory")]
@@ -92,7 +92,7 @@ pub fn read_to_end<S: Source>(
 }
 
 // Room for one piece.
-fn empty_piece(alloc: Global) -> Result<Vec<u8>, AllocError>
+pub(crate) fn empty_piece(alloc: Global) -> Result<Vec<u8>, AllocError>
     ensures { IfOk result (λ piece. vec_len piece ≡ PIECE) }
 {
     vec![in alloc; 0; PIECE]
