@@ -1,8 +1,14 @@
+pub mod Ascending
 pub mod Blocks
 pub mod CandsMade
 pub mod Cutting
 pub mod Differing
 pub mod Examples
+pub mod FileEntries
+pub mod FileExamples
+pub mod FileLineExamples
+pub mod FileRows
+pub mod FileTexts
 pub mod Firsts
 pub mod ItemReading
 pub mod ItemsAgain
@@ -13,6 +19,7 @@ pub mod LinesAgain
 pub mod Pieces
 pub mod Printed
 pub mod PrintedCharacters
+pub mod PrintingOrder
 pub mod RowParts
 pub mod RowsAgain
 pub mod RowsBack

@@ -65,11 +65,11 @@ three_pieces line a b c first second new e f g =
     regroup : ((line ++ a) ++ b) ++ c ≡ line ++ ((a ++ b) ++ c)
     regroup = simp append_assoc
 
--- the pieces of a line
-pub line_pieces : (reading cands blocks mark none first second third fourth new : List ℕ) → none ≡ [] → first ≡ none ++ reading → second ≡ first ++ codes " /" → third ≡ second ++ cands
-    → fourth ≡ third ++ blocks → new ≡ fourth ++ mark → new ≡ reading ++ 0x20 ∷ 0x2F ∷ ((cands ++ blocks) ++ mark)
-line_pieces reading cands blocks mark none first second third fourth new n e f g h i =
-    i ∙ ap (λ ys. ys ++ mark) (h ∙ ap (λ ys. ys ++ blocks) (g ∙ ap (λ ys. ys ++ cands) (f ∙ ap (λ ys. ys ++ codes " /") (e ∙ ap (λ ys. ys ++ reading) n)))) ∙ regroup
+-- the pieces of a line behind a text
+pub line_pieces : (text reading cands blocks mark first second third fourth new : List ℕ) → first ≡ text ++ reading → second ≡ first ++ codes " /" → third ≡ second ++ cands
+    → fourth ≡ third ++ blocks → new ≡ fourth ++ mark → new ≡ text ++ (reading ++ 0x20 ∷ 0x2F ∷ ((cands ++ blocks) ++ mark))
+line_pieces text reading cands blocks mark first second third fourth new e f g h i =
+    i ∙ ap (λ ys. ys ++ mark) (h ∙ ap (λ ys. ys ++ blocks) (g ∙ ap (λ ys. ys ++ cands) (f ∙ ap (λ ys. ys ++ codes " /") e))) ∙ regroup
   where
-    regroup : (((reading ++ codes " /") ++ cands) ++ blocks) ++ mark ≡ reading ++ 0x20 ∷ 0x2F ∷ ((cands ++ blocks) ++ mark)
+    regroup : ((((text ++ reading) ++ codes " /") ++ cands) ++ blocks) ++ mark ≡ text ++ (reading ++ 0x20 ∷ 0x2F ∷ ((cands ++ blocks) ++ mark))
     regroup = simp append_assoc

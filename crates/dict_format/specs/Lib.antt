@@ -1,6 +1,9 @@
 pub mod Building
+pub mod FileBuilding
+pub mod FileLines
 pub mod Items
 pub mod Lines
+pub mod PrintedFiles
 pub mod Reading
 pub mod Reasons
 pub mod RowOfItems

@@ -1,13 +1,11 @@
 -- Why a line spells no row: the first reason that fits it.
-use Rattle.std.specs.Prelude.{◌≡◌, ◌<◌, ◌⊎◌, Result, Err, ℕ, Bool, true, false, ◌||◌, ◌==◌, ◌&&◌, not, nat_lt, nat_le, length, List, [], ◌∷◌, ◌++◌, codes, nat_eq}
+use Rattle.std.specs.Prelude.{◌≡◌, ◌<◌, ℕ, Bool, true, false, ◌||◌, ◌==◌, ◌&&◌, not, nat_lt, nat_le, length, List, [], ◌∷◌, ◌++◌, codes, nat_eq}
 use Rattle.std.specs.List.{list_all, list_any, AllByRecursion, starts_with, ends_with}
 use Rattle.skk_text.specs.Text.{byte_len, last_chars}
 use Rattle.skk_calls.specs.declared.part.Part.{Part}
 use Rattle.skk_calls.specs.declared.part.Part.TheVariants.{Nasi, Ari}
 use Rattle.skk_calls.specs.Canonical.{line_limit}
-use Rattle.skk_calls.specs.Rows.{Row, begins_well, is_letter}
-use Rattle.dict_format.specs.declared.reason.LineFault.{LineFault}
-use Rattle.dict_format.specs.declared.reason.LineFault.TheVariants.{Memory}
+use Rattle.skk_calls.specs.Rows.{begins_well, is_letter}
 use Rattle.dict_format.specs.declared.reason.LineReason.{LineReason}
 use Rattle.dict_format.specs.declared.reason.LineReason.TheVariants.{LongLine, NoSpace, BadReading, LongReading, OkuriKey, NoSlash, Block, LongCandidate, Empty, Twice}
 use Rattle.dict_format.specs.Items.{Item, SpellsItems}

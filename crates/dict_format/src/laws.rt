@@ -1,9 +1,11 @@
 ghost use Rattle.std.specs.Prelude.{◌≡◌, ◌⊎◌, ℕ, true, List};
+ghost use Rattle.std.specs.List.Sorted.{IsPermutation};
 ghost use Rattle.skk_calls.specs.declared.part.Part.{Part};
 ghost use Rattle.skk_calls.specs.Canonical.{canonical, is_good};
-ghost use Rattle.skk_calls.specs.Rows.{Row, is_row};
+ghost use Rattle.skk_calls.specs.Rows.{Row, is_row, keys_differ};
 ghost use Rattle.dict_format.specs.declared.reason.LineReason.{LineReason};
 ghost use Rattle.dict_format.specs.Lines.{SpellsRow};
+ghost use Rattle.dict_format.specs.PrintedFiles.{in_printing_order};
 ghost use Rattle.dict_format.specs.Reasons.{IsReason};
 
 /// Each line of a part spells a row or has a first reason why it spells none, and never both.
@@ -21,4 +23,12 @@ pub fn lines_spell_one_row()
 /// The canonical line of a good row spells that row, with stamp 0: a learned dictionary can be read again.
 pub fn good_rows_are_read_again()
     ensures { (row : Row) → is_row row ≡ true → is_good row ≡ true → SpellsRow row.key.part (canonical row) (record row { stamp = 0 }) }
+{}
+
+/// A file that is printed has the rows of its book, all of them and no other, whose keys still differ; and rows that are
+/// in printing order stay where they are.
+pub fn printing_order_moves_rows()
+    ensures same_rows { (rows : List Row) → IsPermutation rows (in_printing_order rows) }
+    ensures keys { (rows : List Row) → keys_differ rows ≡ true → keys_differ (in_printing_order rows) ≡ true }
+    ensures once { (rows : List Row) → keys_differ rows ≡ true → in_printing_order (in_printing_order rows) ≡ in_printing_order rows }
 {}

@@ -1,16 +1,23 @@
-//! The text of an SKK dictionary, line by line: a line is read to the row that it spells or refused by its first
-//! reason, and a row is printed on its one canonical line, which is read again as that row.
+//! The text of an SKK dictionary: a line is read to the row that it spells or refused by its first reason, a row is
+//! printed on its one canonical line, which is read again as that row, and whole files are read and printed.
 //!
 //! It stands on `skk_text` and `skk_calls`. Its definitions speak of whole lines: what the texts between the slashes of
-//! a line spell, the row that they make, and what each reason says of a line. `read_line` is proved to give that row,
-//! or the first reason that fits, unless memory is out. Laws say that each line has the one or the other, and that the
-//! canonical line of a good row is read again as that row.
+//! a line spell, the row that they make, and what each reason says of a line; and of whole files: what each of their
+//! lines is, and the rows and bad lines that they come to. `read_line` is proved to give that row, or the first reason
+//! that fits, and `read_file` those rows and bad lines, unless memory is out; `print_line` and `print_file` what is
+//! defined. Laws say that each line has the one or the other, that the canonical line of a good row is read again as
+//! that row, and that the order of a file moves rows and no more.
 #![tactic(auto)]
 
 mod cut;
+mod file;
+mod file_lines;
+mod file_printing;
+mod file_reading;
 mod items;
 mod laws;
 mod line;
+mod listing;
 mod printing;
 mod reason;
 mod row;
@@ -18,7 +25,13 @@ mod row;
 mod tests;
 mod words;
 
-pub use laws::{good_rows_are_read_again, lines_spell_one_row, lines_spell_rows_or_have_reasons};
+pub use file::{BadLine, BadLines, FileFault, Listed};
+pub use file_printing::print_file;
+pub use file_reading::read_file;
+pub use laws::{
+    good_rows_are_read_again, lines_spell_one_row, lines_spell_rows_or_have_reasons,
+    printing_order_moves_rows,
+};
 pub use line::read_line;
 pub use printing::{print_item, print_line};
 pub use reason::{LineFault, LineReason};

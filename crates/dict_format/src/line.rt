@@ -1,7 +1,9 @@
-ghost use Rattle.std.specs.Prelude.{◌≡◌, ◌&&◌, not, length, map, true, ℕ, IfOk, IsErrOf, Ok, Err};
+ghost use Rattle.std.specs.Prelude.{◌≡◌, ◌&&◌, not, length, map, true, ℕ, nat_lt, IfOk, IsErrOf, Ok, Err};
 ghost use Rattle.skk_text.specs.Results.{AnswersUnless};
-ghost use Rattle.skk_calls.specs.Canonical.{has_item};
+ghost use Rattle.skk_text.specs.Text.{byte_len};
+ghost use Rattle.skk_calls.specs.Canonical.{has_item, line_limit};
 ghost use Rattle.std.specs.List.{list_any, list_all};
+ghost use Rattle.std.specs.Str.{chars};
 ghost use Rattle.skk_calls.specs.Rows.{Row, begins_well, is_row};
 ghost use Rattle.dict_format.specs.declared.reason.LineReason.{LineReason};
 ghost use Rattle.dict_format.specs.declared.reason.LineReason.TheVariants as reasons;
@@ -31,26 +33,33 @@ pub fn read_line(alloc: Global, part: Part, line: &Text) -> Result<Row, LineFaul
     ensures reason { (first : LineReason) → IsErrOf result (LineFault.Reason first) → IsReason part line.now first }
     ensures only_reason { (first : LineReason) → IsReason part line.now first → AnswersUnless LineFault.Memory result (Err (LineFault.Reason first)) }
 {
-    read(alloc, part, line)
+    read(alloc, part, line.as_str())
 }
 
-// Reads a line, as its characters are read from left to right.
+/// Reads a line, as its characters are read from left to right.
 #[tactic(auto, unfolding(crate::specs::Reading::line_reading))]
-fn read(alloc: Global, part: Part, line: &Text) -> Result<Row, LineFault>
-    ensures { Gives (λ row. row) result (line_reading part line.now) }
+pub fn read(alloc: Global, part: Part, line: &str) -> Result<Row, LineFault>
+    ensures { Gives (λ row. row) result (line_reading part (chars line.now)) }
 {
-    if line.byte_len() > LINE_LIMIT {
+    if is_long(line) {
         return Err(LineFault::Reason(LineReason::LongLine));
     }
     let characters = characters_of(alloc, line)?;
     read_characters(alloc, part, &characters)
 }
 
-// The characters of a text.
-fn characters_of(alloc: Global, text: &Text) -> Result<Vec<char>, Memory>
-    ensures { IfOk result (λ characters. characters.items ≡ text.now) }
+// Whether a line is too long.
+fn is_long(line: &str) -> bool
+    ensures { result ≡ nat_lt line_limit (byte_len (chars line.now)) }
 {
-    Ok(text.as_str().chars().collect(alloc)?)
+    line.len() > LINE_LIMIT
+}
+
+// The characters of a text.
+fn characters_of(alloc: Global, text: &str) -> Result<Vec<char>, Memory>
+    ensures { IfOk result (λ characters. characters.items ≡ chars text.now) }
+{
+    Ok(text.chars().collect(alloc)?)
 }
 
 // Reads the characters of a line that is not too long.

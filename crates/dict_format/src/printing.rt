@@ -2,6 +2,7 @@ ghost use Rattle.std.specs.Prelude.{◌≡◌, ◌++◌, ◌∷◌, ◌||◌, na
 ghost use Rattle.std.specs.List.{flat_map, list_all, list_any, starts_with};
 ghost use Rattle.std.specs.Str.{chars};
 ghost use Rattle.dict_format.specs.Lines.{SpellsRow};
+ghost use Rattle.skk_calls.specs.Rows.{is_row};
 ghost use Rattle.skk_calls.specs.Canonical.{canonical, is_good, item, with_slash, char_in_string, quoted, is_special, begins_form, written_word, written_note, written_block, mark_items};
 
 use crate::laws::good_rows_are_read_again;
@@ -17,12 +18,21 @@ pub fn print_line(alloc: Global, row: &Row) -> Result<Text, Memory>
 {
     good_rows_are_read_again();
     let mut line = Text::new(alloc);
-    line.push_str(row.key().reading().as_str())?;
-    line.push_str(" /")?;
-    push_cands(&mut line, row.cands())?;
-    push_blocks(&mut line, row.blocks())?;
-    push_mark(&mut line, row.hides())?;
+    push_line(&mut line, row)?;
     Ok(line)
+}
+
+// Adds the canonical line of a row.
+pub fn push_line(text: &mut Text, row: &Row) -> Result<(), Memory>
+    ensures ok { OnOk result (text.new ≡ text.old ++ canonical row.now) }
+    ensures valid { is_row row.now ≡ true }
+{
+    text.push_str(row.key().reading().as_str())?;
+    text.push_str(" /")?;
+    push_cands(text, row.cands())?;
+    push_blocks(text, row.blocks())?;
+    push_mark(text, row.hides())?;
+    Ok(())
 }
 
 /// A candidate as an item of a line.

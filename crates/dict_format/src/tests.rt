@@ -1,6 +1,6 @@
 use crate::{
-    LineFault, LineReason, lines_spell_one_row, lines_spell_rows_or_have_reasons, print_item,
-    print_line, read_line,
+    FileFault, LineFault, LineReason, lines_spell_one_row, lines_spell_rows_or_have_reasons,
+    print_file, print_item, print_line, printing_order_moves_rows, read_file, read_line,
 };
 use skk_calls::{Cand, Part};
 use skk_text::{Memory, Text};
@@ -247,5 +247,61 @@ fn items_are_printed(rt: HostRuntime) -> Result<(), Fail> {
     }
     lines_spell_one_row();
     lines_spell_rows_or_have_reasons();
+    Ok(())
+}
+
+const S: &str = ";; okuri-ari entries.
+おおk /大/多/[く/多/]/[き/大/]/
+うごk /動/[く/動/]/
+いt /言/行/[った/言/]/
+;; okuri-nasi entries.
+#ねん /#1年/#3年/#0年/
+125 /東京都葛飾区/
+p# /#4/
+かんじ /漢字/幹事;宴会の/感じ/
+ちょう> /超/
+";
+
+#[test]
+fn files_are_read_and_printed(rt: HostRuntime) -> Result<(), Fail> {
+    let alloc = rt.alloc();
+    let none: &[(usize, LineReason)] = &[];
+    for (file, printed, bad) in [
+        (S, S, none),
+        ("", ";; okuri-ari entries.\n;; okuri-nasi entries.\n", none),
+        // a mark at the head, no part line, rows out of order, and no LF at the end
+        (
+            "\u{FEFF}かん /漢/\nか /蚊/\nか /香/",
+            ";; okuri-ari entries.\n;; okuri-nasi entries.\nか /蚊/\nかん /漢/\n",
+            &[(3, LineReason::Twice)],
+        ),
+        // CR LF, blanks at the end, comments and empty lines
+        (
+            ";c\r\n\r\n;; okuri-ari entries. \r\nおおk /大/ \t\r\n;; okuri-nasi entries.\r\nか /蚊/\r",
+            ";; okuri-ari entries.\nおおk /大/\n;; okuri-nasi entries.\nか /蚊/\n",
+            none,
+        ),
+        // a part that comes again, and one reading in both parts
+        (
+            ";; okuri-ari entries.\nak /a/\nakk /b/\n;; okuri-nasi entries.\nak /c/\n;; okuri-ari entries.\nak /d/\nく /e\n",
+            ";; okuri-ari entries.\nakk /b/\nak /a/\n;; okuri-nasi entries.\nak /c/\n",
+            &[(7, LineReason::Twice), (8, LineReason::OkuriKey)],
+        ),
+        (
+            ";; -*- mode: fundamental; coding: utf-8 -*-\n;; okuri-ari entries.\n;; okuri-nasi entries.\nあい /愛/\nか /蚊\n",
+            ";; okuri-ari entries.\n;; okuri-nasi entries.\nあい /愛/\n",
+            &[(5, LineReason::NoSlash)],
+        ),
+    ] {
+        let listed = read_file(alloc, file.as_bytes())?;
+        assert_eq!(rt; print_file(alloc, &listed.book)?.as_str(), printed);
+        assert_eq!(rt; listed.bad.len(), bad.len(), "at {file:?}");
+        for (found, wanted) in listed.bad.as_slice().iter().zip(bad) {
+            assert_eq!(rt; (found.line, found.reason), *wanted, "at {file:?}");
+        }
+    }
+    let fault = read_file(alloc, b";; okuri-nasi entries.\n\xA4\xA2").err();
+    assert_eq!(rt; fault, Some(FileFault::NotUtf8 { at: 23 }));
+    printing_order_moves_rows();
     Ok(())
 }

@@ -1,0 +1,101 @@
+ghost use Rattle.std.specs.Prelude.{◌≡◌, ◌++◌, map, encode_utf8_all, IfOk, OnOk};
+ghost use Rattle.std.specs.List.{filter, flat_map};
+ghost use Rattle.std.specs.Ordering.{is_lt};
+ghost use Rattle.std.specs.Str.{chars};
+ghost use Rattle.skk_calls.specs.Canonical.{canonical};
+ghost use Rattle.dict_format.specs.PrintedFiles.{is_of, is_printed_before, part_in_order, part_line, with_line_end, printed_part, printed_file};
+
+use crate::printing::push_line;
+use skk_calls::{Book, Part, Row};
+use skk_text::{Memory, Text};
+use std::alloc::Global;
+use std::cmp::Ordering;
+
+/// The text of a dictionary file with the rows of a book: the okuri-ari rows descending by the bytes of their readings,
+/// then the okuri-nasi rows ascending, each part behind its line. Takes time in the length of that text, and with one
+/// logarithm in the number of rows.
+pub fn print_file(alloc: Global, book: &Book) -> Result<Text, Memory>
+    ensures { IfOk result (λ text. text ≡ printed_file book.now) }
+{
+    let mut file = Text::new(alloc);
+    push_part(alloc, &mut file, Part::Ari, book)?;
+    push_part(alloc, &mut file, Part::Nasi, book)?;
+    Ok(file)
+}
+
+// Adds the line of a part and those of its rows.
+fn push_part(alloc: Global, file: &mut Text, part: Part, book: &Book) -> Result<(), Memory>
+    ensures { OnOk result (file.new ≡ file.old ++ printed_part part book.now) }
+{
+    let rows = rows_in_order(alloc, part, book)?;
+    file.push_str(part_line(part))?;
+    file.push('\n')?;
+    push_lines(file, &rows)
+}
+
+// The line that opens a part.
+fn part_line(part: Part) -> &'static str
+    ensures { chars result.now ≡ part_line part }
+{
+    match part {
+        Part::Nasi => ";; okuri-nasi entries.",
+        Part::Ari => ";; okuri-ari entries.",
+    }
+}
+
+// The rows of a part, in the order in which they are printed.
+fn rows_in_order(alloc: Global, part: Part, book: &Book) -> Result<Vec<&Row>, Memory>
+    ensures { IfOk result (λ rows. map (λ row. row.now) rows.items ≡ part_in_order part book.now) }
+{
+    let mut rows = rows_of(alloc, part, book.rows().as_slice())?;
+    rows.sort_unstable_by(|row, other| printing_order(part, row, other));
+    Ok(rows)
+}
+
+// The rows of a part.
+fn rows_of(alloc: Global, part: Part, rows: &[Row]) -> Result<Vec<&Row>, Memory>
+    ensures { IfOk result (λ kept. map (λ row. row.now) kept.items ≡ filter (is_of part) rows.now) }
+{
+    let mut kept = Vec::new(alloc);
+    for row in rows {
+        if is_of(part, row) {
+            kept.push(row)?;
+        }
+    }
+    Ok(kept)
+}
+
+// Whether a row is of a part.
+fn is_of(part: Part, row: &Row) -> bool
+    ensures { result ≡ is_of part row.now }
+{
+    row.key().part() == part
+}
+
+// Which of two rows of a part is printed first.
+fn printing_order(part: Part, row: &Row, other: &Row) -> Ordering
+    ensures { is_lt result ≡ is_printed_before part row.now other.now }
+{
+    match part {
+        Part::Nasi => reading_of(row).cmp(reading_of(other)),
+        Part::Ari => reading_of(other).cmp(reading_of(row)),
+    }
+}
+
+// The bytes of a row's reading.
+fn reading_of(row: &Row) -> &[u8]
+    ensures { result.now ≡ encode_utf8_all row.now.key.reading }
+{
+    row.key().reading().as_str().as_bytes()
+}
+
+// Adds the lines of rows, each with its end.
+fn push_lines(file: &mut Text, rows: &[&Row]) -> Result<(), Memory>
+    ensures { OnOk result (file.new ≡ file.old ++ flat_map with_line_end (map canonical (map (λ row. row.now) rows.now))) }
+{
+    for row in rows {
+        push_line(file, row)?;
+        file.push('\n')?;
+    }
+    Ok(())
+}

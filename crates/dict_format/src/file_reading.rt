@@ -1,0 +1,93 @@
+ghost use Rattle.std.specs.Prelude.{◌≡◌, ◌≤◌, ◌<◌, ℕ, length, IfOk, IfErr, IsErrOf, Ok, Err};
+ghost use Rattle.std.specs.Str.{IsUtf8, chars};
+ghost use Rattle.std.specs.Str.Lossy.{utf8_valid_len};
+ghost use Rattle.skk_text.specs.Results.{AnswersUnless};
+ghost use Rattle.dict_format.specs.FileLines.{Lists, TakeAll, file_limit, none_listed, entries_from, entries_of, entry_of, part_behind, kind_of, trimmed};
+ghost use Rattle.dict_format.specs.declared.file.Listed.{Listed};
+
+use crate::file::{FileFault, Listed};
+use crate::file_lines::{LineKind, kind_of, next_line, trimmed, without_mark};
+use crate::listing::Listing;
+use skk_calls::Part;
+use skk_text::Memory;
+use std::alloc::Global;
+use std::str;
+
+/// The most bytes of a file.
+const FILE_LIMIT: usize = 67_108_864;
+
+/// Reads a dictionary file: the rows of its good lines, and its bad lines with their reasons. Takes time in its bytes,
+/// but for the readings, each of which is looked for among those before it.
+pub fn read_file(alloc: Global, bytes: &[u8]) -> Result<Listed, FileFault>
+    ensures ok { IfOk result (Lists bytes.now) }
+    ensures only { (listed : Listed) → Lists bytes.now listed → AnswersUnless FileFault.Memory result (Ok listed) }
+    ensures too_long { file_limit < length bytes.now → result ≡ Err (FileFault.TooLong (length bytes.now)) }
+    ensures only_too_long { (count : ℕ) → IsErrOf result (FileFault.TooLong count) → file_limit < length bytes.now }
+    ensures not_utf8 { length bytes.now ≤ file_limit → (¬ IsUtf8 bytes.now) → result ≡ Err (FileFault.NotUtf8 (utf8_valid_len bytes.now)) }
+    ensures only_not_utf8 { (at : ℕ) → IsErrOf result (FileFault.NotUtf8 at) → (length bytes.now ≤ file_limit) × ¬ IsUtf8 bytes.now }
+{
+    if bytes.len() > FILE_LIMIT {
+        return Err(FileFault::TooLong { bytes: bytes.len() });
+    }
+    match str::from_utf8(bytes) {
+        Ok(text) => read_valid(alloc, text),
+        Err(fault) => Err(FileFault::NotUtf8 {
+            at: fault.valid_up_to(),
+        }),
+    }
+}
+
+// Reads a file that is not too long and is UTF-8.
+fn read_valid(alloc: Global, text: &str) -> Result<Listed, FileFault>
+    ensures ok { IfOk result (TakeAll none_listed (entries_of text.now)) }
+    ensures memory { IfErr result (λ fault. fault ≡ FileFault.Memory) }
+{
+    match read_text(alloc, text) {
+        Ok(listed) => Ok(listed),
+        Err(Memory) => Err(FileFault::Memory),
+    }
+}
+
+// Reads the lines of a text.
+fn read_text(alloc: Global, text: &str) -> Result<Listed, Memory>
+    ensures { IfOk result (TakeAll none_listed (entries_of text.now)) }
+{
+    let mut listing = Listing::new(alloc);
+    let mut part = Part::Nasi;
+    let mut number: usize = 0;
+    let mut rest = without_mark(text);
+    while let Some((line, behind)) = next_line(rest) {
+        number += 1;
+        let read = trimmed(line);
+        listing = take_line(alloc, listing, number, part, read)?;
+        part = part_behind(read, part);
+        rest = behind;
+    }
+    Ok(listing.listed())
+}
+
+// The part in which the lines behind a line stand, where that line stands in the other.
+fn part_behind(line: &str, part: Part) -> Part
+    ensures { result ≡ part_behind (kind_of line.now) part }
+{
+    match kind_of(line) {
+        LineKind::Opening(opened) => opened,
+        LineKind::Entry | LineKind::Skipped => part,
+    }
+}
+
+// Takes a line, where it is an entry.
+fn take_line(
+    alloc: Global,
+    listing: Listing,
+    number: usize,
+    part: Part,
+    line: &str,
+) -> Result<Listing, Memory>
+    ensures { IfOk result (TakeAll listing (entry_of (kind_of line.now) number part line.now)) }
+{
+    match kind_of(line) {
+        LineKind::Entry => listing.take_entry(alloc, number, part, line),
+        LineKind::Opening(_) | LineKind::Skipped => Ok(listing),
+    }
+}
