@@ -9,10 +9,13 @@ pub mod FileExamples
 pub mod FileLineExamples
 pub mod FileRows
 pub mod FileTexts
+pub mod FilesAgain
 pub mod Firsts
 pub mod ItemReading
 pub mod ItemsAgain
 pub mod KeyReading
+pub mod LineBytes
+pub mod LineEnds
 pub mod LineReading
 pub mod LineTexts
 pub mod LinesAgain

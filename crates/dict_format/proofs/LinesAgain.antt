@@ -16,10 +16,10 @@ use Rattle.dict_format.proofs.RowsAgain.{lacks-failing, row_texts, cand_piece, b
 
 -- what a row keeps, and a good one besides
 pub record GoodRow (row : Row) : Type 0 where
-  key : is_row_key row.key ≡ true
-  cands : list_all is_cand row.cands ≡ true
+  pub key : is_row_key row.key ≡ true
+  pub cands : list_all is_cand row.cands ≡ true
   part : fits_blocks row.key.part row.blocks ≡ true
-  blocks : list_all is_block row.blocks ≡ true
+  pub blocks : list_all is_block row.blocks ≡ true
   something : (has_item row.cands || (has_item row.blocks || has_item row.hides)) ≡ true
   pub hides : list_all is_word row.hides ≡ true
   not_long : nat_le (byte_len (canonical row)) line_limit ≡ true

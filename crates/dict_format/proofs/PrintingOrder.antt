@@ -23,7 +23,7 @@ use Rattle.dict_format.proofs.Ascending.{apart, all_weaker, holds_moved, not_its
 use Rattle.dict_format.proofs.Firsts.{same-is, same-refl}
 
 -- two rows differ in their keys
-abbrev differ_in_key : Row → Row → Bool
+abbrev pub differ_in_key : Row → Row → Bool
 differ_in_key row other = not (same_key row.key other.key)
 
 by_readings : IsStrictWeakOrder (is_printed_before Nasi)

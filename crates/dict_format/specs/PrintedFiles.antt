@@ -1,12 +1,12 @@
 -- A whole dictionary file as it is printed.
-use Rattle.std.specs.Prelude.{ℕ, Bool, List, [], ◌∷◌, ◌++◌, codes, map}
-use Rattle.std.specs.List.{filter, flat_map}
+use Rattle.std.specs.Prelude.{◌≡◌, ℕ, Bool, true, List, [], ◌∷◌, ◌++◌, codes, map}
+use Rattle.std.specs.List.{filter, flat_map, list_all}
 use Rattle.skk_text.specs.Lines.{line_feed}
 use Rattle.skk_calls.specs.declared.part.Part.{Part}
 use Rattle.skk_calls.specs.declared.part.Part.TheVariants.{Nasi, Ari}
 use Rattle.skk_calls.specs.Canonical.{canonical}
 use Rattle.skk_calls.specs.Orders.{sort_by, text_less}
-use Rattle.skk_calls.specs.Rows.{Row, same_part}
+use Rattle.skk_calls.specs.Rows.{Row, is_row, keys_differ, same_part}
 
 -- a row is of a part
 abbrev pub is_of : Part → Row → Bool
@@ -42,3 +42,12 @@ printed_part part rows = flat_map with_line_end (part_line part ∷ map canonica
 -- the text of a file: the part with okurigana, and then the one without it
 abbrev pub printed_file : List Row → List ℕ
 printed_file rows = printed_part Ari rows ++ printed_part Nasi rows
+
+-- a row as a file has it, with stamp 0
+abbrev pub without_stamp : Row → Row
+without_stamp row = record row { stamp = 0 }
+
+-- what is kept of the rows of a book: their keys differ, and each is valid
+pub record AreOfBook (rows : List Row) : Type 0 where
+  pub differ : keys_differ rows ≡ true
+  pub valid : list_all is_row rows ≡ true

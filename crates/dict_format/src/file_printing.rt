@@ -1,10 +1,14 @@
-ghost use Rattle.std.specs.Prelude.{◌≡◌, ◌++◌, map, encode_utf8_all, IfOk, OnOk};
-ghost use Rattle.std.specs.List.{filter, flat_map};
+ghost use Rattle.std.specs.Prelude.{◌≡◌, ◌≤◌, ◌++◌, [], true, map, encode_utf8_all, IfOk, OnOk};
+ghost use Rattle.std.specs.List.{filter, flat_map, list_all};
 ghost use Rattle.std.specs.Ordering.{is_lt};
 ghost use Rattle.std.specs.Str.{chars};
-ghost use Rattle.skk_calls.specs.Canonical.{canonical};
-ghost use Rattle.dict_format.specs.PrintedFiles.{is_of, is_printed_before, part_in_order, part_line, with_line_end, printed_part, printed_file};
+ghost use Rattle.skk_text.specs.Text.{byte_len};
+ghost use Rattle.skk_calls.specs.Canonical.{canonical, is_good};
+ghost use Rattle.skk_calls.specs.Rows.{is_row};
+ghost use Rattle.dict_format.specs.FileLines.{Lists, file_limit};
+ghost use Rattle.dict_format.specs.PrintedFiles.{AreOfBook, in_printing_order, is_of, is_printed_before, part_in_order, part_line, with_line_end, without_stamp, printed_part, printed_file};
 
+use crate::laws::printed_files_are_read_again;
 use crate::printing::push_line;
 use skk_calls::{Book, Part, Row};
 use skk_text::{Memory, Text};
@@ -12,20 +16,27 @@ use std::alloc::Global;
 use std::cmp::Ordering;
 
 /// The text of a dictionary file with the rows of a book: the okuri-ari rows descending by the bytes of their readings,
-/// then the okuri-nasi rows ascending, each part behind its line. Takes time in the length of that text, and with one
-/// logarithm in the number of rows.
+/// then the okuri-nasi rows ascending, each part behind its line. That of good rows is read again as these, in that order
+/// and with stamp 0, where it is not too long for a file. Takes time in the length of that text, and with one logarithm
+/// in the number of rows.
 pub fn print_file(alloc: Global, book: &Book) -> Result<Text, Memory>
-    ensures { IfOk result (λ text. text ≡ printed_file book.now) }
+    ensures printed { IfOk result (λ text. text ≡ printed_file book.now) }
+    ensures read_again { list_all is_good book.now ≡ true → IfOk result (λ text. byte_len text ≤ file_limit
+        → Lists (encode_utf8_all text) (record { book = map without_stamp (in_printing_order book.now); bad = [] })) }
 {
+    printed_files_are_read_again();
     let mut file = Text::new(alloc);
     push_part(alloc, &mut file, Part::Ari, book)?;
     push_part(alloc, &mut file, Part::Nasi, book)?;
+    // The bytes of a text are UTF-8, as those of a file must be.
+    let _ = file.as_str();
     Ok(file)
 }
 
 // Adds the line of a part and those of its rows.
 fn push_part(alloc: Global, file: &mut Text, part: Part, book: &Book) -> Result<(), Memory>
-    ensures { OnOk result (file.new ≡ file.old ++ printed_part part book.now) }
+    ensures printed { OnOk result (file.new ≡ file.old ++ printed_part part book.now) }
+    ensures of_book { OnOk result (AreOfBook book.now) }
 {
     let rows = rows_in_order(alloc, part, book)?;
     file.push_str(part_line(part))?;
@@ -45,7 +56,8 @@ fn part_line(part: Part) -> &'static str
 
 // The rows of a part, in the order in which they are printed.
 fn rows_in_order(alloc: Global, part: Part, book: &Book) -> Result<Vec<&Row>, Memory>
-    ensures { IfOk result (λ rows. map (λ row. row.now) rows.items ≡ part_in_order part book.now) }
+    ensures order { IfOk result (λ rows. map (λ row. row.now) rows.items ≡ part_in_order part book.now) }
+    ensures of_book { IfOk result (λ rows. AreOfBook book.now) }
 {
     let mut rows = rows_of(alloc, part, book.rows().as_slice())?;
     rows.sort_unstable_by(|row, other| printing_order(part, row, other));
@@ -54,7 +66,8 @@ fn rows_in_order(alloc: Global, part: Part, book: &Book) -> Result<Vec<&Row>, Me
 
 // The rows of a part.
 fn rows_of(alloc: Global, part: Part, rows: &[Row]) -> Result<Vec<&Row>, Memory>
-    ensures { IfOk result (λ kept. map (λ row. row.now) kept.items ≡ filter (is_of part) rows.now) }
+    ensures kept { IfOk result (λ kept. map (λ row. row.now) kept.items ≡ filter (is_of part) rows.now) }
+    ensures valid { IfOk result (λ kept. list_all is_row rows.now ≡ true) }
 {
     let mut kept = Vec::new(alloc);
     for row in rows {
@@ -67,7 +80,8 @@ fn rows_of(alloc: Global, part: Part, rows: &[Row]) -> Result<Vec<&Row>, Memory>
 
 // Whether a row is of a part.
 fn is_of(part: Part, row: &Row) -> bool
-    ensures { result ≡ is_of part row.now }
+    ensures value { result ≡ is_of part row.now }
+    ensures valid { is_row row.now ≡ true }
 {
     row.key().part() == part
 }

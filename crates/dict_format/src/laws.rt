@@ -1,11 +1,14 @@
-ghost use Rattle.std.specs.Prelude.{◌≡◌, ◌⊎◌, ℕ, true, List};
+ghost use Rattle.std.specs.Prelude.{◌≡◌, ◌≤◌, ◌⊎◌, ℕ, true, List, [], map, length, encode_utf8_all};
+ghost use Rattle.std.specs.List.{list_all};
 ghost use Rattle.std.specs.List.Sorted.{IsPermutation};
+ghost use Rattle.std.specs.Str.{IsUtf8};
 ghost use Rattle.skk_calls.specs.declared.part.Part.{Part};
 ghost use Rattle.skk_calls.specs.Canonical.{canonical, is_good};
 ghost use Rattle.skk_calls.specs.Rows.{Row, is_row, keys_differ};
 ghost use Rattle.dict_format.specs.declared.reason.LineReason.{LineReason};
+ghost use Rattle.dict_format.specs.FileLines.{Lists, file_limit};
 ghost use Rattle.dict_format.specs.Lines.{SpellsRow};
-ghost use Rattle.dict_format.specs.PrintedFiles.{in_printing_order};
+ghost use Rattle.dict_format.specs.PrintedFiles.{in_printing_order, printed_file, without_stamp};
 ghost use Rattle.dict_format.specs.Reasons.{IsReason};
 
 /// Each line of a part spells a row or has a first reason why it spells none, and never both.
@@ -31,4 +34,12 @@ pub fn printing_order_moves_rows()
     ensures same_rows { (rows : List Row) → IsPermutation rows (in_printing_order rows) }
     ensures keys { (rows : List Row) → keys_differ rows ≡ true → keys_differ (in_printing_order rows) ≡ true }
     ensures once { (rows : List Row) → keys_differ rows ≡ true → in_printing_order (in_printing_order rows) ≡ in_printing_order rows }
+{}
+
+/// The file that is printed of good rows whose keys differ lists them again, in printing order and with stamp 0, and no
+/// bad line, where it is not too long and is UTF-8: a dictionary that is written out can be read again.
+pub fn printed_files_are_read_again()
+    ensures { (rows : List Row) → keys_differ rows ≡ true → list_all is_row rows ≡ true → list_all is_good rows ≡ true
+        → length (encode_utf8_all (printed_file rows)) ≤ file_limit → IsUtf8 (encode_utf8_all (printed_file rows))
+        → Lists (encode_utf8_all (printed_file rows)) (record { book = map without_stamp (in_printing_order rows); bad = [] }) }
 {}

@@ -6,7 +6,7 @@
 //! lines is, and the rows and bad lines that they come to. `read_line` is proved to give that row, or the first reason
 //! that fits, and `read_file` those rows and bad lines, unless memory is out; `print_line` and `print_file` what is
 //! defined. Laws say that each line has the one or the other, that the canonical line of a good row is read again as
-//! that row, and that the order of a file moves rows and no more.
+//! that row, that the order of a file moves rows and no more, and that the file of good rows lists them again.
 #![tactic(auto)]
 
 mod cut;
@@ -30,7 +30,7 @@ pub use file_printing::print_file;
 pub use file_reading::read_file;
 pub use laws::{
     good_rows_are_read_again, lines_spell_one_row, lines_spell_rows_or_have_reasons,
-    printing_order_moves_rows,
+    printed_files_are_read_again, printing_order_moves_rows,
 };
 pub use line::read_line;
 pub use printing::{print_item, print_line};
