@@ -1,40 +1,26 @@
 -- Commands read from words.
-use Rattle.std.proofs.Common.{◌≡◌, ◌≢◌, ◌<◌, ◌≤◌, ◌∙◌, sym, ap, ℕ, true, None, List, [], ◌∷◌, length, get_or, codes, refl, arith, encode_utf8_all, inl, inr}
-use Rattle.std.specs.Str.{chars, bytes_eq}
-use Rattle.std.proofs.lemmas.Bool.{cases_Bool, false_from_ne_true}
-use Rattle.std.proofs.lemmas.Slice.Eq.{bytes_eq-Decides}
-use Rattle.skk_top.specs.Command.{command_of}
+use Rattle.std.proofs.Common.{◌≡◌, ◌≤◌, ◌∙◌, ap, ℕ, Option, None, Some, true, List, ◌∷◌, length, refl, arith, if◌then◌else◌}
+use Rattle.std.specs.Option.{option_and_then}
+use Rattle.std.proofs.lemmas.Bool.{false_from_ne_true}
+use Rattle.skk_top.specs.Settings.{settings_of, fits, AreNoneOrMany}
+use Rattle.skk_top.specs.Command.{takes, command, command_with, command_named, command_of}
+use Rattle.skk_top.specs.declared.command_name.CommandName.{CommandName}
+use Rattle.skk_top.specs.declared.command_name.CommandName.TheVariants.{TypeScript, Serve, Check, Dump, Load}
+use Rattle.skk_top.specs.declared.setting.Setting.{Setting}
+use Rattle.skk_top.proofs.SettingLists.{fits-few}
 
--- the characters of the word `type`, and its bytes
-type_word : chars (codes "type") ≡ codes "type"
-unfolding chars
-type_word = refl
+-- no command takes more than 32 settings
+most : (name : CommandName) (settings : List Setting) → fits (takes name) settings ≡ true → length settings ≤ 32
+most TypeScript settings fit = omega (arith, fits-few (takes TypeScript) settings fit)
+most Serve settings fit = omega (arith, fits-few (takes Serve) settings fit)
+most Check settings fit = omega (arith, fits-few (takes Check) settings fit)
+most Dump settings fit = omega (arith, fits-few (takes Dump) settings fit)
+most Load settings fit = omega (arith, fits-few (takes Load) settings fit)
 
-type_bytes : encode_utf8_all (codes "type") ≡ codes "type"
-unfolding lib.Utf8.encode
-type_bytes = refl
+with-none : (name : CommandName) (given : Option (List Setting)) → AreNoneOrMany given → option_and_then (command_with name) given ≡ None
+with-none name None many = refl
+with-none name (Some settings) many =
+    ap (λ b. if b then Some (command name settings) else None) (false_from_ne_true (fits (takes name) settings) (λ fit. omega (arith, many, most name settings fit)))
 
--- a word is `type` where its bytes are
-pub same_test : (word bytes : List ℕ) → bytes ≡ encode_utf8_all word → chars bytes ≡ word → bytes_eq word (codes "type") ≡ bytes_eq bytes (codes "type")
-same_test word bytes value characters =
-    elim (cases_Bool (bytes_eq bytes (codes "type"))) [
-      | inl told ↦
-          let is : bytes ≡ codes "type" = (bytes_eq-Decides bytes (codes "type")).0 told in
-          (bytes_eq-Decides word (codes "type")).1 (sym characters ∙ ap chars is ∙ type_word) ∙ sym told
-      | inr differ ↦
-          false_from_ne_true (bytes_eq word (codes "type")) (λ told.
-          let is : word ≡ codes "type" = (bytes_eq-Decides word (codes "type")).0 told in
-          let also : bytes_eq bytes (codes "type") ≡ true = (bytes_eq-Decides bytes (codes "type")).1 (value ∙ ap encode_utf8_all is ∙ type_bytes) in cc) ∙ sym differ
-    ]
-
--- one word is the command of it alone
-pub one_word : (words : List (List ℕ)) (word : List ℕ) → 1 ≤ length words → length words < 2 → word ≡ get_or words 0 word → command_of (word ∷ []) ≡ command_of words
-one_word [] word some few is = absurd (omega arith)
-one_word (first ∷ []) word some few is = ap (λ w. command_of (w ∷ [])) is
-one_word (first ∷ second ∷ words) word some few is = absurd (omega arith)
-
--- no other number of words is a command
-pub no_word : (words : List (List ℕ)) → length words ≢ 1 → None ≡ command_of words
-no_word [] other = refl
-no_word (first ∷ []) other = absurd (other refl)
-no_word (first ∷ second ∷ words) other = refl
+pub no_command : (word : List ℕ) (words : List (List ℕ)) (name : CommandName) → command_named word ≡ Some name → AreNoneOrMany (settings_of words) → command_of (word ∷ words) ≡ None
+no_command word words name named many = ap (option_and_then (λ n. option_and_then (command_with n) (settings_of words))) named ∙ with-none name (settings_of words) many

@@ -47,6 +47,19 @@ pub text-plain : (text : List ℕ) → IsUtf8 text → ((k : ℕ) → k < length
 text-plain text utf8 none =
     run-plain (chars text) (subst (λ (bs : List ℕ). (k : ℕ) → k < length bs → has_escape (get_or bs k 0) ≡ false) (sym (encodes-chars text utf8)) none)
 
+-- the characters of a text are those before an ASCII byte, that byte, and those behind it
+pub chars-split : (text : List ℕ) (place : ℕ) → IsUtf8 text → place < length text → get_or text place 0 < 128
+    → IsUtf8 (take place text) × (chars text ≡ chars (take place text) ++ get_or text place 0 ∷ chars (drop (place + 1) text))
+chars-split text place utf8 within small =
+    let byte = get_or text place 0 in
+    let front = take place text in
+    let behind = drop (place + 1) text in
+    let cut = IsCharBoundary-before_ascii text place within small in
+    let front_utf8 = IsUtf8-take text place utf8 cut in
+    let rest : drop place text ≡ encode byte ++ behind = at_drop_more (λ xs. xs) text place 0 within ∙ ap (λ bs. bs ++ behind) (sym (encode_ascii byte small)) in
+    let rest_chars : chars (drop place text) ≡ byte ∷ chars behind = chars_past_char (drop place text) behind byte (IsUtf8-drop text place utf8 cut) rest in
+    (front_utf8, ap chars (sym (take-append-drop place text)) ∙ chars-append front (drop place text) front_utf8 ∙ ap (λ cs. chars front ++ cs) rest_chars)
+
 -- a text is printed as the run before its first escape, that escape, and what is behind it
 pub text-split : (text : List ℕ) (place : ℕ) → IsUtf8 text → place < length text → ((k : ℕ) → k < place → has_escape (get_or text k 0) ≡ false) → has_escape (get_or text place 0) ≡ true
     → flat_map escaped (chars text) ≡ chars (take place text) ++ (escaped (get_or text place 0) ++ flat_map escaped (chars (drop (place + 1) text)))
@@ -54,11 +67,6 @@ text-split text place utf8 within none ends =
     let byte = get_or text place 0 in
     let front = take place text in
     let behind = drop (place + 1) text in
-    let small : byte < 128 = escape-small byte ends in
-    let cut = IsCharBoundary-before_ascii text place within small in
-    let front_utf8 = IsUtf8-take text place utf8 cut in
-    let rest : drop place text ≡ encode byte ++ behind = at_drop_more (λ xs. xs) text place 0 within ∙ ap (λ bs. bs ++ behind) (sym (encode_ascii byte small)) in
-    let rest_chars : chars (drop place text) ≡ byte ∷ chars behind = chars_past_char (drop place text) behind byte (IsUtf8-drop text place utf8 cut) rest in
-    let parts : chars text ≡ chars front ++ byte ∷ chars behind = ap chars (sym (take-append-drop place text)) ∙ chars-append front (drop place text) front_utf8 ∙ ap (λ cs. chars front ++ cs) rest_chars in
-    let shown : flat_map escaped (chars front) ≡ chars front = text-plain front front_utf8 (λ k less. let before : k < place = omega (arith, less, length-take place text) in ap has_escape (get_or-take place text k 0 before) ∙ none k before) in
-    ap (flat_map escaped) parts ∙ flat_map-append escaped (chars front) (byte ∷ chars behind) ∙ ap (λ cs. cs ++ (escaped byte ++ flat_map escaped (chars behind))) shown
+    let parts = chars-split text place utf8 within (escape-small byte ends) in
+    let shown : flat_map escaped (chars front) ≡ chars front = text-plain front parts.0 (λ k less. let before : k < place = omega (arith, less, length-take place text) in ap has_escape (get_or-take place text k 0 before) ∙ none k before) in
+    ap (flat_map escaped) parts.1 ∙ flat_map-append escaped (chars front) (byte ∷ chars behind) ∙ ap (λ cs. cs ++ (escaped byte ++ flat_map escaped (chars behind))) shown

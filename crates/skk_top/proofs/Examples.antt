@@ -13,7 +13,6 @@ use Rattle.romaji_rules.specs.declared.rule.Rule.{Rule}
 use Rattle.romaji_rules.specs.Standard.{rule}
 use Rattle.skk_text.specs.Lines.{lines_of}
 use Rattle.skk_top.specs.Characters.{code}
-use Rattle.skk_top.specs.Command.{command_of}
 use Rattle.skk_top.specs.KanaInput.{in_mode, kana_char_step, other_kana}
 use Rattle.skk_top.specs.Printing.{escaped, has_escape, notice_text, indicator, display}
 use Rattle.skk_top.specs.Script.{IsSession, IsTypist, script_limit, session_of, with_said, is_built_line, are_built}
@@ -21,8 +20,7 @@ use Rattle.skk_top.specs.SessionMachine.{text_limit, new_session, after_keys}
 use Rattle.skk_top.specs.Sessions.{session_at, session_or_new, with_session}
 use Rattle.skk_top.specs.Status.{message_at, run_status, run_message, fault_of_press, fault_of_read, fault_of_script}
 use Rattle.skk_top.specs.Typed.{typed_from, are_taken_from}
-use Rattle.skk_top.specs.declared.command.Command.TheVariants.{TypeScript}
-use Rattle.skk_top.specs.declared.fault.RunFault.TheVariants.{TooLong, BadLine, Outside, Memory, NotBuilt}
+use Rattle.skk_top.specs.declared.fault.RunFault.TheVariants.{Words, TooLong, BadLine, Outside, Memory, NotBuilt}
 use Rattle.skk_top.specs.declared.kana_input.PlainThen.TheVariants.{Stay, OpenReading, OpenAbbrev}
 use Rattle.skk_top.specs.declared.line.Line.TheVariants.{Keys, Opening}
 use Rattle.skk_top.specs.declared.script.ScriptFault.TheVariants as scripts
@@ -173,21 +171,16 @@ named_sessions = refl
 lines_with_said : map (with_said (Keys 4 [] ∷ [])) (None ∷ Some (Opening 5 6 0) ∷ []) ≡ (Keys 4 [] ∷ []) ∷ (Keys 4 [] ∷ Opening 5 6 0 ∷ []) ∷ []
 lines_with_said = refl
 
--- the words of a command
-commands : map command_of ([] ∷ (codes "type" ∷ []) ∷ (codes "typ" ∷ []) ∷ (codes "Type" ∷ []) ∷ (codes "type" ∷ codes "type" ∷ []) ∷ ([] ∷ []) ∷ []) ≡ None ∷ Some TypeScript ∷ None ∷ None ∷ None ∷ None ∷ []
-unfolding encode
-commands = refl
-
 -- each fault with its status and its line
-statuses : map run_status (Ok tt ∷ Err TooLong ∷ Err (BadLine 3) ∷ Err Outside ∷ Err Memory ∷ Err NotBuilt ∷ []) ≡ 0 ∷ 2 ∷ 2 ∷ 4 ∷ 6 ∷ 8 ∷ []
+statuses : map run_status (Ok tt ∷ Err Words ∷ Err TooLong ∷ Err (BadLine 3) ∷ Err Outside ∷ Err Memory ∷ Err NotBuilt ∷ []) ≡ 0 ∷ 1 ∷ 2 ∷ 2 ∷ 4 ∷ 6 ∷ 8 ∷ []
 statuses = refl
 
-messages : map run_message (Ok tt ∷ Err TooLong ∷ Err (BadLine 1048577) ∷ Err Outside ∷ Err Memory ∷ Err NotBuilt ∷ [])
-    ≡ [] ∷ (codes "skk: script too long" ++ 10 ∷ []) ∷ (codes "skk: line 1048577" ++ 10 ∷ []) ∷ (codes "skk: outside" ++ 10 ∷ []) ∷ (codes "skk: memory" ++ 10 ∷ []) ∷ (codes "skk: not built" ++ 10 ∷ []) ∷ []
+messages : map run_message (Ok tt ∷ Err Words ∷ Err TooLong ∷ Err (BadLine 1048577) ∷ Err Outside ∷ Err Memory ∷ Err NotBuilt ∷ [])
+    ≡ [] ∷ (codes "skk: words" ++ 10 ∷ []) ∷ (codes "skk: script too long" ++ 10 ∷ []) ∷ (codes "skk: line 1048577" ++ 10 ∷ []) ∷ (codes "skk: outside" ++ 10 ∷ []) ∷ (codes "skk: memory" ++ 10 ∷ []) ∷ (codes "skk: not built" ++ 10 ∷ []) ∷ []
 unfolding digits
 messages = refl
 
-messages_at : map message_at (0 ∷ 4 ∷ 6 ∷ 8 ∷ []) ≡ [] ∷ (codes "skk: outside" ++ 10 ∷ []) ∷ (codes "skk: memory" ++ 10 ∷ []) ∷ (codes "skk: not built" ++ 10 ∷ []) ∷ []
+messages_at : map message_at (0 ∷ 1 ∷ 4 ∷ 6 ∷ 8 ∷ []) ≡ [] ∷ (codes "skk: words" ++ 10 ∷ []) ∷ (codes "skk: outside" ++ 10 ∷ []) ∷ (codes "skk: memory" ++ 10 ∷ []) ∷ (codes "skk: not built" ++ 10 ∷ []) ∷ []
 messages_at = refl
 
 handed_faults : (map fault_of_press (pressing.NotBuilt ∷ pressing.Memory ∷ []) ≡ NotBuilt ∷ Memory ∷ []) × (map fault_of_read (reading.TooLong ∷ reading.Failed ∷ reading.Memory ∷ []) ≡ TooLong ∷ Outside ∷ Memory ∷ [])

@@ -1,16 +1,20 @@
 pub mod Commands
 pub mod Escapes
 mod Examples
-pub mod LineReading
 pub mod Limits
+pub mod LineReading
 pub mod Lines
 pub mod Marks
 pub mod Numbers
 pub mod Pages
-pub mod Reading
 pub mod PlainKeys
+pub mod Reading
 pub mod Runs
 pub mod Scripts
 pub mod SessionMaps
+pub mod SettingLists
+pub mod Tables
 pub mod Typed
+mod WordExamples
+pub mod WordTexts
 pub mod Words

@@ -1,14 +1,14 @@
 -- Decimal numbers in texts.
-use Rattle.std.proofs.Common.{◌≡◌, ◌<◌, ◌≤◌, ◌+◌, ◌-◌, ◌*◌, ◌^◌, sym, ℕ, suc, List, ◌∷◌, ◌++◌, length, take, get_or, refl, ap, ◌∙◌, subst, arith, inl, inr, length-append}
+use Rattle.std.proofs.Common.{◌≡◌, ◌<◌, ◌≤◌, ◌+◌, ◌-◌, ◌*◌, ◌^◌, sym, ℕ, suc, List, ◌∷◌, ◌++◌, length, take, get_or, refl, Result, Ok, ap, ◌∙◌, subst, arith, inl, inr, length-append}
 use Rattle.std.specs.Fmt.{decimal}
 use Rattle.std.specs.Int.{IsInRange}
 use Rattle.std.specs.Char.{digit_value}
-use Rattle.std.specs.Str.Parse.{AllDigits, digits_value}
-use Rattle.std.proofs.lemmas.Fmt.{digits_decimal, decimal_nonempty, decimal_digit, first_decimal, length-decimal-le, decimal_injective, decimal-digits_value}
+use Rattle.std.specs.Str.Parse.{AllDigits, digits_value, ParsesUnsigned}
+use Rattle.std.proofs.lemmas.Fmt.{digits_decimal, decimal_nonempty, decimal_digit, first_decimal, length-decimal-le, decimal_injective, decimal_is_IsNumeral, decimal-digits_value}
 use Rattle.std.proofs.lemmas.Int.Digits.{digits_value_more, digits_more}
 use Rattle.std.proofs.lemmas.List.{get_or_append_left, get_or_at, length-take-le, take_at, append_cancel_left}
 use Rattle.std.proofs.lemmas.Str.{digit_value_digit}
-use Rattle.std.proofs.lemmas.Str.Parse.{IsNumeralModel, numerals_by_value, tells_digits, digit_at, digit_from_value, digits_value_short}
+use Rattle.std.proofs.lemmas.Str.Parse.{parse_gives, IsNumeralModel, numerals_by_value, tells_digits, digit_at, digit_from_value, digits_value_short}
 use Rattle.std.proofs.lemmas.Bool.{cases_eq, cases_order}
 
 -- digits, and the number that they write
@@ -74,3 +74,10 @@ pub number-written : (text : List ℕ) (value : ℕ) → AllDigits 10 text → 0
 number-written text value digits some short alone e =
     let small : digits_value 10 text < 10 ^ 5 = digits_value_short own text 5 digits short in
     (omega arith, sym (ap decimal e ∙ decimal-digits_value own text digits some alone (omega arith)))
+
+-- a text that a number writes is parsed to that number
+pub number-parsed : {E : Type 0} (text : List ℕ) (parsed : Result ℕ E) (number : ℕ) → ParsesUnsigned 64 10 text parsed → text ≡ decimal number → number < 2 ^ 64 → parsed ≡ Ok number
+number-parsed text parsed number parses e small =
+    let numeral = decimal_is_IsNumeral number small in
+    let own_parses = subst (λ (t : List ℕ). ParsesUnsigned 64 10 t parsed) e parses in
+    parse_gives own 64 (decimal number) parsed own_parses numeral.0.1 numeral.0.0 (rw numeral.1 small) ∙ ap Ok numeral.1

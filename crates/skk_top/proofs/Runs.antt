@@ -10,7 +10,7 @@ use Rattle.skk_top.specs.Status.{Ended, run_status, run_message, status_of, mess
 use Rattle.skk_top.specs.TypeCommand.{LeavesTyped, LeavesScript, LeavesLines, IsTooLong, IsBadAt, IsRefused, IsRefusal, PrintsScript}
 use Rattle.skk_top.specs.Typed.{typed}
 use Rattle.skk_top.specs.declared.fault.RunFault.{RunFault}
-use Rattle.skk_top.specs.declared.fault.RunFault.TheVariants.{TooLong, BadLine, Outside, Memory, NotBuilt}
+use Rattle.skk_top.specs.declared.fault.RunFault.TheVariants.{Words, TooLong, BadLine, Outside, Memory, NotBuilt}
 use Rattle.skk_top.specs.declared.line.Line.{Line}
 use Rattle.skk_top.proofs.Pages.{Appends-none, AppendsPrefix-whole}
 use Rattle.skk_top.proofs.Scripts.{OneListOfKeys, no_bad_line, one_list_of_lines}
@@ -30,11 +30,21 @@ Keeps-self (Some bytes) = refl
 
 -- a fault has no status 0
 fault-status : (fault : RunFault) → status_of fault ≢ 0
+fault-status Words = λ e. omega arith
 fault-status TooLong = λ e. omega arith
 fault-status (BadLine number) = λ e. omega arith
 fault-status Outside = λ e. omega arith
 fault-status Memory = λ e. omega arith
 fault-status NotBuilt = λ e. omega arith
+
+-- status 1 is of the words alone
+words-fault : (fault : RunFault) → status_of fault ≡ 1 → fault ≡ Words
+words-fault Words e = refl
+words-fault TooLong e = absurd (omega (arith, e))
+words-fault (BadLine number) e = absurd (omega (arith, e))
+words-fault Outside e = absurd (omega (arith, e))
+words-fault Memory e = absurd (omega (arith, e))
+words-fault NotBuilt e = absurd (omega (arith, e))
 
 -- how a run ended, by its status
 done-of : {P : Type 0} (ended : Ended) → OnOk ended P → run_status ended ≡ 0 → P
@@ -43,6 +53,7 @@ done-of (Err fault) ok e = absurd (fault-status fault e)
 
 outside-of : (ended : Ended) → run_status ended ≡ 4 → IsErrOf ended Outside
 outside-of (Ok done) e = absurd (omega (arith, e))
+outside-of (Err Words) e = absurd (omega (arith, e))
 outside-of (Err TooLong) e = absurd (omega (arith, e))
 outside-of (Err (BadLine number)) e = absurd (omega (arith, e))
 outside-of (Err Outside) e = refl
@@ -51,6 +62,7 @@ outside-of (Err NotBuilt) e = absurd (omega (arith, e))
 
 not_built-of : (ended : Ended) → run_status ended ≡ 8 → IsErrOf ended NotBuilt
 not_built-of (Ok done) e = absurd (omega (arith, e))
+not_built-of (Err Words) e = absurd (omega (arith, e))
 not_built-of (Err TooLong) e = absurd (omega (arith, e))
 not_built-of (Err (BadLine number)) e = absurd (omega (arith, e))
 not_built-of (Err Outside) e = absurd (omega (arith, e))
@@ -60,11 +72,16 @@ not_built-of (Err NotBuilt) e = refl
 -- a script that was typed is not refused
 typing-status : (ended : Ended) → IfErr ended ComesOfTyping → run_status ended ≢ 2
 typing-status (Ok done) comes = λ e. omega arith
+typing-status (Err Words) comes = absurd comes
 typing-status (Err TooLong) comes = absurd comes
 typing-status (Err (BadLine number)) comes = absurd comes
 typing-status (Err Outside) comes = λ e. omega arith
 typing-status (Err Memory) comes = λ e. omega arith
 typing-status (Err NotBuilt) comes = λ e. omega arith
+
+typing-words : (ended : Ended) → IfErr ended ComesOfTyping → run_status ended ≢ 1
+typing-words (Ok done) comes = λ e. omega arith
+typing-words (Err fault) comes = λ e. subst ComesOfTyping (words-fault fault e) comes
 
 -- all or a prefix of it was written
 prefix-of : (ended : Ended) (old new : Option (List ℕ)) (whole : List ℕ) → OnOk ended (Appends old new whole) → OnErr ended (AppendsPrefix old new whole) → AppendsPrefix old new whole
@@ -76,6 +93,7 @@ refusal : (fault : RunFault) (known : Option (List ℕ)) → (fault ≡ TooLong 
     → status_of fault ≡ 2 → IfSome known (λ bytes. IsRefusal bytes (message_of fault))
 refusal TooLong known long bad two = each_some known (λ bytes is. inl (is, refl)) (long refl)
 refusal (BadLine number) known long bad two = each_some known (λ bytes is. inr (number, is, refl)) (bad number refl)
+refusal Words known long bad two = absurd (omega (arith, two))
 refusal Outside known long bad two = absurd (omega (arith, two))
 refusal Memory known long bad two = absurd (omega (arith, two))
 refusal NotBuilt known long bad two = absurd (omega (arith, two))
@@ -99,6 +117,7 @@ pub leaves-refused : (rules : List Rule) (fault : RunFault) (left left' : Option
     → LeavesScript (Err fault) left left' reads reads' → LeavesTyped rules (status_of fault) (message_of fault) left left' reads reads' written written writes writes
 leaves-refused rules fault left left' reads reads' written writes script = record {
   ended = λ e. absurd (fault-status fault e);
+  words = λ e. script.words (ap Err (words-fault fault e));
   whole = λ e. absurd (fault-status fault e);
   read = script.read;
   prints = IfSome-all left _ (λ bytes. prints-nothing rules (status_of fault) bytes written (fault-status fault));
@@ -128,6 +147,7 @@ leaves-built : OneListOfKeys → (rules : List Rule) (lines : List Line) (ended 
     → LeavesTyped rules (run_status ended) (run_message ended) left left' reads reads' old new writes writes'
 leaves-built unique rules lines ended left left' reads reads' old new writes writes' script built typing = record {
   ended = λ e. script.ended;
+  words = typing-words ended typing.fault;
   whole = λ e. each_some left (λ bytes is. (lines, is, built, done-of ended typing.taken e)) script.whole;
   read = script.read;
   prints = each_some left (λ bytes is.
@@ -148,6 +168,7 @@ leaves-not_built : OneListOfKeys → (rules : List Rule) (lines : List Line) (le
     → LeavesTyped rules 8 (message_of NotBuilt) left left' reads reads' old new writes writes'
 leaves-not_built unique rules lines left left' reads reads' old new writes writes' script unbuilt keeps counted = record {
   ended = λ e. absurd (omega (arith, e));
+  words = λ e. omega (arith, e);
   whole = λ e. absurd (omega (arith, e));
   read = script.read;
   prints = each_some left (λ bytes is.

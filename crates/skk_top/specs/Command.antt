@@ -1,11 +1,103 @@
 -- The commands, and the words that they are read from.
-use Rattle.std.specs.Prelude.{ℕ, if◌then◌else◌, Option, None, Some, List, [], ◌∷◌, codes}
+use Rattle.std.specs.Prelude.{ℕ, Bool, true, false, ◌&&◌, ◌==◌, if◌then◌else◌, Option, None, Some, List, [], ◌∷◌, codes, length}
+use Rattle.std.specs.Map.{lookup}
+use Rattle.std.specs.Option.{option_and_then, option_map_or}
 use Rattle.std.specs.Str.{bytes_eq}
+use Rattle.skk_top.specs.Settings.{Row, fits, settings_of, texts_of, text_given, text_of, number_or, is_given}
+use Rattle.skk_top.specs.declared.argument.Argument.{Argument}
+use Rattle.skk_top.specs.declared.argument.Argument.TheVariants.{File, Dictionary, Rules, Learned, Limit, Port, Connections, Book, Seed, Sessions, Lines, Threads}
 use Rattle.skk_top.specs.declared.command.Command.{Command}
-use Rattle.skk_top.specs.declared.command.Command.TheVariants.{TypeScript}
+use Rattle.skk_top.specs.declared.command.Command.TheVariants as commands
+use Rattle.skk_top.specs.declared.command_name.CommandName.{CommandName}
+use Rattle.skk_top.specs.declared.command_name.CommandName.TheVariants.{TypeScript, Serve, Check, Dump, Load}
+use Rattle.skk_top.specs.declared.command.LoadOptions.{LoadOptions}
+use Rattle.skk_top.specs.declared.command.ServeOptions.{ServeOptions}
+use Rattle.skk_top.specs.declared.command.TypeOptions.{TypeOptions}
+use Rattle.skk_top.specs.declared.setting.Setting.{Setting}
 
--- the command that the words are, where they are one that is built: `type` is the one word `type`
+-- the words that name commands
+abbrev pub command_names : List (List ℕ × CommandName)
+command_names = (codes "type", TypeScript) ∷ (codes "serve", Serve) ∷ (codes "check", Check) ∷ (codes "dump", Dump) ∷ (codes "load", Load) ∷ []
+
+-- the command that a word names
+abbrev pub command_named : List ℕ → Option CommandName
+command_named word = lookup (bytes_eq word) command_names
+
+-- an argument that may be given so many times
+abbrev pub up_to : ℕ → Argument → Row
+up_to most argument = (argument, 0, most)
+
+-- an argument that may be given once
+abbrev pub optional : Argument → Row
+optional argument = (argument, 0, 1)
+
+-- an argument that must be given, once
+abbrev pub required : Argument → Row
+required argument = (argument, 1, 1)
+
+-- what each command takes
+abbrev pub takes : CommandName → List Row
+takes TypeScript = up_to 16 Dictionary ∷ optional Rules ∷ optional Learned ∷ optional Limit ∷ optional Threads ∷ []
+takes Serve = required Learned ∷ up_to 16 Dictionary ∷ optional Rules ∷ optional Limit ∷ optional Port ∷ optional Connections ∷ []
+takes Check = required File ∷ []
+takes Dump = required Learned ∷ optional Book ∷ []
+takes Load = required Seed ∷ required Sessions ∷ required Lines ∷ optional Threads ∷ []
+
+-- the options of `type`, with what stands for those that are absent
+abbrev pub type_options : List Setting → TypeOptions
+type_options settings = record {
+  dictionaries = record { items = texts_of Dictionary settings };
+  rules = text_given Rules settings;
+  learned = text_given Learned settings;
+  limit = number_or 268435456 Limit settings;
+  threads = is_given Threads settings;
+}
+
+-- the options of `serve`
+abbrev pub serve_options : List Setting → ServeOptions
+serve_options settings = record {
+  learned = text_of Learned settings;
+  dictionaries = record { items = texts_of Dictionary settings };
+  rules = text_given Rules settings;
+  limit = number_or 268435456 Limit settings;
+  port = number_or 1178 Port settings;
+  connections = number_or 1000000 Connections settings;
+}
+
+-- the options of `load`, of which no number is absent
+abbrev pub load_options : List Setting → LoadOptions
+load_options settings = record {
+  seed = number_or 0 Seed settings;
+  sessions = number_or 0 Sessions settings;
+  lines = number_or 0 Lines settings;
+  threads = is_given Threads settings;
+}
+
+-- the command with its settings
+abbrev pub command : CommandName → List Setting → Command
+command TypeScript settings = commands.TypeScript (type_options settings)
+command Serve settings = commands.Serve (serve_options settings)
+command Check settings = commands.Check (text_of File settings)
+command Dump settings = commands.Dump (text_of Learned settings) (number_or 0 Book settings)
+command Load settings = commands.Load (load_options settings)
+
+-- the command with settings, where it takes them
+abbrev pub command_with : CommandName → List Setting → Option Command
+command_with name settings = if fits (takes name) settings then Some (command name settings) else None
+
+-- the command that words are: the first names it, and it takes the settings of the rest
 abbrev pub command_of : List (List ℕ) → Option Command
 command_of [] = None
-command_of (word ∷ []) = if bytes_eq word (codes "type") then Some TypeScript else None
-command_of (word ∷ other ∷ words) = None
+command_of (word ∷ words) = option_and_then (λ name. option_and_then (command_with name) (settings_of words)) (command_named word)
+
+-- whether a command is to type a script
+abbrev pub is_script : Command → Bool
+is_script (commands.TypeScript options) = true
+is_script (commands.Serve options) = false
+is_script (commands.Check file) = false
+is_script (commands.Dump learned book) = false
+is_script (commands.Load options) = false
+
+-- whether words are a command that is built so far: `type`, without options
+abbrev pub are_built_words : List (List ℕ) → Bool
+are_built_words words = length words == 1 && option_map_or is_script (command_of words) false

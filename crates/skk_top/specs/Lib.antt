@@ -1,3 +1,4 @@
+pub mod Arguments
 pub mod Characters
 pub mod Command
 pub mod KanaInput
@@ -7,6 +8,8 @@ pub mod Printing
 pub mod Script
 pub mod SessionMachine
 pub mod Sessions
+pub mod Settings
 pub mod Status
 pub mod TypeCommand
 pub mod Typed
+pub mod Words

@@ -12,7 +12,7 @@ use Rattle.skk_top.specs.declared.session_machine.PressFault.TheVariants as pres
 use Rattle.skk_top.specs.declared.script.ScriptFault.{ScriptFault}
 use Rattle.skk_top.specs.declared.script.ScriptFault.TheVariants as scripts
 use Rattle.skk_top.specs.declared.fault.RunFault.{RunFault}
-use Rattle.skk_top.specs.declared.fault.RunFault.TheVariants.{TooLong, BadLine, Outside, Memory, NotBuilt}
+use Rattle.skk_top.specs.declared.fault.RunFault.TheVariants.{Words, TooLong, BadLine, Outside, Memory, NotBuilt}
 
 -- how a run ends: done, or with a fault
 abbrev pub Ended : Type 0
@@ -20,6 +20,7 @@ Ended = Result (Unit {0}) RunFault
 
 -- the status of a fault
 abbrev pub status_of : RunFault → ℕ
+status_of Words = 1
 status_of TooLong = 2
 status_of (BadLine number) = 2
 status_of Outside = 4
@@ -33,10 +34,11 @@ run_status (Err fault) = status_of fault
 
 -- the statuses that there are so far
 abbrev pub IsStatus : ℕ → Type 0
-IsStatus status = (status ≡ 0) ⊎ ((status ≡ 2) ⊎ ((status ≡ 4) ⊎ ((status ≡ 6) ⊎ (status ≡ 8))))
+IsStatus status = (status ≡ 0) ⊎ ((status ≡ 1) ⊎ ((status ≡ 2) ⊎ ((status ≡ 4) ⊎ ((status ≡ 6) ⊎ (status ≡ 8)))))
 
 -- the line of a fault on standard error, with its LF
 abbrev pub message_of : RunFault → List ℕ
+message_of Words = codes "skk: words" ++ line_feed ∷ []
 message_of TooLong = codes "skk: script too long" ++ line_feed ∷ []
 message_of (BadLine number) = codes "skk: line " ++ decimal number ++ line_feed ∷ []
 message_of Outside = codes "skk: outside" ++ line_feed ∷ []
@@ -51,7 +53,8 @@ run_message (Err fault) = message_of fault
 -- what is told on standard error with each status but 2
 abbrev pub message_at : ℕ → List ℕ
 message_at status =
-    if status == 4 then message_of Outside
+    if status == 1 then message_of Words
+    else if status == 4 then message_of Outside
     else if status == 6 then message_of Memory
     else if status == 8 then message_of NotBuilt
     else []
@@ -63,6 +66,7 @@ Tells message old new faults_before faults_after =
 
 -- a fault that may come while lines are typed
 abbrev pub ComesOfTyping : RunFault → Type 0
+ComesOfTyping Words = ⊥
 ComesOfTyping TooLong = ⊥
 ComesOfTyping (BadLine number) = ⊥
 ComesOfTyping Outside = ⊤

@@ -11,7 +11,7 @@ use Rattle.skk_top.specs.Script.{IsScript, IsFirstBad, are_built, script_limit}
 use Rattle.skk_top.specs.Status.{Ended, message_of, ComesOfTyping}
 use Rattle.skk_top.specs.Typed.{typed, are_taken}
 use Rattle.skk_top.specs.declared.fault.RunFault.{RunFault}
-use Rattle.skk_top.specs.declared.fault.RunFault.TheVariants.{TooLong, BadLine, Outside, NotBuilt}
+use Rattle.skk_top.specs.declared.fault.RunFault.TheVariants.{Words, TooLong, BadLine, Outside, NotBuilt}
 use Rattle.skk_top.specs.declared.line.Line.{Line}
 
 -- bytes are too many for a script
@@ -54,6 +54,7 @@ IsNotBuilt rules bytes =
 pub record LeavesTyped (rules : List Rule) (status : ℕ) (message : List ℕ) (left left' : Option (List ℕ)) (reads reads' : ℕ)
     (written written' : Option (List ℕ)) (writes writes' : ℕ) : Type 0 where
   pub ended : status ≡ 0 → IsAtEnd left'
+  pub words : status ≢ 1
   pub whole : status ≡ 0 → IfSome left (IsTypedWhole rules)
   pub read : TakesAtMost left left' (script_limit + PIECE)
   pub prints : IfSome left (λ bytes. PrintsScript rules status bytes written written')
@@ -72,6 +73,7 @@ pub record LeavesScript (result : Result (List Line) RunFault) (left left' : Opt
   pub too_long : IsErrOf result TooLong → IfSome left IsTooLong
   pub bad_line : (number : ℕ) → IsErrOf result (BadLine number) → IfSome left (λ bytes. IsBadAt bytes number)
   pub outside : IsErrOf result Outside → Rose reads reads'
+  pub words : result ≢ Err Words
   pub built : result ≢ Err NotBuilt
   pub read : TakesAtMost left left' (script_limit + PIECE)
   pub counted : reads ≤ reads'

@@ -1,31 +1,152 @@
-ghost use Rattle.std.specs.Prelude.{◌≡◌, ◌∷◌, []};
-ghost use Rattle.skk_top.specs.Command.{command_of};
+ghost use Rattle.std.specs.Prelude.{◌≡◌, ◌<◌, MatchOption};
+ghost use Rattle.skk_top.specs.Command.{command_of, type_options, serve_options, load_options, is_script};
+ghost use Rattle.skk_top.specs.Settings.{times};
+ghost use Rattle.skk_top.specs.declared.argument.Argument.TheVariants.{Dictionary};
 
+use crate::argument::Argument;
+use crate::command_name::command_named;
+use crate::given::read_settings;
+use crate::settings::{DICTIONARIES, Settings};
+use crate::word::Word;
+use arrayvec::ArrayVec;
 use skk_text::Text;
 
-/// What the words ask for.
-#[derive(Clone, Copy, Debug, PartialEq, Eq)]
-pub enum Command {
+/// The greatest limit of the learned file in bytes, which holds where none is given.
+const LIMIT: u64 = 268_435_456;
+
+/// The port that is served where none is given.
+const PORT: u64 = 1178;
+
+/// How many connections are served where no number is given.
+const CONNECTIONS: u64 = 1_000_000;
+
+/// What the words ask for. It owns nothing: its names are parts of the words.
+#[derive(Drop)]
+pub enum Command<'a> {
     /// To read a script and type it.
-    TypeScript,
+    TypeScript(TypeOptions<'a>),
+    /// To serve connections.
+    Serve(ServeOptions<'a>),
+    /// To check the dictionary in a file.
+    Check(Word<'a>),
+    /// To print a book of a learned file.
+    Dump { learned: Word<'a>, book: u64 },
+    /// To type what is drawn.
+    Load(LoadOptions),
 }
 
-/// The command that the words are, where they are one that is built.
+impl Command<'_> {
+    /// Whether it is to type a script.
+    pub fn is_script(&self) -> bool
+        ensures { result ≡ is_script self.now }
+    {
+        match self {
+            Command::TypeScript(_) => true,
+            Command::Serve(_) | Command::Check(_) | Command::Load(_) => false,
+            Command::Dump {
+                learned: _,
+                book: _,
+            } => false,
+        }
+    }
+}
+
+/// The options of `type`.
+#[derive(Drop)]
+pub struct TypeOptions<'a> {
+    /// The files of the dictionaries, in the order in which they are asked.
+    pub dictionaries: ArrayVec<Word<'a>, DICTIONARIES>,
+    /// The file of the rules; the standard table where there is none.
+    pub rules: Option<Word<'a>>,
+    /// The learned file; where there is none, what is learnt goes with the run.
+    pub learned: Option<Word<'a>>,
+    /// The most bytes of the learned file, from 64 to 268,435,456.
+    pub limit: u64,
+    /// Whether each session has a thread of its own.
+    pub threads: bool,
+}
+
+impl<'a> TypeOptions<'a> {
+    /// The options that settings give, where there are not too many dictionaries.
+    pub fn of(settings: &Settings<'a>) -> Option<TypeOptions<'a>>
+        ensures { MatchOption result (16 < times Dictionary settings.now) (λ options. options ≡ type_options settings.now) }
+    {
+        Some(TypeOptions {
+            dictionaries: settings.texts(Argument::Dictionary)?,
+            rules: settings.text_given(Argument::Rules),
+            learned: settings.text_given(Argument::Learned),
+            limit: settings.number_or(LIMIT, Argument::Limit),
+            threads: settings.is_given(Argument::Threads),
+        })
+    }
+}
+
+/// The options of `serve`.
+#[derive(Drop)]
+pub struct ServeOptions<'a> {
+    /// The learned file.
+    pub learned: Word<'a>,
+    /// The files of the dictionaries, in the order in which they are asked.
+    pub dictionaries: ArrayVec<Word<'a>, DICTIONARIES>,
+    /// The file of the rules; the standard table where there is none.
+    pub rules: Option<Word<'a>>,
+    /// The most bytes of the learned file, from 64 to 268,435,456.
+    pub limit: u64,
+    /// The port, from 1 to 65,535.
+    pub port: u64,
+    /// How many connections are served, from 1 to 1,000,000.
+    pub connections: u64,
+}
+
+impl<'a> ServeOptions<'a> {
+    /// The options that settings give, where there are not too many dictionaries.
+    pub fn of(settings: &Settings<'a>) -> Option<ServeOptions<'a>>
+        ensures { MatchOption result (16 < times Dictionary settings.now) (λ options. options ≡ serve_options settings.now) }
+    {
+        Some(ServeOptions {
+            learned: settings.text(Argument::Learned),
+            dictionaries: settings.texts(Argument::Dictionary)?,
+            rules: settings.text_given(Argument::Rules),
+            limit: settings.number_or(LIMIT, Argument::Limit),
+            port: settings.number_or(PORT, Argument::Port),
+            connections: settings.number_or(CONNECTIONS, Argument::Connections),
+        })
+    }
+}
+
+/// The options of `load`.
+#[derive(Clone, Copy, Debug, PartialEq, Eq)]
+pub struct LoadOptions {
+    /// Where the drawing begins.
+    pub seed: u64,
+    /// How many sessions there are, from 1 to 64.
+    pub sessions: u64,
+    /// How many lines each session has, from 1 to 20,000.
+    pub lines: u64,
+    /// Whether each session has a thread of its own.
+    pub threads: bool,
+}
+
+impl LoadOptions {
+    /// The options that settings give, of which none is absent but the last.
+    pub fn of(settings: &Settings) -> LoadOptions
+        ensures { result ≡ load_options settings.now }
+    {
+        LoadOptions {
+            seed: settings.number_or(0, Argument::Seed),
+            sessions: settings.number_or(0, Argument::Sessions),
+            lines: settings.number_or(0, Argument::Lines),
+            threads: settings.is_given(Argument::Threads),
+        }
+    }
+}
+
+/// The command that the words are. Takes no memory, and time linear in the words.
 pub fn read_command(words: &[Text]) -> Option<Command>
     ensures { result ≡ command_of words.now }
 {
-    match words {
-        [word] => read_word(word),
-        _ => None,
-    }
-}
-
-// The command that is one word.
-fn read_word(word: &Text) -> Option<Command>
-    ensures { result ≡ command_of (word.now ∷ []) }
-{
-    if word.as_str() == "type" {
-        return Some(Command::TypeScript);
-    }
-    None
+    let (first, rest) = words.split_first()?;
+    let name = command_named(&Word::of(first))?;
+    let settings = read_settings(rest)?;
+    name.with(&settings)
 }

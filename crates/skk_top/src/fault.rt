@@ -10,6 +10,8 @@ use skk_text::Memory;
 /// Why a run was not done.
 #[derive(Clone, Copy, Debug, PartialEq, Eq)]
 pub enum RunFault {
+    /// The words are no command.
+    Words,
     /// The script is longer than its limit.
     TooLong,
     /// The first line of the script that is none, counted from 1.
@@ -18,7 +20,7 @@ pub enum RunFault {
     Outside,
     /// Out of memory.
     Memory,
-    /// The words, a line of the script or a key are not built.
+    /// The command, a line of the script or a key is not built.
     NotBuilt,
 }
 
@@ -49,6 +51,7 @@ impl RunFault {
         ensures { result ≡ status_of self }
     {
         match self {
+            RunFault::Words => 1,
             RunFault::TooLong | RunFault::BadLine { number: _ } => 2,
             RunFault::Outside => 4,
             RunFault::Memory => 6,
@@ -64,6 +67,7 @@ impl RunFault {
         ensures counted { E.faults err.old ≤ E.faults err.new }
     {
         match self {
+            RunFault::Words => write_all(err, b"skk: words\n"),
             RunFault::TooLong => write_all(err, b"skk: script too long\n"),
             RunFault::BadLine { number } => {
                 write_all(err, b"skk: line ")?;

@@ -6,8 +6,11 @@
 //! modules named as the crates that they are to become.
 #![tactic(auto)]
 
+mod argument;
 mod command;
+mod command_name;
 mod fault;
+mod given;
 mod kana_input;
 mod laws;
 mod line;
@@ -17,10 +20,13 @@ mod printing;
 mod run;
 mod script;
 mod session_machine;
+mod setting;
+mod settings;
 #[cfg(test)]
 mod tests;
 mod type_command;
 mod typing;
+mod word;
 
 pub use fault::{RunFault, end_run};
 pub use laws::{no_bad_line_in_a_script, one_bad_line, one_script, texts_have_a_limit};

@@ -1,6 +1,10 @@
-ghost use Rattle.std.specs.Prelude.{◌≡◌, ◌≢◌, ◌≤◌, ◌<◌, ◌++◌, ◌∷◌, ℕ, List, length, slice_index, IfSome, IsNone};
+ghost use Rattle.std.specs.Prelude.{◌≡◌, ◌≢◌, ◌≤◌, ◌<◌, ◌^◌, ◌++◌, ◌∷◌, ℕ, List, length, slice_index, IfSome, IsNone, MatchOption};
 ghost use Rattle.std.specs.Fmt.{decimal};
 ghost use Rattle.std.specs.Int.{IsInRange};
+ghost use Rattle.std.specs.Str.{chars};
+ghost use Rattle.skk_top.specs.Words.{number_within};
+
+use itoa::Buffer;
 
 /// The number that the text begins with, the byte behind it, which is no digit, and what follows that.
 /// Nothing where no such number stands there, or it has more than five digits.
@@ -38,6 +42,29 @@ pub fn number(text: &[u8]) -> Option<u32>
         value = value * 10 + u32::from(*digit - b'0');
     }
     Some(value)
+}
+
+/// The number that the text writes, without a sign and without leading zeros, where it is within the bounds.
+pub fn number_within(text: &str, least: u64, most: u64) -> Option<u64>
+    ensures { result ≡ number_within least most (chars text.now) }
+{
+    let number = long_number(text)?;
+    if number < least || most < number {
+        return None;
+    }
+    Some(number)
+}
+
+// The number that the text writes, without a sign and without leading zeros. Nothing where it writes none, or one that
+// no `u64` has.
+fn long_number(text: &str) -> Option<u64>
+    ensures { MatchOption result ((number : ℕ) → number < 2 ^ 64 → text.now ≢ decimal number) (λ found. text.now ≡ decimal found) }
+{
+    let number = text.parse::<u64>().ok()?;
+    if Buffer::new().format(number) != text {
+        return None;
+    }
+    Some(number)
 }
 
 // How many digits the text begins with.

@@ -1,12 +1,12 @@
-ghost use Rattle.std.specs.Prelude.{◌≡◌, ◌≢◌, ◌≤◌, ◌⊎◌, ℕ, List, None, Some, IfSome};
+ghost use Rattle.std.specs.Prelude.{◌≡◌, ◌≢◌, ◌≤◌, ◌⊎◌, ◌↔◌, ℕ, List, None, IfSome, true, false};
 ghost use Rattle.std.specs.Io.KnownBytes.{Keeps};
 ghost use Rattle.skk_outside.specs.Faults.{Rose};
 ghost use Rattle.romaji_rules.specs.Standard.{standard};
-ghost use Rattle.skk_top.specs.Command.{command_of};
+ghost use Rattle.skk_top.specs.Command.{command_of, are_built_words};
 ghost use Rattle.skk_top.specs.Status.{IsStatus, Tells, message_at};
 ghost use Rattle.skk_top.specs.TypeCommand.{LeavesTyped};
 
-use crate::command::{Command, read_command};
+use crate::command::read_command;
 use crate::fault::{RunFault, end_run};
 use crate::type_command::run_type;
 use skk_outside::{Sink, Source};
@@ -26,10 +26,11 @@ pub fn run_alone<I: Source, O: Sink, E: Sink>(
 ) -> u8
     ensures status { IsStatus result }
 
-    // Words that are no command that is built.
-    ensures words { command_of words.now ≡ None → result ≡ 8 }
-    ensures unread { command_of words.now ≡ None → Keeps (I.left input.old) (I.left input.new) }
-    ensures untouched { command_of words.now ≡ None → Keeps (O.written out.old) (O.written out.new) }
+    // Words that are no command, or a command that is not built.
+    ensures words { (result ≡ 1) ↔ (command_of words.now ≡ None) }
+    ensures not_built { IfSome (command_of words.now) (λ command. are_built_words words.now ≡ false → result ≡ 8) }
+    ensures unread { are_built_words words.now ≡ false → Keeps (I.left input.old) (I.left input.new) }
+    ensures untouched { are_built_words words.now ≡ false → Keeps (O.written out.old) (O.written out.new) }
 
     // A call on the outside failed where the status says so.
     ensures outside { result ≡ 4 → Rose (I.faults input.old) (I.faults input.new) ⊎ Rose (O.faults out.old) (O.faults out.new) }
@@ -43,13 +44,16 @@ pub fn run_alone<I: Source, O: Sink, E: Sink>(
     ensures err_counted { E.faults err.old ≤ E.faults err.new }
 
     // What each command leaves.
-    ensures types { command_of words.now ≡ Some Command.TypeScript → (message : List ℕ)
+    ensures types { are_built_words words.now ≡ true → (message : List ℕ)
         × Tells message (E.written err.old) (E.written err.new) (E.faults err.old) (E.faults err.new)
         × LeavesTyped standard result message (I.left input.old) (I.left input.new) (I.faults input.old) (I.faults input.new)
         (O.written out.old) (O.written out.new) (O.faults out.old) (O.faults out.new) }
 {
-    match read_command(words) {
-        Some(Command::TypeScript) => end_run(run_type(alloc, input, out), err),
-        None => end_run(Err(RunFault::NotBuilt), err),
+    let Some(command) = read_command(words) else {
+        return end_run(Err(RunFault::Words), err);
+    };
+    if words.len() != 1 || !command.is_script() {
+        return end_run(Err(RunFault::NotBuilt), err);
     }
+    end_run(run_type(alloc, input, out), err)
 }

@@ -4,8 +4,11 @@ use Rattle.std.proofs.KnownBytes.{Appends-trans}
 use Rattle.skk_top.proofs.Pages.{on_err, each_err, AppendsPrefix-more, AppendsPrefix-behind}
 use Rattle.skk_top.proofs.fault.RunFault.tell.Goals as goal
 
+pub returns-in-Words-clause-ok : goal.returns-in-Words-clause-ok
+returns-in-Words-clause-ok g c = rw c.in-Words.is c.write_all.ensures.ok
+
 pub returns-in-TooLong-clause-ok : goal.returns-in-TooLong-clause-ok
-returns-in-TooLong-clause-ok g c = rw c.in-TooLong.is c.write_all.ensures.ok
+returns-in-TooLong-clause-ok g c = rw c.in-TooLong.is c.write_all-in-TooLong.ensures.ok
 
 pub returns-in-Outside-clause-ok : goal.returns-in-Outside-clause-ok
 returns-in-Outside-clause-ok g c = rw c.in-Outside.is c.write_all-in-Outside.ensures.ok
