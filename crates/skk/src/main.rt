@@ -1,7 +1,7 @@
 //! The program `skk`: it makes the real things and calls the top call.
 #![tactic(auto)]
 
-use skk_outside::{ReaderSource, WriterSink};
+use skk_outside::{HostShelf, ReaderSource, WriterSink};
 use skk_text::Text;
 use skk_top::{RunFault, end_run, run_alone};
 use std::io::ErrorKind;
@@ -29,10 +29,18 @@ fn words(rt: &HostRuntime) -> io::Result<Vec<Text>> {
     Ok(words)
 }
 
-// Runs the words over the standard streams.
+// Runs the words over the system's files and the standard streams.
 fn run(rt: &HostRuntime, words: &[Text]) -> ExitCode {
+    let mut shelf = HostShelf::new(rt.alloc(), rt);
     let mut input = ReaderSource::new(rt.stdin());
     let mut out = WriterSink::new(rt.stdout());
     let mut err = WriterSink::new(rt.stderr());
-    ExitCode::from(run_alone(rt.alloc(), words, &mut input, &mut out, &mut err))
+    ExitCode::from(run_alone(
+        rt.alloc(),
+        words,
+        &mut shelf,
+        &mut input,
+        &mut out,
+        &mut err,
+    ))
 }

@@ -20,7 +20,7 @@ use Rattle.skk_top.specs.SessionMachine.{text_limit, new_session, after_keys}
 use Rattle.skk_top.specs.Sessions.{session_at, session_or_new, with_session}
 use Rattle.skk_top.specs.Status.{message_at, run_status, run_message, fault_of_press, fault_of_read, fault_of_script}
 use Rattle.skk_top.specs.Typed.{typed_from, are_taken_from}
-use Rattle.skk_top.specs.declared.fault.RunFault.TheVariants.{Words, TooLong, BadLine, Outside, Memory, NotBuilt}
+use Rattle.skk_top.specs.declared.fault.RunFault.TheVariants.{Words, TooLong, BadLine, LongDictionary, BadDictionary, Outside, Memory, NotBuilt}
 use Rattle.skk_top.specs.declared.kana_input.PlainThen.TheVariants.{Stay, OpenReading, OpenAbbrev}
 use Rattle.skk_top.specs.declared.line.Line.TheVariants.{Keys, Opening}
 use Rattle.skk_top.specs.declared.script.ScriptFault.TheVariants as scripts
@@ -172,11 +172,14 @@ lines_with_said : map (with_said (Keys 4 [] ∷ [])) (None ∷ Some (Opening 5 6
 lines_with_said = refl
 
 -- each fault with its status and its line
-statuses : map run_status (Ok tt ∷ Err Words ∷ Err TooLong ∷ Err (BadLine 3) ∷ Err Outside ∷ Err Memory ∷ Err NotBuilt ∷ []) ≡ 0 ∷ 1 ∷ 2 ∷ 2 ∷ 4 ∷ 6 ∷ 8 ∷ []
+statuses : map run_status (Ok tt ∷ Err Words ∷ Err TooLong ∷ Err (BadLine 3) ∷ Err (LongDictionary 1) ∷ Err (BadDictionary 1 0) ∷ Err Outside ∷ Err Memory ∷ Err NotBuilt ∷ [])
+    ≡ 0 ∷ 1 ∷ 2 ∷ 2 ∷ 3 ∷ 3 ∷ 4 ∷ 6 ∷ 8 ∷ []
 statuses = refl
 
-messages : map run_message (Ok tt ∷ Err Words ∷ Err TooLong ∷ Err (BadLine 1048577) ∷ Err Outside ∷ Err Memory ∷ Err NotBuilt ∷ [])
-    ≡ [] ∷ (codes "skk: words" ++ 10 ∷ []) ∷ (codes "skk: script too long" ++ 10 ∷ []) ∷ (codes "skk: line 1048577" ++ 10 ∷ []) ∷ (codes "skk: outside" ++ 10 ∷ []) ∷ (codes "skk: memory" ++ 10 ∷ []) ∷ (codes "skk: not built" ++ 10 ∷ []) ∷ []
+messages : map run_message (Ok tt ∷ Err Words ∷ Err TooLong ∷ Err (BadLine 1048577) ∷ Err (LongDictionary 1) ∷ Err (BadDictionary 16 67108863) ∷ Err Outside ∷ Err Memory ∷ Err NotBuilt ∷ [])
+    ≡ [] ∷ (codes "skk: words" ++ 10 ∷ []) ∷ (codes "skk: script too long" ++ 10 ∷ []) ∷ (codes "skk: line 1048577" ++ 10 ∷ [])
+    ∷ (codes "skk: dictionary 1 too long" ++ 10 ∷ []) ∷ (codes "skk: dictionary 16 byte 67108863" ++ 10 ∷ [])
+    ∷ (codes "skk: outside" ++ 10 ∷ []) ∷ (codes "skk: memory" ++ 10 ∷ []) ∷ (codes "skk: not built" ++ 10 ∷ []) ∷ []
 unfolding digits
 messages = refl
 

@@ -1,3 +1,5 @@
+mod CheckExamples
+pub mod CheckRuns
 pub mod Commands
 pub mod Escapes
 mod Examples
@@ -8,6 +10,7 @@ pub mod Marks
 pub mod Numbers
 pub mod Pages
 pub mod PlainKeys
+pub mod PrintedChecks
 pub mod Reading
 pub mod Runs
 pub mod Scripts

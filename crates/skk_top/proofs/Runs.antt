@@ -6,33 +6,35 @@ use Rattle.skk_outside.specs.Written.{AppendsPrefix}
 use Rattle.romaji_rules.specs.declared.rule.Rule.{Rule}
 use Rattle.skk_text.specs.Lines.{lines_of}
 use Rattle.skk_top.specs.Script.{IsScript, are_built}
-use Rattle.skk_top.specs.Status.{Ended, run_status, run_message, status_of, message_of, ComesOfTyping}
+use Rattle.skk_top.specs.Status.{Ended, run_status, run_message, status_of, message_of, ComesOfScript, ComesOfTyping}
 use Rattle.skk_top.specs.TypeCommand.{LeavesTyped, LeavesScript, LeavesLines, IsTooLong, IsBadAt, IsRefused, IsRefusal, PrintsScript}
 use Rattle.skk_top.specs.Typed.{typed}
 use Rattle.skk_top.specs.declared.fault.RunFault.{RunFault}
-use Rattle.skk_top.specs.declared.fault.RunFault.TheVariants.{Words, TooLong, BadLine, Outside, Memory, NotBuilt}
+use Rattle.skk_top.specs.declared.fault.RunFault.TheVariants.{Words, TooLong, BadLine, LongDictionary, BadDictionary, Outside, Memory, NotBuilt}
 use Rattle.skk_top.specs.declared.line.Line.{Line}
 use Rattle.skk_top.proofs.Pages.{Appends-none, AppendsPrefix-whole}
 use Rattle.skk_top.proofs.Scripts.{OneListOfKeys, no_bad_line, one_list_of_lines}
 
 -- what is known of bytes that are told
-IfSome-all : (known : Option (List ℕ)) (P : List ℕ → Type 0) → ((bytes : List ℕ) → P bytes) → IfSome known P
+pub IfSome-all : (known : Option (List ℕ)) (P : List ℕ → Type 0) → ((bytes : List ℕ) → P bytes) → IfSome known P
 IfSome-all None P p = search rules
 IfSome-all (Some left) P p = p left
 
-each_some : {P Q : List ℕ → Type 0} (known : Option (List ℕ)) → ((bytes : List ℕ) → P bytes → Q bytes) → IfSome known P → IfSome known Q
+pub each_some : {P Q : List ℕ → Type 0} (known : Option (List ℕ)) → ((bytes : List ℕ) → P bytes → Q bytes) → IfSome known P → IfSome known Q
 each_some None q p = search rules
 each_some (Some bytes) q p = q bytes p
 
-Keeps-self : (known : Option (List ℕ)) → Keeps known known
+pub Keeps-self : (known : Option (List ℕ)) → Keeps known known
 Keeps-self None = search rules
 Keeps-self (Some bytes) = refl
 
 -- a fault has no status 0
-fault-status : (fault : RunFault) → status_of fault ≢ 0
+pub fault-status : (fault : RunFault) → status_of fault ≢ 0
 fault-status Words = λ e. omega arith
 fault-status TooLong = λ e. omega arith
 fault-status (BadLine number) = λ e. omega arith
+fault-status (LongDictionary number) = λ e. omega arith
+fault-status (BadDictionary number at) = λ e. omega arith
 fault-status Outside = λ e. omega arith
 fault-status Memory = λ e. omega arith
 fault-status NotBuilt = λ e. omega arith
@@ -42,20 +44,24 @@ words-fault : (fault : RunFault) → status_of fault ≡ 1 → fault ≡ Words
 words-fault Words e = refl
 words-fault TooLong e = absurd (omega (arith, e))
 words-fault (BadLine number) e = absurd (omega (arith, e))
+words-fault (LongDictionary number) e = absurd (omega (arith, e))
+words-fault (BadDictionary number at) e = absurd (omega (arith, e))
 words-fault Outside e = absurd (omega (arith, e))
 words-fault Memory e = absurd (omega (arith, e))
 words-fault NotBuilt e = absurd (omega (arith, e))
 
 -- how a run ended, by its status
-done-of : {P : Type 0} (ended : Ended) → OnOk ended P → run_status ended ≡ 0 → P
+pub done-of : {P : Type 0} (ended : Ended) → OnOk ended P → run_status ended ≡ 0 → P
 done-of (Ok done) ok e = ok
 done-of (Err fault) ok e = absurd (fault-status fault e)
 
-outside-of : (ended : Ended) → run_status ended ≡ 4 → IsErrOf ended Outside
+pub outside-of : (ended : Ended) → run_status ended ≡ 4 → IsErrOf ended Outside
 outside-of (Ok done) e = absurd (omega (arith, e))
 outside-of (Err Words) e = absurd (omega (arith, e))
 outside-of (Err TooLong) e = absurd (omega (arith, e))
 outside-of (Err (BadLine number)) e = absurd (omega (arith, e))
+outside-of (Err (LongDictionary number)) e = absurd (omega (arith, e))
+outside-of (Err (BadDictionary number at)) e = absurd (omega (arith, e))
 outside-of (Err Outside) e = refl
 outside-of (Err Memory) e = absurd (omega (arith, e))
 outside-of (Err NotBuilt) e = absurd (omega (arith, e))
@@ -65,6 +71,8 @@ not_built-of (Ok done) e = absurd (omega (arith, e))
 not_built-of (Err Words) e = absurd (omega (arith, e))
 not_built-of (Err TooLong) e = absurd (omega (arith, e))
 not_built-of (Err (BadLine number)) e = absurd (omega (arith, e))
+not_built-of (Err (LongDictionary number)) e = absurd (omega (arith, e))
+not_built-of (Err (BadDictionary number at)) e = absurd (omega (arith, e))
 not_built-of (Err Outside) e = absurd (omega (arith, e))
 not_built-of (Err Memory) e = absurd (omega (arith, e))
 not_built-of (Err NotBuilt) e = refl
@@ -75,6 +83,8 @@ typing-status (Ok done) comes = λ e. omega arith
 typing-status (Err Words) comes = absurd comes
 typing-status (Err TooLong) comes = absurd comes
 typing-status (Err (BadLine number)) comes = absurd comes
+typing-status (Err (LongDictionary number)) comes = absurd comes
+typing-status (Err (BadDictionary number at)) comes = absurd comes
 typing-status (Err Outside) comes = λ e. omega arith
 typing-status (Err Memory) comes = λ e. omega arith
 typing-status (Err NotBuilt) comes = λ e. omega arith
@@ -83,8 +93,30 @@ typing-words : (ended : Ended) → IfErr ended ComesOfTyping → run_status ende
 typing-words (Ok done) comes = λ e. omega arith
 typing-words (Err fault) comes = λ e. subst ComesOfTyping (words-fault fault e) comes
 
+typing-dictionaries : (ended : Ended) → IfErr ended ComesOfTyping → run_status ended ≢ 3
+typing-dictionaries (Ok done) comes = λ e. omega arith
+typing-dictionaries (Err Words) comes = absurd comes
+typing-dictionaries (Err TooLong) comes = absurd comes
+typing-dictionaries (Err (BadLine number)) comes = absurd comes
+typing-dictionaries (Err (LongDictionary number)) comes = absurd comes
+typing-dictionaries (Err (BadDictionary number at)) comes = absurd comes
+typing-dictionaries (Err Outside) comes = λ e. omega arith
+typing-dictionaries (Err Memory) comes = λ e. omega arith
+typing-dictionaries (Err NotBuilt) comes = λ e. omega arith
+
+-- a fault that comes while a script is read is none of the words, nor of a dictionary, nor of what is not built
+script-status : (fault : RunFault) → ComesOfScript fault → (status_of fault ≢ 1) × (status_of fault ≢ 3) × (status_of fault ≢ 8)
+script-status Words comes = absurd comes
+script-status TooLong comes = (λ e. omega (arith, e), λ e. omega (arith, e), λ e. omega (arith, e))
+script-status (BadLine number) comes = (λ e. omega (arith, e), λ e. omega (arith, e), λ e. omega (arith, e))
+script-status (LongDictionary number) comes = absurd comes
+script-status (BadDictionary number at) comes = absurd comes
+script-status Outside comes = (λ e. omega (arith, e), λ e. omega (arith, e), λ e. omega (arith, e))
+script-status Memory comes = (λ e. omega (arith, e), λ e. omega (arith, e), λ e. omega (arith, e))
+script-status NotBuilt comes = absurd comes
+
 -- all or a prefix of it was written
-prefix-of : (ended : Ended) (old new : Option (List ℕ)) (whole : List ℕ) → OnOk ended (Appends old new whole) → OnErr ended (AppendsPrefix old new whole) → AppendsPrefix old new whole
+pub prefix-of : (ended : Ended) (old new : Option (List ℕ)) (whole : List ℕ) → OnOk ended (Appends old new whole) → OnErr ended (AppendsPrefix old new whole) → AppendsPrefix old new whole
 prefix-of (Ok done) old new whole ok err = AppendsPrefix-whole old new whole ok
 prefix-of (Err fault) old new whole ok err = err
 
@@ -94,16 +126,15 @@ refusal : (fault : RunFault) (known : Option (List ℕ)) → (fault ≡ TooLong 
 refusal TooLong known long bad two = each_some known (λ bytes is. inl (is, refl)) (long refl)
 refusal (BadLine number) known long bad two = each_some known (λ bytes is. inr (number, is, refl)) (bad number refl)
 refusal Words known long bad two = absurd (omega (arith, two))
+refusal (LongDictionary number) known long bad two = absurd (omega (arith, two))
+refusal (BadDictionary number at) known long bad two = absurd (omega (arith, two))
 refusal Outside known long bad two = absurd (omega (arith, two))
 refusal Memory known long bad two = absurd (omega (arith, two))
 refusal NotBuilt known long bad two = absurd (omega (arith, two))
 
--- a fault with status 4 or 8 is the one that there is
-outside-fault : (fault : RunFault) → status_of fault ≡ 4 → fault ≡ Outside
+-- a fault with status 4 is the one that there is
+pub outside-fault : (fault : RunFault) → status_of fault ≡ 4 → fault ≡ Outside
 outside-fault fault e = let is : IsErrOf {T = Unit {0}} (Err fault) Outside = outside-of (Err fault) e in cc
-
-not_built-fault : (fault : RunFault) → status_of fault ≡ 8 → fault ≡ NotBuilt
-not_built-fault fault e = let is : IsErrOf {T = Unit {0}} (Err fault) NotBuilt = not_built-of (Err fault) e in cc
 
 -- where no script was read, nothing was printed
 prints-nothing : (rules : List Rule) (status : ℕ) (bytes : List ℕ) (known : Option (List ℕ)) → status ≢ 0 → PrintsScript rules status bytes known known
@@ -117,7 +148,8 @@ pub leaves-refused : (rules : List Rule) (fault : RunFault) (left left' : Option
     → LeavesScript (Err fault) left left' reads reads' → LeavesTyped rules (status_of fault) (message_of fault) left left' reads reads' written written writes writes
 leaves-refused rules fault left left' reads reads' written writes script = record {
   ended = λ e. absurd (fault-status fault e);
-  words = λ e. script.words (ap Err (words-fault fault e));
+  words = (script-status fault script.fault).0;
+  dictionaries = (script-status fault script.fault).1;
   whole = λ e. absurd (fault-status fault e);
   read = script.read;
   prints = IfSome-all left _ (λ bytes. prints-nothing rules (status_of fault) bytes written (fault-status fault));
@@ -125,7 +157,7 @@ leaves-refused rules fault left left' reads reads' written writes script = recor
   nothing_refused = λ e. Keeps-self written;
   refused = λ e. refusal fault left (λ is. script.too_long (ap Err is)) (λ number is. script.bad_line number (ap Err is)) e;
   outside = λ e. inl (script.outside (ap Err (outside-fault fault e)));
-  not_built = λ e. absurd (script.built (ap Err (not_built-fault fault e)));
+  not_built = λ e. absurd ((script-status fault script.fault).2 e);
   reads_counted = script.counted;
   writes_counted = omega arith;
 }
@@ -148,6 +180,7 @@ leaves-built : OneListOfKeys → (rules : List Rule) (lines : List Line) (ended 
 leaves-built unique rules lines ended left left' reads reads' old new writes writes' script built typing = record {
   ended = λ e. script.ended;
   words = typing-words ended typing.fault;
+  dictionaries = typing-dictionaries ended typing.fault;
   whole = λ e. each_some left (λ bytes is. (lines, is, built, done-of ended typing.taken e)) script.whole;
   read = script.read;
   prints = each_some left (λ bytes is.
@@ -169,6 +202,7 @@ leaves-not_built : OneListOfKeys → (rules : List Rule) (lines : List Line) (le
 leaves-not_built unique rules lines left left' reads reads' old new writes writes' script unbuilt keeps counted = record {
   ended = λ e. absurd (omega (arith, e));
   words = λ e. omega (arith, e);
+  dictionaries = λ e. omega (arith, e);
   whole = λ e. absurd (omega (arith, e));
   read = script.read;
   prints = each_some left (λ bytes is.

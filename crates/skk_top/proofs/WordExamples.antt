@@ -3,7 +3,7 @@ use Rattle.std.proofs.Common.{◌≡◌, ◌==◌, ℕ, Bool, true, false, if◌
 use Prim.Native.String.{String}
 use Rattle.std.specs.Fmt.{digits}
 use Rattle.std.specs.List.{filter}
-use Rattle.skk_top.specs.Command.{command_of, are_built_words}
+use Rattle.skk_top.specs.Command.{command_of, are_type_alone, file_to_check, are_built_words}
 use Rattle.skk_text.specs.Lines.{with_first}
 use Rattle.skk_top.specs.Words.{is_name, number_within, cut}
 use Rattle.skk_top.specs.declared.command.Command.{Command}
@@ -133,8 +133,23 @@ cuts : map (λ text. cut (codes text)) ("" ∷ "a" ∷ "=" ∷ "a=" ∷ "=b" ∷
     ≡ None ∷ None ∷ Some ([], []) ∷ Some (codes "a", []) ∷ Some ([], codes "b") ∷ Some (codes "a", codes "b") ∷ Some (codes "a", codes "b=c") ∷ Some (codes "ab", codes "=") ∷ []
 cuts = refl
 
--- what is built: `type` without options
-built : map (λ line. are_built_words (words line)) ("type" ∷ "type --limit 268435456" ∷ "type --limit 64" ∷ "type --dict a" ∷ "type --rules a" ∷ "type --learned a" ∷ "type --threads" ∷ "serve --learned a" ∷ "check a" ∷ "dump --learned a" ∷ "load --seed 1 --sessions 1 --lines 1" ∷ "typ" ∷ [])
-    ≡ true ∷ false ∷ false ∷ false ∷ false ∷ false ∷ false ∷ false ∷ false ∷ false ∷ false ∷ false ∷ []
+-- what is built: `type` without options, and `check`
+abbrev some_lines : List String
+some_lines =
+    "type" ∷ "type --limit 268435456" ∷ "type --limit 64" ∷ "type --dict a" ∷ "type --rules a" ∷ "type --learned a" ∷ "type --threads" ∷ "serve --learned a" ∷ "check a" ∷ "check" ∷ "check a b"
+    ∷ "dump --learned a" ∷ "load --seed 1 --sessions 1 --lines 1" ∷ "typ" ∷ []
+
+built : map (λ line. are_built_words (words line)) some_lines
+    ≡ true ∷ false ∷ false ∷ false ∷ false ∷ false ∷ false ∷ false ∷ true ∷ false ∷ false ∷ false ∷ false ∷ false ∷ []
 unfolding digits
 built = refl
+
+type_alone : map (λ line. are_type_alone (words line)) some_lines
+    ≡ true ∷ false ∷ false ∷ false ∷ false ∷ false ∷ false ∷ false ∷ false ∷ false ∷ false ∷ false ∷ false ∷ false ∷ []
+unfolding digits
+type_alone = refl
+
+files_to_check : map (λ line. file_to_check (words line)) some_lines
+    ≡ None ∷ None ∷ None ∷ None ∷ None ∷ None ∷ None ∷ None ∷ Some (codes "a") ∷ None ∷ None ∷ None ∷ None ∷ None ∷ []
+unfolding digits
+files_to_check = refl

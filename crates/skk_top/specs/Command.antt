@@ -1,7 +1,7 @@
 -- The commands, and the words that they are read from.
-use Rattle.std.specs.Prelude.{ℕ, Bool, true, false, ◌&&◌, ◌==◌, if◌then◌else◌, Option, None, Some, List, [], ◌∷◌, codes, length}
+use Rattle.std.specs.Prelude.{ℕ, Bool, true, false, ◌&&◌, ◌||◌, ◌==◌, if◌then◌else◌, Option, None, Some, List, [], ◌∷◌, codes, length}
 use Rattle.std.specs.Map.{lookup}
-use Rattle.std.specs.Option.{option_and_then, option_map_or}
+use Rattle.std.specs.Option.{is_some, option_and_then, option_map_or}
 use Rattle.std.specs.Str.{bytes_eq}
 use Rattle.skk_top.specs.Settings.{Row, fits, settings_of, texts_of, text_given, text_of, number_or, is_given}
 use Rattle.skk_top.specs.declared.argument.Argument.{Argument}
@@ -98,6 +98,22 @@ is_script (commands.Check file) = false
 is_script (commands.Dump learned book) = false
 is_script (commands.Load options) = false
 
--- whether words are a command that is built so far: `type`, without options
+-- the name of the file that a command is to check
+abbrev pub file_checked : Command → Option (List ℕ)
+file_checked (commands.TypeScript options) = None
+file_checked (commands.Serve options) = None
+file_checked (commands.Check file) = Some file
+file_checked (commands.Dump learned book) = None
+file_checked (commands.Load options) = None
+
+-- whether words are `type` without options
+abbrev pub are_type_alone : List (List ℕ) → Bool
+are_type_alone words = length words == 1 && option_map_or is_script (command_of words) false
+
+-- the name of the file that words ask to check, where they are `check`
+abbrev pub file_to_check : List (List ℕ) → Option (List ℕ)
+file_to_check words = option_and_then file_checked (command_of words)
+
+-- whether words are a command that is built so far: `type` without options, or `check`
 abbrev pub are_built_words : List (List ℕ) → Bool
-are_built_words words = length words == 1 && option_map_or is_script (command_of words) false
+are_built_words words = are_type_alone words || is_some (file_to_check words)

@@ -1,5 +1,7 @@
 pub mod Arguments
 pub mod Characters
+pub mod CheckCommand
+pub mod CheckedFiles
 pub mod Command
 pub mod KanaInput
 pub mod Marks

@@ -12,7 +12,7 @@ use Rattle.skk_top.specs.declared.session_machine.PressFault.TheVariants as pres
 use Rattle.skk_top.specs.declared.script.ScriptFault.{ScriptFault}
 use Rattle.skk_top.specs.declared.script.ScriptFault.TheVariants as scripts
 use Rattle.skk_top.specs.declared.fault.RunFault.{RunFault}
-use Rattle.skk_top.specs.declared.fault.RunFault.TheVariants.{Words, TooLong, BadLine, Outside, Memory, NotBuilt}
+use Rattle.skk_top.specs.declared.fault.RunFault.TheVariants.{Words, TooLong, BadLine, LongDictionary, BadDictionary, Outside, Memory, NotBuilt}
 
 -- how a run ends: done, or with a fault
 abbrev pub Ended : Type 0
@@ -23,6 +23,8 @@ abbrev pub status_of : RunFault → ℕ
 status_of Words = 1
 status_of TooLong = 2
 status_of (BadLine number) = 2
+status_of (LongDictionary number) = 3
+status_of (BadDictionary number at) = 3
 status_of Outside = 4
 status_of Memory = 6
 status_of NotBuilt = 8
@@ -34,13 +36,15 @@ run_status (Err fault) = status_of fault
 
 -- the statuses that there are so far
 abbrev pub IsStatus : ℕ → Type 0
-IsStatus status = (status ≡ 0) ⊎ ((status ≡ 1) ⊎ ((status ≡ 2) ⊎ ((status ≡ 4) ⊎ ((status ≡ 6) ⊎ (status ≡ 8)))))
+IsStatus status = (status ≡ 0) ⊎ ((status ≡ 1) ⊎ ((status ≡ 2) ⊎ ((status ≡ 3) ⊎ ((status ≡ 4) ⊎ ((status ≡ 6) ⊎ (status ≡ 8))))))
 
 -- the line of a fault on standard error, with its LF
 abbrev pub message_of : RunFault → List ℕ
 message_of Words = codes "skk: words" ++ line_feed ∷ []
 message_of TooLong = codes "skk: script too long" ++ line_feed ∷ []
 message_of (BadLine number) = codes "skk: line " ++ decimal number ++ line_feed ∷ []
+message_of (LongDictionary number) = codes "skk: dictionary " ++ decimal number ++ codes " too long" ++ line_feed ∷ []
+message_of (BadDictionary number at) = codes "skk: dictionary " ++ decimal number ++ codes " byte " ++ decimal at ++ line_feed ∷ []
 message_of Outside = codes "skk: outside" ++ line_feed ∷ []
 message_of Memory = codes "skk: memory" ++ line_feed ∷ []
 message_of NotBuilt = codes "skk: not built" ++ line_feed ∷ []
@@ -50,7 +54,7 @@ abbrev pub run_message : Ended → List ℕ
 run_message (Ok done) = []
 run_message (Err fault) = message_of fault
 
--- what is told on standard error with each status but 2
+-- what is told on standard error with each status but 2 and 3
 abbrev pub message_at : ℕ → List ℕ
 message_at status =
     if status == 1 then message_of Words
@@ -64,11 +68,24 @@ abbrev pub Tells : List ℕ → Option (List ℕ) → Option (List ℕ) → ℕ 
 Tells message old new faults_before faults_after =
     Appends old new message ⊎ (AppendsPrefix old new message × Rose faults_before faults_after)
 
+-- a fault that may come while a script is read
+abbrev pub ComesOfScript : RunFault → Type 0
+ComesOfScript Words = ⊥
+ComesOfScript TooLong = ⊤
+ComesOfScript (BadLine number) = ⊤
+ComesOfScript (LongDictionary number) = ⊥
+ComesOfScript (BadDictionary number at) = ⊥
+ComesOfScript Outside = ⊤
+ComesOfScript Memory = ⊤
+ComesOfScript NotBuilt = ⊥
+
 -- a fault that may come while lines are typed
 abbrev pub ComesOfTyping : RunFault → Type 0
 ComesOfTyping Words = ⊥
 ComesOfTyping TooLong = ⊥
 ComesOfTyping (BadLine number) = ⊥
+ComesOfTyping (LongDictionary number) = ⊥
+ComesOfTyping (BadDictionary number at) = ⊥
 ComesOfTyping Outside = ⊤
 ComesOfTyping Memory = ⊤
 ComesOfTyping NotBuilt = ⊤

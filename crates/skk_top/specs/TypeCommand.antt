@@ -1,5 +1,5 @@
 -- What a run of `type` leaves.
-use Rattle.std.specs.Prelude.{◌≡◌, ◌≢◌, ◌⊎◌, ◌+◌, ◌<◌, ◌≤◌, ℕ, true, false, Option, Result, Err, List, MatchBool, IfOk, IfErr, IfSome, OnOk, OnErr, IsErrOf, length}
+use Rattle.std.specs.Prelude.{◌≡◌, ◌≢◌, ◌⊎◌, ◌+◌, ◌<◌, ◌≤◌, ℕ, true, false, Option, Result, List, MatchBool, IfOk, IfErr, IfSome, OnOk, OnErr, IsErrOf, length}
 use Rattle.std.specs.Io.KnownBytes.{Appends, IsAtEnd, Keeps}
 use Rattle.skk_outside.specs.Faults.{Rose}
 use Rattle.skk_outside.specs.Taken.{TakesAtMost}
@@ -8,10 +8,10 @@ use Rattle.skk_outside.specs.declared.source.TheConstants.{PIECE}
 use Rattle.romaji_rules.specs.declared.rule.Rule.{Rule}
 use Rattle.skk_text.specs.Lines.{lines_of}
 use Rattle.skk_top.specs.Script.{IsScript, IsFirstBad, are_built, script_limit}
-use Rattle.skk_top.specs.Status.{Ended, message_of, ComesOfTyping}
+use Rattle.skk_top.specs.Status.{Ended, message_of, ComesOfScript, ComesOfTyping}
 use Rattle.skk_top.specs.Typed.{typed, are_taken}
 use Rattle.skk_top.specs.declared.fault.RunFault.{RunFault}
-use Rattle.skk_top.specs.declared.fault.RunFault.TheVariants.{Words, TooLong, BadLine, Outside, NotBuilt}
+use Rattle.skk_top.specs.declared.fault.RunFault.TheVariants.{TooLong, BadLine, Outside, NotBuilt}
 use Rattle.skk_top.specs.declared.line.Line.{Line}
 
 -- bytes are too many for a script
@@ -55,6 +55,7 @@ pub record LeavesTyped (rules : List Rule) (status : ℕ) (message : List ℕ) (
     (written written' : Option (List ℕ)) (writes writes' : ℕ) : Type 0 where
   pub ended : status ≡ 0 → IsAtEnd left'
   pub words : status ≢ 1
+  pub dictionaries : status ≢ 3
   pub whole : status ≡ 0 → IfSome left (IsTypedWhole rules)
   pub read : TakesAtMost left left' (script_limit + PIECE)
   pub prints : IfSome left (λ bytes. PrintsScript rules status bytes written written')
@@ -73,8 +74,7 @@ pub record LeavesScript (result : Result (List Line) RunFault) (left left' : Opt
   pub too_long : IsErrOf result TooLong → IfSome left IsTooLong
   pub bad_line : (number : ℕ) → IsErrOf result (BadLine number) → IfSome left (λ bytes. IsBadAt bytes number)
   pub outside : IsErrOf result Outside → Rose reads reads'
-  pub words : result ≢ Err Words
-  pub built : result ≢ Err NotBuilt
+  pub fault : IfErr result ComesOfScript
   pub read : TakesAtMost left left' (script_limit + PIECE)
   pub counted : reads ≤ reads'
 

@@ -1,5 +1,5 @@
 ghost use Rattle.std.specs.Prelude.{◌≡◌, ◌<◌, MatchOption};
-ghost use Rattle.skk_top.specs.Command.{command_of, type_options, serve_options, load_options, is_script};
+ghost use Rattle.skk_top.specs.Command.{command_of, type_options, serve_options, load_options, is_script, file_checked};
 ghost use Rattle.skk_top.specs.Settings.{times};
 ghost use Rattle.skk_top.specs.declared.argument.Argument.TheVariants.{Dictionary};
 
@@ -35,7 +35,21 @@ pub enum Command<'a> {
     Load(LoadOptions),
 }
 
-impl Command<'_> {
+impl<'a> Command<'a> {
+    /// The name of the file that it is to check.
+    pub fn file_checked(&self) -> Option<Word<'a>>
+        ensures { result ≡ file_checked self.now }
+    {
+        match self {
+            Command::Check(file) => Some(file.again()),
+            Command::TypeScript(_) | Command::Serve(_) | Command::Load(_) => None,
+            Command::Dump {
+                learned: _,
+                book: _,
+            } => None,
+        }
+    }
+
     /// Whether it is to type a script.
     pub fn is_script(&self) -> bool
         ensures { result ≡ is_script self.now }

@@ -1,4 +1,8 @@
-ghost use Rattle.std.specs.Prelude.{◌≡◌, ◌≤◌};
+ghost use Rattle.std.specs.Prelude.{◌≡◌, ◌≤◌, ◌++◌, OnOk, OnErr};
+ghost use Rattle.std.specs.Fmt.{decimal};
+ghost use Rattle.std.specs.Io.KnownBytes.{Appends};
+ghost use Rattle.skk_outside.specs.Faults.{Rose};
+ghost use Rattle.skk_outside.specs.Written.{AppendsPrefix};
 ghost use Rattle.skk_top.specs.Status.{run_status, run_message, Tells};
 
 use crate::script::ScriptFault;
@@ -16,6 +20,10 @@ pub enum RunFault {
     TooLong,
     /// The first line of the script that is none, counted from 1.
     BadLine { number: usize },
+    /// The dictionary with this number, counted from 1, has more bytes than a dictionary may have.
+    LongDictionary { number: usize },
+    /// The dictionary with this number is not UTF-8: the longest prefix of it that is ends at this byte.
+    BadDictionary { number: usize, at: usize },
     /// A call on the outside failed.
     Outside,
     /// Out of memory.
@@ -53,6 +61,8 @@ impl RunFault {
         match self {
             RunFault::Words => 1,
             RunFault::TooLong | RunFault::BadLine { number: _ } => 2,
+            RunFault::LongDictionary { number: _ } => 3,
+            RunFault::BadDictionary { number: _, at: _ } => 3,
             RunFault::Outside => 4,
             RunFault::Memory => 6,
             RunFault::NotBuilt => 8,
@@ -69,16 +79,36 @@ impl RunFault {
         match self {
             RunFault::Words => write_all(err, b"skk: words\n"),
             RunFault::TooLong => write_all(err, b"skk: script too long\n"),
-            RunFault::BadLine { number } => {
-                write_all(err, b"skk: line ")?;
-                write_all(err, Buffer::new().format(number).as_bytes())?;
-                write_all(err, b"\n")
+            RunFault::BadLine { number } => tell_number(err, b"skk: line ", number, b"\n"),
+            RunFault::LongDictionary { number } => {
+                tell_number(err, b"skk: dictionary ", number, b" too long\n")
+            }
+            RunFault::BadDictionary { number, at } => {
+                tell_number(err, b"skk: dictionary ", number, b" byte ")?;
+                tell_number(err, b"", at, b"\n")
             }
             RunFault::Outside => write_all(err, b"skk: outside\n"),
             RunFault::Memory => write_all(err, b"skk: memory\n"),
             RunFault::NotBuilt => write_all(err, b"skk: not built\n"),
         }
     }
+}
+
+// Writes a number in decimal, with what stands before it and behind it.
+fn tell_number<E: Sink>(
+    err: &mut E,
+    before: &[u8],
+    number: usize,
+    behind: &[u8],
+) -> Result<(), Failed>
+    ensures ok { OnOk result (Appends (E.written err.old) (E.written err.new) (before.now ++ decimal number ++ behind.now)) }
+    ensures err { OnErr result (AppendsPrefix (E.written err.old) (E.written err.new) (before.now ++ decimal number ++ behind.now)) }
+    ensures failed { OnErr result (Rose (E.faults err.old) (E.faults err.new)) }
+    ensures counted { E.faults err.old ≤ E.faults err.new }
+{
+    write_all(err, before)?;
+    write_all(err, Buffer::new().format(number).as_bytes())?;
+    write_all(err, behind)
 }
 
 impl From<Memory> for RunFault {

@@ -7,8 +7,11 @@
 #![tactic(auto)]
 
 mod argument;
+mod check_command;
+mod checking;
 mod command;
 mod command_name;
+mod dictionary;
 mod fault;
 mod given;
 mod kana_input;

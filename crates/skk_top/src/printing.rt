@@ -17,7 +17,7 @@ const SHOWN: usize = 64;
 pub fn push_output_line(page: &mut Text, number: u8, session: &Session) -> Result<(), Memory>
     ensures { OnOk result (page.new ≡ page.old ++ output_line number session.now) }
 {
-    push_number(page, number)?;
+    push_number(page, usize::from(number))?;
     push_field(page, indicator(session.plain.mode))?;
     page.push('\t')?;
     push_display(page, session)?;
@@ -29,7 +29,7 @@ pub fn push_output_line(page: &mut Text, number: u8, session: &Session) -> Resul
 pub fn push_closing_line(page: &mut Text, number: u8, session: &Session) -> Result<(), Memory>
     ensures { OnOk result (page.new ≡ page.old ++ closing_line number session.now) }
 {
-    push_number(page, number)?;
+    push_number(page, usize::from(number))?;
     page.push('=')?;
     push_escaped(page, session.text.as_str())?;
     page.push('\n')
@@ -80,8 +80,8 @@ fn push_field(page: &mut Text, text: &str) -> Result<(), Memory>
     page.push_str(text)
 }
 
-// Adds a number in decimal.
-fn push_number(page: &mut Text, number: u8) -> Result<(), Memory>
+/// Adds a number in decimal behind a page.
+pub fn push_number(page: &mut Text, number: usize) -> Result<(), Memory>
     ensures { OnOk result (page.new ≡ page.old ++ decimal number) }
 {
     page.push_str(Buffer::new().format(number))

@@ -2,24 +2,27 @@ ghost use Rattle.std.specs.Prelude.{◌≡◌, ◌≢◌, ◌≤◌, ◌⊎◌, 
 ghost use Rattle.std.specs.Io.KnownBytes.{Keeps};
 ghost use Rattle.skk_outside.specs.Faults.{Rose};
 ghost use Rattle.romaji_rules.specs.Standard.{standard};
-ghost use Rattle.skk_top.specs.Command.{command_of, are_built_words};
+ghost use Rattle.skk_top.specs.CheckCommand.{LeavesChecked};
+ghost use Rattle.skk_top.specs.Command.{command_of, are_type_alone, file_to_check, are_built_words};
 ghost use Rattle.skk_top.specs.Status.{IsStatus, Tells, message_at};
 ghost use Rattle.skk_top.specs.TypeCommand.{LeavesTyped};
 
+use crate::check_command::run_check;
 use crate::command::read_command;
 use crate::fault::{RunFault, end_run};
 use crate::type_command::run_type;
-use skk_outside::{Sink, Source};
+use skk_outside::{Shelf, Sink, Source};
 use skk_text::Text;
 use std::alloc::Global;
 
 /// All that the program does. The words are those behind the program's name.
 ///
 /// A write on `err` that fails changes no status. Of the input at most one piece more is read than a
-/// script may have.
-pub fn run_alone<I: Source, O: Sink, E: Sink>(
+/// script may have, and of a file than a dictionary may have.
+pub fn run_alone<H: Shelf, I: Source, O: Sink, E: Sink>(
     alloc: Global,
     words: &[Text],
+    shelf: &mut H,
     input: &mut I,
     out: &mut O,
     err: &mut E,
@@ -29,29 +32,38 @@ pub fn run_alone<I: Source, O: Sink, E: Sink>(
     // Words that are no command, or a command that is not built.
     ensures words { (result ≡ 1) ↔ (command_of words.now ≡ None) }
     ensures not_built { IfSome (command_of words.now) (λ command. are_built_words words.now ≡ false → result ≡ 8) }
-    ensures unread { are_built_words words.now ≡ false → Keeps (I.left input.old) (I.left input.new) }
+    ensures unread { are_type_alone words.now ≡ false → Keeps (I.left input.old) (I.left input.new) }
     ensures untouched { are_built_words words.now ≡ false → Keeps (O.written out.old) (O.written out.new) }
 
     // A call on the outside failed where the status says so.
-    ensures outside { result ≡ 4 → Rose (I.faults input.old) (I.faults input.new) ⊎ Rose (O.faults out.old) (O.faults out.new) }
+    ensures outside { result ≡ 4 → Rose (H.faults shelf.old) (H.faults shelf.new)
+        ⊎ (Rose (I.faults input.old) (I.faults input.new) ⊎ Rose (O.faults out.old) (O.faults out.new)) }
 
     // What is told on standard error.
-    ensures told { result ≢ 2 → Tells (message_at result) (E.written err.old) (E.written err.new) (E.faults err.old) (E.faults err.new) }
+    ensures told { result ≢ 2 → result ≢ 3 → Tells (message_at result) (E.written err.old) (E.written err.new) (E.faults err.old) (E.faults err.new) }
 
     // No count of faults falls.
+    ensures shelf_counted { H.faults shelf.old ≤ H.faults shelf.new }
     ensures input_counted { I.faults input.old ≤ I.faults input.new }
     ensures out_counted { O.faults out.old ≤ O.faults out.new }
     ensures err_counted { E.faults err.old ≤ E.faults err.new }
 
     // What each command leaves.
-    ensures types { are_built_words words.now ≡ true → (message : List ℕ)
+    ensures types { are_type_alone words.now ≡ true → (message : List ℕ)
         × Tells message (E.written err.old) (E.written err.new) (E.faults err.old) (E.faults err.new)
         × LeavesTyped standard result message (I.left input.old) (I.left input.new) (I.faults input.old) (I.faults input.new)
         (O.written out.old) (O.written out.new) (O.faults out.old) (O.faults out.new) }
+    ensures checks { IfSome (file_to_check words.now) (λ name. (message : List ℕ)
+        × Tells message (E.written err.old) (E.written err.new) (E.faults err.old) (E.faults err.new)
+        × LeavesChecked result message (H.file shelf.old name) (H.faults shelf.old) (H.faults shelf.new)
+        (O.written out.old) (O.written out.new) (O.faults out.old) (O.faults out.new)) }
 {
     let Some(command) = read_command(words) else {
         return end_run(Err(RunFault::Words), err);
     };
+    if let Some(name) = command.file_checked() {
+        return end_run(run_check(alloc, &name, shelf, out), err);
+    }
     if words.len() != 1 || !command.is_script() {
         return end_run(Err(RunFault::NotBuilt), err);
     }

@@ -4,7 +4,7 @@ use crate::kana_input::Plain;
 use crate::printing::push_closing_line;
 use crate::run_alone;
 use crate::session_machine::Session;
-use skk_outside::{Failed, MemSink, MemSource, Outside, Sink};
+use skk_outside::{Failed, MemShelf, MemSink, MemSource, Outside, Sink};
 use skk_text::{Bytes, Notice, Text};
 use std::alloc::{AllocError, Global};
 use std::test::Fail;
@@ -25,7 +25,8 @@ fn type_lines<O: Sink>(
     pieces.push(Bytes::of(Vec::from_slice(alloc, &LINES[9..])?))?;
     let mut input = MemSource::new(pieces, vec![in alloc; read]?);
     let words = [Text::of(String::from_str(alloc, "type")?)];
-    Ok(run_alone(alloc, &words, &mut input, out, err))
+    let mut shelf = MemShelf::new(Vec::new(alloc), Vec::new(alloc));
+    Ok(run_alone(alloc, &words, &mut shelf, &mut input, out, err))
 }
 
 // The script is read in two pieces and then to its end; the output is written at once and flushed; a fault is told
@@ -57,6 +58,82 @@ fn calls_that_fail_end_the_run(rt: HostRuntime) -> Result<(), Fail> {
             told.written(),
             err.as_bytes(),
             "at {read}, {write} and {tell}"
+        );
+    }
+    Ok(())
+}
+
+// A file in which the okuri-ari part comes behind a row without okurigana.
+const SMALL: &str = "か /蚊/\n;; okuri-ari entries.\nおおk /大/\nおお /大/\nおおk 大/\n";
+
+const CHECKED: &str = "line 4 OkuriKey\nline 5 NoSlash\nokuri-ari 1 okuri-nasi 1 bad 2\n";
+
+const NO_UTF8: &[u8] = b"a /\xE3\x81\x82/\n /\xE3\x81/\n";
+
+// Runs `check` with a name on a shelf that has one file, `words`, with the number of the read that is to fail.
+fn check_file(
+    alloc: Global,
+    (name, content): (&str, &[u8]),
+    read: u64,
+    out: &mut MemSink,
+    err: &mut MemSink,
+) -> Result<u8, AllocError> {
+    let content = Bytes::of(Vec::from_slice(alloc, content)?);
+    let file = (Text::of(String::from_str(alloc, "words")?), content);
+    let files = Vec::from_array(alloc, [file])?;
+    let mut shelf = MemShelf::new(files, vec![in alloc; read]?);
+    let mut input = MemSource::new(Vec::new(alloc), vec![in alloc; 1]?);
+    let words = [
+        Text::of(String::from_str(alloc, "check")?),
+        Text::of(String::from_str(alloc, name)?),
+    ];
+    Ok(run_alone(alloc, &words, &mut shelf, &mut input, out, err))
+}
+
+// A file is read in one piece and then to its end; the output is written at once and flushed.
+#[test]
+fn files_are_checked(rt: HostRuntime) -> Result<(), Fail> {
+    let alloc = rt.alloc();
+    let small = ("words", SMALL.as_bytes());
+    for (file, read, write, status, out, err) in [
+        (small, 0, 0, 0, CHECKED, ""),
+        (small, 1, 0, 4, "", "skk: outside\n"),
+        (small, 2, 0, 4, "", "skk: outside\n"),
+        (small, 3, 0, 0, CHECKED, ""),
+        (small, 0, 1, 4, "", "skk: outside\n"),
+        (small, 0, 2, 4, CHECKED, "skk: outside\n"),
+        (
+            ("words", NO_UTF8),
+            0,
+            0,
+            3,
+            "",
+            "skk: dictionary 1 byte 10\n",
+        ),
+        (
+            ("words", b""),
+            0,
+            0,
+            0,
+            "okuri-ari 0 okuri-nasi 0 bad 0\n",
+            "",
+        ),
+        (("nowhere", b""), 0, 0, 4, "", "skk: outside\n"),
+    ] {
+        let mut written = MemSink::new(alloc, vec![in alloc; write]?);
+        let mut told = MemSink::new(alloc, Vec::new(alloc));
+        let ended = check_file(alloc, file, read, &mut written, &mut told)?;
+        let name = file.0;
+        assert_eq!(rt; ended, status, "{name} at {read} and {write}");
+        assert_eq!(rt;
+            written.written(),
+            out.as_bytes(),
+            "{name} at {read} and {write}"
+        );
+        assert_eq!(rt;
+            told.written(),
+            err.as_bytes(),
+            "{name} at {read} and {write}"
         );
     }
     Ok(())

@@ -1,9 +1,10 @@
-ghost use Rattle.std.specs.Prelude.{◌≡◌, [], Some, None, MatchOption};
+ghost use Rattle.std.specs.Prelude.{◌≡◌, [], Some, None, IfOk, MatchOption};
 ghost use Rattle.std.specs.Str.{chars};
 ghost use Rattle.skk_top.specs.Words.{is_name, number_within, cut};
 
 use crate::number::number_within;
-use skk_text::Text;
+use skk_text::{Memory, Text};
+use std::alloc::Global;
 use std::marker::Model;
 
 /// A word, or a part of one, as it was handed in: contracts see the list of its characters. It owns nothing.
@@ -50,6 +51,14 @@ impl<'a> Word<'a> {
         ensures { result ≡ self.now }
     {
         Word { text: self.text }
+    }
+
+    /// The word as a text of its own.
+    pub fn to_text(&self, alloc: Global) -> Result<Text, Memory>
+        ensures { IfOk result (λ text. text ≡ self.now) }
+    {
+        let copy = String::from_str(alloc, self.text)?;
+        Ok(Text::of(copy))
     }
 
     /// The word's content.

@@ -1,0 +1,116 @@
+ghost use Rattle.std.specs.Prelude.{◌≡◌, ◌≤◌, ◌++◌, [], OnOk, OnErr, IfErr, IsErrOf, encode_utf8_all};
+ghost use Rattle.std.specs.Str.{chars};
+ghost use Rattle.skk_outside.specs.Faults.{Rose};
+ghost use Rattle.skk_outside.specs.Written.{AppendsPrefix};
+ghost use Rattle.dict_format.specs.PrintedFiles.{is_of};
+ghost use Rattle.skk_top.specs.CheckCommand.{ComesOfPrinting, LeavesPrinted};
+ghost use Rattle.skk_top.specs.CheckedFiles.{reason_name, bad_line, bad_lines, count_of, counts_line, checked};
+ghost use Rattle.skk_top.specs.Page.{Printed};
+
+use crate::fault::RunFault;
+use crate::page::{print, print_full};
+use crate::printing::push_number;
+use dict_format::{BadLine, LineReason, Listed};
+use skk_calls::{Part, Row};
+use skk_outside::Sink;
+use skk_text::{Memory, Text};
+use std::alloc::Global;
+
+/// Prints the bad lines of a file, and the counts of what it lists.
+pub fn print_listed<O: Sink>(alloc: Global, listed: &Listed, out: &mut O) -> Result<(), RunFault>
+    ensures { LeavesPrinted (checked listed.now) result (O.written out.old) (O.written out.new) (O.faults out.old) (O.faults out.new) }
+{
+    print_lines(alloc, listed, out)?;
+    out.flush()?;
+    Ok(())
+}
+
+// Prints the bad lines and the counts.
+fn print_lines<O: Sink>(alloc: Global, listed: &Listed, out: &mut O) -> Result<(), RunFault>
+    ensures { LeavesPrinted (checked listed.now) result (O.written out.old) (O.written out.new) (O.faults out.old) (O.faults out.new) }
+{
+    let mut page = Text::new(alloc);
+    print_bad_lines(alloc, listed.bad.as_slice(), &mut page, out)?;
+    push_counts(&mut page, listed)?;
+    print(out, &page)?;
+    Ok(())
+}
+
+// Prints bad lines. What is not written yet is left in the page.
+fn print_bad_lines<O: Sink>(
+    alloc: Global,
+    bad: &[BadLine],
+    page: &mut Text,
+    out: &mut O,
+) -> Result<(), RunFault>
+    requires empty { page.old ≡ [] }
+    ensures ok { OnOk result (Printed (O.written out.old) (O.written out.new) page.new [] (bad_lines bad.now)) }
+    ensures err { OnErr result (AppendsPrefix (O.written out.old) (O.written out.new) (encode_utf8_all (bad_lines bad.now))) }
+    ensures outside { IsErrOf result RunFault.Outside → Rose (O.faults out.old) (O.faults out.new) }
+    ensures fault { IfErr result ComesOfPrinting }
+    ensures counted { O.faults out.old ≤ O.faults out.new }
+{
+    for line in bad {
+        push_bad_line(page, line)?;
+        print_full(alloc, out, page)?;
+    }
+    Ok(())
+}
+
+// Adds the line of a bad line.
+fn push_bad_line(page: &mut Text, bad: &BadLine) -> Result<(), Memory>
+    ensures { OnOk result (page.new ≡ page.old ++ bad_line bad.now) }
+{
+    page.push_str("line ")?;
+    push_number(page, bad.line)?;
+    page.push(' ')?;
+    page.push_str(reason_name(bad.reason))?;
+    page.push('\n')
+}
+
+// The name of a reason.
+#[tactic(auto, using(crate::proofs::Words::check_words))]
+fn reason_name(reason: LineReason) -> &'static str
+    ensures { chars result.now ≡ reason_name reason }
+{
+    match reason {
+        LineReason::LongLine => "LongLine",
+        LineReason::NoSpace => "NoSpace",
+        LineReason::BadReading => "BadReading",
+        LineReason::LongReading => "LongReading",
+        LineReason::OkuriKey => "OkuriKey",
+        LineReason::NoSlash => "NoSlash",
+        LineReason::Block => "Block",
+        LineReason::LongCandidate => "LongCandidate",
+        LineReason::Empty => "Empty",
+        LineReason::Twice => "Twice",
+    }
+}
+
+// Adds the line of the counts.
+fn push_counts(page: &mut Text, listed: &Listed) -> Result<(), Memory>
+    ensures { OnOk result (page.new ≡ page.old ++ counts_line listed.now) }
+{
+    let rows = listed.book.rows().as_slice();
+    page.push_str("okuri-ari ")?;
+    push_number(page, count_of(Part::Ari, rows))?;
+    page.push_str(" okuri-nasi ")?;
+    push_number(page, count_of(Part::Nasi, rows))?;
+    page.push_str(" bad ")?;
+    push_number(page, listed.bad.len())?;
+    page.push('\n')
+}
+
+// How many of the rows are of a part.
+fn count_of(part: Part, rows: &[Row]) -> usize
+    ensures { result ≡ count_of part rows.now }
+{
+    rows.iter().filter(|row| is_of(part, row)).count()
+}
+
+// Whether a row is of a part.
+fn is_of(part: Part, row: &Row) -> bool
+    ensures { result ≡ is_of part row.now }
+{
+    row.key().part() == part
+}

@@ -1,0 +1,51 @@
+ghost use Rattle.std.specs.Prelude.{◌≡◌};
+ghost use Rattle.skk_top.specs.CheckCommand.{LeavesDictionary, fault_of_shelf, fault_of_file};
+
+use crate::fault::RunFault;
+use dict_format::{FileFault, Listed, read_file};
+use skk_outside::{ReadFault, Shelf, read_named_file};
+use skk_text::Text;
+use std::alloc::Global;
+
+/// The most bytes of a dictionary.
+const DICTIONARY_LIMIT: usize = 67_108_864;
+
+/// Reads the dictionary with this number, counted from 1, from the file of this name.
+pub fn read_dictionary<H: Shelf>(
+    alloc: Global,
+    shelf: &mut H,
+    name: &Text,
+    number: usize,
+) -> Result<Listed, RunFault>
+    ensures { LeavesDictionary number result (H.file shelf.old name.now) (H.faults shelf.old) (H.faults shelf.new) }
+{
+    match read_named_file(alloc, shelf, name, DICTIONARY_LIMIT) {
+        Ok(bytes) => match read_file(alloc, bytes.as_slice()) {
+            Ok(listed) => Ok(listed),
+            Err(fault) => Err(fault_of_file(number, fault)),
+        },
+        Err(fault) => Err(fault_of_shelf(number, fault)),
+    }
+}
+
+// What a fault of reading its file is for the dictionary with this number.
+fn fault_of_shelf(number: usize, fault: ReadFault) -> RunFault
+    ensures { result ≡ fault_of_shelf number fault }
+{
+    match fault {
+        ReadFault::TooLong => RunFault::LongDictionary { number },
+        ReadFault::Failed => RunFault::Outside,
+        ReadFault::Memory => RunFault::Memory,
+    }
+}
+
+// What a fault of the bytes is for the dictionary with this number.
+fn fault_of_file(number: usize, fault: FileFault) -> RunFault
+    ensures { result ≡ fault_of_file number fault }
+{
+    match fault {
+        FileFault::TooLong { bytes: _ } => RunFault::LongDictionary { number },
+        FileFault::NotUtf8 { at } => RunFault::BadDictionary { number, at },
+        FileFault::Memory => RunFault::Memory,
+    }
+}
