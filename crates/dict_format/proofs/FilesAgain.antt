@@ -3,7 +3,7 @@ use Rattle.std.proofs.Common.{◌≡◌, ◌≤◌, ℕ, ◌+◌, Bool, true, fa
 use Rattle.std.specs.List.{flat_map, list_all, AllByRecursion}
 use Rattle.std.specs.Str.{IsUtf8, chars}
 use Rattle.std.proofs.Math.Utf8.{scalar, scalars}
-use Rattle.std.proofs.lemmas.Bool.{and_parts, and_from, both_ways, not-true}
+use Rattle.std.proofs.lemmas.Bool.{and_parts, and_from, not-true}
 use Rattle.std.proofs.lemmas.Grind.{flat_map-append}
 use Rattle.std.proofs.lemmas.List.{append-nil, map-append}
 use Rattle.std.proofs.lemmas.List.Folds.{list_all-append, list_all-map}
@@ -13,13 +13,14 @@ use Rattle.skk_text.specs.Lines.{with_first, lines_of}
 use Rattle.skk_calls.specs.declared.part.Part.{Part}
 use Rattle.skk_calls.specs.declared.part.Part.TheVariants.{Nasi, Ari}
 use Rattle.skk_calls.specs.Canonical.{canonical, is_good}
-use Rattle.skk_calls.specs.Rows.{Row, is_row, same_key, same_part, keys_differ}
+use Rattle.skk_calls.specs.Rows.{Row, is_row, same_key, keys_differ}
 use Rattle.dict_format.specs.declared.file.Listed.{Listed}
 use Rattle.dict_format.specs.declared.file_lines.LineKind.TheVariants.{Entry}
 use Rattle.dict_format.specs.FileLines.{FileEntry, Lists, TakeAll, entries_from, entries_of, entry_of, file_limit, has_key, kind_of, none_listed, part_behind, trimmed}
 use Rattle.dict_format.specs.Lines.{SpellsRow, lacks}
 use Rattle.dict_format.specs.PrintedFiles.{in_printing_order, is_of, part_in_order, part_line, printed_file, printed_part, with_line_end, without_stamp}
 use Rattle.dict_format.proofs.Ascending.{holds_moved}
+use Rattle.dict_format.proofs.FileRows.{part_is}
 use Rattle.dict_format.proofs.LineBytes.{bytes_lack, bytes_begin, bytes_line_end, bytes_part_line, bytes_slash, kind_entry, trimmed_slash}
 use Rattle.dict_format.proofs.LineEnds.{canonical_begins, canonical_ends, canonical_lacks}
 use Rattle.dict_format.proofs.LinesAgain.{canonical_spells, good_row}
@@ -77,12 +78,6 @@ row_read row valid good text =
     }
 
 -- rows of a part
-part_is : (part other : Part) → same_part part other ≡ true → part ≡ other
-part_is Nasi Nasi e = refl
-part_is Ari Ari e = refl
-part_is Nasi Ari e = absurd (both_ways false refl e)
-part_is Ari Nasi e = absurd (both_ways false refl e)
-
 rows_read : (part : Part) (rows : List Row) → list_all (is_of part) rows ≡ true → list_all is_row rows ≡ true → list_all is_good rows ≡ true → list_all scalars (map canonical rows) ≡ true
     → AllByRecursion (IsRead part) rows
 rows_read part [] of valid good text = tt

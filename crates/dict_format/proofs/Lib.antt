@@ -19,6 +19,7 @@ pub mod LineEnds
 pub mod LineReading
 pub mod LineTexts
 pub mod LinesAgain
+pub mod Making
 pub mod Pieces
 pub mod Printed
 pub mod PrintedCharacters

@@ -20,6 +20,7 @@ use Rattle.skk_calls.specs.Orders.{sort_by, text_less}
 use Rattle.skk_calls.specs.Rows.{Row, same_text, same_part, same_key, keys_differ}
 use Rattle.dict_format.specs.PrintedFiles.{is_of, is_printed_before, part_in_order, in_printing_order}
 use Rattle.dict_format.proofs.Ascending.{apart, all_weaker, holds_moved, not_itself, pairs_appended, pairs_weaker, sort_moves, sort_ascends, sort_stays}
+use Rattle.dict_format.proofs.FileRows.{other_part}
 use Rattle.dict_format.proofs.Firsts.{same-is, same-refl}
 
 -- two rows differ in their keys
@@ -130,26 +131,22 @@ filter_none p q other (x ∷ xs) none =
     by true e rest = cc
     by false e rest = rest
 
-other_part : (row : Row) → is_of Nasi row ≡ not (is_of Ari row)
-other_part row = by row.key.part
+-- a row is of one part alone
+one_part : (part : Part) (row : Row) → is_of (other_part part) row ≡ not (is_of part row)
+one_part part row = by part row.key.part
   where
-    by : (part : Part) → same_part part Nasi ≡ not (same_part part Ari)
-    by Nasi = refl
-    by Ari = refl
-
-one_part : (row : Row) → is_of Ari row ≡ not (is_of Nasi row)
-one_part row = by row.key.part
-  where
-    by : (part : Part) → same_part part Ari ≡ not (same_part part Nasi)
-    by Nasi = refl
-    by Ari = refl
+    by : (p q : Part) → same_part q (other_part p) ≡ not (same_part q p)
+    by Nasi Nasi = refl
+    by Nasi Ari = refl
+    by Ari Nasi = refl
+    by Ari Ari = refl
 
 -- printing order moves rows
 pub order_moves : (rows : List Row) → IsPermutation rows (in_printing_order rows)
 order_moves rows =
     let ari = filter (is_of Ari) rows in
     let nasi = filter (is_of Nasi) rows in
-    IsPermutation-trans rows (ari ++ nasi) (in_printing_order rows) (IsPermutation-filter_both (is_of Ari) (is_of Nasi) other_part rows)
+    IsPermutation-trans rows (ari ++ nasi) (in_printing_order rows) (IsPermutation-filter_both (is_of Ari) (is_of Nasi) (one_part Ari) rows)
     (IsPermutation-append ari (part_in_order Ari rows) nasi (part_in_order Nasi rows) (sort_moves (is_printed_before Ari) ari) (sort_moves (is_printed_before Nasi) nasi))
 
 -- of two rows of a part one of which is printed before the other, the keys differ
@@ -190,9 +187,9 @@ order_stays rows differ =
     let nasi = part_in_order Nasi rows in
     let first : filter (is_of Ari) (ari ++ nasi) ≡ ari =
     filter-append (is_of Ari) ari nasi ∙ ap (λ xs. xs ++ filter (is_of Ari) nasi) (filter_all (is_of Ari) ari (part_holds Ari rows))
-    ∙ ap (λ xs. ari ++ xs) (filter_none (is_of Ari) (is_of Nasi) other_part nasi (part_holds Nasi rows)) ∙ append-nil ari in
+    ∙ ap (λ xs. ari ++ xs) (filter_none (is_of Ari) (is_of Nasi) (one_part Ari) nasi (part_holds Nasi rows)) ∙ append-nil ari in
     let second : filter (is_of Nasi) (ari ++ nasi) ≡ nasi =
-    filter-append (is_of Nasi) ari nasi ∙ ap (λ xs. xs ++ filter (is_of Nasi) nasi) (filter_none (is_of Nasi) (is_of Ari) one_part ari (part_holds Ari rows))
+    filter-append (is_of Nasi) ari nasi ∙ ap (λ xs. xs ++ filter (is_of Nasi) nasi) (filter_none (is_of Nasi) (is_of Ari) (one_part Nasi) ari (part_holds Ari rows))
     ∙ filter_all (is_of Nasi) nasi (part_holds Nasi rows) in
     ap (λ xs. sort_by (is_printed_before Ari) xs ++ part_in_order Nasi (ari ++ nasi)) first
     ∙ ap (λ xs. sort_by (is_printed_before Ari) ari ++ sort_by (is_printed_before Nasi) xs) second

@@ -28,42 +28,27 @@ module _ {A : Type 0} (says : Item → List A) where
       ap (flat_map says) (map-append (λ (p : List (List ℕ) × Item). p.1) ps qs)
       ∙ flat_map-append says (map (λ (p : List (List ℕ) × Item). p.1) ps) (map (λ (p : List (List ℕ) × Item). p.1) qs)
 
+  -- pieces that say nothing, and pieces that say one thing each
+  said_none : {X : Type 0} (piece : X → List (List ℕ) × Item) → ((x : X) → says (piece x).1 ≡ []) → (xs : List X) → said (map piece xs) ≡ []
+  said_none piece none [] = refl
+  said_none piece none (x ∷ xs) = rw (none x) (said_none piece none xs)
+
+  said_each : (piece : A → List (List ℕ) × Item) → ((x : A) → says (piece x).1 ≡ x ∷ []) → (xs : List A) → said (map piece xs) ≡ xs
+  said_each piece each [] = refl
+  said_each piece each (x ∷ xs) = rw (each x) (ap (λ ys. x ∷ ys) (said_each piece each xs))
+
   row_said : (row : Row) → flat_map says (row_items row) ≡ (said (map cand_piece row.cands) ++ said (map block_piece row.blocks)) ++ said (mark_pieces row.hides)
   row_said row =
       said-append (map cand_piece row.cands ++ map block_piece row.blocks) (mark_pieces row.hides)
       ∙ ap (λ ys. ys ++ said (mark_pieces row.hides)) (said-append (map cand_piece row.cands) (map block_piece row.blocks))
 
-cands_in_cands : (cs : List Cand) → said cand_in (map cand_piece cs) ≡ cs
-cands_in_cands [] = refl
-cands_in_cands (c ∷ cs) = ap (λ ds. c ∷ ds) (cands_in_cands cs)
-
-cands_in_blocks : (bs : List Block) → said cand_in (map block_piece bs) ≡ []
-cands_in_blocks [] = refl
-cands_in_blocks (b ∷ bs) = cands_in_blocks bs
-
 cands_in_mark : (words : List (List ℕ)) → said cand_in (mark_pieces words) ≡ []
 cands_in_mark [] = refl
 cands_in_mark (w ∷ words) = refl
 
-blocks_in_cands : (cs : List Cand) → said block_in (map cand_piece cs) ≡ []
-blocks_in_cands [] = refl
-blocks_in_cands (c ∷ cs) = blocks_in_cands cs
-
-blocks_in_blocks : (bs : List Block) → said block_in (map block_piece bs) ≡ bs
-blocks_in_blocks [] = refl
-blocks_in_blocks (b ∷ bs) = ap (λ cs. b ∷ cs) (blocks_in_blocks bs)
-
 blocks_in_mark : (words : List (List ℕ)) → said block_in (mark_pieces words) ≡ []
 blocks_in_mark [] = refl
 blocks_in_mark (w ∷ words) = refl
-
-hidden_in_cands : (cs : List Cand) → said hidden_in (map cand_piece cs) ≡ []
-hidden_in_cands [] = refl
-hidden_in_cands (c ∷ cs) = hidden_in_cands cs
-
-hidden_in_blocks : (bs : List Block) → said hidden_in (map block_piece bs) ≡ []
-hidden_in_blocks [] = refl
-hidden_in_blocks (b ∷ bs) = hidden_in_blocks bs
 
 hidden_in_mark : (words : List (List ℕ)) → said hidden_in (mark_pieces words) ≡ words
 hidden_in_mark [] = refl
@@ -74,23 +59,23 @@ cands_said row =
     row_said cand_in row
     ∙ ap (λ ys. (said cand_in (map cand_piece row.cands) ++ said cand_in (map block_piece row.blocks)) ++ ys) (cands_in_mark row.hides)
     ∙ append-nil (said cand_in (map cand_piece row.cands) ++ said cand_in (map block_piece row.blocks))
-    ∙ ap (λ ys. said cand_in (map cand_piece row.cands) ++ ys) (cands_in_blocks row.blocks)
+    ∙ ap (λ ys. said cand_in (map cand_piece row.cands) ++ ys) (said_none cand_in block_piece (λ b. refl) row.blocks)
     ∙ append-nil (said cand_in (map cand_piece row.cands))
-    ∙ cands_in_cands row.cands
+    ∙ said_each cand_in cand_piece (λ c. refl) row.cands
 
 blocks_said : (row : Row) → flat_map block_in (row_items row) ≡ row.blocks
 blocks_said row =
     row_said block_in row
     ∙ ap (λ ys. (said block_in (map cand_piece row.cands) ++ said block_in (map block_piece row.blocks)) ++ ys) (blocks_in_mark row.hides)
     ∙ append-nil (said block_in (map cand_piece row.cands) ++ said block_in (map block_piece row.blocks))
-    ∙ ap (λ ys. ys ++ said block_in (map block_piece row.blocks)) (blocks_in_cands row.cands)
-    ∙ blocks_in_blocks row.blocks
+    ∙ ap (λ ys. ys ++ said block_in (map block_piece row.blocks)) (said_none block_in cand_piece (λ c. refl) row.cands)
+    ∙ said_each block_in block_piece (λ b. refl) row.blocks
 
 hidden_said : (row : Row) → flat_map hidden_in (row_items row) ≡ row.hides
 hidden_said row =
     row_said hidden_in row
-    ∙ ap (λ ys. (ys ++ said hidden_in (map block_piece row.blocks)) ++ said hidden_in (mark_pieces row.hides)) (hidden_in_cands row.cands)
-    ∙ ap (λ ys. ys ++ said hidden_in (mark_pieces row.hides)) (hidden_in_blocks row.blocks)
+    ∙ ap (λ ys. (ys ++ said hidden_in (map block_piece row.blocks)) ++ said hidden_in (mark_pieces row.hides)) (said_none hidden_in cand_piece (λ c. refl) row.cands)
+    ∙ ap (λ ys. ys ++ said hidden_in (mark_pieces row.hides)) (said_none hidden_in block_piece (λ b. refl) row.blocks)
     ∙ hidden_in_mark row.hides
 
 -- What is kept

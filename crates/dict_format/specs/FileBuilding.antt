@@ -1,17 +1,28 @@
 -- What is kept while a file is read.
-use Rattle.std.specs.Prelude.{◌≡◌, ℕ, true, if◌then◌else◌, List, [], ◌∷◌, ◌++◌}
+use Rattle.std.specs.Prelude.{◌≡◌, ℕ, Bool, true, if◌then◌else◌, List, [], ◌∷◌, ◌++◌}
+use Rattle.skk_calls.specs.declared.part.Part.{Part}
 use Rattle.skk_calls.specs.declared.part.Part.TheVariants.{Nasi, Ari}
-use Rattle.skk_calls.specs.Rows.{Row, has_text, keys_differ}
+use Rattle.skk_calls.specs.Rows.{Row, RowKey, has_text, keys_differ}
+use Rattle.dict_format.specs.Building.{texts_in}
 use Rattle.dict_format.specs.declared.file.Listed.{Listed}
+use Rattle.dict_format.specs.declared.readings.Readings.{Readings}
 use Rattle.dict_format.specs.declared.reason.LineReason.{LineReason}
 use Rattle.dict_format.specs.declared.reason.LineReason.TheVariants.{Twice}
 use Rattle.dict_format.specs.FileLines.{has_key}
 
--- the keys of rows differ, and these are their readings in the two parts
-pub record KnowsKeys (rows : List Row) (nasi ari : List (List ℕ)) : Type 0 where
+-- the readings of a part that are known
+abbrev pub known_in : Readings → Part → List (List ℕ)
+known_in readings Nasi = texts_in readings.nasi
+known_in readings Ari = texts_in readings.ari
+
+-- a key is known: its reading is one of those of its part
+abbrev pub knows : Readings → RowKey → Bool
+knows readings key = has_text (known_in readings key.part) key.reading
+
+-- the keys of rows differ, and they are those that are known
+pub record KnowsKeys (rows : List Row) (readings : Readings) : Type 0 where
   pub differ : keys_differ rows ≡ true
-  pub nasi_known : (reading : List ℕ) → has_text nasi reading ≡ has_key rows (record { part = Nasi; reading = reading })
-  pub ari_known : (reading : List ℕ) → has_text ari reading ≡ has_key rows (record { part = Ari; reading = reading })
+  pub known : (key : RowKey) → knows readings key ≡ has_key rows key
 
 -- what is listed with this line as a bad one more
 abbrev pub refused_with : Listed → ℕ → LineReason → Listed

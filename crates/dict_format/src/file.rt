@@ -27,7 +27,7 @@ pub struct Listed {
 /// Why a file is not read.
 #[derive(Clone, Copy, Debug, PartialEq, Eq, Error)]
 pub enum FileFault {
-    /// It has more bytes than 67,108,864.
+    /// It has more bytes than `FILE_LIMIT`.
     #[error("{bytes} bytes are too many")]
     TooLong { bytes: usize },
     /// It is not UTF-8: the longest prefix that is ends at this byte.

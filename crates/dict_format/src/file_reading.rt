@@ -13,8 +13,8 @@ use skk_text::Memory;
 use std::alloc::Global;
 use std::str;
 
-/// The most bytes of a file.
-const FILE_LIMIT: usize = 67_108_864;
+/// The most bytes that a dictionary file may have.
+pub const FILE_LIMIT: usize = 67_108_864;
 
 /// Reads a dictionary file: the rows of its good lines, and its bad lines with their reasons. Takes time in its bytes,
 /// but for the readings, each of which is looked for among those before it.

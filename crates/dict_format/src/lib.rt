@@ -19,6 +19,7 @@ mod laws;
 mod line;
 mod listing;
 mod printing;
+mod readings;
 mod reason;
 mod row;
 #[cfg(test)]
@@ -27,7 +28,7 @@ mod words;
 
 pub use file::{BadLine, BadLines, FileFault, Listed};
 pub use file_printing::print_file;
-pub use file_reading::read_file;
+pub use file_reading::{FILE_LIMIT, read_file};
 pub use laws::{
     good_rows_are_read_again, lines_spell_one_row, lines_spell_rows_or_have_reasons,
     printed_files_are_read_again, printing_order_moves_rows,

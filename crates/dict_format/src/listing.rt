@@ -1,29 +1,24 @@
-ghost use Rattle.std.specs.Prelude.{◌≡◌, ◌∷◌, ◌++◌, List, [], true, false, if◌then◌else◌, not, IfOk, OnOk};
-ghost use Rattle.skk_calls.specs.Rows.{Row, has_text};
-ghost use Rattle.dict_format.specs.Building.{texts_in};
-ghost use Rattle.dict_format.specs.FileBuilding.{KnowsKeys};
-ghost use Rattle.dict_format.specs.FileLines.{has_key};
+ghost use Rattle.std.specs.Prelude.{◌≡◌, OnOk};
+ghost use Rattle.dict_format.specs.FileBuilding.{KnowsKeys, listed_with};
 
 use crate::file::{BadLine, BadLines, Listed};
 use crate::line::read;
+use crate::readings::Readings;
 use crate::reason::{LineFault, LineReason};
-use indexmap::IndexSet;
-use skk_calls::{Book, Part, Row, RowKey, Rows};
-use skk_text::{Memory, Text};
+use skk_calls::{Book, Part, Row, Rows};
+use skk_text::Memory;
 use std::alloc::Global;
 use std::marker::Model;
 
-/// What is listed of a file so far, and the readings of its rows in each part.
+/// What is listed of a file so far, and the readings of its rows.
 #[derive(Drop)]
 pub struct Listing {
     rows: Rows,
     bad: BadLines,
-    nasi: IndexSet<String>,
-    ari: IndexSet<String>,
+    readings: Readings,
 }
 
 impl Model for Listing {
-    ghost use Rattle.dict_format.specs.Building.{texts_in};
     ghost use Rattle.dict_format.specs.FileBuilding.{KnowsKeys};
     ghost use Rattle.dict_format.specs.declared.file.Listed.{Listed};
 
@@ -31,7 +26,7 @@ impl Model for Listing {
 
     ghost view = { λ l. record { book = l.rows; bad = l.bad } };
 
-    ghost invariant = { λ l. KnowsKeys l.rows (texts_in l.nasi) (texts_in l.ari) };
+    ghost invariant = { λ l. KnowsKeys l.rows l.readings };
 }
 
 impl Listing {
@@ -47,8 +42,7 @@ impl Listing {
         Listing {
             rows: Rows::new(alloc),
             bad: BadLines::new(alloc),
-            nasi: IndexSet::new(alloc),
-            ari: IndexSet::new(alloc),
+            readings: Readings::new(alloc),
         }
     }
 
@@ -73,14 +67,8 @@ impl Listing {
         ensures { IfOk result (TakeAll self (record { number = number; part = part; text = chars line.now } ∷ [])) }
     {
         match read(alloc, part, line) {
-            Ok(row) => {
-                let after = self.take_row(alloc, number, row)?;
-                Ok(after)
-            }
-            Err(LineFault::Reason(reason)) => {
-                let after = self.refuse(number, reason)?;
-                Ok(after)
-            }
+            Ok(row) => self.take_row(alloc, number, row),
+            Err(LineFault::Reason(reason)) => self.refuse(number, reason),
             Err(LineFault::Memory) => Err(Memory),
         }
     }
@@ -92,22 +80,13 @@ impl Listing {
         let Listing {
             mut rows,
             mut bad,
-            mut nasi,
-            mut ari,
+            mut readings,
         } = self;
-        if add_key(alloc, &mut nasi, &mut ari, row.key())? {
-            rows.push(row)?;
-        } else {
-            bad.push(BadLine {
-                line: number,
-                reason: LineReason::Twice,
-            })?;
-        }
+        put_row(alloc, &mut rows, &mut bad, &mut readings, number, row)?;
         Ok(Listing {
             rows,
             bad,
-            nasi,
-            ari,
+            readings,
         })
     }
 
@@ -124,37 +103,24 @@ impl Listing {
     }
 }
 
-// Adds a key to those of rows, and answers whether it is a new one.
-fn add_key(
+// Puts the row of a line behind others, or the line behind other bad ones where its key is known.
+fn put_row(
     alloc: Global,
-    nasi: &mut IndexSet<String>,
-    ari: &mut IndexSet<String>,
-    key: &RowKey,
-) -> Result<bool, Memory>
-    ensures is_new { IfOk result (λ is_new. (rows : List Row) → KnowsKeys rows (texts_in nasi.old) (texts_in ari.old) → is_new ≡ not (has_key rows key.now)) }
-    ensures new { OnOk result ((rows : List Row) (row : Row) → KnowsKeys rows (texts_in nasi.old) (texts_in ari.old) → row.key ≡ key.now → has_key rows row.key ≡ false
-        → KnowsKeys (rows ++ row ∷ []) (texts_in nasi.new) (texts_in ari.new)) }
-    ensures same { OnOk result ((rows : List Row) → KnowsKeys rows (texts_in nasi.old) (texts_in ari.old) → has_key rows key.now ≡ true
-        → KnowsKeys rows (texts_in nasi.new) (texts_in ari.new)) }
+    rows: &mut Rows,
+    bad: &mut BadLines,
+    readings: &mut Readings,
+    number: usize,
+    row: Row,
+) -> Result<(), Memory>
+    ensures keys { OnOk result (KnowsKeys rows.old readings.old → KnowsKeys rows.new readings.new) }
+    ensures listed { OnOk result (KnowsKeys rows.old readings.old → record { book = rows.new; bad = bad.new } ≡ listed_with (record { book = rows.old; bad = bad.old }) number row) }
 {
-    match key.part() {
-        Part::Nasi => {
-            let is_new = add_reading(alloc, nasi, key.reading())?;
-            Ok(is_new)
-        }
-        Part::Ari => {
-            let is_new = add_reading(alloc, ari, key.reading())?;
-            Ok(is_new)
-        }
+    if readings.add(alloc, row.key())? {
+        rows.push(row)
+    } else {
+        bad.push(BadLine {
+            line: number,
+            reason: LineReason::Twice,
+        })
     }
-}
-
-// Adds a reading to those that are known, and answers whether it is a new one.
-fn add_reading(alloc: Global, known: &mut IndexSet<String>, reading: &Text) -> Result<bool, Memory>
-    ensures is_new { IfOk result (λ is_new. is_new ≡ not (has_text (texts_in known.old) reading.now)) }
-    ensures known { IfOk result (λ is_new. texts_in known.new ≡ (if is_new then texts_in known.old ++ reading.now ∷ [] else texts_in known.old)) }
-{
-    let copy = String::from_str(alloc, reading.as_str())?;
-    let is_new = known.insert(copy)?;
-    Ok(is_new)
 }

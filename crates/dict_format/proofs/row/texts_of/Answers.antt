@@ -1,6 +1,6 @@
-use Rattle.std.proofs.Common.{◌++◌, ◌∷◌, [], ◌∙◌, ap, sym, map, append_assoc}
-use Rattle.std.proofs.lemmas.List.{append-nil}
+use Rattle.std.proofs.Common.{◌++◌, ◌∙◌, ap, map}
 use Rattle.dict_format.specs.Views.{characters}
+use Rattle.dict_format.proofs.Making.{made_more, made_all}
 use Rattle.dict_format.proofs.row.texts_of.Goals as goal
 
 pub loop-word-init : goal.loop-word-init
@@ -8,15 +8,8 @@ loop-word-init c = ap (λ texts. texts ++ map characters c.into_iter-word-iterat
 
 pub loop-word-preserved : goal.loop-word-preserved
 loop-word-preserved c =
-    let left = map characters c.next.new.self in
-    ap (λ texts. texts ++ left) c.in_ok-push.ensures.ok
-    ∙ append_assoc c.loop-word.texts (c.of.result ∷ []) left
-    ∙ ap (λ text. c.loop-word.texts ++ text ∷ left) c.of.ensures
-    ∙ ap (λ words. c.loop-word.texts ++ map characters words) (sym c.in-Some.ensures.steps)
-    ∙ c.loop-word.invariant
+    made_more characters c.loop-word.texts c.loop-word.word-iterator (map characters c.args.words.keys) c.loop-word.invariant c.in-Some.word c.next.new.self c.of.result c.push.new.self
+    c.in-Some.ensures.steps c.of.ensures c.in_ok-push.ensures.ok
 
 pub returns : goal.returns
-returns c =
-    sym (append-nil c.loop-word.texts)
-    ∙ ap (λ words. c.loop-word.texts ++ map characters words) (sym c.in-None.ensures.steps.0)
-    ∙ c.loop-word.invariant
+returns c = made_all characters c.loop-word.texts c.loop-word.word-iterator (map characters c.args.words.keys) c.loop-word.invariant c.in-None.ensures.steps.0

@@ -3,7 +3,7 @@ use Rattle.skk_calls.specs.Rows.{has_text}
 use Rattle.dict_format.specs.Building.{texts_in}
 use Rattle.dict_format.specs.Views.{characters}
 use Rattle.dict_format.proofs.StringSets.{has_string}
-use Rattle.dict_format.proofs.listing.add_reading.Goals as goal
+use Rattle.dict_format.proofs.readings.add_reading.Goals as goal
 
 pub returns-clause-is_new : goal.returns-clause-is_new
 returns-clause-is_new c =
