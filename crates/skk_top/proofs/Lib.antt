@@ -1,6 +1,7 @@
 mod CheckExamples
 pub mod CheckRuns
 pub mod Commands
+pub mod Dictionaries
 pub mod Escapes
 mod Examples
 pub mod Limits
@@ -11,12 +12,14 @@ pub mod Numbers
 pub mod Pages
 pub mod PlainKeys
 pub mod PrintedChecks
+pub mod Ranges
 pub mod Reading
 pub mod Runs
 pub mod Scripts
 pub mod SessionMaps
 pub mod SettingLists
 pub mod Tables
+pub mod TopRuns
 pub mod Typed
 mod WordExamples
 pub mod WordTexts

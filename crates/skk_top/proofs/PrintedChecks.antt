@@ -1,14 +1,14 @@
 -- What the printing of a checked file leaves, by how it ends.
-use Rattle.std.proofs.Common.{◌≡◌, ◌≤◌, ◌<◌, ◌+◌, ◌++◌, ◌∙◌, [], ap, sym, subst, ℕ, Option, Some, None, List, append_assoc, length, drop, get_or, Ok, Err, IsErrAnd, rules}
+use Rattle.std.proofs.Common.{◌≡◌, ◌≤◌, ◌<◌, ◌+◌, ◌++◌, ◌∷◌, ◌∙◌, [], ap, sym, subst, ℕ, Option, Some, None, List, append_assoc, length, drop, get_or, Ok, Err, IsErrAnd, rules}
 use Rattle.std.proofs.lemmas.List.{append-nil, at_drop_more}
 use Rattle.std.specs.Io.KnownBytes.{Appends, Keeps}
 use Rattle.skk_outside.specs.Faults.{Rose}
 use Rattle.skk_outside.specs.Written.{AppendsPrefix}
 use Rattle.dict_format.specs.declared.file.BadLine.{BadLine}
-use Rattle.skk_top.specs.CheckCommand.{LeavesPrinted, ComesOfPrinting}
+use Rattle.skk_top.specs.CheckCommand.{LeavesPrinted}
 use Rattle.skk_top.specs.CheckedFiles.{bad_line, bad_lines}
 use Rattle.skk_top.specs.Page.{Printed}
-use Rattle.skk_top.specs.Status.{Ended}
+use Rattle.skk_top.specs.Status.{Ended, HasStatus}
 use Rattle.skk_top.specs.declared.fault.RunFault.{RunFault}
 use Rattle.skk_top.specs.declared.fault.RunFault.TheVariants.{Outside}
 use Rattle.skk_top.proofs.Pages.{Printed-more, Printed-rest}
@@ -44,13 +44,13 @@ Appends-kept (Some xs) (Some ys) (Some zs) bytes appends keeps = keeps ∙ appen
 
 -- with a fault
 pub printed-fault : (bytes : List ℕ) (ended : Ended) (fault : RunFault) (old new : Option (List ℕ)) (writes writes' : ℕ) → IsErrAnd ended (λ handed. handed ≡ fault)
-    → AppendsPrefix old new bytes → (fault ≡ Outside → Rose writes writes') → ComesOfPrinting fault → writes ≤ writes' → LeavesPrinted bytes ended old new writes writes'
+    → AppendsPrefix old new bytes → (fault ≡ Outside → Rose writes writes') → HasStatus (4 ∷ 6 ∷ []) fault → writes ≤ writes' → LeavesPrinted bytes ended old new writes writes'
 printed-fault bytes (Ok done) fault old new writes writes' is prefix outside comes counted = absurd (search (rules, is))
 printed-fault bytes (Err handed) fault old new writes writes' is prefix outside comes counted = record {
   whole = search rules;
   prefix = prefix;
   outside = λ e. outside (cc);
-  fault = subst ComesOfPrinting (sym is) comes;
+  fault = subst (HasStatus (4 ∷ 6 ∷ [])) (sym is) comes;
   counted = counted;
 }
 

@@ -1,24 +1,25 @@
 -- What a run of `type` leaves, of what its parts leave.
-use Rattle.std.proofs.Common.{◌≡◌, ◌≢◌, ◌≤◌, sym, ap, subst, refl, rules, ℕ, Option, Some, None, List, [], Ok, Err, OnOk, OnErr, IfErr, IfSome, IsErrOf, true, false, MatchBool, arith, inl, inr}
+use Rattle.std.proofs.Common.{◌≡◌, ◌≢◌, ◌≤◌, ◌==◌, ◌∙◌, sym, ap, subst, refl, rules, ℕ, Option, Some, None, List, [], ◌∷◌, Ok, Err, OnOk, OnErr, IfErr, IfSome, IsErrOf, true, false, MatchBool, arith, inl, inr}
 use Rattle.std.specs.Io.KnownBytes.{Appends, Keeps}
-use Rattle.std.proofs.lemmas.Bool.{cases_Bool}
+use Rattle.std.specs.List.{list_any}
+use Rattle.std.proofs.lemmas.Bool.{cases_Bool, false≢true, or_right}
 use Rattle.skk_outside.specs.Written.{AppendsPrefix}
 use Rattle.romaji_rules.specs.declared.rule.Rule.{Rule}
 use Rattle.skk_text.specs.Lines.{lines_of}
 use Rattle.skk_top.specs.Script.{IsScript, are_built}
-use Rattle.skk_top.specs.Status.{Ended, run_status, run_message, status_of, message_of, ComesOfScript, ComesOfTyping}
+use Rattle.skk_top.specs.Status.{Ended, run_status, run_message, status_of, message_of, HasStatus}
 use Rattle.skk_top.specs.TypeCommand.{LeavesTyped, LeavesScript, LeavesLines, IsTooLong, IsBadAt, IsRefused, IsRefusal, PrintsScript}
 use Rattle.skk_top.specs.Typed.{typed}
 use Rattle.skk_top.specs.declared.fault.RunFault.{RunFault}
-use Rattle.skk_top.specs.declared.fault.RunFault.TheVariants.{Words, TooLong, BadLine, LongDictionary, BadDictionary, Outside, Memory, NotBuilt}
+use Rattle.skk_top.specs.declared.fault.RunFault.TheVariants.{Words, TooLong, BadLine, Outside, NotBuilt}
 use Rattle.skk_top.specs.declared.line.Line.{Line}
 use Rattle.skk_top.proofs.Pages.{Appends-none, AppendsPrefix-whole}
 use Rattle.skk_top.proofs.Scripts.{OneListOfKeys, no_bad_line, one_list_of_lines}
 
 -- what is known of bytes that are told
-pub IfSome-all : (known : Option (List ℕ)) (P : List ℕ → Type 0) → ((bytes : List ℕ) → P bytes) → IfSome known P
+pub IfSome-all : {X : Type 0} (known : Option X) (P : X → Type 0) → ((x : X) → P x) → IfSome known P
 IfSome-all None P p = search rules
-IfSome-all (Some left) P p = p left
+IfSome-all (Some x) P p = p x
 
 pub each_some : {P Q : List ℕ → Type 0} (known : Option (List ℕ)) → ((bytes : List ℕ) → P bytes → Q bytes) → IfSome known P → IfSome known Q
 each_some None q p = search rules
@@ -28,27 +29,31 @@ pub Keeps-self : (known : Option (List ℕ)) → Keeps known known
 Keeps-self None = search rules
 Keeps-self (Some bytes) = refl
 
--- a fault has no status 0
+-- a number that is one of some is none that they lack
+other_number : (numbers : List ℕ) (number other : ℕ) → list_any (λ n. number == n) numbers ≡ true → list_any (λ n. other == n) numbers ≡ false → number ≢ other
+other_number numbers number other has lacks = λ e. false≢true (sym lacks ∙ ap (λ m. list_any (λ n. m == n) numbers) (sym e) ∙ has)
+
+-- a fault with one of some statuses has none that they lack
+pub other-status : (statuses : List ℕ) (fault : RunFault) (status : ℕ) → HasStatus statuses fault → list_any (λ s. status == s) statuses ≡ false → status_of fault ≢ status
+other-status statuses fault status has lacks = other_number statuses (status_of fault) status has lacks
+
+-- neither has a run that is done or ends with such a fault
+pub other-end : (statuses : List ℕ) (ended : Ended) (status : ℕ) → IfErr ended (HasStatus statuses) → list_any (λ s. status == s) (0 ∷ statuses) ≡ false → run_status ended ≢ status
+other-end statuses (Ok done) status has lacks = other_number (0 ∷ statuses) 0 status refl lacks
+other-end statuses (Err fault) status has lacks = other_number (0 ∷ statuses) (status_of fault) status (or_right (status_of fault == 0) (list_any (λ s. status_of fault == s) statuses) has) lacks
+
+-- no fault has status 0, and the outside and what is not built have each a status of its own
 pub fault-status : (fault : RunFault) → status_of fault ≢ 0
 fault-status Words = λ e. omega arith
-fault-status TooLong = λ e. omega arith
-fault-status (BadLine number) = λ e. omega arith
-fault-status (LongDictionary number) = λ e. omega arith
-fault-status (BadDictionary number at) = λ e. omega arith
-fault-status Outside = λ e. omega arith
-fault-status Memory = λ e. omega arith
-fault-status NotBuilt = λ e. omega arith
+fault-status fault = λ e. omega arith
 
--- status 1 is of the words alone
-words-fault : (fault : RunFault) → status_of fault ≡ 1 → fault ≡ Words
-words-fault Words e = refl
-words-fault TooLong e = absurd (omega (arith, e))
-words-fault (BadLine number) e = absurd (omega (arith, e))
-words-fault (LongDictionary number) e = absurd (omega (arith, e))
-words-fault (BadDictionary number at) e = absurd (omega (arith, e))
-words-fault Outside e = absurd (omega (arith, e))
-words-fault Memory e = absurd (omega (arith, e))
-words-fault NotBuilt e = absurd (omega (arith, e))
+pub outside-fault : (fault : RunFault) → status_of fault ≡ 4 → fault ≡ Outside
+outside-fault Outside e = refl
+outside-fault fault e = absurd (omega (arith, e))
+
+not_built-fault : (fault : RunFault) → status_of fault ≡ 8 → fault ≡ NotBuilt
+not_built-fault NotBuilt e = refl
+not_built-fault fault e = absurd (omega (arith, e))
 
 -- how a run ended, by its status
 pub done-of : {P : Type 0} (ended : Ended) → OnOk ended P → run_status ended ≡ 0 → P
@@ -57,63 +62,11 @@ done-of (Err fault) ok e = absurd (fault-status fault e)
 
 pub outside-of : (ended : Ended) → run_status ended ≡ 4 → IsErrOf ended Outside
 outside-of (Ok done) e = absurd (omega (arith, e))
-outside-of (Err Words) e = absurd (omega (arith, e))
-outside-of (Err TooLong) e = absurd (omega (arith, e))
-outside-of (Err (BadLine number)) e = absurd (omega (arith, e))
-outside-of (Err (LongDictionary number)) e = absurd (omega (arith, e))
-outside-of (Err (BadDictionary number at)) e = absurd (omega (arith, e))
-outside-of (Err Outside) e = refl
-outside-of (Err Memory) e = absurd (omega (arith, e))
-outside-of (Err NotBuilt) e = absurd (omega (arith, e))
+outside-of (Err fault) e = ap Err (outside-fault fault e)
 
 not_built-of : (ended : Ended) → run_status ended ≡ 8 → IsErrOf ended NotBuilt
 not_built-of (Ok done) e = absurd (omega (arith, e))
-not_built-of (Err Words) e = absurd (omega (arith, e))
-not_built-of (Err TooLong) e = absurd (omega (arith, e))
-not_built-of (Err (BadLine number)) e = absurd (omega (arith, e))
-not_built-of (Err (LongDictionary number)) e = absurd (omega (arith, e))
-not_built-of (Err (BadDictionary number at)) e = absurd (omega (arith, e))
-not_built-of (Err Outside) e = absurd (omega (arith, e))
-not_built-of (Err Memory) e = absurd (omega (arith, e))
-not_built-of (Err NotBuilt) e = refl
-
--- a script that was typed is not refused
-typing-status : (ended : Ended) → IfErr ended ComesOfTyping → run_status ended ≢ 2
-typing-status (Ok done) comes = λ e. omega arith
-typing-status (Err Words) comes = absurd comes
-typing-status (Err TooLong) comes = absurd comes
-typing-status (Err (BadLine number)) comes = absurd comes
-typing-status (Err (LongDictionary number)) comes = absurd comes
-typing-status (Err (BadDictionary number at)) comes = absurd comes
-typing-status (Err Outside) comes = λ e. omega arith
-typing-status (Err Memory) comes = λ e. omega arith
-typing-status (Err NotBuilt) comes = λ e. omega arith
-
-typing-words : (ended : Ended) → IfErr ended ComesOfTyping → run_status ended ≢ 1
-typing-words (Ok done) comes = λ e. omega arith
-typing-words (Err fault) comes = λ e. subst ComesOfTyping (words-fault fault e) comes
-
-typing-dictionaries : (ended : Ended) → IfErr ended ComesOfTyping → run_status ended ≢ 3
-typing-dictionaries (Ok done) comes = λ e. omega arith
-typing-dictionaries (Err Words) comes = absurd comes
-typing-dictionaries (Err TooLong) comes = absurd comes
-typing-dictionaries (Err (BadLine number)) comes = absurd comes
-typing-dictionaries (Err (LongDictionary number)) comes = absurd comes
-typing-dictionaries (Err (BadDictionary number at)) comes = absurd comes
-typing-dictionaries (Err Outside) comes = λ e. omega arith
-typing-dictionaries (Err Memory) comes = λ e. omega arith
-typing-dictionaries (Err NotBuilt) comes = λ e. omega arith
-
--- a fault that comes while a script is read is none of the words, nor of a dictionary, nor of what is not built
-script-status : (fault : RunFault) → ComesOfScript fault → (status_of fault ≢ 1) × (status_of fault ≢ 3) × (status_of fault ≢ 8)
-script-status Words comes = absurd comes
-script-status TooLong comes = (λ e. omega (arith, e), λ e. omega (arith, e), λ e. omega (arith, e))
-script-status (BadLine number) comes = (λ e. omega (arith, e), λ e. omega (arith, e), λ e. omega (arith, e))
-script-status (LongDictionary number) comes = absurd comes
-script-status (BadDictionary number at) comes = absurd comes
-script-status Outside comes = (λ e. omega (arith, e), λ e. omega (arith, e), λ e. omega (arith, e))
-script-status Memory comes = (λ e. omega (arith, e), λ e. omega (arith, e), λ e. omega (arith, e))
-script-status NotBuilt comes = absurd comes
+not_built-of (Err fault) e = ap Err (not_built-fault fault e)
 
 -- all or a prefix of it was written
 pub prefix-of : (ended : Ended) (old new : Option (List ℕ)) (whole : List ℕ) → OnOk ended (Appends old new whole) → OnErr ended (AppendsPrefix old new whole) → AppendsPrefix old new whole
@@ -125,16 +78,7 @@ refusal : (fault : RunFault) (known : Option (List ℕ)) → (fault ≡ TooLong 
     → status_of fault ≡ 2 → IfSome known (λ bytes. IsRefusal bytes (message_of fault))
 refusal TooLong known long bad two = each_some known (λ bytes is. inl (is, refl)) (long refl)
 refusal (BadLine number) known long bad two = each_some known (λ bytes is. inr (number, is, refl)) (bad number refl)
-refusal Words known long bad two = absurd (omega (arith, two))
-refusal (LongDictionary number) known long bad two = absurd (omega (arith, two))
-refusal (BadDictionary number at) known long bad two = absurd (omega (arith, two))
-refusal Outside known long bad two = absurd (omega (arith, two))
-refusal Memory known long bad two = absurd (omega (arith, two))
-refusal NotBuilt known long bad two = absurd (omega (arith, two))
-
--- a fault with status 4 is the one that there is
-pub outside-fault : (fault : RunFault) → status_of fault ≡ 4 → fault ≡ Outside
-outside-fault fault e = let is : IsErrOf {T = Unit {0}} (Err fault) Outside = outside-of (Err fault) e in cc
+refusal fault known long bad two = absurd (omega (arith, two))
 
 -- where no script was read, nothing was printed
 prints-nothing : (rules : List Rule) (status : ℕ) (bytes : List ℕ) (known : Option (List ℕ)) → status ≢ 0 → PrintsScript rules status bytes known known
@@ -148,8 +92,8 @@ pub leaves-refused : (rules : List Rule) (fault : RunFault) (left left' : Option
     → LeavesScript (Err fault) left left' reads reads' → LeavesTyped rules (status_of fault) (message_of fault) left left' reads reads' written written writes writes
 leaves-refused rules fault left left' reads reads' written writes script = record {
   ended = λ e. absurd (fault-status fault e);
-  words = (script-status fault script.fault).0;
-  dictionaries = (script-status fault script.fault).1;
+  words = other-status (2 ∷ 4 ∷ 6 ∷ []) fault 1 script.fault refl;
+  dictionaries = other-status (2 ∷ 4 ∷ 6 ∷ []) fault 3 script.fault refl;
   whole = λ e. absurd (fault-status fault e);
   read = script.read;
   prints = IfSome-all left _ (λ bytes. prints-nothing rules (status_of fault) bytes written (fault-status fault));
@@ -157,7 +101,7 @@ leaves-refused rules fault left left' reads reads' written writes script = recor
   nothing_refused = λ e. Keeps-self written;
   refused = λ e. refusal fault left (λ is. script.too_long (ap Err is)) (λ number is. script.bad_line number (ap Err is)) e;
   outside = λ e. inl (script.outside (ap Err (outside-fault fault e)));
-  not_built = λ e. absurd ((script-status fault script.fault).2 e);
+  not_built = λ e. absurd (other-status (2 ∷ 4 ∷ 6 ∷ []) fault 8 script.fault refl e);
   reads_counted = script.counted;
   writes_counted = omega arith;
 }
@@ -179,8 +123,8 @@ leaves-built : OneListOfKeys → (rules : List Rule) (lines : List Line) (ended 
     → LeavesTyped rules (run_status ended) (run_message ended) left left' reads reads' old new writes writes'
 leaves-built unique rules lines ended left left' reads reads' old new writes writes' script built typing = record {
   ended = λ e. script.ended;
-  words = typing-words ended typing.fault;
-  dictionaries = typing-dictionaries ended typing.fault;
+  words = other-end (4 ∷ 6 ∷ 8 ∷ []) ended 1 typing.fault refl;
+  dictionaries = other-end (4 ∷ 6 ∷ 8 ∷ []) ended 3 typing.fault refl;
   whole = λ e. each_some left (λ bytes is. (lines, is, built, done-of ended typing.taken e)) script.whole;
   read = script.read;
   prints = each_some left (λ bytes is.
@@ -188,8 +132,8 @@ leaves-built unique rules lines ended left left' reads reads' old new writes wri
       (subst (λ b. MatchBool b (AppendsPrefix old new (typed rules lines) × (run_status ended ≡ 0 → Appends old new (typed rules lines))) (Keeps old new)) (sym built)
       (prefix-of ended old new (typed rules lines) typing.whole typing.prefix, λ e. done-of ended typing.whole e))) script.whole;
   nothing = each_some left (λ bytes is refused. absurd (not_refused unique lines bytes is refused)) script.whole;
-  nothing_refused = λ e. absurd (typing-status ended typing.fault e);
-  refused = λ e. absurd (typing-status ended typing.fault e);
+  nothing_refused = λ e. absurd (other-end (4 ∷ 6 ∷ 8 ∷ []) ended 2 typing.fault refl e);
+  refused = λ e. absurd (other-end (4 ∷ 6 ∷ 8 ∷ []) ended 2 typing.fault refl e);
   outside = λ e. inr (typing.outside (outside-of ended e));
   not_built = λ e. each_some left (λ bytes is. (lines, is, inr (typing.not_built (not_built-of ended e)))) script.whole;
   reads_counted = script.counted;

@@ -1,5 +1,5 @@
 -- What the typing of lines leaves, by how it ends.
-use Rattle.std.proofs.Common.{◌≡◌, ◌≤◌, ◌<◌, ◌+◌, ◌∙◌, ap, sym, subst, ℕ, true, false, Option, List, ◌∷◌, ◌++◌, length, drop, get_or, Ok, Err, IsErrAnd, rules, arith}
+use Rattle.std.proofs.Common.{◌≡◌, ◌≤◌, ◌<◌, ◌+◌, ◌∙◌, ap, sym, subst, ℕ, true, false, Option, List, [], ◌∷◌, ◌++◌, length, drop, get_or, Ok, Err, IsErrAnd, rules, arith}
 use Rattle.std.proofs.lemmas.List.{at_drop_more}
 use Rattle.std.specs.Io.KnownBytes.{Appends}
 use Rattle.skk_outside.specs.Faults.{Rose}
@@ -7,7 +7,7 @@ use Rattle.skk_outside.specs.Written.{AppendsPrefix}
 use Rattle.romaji_rules.specs.declared.rule.Rule.{Rule}
 use Rattle.skk_top.specs.Page.{Printed}
 use Rattle.skk_top.specs.Sessions.{SessionMap}
-use Rattle.skk_top.specs.Status.{Ended, ComesOfTyping}
+use Rattle.skk_top.specs.Status.{Ended, HasStatus}
 use Rattle.skk_top.specs.TypeCommand.{LeavesLines}
 use Rattle.skk_top.specs.Typed.{typed, typed_from, are_taken}
 use Rattle.skk_top.specs.declared.fault.RunFault.{RunFault}
@@ -30,7 +30,7 @@ printed-line table sessions sessions' lines place line old new page page' whole 
 
 -- with a fault
 pub leaves-fault : (table : List Rule) (lines : List Line) (fault : RunFault) (old new : Option (List ℕ)) (writes writes' : ℕ) → AppendsPrefix old new (typed table lines)
-    → (fault ≡ NotBuilt → are_taken table lines ≡ false) → (fault ≡ Outside → Rose writes writes') → ComesOfTyping fault → writes ≤ writes' → LeavesLines table lines (Err fault) old new writes writes'
+    → (fault ≡ NotBuilt → are_taken table lines ≡ false) → (fault ≡ Outside → Rose writes writes') → HasStatus (4 ∷ 6 ∷ 8 ∷ []) fault → writes ≤ writes' → LeavesLines table lines (Err fault) old new writes writes'
 leaves-fault table lines fault old new writes writes' prefix not_built outside comes counted = record {
   whole = search rules;
   prefix = prefix;

@@ -1,5 +1,5 @@
 -- What a run of `check` leaves.
-use Rattle.std.specs.Prelude.{◌≡◌, ◌≢◌, ◌⊎◌, ⊤, ◌<◌, ◌≤◌, ℕ, Option, Result, List, IfOk, IfErr, IfSome, OnOk, OnErr, IsErrOf, length}
+use Rattle.std.specs.Prelude.{◌≡◌, ◌≢◌, ◌⊎◌, ◌<◌, ◌≤◌, ℕ, Option, Result, List, [], ◌∷◌, IfOk, IfErr, IfSome, OnOk, OnErr, IsErrOf, length}
 use Rattle.std.specs.Io.KnownBytes.{Appends, Keeps}
 use Rattle.std.specs.Str.{IsUtf8}
 use Rattle.std.specs.Str.Lossy.{utf8_valid_len}
@@ -12,9 +12,9 @@ use Rattle.dict_format.specs.declared.file.FileFault.{FileFault}
 use Rattle.dict_format.specs.declared.file.FileFault.TheVariants as files
 use Rattle.dict_format.specs.declared.file.Listed.{Listed}
 use Rattle.skk_top.specs.CheckedFiles.{checked}
-use Rattle.skk_top.specs.Status.{Ended, message_of}
+use Rattle.skk_top.specs.Status.{Ended, message_of, HasStatus}
 use Rattle.skk_top.specs.declared.fault.RunFault.{RunFault}
-use Rattle.skk_top.specs.declared.fault.RunFault.TheVariants.{Words, TooLong, BadLine, LongDictionary, BadDictionary, Outside, Memory, NotBuilt}
+use Rattle.skk_top.specs.declared.fault.RunFault.TheVariants.{LongDictionary, BadDictionary, Outside, Memory}
 
 -- bytes are too many for a dictionary
 abbrev pub IsLongDictionary : List ℕ → Type 0
@@ -59,28 +59,6 @@ pub record LeavesChecked (status : ℕ) (message : List ℕ) (file : Option (Lis
   pub reads_counted : reads ≤ reads'
   pub writes_counted : writes ≤ writes'
 
--- a fault that may come while a dictionary is read
-abbrev pub ComesOfDictionary : RunFault → Type 0
-ComesOfDictionary Words = ⊥
-ComesOfDictionary TooLong = ⊥
-ComesOfDictionary (BadLine number) = ⊥
-ComesOfDictionary (LongDictionary number) = ⊤
-ComesOfDictionary (BadDictionary number at) = ⊤
-ComesOfDictionary Outside = ⊤
-ComesOfDictionary Memory = ⊤
-ComesOfDictionary NotBuilt = ⊥
-
--- a fault that may come while something is printed
-abbrev pub ComesOfPrinting : RunFault → Type 0
-ComesOfPrinting Words = ⊥
-ComesOfPrinting TooLong = ⊥
-ComesOfPrinting (BadLine number) = ⊥
-ComesOfPrinting (LongDictionary number) = ⊥
-ComesOfPrinting (BadDictionary number at) = ⊥
-ComesOfPrinting Outside = ⊤
-ComesOfPrinting Memory = ⊤
-ComesOfPrinting NotBuilt = ⊥
-
 -- bytes list this, and nothing else
 abbrev pub ListsOnly : List ℕ → Listed → Type 0
 ListsOnly bytes listed = Lists bytes listed × ((other : Listed) → Lists bytes other → other ≡ listed)
@@ -91,7 +69,7 @@ pub record LeavesDictionary (number : ℕ) (result : Result Listed RunFault) (fi
   pub too_long : (k : ℕ) → IsErrOf result (LongDictionary k) → (k ≡ number) × IfSome file IsLongDictionary
   pub not_utf8 : (k at : ℕ) → IsErrOf result (BadDictionary k at) → (k ≡ number) × IfSome file (λ bytes. IsBadDictionary bytes at)
   pub outside : IsErrOf result Outside → Rose reads reads'
-  pub fault : IfErr result ComesOfDictionary
+  pub fault : IfErr result (HasStatus (3 ∷ 4 ∷ 6 ∷ []))
   pub counted : reads ≤ reads'
 
 -- what the printing of bytes leaves in a sink, by how it ends
@@ -99,7 +77,7 @@ pub record LeavesPrinted (bytes : List ℕ) (ended : Ended) (written written' : 
   pub whole : OnOk ended (Appends written written' bytes)
   pub prefix : OnErr ended (AppendsPrefix written written' bytes)
   pub outside : IsErrOf ended Outside → Rose writes writes'
-  pub fault : IfErr ended ComesOfPrinting
+  pub fault : IfErr ended (HasStatus (4 ∷ 6 ∷ []))
   pub counted : writes ≤ writes'
 
 -- what a fault of reading its file is for the dictionary with this number

@@ -7,6 +7,7 @@ pub mod KanaInput
 pub mod Marks
 pub mod Page
 pub mod Printing
+pub mod Ranges
 pub mod Script
 pub mod SessionMachine
 pub mod Sessions

@@ -1,7 +1,8 @@
 -- How a run ends: its status, and its line on standard error.
-use Rattle.std.specs.Prelude.{◌≡◌, ◌⊎◌, ⊤, ℕ, ◌==◌, if◌then◌else◌, Option, Result, Ok, Err, List, ◌++◌, [], ◌∷◌, codes}
+use Rattle.std.specs.Prelude.{◌≡◌, ◌⊎◌, ℕ, true, ◌==◌, if◌then◌else◌, Option, Result, Ok, Err, List, ◌++◌, [], ◌∷◌, codes}
 use Rattle.std.specs.Fmt.{decimal}
 use Rattle.std.specs.Io.KnownBytes.{Appends}
+use Rattle.std.specs.List.{list_any}
 use Rattle.skk_outside.specs.Faults.{Rose}
 use Rattle.skk_outside.specs.Written.{AppendsPrefix}
 use Rattle.skk_outside.specs.declared.source.ReadFault.{ReadFault}
@@ -68,27 +69,9 @@ abbrev pub Tells : List ℕ → Option (List ℕ) → Option (List ℕ) → ℕ 
 Tells message old new faults_before faults_after =
     Appends old new message ⊎ (AppendsPrefix old new message × Rose faults_before faults_after)
 
--- a fault that may come while a script is read
-abbrev pub ComesOfScript : RunFault → Type 0
-ComesOfScript Words = ⊥
-ComesOfScript TooLong = ⊤
-ComesOfScript (BadLine number) = ⊤
-ComesOfScript (LongDictionary number) = ⊥
-ComesOfScript (BadDictionary number at) = ⊥
-ComesOfScript Outside = ⊤
-ComesOfScript Memory = ⊤
-ComesOfScript NotBuilt = ⊥
-
--- a fault that may come while lines are typed
-abbrev pub ComesOfTyping : RunFault → Type 0
-ComesOfTyping Words = ⊥
-ComesOfTyping TooLong = ⊥
-ComesOfTyping (BadLine number) = ⊥
-ComesOfTyping (LongDictionary number) = ⊥
-ComesOfTyping (BadDictionary number at) = ⊥
-ComesOfTyping Outside = ⊤
-ComesOfTyping Memory = ⊤
-ComesOfTyping NotBuilt = ⊤
+-- a fault has one of these statuses
+abbrev pub HasStatus : List ℕ → RunFault → Type 0
+HasStatus statuses fault = list_any (λ status. status_of fault == status) statuses ≡ true
 
 -- what a fault of a key is for the run
 abbrev pub fault_of_press : PressFault → RunFault

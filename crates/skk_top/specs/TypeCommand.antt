@@ -1,5 +1,5 @@
 -- What a run of `type` leaves.
-use Rattle.std.specs.Prelude.{◌≡◌, ◌≢◌, ◌⊎◌, ◌+◌, ◌<◌, ◌≤◌, ℕ, true, false, Option, Result, List, MatchBool, IfOk, IfErr, IfSome, OnOk, OnErr, IsErrOf, length}
+use Rattle.std.specs.Prelude.{◌≡◌, ◌≢◌, ◌⊎◌, ◌+◌, ◌<◌, ◌≤◌, ℕ, true, false, Option, Result, List, [], ◌∷◌, MatchBool, IfOk, IfErr, IfSome, OnOk, OnErr, IsErrOf, length}
 use Rattle.std.specs.Io.KnownBytes.{Appends, IsAtEnd, Keeps}
 use Rattle.skk_outside.specs.Faults.{Rose}
 use Rattle.skk_outside.specs.Taken.{TakesAtMost}
@@ -8,7 +8,7 @@ use Rattle.skk_outside.specs.declared.source.TheConstants.{PIECE}
 use Rattle.romaji_rules.specs.declared.rule.Rule.{Rule}
 use Rattle.skk_text.specs.Lines.{lines_of}
 use Rattle.skk_top.specs.Script.{IsScript, IsFirstBad, are_built, script_limit}
-use Rattle.skk_top.specs.Status.{Ended, message_of, ComesOfScript, ComesOfTyping}
+use Rattle.skk_top.specs.Status.{Ended, message_of, HasStatus}
 use Rattle.skk_top.specs.Typed.{typed, are_taken}
 use Rattle.skk_top.specs.declared.fault.RunFault.{RunFault}
 use Rattle.skk_top.specs.declared.fault.RunFault.TheVariants.{TooLong, BadLine, Outside, NotBuilt}
@@ -74,7 +74,7 @@ pub record LeavesScript (result : Result (List Line) RunFault) (left left' : Opt
   pub too_long : IsErrOf result TooLong → IfSome left IsTooLong
   pub bad_line : (number : ℕ) → IsErrOf result (BadLine number) → IfSome left (λ bytes. IsBadAt bytes number)
   pub outside : IsErrOf result Outside → Rose reads reads'
-  pub fault : IfErr result ComesOfScript
+  pub fault : IfErr result (HasStatus (2 ∷ 4 ∷ 6 ∷ []))
   pub read : TakesAtMost left left' (script_limit + PIECE)
   pub counted : reads ≤ reads'
 
@@ -85,5 +85,5 @@ pub record LeavesLines (rules : List Rule) (lines : List Line) (ended : Ended) (
   pub taken : OnOk ended (are_taken rules lines ≡ true)
   pub not_built : IsErrOf ended NotBuilt → are_taken rules lines ≡ false
   pub outside : IsErrOf ended Outside → Rose writes writes'
-  pub fault : IfErr ended ComesOfTyping
+  pub fault : IfErr ended (HasStatus (4 ∷ 6 ∷ 8 ∷ []))
   pub counted : writes ≤ writes'

@@ -1,11 +1,11 @@
-ghost use Rattle.std.specs.Prelude.{◌≡◌, ◌≤◌, ◌++◌, [], OnOk, OnErr, IfErr, IsErrOf, encode_utf8_all};
+ghost use Rattle.std.specs.Prelude.{◌≡◌, ◌≤◌, ◌++◌, ◌∷◌, [], OnOk, OnErr, IfErr, IsErrOf, encode_utf8_all};
 ghost use Rattle.std.specs.Str.{chars};
 ghost use Rattle.skk_outside.specs.Faults.{Rose};
 ghost use Rattle.skk_outside.specs.Written.{AppendsPrefix};
-ghost use Rattle.dict_format.specs.PrintedFiles.{is_of};
-ghost use Rattle.skk_top.specs.CheckCommand.{ComesOfPrinting, LeavesPrinted};
+ghost use Rattle.skk_top.specs.CheckCommand.{LeavesPrinted};
 ghost use Rattle.skk_top.specs.CheckedFiles.{reason_name, bad_line, bad_lines, count_of, counts_line, checked};
 ghost use Rattle.skk_top.specs.Page.{Printed};
+ghost use Rattle.skk_top.specs.Status.{HasStatus};
 
 use crate::fault::RunFault;
 use crate::page::{print, print_full};
@@ -47,7 +47,7 @@ fn print_bad_lines<O: Sink>(
     ensures ok { OnOk result (Printed (O.written out.old) (O.written out.new) page.new [] (bad_lines bad.now)) }
     ensures err { OnErr result (AppendsPrefix (O.written out.old) (O.written out.new) (encode_utf8_all (bad_lines bad.now))) }
     ensures outside { IsErrOf result RunFault.Outside → Rose (O.faults out.old) (O.faults out.new) }
-    ensures fault { IfErr result ComesOfPrinting }
+    ensures fault { IfErr result (HasStatus (4 ∷ 6 ∷ [])) }
     ensures counted { O.faults out.old ≤ O.faults out.new }
 {
     for line in bad {
@@ -105,12 +105,5 @@ fn push_counts(page: &mut Text, listed: &Listed) -> Result<(), Memory>
 fn count_of(part: Part, rows: &[Row]) -> usize
     ensures { result ≡ count_of part rows.now }
 {
-    rows.iter().filter(|row| is_of(part, row)).count()
-}
-
-// Whether a row is of a part.
-fn is_of(part: Part, row: &Row) -> bool
-    ensures { result ≡ is_of part row.now }
-{
-    row.key().part() == part
+    rows.iter().filter(|row| row.key().part() == part).count()
 }

@@ -2,13 +2,10 @@ ghost use Rattle.std.specs.Prelude.{◌≡◌};
 ghost use Rattle.skk_top.specs.CheckCommand.{LeavesDictionary, fault_of_shelf, fault_of_file};
 
 use crate::fault::RunFault;
-use dict_format::{FileFault, Listed, read_file};
+use dict_format::{FILE_LIMIT, FileFault, Listed, read_file};
 use skk_outside::{ReadFault, Shelf, read_named_file};
 use skk_text::Text;
 use std::alloc::Global;
-
-/// The most bytes of a dictionary.
-const DICTIONARY_LIMIT: usize = 67_108_864;
 
 /// Reads the dictionary with this number, counted from 1, from the file of this name.
 pub fn read_dictionary<H: Shelf>(
@@ -19,7 +16,7 @@ pub fn read_dictionary<H: Shelf>(
 ) -> Result<Listed, RunFault>
     ensures { LeavesDictionary number result (H.file shelf.old name.now) (H.faults shelf.old) (H.faults shelf.new) }
 {
-    match read_named_file(alloc, shelf, name, DICTIONARY_LIMIT) {
+    match read_named_file(alloc, shelf, name, FILE_LIMIT) {
         Ok(bytes) => match read_file(alloc, bytes.as_slice()) {
             Ok(listed) => Ok(listed),
             Err(fault) => Err(fault_of_file(number, fault)),

@@ -32,5 +32,8 @@ mod typing;
 mod word;
 
 pub use fault::{RunFault, end_run};
-pub use laws::{no_bad_line_in_a_script, one_bad_line, one_script, texts_have_a_limit};
+pub use laws::{
+    no_bad_line_in_a_script, numbers_lie_in_their_ranges, one_bad_line, one_script,
+    texts_have_a_limit,
+};
 pub use run::run_alone;

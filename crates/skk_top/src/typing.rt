@@ -6,7 +6,7 @@ ghost use Rattle.skk_top.specs.Page.{Printed};
 ghost use Rattle.skk_top.specs.Printing.{output_line};
 ghost use Rattle.skk_top.specs.SessionMachine.{after_keys};
 ghost use Rattle.skk_top.specs.Sessions.{session_at, session_or_new, with_session};
-ghost use Rattle.skk_top.specs.Status.{ComesOfTyping};
+ghost use Rattle.skk_top.specs.Status.{HasStatus};
 ghost use Rattle.skk_top.specs.TypeCommand.{LeavesLines};
 ghost use Rattle.skk_top.specs.Typed.{typed, typed_from, are_taken, are_taken_from, closing_lines};
 ghost use Rattle.skk_top.specs.declared.line.Line.{Line};
@@ -77,7 +77,7 @@ fn type_lines<O: Sink>(
     ensures waiting { IsErrOf result RunFault.NotBuilt → Printed (O.written out.old) (O.written out.new) page.new [] (typed_from rules.now [] lines.now) }
     ensures err { OnErr result (AppendsPrefix (O.written out.old) (O.written out.new) (typed rules.now lines.now)) }
     ensures outside { IsErrOf result RunFault.Outside → Rose (O.faults out.old) (O.faults out.new) }
-    ensures fault { IfErr result ComesOfTyping }
+    ensures fault { IfErr result (HasStatus (4 ∷ 6 ∷ 8 ∷ [])) }
     ensures counted { O.faults out.old ≤ O.faults out.new }
 {
     for line in lines {
@@ -180,7 +180,7 @@ fn close_sessions<O: Sink>(
     ensures ok { OnOk result (Printed (O.written out.old) (O.written out.new) page.new [] (page.old ++ closing_lines sessions.now.entries)) }
     ensures err { OnErr result (AppendsPrefix (O.written out.old) (O.written out.new) (encode_utf8_all (page.old ++ closing_lines sessions.now.entries))) }
     ensures outside { IsErrOf result RunFault.Outside → Rose (O.faults out.old) (O.faults out.new) }
-    ensures fault { IfErr result (λ fault. ComesOfTyping fault) }
+    ensures fault { IfErr result (HasStatus (4 ∷ 6 ∷ 8 ∷ [])) }
     ensures built { IsErrOf result RunFault.NotBuilt → ⊥ }
     ensures counted { O.faults out.old ≤ O.faults out.new }
 {

@@ -1,4 +1,4 @@
-use Rattle.std.proofs.Common.{sym, ap, subst, Err, arith, encode_utf8_all}
+use Rattle.std.proofs.Common.{refl, sym, ap, subst, Err, arith, encode_utf8_all}
 use Rattle.std.proofs.lemmas.Str.{encodes-append}
 use Rattle.skk_outside.specs.Written.{AppendsPrefix}
 use Rattle.skk_top.specs.CheckedFiles.{bad_lines, counts_line, checked}
@@ -24,7 +24,7 @@ returns-in_err-push_counts g c =
     printed-fault (checked c.args.listed.now) c.from_residual-in_err-push_counts.result Memory _ _ _ _ c.from_residual-in_err-push_counts.ensures.1
     (subst (AppendsPrefix _ _) (sym (encodes-append bad counts)) (AppendsPrefix-more _ _ (encode_utf8_all bad) (encode_utf8_all counts)
     (Printed-prefix _ _ c.print_bad_lines.new.page _ _ (rw c.as_slice.ensures at c.in_ok-print_bad_lines.ensures.ok))))
-    (λ e. cc) tt c.in_ok-print_bad_lines.ensures.counted
+    (λ e. cc) refl c.in_ok-print_bad_lines.ensures.counted
 
 pub returns-in_err-print : goal.returns-in_err-print
 returns-in_err-print g c =
@@ -33,7 +33,7 @@ returns-in_err-print g c =
     printed-fault (checked c.args.listed.now) c.from_residual-in_err-print.result Outside _ _ _ _ c.from_residual-in_err-print.ensures.1
     (Printed-prefix_of_page _ _ _ c.push_counts.new.page _ _
     (Printed-longer _ _ c.print_bad_lines.new.page bad counts c.push_counts.new.page c.in_ok-push_counts.ensures (rw c.as_slice.ensures at c.in_ok-print_bad_lines.ensures.ok)) c.in_err-print.ensures.err)
-    (λ e. Rose-behind _ _ _ c.in_ok-print_bad_lines.ensures.counted c.in_err-print.ensures.failed) tt (omega (arith, c.in_ok-print_bad_lines.ensures.counted, c.in_err-print.ensures.counted))
+    (λ e. Rose-behind _ _ _ c.in_ok-print_bad_lines.ensures.counted c.in_err-print.ensures.failed) refl (omega (arith, c.in_ok-print_bad_lines.ensures.counted, c.in_err-print.ensures.counted))
 
 pub returns : goal.returns
 returns g c =

@@ -1,4 +1,4 @@
-use Rattle.std.proofs.Common.{arith}
+use Rattle.std.proofs.Common.{refl, arith}
 use Rattle.skk_top.specs.CheckedFiles.{checked}
 use Rattle.skk_top.specs.declared.fault.RunFault.TheVariants.{Outside}
 use Rattle.skk_top.proofs.Pages.{AppendsPrefix-whole}
@@ -10,4 +10,4 @@ pub returns-in_err-flush : goal.returns-in_err-flush
 returns-in_err-flush g c =
     printed-fault (checked c.args.listed.now) c.from_residual-in_err-flush.result Outside _ _ _ _ c.from_residual-in_err-flush.ensures.1
     (AppendsPrefix-whole _ _ _ (Appends-kept _ _ _ (checked c.args.listed.now) c.in_ok-print_lines.ensures.whole c.in_err-flush.ensures.bytes))
-    (λ e. Rose-behind _ _ _ c.in_ok-print_lines.ensures.counted c.in_err-flush.ensures.failed) tt (omega (arith, c.in_ok-print_lines.ensures.counted, c.in_err-flush.ensures.counted))
+    (λ e. Rose-behind _ _ _ c.in_ok-print_lines.ensures.counted c.in_err-flush.ensures.failed) refl (omega (arith, c.in_ok-print_lines.ensures.counted, c.in_err-flush.ensures.counted))

@@ -1,4 +1,4 @@
-use Rattle.std.proofs.Common.{◌++◌, [], refl, ap, arith, Err, rules}
+use Rattle.std.proofs.Common.{◌++◌, [], refl, ap, arith, Err}
 use Rattle.skk_top.specs.Typed.{closing_lines}
 use Rattle.skk_top.specs.declared.fault.RunFault.TheVariants.{Outside, NotBuilt}
 use Rattle.skk_top.proofs.Pages.{Printed-prefix_of_page, Printed-last, Printed-tried, Printed-whole, Printed-written}
@@ -23,7 +23,7 @@ returns-in_err-print-in-Ok g c =
     (Printed-written _ _ _ (c.type_lines.new.page ++ closing) c.close_sessions.new.page [] _
     (Printed-last _ _ c.type_lines.new.page closing _ (c.type_lines.new.page ++ closing) refl c.in-Ok.ensures.ok) c.in_ok-close_sessions-in-Ok.ensures.ok)
     c.in_err-print-in-Ok.ensures.err)
-    (λ e. cc) (λ e. Rose-behind _ _ _ (omega (arith, c.in-Ok.ensures.counted, c.in_ok-close_sessions-in-Ok.ensures.counted)) c.in_err-print-in-Ok.ensures.failed) (search rules) (omega (arith, c.in-Ok.ensures.counted, c.in_ok-close_sessions-in-Ok.ensures.counted, c.in_err-print-in-Ok.ensures.counted)))
+    (λ e. cc) (λ e. Rose-behind _ _ _ (omega (arith, c.in-Ok.ensures.counted, c.in_ok-close_sessions-in-Ok.ensures.counted)) c.in_err-print-in-Ok.ensures.failed) refl (omega (arith, c.in-Ok.ensures.counted, c.in_ok-close_sessions-in-Ok.ensures.counted, c.in_err-print-in-Ok.ensures.counted)))
 
 pub returns-in-Ok : goal.returns-in-Ok
 returns-in-Ok g c =
@@ -39,4 +39,4 @@ pub returns-in-Err-NotBuilt : goal.returns-in-Err-NotBuilt
 returns-in-Err-NotBuilt g c =
     leaves-fault c.args.rules.now c.args.lines.now NotBuilt _ _ _ _
     (Printed-tried _ _ _ c.type_lines.new.page _ c.print-in-Err-NotBuilt.result (c.in-Err-NotBuilt.ensures.waiting (ap Err c.in-Err-NotBuilt.field-0-is)) c.print-in-Err-NotBuilt.ensures.ok c.print-in-Err-NotBuilt.ensures.err)
-    (λ e. c.in-Err-NotBuilt.ensures.not_built (ap Err c.in-Err-NotBuilt.field-0-is)) (λ e. cc) (search rules) (omega (arith, c.in-Err-NotBuilt.ensures.counted, c.print-in-Err-NotBuilt.ensures.counted))
+    (λ e. c.in-Err-NotBuilt.ensures.not_built (ap Err c.in-Err-NotBuilt.field-0-is)) (λ e. cc) refl (omega (arith, c.in-Err-NotBuilt.ensures.counted, c.print-in-Err-NotBuilt.ensures.counted))
