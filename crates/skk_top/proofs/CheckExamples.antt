@@ -9,7 +9,7 @@ use Rattle.dict_format.specs.declared.file.BadLine.{BadLine}
 use Rattle.dict_format.specs.declared.file.FileFault.TheVariants as files
 use Rattle.dict_format.specs.declared.reason.LineReason.{LineReason}
 use Rattle.dict_format.specs.declared.reason.LineReason.TheVariants.{LongLine, NoSpace, BadReading, LongReading, OkuriKey, NoSlash, Block, LongCandidate, Empty, Twice}
-use Rattle.skk_top.specs.CheckCommand.{fault_of_shelf, fault_of_file}
+use Rattle.skk_top.specs.Dictionaries.{fault_of_shelf, fault_of_file}
 use Rattle.skk_top.specs.CheckedFiles.{reason_name, bad_line, count_of, counts_line, checked_text}
 use Rattle.skk_top.specs.declared.fault.RunFault.TheVariants.{LongDictionary, BadDictionary, Outside, Memory}
 

@@ -2,15 +2,15 @@
 use Rattle.std.proofs.Common.{◌≡◌, sym, ap, subst, refl, ℕ, Option, List, [], ◌∷◌, Ok, Err, IfSome, arith, inl, inr}
 use Rattle.std.specs.Io.KnownBytes.{Appends}
 use Rattle.skk_outside.specs.Written.{AppendsPrefix}
-use Rattle.dict_format.specs.FileLines.{Lists}
 use Rattle.dict_format.specs.declared.file.Listed.{Listed}
-use Rattle.skk_top.specs.CheckCommand.{LeavesChecked, LeavesDictionary, LeavesPrinted, IsNoDictionary, IsLongDictionary, IsBadDictionary, TellsDictionary}
+use Rattle.skk_top.specs.CheckCommand.{LeavesChecked, LeavesPrinted}
+use Rattle.skk_top.specs.Dictionaries.{LeavesDictionary, IsLongDictionary, IsBadDictionary, TellsDictionary}
 use Rattle.skk_top.specs.CheckedFiles.{checked}
 use Rattle.skk_top.specs.Status.{Ended, run_status, run_message, status_of, message_of}
 use Rattle.skk_top.specs.declared.fault.RunFault.{RunFault}
 use Rattle.skk_top.specs.declared.fault.RunFault.TheVariants.{LongDictionary, BadDictionary}
 use Rattle.skk_top.proofs.Pages.{Appends-none}
-use Rattle.skk_top.proofs.Runs.{IfSome-all, each_some, Keeps-self, other-status, other-end, fault-status, done-of, outside-of, outside-fault, prefix-of}
+use Rattle.skk_top.proofs.Runs.{IfSome-all, each_some, Keeps-self, other-status, other-end, fault-status, done-of, outside-of, outside-fault, not_no_dictionary, prefix-of}
 
 -- a fault with status 3 says why the bytes are no dictionary
 refusal : (fault : RunFault) (file : Option (List ℕ)) → ((k : ℕ) → fault ≡ LongDictionary k → (k ≡ 1) × IfSome file IsLongDictionary)
@@ -21,11 +21,6 @@ refusal (LongDictionary k) file long bad three =
 refusal (BadDictionary k at) file long bad three =
     let is = bad k at refl in each_some file (λ bytes of. inr (at, of, ap (λ n. message_of (BadDictionary n at)) is.0)) is.1
 refusal fault file long bad three = absurd (omega (arith, three))
-
--- what lists something is a dictionary
-not_refused : (bytes : List ℕ) (listed : Listed) → Lists bytes listed → ¬ IsNoDictionary bytes
-not_refused bytes listed lists refused =
-    elim refused [ inl long ↦ omega (arith, lists.not_long, long) | inr bad ↦ bad.1.1 lists.valid ]
 
 pub leaves-unread : (fault : RunFault) (file : Option (List ℕ)) (reads reads' : ℕ) (written : Option (List ℕ)) (writes : ℕ)
     → LeavesDictionary 1 (Err fault) file reads reads' → LeavesChecked (status_of fault) (message_of fault) file reads reads' written written writes writes
@@ -54,7 +49,7 @@ leaves-read listed ended file reads reads' old new writes writes' dictionary pri
   prints = each_some file (λ bytes is other lists.
       subst (λ (l : Listed). AppendsPrefix old new (checked l) × (run_status ended ≡ 0 → Appends old new (checked l))) (sym (is.1 other lists))
       (prefix-of ended old new (checked listed) printing.whole printing.prefix, λ e. done-of ended printing.whole e)) dictionary.whole;
-  nothing = each_some file (λ bytes is refused. absurd (not_refused bytes listed is.0 refused)) dictionary.whole;
+  nothing = each_some file (λ bytes is refused. absurd (not_no_dictionary bytes listed is.0 refused)) dictionary.whole;
   nothing_refused = λ e. absurd (other-end (4 ∷ 6 ∷ []) ended 3 printing.fault refl e);
   refused = λ e. absurd (other-end (4 ∷ 6 ∷ []) ended 3 printing.fault refl e);
   outside = λ e. inr (printing.outside (outside-of ended e));

@@ -1,17 +1,53 @@
 -- What the reading of a dictionary leaves, by how its file was read.
-use Rattle.std.proofs.Common.{◌≡◌, ◌≤◌, subst, refl, ℕ, Option, Result, List, Ok, Err, IsErrOf, IfSome, length, rules, inl, inr}
+use Rattle.std.proofs.Common.{◌≡◌, ◌<◌, ◌≤◌, ◌+◌, ◌∙◌, sym, ap, subst, refl, ℕ, Option, Result, List, [], ◌∷◌, ◌++◌, Ok, Err, IsErrOf, IfSome, length, map, take, drop, get_or, arith, rules, inl, inr}
+use Rattle.std.specs.List.{AllByRecursion}
 use Rattle.std.specs.Str.{IsUtf8}
 use Rattle.std.specs.Str.Lossy.{utf8_valid_len}
+use Rattle.std.proofs.lemmas.List.{drop_more, length-map, length-take-le, map-append, take-append-drop}
+use Rattle.std.proofs.lemmas.List.Elements.{All-from_recursion}
 use Rattle.skk_outside.specs.Faults.{Rose}
 use Rattle.skk_outside.specs.declared.source.ReadFault.{ReadFault}
 use Rattle.skk_outside.specs.declared.source.ReadFault.TheVariants as reading
 use Rattle.skk_text.specs.Results.{AnswersUnless}
+use Rattle.skk_calls.specs.Rows.{Row}
 use Rattle.dict_format.specs.FileLines.{Lists, file_limit}
 use Rattle.dict_format.specs.declared.file.FileFault.{FileFault}
 use Rattle.dict_format.specs.declared.file.FileFault.TheVariants as files
 use Rattle.dict_format.specs.declared.file.Listed.{Listed}
-use Rattle.skk_top.specs.CheckCommand.{LeavesDictionary, ListsOnly, IsLongDictionary, IsBadDictionary, fault_of_file, fault_of_shelf}
+use Rattle.skk_top.specs.Dictionaries.{LeavesDictionary, LeavesDictionaries, AreDictionaries, AreRowsOf, IsFirst, IsDictionary, ListsRows, ListsOnly, IsLongDictionary, IsBadDictionary, fault_of_file, fault_of_shelf}
+use Rattle.skk_top.specs.declared.fault.RunFault.{RunFault}
 use Rattle.skk_top.proofs.Runs.{each_some}
+
+-- books that are the rows of files are those of dictionaries
+are-each : (books : List (List Row)) (files : List (Option (List ℕ))) → AreRowsOf books files → AllByRecursion (λ file. IfSome file IsDictionary) files
+are-each [] [] rows = tt
+are-each [] (file ∷ files) rows = absurd rows
+are-each (book ∷ books) [] rows = absurd rows
+are-each (book ∷ books) (file ∷ files) rows = (each_some file (λ bytes is. (is.0, is.1)) rows.0, are-each books files rows.1)
+
+pub are_dictionaries : (books : List (List Row)) (files : List (Option (List ℕ))) → AreRowsOf books files → AreDictionaries files
+are_dictionaries books files rows = All-from_recursion (λ file. IfSome file IsDictionary) files (are-each books files rows)
+
+-- the rows of one more file
+pub rows-more : (books : List (List Row)) (book : List Row) (files : List (Option (List ℕ))) (file : Option (List ℕ)) → AreRowsOf books files → IfSome file (λ bytes. ListsRows bytes book)
+    → AreRowsOf (books ++ book ∷ []) (files ++ file ∷ [])
+rows-more [] book [] file rows more = (more, tt)
+rows-more [] book (other ∷ files) file rows more = absurd rows
+rows-more (first ∷ books) book [] file rows more = absurd rows
+rows-more (first ∷ books) book (other ∷ files) file rows more = (rows.0, rows-more books book files file rows.1 more)
+
+-- the file of a name is the first that has a property, where those before it are dictionaries
+pub is_first : (P : List ℕ → Type 0) (tells : List ℕ → Option (List ℕ)) (books : List (List Row)) (names : List (List ℕ)) (name : List ℕ) (k number : ℕ) → k < length names → length books ≡ k → number ≡ length books + 1
+    → AreRowsOf books (map tells (take k names)) → IfSome (tells (get_or names k name)) P → IsFirst P number (map tells names)
+is_first P tells books names name k number within count is rows has = (
+  map tells (take k names),
+  map tells (drop (k + 1) names),
+  tells (get_or names k name),
+  ap (map tells) (sym (take-append-drop k names) ∙ ap (λ rest. take k names ++ rest) (drop_more names k name within)) ∙ map-append tells (take k names) (get_or names k name ∷ drop (k + 1) names),
+  omega (arith, is, count, within, length-map (take k names) tells, length-take-le k names (omega (arith, within))),
+  are_dictionaries books (map tells (take k names)) rows,
+  has,
+)
 
 -- what is answered for the same bytes is the same
 same-listed : (listed other : Listed) → AnswersUnless files.Memory (Ok listed) (Ok other) → other ≡ listed
@@ -91,4 +127,19 @@ leaves-unread number reading.Memory known reads reads' long failed counted = rec
   outside = λ e. absurd (cc);
   fault = refl;
   counted = counted;
+}
+
+-- what the reading of the dictionary of a name leaves, where those before it were read
+pub leaves-stopped : (tells : List ℕ → Option (List ℕ)) (books : List (List Row)) (names : List (List ℕ)) (name : List ℕ) (k number : ℕ) (fault : RunFault) (first reads reads' : ℕ) → k < length names → length books ≡ k → number ≡ length books + 1
+    → AreRowsOf books (map tells (take k names)) → first ≤ reads → LeavesDictionary number (Err fault) (tells (get_or names k name)) reads reads' → (Rose reads reads' → Rose first reads')
+    → LeavesDictionaries (Err fault) (map tells names) first reads'
+leaves-stopped tells books names name k number fault first reads reads' within count is rows counted one rose = record {
+  whole = search rules;
+  too_long = λ n e.
+      let has = one.too_long n (ap Err (cc)) in is_first IsLongDictionary tells books names name k n within count (has.0 ∙ is) rows has.1;
+  not_utf8 = λ n at e.
+      let has = one.not_utf8 n at (ap Err (cc)) in is_first (λ bytes. IsBadDictionary bytes at) tells books names name k n within count (has.0 ∙ is) rows has.1;
+  outside = λ e. rose (one.outside (ap Err (cc)));
+  fault = one.fault;
+  counted = omega (arith, counted, one.counted);
 }

@@ -14,7 +14,7 @@ use Rattle.std.proofs.lemmas.Option.{IfSome_then, none-some}
 use Rattle.skk_top.specs.Arguments.{options, option_named, value_of, place}
 use Rattle.skk_top.specs.Command.{takes, required, optional, command, command_with, command_named, command_of}
 use Rattle.skk_top.specs.Ranges.{LiesFrom, HasNumbersInRange}
-use Rattle.skk_top.specs.Settings.{setting, takes_value, option_alone, option_with, option_cut, name_or_cut, whole, begun, with_setting, settings_of, is_of, times, number_in, value_given, number_or, is_within, fits}
+use Rattle.skk_top.specs.Settings.{setting, takes_value, option_alone, option_with, option_cut, name_or_cut, whole, begun, with_setting, settings_of, is_of, times, number_in, value_given, number_given, number_or, is_within, fits}
 use Rattle.skk_top.specs.Words.{is_name, number_within, cut}
 use Rattle.skk_top.specs.declared.argument.Argument.{Argument}
 use Rattle.skk_top.specs.declared.argument.Argument.TheVariants.{File, Limit, Port, Connections, Book, Seed, Sessions, Lines, Threads}
@@ -124,7 +124,17 @@ value-given argument (first ∷ settings) given =
     (λ e. subst (λ p. IsTaken (takes_at p) first.value) (eqb-true (place first.argument) (place argument) e) given.0)
     (λ e. value-given argument settings given.1)
 
--- its number, where one stands for it if it is absent
+-- its number, where it is given
+number-given : (least most : ℕ) (value : Option Value) → IfSome value (IsTaken (Number least most)) → IfSome (option_and_then number_in value) (LiesFrom least most)
+number-given least most None taken = tt
+number-given least most (Some value) taken = subst (λ v. IfSome (number_in v) (LiesFrom least most)) (sym taken.1) taken.2
+
+given-lies : (argument : Argument) (least most : ℕ) (settings : List Setting) → AreGiven settings → takes_at (place argument) ≡ Number least most
+    → IfSome (number_given argument settings) (LiesFrom least most)
+given-lies argument least most settings given is =
+    number-given least most (value_given argument settings) (subst (λ t. IfSome (value_given argument settings) (IsTaken t)) is (value-given argument settings given))
+
+-- and where another stands for it if it is absent
 number-lies : (least most absent : ℕ) (value : Option Value) → IfSome value (IsTaken (Number least most)) → (value ≡ None → LiesFrom least most absent)
     → LiesFrom least most (unwrap_or (option_and_then number_in value) absent)
 number-lies least most absent None taken lies = lies refl
@@ -153,9 +163,9 @@ needed argument settings within =
 
 -- a command with the settings that it takes
 in_range : (name : CommandName) (settings : List Setting) → AreGiven settings → fits (takes name) settings ≡ true → HasNumbersInRange (command name settings)
-in_range TypeScript settings given fit = lies-in Limit 64 268435456 268435456 settings given refl (λ e. (omega arith, omega arith))
+in_range TypeScript settings given fit = given-lies Limit 64 268435456 settings given refl
 in_range Serve settings given fit = (
-  lies-in Limit 64 268435456 268435456 settings given refl (λ e. (omega arith, omega arith)),
+  given-lies Limit 64 268435456 settings given refl,
   lies-in Port 1 65535 1178 settings given refl (λ e. (omega arith, omega arith)),
   lies-in Connections 1 1000000 1000000 settings given refl (λ e. (omega arith, omega arith)),
 )

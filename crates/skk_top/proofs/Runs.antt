@@ -1,17 +1,22 @@
 -- What a run of `type` leaves, of what its parts leave.
-use Rattle.std.proofs.Common.{◌≡◌, ◌≢◌, ◌≤◌, ◌==◌, ◌∙◌, sym, ap, subst, refl, rules, ℕ, Option, Some, None, List, [], ◌∷◌, Ok, Err, OnOk, OnErr, IfErr, IfSome, IsErrOf, true, false, MatchBool, arith, inl, inr}
+use Rattle.std.proofs.Common.{◌≡◌, ◌≢◌, ◌≤◌, ◌==◌, ◌∙◌, sym, ap, subst, refl, rules, ℕ, Option, Some, None, List, [], ◌∷◌, Ok, Err, OnOk, OnErr, IfErr, IfSome, IsErrOf, true, false, MatchBool, Contains, arith, inl, inr}
 use Rattle.std.specs.Io.KnownBytes.{Appends, Keeps}
 use Rattle.std.specs.List.{list_any}
-use Rattle.std.proofs.lemmas.Bool.{cases_Bool, false≢true, or_right}
+use Rattle.std.proofs.KnownBytes.{Consumes-nil}
+use Rattle.std.proofs.lemmas.Bool.{cases_Bool, false≢true, ne_eqb, or_right}
+use Rattle.std.proofs.lemmas.List.Elements.{All-contains}
 use Rattle.skk_outside.specs.Written.{AppendsPrefix}
 use Rattle.romaji_rules.specs.declared.rule.Rule.{Rule}
 use Rattle.skk_text.specs.Lines.{lines_of}
+use Rattle.dict_format.specs.FileLines.{Lists}
+use Rattle.dict_format.specs.declared.file.Listed.{Listed}
+use Rattle.skk_top.specs.Dictionaries.{AreDictionaries, IsDictionary, IsNoDictionary, IsLongDictionary, IsBadDictionary, IsFirst, TellsDictionaries, LeavesDictionaries}
 use Rattle.skk_top.specs.Script.{IsScript, are_built}
 use Rattle.skk_top.specs.Status.{Ended, run_status, run_message, status_of, message_of, HasStatus}
 use Rattle.skk_top.specs.TypeCommand.{LeavesTyped, LeavesScript, LeavesLines, IsTooLong, IsBadAt, IsRefused, IsRefusal, PrintsScript}
 use Rattle.skk_top.specs.Typed.{typed}
 use Rattle.skk_top.specs.declared.fault.RunFault.{RunFault}
-use Rattle.skk_top.specs.declared.fault.RunFault.TheVariants.{Words, TooLong, BadLine, Outside, NotBuilt}
+use Rattle.skk_top.specs.declared.fault.RunFault.TheVariants.{Words, TooLong, BadLine, LongDictionary, BadDictionary, Outside, NotBuilt}
 use Rattle.skk_top.specs.declared.line.Line.{Line}
 use Rattle.skk_top.proofs.Pages.{Appends-none, AppendsPrefix-whole}
 use Rattle.skk_top.proofs.Scripts.{OneListOfKeys, no_bad_line, one_list_of_lines}
@@ -41,6 +46,12 @@ other-status statuses fault status has lacks = other_number statuses (status_of 
 pub other-end : (statuses : List ℕ) (ended : Ended) (status : ℕ) → IfErr ended (HasStatus statuses) → list_any (λ s. status == s) (0 ∷ statuses) ≡ false → run_status ended ≢ status
 other-end statuses (Ok done) status has lacks = other_number (0 ∷ statuses) 0 status refl lacks
 other-end statuses (Err fault) status has lacks = other_number (0 ∷ statuses) (status_of fault) status (or_right (status_of fault == 0) (list_any (λ s. status_of fault == s) statuses) has) lacks
+
+-- a number that is one of three is no other
+none-else : (number first second third : ℕ) → list_any (λ n. number == n) (first ∷ second ∷ third ∷ []) ≡ true → number ≢ first → number ≢ second → number ≢ third → ⊥
+none-else number first second third has one two three =
+    let none : list_any (λ n. number == n) (first ∷ second ∷ third ∷ []) ≡ false = rw (ne_eqb number first one, ne_eqb number second two, ne_eqb number third three) refl in
+    false≢true (sym none ∙ has)
 
 -- no fault has status 0, and the outside and what is not built have each a status of its own
 pub fault-status : (fault : RunFault) → status_of fault ≢ 0
@@ -88,23 +99,76 @@ prints-nothing rules status bytes known undone lines script =
       | false ↦ Keeps-self known
     ]
 
-pub leaves-refused : (rules : List Rule) (fault : RunFault) (left left' : Option (List ℕ)) (reads reads' : ℕ) (written : Option (List ℕ)) (writes : ℕ)
-    → LeavesScript (Err fault) left left' reads reads' → LeavesTyped rules (status_of fault) (message_of fault) left left' reads reads' written written writes writes
-leaves-refused rules fault left left' reads reads' written writes script = record {
-  ended = λ e. absurd (fault-status fault e);
-  words = other-status (2 ∷ 4 ∷ 6 ∷ []) fault 1 script.fault refl;
-  dictionaries = other-status (2 ∷ 4 ∷ 6 ∷ []) fault 3 script.fault refl;
-  whole = λ e. absurd (fault-status fault e);
-  read = script.read;
-  prints = IfSome-all left _ (λ bytes. prints-nothing rules (status_of fault) bytes written (fault-status fault));
-  nothing = IfSome-all left _ (λ bytes refused. Keeps-self written);
-  nothing_refused = λ e. Keeps-self written;
-  refused = λ e. refusal fault left (λ is. script.too_long (ap Err is)) (λ number is. script.bad_line number (ap Err is)) e;
-  outside = λ e. inl (script.outside (ap Err (outside-fault fault e)));
-  not_built = λ e. absurd (other-status (2 ∷ 4 ∷ 6 ∷ []) fault 8 script.fault refl e);
-  reads_counted = script.counted;
-  writes_counted = omega arith;
-}
+-- what lists something is a dictionary
+pub not_no_dictionary : (bytes : List ℕ) (listed : Listed) → Lists bytes listed → ¬ IsNoDictionary bytes
+not_no_dictionary bytes listed lists refused =
+    elim refused [ inl long ↦ omega (arith, lists.not_long, long) | inr bad ↦ bad.1.1 lists.valid ]
+
+no-bad : (files : List (Option (List ℕ))) (bytes : List ℕ) → AreDictionaries files → Contains files (Some bytes) → ¬ IsNoDictionary bytes
+no-bad files bytes are has none =
+    let is = All-contains (λ file. IfSome file IsDictionary) files (Some bytes) are has in not_no_dictionary bytes is.0 is.1 none
+
+-- a fault with status 3 says which dictionary is the first that is none, and why
+first-as : {P Q : List ℕ → Type 0} (number : ℕ) (files : List (Option (List ℕ))) → ((bytes : List ℕ) → P bytes → Q bytes) → IsFirst P number files → IsFirst Q number files
+first-as number files so (before, after, file, is, count, are, has) = (before, after, file, is, count, are, each_some file so has)
+
+unopened : (fault : RunFault) (files : List (Option (List ℕ))) → ((number : ℕ) → fault ≡ LongDictionary number → IsFirst IsLongDictionary number files)
+    → ((number at : ℕ) → fault ≡ BadDictionary number at → IsFirst (λ bytes. IsBadDictionary bytes at) number files) → status_of fault ≡ 3 → TellsDictionaries files (message_of fault)
+unopened (LongDictionary number) files long bad three = (number, first-as number files (λ bytes is. inl (is, refl)) (long number refl))
+unopened (BadDictionary number at) files long bad three = (number, first-as number files (λ bytes is. inr (at, is, refl)) (bad number at refl))
+unopened fault files long bad three = absurd (omega (arith, three))
+
+-- where no dictionaries were read, no script was
+pub leaves-unopened : (rules : List Rule) (fault : RunFault) (files : List (Option (List ℕ))) (opens opens' : ℕ) (left : Option (List ℕ)) (reads : ℕ) (written : Option (List ℕ)) (writes : ℕ)
+    → LeavesDictionaries (Err fault) files opens opens' → LeavesTyped rules (status_of fault) (message_of fault) files opens opens' left left reads reads written written writes writes
+leaves-unopened rules fault files opens opens' left reads written writes dictionaries =
+    let not_two = other-status (3 ∷ 4 ∷ 6 ∷ []) fault 2 dictionaries.fault refl in
+    record {
+      words = other-status (3 ∷ 4 ∷ 6 ∷ []) fault 1 dictionaries.fault refl;
+      opened = λ three four six. absurd (none-else (status_of fault) 3 4 6 dictionaries.fault three four six);
+      nothing_unopened = λ bytes has none. Keeps-self written;
+      unopened = unopened fault files (λ number is. dictionaries.too_long number (ap Err is)) (λ number at is. dictionaries.not_utf8 number at (ap Err is));
+      unopened_unread = λ e. Keeps-self left;
+      unopened_unwritten = λ e. Keeps-self written;
+      ended = λ e. absurd (fault-status fault e);
+      whole = λ e. absurd (fault-status fault e);
+      read = ([], omega arith, Consumes-nil left);
+      prints = IfSome-all left _ (λ bytes. prints-nothing rules (status_of fault) bytes written (fault-status fault));
+      nothing = IfSome-all left _ (λ bytes refused. Keeps-self written);
+      nothing_refused = λ e. Keeps-self written;
+      refused = λ e. absurd (not_two e);
+      outside = λ e. inl (dictionaries.outside (ap Err (outside-fault fault e)));
+      not_built = λ e. absurd (other-status (3 ∷ 4 ∷ 6 ∷ []) fault 8 dictionaries.fault refl e);
+      opens_counted = dictionaries.counted;
+      reads_counted = omega arith;
+      writes_counted = omega arith;
+    }
+
+pub leaves-refused : (rules : List Rule) (fault : RunFault) (files : List (Option (List ℕ))) (opens opens' : ℕ) (left left' : Option (List ℕ)) (reads reads' : ℕ)
+    (written : Option (List ℕ)) (writes : ℕ) → AreDictionaries files → opens ≤ opens' → LeavesScript (Err fault) left left' reads reads'
+    → LeavesTyped rules (status_of fault) (message_of fault) files opens opens' left left' reads reads' written written writes writes
+leaves-refused rules fault files opens opens' left left' reads reads' written writes are opening script =
+    let not_three = other-status (2 ∷ 4 ∷ 6 ∷ []) fault 3 script.fault refl in
+    record {
+      words = other-status (2 ∷ 4 ∷ 6 ∷ []) fault 1 script.fault refl;
+      opened = λ three four six. are;
+      nothing_unopened = λ bytes has none. absurd (no-bad files bytes are has none);
+      unopened = λ e. absurd (not_three e);
+      unopened_unread = λ e. absurd (not_three e);
+      unopened_unwritten = λ e. absurd (not_three e);
+      ended = λ e. absurd (fault-status fault e);
+      whole = λ e. absurd (fault-status fault e);
+      read = script.read;
+      prints = IfSome-all left _ (λ bytes. prints-nothing rules (status_of fault) bytes written (fault-status fault));
+      nothing = IfSome-all left _ (λ bytes refused. Keeps-self written);
+      nothing_refused = λ e. Keeps-self written;
+      refused = λ e. refusal fault left (λ is. script.too_long (ap Err is)) (λ number is. script.bad_line number (ap Err is)) e;
+      outside = λ e. inr (inl (script.outside (ap Err (outside-fault fault e))));
+      not_built = λ e. absurd (other-status (2 ∷ 4 ∷ 6 ∷ []) fault 8 script.fault refl e);
+      opens_counted = opening;
+      reads_counted = script.counted;
+      writes_counted = omega arith;
+    }
 
 -- a script is not refused
 not_refused : OneListOfKeys → (lines : List Line) (bytes : List ℕ) → IsScript bytes lines → ¬ IsRefused bytes
@@ -118,35 +182,46 @@ prints-script unique rules lines status old new bytes script prints others other
     subst (λ (ls : List Line). MatchBool (are_built ls) (AppendsPrefix old new (typed rules ls) × (status ≡ 0 → Appends old new (typed rules ls))) (Keeps old new))
     (one_list_of_lines unique [] (lines_of bytes) lines others script.1 other.1) prints
 
-leaves-built : OneListOfKeys → (rules : List Rule) (lines : List Line) (ended : Ended) (left left' : Option (List ℕ)) (reads reads' : ℕ) (old new : Option (List ℕ)) (writes writes' : ℕ)
-    → LeavesScript (Ok lines) left left' reads reads' → are_built lines ≡ true → LeavesLines rules lines ended old new writes writes'
-    → LeavesTyped rules (run_status ended) (run_message ended) left left' reads reads' old new writes writes'
-leaves-built unique rules lines ended left left' reads reads' old new writes writes' script built typing = record {
-  ended = λ e. script.ended;
-  words = other-end (4 ∷ 6 ∷ 8 ∷ []) ended 1 typing.fault refl;
-  dictionaries = other-end (4 ∷ 6 ∷ 8 ∷ []) ended 3 typing.fault refl;
-  whole = λ e. each_some left (λ bytes is. (lines, is, built, done-of ended typing.taken e)) script.whole;
-  read = script.read;
-  prints = each_some left (λ bytes is.
-      prints-script unique rules lines (run_status ended) old new bytes is
-      (subst (λ b. MatchBool b (AppendsPrefix old new (typed rules lines) × (run_status ended ≡ 0 → Appends old new (typed rules lines))) (Keeps old new)) (sym built)
-      (prefix-of ended old new (typed rules lines) typing.whole typing.prefix, λ e. done-of ended typing.whole e))) script.whole;
-  nothing = each_some left (λ bytes is refused. absurd (not_refused unique lines bytes is refused)) script.whole;
-  nothing_refused = λ e. absurd (other-end (4 ∷ 6 ∷ 8 ∷ []) ended 2 typing.fault refl e);
-  refused = λ e. absurd (other-end (4 ∷ 6 ∷ 8 ∷ []) ended 2 typing.fault refl e);
-  outside = λ e. inr (typing.outside (outside-of ended e));
-  not_built = λ e. each_some left (λ bytes is. (lines, is, inr (typing.not_built (not_built-of ended e)))) script.whole;
-  reads_counted = script.counted;
-  writes_counted = typing.counted;
-}
+leaves-built : OneListOfKeys → (rules : List Rule) (lines : List Line) (ended : Ended) (files : List (Option (List ℕ))) (opens opens' : ℕ) (left left' : Option (List ℕ)) (reads reads' : ℕ)
+    (old new : Option (List ℕ)) (writes writes' : ℕ) → AreDictionaries files → opens ≤ opens' → LeavesScript (Ok lines) left left' reads reads' → are_built lines ≡ true → LeavesLines rules lines ended old new writes writes'
+    → LeavesTyped rules (run_status ended) (run_message ended) files opens opens' left left' reads reads' old new writes writes'
+leaves-built unique rules lines ended files opens opens' left left' reads reads' old new writes writes' are opening script built typing =
+    let not_three = other-end (4 ∷ 6 ∷ 8 ∷ []) ended 3 typing.fault refl in
+    record {
+      words = other-end (4 ∷ 6 ∷ 8 ∷ []) ended 1 typing.fault refl;
+      opened = λ three four six. are;
+      nothing_unopened = λ bytes has none. absurd (no-bad files bytes are has none);
+      unopened = λ e. absurd (not_three e);
+      unopened_unread = λ e. absurd (not_three e);
+      unopened_unwritten = λ e. absurd (not_three e);
+      ended = λ e. script.ended;
+      whole = λ e. each_some left (λ bytes is. (lines, is, built, done-of ended typing.taken e)) script.whole;
+      read = script.read;
+      prints = each_some left (λ bytes is.
+          prints-script unique rules lines (run_status ended) old new bytes is
+          (subst (λ b. MatchBool b (AppendsPrefix old new (typed rules lines) × (run_status ended ≡ 0 → Appends old new (typed rules lines))) (Keeps old new)) (sym built)
+          (prefix-of ended old new (typed rules lines) typing.whole typing.prefix, λ e. done-of ended typing.whole e))) script.whole;
+      nothing = each_some left (λ bytes is refused. absurd (not_refused unique lines bytes is refused)) script.whole;
+      nothing_refused = λ e. absurd (other-end (4 ∷ 6 ∷ 8 ∷ []) ended 2 typing.fault refl e);
+      refused = λ e. absurd (other-end (4 ∷ 6 ∷ 8 ∷ []) ended 2 typing.fault refl e);
+      outside = λ e. inr (inr (typing.outside (outside-of ended e)));
+      not_built = λ e. each_some left (λ bytes is. (lines, is, inr (typing.not_built (not_built-of ended e)))) script.whole;
+      opens_counted = opening;
+      reads_counted = script.counted;
+      writes_counted = typing.counted;
+    }
 
-leaves-not_built : OneListOfKeys → (rules : List Rule) (lines : List Line) (left left' : Option (List ℕ)) (reads reads' : ℕ) (old new : Option (List ℕ)) (writes writes' : ℕ)
-    → LeavesScript (Ok lines) left left' reads reads' → are_built lines ≡ false → Keeps old new → writes ≤ writes'
-    → LeavesTyped rules 8 (message_of NotBuilt) left left' reads reads' old new writes writes'
-leaves-not_built unique rules lines left left' reads reads' old new writes writes' script unbuilt keeps counted = record {
-  ended = λ e. absurd (omega (arith, e));
+leaves-not_built : OneListOfKeys → (rules : List Rule) (lines : List Line) (files : List (Option (List ℕ))) (opens opens' : ℕ) (left left' : Option (List ℕ)) (reads reads' : ℕ)
+    (old new : Option (List ℕ)) (writes writes' : ℕ) → AreDictionaries files → opens ≤ opens' → LeavesScript (Ok lines) left left' reads reads' → are_built lines ≡ false → Keeps old new → writes ≤ writes'
+    → LeavesTyped rules 8 (message_of NotBuilt) files opens opens' left left' reads reads' old new writes writes'
+leaves-not_built unique rules lines files opens opens' left left' reads reads' old new writes writes' are opening script unbuilt keeps counted = record {
   words = λ e. omega (arith, e);
-  dictionaries = λ e. omega (arith, e);
+  opened = λ three four six. are;
+  nothing_unopened = λ bytes has none. absurd (no-bad files bytes are has none);
+  unopened = λ e. absurd (omega (arith, e));
+  unopened_unread = λ e. absurd (omega (arith, e));
+  unopened_unwritten = λ e. absurd (omega (arith, e));
+  ended = λ e. absurd (omega (arith, e));
   whole = λ e. absurd (omega (arith, e));
   read = script.read;
   prints = each_some left (λ bytes is.
@@ -157,19 +232,20 @@ leaves-not_built unique rules lines left left' reads reads' old new writes write
   refused = λ e. absurd (omega (arith, e));
   outside = λ e. absurd (omega (arith, e));
   not_built = λ e. each_some left (λ bytes is. (lines, is, inl unbuilt)) script.whole;
+  opens_counted = opening;
   reads_counted = script.counted;
   writes_counted = counted;
 }
 
 -- a script that was read, whether it is built or not
-pub leaves-read : OneListOfKeys → (rules : List Rule) (lines : List Line) (ended : Ended) (left left' : Option (List ℕ)) (reads reads' : ℕ) (old new : Option (List ℕ)) (writes writes' : ℕ)
-    → LeavesScript (Ok lines) left left' reads reads' → (are_built lines ≡ true → LeavesLines rules lines ended old new writes writes')
+pub leaves-read : OneListOfKeys → (rules : List Rule) (lines : List Line) (ended : Ended) (files : List (Option (List ℕ))) (opens opens' : ℕ) (left left' : Option (List ℕ)) (reads reads' : ℕ)
+    (old new : Option (List ℕ)) (writes writes' : ℕ) → AreDictionaries files → opens ≤ opens' → LeavesScript (Ok lines) left left' reads reads' → (are_built lines ≡ true → LeavesLines rules lines ended old new writes writes')
     → (are_built lines ≡ false → ended ≡ Err NotBuilt) → (are_built lines ≡ false → Keeps old new) → writes ≤ writes'
-    → LeavesTyped rules (run_status ended) (run_message ended) left left' reads reads' old new writes writes'
-leaves-read unique rules lines ended left left' reads reads' old new writes writes' script typing refused keeps counted =
+    → LeavesTyped rules (run_status ended) (run_message ended) files opens opens' left left' reads reads' old new writes writes'
+leaves-read unique rules lines ended files opens opens' left left' reads reads' old new writes writes' are opening script typing refused keeps counted =
     elim (cases_Bool (are_built lines)) [
-      | inl built ↦ leaves-built unique rules lines ended left left' reads reads' old new writes writes' script built (typing built)
+      | inl built ↦ leaves-built unique rules lines ended files opens opens' left left' reads reads' old new writes writes' are opening script built (typing built)
       | inr unbuilt ↦
-          subst (λ (r : Ended). LeavesTyped rules (run_status r) (run_message r) left left' reads reads' old new writes writes') (sym (refused unbuilt))
-          (leaves-not_built unique rules lines left left' reads reads' old new writes writes' script unbuilt (keeps unbuilt) counted)
+          subst (λ (r : Ended). LeavesTyped rules (run_status r) (run_message r) files opens opens' left left' reads reads' old new writes writes') (sym (refused unbuilt))
+          (leaves-not_built unique rules lines files opens opens' left left' reads reads' old new writes writes' are opening script unbuilt (keeps unbuilt) counted)
     ]

@@ -1,13 +1,13 @@
 -- What a run of the program leaves, by what its words are.
-use Rattle.std.proofs.Common.{◌≡◌, ◌≢◌, ◌≤◌, ◌⊎◌, ◌↔◌, ◌∙◌, ◌==◌, sym, ap, subst, refl, ℕ, true, false, Option, None, Some, is_some, Ok, Err, List, IfSome, length, arith, rules, inl, inr}
+use Rattle.std.proofs.Common.{◌≡◌, ◌≢◌, ◌≤◌, ◌⊎◌, ◌↔◌, ◌∙◌, sym, ap, subst, refl, ℕ, true, false, Option, None, Some, is_some, Ok, Err, List, map, IfSome, arith, rules, inl, inr}
 use Rattle.std.specs.Io.KnownBytes.{Keeps}
-use Rattle.std.specs.Option.{option_and_then, option_map_or}
-use Rattle.std.proofs.lemmas.Bool.{and_from, and_left, and_parts, and_right, both_ways, eq-eqb, ne_eqb, or_left, or_right}
+use Rattle.std.specs.Option.{option_and_then}
+use Rattle.std.proofs.lemmas.Bool.{both_ways, or_left, or_right}
 use Rattle.std.proofs.lemmas.Option.{MatchOption-from_none, none-some}
 use Rattle.skk_outside.specs.Faults.{Rose}
 use Rattle.romaji_rules.specs.Standard.{standard}
 use Rattle.skk_top.specs.CheckCommand.{LeavesChecked}
-use Rattle.skk_top.specs.Command.{command_of, is_script, file_checked, are_type_alone, file_to_check, are_built_words}
+use Rattle.skk_top.specs.Command.{command_of, dictionaries_alone, file_checked, dictionaries_to_type, file_to_check, are_built_words}
 use Rattle.skk_top.specs.Status.{Ended, IsStatus, Tells, run_status, run_message, message_of, message_at}
 use Rattle.skk_top.specs.TypeCommand.{LeavesTyped}
 use Rattle.skk_top.specs.declared.command.Command.{Command}
@@ -23,7 +23,7 @@ LeavesRun given result file reads reads' left left' takes takes' written written
   status : IsStatus result;
   words : (result ≡ 1) ↔ (command_of given ≡ None);
   not_built : IfSome (command_of given) (λ command. are_built_words given ≡ false → result ≡ 8);
-  unread : are_type_alone given ≡ false → Keeps left left';
+  unread : dictionaries_to_type given ≡ None → Keeps left left';
   untouched : are_built_words given ≡ false → Keeps written written';
   outside : result ≡ 4 → Rose reads reads' ⊎ (Rose takes takes' ⊎ Rose writes writes');
   told : result ≢ 2 → result ≢ 3 → Tells (message_at result) said said' tells tells';
@@ -31,8 +31,8 @@ LeavesRun given result file reads reads' left left' takes takes' written written
   input_counted : takes ≤ takes';
   out_counted : writes ≤ writes';
   err_counted : tells ≤ tells';
-  types : are_type_alone given ≡ true
-      → (message : List ℕ) × Tells message said said' tells tells' × LeavesTyped standard result message left left' takes takes' written written' writes writes';
+  types : IfSome (dictionaries_to_type given) (λ names.
+      (message : List ℕ) × Tells message said said' tells tells' × LeavesTyped standard result message (map file names) reads reads' left left' takes takes' written written' writes writes');
   checks : IfSome (file_to_check given)
       (λ name. (message : List ℕ) × Tells message said said' tells tells' × LeavesChecked result message (file name) reads reads' written written' writes writes');
 }
@@ -60,23 +60,9 @@ told-of (Err (BadDictionary number at)) two three = absurd (three refl)
 told-of (Err fault) two three = refl
 
 -- a command that checks a file types no script
-no_script : (command : Command) (name : List ℕ) → file_checked command ≡ Some name → is_script command ≡ false
+no_script : (command : Command) (name : List ℕ) → file_checked command ≡ Some name → dictionaries_alone command ≡ None
 no_script (TypeScript options) name e = absurd (none-some name e)
 no_script command name e = refl
-
--- words are `type` alone where they are one, and the command is to type a script
-alone-script : (given : List (List ℕ)) → are_type_alone given ≡ true → option_map_or is_script (command_of given) false ≡ true
-alone-script given alone = (and_parts (length given == 1) (option_map_or is_script (command_of given) false) alone).1
-
-pub type_alone : (given : List (List ℕ)) (command : Command) → command_of given ≡ Some command → length given ≡ 1 → is_script command ≡ true → are_type_alone given ≡ true
-type_alone given command read one script =
-    and_from (length given == 1) (option_map_or is_script (command_of given) false) (eq-eqb (length given) 1 one) (ap (λ o. option_map_or is_script o false) read ∙ script)
-
-pub type_more : (given : List (List ℕ)) → length given ≢ 1 → are_type_alone given ≡ false
-type_more given more = and_left (length given == 1) (option_map_or is_script (command_of given) false) (ne_eqb (length given) 1 more)
-
-pub type_none : (given : List (List ℕ)) (command : Command) → command_of given ≡ Some command → is_script command ≡ false → are_type_alone given ≡ false
-type_none given command read other = and_right (length given == 1) (option_map_or is_script (command_of given) false) (ap (λ o. option_map_or is_script o false) read ∙ other)
 
 -- words that are no command
 pub leaves-no_command : (given : List (List ℕ)) (file : List ℕ → Option (List ℕ)) (reads : ℕ) (left : Option (List ℕ)) (takes : ℕ) (written : Option (List ℕ)) (writes : ℕ)
@@ -94,7 +80,7 @@ leaves-no_command given file reads left takes written writes said said' tells te
   input_counted = omega arith;
   out_counted = omega arith;
   err_counted = counted;
-  types = λ alone. absurd (both_ways (option_map_or is_script (command_of given) false) (ap (λ o. option_map_or is_script o false) none) (alone-script given alone));
+  types = MatchOption-from_none (dictionaries_to_type given) _ (ap (option_and_then dictionaries_alone) none);
   checks = MatchOption-from_none (file_to_check given) _ (ap (option_and_then file_checked) none);
 }
 
@@ -105,8 +91,8 @@ pub leaves-check : (given : List (List ℕ)) (command : Command) (name : List �
     → LeavesRun given (run_status ended) file reads reads' left left takes takes written written' writes writes' said said' tells tells'
 leaves-check given command name ended file reads reads' left takes written written' writes writes' said said' tells tells' read named leaves told counted =
     let checking : file_to_check given ≡ Some name = ap (option_and_then file_checked) read ∙ named in
-    let other : option_map_or is_script (command_of given) false ≡ false = ap (λ o. option_map_or is_script o false) read ∙ no_script command name named in
-    let built : are_built_words given ≡ true = or_right (are_type_alone given) (is_some (file_to_check given)) (ap is_some checking) in
+    let other : dictionaries_to_type given ≡ None = ap (option_and_then dictionaries_alone) read ∙ no_script command name named in
+    let built : are_built_words given ≡ true = or_right (is_some (dictionaries_to_type given)) (is_some (file_to_check given)) (ap is_some checking) in
     record {
       status = is-status ended;
       words = (λ one. absurd (leaves.words one), λ none. absurd (none-some command (sym none ∙ read)));
@@ -119,7 +105,7 @@ leaves-check given command name ended file reads reads' left takes written writt
       input_counted = omega arith;
       out_counted = leaves.writes_counted;
       err_counted = counted;
-      types = λ alone. absurd (both_ways (option_map_or is_script (command_of given) false) other (alone-script given alone));
+      types = MatchOption-from_none (dictionaries_to_type given) _ other;
       checks = subst (λ o. IfSome o (λ n.
           (message : List ℕ) × Tells message said said' tells tells' × LeavesChecked (run_status ended) message (file n) reads reads' written written' writes writes'))
           (sym checking) (run_message ended, told, leaves);
@@ -127,7 +113,7 @@ leaves-check given command name ended file reads reads' left takes written writt
 
 -- a command that is not built
 pub leaves-not_built : (given : List (List ℕ)) (command : Command) (file : List ℕ → Option (List ℕ)) (reads : ℕ) (left : Option (List ℕ)) (takes : ℕ) (written : Option (List ℕ)) (writes : ℕ)
-    (said said' : Option (List ℕ)) (tells tells' : ℕ) → command_of given ≡ Some command → file_checked command ≡ None → are_type_alone given ≡ false
+    (said said' : Option (List ℕ)) (tells tells' : ℕ) → command_of given ≡ Some command → file_checked command ≡ None → dictionaries_alone command ≡ None
     → Tells (message_of NotBuilt) said said' tells tells' → tells ≤ tells'
     → LeavesRun given 8 file reads reads left left takes takes written written writes writes said said' tells tells'
 leaves-not_built given command file reads left takes written writes said said' tells tells' read unnamed other told counted = record {
@@ -142,29 +128,33 @@ leaves-not_built given command file reads left takes written writes said said' t
   input_counted = omega arith;
   out_counted = omega arith;
   err_counted = counted;
-  types = λ alone. absurd (both_ways (are_type_alone given) other alone);
+  types = MatchOption-from_none (dictionaries_to_type given) _ (ap (option_and_then dictionaries_alone) read ∙ other);
   checks = MatchOption-from_none (file_to_check given) _ (ap (option_and_then file_checked) read ∙ unnamed);
 }
 
 -- a script to type
-pub leaves-typed : (given : List (List ℕ)) (command : Command) (ended : Ended) (file : List ℕ → Option (List ℕ)) (reads : ℕ) (left left' : Option (List ℕ)) (takes takes' : ℕ)
-    (written written' : Option (List ℕ)) (writes writes' : ℕ) (said said' : Option (List ℕ)) (tells tells' : ℕ) → command_of given ≡ Some command → file_checked command ≡ None → are_type_alone given ≡ true
-    → LeavesTyped standard (run_status ended) (run_message ended) left left' takes takes' written written' writes writes' → Tells (run_message ended) said said' tells tells' → tells ≤ tells'
-    → LeavesRun given (run_status ended) file reads reads left left' takes takes' written written' writes writes' said said' tells tells'
-leaves-typed given command ended file reads left left' takes takes' written written' writes writes' said said' tells tells' read unnamed alone leaves told counted =
-    let built : are_built_words given ≡ true = or_left (are_type_alone given) (is_some (file_to_check given)) alone in
+pub leaves-typed : (given : List (List ℕ)) (command : Command) (names : List (List ℕ)) (ended : Ended) (file : List ℕ → Option (List ℕ)) (reads reads' : ℕ) (left left' : Option (List ℕ)) (takes takes' : ℕ)
+    (written written' : Option (List ℕ)) (writes writes' : ℕ) (said said' : Option (List ℕ)) (tells tells' : ℕ) → command_of given ≡ Some command → file_checked command ≡ None → dictionaries_alone command ≡ Some names
+    → LeavesTyped standard (run_status ended) (run_message ended) (map file names) reads reads' left left' takes takes' written written' writes writes' → Tells (run_message ended) said said' tells tells' → tells ≤ tells'
+    → LeavesRun given (run_status ended) file reads reads' left left' takes takes' written written' writes writes' said said' tells tells'
+leaves-typed given command names ended file reads reads' left left' takes takes' written written' writes writes' said said' tells tells' read unnamed alone leaves told counted =
+    let typing : dictionaries_to_type given ≡ Some names = ap (option_and_then dictionaries_alone) read ∙ alone in
+    let built : are_built_words given ≡ true = or_left (is_some (dictionaries_to_type given)) (is_some (file_to_check given)) (ap is_some typing) in
     record {
       status = is-status ended;
       words = (λ one. absurd (leaves.words one), λ none. absurd (none-some command (sym none ∙ read)));
       not_built = IfSome-all (command_of given) _ (λ c unbuilt. absurd (both_ways (are_built_words given) unbuilt built));
-      unread = λ other. absurd (both_ways (are_type_alone given) other alone);
+      unread = λ none. absurd (none-some names (sym none ∙ typing));
       untouched = λ unbuilt. absurd (both_ways (are_built_words given) unbuilt built);
-      outside = λ four. inr (leaves.outside four);
+      outside = leaves.outside;
       told = λ two three. subst (λ m. Tells m said said' tells tells') (told-of ended two three) told;
-      shelf_counted = omega arith;
+      shelf_counted = leaves.opens_counted;
       input_counted = leaves.reads_counted;
       out_counted = leaves.writes_counted;
       err_counted = counted;
-      types = λ e. (run_message ended, told, leaves);
+      types = subst (λ o. IfSome o (λ ns.
+          (message : List ℕ) × Tells message said said' tells tells'
+          × LeavesTyped standard (run_status ended) message (map file ns) reads reads' left left' takes takes' written written' writes writes'))
+          (sym typing) (run_message ended, told, leaves);
       checks = MatchOption-from_none (file_to_check given) _ (ap (option_and_then file_checked) read ∙ unnamed);
     }

@@ -3,7 +3,7 @@ use Rattle.std.proofs.Common.{◌≡◌, ◌==◌, ℕ, Bool, true, false, if◌
 use Prim.Native.String.{String}
 use Rattle.std.specs.Fmt.{digits}
 use Rattle.std.specs.List.{filter}
-use Rattle.skk_top.specs.Command.{command_of, are_type_alone, file_to_check, are_built_words}
+use Rattle.skk_top.specs.Command.{command_of, dictionaries_to_type, file_to_check, are_built_words}
 use Rattle.skk_text.specs.Lines.{with_first}
 use Rattle.skk_top.specs.Words.{is_name, number_within, cut}
 use Rattle.skk_top.specs.declared.command.Command.{Command}
@@ -21,11 +21,11 @@ abbrev read : String → Option Command
 read line = command_of (words line)
 
 -- commands with their options
-abbrev type_with : List (List ℕ) → Option (List ℕ) → Option (List ℕ) → ℕ → Bool → Option Command
+abbrev type_with : List (List ℕ) → Option (List ℕ) → Option (List ℕ) → Option ℕ → Bool → Option Command
 type_with dictionaries rules learned limit threads =
     Some (TypeScript (record { dictionaries = record { items = dictionaries }; rules = rules; learned = learned; limit = limit; threads = threads }))
 
-abbrev serve_with : String → List (List ℕ) → Option (List ℕ) → ℕ → ℕ → ℕ → Option Command
+abbrev serve_with : String → List (List ℕ) → Option (List ℕ) → Option ℕ → ℕ → ℕ → Option Command
 serve_with learned dictionaries rules limit port connections =
     Some (Serve (record { learned = codes learned; dictionaries = record { items = dictionaries }; rules = rules; limit = limit; port = port; connections = connections }))
 
@@ -38,13 +38,13 @@ taken lines = filter (λ line. is_some (read line)) lines
 
 -- each option in both spellings, in any order; the dictionaries in theirs
 type_words : map read ("type" ∷ "type --dict a --rules b --learned c --limit 64 --threads" ∷ "type --threads --limit=268435456 --learned=c --rules=b --dict=a" ∷ "type --dict b --threads --dict=a --dict b" ∷ [])
-    ≡ type_with [] None None 268435456 false ∷ type_with (codes "a" ∷ []) (Some (codes "b")) (Some (codes "c")) 64 true ∷ type_with (codes "a" ∷ []) (Some (codes "b")) (Some (codes "c")) 268435456 true
-    ∷ type_with (codes "b" ∷ codes "a" ∷ codes "b" ∷ []) None None 268435456 true ∷ []
+    ≡ type_with [] None None None false ∷ type_with (codes "a" ∷ []) (Some (codes "b")) (Some (codes "c")) (Some 64) true ∷ type_with (codes "a" ∷ []) (Some (codes "b")) (Some (codes "c")) (Some 268435456) true
+    ∷ type_with (codes "b" ∷ codes "a" ∷ codes "b" ∷ []) None None None true ∷ []
 unfolding digits
 type_words = refl
 
 serve_words : map read ("serve --learned a" ∷ "serve --dict d --port 1 --learned=a --connections=1 --rules r --limit=65" ∷ "serve --connections 1000000 --port=65535 --learned a" ∷ [])
-    ≡ serve_with "a" [] None 268435456 1178 1000000 ∷ serve_with "a" (codes "d" ∷ []) (Some (codes "r")) 65 1 1 ∷ serve_with "a" [] None 268435456 65535 1000000 ∷ []
+    ≡ serve_with "a" [] None None 1178 1000000 ∷ serve_with "a" (codes "d" ∷ []) (Some (codes "r")) (Some 65) 1 1 ∷ serve_with "a" [] None None 65535 1000000 ∷ []
 unfolding digits
 serve_words = refl
 
@@ -68,7 +68,7 @@ values : map command_of ((codes "check" ∷ codes "a b" ∷ []) ∷ (codes "dump
 values = refl
 
 -- sixteen dictionaries, and one more
-dictionaries : map (λ count. command_of (codes "type" ∷ replicate count (codes "--dict=a"))) (16 ∷ 17 ∷ 40 ∷ []) ≡ type_with (replicate 16 (codes "a")) None None 268435456 false ∷ None ∷ None ∷ []
+dictionaries : map (λ count. command_of (codes "type" ∷ replicate count (codes "--dict=a"))) (16 ∷ 17 ∷ 40 ∷ []) ≡ type_with (replicate 16 (codes "a")) None None None false ∷ None ∷ None ∷ []
 dictionaries = refl
 
 served_dictionaries : map (λ count. is_some (command_of (codes "serve" ∷ codes "--learned=a" ∷ replicate count (codes "--dict=a")))) (16 ∷ 17 ∷ []) ≡ true ∷ false ∷ []
@@ -133,23 +133,23 @@ cuts : map (λ text. cut (codes text)) ("" ∷ "a" ∷ "=" ∷ "a=" ∷ "=b" ∷
     ≡ None ∷ None ∷ Some ([], []) ∷ Some (codes "a", []) ∷ Some ([], codes "b") ∷ Some (codes "a", codes "b") ∷ Some (codes "a", codes "b=c") ∷ Some (codes "ab", codes "=") ∷ []
 cuts = refl
 
--- what is built: `type` without options, and `check`
+-- what is built: `type` with dictionaries alone, and `check`
 abbrev some_lines : List String
 some_lines =
-    "type" ∷ "type --limit 268435456" ∷ "type --limit 64" ∷ "type --dict a" ∷ "type --rules a" ∷ "type --learned a" ∷ "type --threads" ∷ "serve --learned a" ∷ "check a" ∷ "check" ∷ "check a b"
-    ∷ "dump --learned a" ∷ "load --seed 1 --sessions 1 --lines 1" ∷ "typ" ∷ []
+    "type" ∷ "type --limit 268435456" ∷ "type --limit 64" ∷ "type --dict a" ∷ "type --rules a" ∷ "type --learned a" ∷ "type --threads" ∷ "type --dict a --dict=b" ∷ "type --dict a --threads"
+    ∷ "serve --learned a --dict b" ∷ "check a" ∷ "check" ∷ "check a b" ∷ "dump --learned a" ∷ "load --seed 1 --sessions 1 --lines 1" ∷ "typ" ∷ []
 
 built : map (λ line. are_built_words (words line)) some_lines
-    ≡ true ∷ false ∷ false ∷ false ∷ false ∷ false ∷ false ∷ false ∷ true ∷ false ∷ false ∷ false ∷ false ∷ false ∷ []
+    ≡ true ∷ false ∷ false ∷ true ∷ false ∷ false ∷ false ∷ true ∷ false ∷ false ∷ true ∷ false ∷ false ∷ false ∷ false ∷ false ∷ []
 unfolding digits
 built = refl
 
-type_alone : map (λ line. are_type_alone (words line)) some_lines
-    ≡ true ∷ false ∷ false ∷ false ∷ false ∷ false ∷ false ∷ false ∷ false ∷ false ∷ false ∷ false ∷ false ∷ false ∷ []
+typed_with : map (λ line. dictionaries_to_type (words line)) some_lines
+    ≡ Some [] ∷ None ∷ None ∷ Some (codes "a" ∷ []) ∷ None ∷ None ∷ None ∷ Some (codes "a" ∷ codes "b" ∷ []) ∷ None ∷ None ∷ None ∷ None ∷ None ∷ None ∷ None ∷ None ∷ []
 unfolding digits
-type_alone = refl
+typed_with = refl
 
 files_to_check : map (λ line. file_to_check (words line)) some_lines
-    ≡ None ∷ None ∷ None ∷ None ∷ None ∷ None ∷ None ∷ None ∷ Some (codes "a") ∷ None ∷ None ∷ None ∷ None ∷ None ∷ []
+    ≡ None ∷ None ∷ None ∷ None ∷ None ∷ None ∷ None ∷ None ∷ None ∷ None ∷ Some (codes "a") ∷ None ∷ None ∷ None ∷ None ∷ None ∷ []
 unfolding digits
 files_to_check = refl

@@ -1,9 +1,9 @@
 -- The commands, and the words that they are read from.
-use Rattle.std.specs.Prelude.{ℕ, Bool, true, false, ◌&&◌, ◌||◌, ◌==◌, if◌then◌else◌, Option, None, Some, List, [], ◌∷◌, codes, length}
+use Rattle.std.specs.Prelude.{ℕ, Bool, ◌||◌, not, if◌then◌else◌, Option, None, Some, List, [], ◌∷◌, codes}
 use Rattle.std.specs.Map.{lookup}
-use Rattle.std.specs.Option.{is_some, option_and_then, option_map_or}
+use Rattle.std.specs.Option.{is_some, option_and_then}
 use Rattle.std.specs.Str.{bytes_eq}
-use Rattle.skk_top.specs.Settings.{Row, fits, settings_of, texts_of, text_given, text_of, number_or, is_given}
+use Rattle.skk_top.specs.Settings.{Row, fits, settings_of, texts_of, text_given, text_of, number_given, number_or, is_given}
 use Rattle.skk_top.specs.declared.argument.Argument.{Argument}
 use Rattle.skk_top.specs.declared.argument.Argument.TheVariants.{File, Dictionary, Rules, Learned, Limit, Port, Connections, Book, Seed, Sessions, Lines, Threads}
 use Rattle.skk_top.specs.declared.command.Command.{Command}
@@ -49,7 +49,7 @@ type_options settings = record {
   dictionaries = record { items = texts_of Dictionary settings };
   rules = text_given Rules settings;
   learned = text_given Learned settings;
-  limit = number_or 268435456 Limit settings;
+  limit = number_given Limit settings;
   threads = is_given Threads settings;
 }
 
@@ -59,7 +59,7 @@ serve_options settings = record {
   learned = text_of Learned settings;
   dictionaries = record { items = texts_of Dictionary settings };
   rules = text_given Rules settings;
-  limit = number_or 268435456 Limit settings;
+  limit = number_given Limit settings;
   port = number_or 1178 Port settings;
   connections = number_or 1000000 Connections settings;
 }
@@ -90,13 +90,17 @@ abbrev pub command_of : List (List ℕ) → Option Command
 command_of [] = None
 command_of (word ∷ words) = option_and_then (λ name. option_and_then (command_with name) (settings_of words)) (command_named word)
 
--- whether a command is to type a script
-abbrev pub is_script : Command → Bool
-is_script (commands.TypeScript options) = true
-is_script (commands.Serve options) = false
-is_script (commands.Check file) = false
-is_script (commands.Dump learned book) = false
-is_script (commands.Load options) = false
+-- whether no option of `type` but dictionaries is given
+abbrev pub has_dictionaries_alone : TypeOptions → Bool
+has_dictionaries_alone options = not (is_some options.rules || (is_some options.learned || (is_some options.limit || options.threads)))
+
+-- the names of the dictionaries of a command that is to type a script, and that has no other option
+abbrev pub dictionaries_alone : Command → Option (List (List ℕ))
+dictionaries_alone (commands.TypeScript options) = if has_dictionaries_alone options then Some options.dictionaries.items else None
+dictionaries_alone (commands.Serve options) = None
+dictionaries_alone (commands.Check file) = None
+dictionaries_alone (commands.Dump learned book) = None
+dictionaries_alone (commands.Load options) = None
 
 -- the name of the file that a command is to check
 abbrev pub file_checked : Command → Option (List ℕ)
@@ -106,14 +110,14 @@ file_checked (commands.Check file) = Some file
 file_checked (commands.Dump learned book) = None
 file_checked (commands.Load options) = None
 
--- whether words are `type` without options
-abbrev pub are_type_alone : List (List ℕ) → Bool
-are_type_alone words = length words == 1 && option_map_or is_script (command_of words) false
+-- the names of the dictionaries, where words are `type` with no other option
+abbrev pub dictionaries_to_type : List (List ℕ) → Option (List (List ℕ))
+dictionaries_to_type words = option_and_then dictionaries_alone (command_of words)
 
 -- the name of the file that words ask to check, where they are `check`
 abbrev pub file_to_check : List (List ℕ) → Option (List ℕ)
 file_to_check words = option_and_then file_checked (command_of words)
 
--- whether words are a command that is built so far: `type` without options, or `check`
+-- whether words are a command that is built so far: `type` with dictionaries alone, or `check`
 abbrev pub are_built_words : List (List ℕ) → Bool
-are_built_words words = are_type_alone words || is_some (file_to_check words)
+are_built_words words = is_some (dictionaries_to_type words) || is_some (file_to_check words)

@@ -3,6 +3,7 @@ pub mod Characters
 pub mod CheckCommand
 pub mod CheckedFiles
 pub mod Command
+pub mod Dictionaries
 pub mod KanaInput
 pub mod Marks
 pub mod Page

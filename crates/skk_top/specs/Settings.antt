@@ -106,9 +106,13 @@ text_given argument settings = option_and_then text_in (value_given argument set
 abbrev pub text_of : Argument → List Setting → List ℕ
 text_of argument settings = unwrap_or (text_given argument settings) []
 
+-- the number of an argument, where it is given
+abbrev pub number_given : Argument → List Setting → Option ℕ
+number_given argument settings = option_and_then number_in (value_given argument settings)
+
 -- the number of an argument, or another where it is not given
 abbrev pub number_or : ℕ → Argument → List Setting → ℕ
-number_or absent argument settings = unwrap_or (option_and_then number_in (value_given argument settings)) absent
+number_or absent argument settings = unwrap_or (number_given argument settings) absent
 
 -- whether an argument is given
 abbrev pub is_given : Argument → List Setting → Bool

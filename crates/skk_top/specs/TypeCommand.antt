@@ -1,5 +1,5 @@
 -- What a run of `type` leaves.
-use Rattle.std.specs.Prelude.{◌≡◌, ◌≢◌, ◌⊎◌, ◌+◌, ◌<◌, ◌≤◌, ℕ, true, false, Option, Result, List, [], ◌∷◌, MatchBool, IfOk, IfErr, IfSome, OnOk, OnErr, IsErrOf, length}
+use Rattle.std.specs.Prelude.{◌≡◌, ◌≢◌, ◌⊎◌, ◌+◌, ◌<◌, ◌≤◌, ℕ, true, false, Some, Option, Result, List, [], ◌∷◌, MatchBool, IfOk, IfErr, IfSome, OnOk, OnErr, IsErrOf, Contains, length}
 use Rattle.std.specs.Io.KnownBytes.{Appends, IsAtEnd, Keeps}
 use Rattle.skk_outside.specs.Faults.{Rose}
 use Rattle.skk_outside.specs.Taken.{TakesAtMost}
@@ -7,6 +7,7 @@ use Rattle.skk_outside.specs.Written.{AppendsPrefix}
 use Rattle.skk_outside.specs.declared.source.TheConstants.{PIECE}
 use Rattle.romaji_rules.specs.declared.rule.Rule.{Rule}
 use Rattle.skk_text.specs.Lines.{lines_of}
+use Rattle.skk_top.specs.Dictionaries.{AreDictionaries, IsNoDictionary, TellsDictionaries}
 use Rattle.skk_top.specs.Script.{IsScript, IsFirstBad, are_built, script_limit}
 use Rattle.skk_top.specs.Status.{Ended, message_of, HasStatus}
 use Rattle.skk_top.specs.Typed.{typed, are_taken}
@@ -49,21 +50,27 @@ abbrev pub IsNotBuilt : List Rule → List ℕ → Type 0
 IsNotBuilt rules bytes =
     (lines : List Line) × IsScript bytes lines × ((are_built lines ≡ false) ⊎ (are_taken rules lines ≡ false))
 
--- what a run of `type` leaves, by its status and its line on standard error: what its source had and has left with the
--- counts of its faults, and what its sink was and is written with the counts of its own
-pub record LeavesTyped (rules : List Rule) (status : ℕ) (message : List ℕ) (left left' : Option (List ℕ)) (reads reads' : ℕ)
-    (written written' : Option (List ℕ)) (writes writes' : ℕ) : Type 0 where
-  pub ended : status ≡ 0 → IsAtEnd left'
+-- what a run of `type` leaves, by its status and its line on standard error: of what its dictionaries' files have, the
+-- counts of the shelf's faults; what its source had and has left with the counts of its own; and what its sink was and is
+-- written with the counts of its own
+pub record LeavesTyped (rules : List Rule) (status : ℕ) (message : List ℕ) (files : List (Option (List ℕ))) (opens opens' : ℕ)
+    (left left' : Option (List ℕ)) (reads reads' : ℕ) (written written' : Option (List ℕ)) (writes writes' : ℕ) : Type 0 where
   pub words : status ≢ 1
-  pub dictionaries : status ≢ 3
+  pub opened : status ≢ 3 → status ≢ 4 → status ≢ 6 → AreDictionaries files
+  pub nothing_unopened : (bytes : List ℕ) → Contains files (Some bytes) → IsNoDictionary bytes → Keeps written written'
+  pub unopened : status ≡ 3 → TellsDictionaries files message
+  pub unopened_unread : status ≡ 3 → Keeps left left'
+  pub unopened_unwritten : status ≡ 3 → Keeps written written'
+  pub ended : status ≡ 0 → IsAtEnd left'
   pub whole : status ≡ 0 → IfSome left (IsTypedWhole rules)
   pub read : TakesAtMost left left' (script_limit + PIECE)
   pub prints : IfSome left (λ bytes. PrintsScript rules status bytes written written')
   pub nothing : IfSome left (λ bytes. IsRefused bytes → Keeps written written')
   pub nothing_refused : status ≡ 2 → Keeps written written'
   pub refused : status ≡ 2 → IfSome left (λ bytes. IsRefusal bytes message)
-  pub outside : status ≡ 4 → Rose reads reads' ⊎ Rose writes writes'
+  pub outside : status ≡ 4 → Rose opens opens' ⊎ (Rose reads reads' ⊎ Rose writes writes')
   pub not_built : status ≡ 8 → IfSome left (IsNotBuilt rules)
+  pub opens_counted : opens ≤ opens'
   pub reads_counted : reads ≤ reads'
   pub writes_counted : writes ≤ writes'
 

@@ -1,11 +1,10 @@
-ghost use Rattle.skk_top.specs.CheckCommand.{LeavesChecked, LeavesDictionary};
+ghost use Rattle.skk_top.specs.CheckCommand.{LeavesChecked};
 ghost use Rattle.skk_top.specs.Status.{run_status, run_message};
 
 use crate::checking::print_listed;
 use crate::dictionary::read_dictionary;
 use crate::fault::RunFault;
 use crate::word::Word;
-use dict_format::Listed;
 use skk_outside::{Shelf, Sink};
 use std::alloc::Global;
 
@@ -19,16 +18,8 @@ pub fn run_check<H: Shelf, O: Sink>(
     ensures { LeavesChecked (run_status result) (run_message result) (H.file shelf.old name.now) (H.faults shelf.old) (H.faults shelf.new)
         (O.written out.old) (O.written out.new) (O.faults out.old) (O.faults out.new) }
 {
-    match read_checked(alloc, name, shelf) {
+    match read_dictionary(alloc, shelf, name, 1) {
         Ok(listed) => print_listed(alloc, &listed, out),
         Err(fault) => Err(fault),
     }
-}
-
-// Reads the file of this name as dictionary 1.
-fn read_checked<H: Shelf>(alloc: Global, name: &Word, shelf: &mut H) -> Result<Listed, RunFault>
-    ensures { LeavesDictionary 1 result (H.file shelf.old name.now) (H.faults shelf.old) (H.faults shelf.new) }
-{
-    let text = name.to_text(alloc)?;
-    read_dictionary(alloc, shelf, &text, 1)
 }

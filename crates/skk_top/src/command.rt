@@ -1,5 +1,6 @@
-ghost use Rattle.std.specs.Prelude.{◌≡◌, ◌<◌, MatchOption};
-ghost use Rattle.skk_top.specs.Command.{command_of, type_options, serve_options, load_options, is_script, file_checked};
+ghost use Rattle.std.specs.Prelude.{◌≡◌, ◌<◌, if◌then◌else◌, Some, None, MatchOption};
+ghost use Rattle.std.specs.Option.{option_map};
+ghost use Rattle.skk_top.specs.Command.{command_of, type_options, serve_options, load_options, has_dictionaries_alone, dictionaries_alone, file_checked};
 ghost use Rattle.skk_top.specs.Settings.{times};
 ghost use Rattle.skk_top.specs.declared.argument.Argument.TheVariants.{Dictionary};
 
@@ -10,9 +11,6 @@ use crate::settings::{DICTIONARIES, Settings};
 use crate::word::Word;
 use arrayvec::ArrayVec;
 use skk_text::Text;
-
-/// The greatest limit of the learned file in bytes, which holds where none is given.
-const LIMIT: u64 = 268_435_456;
 
 /// The port that is served where none is given.
 const PORT: u64 = 1178;
@@ -50,17 +48,17 @@ impl<'a> Command<'a> {
         }
     }
 
-    /// Whether it is to type a script.
-    pub fn is_script(&self) -> bool
-        ensures { result ≡ is_script self.now }
+    /// The names of the dictionaries, where it is to type a script and has no other option.
+    pub fn dictionaries_alone(&self) -> Option<&[Word<'a>]>
+        ensures { option_map (λ names. names.now) result ≡ dictionaries_alone self.now }
     {
         match self {
-            Command::TypeScript(_) => true,
-            Command::Serve(_) | Command::Check(_) | Command::Load(_) => false,
+            Command::TypeScript(options) => options.dictionaries_alone(),
+            Command::Serve(_) | Command::Check(_) | Command::Load(_) => None,
             Command::Dump {
                 learned: _,
                 book: _,
-            } => false,
+            } => None,
         }
     }
 }
@@ -74,8 +72,8 @@ pub struct TypeOptions<'a> {
     pub rules: Option<Word<'a>>,
     /// The learned file; where there is none, what is learnt goes with the run.
     pub learned: Option<Word<'a>>,
-    /// The most bytes of the learned file, from 64 to 268,435,456.
-    pub limit: u64,
+    /// The most bytes of the learned file, from 64 to 268,435,456; the latter where it is not given.
+    pub limit: Option<u64>,
     /// Whether each session has a thread of its own.
     pub threads: bool,
 }
@@ -89,9 +87,23 @@ impl<'a> TypeOptions<'a> {
             dictionaries: settings.texts(Argument::Dictionary)?,
             rules: settings.text_given(Argument::Rules),
             learned: settings.text_given(Argument::Learned),
-            limit: settings.number_or(LIMIT, Argument::Limit),
+            limit: settings.number_given(Argument::Limit),
             threads: settings.is_given(Argument::Threads),
         })
+    }
+
+    // The names of the dictionaries, where there is no other option.
+    fn dictionaries_alone(&self) -> Option<&[Word<'a>]>
+        ensures { option_map (λ names. names.now) result ≡ (if has_dictionaries_alone self.now then Some self.now.dictionaries.items else None) }
+    {
+        let others = self.rules.is_some()
+            || self.learned.is_some()
+            || self.limit.is_some()
+            || self.threads;
+        if others {
+            return None;
+        }
+        Some(self.dictionaries.as_slice())
     }
 }
 
@@ -104,8 +116,8 @@ pub struct ServeOptions<'a> {
     pub dictionaries: ArrayVec<Word<'a>, DICTIONARIES>,
     /// The file of the rules; the standard table where there is none.
     pub rules: Option<Word<'a>>,
-    /// The most bytes of the learned file, from 64 to 268,435,456.
-    pub limit: u64,
+    /// The most bytes of the learned file, from 64 to 268,435,456; the latter where it is not given.
+    pub limit: Option<u64>,
     /// The port, from 1 to 65,535.
     pub port: u64,
     /// How many connections are served, from 1 to 1,000,000.
@@ -121,7 +133,7 @@ impl<'a> ServeOptions<'a> {
             learned: settings.text(Argument::Learned),
             dictionaries: settings.texts(Argument::Dictionary)?,
             rules: settings.text_given(Argument::Rules),
-            limit: settings.number_or(LIMIT, Argument::Limit),
+            limit: settings.number_given(Argument::Limit),
             port: settings.number_or(PORT, Argument::Port),
             connections: settings.number_or(CONNECTIONS, Argument::Connections),
         })

@@ -1,9 +1,9 @@
-ghost use Rattle.std.specs.Prelude.{◌≡◌, ◌≢◌, ◌≤◌, ◌⊎◌, ◌↔◌, ℕ, List, None, IfSome, true, false};
+ghost use Rattle.std.specs.Prelude.{◌≡◌, ◌≢◌, ◌≤◌, ◌⊎◌, ◌↔◌, ℕ, List, None, IfSome, false, map};
 ghost use Rattle.std.specs.Io.KnownBytes.{Keeps};
 ghost use Rattle.skk_outside.specs.Faults.{Rose};
 ghost use Rattle.romaji_rules.specs.Standard.{standard};
 ghost use Rattle.skk_top.specs.CheckCommand.{LeavesChecked};
-ghost use Rattle.skk_top.specs.Command.{command_of, are_type_alone, file_to_check, are_built_words};
+ghost use Rattle.skk_top.specs.Command.{command_of, dictionaries_to_type, file_to_check, are_built_words};
 ghost use Rattle.skk_top.specs.Status.{IsStatus, Tells, message_at};
 ghost use Rattle.skk_top.specs.TypeCommand.{LeavesTyped};
 
@@ -32,7 +32,7 @@ pub fn run_alone<H: Shelf, I: Source, O: Sink, E: Sink>(
     // Words that are no command, or a command that is not built.
     ensures words { (result ≡ 1) ↔ (command_of words.now ≡ None) }
     ensures not_built { IfSome (command_of words.now) (λ command. are_built_words words.now ≡ false → result ≡ 8) }
-    ensures unread { are_type_alone words.now ≡ false → Keeps (I.left input.old) (I.left input.new) }
+    ensures unread { dictionaries_to_type words.now ≡ None → Keeps (I.left input.old) (I.left input.new) }
     ensures untouched { are_built_words words.now ≡ false → Keeps (O.written out.old) (O.written out.new) }
 
     // A call on the outside failed where the status says so.
@@ -49,10 +49,10 @@ pub fn run_alone<H: Shelf, I: Source, O: Sink, E: Sink>(
     ensures err_counted { E.faults err.old ≤ E.faults err.new }
 
     // What each command leaves.
-    ensures types { are_type_alone words.now ≡ true → (message : List ℕ)
+    ensures types { IfSome (dictionaries_to_type words.now) (λ names. (message : List ℕ)
         × Tells message (E.written err.old) (E.written err.new) (E.faults err.old) (E.faults err.new)
-        × LeavesTyped standard result message (I.left input.old) (I.left input.new) (I.faults input.old) (I.faults input.new)
-        (O.written out.old) (O.written out.new) (O.faults out.old) (O.faults out.new) }
+        × LeavesTyped standard result message (map (H.file shelf.old) names) (H.faults shelf.old) (H.faults shelf.new)
+        (I.left input.old) (I.left input.new) (I.faults input.old) (I.faults input.new) (O.written out.old) (O.written out.new) (O.faults out.old) (O.faults out.new)) }
     ensures checks { IfSome (file_to_check words.now) (λ name. (message : List ℕ)
         × Tells message (E.written err.old) (E.written err.new) (E.faults err.old) (E.faults err.new)
         × LeavesChecked result message (H.file shelf.old name) (H.faults shelf.old) (H.faults shelf.new)
@@ -64,8 +64,8 @@ pub fn run_alone<H: Shelf, I: Source, O: Sink, E: Sink>(
     if let Some(name) = command.file_checked() {
         return end_run(run_check(alloc, &name, shelf, out), err);
     }
-    if words.len() != 1 || !command.is_script() {
+    let Some(names) = command.dictionaries_alone() else {
         return end_run(Err(RunFault::NotBuilt), err);
-    }
-    end_run(run_type(alloc, input, out), err)
+    };
+    end_run(run_type(alloc, names, shelf, input, out), err)
 }

@@ -1,5 +1,5 @@
 ghost use Rattle.std.specs.Prelude.{◌≡◌, ◌≤◌, ◌<◌, ◌++◌, ◌∷◌, [], Some, None, length, IsSome, IsNone, MatchOption, option_copied};
-ghost use Rattle.skk_top.specs.Settings.{times, texts_of, value_given, text_given, text_of, number_or, is_given, fits};
+ghost use Rattle.skk_top.specs.Settings.{times, texts_of, value_given, text_given, text_of, number_given, number_or, is_given, fits};
 
 use crate::argument::Argument;
 use crate::setting::{Setting, Value};
@@ -81,14 +81,21 @@ impl<'a> Settings<'a> {
         self.text_given(argument).unwrap_or(Word::empty())
     }
 
+    /// The number of an argument, where it is given.
+    pub fn number_given(&self, argument: Argument) -> Option<u64>
+        ensures { result ≡ number_given argument self.now }
+    {
+        match self.value_given(argument)? {
+            Value::Number(number) => Some(*number),
+            Value::Nothing | Value::Text(_) => None,
+        }
+    }
+
     /// The number of an argument, or another where it is not given.
     pub fn number_or(&self, absent: u64, argument: Argument) -> u64
         ensures { result ≡ number_or absent argument self.now }
     {
-        match self.value_given(argument) {
-            Some(Value::Number(number)) => *number,
-            Some(Value::Nothing | Value::Text(_)) | None => absent,
-        }
+        self.number_given(argument).unwrap_or(absent)
     }
 
     /// The texts of an argument in their order, where they are not too many for a command.

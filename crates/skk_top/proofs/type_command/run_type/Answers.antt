@@ -1,10 +1,13 @@
+use Rattle.std.proofs.Common.{map}
 use Rattle.romaji_rules.specs.Standard.{standard}
-use Rattle.skk_top.proofs.Runs.{leaves-read, leaves-refused}
+use Rattle.skk_top.proofs.Dictionaries.{are_dictionaries}
+use Rattle.skk_top.proofs.Runs.{leaves-unopened}
 use Rattle.skk_top.proofs.type_command.run_type.Goals as goal
 
 pub returns-in-Ok : goal.returns-in-Ok
 returns-in-Ok g c =
-    leaves-read c.one_list_of_keys.ensures standard c.in-Ok.script c.type_built.result _ _ _ _ _ _ _ _ c.in-Ok.ensures c.type_built.ensures.typed c.type_built.ensures.not_built c.type_built.ensures.untouched c.type_built.ensures.counted
+    let files = map (g.H.Shelf.file c.args.shelf.now) c.args.names.now in
+    c.type_input.ensures files _ _ (are_dictionaries _ files c.in-Ok.ensures.whole) c.in-Ok.ensures.counted
 
 pub returns-in-Err : goal.returns-in-Err
-returns-in-Err g c = leaves-refused standard c.in-Err.fault _ _ _ _ _ _ c.in-Err.ensures
+returns-in-Err g c = leaves-unopened standard c.in-Err.fault _ _ _ _ _ _ _ c.in-Err.ensures
