@@ -1,0 +1,11 @@
+pub mod BlockFirst
+pub mod Completing
+pub mod Index
+pub mod Keys
+pub mod LayersAdded
+pub mod Lists
+pub mod Places
+pub mod Sorting
+pub mod Texts
+pub mod Walking
+pub mod Zipped

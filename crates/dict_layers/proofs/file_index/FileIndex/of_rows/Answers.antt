@@ -1,0 +1,13 @@
+use Rattle.std.specs.List.{filter}
+use Rattle.dict_layers.specs.InOrder.{is_walked}
+use Rattle.dict_layers.proofs.Index.{walked_apart}
+use Rattle.dict_layers.proofs.Keys.{rows_apart}
+use Rattle.dict_layers.proofs.file_index.FileIndex.of_rows.Goals as goal
+
+pub returns : goal.returns
+returns c =
+    let rows = c.args.rows.now in
+    record {
+      keys_in_order = c.in_order.ensures rows c.in_ok-all.ensures (rows_apart rows c.requires);
+      readings_in_order = c.in_order-2.ensures (filter is_walked rows) c.in_ok-walked.ensures (walked_apart rows c.requires);
+    }

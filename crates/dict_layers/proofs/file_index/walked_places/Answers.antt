@@ -1,0 +1,24 @@
+use Rattle.std.proofs.Common.{◌≡◌, ◌∙◌, ◌++◌, ◌∷◌, [], Some, ap, sym, map, slice_get}
+use Rattle.std.proofs.lemmas.List.{map-append}
+use Rattle.std.proofs.lemmas.Option.{slice_get-get_or}
+use Rattle.dict_layers.specs.InOrder.{is_walked}
+use Rattle.dict_layers.proofs.Places.{kept_more, kept_same}
+use Rattle.dict_layers.proofs.file_index.walked_places.Goals as goal
+use Rattle.dict_layers.proofs.file_index.walked_places.Goals.{then-is_walked+in_ok-push, else-is_walked}
+
+pub loop-place-preserved : goal.loop-place-preserved
+loop-place-preserved c =
+    let rows = c.args.rows.now in
+    let place = c.loop-place.place in
+    let row = c.index-rows-place.result in
+    let here : slice_get rows place ≡ Some row = slice_get-get_or rows place row c.loop-place-test.true ∙ ap (λ r. Some r) (sym c.index-rows-place.is) in
+    elim c.if-is_walked.branch [
+      | then-is_walked+in_ok-push w ↦
+          ap (λ places. map (slice_get rows) places.items) w.places-is
+          ∙ ap (map (slice_get rows)) w.in_ok-push.ensures.items ∙ map-append (slice_get rows) c.loop-place.places.items (place ∷ [])
+          ∙ ap (λ found. found ++ slice_get rows place ∷ []) c.loop-place.invariant
+          ∙ sym (kept_more is_walked rows place row here (sym c.is_walked.ensures ∙ w.if-is_walked.true))
+      | else-is_walked w ↦
+          ap (λ places. map (slice_get rows) places.items) w.places-is ∙ c.loop-place.invariant
+          ∙ sym (kept_same is_walked rows place row here (sym c.is_walked.ensures ∙ w.if-is_walked.false))
+    ]

@@ -1,0 +1,30 @@
+-- The rows of a file in order, and the readings that a walk goes over.
+use Rattle.std.specs.Prelude.{◌≡◌, ℕ, Bool, ◌&&◌, Some, List, [], map, slice_get}
+use Rattle.std.specs.List.{filter}
+use Rattle.skk_calls.specs.declared.part.Part.TheVariants.{Nasi}
+use Rattle.skk_calls.specs.Canonical.{has_item}
+use Rattle.skk_calls.specs.Completions.{reading_of}
+use Rattle.skk_calls.specs.Found.{first_of_each}
+use Rattle.skk_calls.specs.Orders.{key_less, sort_by, text_less}
+use Rattle.skk_calls.specs.Rows.{Row, same_part}
+
+-- a row is less than another by its key
+abbrev pub row_less : Row → Row → Bool
+row_less row other = key_less row.key other.key
+
+-- a walk comes by a row: it has no okurigana, and a candidate
+abbrev pub is_walked : Row → Bool
+is_walked row = same_part row.key.part Nasi && has_item row.cands
+
+-- the readings of a file that a walk goes over, each once, ascending by their bytes
+abbrev pub walked_readings : List Row → List (List ℕ)
+walked_readings rows = sort_by text_less (first_of_each (λ reading. reading) [] (map reading_of (filter is_walked rows)))
+
+-- at places of a list these items stand, in this order
+pub record HasAt {X : Type 0} (all : List X) (places : List ℕ) (items : List X) : Type 0 where
+  pub items_are : map (slice_get all) places ≡ map Some items
+
+-- places of a file's rows: those of all rows, in order by their keys, and of the rows that a walk comes by, likewise
+pub record IsIndex (rows : List Row) (by_key readings : List ℕ) : Type 0 where
+  pub keys_in_order : HasAt rows by_key (sort_by row_less rows)
+  pub readings_in_order : HasAt rows readings (sort_by row_less (filter is_walked rows))

@@ -1,0 +1,5 @@
+pub mod Blocks
+pub mod Finding
+pub mod InOrder
+pub mod OrderLaws
+pub mod WalkLaws

@@ -1,0 +1,2 @@
+pub mod CandsMade
+pub mod StringSets
