@@ -25,14 +25,14 @@ def held(pid):
         return 0
 
 
-def run(words, content=b""):
-    """Runs the program with these words and this input, and throws away what it prints. Answers the seconds by the clock
+def run(words, content=b"", program=PROGRAM):
+    """Runs a program with these words and this input, and throws away what it prints. Answers the seconds by the clock
     and of the processor, user and system, and the most memory in KiB."""
     with tempfile.TemporaryFile() as source:
         source.write(content)
         source.seek(0)
         start = time.perf_counter()
-        process = subprocess.Popen([PROGRAM, *words], stdin=source, stdout=subprocess.DEVNULL)
+        process = subprocess.Popen([program, *words], stdin=source, stdout=subprocess.DEVNULL)
         peak = pid = 0
         while not pid:
             peak = max(peak, held(process.pid))
@@ -41,5 +41,5 @@ def run(words, content=b""):
         seconds = time.perf_counter() - start
     process.returncode = os.waitstatus_to_exitcode(status)
     if process.returncode != 0:
-        sys.exit(f"skk ended with status {process.returncode}")
+        sys.exit(f"{program.name} ended with status {process.returncode}")
     return seconds, used.ru_utime + used.ru_stime, peak
