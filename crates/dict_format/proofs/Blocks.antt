@@ -2,29 +2,23 @@
 use Rattle.std.proofs.Common.{◌≡◌, ℕ, ◌+◌, suc, Bool, true, false, not, ◌||◌, if◌then◌else◌, String, List, [], ◌∷◌, ◌++◌, map, get_or, length, ◌<◌, refl, sym, ap, ◌∙◌, arith}
 use Rattle.std.specs.declared.alloc.Global.{Global}
 use Rattle.std.specs.List.{list_any, filter, flat_map, position_or_len}
-use Rattle.std.specs.String.{string_eq}
-use Rattle.std.proofs.Math.ListN.{set, get_or-map}
+use Rattle.std.proofs.Math.ListN.{set}
 use Rattle.std.proofs.lemmas.Bool.{and_parts, or_parts, both_ways, not-true}
-use Rattle.std.proofs.lemmas.List.{append-nil, map-append, map-set, length-map}
-use Rattle.indexmap.specs.IndexSet.{insert_key}
+use Rattle.std.proofs.lemmas.List.{append-nil, map-append, length-map}
 use Rattle.std.proofs.lemmas.List.Elements.{filter-append}
 use Rattle.std.proofs.lemmas.Grind.{flat_map-append}
+use Rattle.skk_calls.specs.KeyLaws.{same_equal, same_itself, same_other}
 use Rattle.skk_calls.specs.Canonical.{has_item}
-use Rattle.skk_calls.specs.Rows.{Block, same_text, has_text, texts_differ, is_okuri}
-use Rattle.dict_format.proofs.Differing.{texts_differ-cons}
-use Rattle.dict_format.specs.Building.{Strings, texts_in, JoinsBlocks, made_blocks}
 use Rattle.skk_calls.specs.Found.{first_of_each}
+use Rattle.skk_calls.specs.Rows.{Block, same_text, has_text, texts_differ, is_okuri}
+use Rattle.word_sets.specs.FirstLaws.{first_of_each-differ, first_of_each-push, first_of_each-texts, texts_stay}
+use Rattle.word_sets.specs.Firsts.{with_new}
+use Rattle.word_sets.specs.Strings.{characters}
+use Rattle.dict_format.specs.Building.{JoinsBlocks, made_blocks}
 use Rattle.dict_format.specs.RowOfItems.{words_once, words_with, joined_blocks, has_word}
-use Rattle.dict_format.specs.Views.{characters}
-use Rattle.dict_format.proofs.Firsts.{same-is, same-refl, same-sym, with_new, first_of_each-push, firsts_differ, firsts_have}
-use Rattle.dict_format.proofs.StringSets.{same_strings, insert_string}
+use Rattle.dict_format.proofs.Differing.{texts_differ-cons}
 
 -- Values beside texts
-
--- the place of a string among others is that of its characters
-pub place_of_string : (keys : List (String Global)) (string : String Global) → position_or_len (string_eq string) keys ≡ position_or_len (same_text (characters string)) (map characters keys)
-place_of_string [] string = refl
-place_of_string (key ∷ keys) string = rw (same_strings string key, place_of_string keys string) refl
 
 module _ {V : Type 0} (text : List ℕ) (old new : List ℕ → V) (others : (other : List ℕ) → same_text text other ≡ false → new other ≡ old other) where
   -- where the text doesn't stand nothing changes
@@ -45,7 +39,7 @@ module _ {V : Type 0} (text : List ℕ) (old new : List ℕ → V) (others : (ot
           → (same_text text other || has_text texts text) ≡ true
           → set (map old (other ∷ texts)) (position_or_len (same_text text) (other ∷ texts)) (new text) ≡ map new (other ∷ texts)
       by true e none later h =
-          let is = same-is text other e in
+          let is = same_equal text other e in
           let none_here : has_text texts text ≡ false = ap (has_text texts) is ∙ none in
           rw e (ap (λ v. v ∷ map old texts) (ap new is) ∙ ap (λ vs. new other ∷ vs) (sym (map_others texts none_here)))
       by false e none later h =
@@ -68,7 +62,7 @@ words_with-push okuri blocks block =
 
 words_with-same : (okuri : List ℕ) (blocks : List Block) (block : Block) → block.okuri ≡ okuri → words_with okuri (blocks ++ block ∷ []) ≡ words_with okuri blocks ++ block.words
 words_with-same okuri blocks block e =
-    let here : same_text block.okuri okuri ≡ true = ap (λ o. same_text o okuri) e ∙ same-refl okuri in
+    let here : same_text block.okuri okuri ≡ true = ap (λ o. same_text o okuri) e ∙ same_itself okuri in
     words_with-push okuri blocks block ∙ (rw here refl)
 
 words_with-other : (okuri : List ℕ) (blocks : List Block) (block : Block) → same_text block.okuri okuri ≡ false → words_with okuri (blocks ++ block ∷ []) ≡ words_with okuri blocks
@@ -79,7 +73,7 @@ pub words_with-none : (okuri : List ℕ) (blocks : List Block) → has_text (map
 words_with-none okuri [] none = refl
 words_with-none okuri (block ∷ blocks) none =
     let parts = or_parts (same_text okuri block.okuri) (has_text (map (λ b. b.okuri) blocks) okuri) none in
-    let apart : same_text block.okuri okuri ≡ false = same-sym block.okuri okuri ∙ parts.0 in
+    let apart : same_text block.okuri okuri ≡ false = same_other block.okuri okuri ∙ parts.0 in
     rw apart (words_with-none okuri blocks parts.1)
 
 -- One more block
@@ -90,16 +84,13 @@ okuris_of blocks = map (λ b. b.okuri) (first_of_each (λ b. b.okuri) [] blocks)
 
 okuris_of-push : (blocks : List Block) (block : Block) → okuris_of (blocks ++ block ∷ []) ≡ with_new (λ text. text) (okuris_of blocks) block.okuri
 okuris_of-push blocks block =
-    ap (map (λ b. b.okuri)) (first_of_each-push (λ b. b.okuri) blocks block) ∙ by (has_text (okuris_of blocks) block.okuri) refl
+    ap (map (λ b. b.okuri)) (first_of_each-push (λ (b : Block). b.okuri) blocks block) ∙ by (has_text (okuris_of blocks) block.okuri)
+    ∙ ap (λ texts. if has_text texts block.okuri then okuris_of blocks else okuris_of blocks ++ block.okuri ∷ []) (sym (texts_stay (okuris_of blocks)))
   where
-    texts : (ts : List (List ℕ)) → map (λ text. text) ts ≡ ts
-    texts [] = refl
-    texts (t ∷ ts) = ap (λ us. t ∷ us) (texts ts)
-
-    by : (b : Bool) → has_text (okuris_of blocks) block.okuri ≡ b
-        → map (λ b. b.okuri) (with_new (λ b. b.okuri) (first_of_each (λ b. b.okuri) [] blocks) block) ≡ with_new (λ text. text) (okuris_of blocks) block.okuri
-    by true e = rw (e, texts (okuris_of blocks), e) refl
-    by false e = rw (e, texts (okuris_of blocks), e) (map-append (λ b. b.okuri) (first_of_each (λ b. b.okuri) [] blocks) (block ∷ []))
+    by : (b : Bool) → map (λ (c : Block). c.okuri) (if b then first_of_each (λ c. c.okuri) [] blocks else first_of_each (λ c. c.okuri) [] blocks ++ block ∷ [])
+        ≡ (if b then okuris_of blocks else okuris_of blocks ++ block.okuri ∷ [])
+    by true = refl
+    by false = map-append (λ (c : Block). c.okuri) (first_of_each (λ c. c.okuri) [] blocks) (block ∷ [])
 
 -- the value of a text that stands there, and of one that is new
 there_value : {V : Type 0} (old : List ℕ → V) (text : List ℕ) (texts : List (List ℕ)) (d : V) → has_text texts text ≡ true → get_or (map old texts) (position_or_len (same_text text) texts) d ≡ old text
@@ -108,7 +99,7 @@ there_value old text (other ∷ texts) d there = by (same_text text other) refl 
   where
     by : (b : Bool) → same_text text other ≡ b → (has_text texts text ≡ true → get_or (map old texts) (position_or_len (same_text text) texts) d ≡ old text) → (same_text text other || has_text texts text) ≡ true
         → get_or (map old (other ∷ texts)) (position_or_len (same_text text) (other ∷ texts)) d ≡ old text
-    by true e later h = rw e (ap old (sym (same-is text other e)))
+    by true e later h = rw e (ap old (sym (same_equal text other e)))
     by false e later h =
         let there_later : has_text texts text ≡ true = rw e at h in
         let next : 1 + position_or_len (same_text text) texts ≡ suc (position_or_len (same_text text) texts) = omega arith in
@@ -130,86 +121,71 @@ there_within text (other ∷ texts) there = by (same_text text other) refl (λ h
 -- One more block
 
 -- what stands before a block is added: the okurigana and their words
-module _ (okuris more_okuris : Strings) (groups : List Strings) (okuri : String Global) (before : List Block) (block : Block)
-    (is_okuri_of : block.okuri ≡ characters okuri)
-    (keys : more_okuris.keys ≡ insert_key string_eq okuris.keys okuri)
+module _ (okuris more_okuris : List (List ℕ)) (groups : List (List (List ℕ))) (okuri : List ℕ) (more : List (List ℕ)) (before : List Block)
+    (added : more_okuris ≡ with_new (λ text. text) okuris okuri)
     (joins : JoinsBlocks okuris groups before) where
+  -- the blocks with the one more
+  abbrev longer : List Block
+  longer = before ++ record { okuri = okuri; words = more } ∷ []
+
   -- the words of each okurigana, before the block and with it
   abbrev old_words : List ℕ → List (List ℕ)
   old_words other = words_once (words_with other before)
 
   abbrev new_words : List ℕ → List (List ℕ)
-  new_words other = words_once (words_with other (before ++ block ∷ []))
+  new_words other = words_once (words_with other longer)
 
   -- the block's words are those of its okurigana alone
-  others : (other : List ℕ) → same_text (characters okuri) other ≡ false → new_words other ≡ old_words other
-  others other apart = ap words_once (words_with-other other before block (ap (λ o. same_text o other) is_okuri_of ∙ apart))
+  others : (other : List ℕ) → same_text okuri other ≡ false → new_words other ≡ old_words other
+  others other apart = ap words_once (words_with-other other before (record { okuri = okuri; words = more }) apart)
 
-  here : new_words (characters okuri) ≡ words_once (words_with (characters okuri) before ++ block.words)
-  here = ap words_once (words_with-same (characters okuri) before block is_okuri_of)
+  here : new_words okuri ≡ words_once (words_with okuri before ++ more)
+  here = ap words_once (words_with-same okuri before (record { okuri = okuri; words = more }) refl)
 
-  more_texts : texts_in more_okuris ≡ with_new (λ text. text) (texts_in okuris) (characters okuri)
-  more_texts = ap (map characters) keys ∙ insert_string okuris.keys okuri
+  more_okuris_are : more_okuris ≡ okuris_of longer
+  more_okuris_are = added ∙ ap (λ texts. with_new (λ text. text) texts okuri) joins.okuris_are ∙ sym (okuris_of-push before (record { okuri = okuri; words = more }))
 
-  more_okuris_are : texts_in more_okuris ≡ okuris_of (before ++ block ∷ [])
-  more_okuris_are =
-      more_texts ∙ ap (λ ts. with_new (λ text. text) ts (characters okuri)) joins.okuris_are
-      ∙ ap (λ o. with_new (λ text. text) (okuris_of before) o) (sym is_okuri_of) ∙ sym (okuris_of-push before block)
-
-  same_texts : (ts : List (List ℕ)) → map (λ text. text) ts ≡ ts
-  same_texts [] = refl
-  same_texts (t ∷ ts) = ap (λ us. t ∷ us) (same_texts ts)
+  by_there : (b : Bool) → has_text okuris okuri ≡ b → more_okuris ≡ (if b then okuris else okuris ++ okuri ∷ [])
+  by_there b e = added ∙ ap (λ c. if c then okuris else okuris ++ okuri ∷ []) (ap (λ texts. has_text texts okuri) (texts_stay okuris) ∙ e)
 
   -- a new okurigana has the block's words alone
-  pub joins_new : has_text (texts_in okuris) (characters okuri) ≡ false → (first : Strings) → texts_in first ≡ words_once block.words → JoinsBlocks more_okuris (groups ++ first ∷ []) (before ++ block ∷ [])
+  pub joins_new : has_text okuris okuri ≡ false → (first : List (List ℕ)) → first ≡ words_once more → JoinsBlocks more_okuris (groups ++ first ∷ []) longer
   joins_new none first words =
-      let texts = texts_in okuris in
-      let no_words : words_with (characters okuri) before ≡ [] =
-      words_with-none (characters okuri) before (sym (firsts_have (λ b. b.okuri) [] before (characters okuri)) ∙ ap (λ ts. has_text ts (characters okuri)) (sym joins.okuris_are) ∙ none) in
-      let value : texts_in first ≡ new_words (characters okuri) = words ∙ ap (λ ws. words_once (ws ++ block.words)) (sym no_words) ∙ sym here in
-      let longer : texts_in more_okuris ≡ texts ++ characters okuri ∷ [] =
-      more_texts ∙ ap (λ b. if b then texts else texts ++ characters okuri ∷ []) (ap (λ ts. has_text ts (characters okuri)) (same_texts texts) ∙ none) in
+      let no_words : words_with okuri before ≡ [] =
+      words_with-none okuri before (sym (first_of_each-texts (λ (b : Block). b.okuri) before okuri) ∙ ap (λ texts. has_text texts okuri) (sym joins.okuris_are) ∙ none) in
+      let value : first ≡ new_words okuri = words ∙ ap (λ ws. words_once (ws ++ more)) (sym no_words) ∙ sym here in
       record {
         okuris_are = more_okuris_are;
         words_are =
-            map-append texts_in groups (first ∷ [])
-            ∙ ap (λ gs. gs ++ texts_in first ∷ []) (joins.words_are ∙ sym (map_others (characters okuri) old_words new_words others texts none))
-            ∙ ap (λ ws. map new_words texts ++ ws ∷ []) value
-            ∙ sym (map-append new_words texts (characters okuri ∷ []))
-            ∙ ap (map new_words) (sym longer);
+            ap (λ gs. gs ++ first ∷ []) (joins.words_are ∙ sym (map_others okuri old_words new_words others okuris none))
+            ∙ ap (λ ws. map new_words okuris ++ ws ∷ []) value
+            ∙ sym (map-append new_words okuris (okuri ∷ []))
+            ∙ ap (map new_words) (sym (by_there false none));
       }
 
-  module _ (place : ℕ) (place_is : place ≡ position_or_len (string_eq okuri) okuris.keys) (there : has_text (texts_in okuris) (characters okuri) ≡ true) where
-    place_of_text : place ≡ position_or_len (same_text (characters okuri)) (texts_in okuris)
-    place_of_text = place_is ∙ place_of_string okuris.keys okuri
-
+  module _ (place : ℕ) (place_is : place ≡ position_or_len (same_text okuri) okuris) (there : has_text okuris okuri ≡ true) where
     -- one that is there has its place
     pub known_place : place < length groups
-    known_place =
-        omega (arith, place_of_text, there_within (characters okuri) (texts_in okuris) there, sym (length-map groups texts_in) ∙ ap length joins.words_are ∙ length-map (texts_in okuris) old_words)
+    known_place = omega (arith, place_is, there_within okuri okuris there, ap length joins.words_are ∙ length-map okuris old_words)
 
     -- and has the block's words too
-    pub joins_known : (known added : Strings) → known ≡ get_or groups place known
-        → ((words : List (List ℕ)) → texts_in known ≡ words_once words → texts_in added ≡ words_once (words ++ block.words))
-        → JoinsBlocks more_okuris (set groups place added) (before ++ block ∷ [])
-    joins_known known added is adds =
-        let texts = texts_in okuris in
-        let all : texts_differ texts ≡ true = ap texts_differ joins.okuris_are ∙ firsts_differ (λ b. b.okuri) [] before in
-        let value : texts_in known ≡ old_words (characters okuri) =
-        ap texts_in is ∙ sym (get_or-map texts_in groups place known) ∙ ap (λ gs. get_or gs place (texts_in known)) joins.words_are
-        ∙ ap (λ n. get_or (map old_words texts) n (texts_in known)) place_of_text ∙ there_value old_words (characters okuri) texts (texts_in known) there in
-        let after : texts_in added ≡ new_words (characters okuri) = adds (words_with (characters okuri) before) value ∙ sym here in
-        let unchanged : texts_in more_okuris ≡ texts =
-        more_texts ∙ ap (λ b. if b then texts else texts ++ characters okuri ∷ []) (ap (λ ts. has_text ts (characters okuri)) (same_texts texts) ∙ there) in
+    pub joins_known : (known new : List (List ℕ)) → known ≡ get_or groups place known
+        → ((words : List (List ℕ)) → known ≡ words_once words → new ≡ words_once (words ++ more))
+        → JoinsBlocks more_okuris (set groups place new) longer
+    joins_known known new is adds =
+        let all : texts_differ okuris ≡ true = ap texts_differ joins.okuris_are ∙ first_of_each-differ (λ (b : Block). b.okuri) before in
+        let value : known ≡ old_words okuri =
+        is ∙ ap (λ gs. get_or gs place known) joins.words_are
+        ∙ ap (λ n. get_or (map old_words okuris) n known) place_is ∙ there_value old_words okuri okuris known there in
+        let after : new ≡ new_words okuri = adds (words_with okuri before) value ∙ sym here in
         record {
           okuris_are = more_okuris_are;
           words_are =
-              map-set texts_in groups place added
-              ∙ ap (λ gs. set gs place (texts_in added)) joins.words_are
-              ∙ ap (λ n. set (map old_words texts) n (texts_in added)) place_of_text
-              ∙ ap (set (map old_words texts) (position_or_len (same_text (characters okuri)) texts)) after
-              ∙ set_there (characters okuri) old_words new_words others texts all there
-              ∙ ap (map new_words) (sym unchanged);
+              ap (λ gs. set gs place new) joins.words_are
+              ∙ ap (λ n. set (map old_words okuris) n new) place_is
+              ∙ ap (set (map old_words okuris) (position_or_len (same_text okuri) okuris)) after
+              ∙ set_there okuri old_words new_words others okuris all there
+              ∙ ap (map new_words) (sym (by_there true there));
         }
 
 -- The blocks that are made
@@ -228,12 +204,12 @@ made_blocks-is words_of (first ∷ firsts) = by (is_okuri first.okuri) refl (mad
     by false e later = rw e later
 
 -- so okurigana with their words make the joined blocks
-pub joined-made : (okuris : Strings) (groups : List Strings) (blocks : List Block) → JoinsBlocks okuris groups blocks
-    → made_blocks (texts_in okuris) (map texts_in groups) ≡ filter (λ b. is_okuri b.okuri) (joined_blocks blocks)
+pub joined-made : (okuris : List (List ℕ)) (groups : List (List (List ℕ))) (blocks : List Block) → JoinsBlocks okuris groups blocks
+    → made_blocks okuris groups ≡ filter (λ b. is_okuri b.okuri) (joined_blocks blocks)
 joined-made okuris groups blocks joins =
     let words_of : List ℕ → List (List ℕ) = λ okuri. words_once (words_with okuri blocks) in
-    ap (made_blocks (texts_in okuris)) joins.words_are
-    ∙ ap (λ ts. made_blocks ts (map words_of ts)) joins.okuris_are
+    ap (made_blocks okuris) joins.words_are
+    ∙ ap (λ texts. made_blocks texts (map words_of texts)) joins.okuris_are
     ∙ made_blocks-is words_of (first_of_each (λ b. b.okuri) [] blocks)
 
 -- a block has a word where its strings have one

@@ -10,6 +10,7 @@ use Rattle.std.proofs.lemmas.List.Folds.{list_all-append, list_all-map}
 use Rattle.std.proofs.lemmas.Simd.{map-map}
 use Rattle.std.proofs.lemmas.Str.{chars-encodes, encodes-append, encodes_same}
 use Rattle.skk_text.specs.Lines.{with_first, lines_of}
+use Rattle.skk_calls.specs.KeyLaws.{same_part_equal}
 use Rattle.skk_calls.specs.declared.part.Part.{Part}
 use Rattle.skk_calls.specs.declared.part.Part.TheVariants.{Nasi, Ari}
 use Rattle.skk_calls.specs.Canonical.{canonical, is_good}
@@ -19,8 +20,7 @@ use Rattle.dict_format.specs.declared.file_lines.LineKind.TheVariants.{Entry}
 use Rattle.dict_format.specs.FileLines.{FileEntry, Lists, TakeAll, entries_from, entries_of, entry_of, file_limit, has_key, kind_of, none_listed, part_behind, trimmed}
 use Rattle.dict_format.specs.Lines.{SpellsRow, lacks}
 use Rattle.dict_format.specs.PrintedFiles.{in_printing_order, is_of, part_in_order, part_line, printed_file, printed_part, with_line_end, without_stamp}
-use Rattle.dict_format.proofs.Ascending.{holds_moved}
-use Rattle.dict_format.proofs.FileRows.{part_is}
+use Rattle.skk_calls.specs.OrderLaws.{holds_moved}
 use Rattle.dict_format.proofs.LineBytes.{bytes_lack, bytes_begin, bytes_line_end, bytes_part_line, bytes_slash, kind_entry, trimmed_slash}
 use Rattle.dict_format.proofs.LineEnds.{canonical_begins, canonical_ends, canonical_lacks}
 use Rattle.dict_format.proofs.LinesAgain.{canonical_spells, good_row}
@@ -86,7 +86,7 @@ rows_read part (row ∷ rows) of valid good text =
     let valids = and_parts (is_row row) (list_all is_row rows) valid in
     let goods = and_parts (is_good row) (list_all is_good rows) good in
     let texts = and_parts (scalars (canonical row)) (list_all scalars (map canonical rows)) text in
-    (subst (λ (p : Part). IsRead p row) (part_is row.key.part part ofs.0) (row_read row valids.0 goods.0 texts.0), rows_read part rows ofs.1 valids.1 goods.1 texts.1)
+    (subst (λ (p : Part). IsRead p row) (same_part_equal row.key.part part ofs.0) (row_read row valids.0 goods.0 texts.0), rows_read part rows ofs.1 valids.1 goods.1 texts.1)
 
 rows_end : (part : Part) (rows : List Row) → AllByRecursion (IsRead part) rows → list_all (lacks 10) (map written rows) ≡ true
 rows_end part [] read = refl

@@ -1,6 +1,4 @@
-pub mod Ascending
 pub mod Blocks
-pub mod CandsMade
 pub mod Cutting
 pub mod Differing
 pub mod Examples
@@ -10,7 +8,6 @@ pub mod FileLineExamples
 pub mod FileRows
 pub mod FileTexts
 pub mod FilesAgain
-pub mod Firsts
 pub mod ItemReading
 pub mod ItemsAgain
 pub mod KeyReading
@@ -19,7 +16,7 @@ pub mod LineEnds
 pub mod LineReading
 pub mod LineTexts
 pub mod LinesAgain
-pub mod Making
+pub mod OnceMore
 pub mod Pieces
 pub mod Printed
 pub mod PrintedCharacters
@@ -28,7 +25,6 @@ pub mod RowParts
 pub mod RowsAgain
 pub mod RowsBack
 pub mod RowsRead
-pub mod StringSets
 pub mod Strings
 pub mod Taking
 pub mod WordReading

@@ -1,53 +1,36 @@
 -- The rows of a part in the order in which they are printed.
-use Rattle.std.proofs.Common.{◌≡◌, ℕ, Bool, true, false, cond, ◌&&◌, ◌||◌, not, List, [], ◌∷◌, ◌++◌, refl, sym, ap, ◌∙◌, encode_utf8_all, Ordering, Less, Equal, Greater}
+use Rattle.std.proofs.Common.{◌≡◌, Bool, true, false, cond, ◌&&◌, ◌||◌, not, List, [], ◌∷◌, ◌++◌, refl, sym, ap, ◌∙◌}
 use Rattle.std.specs.Cmp.{IsStrictWeakOrder}
-use Rattle.std.specs.Cmp.Lexicographic.{slice_cmp}
 use Rattle.std.specs.List.{list_all, filter}
 use Rattle.std.specs.List.Sorted.{IsPermutation}
-use Rattle.std.specs.Ordering.{is_lt, nat_cmp, ordering_reverse}
 use Rattle.std.proofs.lemmas.Bool.{and_from, and_parts}
-use Rattle.std.proofs.lemmas.Cmp.{nat_list_cmp_total}
 use Rattle.std.proofs.lemmas.List.{append-nil}
 use Rattle.std.proofs.lemmas.List.Elements.{filter-append, filter_passes}
-use Rattle.std.proofs.lemmas.List.Sorted.{ranks_by, IsStrictWeakOrder-flip, IsPermutation-trans, IsPermutation-append, IsPermutation-filter_both}
+use Rattle.std.proofs.lemmas.List.Sorted.{IsStrictWeakOrder-flip, IsPermutation-trans, IsPermutation-append, IsPermutation-filter_both}
 use Rattle.std.proofs.lemmas.List.Sums.{list_all-from_AllPass}
-use Rattle.std.proofs.lemmas.Map.Lookups.{exact_bytes}
-use Rattle.std.proofs.lemmas.Str.{encodes_same}
+use Rattle.skk_text.specs.FilterLaws.{filter_all}
 use Rattle.skk_text.specs.Pairs.{all_pairs}
+use Rattle.skk_text.specs.PairsLaws.{list_all-weaker, pairs_appended, pairs_weaker}
+use Rattle.skk_calls.specs.KeyLaws.{same_equal}
 use Rattle.skk_calls.specs.declared.part.Part.{Part}
 use Rattle.skk_calls.specs.declared.part.Part.TheVariants.{Nasi, Ari}
 use Rattle.skk_calls.specs.Orders.{sort_by, text_less}
 use Rattle.skk_calls.specs.Rows.{Row, same_text, same_part, same_key, keys_differ}
 use Rattle.dict_format.specs.PrintedFiles.{is_of, is_printed_before, part_in_order, in_printing_order}
-use Rattle.dict_format.proofs.Ascending.{apart, all_weaker, holds_moved, not_itself, pairs_appended, pairs_weaker, sort_moves, sort_ascends, sort_stays}
+use Rattle.skk_calls.specs.OrderLaws.{apart, holds_moved, not_itself, order_read, sort_moves, sort_ascends, sort_stays, text_order, texts_apart}
 use Rattle.dict_format.proofs.FileRows.{other_part}
-use Rattle.dict_format.proofs.Firsts.{same-is, same-refl}
 
 -- two rows differ in their keys
 abbrev pub differ_in_key : Row → Row → Bool
 differ_in_key row other = not (same_key row.key other.key)
 
 by_readings : IsStrictWeakOrder (is_printed_before Nasi)
-by_readings = ranks_by nat_list_cmp_total (λ (row : Row). encode_utf8_all row.key.reading)
+by_readings = order_read (λ (row : Row). row.key.reading) text_less text_order
 
 -- the order of a part is one
 pub part_order : (part : Part) → IsStrictWeakOrder (is_printed_before part)
 part_order Nasi = by_readings
 part_order Ari = IsStrictWeakOrder-flip (is_printed_before Nasi) by_readings
-
--- of two texts that differ one is less
-texts_apart : (text other : List ℕ) → same_text text other ≡ false → apart text_less text other ≡ true
-texts_apart text other differ = by (slice_cmp nat_cmp (encode_utf8_all text) (encode_utf8_all other)) refl
-  where
-    by : (o : Ordering) → slice_cmp nat_cmp (encode_utf8_all text) (encode_utf8_all other) ≡ o → apart text_less text other ≡ true
-    by Less e = ap (λ o. is_lt o || text_less other text) e
-    by Equal e =
-        let equal : text ≡ other = encodes_same text other (exact_bytes (encode_utf8_all text) (encode_utf8_all other) e) in
-        let found : same_text text other ≡ true = ap (same_text text) (sym equal) ∙ same-refl text in
-        cc
-    by Greater e =
-        let less : text_less other text ≡ true = ap is_lt (nat_list_cmp_total.antisymm (encode_utf8_all other) (encode_utf8_all text) ∙ ap ordering_reverse e) in
-        rw (ap is_lt e, less) refl
 
 -- of two rows of a part whose keys differ one is printed before the other
 rows_apart : (part : Part) (row other : Row) → is_of part row ≡ true → is_of part other ≡ true → differ_in_key row other ≡ true → apart (is_printed_before part) row other ≡ true
@@ -117,10 +100,6 @@ module _ (part : Part) where
   pub part_stays : (rows : List Row) → keys_differ rows ≡ true → sort_by (is_printed_before part) (part_in_order part rows) ≡ part_in_order part rows
   part_stays rows differ = sort_stays (is_printed_before part) (part_in_order part rows) (part_ascends rows differ)
 
-filter_all : {X : Type 0} (p : X → Bool) (xs : List X) → list_all p xs ≡ true → filter p xs ≡ xs
-filter_all p [] all = refl
-filter_all p (x ∷ xs) all = let parts = and_parts (p x) (list_all p xs) all in rw (parts.0) (ap (λ ys. x ∷ ys) (filter_all p xs parts.1))
-
 filter_none : {X : Type 0} (p q : X → Bool) → ((x : X) → q x ≡ not (p x)) → (xs : List X) → list_all q xs ≡ true → filter p xs ≡ []
 filter_none p q other [] none = refl
 filter_none p q other (x ∷ xs) none =
@@ -158,7 +137,7 @@ printed_apart part row other before = by (same_key row.key other.key) refl
     itself Ari first second same = ap (λ text. text_less text first.key.reading) (sym same) ∙ not_itself (is_printed_before Nasi) by_readings first
 
     by : (b : Bool) → same_key row.key other.key ≡ b → not b ≡ true
-    by true e = let not_before = itself part row other (same-is row.key.reading other.key.reading (and_parts (same_part row.key.part other.key.part) (same_text row.key.reading other.key.reading) e).1) in cc
+    by true e = let not_before = itself part row other (same_equal row.key.reading other.key.reading (and_parts (same_part row.key.part other.key.part) (same_text row.key.reading other.key.reading) e).1) in cc
     by false e = refl
 
 -- of rows with okurigana and rows without it the keys differ
@@ -177,8 +156,8 @@ order_keeps_keys rows differ =
     let nasi = part_in_order Nasi rows in
     pairs_appended differ_in_key ari nasi (pairs_weaker (is_printed_before Ari) differ_in_key (printed_apart Ari) ari (part_ascends Ari rows differ))
     (pairs_weaker (is_printed_before Nasi) differ_in_key (printed_apart Nasi) nasi (part_ascends Nasi rows differ))
-    (all_weaker (is_of Ari) (λ row. list_all (differ_in_key row) nasi)
-    (λ row here. all_weaker (is_of Nasi) (differ_in_key row) (λ other there. parts_differ row other here there) nasi (part_holds Nasi rows)) ari (part_holds Ari rows))
+    (list_all-weaker (is_of Ari) (λ row. list_all (differ_in_key row) nasi)
+    (λ row here. list_all-weaker (is_of Nasi) (differ_in_key row) (λ other there. parts_differ row other here there) nasi (part_holds Nasi rows)) ari (part_holds Ari rows))
 
 -- rows in printing order stay in it
 pub order_stays : (rows : List Row) → keys_differ rows ≡ true → in_printing_order (in_printing_order rows) ≡ in_printing_order rows

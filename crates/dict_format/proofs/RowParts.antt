@@ -1,28 +1,21 @@
 -- The row that items make is a row.
 use Rattle.std.proofs.Common.{◌≡◌, ℕ, ◌+◌, Bool, true, false, not, ◌&&◌, ◌||◌, nat_le, if◌then◌else◌, List, [], ◌∷◌, ◌++◌, map, length, refl, sym, ap, ◌∙◌, arith, append_assoc}
 use Rattle.std.specs.List.{list_all, list_any, filter, flat_map}
-use Rattle.std.proofs.lemmas.Bool.{and_parts, and_from, or_parts, or_from, or_left, or_right, both_ways, not-true, le-leb}
+use Rattle.std.proofs.lemmas.Bool.{and_parts, and_from, or_left, or_right, both_ways, le-leb}
 use Rattle.std.proofs.lemmas.Grind.{flat_map-append}
 use Rattle.std.proofs.lemmas.List.Elements.{filter-append}
-use Rattle.std.proofs.lemmas.List.Folds.{list_all-append}
+use Rattle.std.proofs.lemmas.List.Folds.{list_all-append, list_any-append}
+use Rattle.skk_text.specs.FilterLaws.{list_all_kept}
+use Rattle.skk_text.specs.PairsLaws.{all_pairs-filter, list_all-filter}
 use Rattle.skk_text.specs.Text.{byte_len}
+use Rattle.skk_calls.specs.KeyLaws.{same_itself}
 use Rattle.skk_calls.specs.Canonical.{has_item}
-use Rattle.skk_calls.specs.Rows.{RowKey, Cand, Block, Row, same_text, has_text, texts_differ, is_row_key, is_word, is_cand, is_note, is_okuri, is_block, is_row, fits_blocks}
+use Rattle.skk_calls.specs.Rows.{RowKey, Cand, Block, same_text, texts_differ, is_row_key, is_word, is_cand, is_note, is_okuri, is_block, is_row, fits_blocks}
 use Rattle.skk_calls.specs.Found.{first_of_each}
-use Rattle.dict_format.proofs.Differing.{texts_differ-cons}
+use Rattle.word_sets.specs.FirstLaws.{first_of_each-all, first_of_each-differ, texts_stay}
 use Rattle.dict_format.specs.Items.{Item}
 use Rattle.dict_format.specs.Items.Item.{candidate, block, mark}
 use Rattle.dict_format.specs.RowOfItems.{fits, item_fits, words_once, words_with, blocks_of_items, has_word, cand_in, block_in, hidden_in, row_of_items}
-use Rattle.dict_format.proofs.Firsts.{firsts_differ, firsts_all, same-refl}
-
--- a row's blocks are blocks
-pub row_blocks_valid : (row : Row) → is_row row ≡ true → list_all is_block row.blocks ≡ true
-row_blocks_valid row valid =
-    let outer = and_parts (is_row_key row.key) (list_all is_cand row.cands && texts_differ (map (λ cand. cand.word) row.cands) && (fits_blocks row.key.part row.blocks && list_all is_block row.blocks && texts_differ (map (λ b. b.okuri) row.blocks) && texts_differ row.hides)) valid in
-    let inner = and_parts (list_all is_cand row.cands && texts_differ (map (λ cand. cand.word) row.cands)) (fits_blocks row.key.part row.blocks && list_all is_block row.blocks && texts_differ (map (λ b. b.okuri) row.blocks) && texts_differ row.hides) outer.1 in
-    let most = and_parts (fits_blocks row.key.part row.blocks && list_all is_block row.blocks && texts_differ (map (λ b. b.okuri) row.blocks)) (texts_differ row.hides) inner.1 in
-    let two = and_parts (fits_blocks row.key.part row.blocks && list_all is_block row.blocks) (texts_differ (map (λ b. b.okuri) row.blocks)) most.0 in
-    (and_parts (fits_blocks row.key.part row.blocks) (list_all is_block row.blocks) two.0).1
 
 -- a note that may stand in an item
 abbrev pub has_note : Item → Bool
@@ -67,15 +60,10 @@ not_empty_words (word ∷ words) fit =
     by false e short rest = rw e rest
 
 words_valid : (words : List (List ℕ)) → list_all fits words ≡ true → list_all is_word (words_once words) ≡ true
-words_valid words fit = firsts_all (λ word. word) is_word [] (filter has_item words) (not_empty_words words fit)
-
--- a text in a list
-pub texts_same : (ts : List (List ℕ)) → map (λ text. text) ts ≡ ts
-texts_same [] = refl
-texts_same (t ∷ ts) = ap (λ us. t ∷ us) (texts_same ts)
+words_valid words fit = first_of_each-all (λ word. word) is_word (filter has_item words) (not_empty_words words fit)
 
 words_differ : (words : List (List ℕ)) → texts_differ (words_once words) ≡ true
-words_differ words = ap texts_differ (sym (texts_same (words_once words))) ∙ firsts_differ (λ word. word) [] (filter has_item words)
+words_differ words = ap texts_differ (sym (texts_stay (words_once words))) ∙ first_of_each-differ (λ word. word) (filter has_item words)
 
 -- where some word is not empty there is a word
 words_some : (words : List (List ℕ)) → list_any has_item words ≡ true → nat_le 1 (length (words_once words)) ≡ true
@@ -107,43 +95,15 @@ blocks_fit (block okuri words ∷ items) fit =
     and_from (list_all fits words) (list_all block_fits (flat_map block_in items)) parts.0 (blocks_fit items parts.1)
 blocks_fit (mark words ∷ items) fit = blocks_fit items (and_parts (list_all fits words) (list_all item_fits items) fit).1
 
--- what all pass those pass that a test keeps, and these pass the test
-kept_pass : {X : Type 0} (p q : X → Bool) (xs : List X) → list_all p xs ≡ true → list_all p (filter q xs) ≡ true
-kept_pass p q [] all = refl
-kept_pass p q (x ∷ xs) all =
-    let parts = and_parts (p x) (list_all p xs) all in
-    by (q x) refl parts.0 (kept_pass p q xs parts.1)
-  where
-    by : (b : Bool) → q x ≡ b → p x ≡ true → list_all p (filter q xs) ≡ true → list_all p (filter q (x ∷ xs)) ≡ true
-    by true e here rest = rw e (and_from (p x) (list_all p (filter q xs)) here rest)
-    by false e here rest = rw e rest
-
-kept_are : {X : Type 0} (q : X → Bool) (xs : List X) → list_all q (filter q xs) ≡ true
-kept_are q [] = refl
-kept_are q (x ∷ xs) = by (q x) refl (kept_are q xs)
-  where
-    by : (b : Bool) → q x ≡ b → list_all q (filter q xs) ≡ true → list_all q (filter q (x ∷ xs)) ≡ true
-    by true e rest = rw e (and_from (q x) (list_all q (filter q xs)) e rest)
-    by false e rest = rw e rest
-
 -- the words with an okurigana fit
 words_with_fit : (okuri : List ℕ) (blocks : List Block) → list_all block_fits blocks ≡ true → list_all fits (words_with okuri blocks) ≡ true
-words_with_fit okuri blocks fit = joined (filter (λ b. same_text b.okuri okuri) blocks) (kept_pass block_fits (λ b. same_text b.okuri okuri) blocks fit)
+words_with_fit okuri blocks fit = joined (filter (λ b. same_text b.okuri okuri) blocks) (list_all-filter block_fits (λ b. same_text b.okuri okuri) blocks fit)
   where
     joined : (bs : List Block) → list_all block_fits bs ≡ true → list_all fits (flat_map (λ b. b.words) bs) ≡ true
     joined [] all = refl
     joined (b ∷ bs) all =
         let parts = and_parts (block_fits b) (list_all block_fits bs) all in
         list_all-append fits b.words (flat_map (λ c. c.words) bs) ∙ and_from (list_all fits b.words) _ parts.0 (joined bs parts.1)
-
--- a list of words that has one that is not empty
-any-append : (xs ys : List (List ℕ)) → list_any has_item (xs ++ ys) ≡ (list_any has_item xs || list_any has_item ys)
-any-append [] ys = refl
-any-append (x ∷ xs) ys = by (has_item x) (any-append xs ys)
-  where
-    by : (b : Bool) → list_any has_item (xs ++ ys) ≡ (list_any has_item xs || list_any has_item ys) → (b || list_any has_item (xs ++ ys)) ≡ ((b || list_any has_item xs) || list_any has_item ys)
-    by true e = refl
-    by false e = e
 
 -- each block that has a word gives its okurigana one
 each_has : (before after : List Block) → list_all has_word after ≡ true → list_all (λ b. list_any has_item (words_with b.okuri (before ++ after))) after ≡ true
@@ -159,9 +119,9 @@ each_has before (b ∷ after) all =
         let rest = flat_map (λ (c : Block). c.words) (filter test after) in
         ap (λ bs. list_any has_item (flat_map (λ c. c.words) bs)) (filter-append test before (b ∷ after))
         ∙ ap (list_any has_item) (flat_map-append (λ (c : Block). c.words) (filter test before) (filter test (b ∷ after)))
-        ∙ any-append (flat_map (λ c. c.words) (filter test before)) (flat_map (λ c. c.words) (filter test (b ∷ after)))
-        ∙ ap (λ x. list_any has_item (flat_map (λ c. c.words) (filter test before)) || list_any has_item (flat_map (λ c. c.words) (if x then b ∷ filter test after else filter test after))) (same-refl b.okuri)
-        ∙ or_right (list_any has_item (flat_map (λ c. c.words) (filter test before))) _ (any-append b.words rest ∙ or_left (list_any has_item b.words) (list_any has_item rest) some_word)
+        ∙ list_any-append has_item (flat_map (λ c. c.words) (filter test before)) (flat_map (λ c. c.words) (filter test (b ∷ after)))
+        ∙ ap (λ x. list_any has_item (flat_map (λ c. c.words) (filter test before)) || list_any has_item (flat_map (λ c. c.words) (if x then b ∷ filter test after else filter test after))) (same_itself b.okuri)
+        ∙ or_right (list_any has_item (flat_map (λ c. c.words) (filter test before))) _ (list_any-append has_item b.words rest ∙ or_left (list_any has_item b.words) (list_any has_item rest) some_word)
 
 -- so the joined blocks of valid okurigana are blocks
 joined_valid : (blocks firsts : List Block) → list_all block_fits blocks ≡ true → list_all (λ b. list_any has_item (words_with b.okuri blocks)) firsts ≡ true
@@ -189,27 +149,6 @@ joined_valid blocks (first ∷ firsts) fit have =
         rest)
     by false e some_word rest = rw e rest
 
--- texts that differ do so where some are left out
-kept_has : (p : List ℕ → Bool) (texts : List (List ℕ)) (text : List ℕ) → has_text texts text ≡ false → has_text (filter p texts) text ≡ false
-kept_has p [] text none = refl
-kept_has p (other ∷ texts) text none =
-    let parts = or_parts (same_text text other) (has_text texts text) none in
-    by (p other) refl parts.0 (kept_has p texts text parts.1)
-  where
-    by : (b : Bool) → p other ≡ b → same_text text other ≡ false → has_text (filter p texts) text ≡ false → has_text (filter p (other ∷ texts)) text ≡ false
-    by true e apart rest = rw e (or_from (same_text text other) (has_text (filter p texts) text) apart rest)
-    by false e apart rest = rw e rest
-
-kept_differ : (p : List ℕ → Bool) (texts : List (List ℕ)) → texts_differ texts ≡ true → texts_differ (filter p texts) ≡ true
-kept_differ p [] all = refl
-kept_differ p (text ∷ texts) all =
-    let parts = and_parts (not (has_text texts text)) (texts_differ texts) (sym (texts_differ-cons text texts) ∙ all) in
-    by (p text) refl (kept_has p texts text (not-true (has_text texts text) parts.0)) (kept_differ p texts parts.1)
-  where
-    by : (b : Bool) → p text ≡ b → has_text (filter p texts) text ≡ false → texts_differ (filter p texts) ≡ true → texts_differ (filter p (text ∷ texts)) ≡ true
-    by true e none rest = rw e (texts_differ-cons text (filter p texts) ∙ ap (λ b. not b && texts_differ (filter p texts)) none ∙ rest)
-    by false e none rest = rw e rest
-
 -- the okurigana of the blocks that are kept
 kept_okuris : (words_of : List ℕ → List (List ℕ)) (firsts : List Block)
     → map (λ (b : Block). b.okuri) (filter (λ (b : Block). is_okuri b.okuri) (map (λ (first : Block). record { okuri = first.okuri; words = words_of first.okuri }) firsts)) ≡ filter is_okuri (map (λ (b : Block). b.okuri) firsts)
@@ -230,14 +169,17 @@ pub row_of_items-valid : (key : RowKey) (items : List Item) → is_row_key key �
 row_of_items-valid key items valid fit noted part =
     let row = row_of_items key items in
     let worded = filter has_word (flat_map block_in items) in
-    let fit_blocks = kept_pass block_fits has_word (flat_map block_in items) (blocks_fit items fit) in
-    let have = firsts_all (λ (b : Block). b.okuri) (λ b. list_any has_item (words_with b.okuri worded)) [] worded (each_has [] worded (kept_are has_word (flat_map block_in items))) in
-    let okuris = ap texts_differ (kept_okuris (λ okuri. words_once (words_with okuri worded)) (first_of_each (λ b. b.okuri) [] worded)) ∙ kept_differ is_okuri (map (λ (b : Block). b.okuri) (first_of_each (λ b. b.okuri) [] worded)) (firsts_differ (λ (b : Block). b.okuri) [] worded) in
+    let fit_blocks = list_all-filter block_fits has_word (flat_map block_in items) (blocks_fit items fit) in
+    let all_worded = list_all_kept has_word (flat_map block_in items) in
+    let have = first_of_each-all (λ (b : Block). b.okuri) (λ b. list_any has_item (words_with b.okuri worded)) worded (each_has [] worded all_worded) in
+    let okuris =
+    ap texts_differ (kept_okuris (λ okuri. words_once (words_with okuri worded)) (first_of_each (λ b. b.okuri) [] worded))
+    ∙ all_pairs-filter (λ text other. not (same_text text other)) is_okuri (map (λ (b : Block). b.okuri) (first_of_each (λ b. b.okuri) [] worded)) (first_of_each-differ (λ (b : Block). b.okuri) worded) in
     and_from (is_row_key key) _ valid
     (and_from (list_all is_cand row.cands && texts_differ (map (λ cand. cand.word) row.cands)) _
     (and_from (list_all is_cand row.cands) (texts_differ (map (λ cand. cand.word) row.cands))
-    (firsts_all (λ (cand : Cand). cand.word) is_cand [] (filter (λ cand. has_item cand.word) (flat_map cand_in items)) (cands_valid items fit noted))
-    (firsts_differ (λ (cand : Cand). cand.word) [] (filter (λ cand. has_item cand.word) (flat_map cand_in items))))
+    (first_of_each-all (λ (cand : Cand). cand.word) is_cand (filter (λ cand. has_item cand.word) (flat_map cand_in items)) (cands_valid items fit noted))
+    (first_of_each-differ (λ (cand : Cand). cand.word) (filter (λ cand. has_item cand.word) (flat_map cand_in items))))
     (and_from (fits_blocks key.part row.blocks && list_all is_block row.blocks && texts_differ (map (λ b. b.okuri) row.blocks)) (texts_differ row.hides)
     (and_from (fits_blocks key.part row.blocks && list_all is_block row.blocks) (texts_differ (map (λ b. b.okuri) row.blocks))
     (and_from (fits_blocks key.part row.blocks) (list_all is_block row.blocks) part

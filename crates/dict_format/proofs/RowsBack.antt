@@ -5,6 +5,7 @@ use Rattle.std.proofs.lemmas.Bool.{and_parts, or_parts, or_left, both_ways, not-
 use Rattle.std.proofs.lemmas.Grind.{flat_map-append}
 use Rattle.std.proofs.lemmas.List.{append-nil, map-append}
 use Rattle.skk_text.specs.Text.{byte_len}
+use Rattle.skk_calls.specs.KeyLaws.{same_itself}
 use Rattle.skk_calls.specs.Canonical.{has_item}
 use Rattle.skk_calls.specs.Rows.{Cand, Block, Row, same_text, has_text, texts_differ, is_row_key, is_okuri, is_cand, is_note, is_word, is_block, is_row, fits_blocks, word_limit}
 use Rattle.skk_calls.specs.Found.{first_of_each}
@@ -12,8 +13,7 @@ use Rattle.dict_format.specs.Items.{Item}
 use Rattle.dict_format.specs.RowOfItems.{words_once, words_with, has_word, cand_in, block_in, hidden_in, joined_blocks, row_of_items}
 use Rattle.dict_format.proofs.Blocks.{words_with-none}
 use Rattle.dict_format.proofs.Differing.{texts_differ-cons}
-use Rattle.dict_format.proofs.Firsts.{same-refl, first_of_each-fresh}
-use Rattle.dict_format.proofs.RowParts.{texts_same}
+use Rattle.word_sets.specs.FirstLaws.{first_of_each-fresh, texts_stay}
 use Rattle.dict_format.proofs.RowsAgain.{Pieces, cand_piece, block_piece, mark_pieces, row_items, block_words}
 
 -- What the items say
@@ -107,7 +107,7 @@ word_some word e = longer-some word (and_parts (nat_le 1 (length word)) (nat_le 
 words_once-fresh : (words : List (List ℕ)) → list_all is_word words ≡ true → texts_differ words ≡ true → words_once words ≡ words
 words_once-fresh words all differ =
     ap (first_of_each (λ word. word) []) (all_kept has_item words (all_pass is_word has_item word_some words all))
-    ∙ first_of_each-fresh (λ word. word) words (ap texts_differ (texts_same words) ∙ differ)
+    ∙ first_of_each-fresh (λ word. word) words (ap texts_differ (texts_stay words) ∙ differ)
 
 -- Candidates
 
@@ -158,7 +158,7 @@ joined_own (b ∷ bs) all differ =
   where
     own : has_text (map (λ (c : Block). c.okuri) bs) b.okuri ≡ false → words_with b.okuri (b ∷ bs) ≡ b.words
     own none =
-        ap (λ x. flat_map (λ (d : Block). d.words) (if x then b ∷ filter (λ (d : Block). same_text d.okuri b.okuri) bs else filter (λ (d : Block). same_text d.okuri b.okuri) bs)) (same-refl b.okuri)
+        ap (λ x. flat_map (λ (d : Block). d.words) (if x then b ∷ filter (λ (d : Block). same_text d.okuri b.okuri) bs else filter (λ (d : Block). same_text d.okuri b.okuri) bs)) (same_itself b.okuri)
         ∙ ap (λ ws. b.words ++ ws) (words_with-none b.okuri bs none)
         ∙ append-nil b.words
 

@@ -8,7 +8,7 @@ use Rattle.std.proofs.lemmas.Str.{chars-append, chars-nil, chars_past_char, leng
 use Rattle.std.proofs.lemmas.Bool.{ne_eqb}
 use Rattle.skk_text.specs.Text.{byte_len}
 use Rattle.skk_calls.specs.Canonical.{has_item}
-use Rattle.dict_format.specs.Views.{characters}
+use Rattle.word_sets.specs.Strings.{characters}
 
 -- a new string has none
 pub characters-nil : (string : String Global) → string_bytes string ≡ [] → characters string ≡ []

@@ -1,44 +1,27 @@
 -- What the parts of a row are while its items are gone through.
-use Rattle.std.specs.Prelude.{◌≡◌, ℕ, if◌then◌else◌, String, List, [], ◌∷◌, map}
+use Rattle.std.specs.Prelude.{◌≡◌, ℕ, if◌then◌else◌, List, [], ◌∷◌, map}
 use Rattle.std.specs.List.{filter, flat_map}
-use Rattle.std.specs.declared.alloc.Global.{Global}
-use Rattle.std.specs.declared.hash.FoldHasher.{FoldHasher}
-use Rattle.std.specs.declared.hash.BuildHasherDefault.{BuildHasherDefault}
-use Rattle.indexmap.specs.IndexSet.{IndexSet}
 use Rattle.skk_calls.specs.Canonical.{has_item}
+use Rattle.skk_calls.specs.Found.{first_of_each}
 use Rattle.skk_calls.specs.Rows.{Cand, Block, is_okuri}
 use Rattle.dict_format.specs.declared.row.Parts.{Parts}
-use Rattle.skk_calls.specs.Found.{first_of_each}
 use Rattle.dict_format.specs.Items.{Item}
 use Rattle.dict_format.specs.RowOfItems.{words_once, words_with, has_word, cand_in, block_in, hidden_in}
-use Rattle.dict_format.specs.Views.{characters}
-
--- a set of strings
-abbrev pub Strings : Type 0
-Strings = IndexSet (String Global) (BuildHasherDefault FoldHasher)
-
--- the texts in a set of strings
-abbrev pub texts_in : Strings → List (List ℕ)
-texts_in strings = map characters strings.keys
-
--- a word with a note as a candidate
-abbrev pub as_cand : String Global × String Global → Cand
-as_cand pair = record { word = characters pair.0; note = characters pair.1 }
 
 -- the first candidate of each word that is not empty
 abbrev pub cands_once : List Cand → List Cand
 cands_once cands = first_of_each (λ cand. cand.word) [] (filter (λ cand. has_item cand.word) cands)
 
 -- the okurigana of blocks in the order of the first of each, and beside them the words of each
-pub record JoinsBlocks (okuris : Strings) (words : List Strings) (blocks : List Block) : Type 0 where
-  pub okuris_are : texts_in okuris ≡ map (λ b. b.okuri) (first_of_each (λ b. b.okuri) [] blocks)
-  pub words_are : map texts_in words ≡ map (λ okuri. words_once (words_with okuri blocks)) (texts_in okuris)
+pub record JoinsBlocks (okuris : List (List ℕ)) (words : List (List (List ℕ))) (blocks : List Block) : Type 0 where
+  pub okuris_are : okuris ≡ map (λ b. b.okuri) (first_of_each (λ b. b.okuri) [] blocks)
+  pub words_are : words ≡ map (λ okuri. words_once (words_with okuri blocks)) okuris
 
 -- what items say
 pub record SaysItems (parts : Parts) (items : List Item) : Type 0 where
-  pub cands : map as_cand parts.cands.entries ≡ cands_once (flat_map cand_in items)
+  pub cands : parts.cands ≡ cands_once (flat_map cand_in items)
   pub blocks : JoinsBlocks parts.okuris parts.words.items (filter has_word (flat_map block_in items))
-  pub hides : texts_in parts.hides ≡ words_once (flat_map hidden_in items)
+  pub hides : parts.hides ≡ words_once (flat_map hidden_in items)
 
 -- the blocks of okurigana that are valid, each with the words beside it
 abbrev pub made_blocks : List (List ℕ) → List (List (List ℕ)) → List Block

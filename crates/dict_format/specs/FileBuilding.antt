@@ -3,7 +3,6 @@ use Rattle.std.specs.Prelude.{◌≡◌, ℕ, Bool, true, if◌then◌else◌, L
 use Rattle.skk_calls.specs.declared.part.Part.{Part}
 use Rattle.skk_calls.specs.declared.part.Part.TheVariants.{Nasi, Ari}
 use Rattle.skk_calls.specs.Rows.{Row, RowKey, has_text, keys_differ}
-use Rattle.dict_format.specs.Building.{texts_in}
 use Rattle.dict_format.specs.declared.file.Listed.{Listed}
 use Rattle.dict_format.specs.declared.readings.Readings.{Readings}
 use Rattle.dict_format.specs.declared.reason.LineReason.{LineReason}
@@ -12,8 +11,8 @@ use Rattle.dict_format.specs.FileLines.{has_key}
 
 -- the readings of a part that are known
 abbrev pub known_in : Readings → Part → List (List ℕ)
-known_in readings Nasi = texts_in readings.nasi
-known_in readings Ari = texts_in readings.ari
+known_in readings Nasi = readings.nasi
+known_in readings Ari = readings.ari
 
 -- a key is known: its reading is one of those of its part
 abbrev pub knows : Readings → RowKey → Bool

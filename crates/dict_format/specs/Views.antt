@@ -1,7 +1,6 @@
 -- What the values of the code are to the definitions.
-use Rattle.std.specs.Prelude.{◌≡◌, ℕ, Result, Ok, Err, String, string_bytes, List, map}
-use Rattle.std.specs.declared.alloc.Global.{Global}
-use Rattle.std.specs.Str.{chars}
+use Rattle.std.specs.Prelude.{◌≡◌, Result, Ok, Err, map}
+use Rattle.word_sets.specs.Strings.{characters}
 use Rattle.dict_format.specs.declared.items.Item.{Item as MadeItem}
 use Rattle.dict_format.specs.declared.items.Item.TheVariants.{Candidate, Block, Mark}
 use Rattle.dict_format.specs.declared.reason.LineFault.{LineFault}
@@ -9,10 +8,6 @@ use Rattle.dict_format.specs.declared.reason.LineFault.TheVariants.{Reason, Memo
 use Rattle.dict_format.specs.declared.reason.LineReason.{LineReason}
 use Rattle.dict_format.specs.Items.{Item}
 use Rattle.dict_format.specs.Items.Item.{candidate, block, mark}
-
--- the characters of a string
-abbrev pub characters : String Global → List ℕ
-characters string = chars (string_bytes string)
 
 -- what an item of the code says
 abbrev pub item_said : MadeItem → Item

@@ -4,7 +4,8 @@ ghost use Rattle.std.specs.Option.{option_map};
 ghost use Rattle.dict_format.specs.Items.{before_note, is_semicolon, opens_block, closes_block};
 ghost use Rattle.dict_format.specs.Reading.{taken, said_words, mark_or_candidate, single_item, block_at, item_at, items_at, fit_items_at};
 ghost use Rattle.dict_format.specs.RowOfItems.{fits, item_fits};
-ghost use Rattle.dict_format.specs.Views.{characters, item_said, Gives};
+ghost use Rattle.word_sets.specs.Strings.{characters};
+ghost use Rattle.dict_format.specs.Views.{item_said, Gives};
 
 use crate::cut::place_of;
 use crate::reason::{LineFault, LineReason};

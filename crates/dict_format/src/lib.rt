@@ -1,12 +1,13 @@
 //! The text of an SKK dictionary: a line is read to the row that it spells or refused by its first reason, a row is
 //! printed on its one canonical line, which is read again as that row, and whole files are read and printed.
 //!
-//! It stands on `skk_text` and `skk_calls`. Its definitions speak of whole lines: what the texts between the slashes of
-//! a line spell, the row that they make, and what each reason says of a line; and of whole files: what each of their
-//! lines is, and the rows and bad lines that they come to. `read_line` is proved to give that row, or the first reason
-//! that fits, and `read_file` those rows and bad lines, unless memory is out; `print_line` and `print_file` what is
-//! defined. Laws say that each line has the one or the other, that the canonical line of a good row is read again as
-//! that row, that the order of a file moves rows and no more, and that the file of good rows lists them again.
+//! It stands on `skk_text`, `skk_calls` and `word_sets`. Its definitions speak of whole lines: what the texts between
+//! the slashes of a line spell, the row that they make, and what each reason says of a line; and of whole files: what
+//! each of their lines is, and the rows and bad lines that they come to. `read_line` is proved to give that row, or the
+//! first reason that fits, and `read_file` those rows and bad lines, unless memory is out; `print_line` and
+//! `print_file` what is defined. Laws say that each line has the one or the other, that the canonical line of a good
+//! row is read again as that row, that the order of a file moves rows and no more, and that the file of good rows lists
+//! them again.
 #![tactic(auto)]
 
 mod cut;

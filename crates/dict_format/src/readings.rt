@@ -1,18 +1,18 @@
-ghost use Rattle.std.specs.Prelude.{◌≡◌, ◌∷◌, ◌++◌, ◌||◌, [], false, if◌then◌else◌, not, IfOk, OnOk};
+ghost use Rattle.std.specs.Prelude.{◌≡◌, ◌||◌, false, not, IfOk, OnOk};
 ghost use Rattle.skk_calls.specs.Rows.{RowKey, has_text, same_key};
-ghost use Rattle.dict_format.specs.Building.{texts_in};
+ghost use Rattle.word_sets.specs.Firsts.{with_new};
 ghost use Rattle.dict_format.specs.FileBuilding.{knows};
 
-use indexmap::IndexSet;
 use skk_calls::{Part, RowKey};
 use skk_text::{Memory, Text};
 use std::alloc::Global;
+use word_sets::WordSet;
 
 /// The readings of keys, in each part.
 #[derive(Drop)]
 pub struct Readings {
-    nasi: IndexSet<String>,
-    ari: IndexSet<String>,
+    nasi: WordSet,
+    ari: WordSet,
 }
 
 impl Readings {
@@ -21,8 +21,8 @@ impl Readings {
         ensures { (key : RowKey) → knows result key ≡ false }
     {
         Readings {
-            nasi: IndexSet::new(alloc),
-            ari: IndexSet::new(alloc),
+            nasi: WordSet::new(alloc),
+            ari: WordSet::new(alloc),
         }
     }
 
@@ -45,11 +45,10 @@ impl Readings {
 }
 
 // Adds a reading to those that are known, and answers whether it is a new one.
-fn add_reading(alloc: Global, known: &mut IndexSet<String>, reading: &Text) -> Result<bool, Memory>
-    ensures is_new { IfOk result (λ is_new. is_new ≡ not (has_text (texts_in known.old) reading.now)) }
-    ensures known { IfOk result (λ is_new. texts_in known.new ≡ (if is_new then texts_in known.old ++ reading.now ∷ [] else texts_in known.old)) }
+fn add_reading(alloc: Global, known: &mut WordSet, reading: &Text) -> Result<bool, Memory>
+    ensures is_new { IfOk result (λ is_new. is_new ≡ not (has_text known.old reading.now)) }
+    ensures known { OnOk result (known.new ≡ with_new (λ text. text) known.old reading.now) }
 {
-    let copy = String::from_str(alloc, reading.as_str())?;
-    let is_new = known.insert(copy)?;
-    Ok(is_new)
+    let copy = reading.copy(alloc)?;
+    known.insert(copy.into_string())
 }

@@ -2,7 +2,7 @@ ghost use Rattle.std.specs.Prelude.{◌≡◌, ◌&&◌, ◌∷◌, ◌++◌, []
 ghost use Rattle.skk_calls.specs.Canonical.{has_item};
 ghost use Rattle.std.specs.Option.{option_map};
 ghost use Rattle.dict_format.specs.Reading.{taken, behind, if_closed, then_at, is_octal, octal_of, octal_at, escape_at, piece_at, behind_quote, closes_form, string_at, marked_at, strings_at, marked, quoted_word, said};
-ghost use Rattle.dict_format.specs.Views.{characters};
+ghost use Rattle.word_sets.specs.Strings.{characters};
 
 use crate::cut::has_some;
 use skk_text::Memory;

@@ -1,12 +1,13 @@
 -- The rows and the counts of a state after a change of one row.
 use Rattle.std.proofs.Common.{◌≡◌, ℕ, Bool, true, false, not, ◌==◌, nat_lt, None, Some, Option, List, refl, ◌∙◌, ap}
 use Rattle.std.proofs.lemmas.Bool.{eqb-true, eq-eqb, not-false}
+use Rattle.skk_text.specs.FilterLaws.{find_none, list_all_kept}
+use Rattle.skk_calls.specs.KeyLaws.{same_key_equal}
 use Rattle.skk_calls.specs.declared.book.NumberedBook.{NumberedBook}
 use Rattle.skk_calls.specs.Orders.{key_less}
 use Rattle.skk_calls.specs.Rows.{RowKey, Row, same_key}
 use Rattle.skk_calls.specs.States.{State, row_in, book_at, book_rows, book_count, rows_of, count_of, row_at, without_row, with_row, without_book, state_with}
-use Rattle.dict_laws.proofs.Filtered.{find_passes, find_none, find-filter, list_all_kept}
-use Rattle.dict_laws.proofs.Keys.{same_key_equal}
+use Rattle.dict_laws.proofs.Filtered.{find_passes, find-filter}
 use Rattle.dict_laws.proofs.Placing.{find-insert_by, find-insert_by_other}
 
 -- a row, where there is one, has this key

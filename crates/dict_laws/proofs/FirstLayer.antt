@@ -4,11 +4,13 @@ use Rattle.std.specs.List.{filter, list_all}
 use Rattle.std.proofs.lemmas.Bool.{and_parts, and_from, not-true, not_from_false, or_from, or_parts}
 use Rattle.std.proofs.lemmas.List.Folds.{list_all-map}
 use Rattle.std.proofs.lemmas.List.{map-append}
+use Rattle.skk_text.specs.FilterLaws.{list_all_kept, list_all_found}
+use Rattle.skk_calls.specs.KeyLaws.{same_other}
 use Rattle.skk_calls.specs.Found.{first_of_each, block_of, note_of, with_block_first, ordered, without_hidden, cands_of_layers, merged}
 use Rattle.skk_calls.specs.Rows.{Cand, Block, Row, same_text, has_text, texts_differ, words_of, is_block, is_row}
-use Rattle.dict_laws.proofs.RowParts.{row_parts, block_parts}
-use Rattle.dict_laws.proofs.Filtered.{list_all_kept, list_all_found, map_filter}
-use Rattle.dict_laws.proofs.Texts.{same_other, differ_parts, differ_filter, differ-append}
+use Rattle.skk_calls.specs.RowLaws.{row_parts, block_parts}
+use Rattle.dict_laws.proofs.Filtered.{map_filter}
+use Rattle.dict_laws.proofs.Texts.{differ_parts, differ_filter, differ-append}
 
 -- where nothing is hidden, every candidate is shown
 pub shown_all : (cands : List Cand) → without_hidden [] cands ≡ cands

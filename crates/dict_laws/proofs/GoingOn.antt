@@ -3,16 +3,16 @@ use Rattle.std.proofs.Common.{◌≡◌, ◌∙◌, ℕ, Bool, true, false, cond
 use Rattle.std.specs.List.{filter, flat_map, list_all}
 use Rattle.std.proofs.lemmas.Bool.{and_parts, and_from}
 use Rattle.std.proofs.lemmas.List.Folds.{list_all-append, list_all-map}
-use Rattle.dict_laws.proofs.PairsLaws.{list_all-weaker}
+use Rattle.skk_text.specs.PairsLaws.{list_all-weaker}
+use Rattle.skk_text.specs.FilterLaws.{list_all_kept}
 use Rattle.skk_calls.specs.declared.part.Part.TheVariants.{Nasi}
 use Rattle.skk_calls.specs.Canonical.{has_item}
 use Rattle.skk_calls.specs.Completions.{goes_on_from, completes, reading_of, newest_readings, ascending_readings, all_readings}
+use Rattle.skk_calls.specs.OrderLaws.{list_all-sort_by}
 use Rattle.skk_calls.specs.Orders.{sort_by, is_newer, text_less}
 use Rattle.skk_calls.specs.Rows.{Row, same_part}
 use Rattle.skk_calls.specs.States.{State, rows_of}
-use Rattle.dict_laws.proofs.Filtered.{list_all_kept}
 use Rattle.dict_laws.proofs.Seen.{list_all-flat_map}
-use Rattle.dict_laws.proofs.Placing.{list_all-sort_by}
 
 -- the reading of a row that completes goes on from the prefix
 pub completes_goes_on : (prefix : List ℕ) (row : Row) → completes prefix row ≡ true → goes_on_from prefix (reading_of row) ≡ true

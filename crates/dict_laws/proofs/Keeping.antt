@@ -3,6 +3,7 @@ use Rattle.std.proofs.Common.{◌≡◌, ℕ, ◌+◌, ◌<◌, Bool, true, fals
 use Rattle.std.proofs.lemmas.Bool.Decides.{Decides-eqb, nat_tests}
 use Rattle.std.proofs.lemmas.Bool.{and_from, and_parts}
 use Rattle.skk_text.specs.Text.{byte_len}
+use Rattle.skk_calls.specs.KeyLaws.{same_key_itself}
 use Rattle.skk_calls.specs.declared.answer.Reply.{Reply}
 use Rattle.skk_calls.specs.declared.answer.Reply.TheVariants as replies
 use Rattle.skk_calls.specs.declared.call.Call.{Call}
@@ -15,7 +16,6 @@ use Rattle.skk_calls.specs.Rows.{RowKey, Cand, Row, Learned, same_key, is_row_ke
 use Rattle.skk_calls.specs.States.{State, row_at, rows_of, count_of, state_with, has_stamp, is_valid}
 use Rattle.dict_laws.proofs.Changing.{has_key, row_in_has_key}
 use Rattle.dict_laws.proofs.KeptBooks.{fits_after, fits_row_at, is_valid_changed}
-use Rattle.dict_laws.proofs.Keys.{same_key_itself}
 use Rattle.dict_laws.proofs.LearntRows.{learnt_is_row, learnt_is_good}
 use Rattle.dict_laws.proofs.PurgedRows.{purged_is_row, purged_is_good}
 use Rattle.dict_laws.proofs.RowParts.{BeforeParts, before_parts}

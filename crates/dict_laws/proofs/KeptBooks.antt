@@ -1,33 +1,21 @@
 -- A valid state stays valid where a row that may stand in a book changes there.
 use Rattle.std.proofs.Common.{◌≡◌, ℕ, Bool, true, false, not, ◌&&◌, ◌||◌, ◌==◌, nat_lt, nat_le, None, Some, Option, List, refl, sym, subst, arith}
 use Rattle.std.proofs.lemmas.Bool.Decides.{nat_tests}
+use Rattle.std.specs.Cmp.{IsStrictWeakOrder}
 use Rattle.std.specs.List.{list_all}
 use Rattle.std.proofs.lemmas.Bool.{and_from, and_parts, not-true}
-use Rattle.dict_laws.proofs.PairsLaws.{list_all-filter, list_all-weaker, all_pairs-filter}
+use Rattle.skk_text.specs.PairsLaws.{list_all-filter, list_all-weaker, all_pairs-filter}
+use Rattle.skk_text.specs.FilterLaws.{list_all_found, list_all_kept}
+use Rattle.skk_calls.specs.KeyLaws.{same_key_equal, same_key_other}
 use Rattle.skk_calls.specs.declared.book.NumberedBook.{NumberedBook}
 use Rattle.skk_calls.specs.Canonical.{is_good}
+use Rattle.skk_calls.specs.OrderLaws.{insert_ascends, key_order, keys_apart, list_all-insert_by, order_read}
 use Rattle.skk_calls.specs.Orders.{key_less}
 use Rattle.skk_calls.specs.Rows.{RowKey, Row, same_key, is_row}
 use Rattle.skk_calls.specs.States.{State, book_at, book_rows, book_count, rows_of, row_at, count_of, without_row, with_row, without_book, with_book, state_with, rows_ascend, has_stamp, fits_count, is_book, books_ascend, is_valid}
 use Rattle.dict_laws.proofs.Changing.{has_key, changed_book}
-use Rattle.dict_laws.proofs.Filtered.{list_all_found, list_all_kept}
-use Rattle.dict_laws.proofs.KeyOrder.{key_less_trans, key_less_total}
-use Rattle.dict_laws.proofs.Keys.{same_key_equal, same_key_other}
-use Rattle.dict_laws.proofs.Placing.{list_all-insert_by, all_pairs-insert_by}
 
 -- Rows
-
--- a row of another key is less or greater
-keys_apart : (row other : Row) → not (same_key other.key row.key) ≡ true
-    → (key_less row.key other.key || key_less other.key row.key) ≡ true
-keys_apart row other apart =
-    by (key_less row.key other.key) (key_less_total row.key other.key)
-    (same_key_other other.key row.key (not-true (same_key other.key row.key) apart))
-  where
-    by : (b : Bool) → (b ≡ false → same_key row.key other.key ≡ false → key_less other.key row.key ≡ true)
-        → same_key row.key other.key ≡ false → (b || key_less other.key row.key) ≡ true
-    by true so unlike = refl
-    by false so unlike = so refl unlike
 
 -- rows ascend after a change
 rows_ascend_with_row : (key : RowKey) (row : Option Row) (rows : List Row) → has_key key row ≡ true
@@ -35,10 +23,10 @@ rows_ascend_with_row : (key : RowKey) (row : Option Row) (rows : List Row) → h
 rows_ascend_with_row key None rows has ascend =
     all_pairs-filter (λ (r other : Row). key_less r.key other.key) (λ (r : Row). not (same_key r.key key)) rows ascend
 rows_ascend_with_row key (Some row) rows has ascend =
-    all_pairs-insert_by (λ (r other : Row). key_less r.key other.key)
-    (λ (a b c : Row). key_less_trans a.key b.key c.key) row (without_row key rows)
+    insert_ascends (λ (r other : Row). key_less r.key other.key) (order_read (λ (r : Row). r.key) key_less key_order) row (without_row key rows)
     (list_all-weaker (λ (other : Row). not (same_key other.key row.key))
-    (λ (other : Row). key_less row.key other.key || key_less other.key row.key) (keys_apart row) (without_row key rows)
+    (λ (other : Row). key_less row.key other.key || key_less other.key row.key)
+    (λ other e. keys_apart row.key other.key (same_key_other other.key row.key (not-true (same_key other.key row.key) e))) (without_row key rows)
     (subst (λ (k : RowKey). list_all (λ (other : Row). not (same_key other.key k)) (without_row key rows) ≡ true)
     (sym (same_key_equal row.key key has)) (list_all_kept (λ (other : Row). not (same_key other.key key)) rows)))
     (all_pairs-filter (λ (r other : Row). key_less r.key other.key) (λ (r : Row). not (same_key r.key key)) rows ascend)
@@ -127,16 +115,21 @@ module _ (state : State) (number : ℕ) (valid : is_valid state ≡ true) where
 numbers_apart : (a b : ℕ) → not (b == a) ≡ true → (nat_lt a b || nat_lt b a) ≡ true
 numbers_apart a b other = grind (arith, nat_tests)
 
--- of three numbers in order the first is less than the last
-lt_trans : (a b c : ℕ) → nat_lt a b ≡ true → nat_lt b c ≡ true → nat_lt a c ≡ true
-lt_trans a b c ab bc = grind (arith, nat_tests)
+-- the order of numbers is one
+number_order : IsStrictWeakOrder nat_lt
+number_order = record { one_way = one_way; chain = chain }
+  where
+    one_way : (a b : ℕ) → nat_lt a b ≡ true → nat_lt b a ≡ false
+    one_way a b ab = grind (arith, nat_tests)
+
+    chain : (a b c : ℕ) → nat_lt a b ≡ false → nat_lt b c ≡ false → nat_lt a c ≡ false
+    chain a b c ab bc = grind (arith, nat_tests)
 
 -- books with one in place of that of its number ascend
 books_ascend_with_book : (book : NumberedBook) (books : List NumberedBook) → books_ascend books ≡ true
     → books_ascend (with_book book books) ≡ true
 books_ascend_with_book book books ascend =
-    all_pairs-insert_by (λ (b other : NumberedBook). nat_lt b.number other.number)
-    (λ (a b c : NumberedBook). lt_trans a.number b.number c.number) book (without_book book.number books)
+    insert_ascends (λ (b other : NumberedBook). nat_lt b.number other.number) (order_read (λ (b : NumberedBook). b.number) nat_lt number_order) book (without_book book.number books)
     (list_all-weaker (λ (other : NumberedBook). not (other.number == book.number))
     (λ (other : NumberedBook). nat_lt book.number other.number || nat_lt other.number book.number)
     (λ (other : NumberedBook). numbers_apart book.number other.number) (without_book book.number books)

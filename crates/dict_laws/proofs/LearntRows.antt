@@ -4,7 +4,7 @@ use Rattle.std.proofs.lemmas.Bool.Decides.{nat_tests}
 use Rattle.std.specs.List.{list_all}
 use Rattle.std.proofs.lemmas.Bool.{and_from, and_parts, or_from, or_parts}
 use Rattle.skk_text.specs.Text.{byte_len}
-use Rattle.dict_laws.proofs.PairsLaws.{list_all-filter}
+use Rattle.skk_text.specs.PairsLaws.{list_all-filter}
 use Rattle.skk_calls.specs.declared.part.Part.{Part}
 use Rattle.skk_calls.specs.declared.part.Part.TheVariants.{Nasi, Ari}
 use Rattle.skk_calls.specs.Canonical.{canonical, is_good, has_item, line_limit}
@@ -12,7 +12,8 @@ use Rattle.skk_calls.specs.Dictionary.{is_okuri_or_none}
 use Rattle.skk_calls.specs.Found.{note_of}
 use Rattle.skk_calls.specs.Learning.{without_text, without_word, learnt_note, learnt_cands, blocks_with_word, learnt_blocks, learnt, row_or_empty}
 use Rattle.skk_calls.specs.Rows.{RowKey, Cand, Block, Row, same_text, has_text, texts_differ, is_row_key, is_okuri, is_word, is_cand, is_block, fits_blocks, words_of, okuri_of, is_row}
-use Rattle.dict_laws.proofs.RowParts.{RowParts, BeforeParts, row_from_parts, good_from_parts, block_from_parts, block_parts, cand_word, cand_with_note_of}
+use Rattle.skk_calls.specs.RowLaws.{RowParts, row_from_parts, block_from_parts, block_parts, cand_with_note_of}
+use Rattle.dict_laws.proofs.RowParts.{BeforeParts, good_from_parts, cand_word}
 use Rattle.dict_laws.proofs.Texts.{differ_parts, differ_from, differ_front, differ_filter, words_without}
 
 -- a list with an item at its front has one

@@ -1,12 +1,13 @@
 -- A candidate that is learnt again.
 use Rattle.std.proofs.Common.{◌≡◌, ℕ, Bool, true, false, cond, Option, None, Some, List, [], ◌∷◌, refl, ◌∙◌, ap}
+use Rattle.skk_calls.specs.KeyLaws.{same_itself}
 use Rattle.skk_calls.specs.declared.part.Part.{Part}
 use Rattle.skk_calls.specs.declared.part.Part.TheVariants.{Nasi, Ari}
 use Rattle.skk_calls.specs.Canonical.{has_item}
 use Rattle.skk_calls.specs.Found.{note_of}
 use Rattle.skk_calls.specs.Learning.{without_text, without_word, learnt_note, learnt_cands, blocks_with_word, learnt_blocks, learnt, row_or_empty}
 use Rattle.skk_calls.specs.Rows.{RowKey, Cand, Block, Row, same_text}
-use Rattle.dict_laws.proofs.Texts.{same_itself, without_twice, without_word_twice}
+use Rattle.dict_laws.proofs.Texts.{without_twice, without_word_twice}
 
 -- the note of a candidate that stands at the front already
 pub note_learnt_again : (cands : List Cand) (cand : Cand) → learnt_note (learnt_cands cands cand) cand ≡ learnt_note cands cand

@@ -1,6 +1,7 @@
 -- A call leaves the rows alone that it does not speak of.
 use Rattle.std.proofs.Common.{◌≡◌, ℕ, ◌+◌, Bool, true, false, ◌&&◌, ◌==◌, Some, Option, refl, sym, ◌∙◌, ap}
 use Rattle.std.proofs.lemmas.Bool.{and_parts, eqb-true}
+use Rattle.skk_calls.specs.KeyLaws.{same_key_itself}
 use Rattle.skk_calls.specs.declared.book.NumberedBook.{NumberedBook}
 use Rattle.skk_calls.specs.declared.call.Call.{Call}
 use Rattle.skk_calls.specs.declared.call.Call.TheVariants.{Lookup, Complete, Learn, Purge, Unlearn}
@@ -10,7 +11,6 @@ use Rattle.skk_calls.specs.Rows.{RowKey, Row, same_key, is_row_key}
 use Rattle.skk_calls.specs.States.{State, row_in, book_rows, book_count, row_at, count_of, state_with}
 use Rattle.dict_laws.proofs.Changing.{has_key, row_at_other_key, book_at_other}
 use Rattle.dict_laws.proofs.Keeping.{before_has_key}
-use Rattle.dict_laws.proofs.Keys.{same_key_itself}
 use Rattle.dict_laws.proofs.TakenBack.{after_moved, after_unmoved}
 
 -- of two parts of a test that fails, the second fails where the first does not

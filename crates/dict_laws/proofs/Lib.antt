@@ -5,15 +5,12 @@ pub mod FirstLayer
 pub mod GoingOn
 pub mod Keeping
 pub mod KeptBooks
-pub mod KeyOrder
-pub mod Keys
 pub mod LearntRows
 pub mod LearntTwice
 pub mod LeftAlone
 pub mod LineLength
 pub mod Needs
 pub mod NextAbove
-pub mod PairsLaws
 pub mod Placing
 pub mod PurgedRows
 pub mod PurgesTold

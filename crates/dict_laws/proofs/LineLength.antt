@@ -7,6 +7,7 @@ use Rattle.std.proofs.lemmas.List.Folds.{list_all-map}
 use Rattle.std.proofs.lemmas.List.Sums.{sum_by-cons}
 use Rattle.skk_text.specs.TextLaws.{byte_len-append}
 use Rattle.skk_text.specs.Text.{byte_len}
+use Rattle.skk_text.specs.FilterLaws.{filter_all}
 use Rattle.skk_calls.specs.declared.answer.Reply.TheVariants as replies
 use Rattle.skk_calls.specs.declared.call.Call.TheVariants.{Learn}
 use Rattle.skk_calls.specs.Canonical.{canonical, with_slash, item, items, is_special, begins_form, has_item}
@@ -16,7 +17,6 @@ use Rattle.skk_calls.specs.Learning.{learnt, without_word}
 use Rattle.skk_calls.specs.declared.part.Part.TheVariants.{Nasi}
 use Rattle.skk_calls.specs.Rows.{RowKey, Cand, Row, same_text, has_text, words_of}
 use Rattle.skk_calls.specs.States.{State}
-use Rattle.dict_laws.proofs.Filtered.{filter_all}
 use Rattle.dict_laws.proofs.Texts.{same_none}
 
 -- a word without a note

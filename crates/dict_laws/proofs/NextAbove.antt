@@ -2,12 +2,12 @@
 use Rattle.std.proofs.Common.{◌≡◌, ℕ, Bool, true, false, cond, not, ◌||◌, None, Some, List, [], ◌∷◌, refl, ap, subst}
 use Rattle.std.proofs.lemmas.Bool.{and_parts, and_from}
 use Rattle.std.specs.List.{list_all}
-use Rattle.dict_laws.proofs.PairsLaws.{list_all-weaker}
+use Rattle.skk_text.specs.PairsLaws.{list_all-weaker}
+use Rattle.skk_calls.specs.KeyLaws.{same_itself}
 use Rattle.skk_calls.specs.Orders.{text_less}
 use Rattle.skk_calls.specs.Rows.{same_text, has_text}
 use Rattle.skk_calls.specs.Walks.{texts_ascend, next_above, is_least_above}
 use Rattle.dict_laws.proofs.Filtered.{or_last}
-use Rattle.dict_laws.proofs.Texts.{same_itself}
 
 -- where none is found, no text is greater
 pub none_above : (texts : List (List ℕ)) (low : List ℕ) → next_above texts low ≡ None → list_all (λ text. not (text_less low text)) texts ≡ true

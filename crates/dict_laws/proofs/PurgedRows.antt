@@ -4,14 +4,15 @@ use Rattle.std.proofs.lemmas.Bool.Decides.{nat_tests}
 use Rattle.std.specs.List.{list_all}
 use Rattle.std.proofs.lemmas.Bool.{and_from, and_parts, or_from, or_parts}
 use Rattle.skk_text.specs.Text.{byte_len}
-use Rattle.dict_laws.proofs.PairsLaws.{list_all-filter}
+use Rattle.skk_text.specs.PairsLaws.{list_all-filter}
 use Rattle.skk_calls.specs.declared.part.Part.{Part}
 use Rattle.skk_calls.specs.declared.part.Part.TheVariants.{Nasi, Ari}
 use Rattle.skk_calls.specs.Canonical.{canonical, is_good, has_item, line_limit}
 use Rattle.skk_calls.specs.Learning.{without_text, without_word, block_without, blocks_without, hides_with, purged, row_or_empty}
 use Rattle.skk_calls.specs.Rows.{RowKey, Cand, Block, Row, same_text, has_text, texts_differ, is_row_key, is_word, is_cand, is_block, fits_blocks, words_of, okuri_of, is_row}
 use Rattle.dict_laws.proofs.Filtered.{or_last}
-use Rattle.dict_laws.proofs.RowParts.{RowParts, BeforeParts, row_from_parts, good_from_parts, block_from_parts, block_parts}
+use Rattle.skk_calls.specs.RowLaws.{RowParts, row_from_parts, block_from_parts, block_parts}
+use Rattle.dict_laws.proofs.RowParts.{BeforeParts, good_from_parts}
 use Rattle.dict_laws.proofs.Texts.{differ_parts, differ_from, differ_filter, differ_end, words_without}
 
 -- a list that has an item has one at least

@@ -3,12 +3,13 @@ use Rattle.std.proofs.Common.{◌≡◌, ◌≢◌, ℕ, Bool, true, false, cond
 use Rattle.std.specs.List.{list_all, list_any}
 use Rattle.std.proofs.lemmas.Bool.{and_parts, or_from, or_parts, both_ways}
 use Rattle.std.proofs.lemmas.List.Folds.{list_any-append, list_all-map}
+use Rattle.skk_text.specs.FilterLaws.{filter_all}
+use Rattle.skk_calls.specs.KeyLaws.{same_itself}
 use Rattle.skk_calls.specs.Canonical.{has_item}
 use Rattle.skk_calls.specs.Learning.{without_text, without_word, block_without, blocks_without, hides_with, purged, purge_changes}
 use Rattle.skk_calls.specs.Rows.{Cand, Block, Row, same_text, has_text, words_of, is_block, is_row}
-use Rattle.dict_laws.proofs.Filtered.{filter_all}
-use Rattle.dict_laws.proofs.RowParts.{row_parts, block_parts}
-use Rattle.dict_laws.proofs.Texts.{same_itself, same_none, has_without, words_without}
+use Rattle.skk_calls.specs.RowLaws.{row_parts, block_parts}
+use Rattle.dict_laws.proofs.Texts.{same_none, has_without, words_without}
 
 -- a block has a word
 abbrev has_word : List ℕ → Block → Bool

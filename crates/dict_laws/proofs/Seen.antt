@@ -3,9 +3,10 @@ use Rattle.std.proofs.Common.{◌≡◌, ℕ, Bool, true, false, cond, List, [],
 use Rattle.std.specs.List.{list_all, flat_map}
 use Rattle.std.proofs.lemmas.Bool.{and_parts, and_from, both_ways, or_from}
 use Rattle.std.proofs.lemmas.List.Folds.{list_all-append}
+use Rattle.skk_calls.specs.KeyLaws.{same_itself, same_equal}
 use Rattle.skk_calls.specs.Found.{first_of_each}
 use Rattle.skk_calls.specs.Rows.{same_text, has_text, texts_differ}
-use Rattle.dict_laws.proofs.Texts.{same_itself, same_equal, differ_from}
+use Rattle.dict_laws.proofs.Texts.{differ_from}
 
 -- lists one behind another pass what each of them passes
 pub list_all-flat_map : {X Y : Type 0} (p : Y → Bool) (f : X → List Y) → ((x : X) → list_all p (f x) ≡ true) → (xs : List X) → list_all p (flat_map f xs) ≡ true

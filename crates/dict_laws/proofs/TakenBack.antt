@@ -1,5 +1,6 @@
 -- What is learnt and taken back.
 use Rattle.std.proofs.Common.{◌≡◌, ℕ, ◌+◌, Bool, true, false, cond, ◌==◌, nat_lt, Some, Option, List, ◌∙◌, ap}
+use Rattle.skk_calls.specs.KeyLaws.{same_key_itself}
 use Rattle.skk_calls.specs.declared.answer.Reply.{Reply}
 use Rattle.skk_calls.specs.declared.answer.Reply.TheVariants as replies
 use Rattle.skk_calls.specs.declared.call.Call.{Call}
@@ -11,7 +12,6 @@ use Rattle.skk_calls.specs.Learning.{learnt}
 use Rattle.skk_calls.specs.Rows.{RowKey, Cand, Row, Learned}
 use Rattle.skk_calls.specs.States.{State, row_at, rows_of, count_of}
 use Rattle.dict_laws.proofs.Changing.{row_in_has_key, row_at_changed, count_of_changed, number_itself}
-use Rattle.dict_laws.proofs.Keys.{same_key_itself}
 
 -- a call that moves a state leaves the moved one
 pub after_moved : (state : State) (call : Call) → moves state call ≡ true → after state call ≡ state_moved state call

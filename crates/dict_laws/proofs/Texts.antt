@@ -1,28 +1,13 @@
 -- Texts that are the same, lists that have a text, and lists of texts that differ.
-use Rattle.std.proofs.Common.{◌≡◌, ℕ, Bool, true, false, cond, not, List, [], ◌∷◌, ◌++◌, refl, sym, ◌∙◌, ap}
-use Rattle.std.proofs.lemmas.Slice.Eq.{bytes_eq-Decides}
-use Rattle.std.proofs.lemmas.Bool.Decides.{same_from_decides, Decides-like}
+use Rattle.std.proofs.Common.{◌≡◌, ℕ, Bool, true, false, cond, not, List, [], ◌∷◌, ◌++◌, refl, ◌∙◌, ap}
 use Rattle.std.specs.List.{filter, list_all}
 use Rattle.std.proofs.lemmas.Bool.{and_from, and_parts, not-true, not_from_false, or_from, or_parts}
 use Rattle.std.proofs.lemmas.List.Folds.{list_any-append}
-use Rattle.dict_laws.proofs.PairsLaws.{list_all-weaker, all_pairs-filter}
+use Rattle.skk_text.specs.PairsLaws.{list_all-weaker, all_pairs-filter}
+use Rattle.skk_calls.specs.KeyLaws.{same_other}
 use Rattle.skk_calls.specs.Learning.{without_text, without_word}
 use Rattle.skk_calls.specs.Rows.{Cand, same_text, has_text, texts_differ, words_of}
 use Rattle.dict_laws.proofs.Filtered.{filter_twice, map_filter}
-
--- a text is the same as itself
-pub same_itself : (text : List ℕ) → same_text text text ≡ true
-same_itself text = (bytes_eq-Decides text text).1 refl
-
--- texts that are the same are equal
-pub same_equal : (text other : List ℕ) → same_text text other ≡ true → text ≡ other
-same_equal text other e = (bytes_eq-Decides text other).0 e
-
--- the order of two texts that are compared does not matter
-pub same_other : (text other : List ℕ) → same_text text other ≡ same_text other text
-same_other text other =
-    same_from_decides (same_text text other) (same_text other text) (bytes_eq-Decides text other)
-    (Decides-like (same_text other text) sym sym (bytes_eq-Decides other text))
 
 -- a text that a list has not is the same as none of it
 pub none_same : (texts : List (List ℕ)) (text : List ℕ) → has_text texts text ≡ false

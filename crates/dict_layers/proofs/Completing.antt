@@ -4,15 +4,16 @@ use Rattle.std.specs.Cmp.{IsStrictWeakOrder}
 use Rattle.std.specs.List.{filter, list_all}
 use Rattle.std.proofs.lemmas.Bool.{and_from, and_parts}
 use Rattle.skk_text.specs.Pairs.{all_pairs}
+use Rattle.skk_text.specs.PairsLaws.{list_all-filter, list_all-weaker}
 use Rattle.skk_calls.specs.declared.part.Part.TheVariants.{Nasi}
 use Rattle.skk_calls.specs.Canonical.{has_item}
 use Rattle.skk_calls.specs.Completions.{ascending_readings, completes, goes_on_from, reading_of}
-use Rattle.dict_layers.specs.OrderLaws.{apart, all_weaker, less_trans, sort_ascends, text_order}
+use Rattle.skk_calls.specs.OrderLaws.{apart, less_trans, sort_ascends, text_order}
 use Rattle.skk_calls.specs.Orders.{insert_by, sort_by, text_less}
 use Rattle.skk_calls.specs.Rows.{Row, same_part, keys_differ}
 use Rattle.dict_layers.specs.InOrder.{is_walked, walked_readings}
 use Rattle.dict_layers.specs.WalkLaws.{texts_all_apart}
-use Rattle.dict_layers.proofs.Lists.{filter_same, list_all-filter}
+use Rattle.dict_layers.proofs.Lists.{filter_same}
 use Rattle.dict_layers.proofs.Walking.{walked_differ, walked_plain}
 
 -- to keep of what was kept is to keep by both tests
@@ -51,7 +52,7 @@ module _ {X : Type 0} (less : X → X → Bool) (order : IsStrictWeakOrder less)
       front : less x y ≡ true → list_all (less y) ys ≡ true → insert_by less x (filter p (y ∷ ys)) ≡ x ∷ filter p (y ∷ ys)
       front first above =
           insert_first x (filter p (y ∷ ys))
-          (list_all-filter (less x) p (y ∷ ys) (and_from (less x y) (list_all (less x) ys) first (all_weaker (less y) (less x) (λ z e. less_trans less order x y z first e) ys above)))
+          (list_all-filter (less x) p (y ∷ ys) (and_from (less x y) (list_all (less x) ys) first (list_all-weaker (less y) (less x) (λ z e. less_trans less order x y z first e) ys above)))
 
       behind : less x y ≡ false → (a b : Bool)
           → cond b (y ∷ cond a (insert_by less x (filter p ys)) (filter p ys)) (cond a (insert_by less x (filter p ys)) (filter p ys))

@@ -1,43 +1,19 @@
 -- The row of a key, among rows of which no two have one key.
-use Rattle.std.proofs.Common.{◌≡◌, ℕ, Bool, true, false, cond, not, ◌&&◌, ◌||◌, Option, None, Some, List, [], ◌∷◌, find, refl, sym, ap, ◌∙◌}
+use Rattle.std.proofs.Common.{◌≡◌, Bool, true, false, cond, not, ◌&&◌, ◌||◌, Option, None, Some, List, [], ◌∷◌, find, refl, sym, ap, ◌∙◌}
 use Rattle.std.specs.List.{list_all}
 use Rattle.std.specs.Option.{option_and_then}
-use Rattle.std.proofs.lemmas.Bool.{and_from, and_parts, not-true, not_from_false}
+use Rattle.std.proofs.lemmas.Bool.{and_parts, not-true, not_from_false}
 use Rattle.skk_text.specs.Pairs.{all_pairs}
-use Rattle.skk_calls.specs.declared.part.Part.{Part}
-use Rattle.skk_calls.specs.declared.part.Part.TheVariants.{Nasi, Ari}
-use Rattle.dict_layers.specs.OrderLaws.{apart, all_weaker, pairs_weaker, holds_moved, sort_moves, key_order, keys_apart, less_trans, not_itself}
+use Rattle.skk_text.specs.PairsLaws.{list_all-weaker, pairs_weaker}
+use Rattle.skk_text.specs.FilterLaws.{find_none}
+use Rattle.skk_calls.specs.KeyLaws.{same_key_equal, same_key_itself}
+use Rattle.skk_calls.specs.OrderLaws.{apart, holds_moved, sort_moves, key_order, keys_apart, less_trans, not_itself}
 use Rattle.skk_calls.specs.Orders.{insert_by, sort_by, key_less}
-use Rattle.skk_calls.specs.Rows.{RowKey, Row, same_text, same_part, same_key, keys_differ}
+use Rattle.skk_calls.specs.Rows.{RowKey, Row, same_key, keys_differ}
 use Rattle.skk_calls.specs.States.{row_in}
-use Rattle.word_sets.specs.FirstLaws.{same_itself, same_equal}
 use Rattle.dict_layers.specs.InOrder.{row_less}
-use Rattle.dict_layers.proofs.Lists.{find_none}
 
 -- Keys
-
-part_equal : (part other : Part) → same_part part other ≡ true → part ≡ other
-part_equal Nasi Nasi e = refl
-part_equal Ari Ari e = refl
-part_equal Nasi Ari e = cc
-part_equal Ari Nasi e = cc
-
-part_itself : (part : Part) → same_part part part ≡ true
-part_itself Nasi = refl
-part_itself Ari = refl
-
-abbrev key_of : Part → List ℕ → RowKey
-key_of part reading = record { part = part; reading = reading }
-
--- keys that are the same are equal
-pub key_equal : (key other : RowKey) → same_key key other ≡ true → key ≡ other
-key_equal key other e =
-    let parts = and_parts (same_part key.part other.part) (same_text key.reading other.reading) e in
-    ap (λ (part : Part). key_of part key.reading) (part_equal key.part other.part parts.0) ∙ ap (key_of other.part) (same_equal key.reading other.reading parts.1)
-
--- a key is the same as itself
-key_itself : (key : RowKey) → same_key key key ≡ true
-key_itself key = and_from (same_part key.part key.part) (same_text key.reading key.reading) (part_itself key.part) (same_itself key.reading)
 
 -- a key that is less than another is not the same
 less_differs : (key other : RowKey) → key_less key other ≡ true → same_key key other ≡ false
@@ -45,7 +21,7 @@ less_differs key other less = by (same_key key other) refl
   where
     by : (b : Bool) → same_key key other ≡ b → b ≡ false
     by true e =
-        let not_less : key_less key other ≡ false = ap (key_less key) (sym (key_equal key other e)) ∙ not_itself key_less key_order key in
+        let not_less : key_less key other ≡ false = ap (key_less key) (sym (same_key_equal key other e)) ∙ not_itself key_less key_order key in
         cc
     by false e = refl
 
@@ -55,7 +31,7 @@ greater_differs key other less = by (same_key other key) refl
   where
     by : (b : Bool) → same_key other key ≡ b → b ≡ false
     by true e =
-        let not_less : key_less key other ≡ false = ap (key_less key) (key_equal other key e) ∙ not_itself key_less key_order key in
+        let not_less : key_less key other ≡ false = ap (key_less key) (same_key_equal other key e) ∙ not_itself key_less key_order key in
         cc
     by false e = refl
 
@@ -109,7 +85,7 @@ row_in_order key rows differ =
         by : (a b : Bool) → same_key row.key key ≡ a → same_key other.key key ≡ b → not (a && b) ≡ true
         by true true f g =
             let same : same_key row.key other.key ≡ true =
-            ap (same_key row.key) (key_equal other.key key g ∙ sym (key_equal row.key key f)) ∙ key_itself row.key in
+            ap (same_key row.key) (same_key_equal other.key key g ∙ sym (same_key_equal row.key key f)) ∙ same_key_itself row.key in
             let different = not-true (same_key row.key other.key) e in
             cc
         by true false f g = refl
@@ -131,7 +107,7 @@ row_not_less key (row ∷ rows) pairs =
     none_behind : key_less key row.key ≡ true → list_all (row_less row) rows ≡ true → find (λ other. same_key other.key key) rows ≡ None
     none_behind greater above =
         find_none (λ other. same_key other.key key) rows
-        (all_weaker (row_less row) (λ other. not (same_key other.key key))
+        (list_all-weaker (row_less row) (λ other. not (same_key other.key key))
         (λ other e. not_from_false (same_key other.key key) (greater_differs key other.key (less_trans key_less key_order key row.key other.key greater e))) rows above)
 
     last : (b : Bool) → same_key row.key key ≡ b → key_less row.key key ≡ false → list_all (row_less row) rows ≡ true

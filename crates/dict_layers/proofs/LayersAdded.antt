@@ -3,12 +3,13 @@ use Rattle.std.proofs.Common.{◌≡◌, ℕ, true, not, ◌||◌, Option, List,
 use Rattle.std.specs.List.{fold, list_all}
 use Rattle.std.proofs.lemmas.List.Folds.{list_any-append}
 use Rattle.std.proofs.lemmas.List.Sums.{fold-append}
+use Rattle.skk_text.specs.PairsLaws.{list_all-filter}
 use Rattle.skk_calls.specs.Found.{ordered, without_hidden, cands_of_layers, merged}
 use Rattle.skk_calls.specs.Rows.{Cand, Row, same_text, has_text, is_cand, is_row}
 use Rattle.word_sets.specs.FirstLaws.{first_of_each-fold, fold_new-all, texts_fold_new}
 use Rattle.word_sets.specs.Firsts.{with_new}
 use Rattle.dict_layers.proofs.BlockFirst.{ordered_valid}
-use Rattle.dict_layers.proofs.Lists.{filter_same, list_all-filter}
+use Rattle.dict_layers.proofs.Lists.{filter_same}
 
 -- lists that have the same texts
 abbrev Alike : List (List ℕ) → List (List ℕ) → Type 0

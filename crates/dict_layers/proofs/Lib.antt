@@ -1,6 +1,8 @@
 pub mod BlockFirst
 pub mod Completing
+pub mod Differing
 pub mod Index
+pub mod Indexes
 pub mod Keys
 pub mod LayersAdded
 pub mod Lists

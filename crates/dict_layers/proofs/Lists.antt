@@ -1,38 +1,16 @@
 -- What a filter keeps, what a search finds, and what holds of each two items.
-use Rattle.std.proofs.Common.{◌≡◌, Bool, true, false, cond, not, ◌&&◌, None, Some, List, [], ◌∷◌, find, map, refl, sym, ap, ◌∙◌}
+use Rattle.std.proofs.Common.{◌≡◌, Bool, true, false, cond, ◌&&◌, Some, List, [], ◌∷◌, find, map, refl, ap, ◌∙◌}
 use Rattle.std.specs.List.{filter, list_all}
 use Rattle.std.specs.Option.{option_map}
-use Rattle.std.proofs.lemmas.Bool.{and_from, and_parts, not-true}
+use Rattle.std.proofs.lemmas.Bool.{and_from, and_parts}
 use Rattle.std.proofs.lemmas.List.Folds.{list_all-map}
 use Rattle.skk_text.specs.Pairs.{all_pairs}
-
--- what holds of all holds of those that are kept
-pub list_all-filter : {X : Type 0} (p q : X → Bool) (xs : List X) → list_all p xs ≡ true → list_all p (filter q xs) ≡ true
-list_all-filter p q [] all = refl
-list_all-filter p q (x ∷ xs) all =
-    let parts = and_parts (p x) (list_all p xs) all in
-    by (q x) parts.0 (list_all-filter p q xs parts.1)
-  where
-    by : (b : Bool) → p x ≡ true → list_all p (filter q xs) ≡ true → list_all p (cond b (x ∷ filter q xs) (filter q xs)) ≡ true
-    by true here rest = and_from (p x) (list_all p (filter q xs)) here rest
-    by false here rest = rest
 
 -- tests that are the same keep the same
 pub filter_same : {X : Type 0} (p q : X → Bool) → ((x : X) → p x ≡ q x) → (xs : List X) → filter p xs ≡ filter q xs
 filter_same p q same [] = refl
 filter_same p q same (x ∷ xs) =
     ap (λ b. cond b (x ∷ filter p xs) (filter p xs)) (same x) ∙ ap (λ ys. cond (q x) (x ∷ ys) ys) (filter_same p q same xs)
-
--- what each two items pass, each two of those pass that are kept
-pub all_pairs-filter : {X : Type 0} (test : X → X → Bool) (q : X → Bool) (xs : List X) → all_pairs test xs ≡ true → all_pairs test (filter q xs) ≡ true
-all_pairs-filter test q [] pairs = refl
-all_pairs-filter test q (x ∷ xs) pairs =
-    let parts = and_parts (list_all (test x) xs) (all_pairs test xs) pairs in
-    by (q x) (list_all-filter (test x) q xs parts.0) (all_pairs-filter test q xs parts.1)
-  where
-    by : (b : Bool) → list_all (test x) (filter q xs) ≡ true → all_pairs test (filter q xs) ≡ true → all_pairs test (cond b (x ∷ filter q xs) (filter q xs)) ≡ true
-    by true here rest = and_from (list_all (test x) (filter q xs)) (all_pairs test (filter q xs)) here rest
-    by false here rest = rest
 
 -- what is made of each two items passes a test as these pass it
 pub all_pairs-map : {X Y : Type 0} (f : X → Y) (test : Y → Y → Bool) (xs : List X) → all_pairs test (map f xs) ≡ all_pairs (λ x y. test (f x) (f y)) xs
@@ -57,13 +35,6 @@ pairs_within {X} p test other so (x ∷ xs) all pairs =
         let aboves = and_parts (test x y) (list_all (test x) ys) above in
         and_from (other x y) (list_all (other x) ys) (so x y one others.0 aboves.0) (each ys one others.1 aboves.1)
 
--- where no item passes, nothing is found
-pub find_none : {X : Type 0} (p : X → Bool) (xs : List X) → list_all (λ x. not (p x)) xs ≡ true → find p xs ≡ None
-find_none p [] none = refl
-find_none p (x ∷ xs) none =
-    let parts = and_parts (not (p x)) (list_all (λ y. not (p y)) xs) none in
-    rw (not-true (p x) parts.0) (find_none p xs parts.1)
-
 -- what is found among what is made of items is made of what is found among these
 pub find-map : {X Y : Type 0} (f : X → Y) (p : Y → Bool) (xs : List X) → find p (map f xs) ≡ option_map f (find (λ x. p (f x)) xs)
 find-map f p [] = refl
@@ -72,14 +43,3 @@ find-map {X} {Y} f p (x ∷ xs) = by (p (f x)) (find-map f p xs)
     by : (b : Bool) → find p (map f xs) ≡ option_map f (find (λ y. p (f y)) xs) → cond b (Some (f x)) (find p (map f xs)) ≡ option_map f (cond b (Some x) (find (λ y. p (f y)) xs))
     by true rest = refl
     by false rest = rest
-
--- what is found passes what all pass
-pub found_passes : {X : Type 0} (p q : X → Bool) (xs : List X) (x : X) → list_all p xs ≡ true → find q xs ≡ Some x → p x ≡ true
-found_passes p q [] x all found = cc
-found_passes {X} p q (y ∷ ys) x all found =
-    let parts = and_parts (p y) (list_all p ys) all in
-    by (q y) found parts.0 (found_passes p q ys x parts.1)
-  where
-    by : (b : Bool) → cond b (Some y) (find q ys) ≡ Some x → p y ≡ true → (find q ys ≡ Some x → p x ≡ true) → p x ≡ true
-    by true e here rest = let same : y ≡ x = cc in ap p (sym same) ∙ here
-    by false e here rest = rest e

@@ -3,7 +3,7 @@ ghost use Rattle.std.specs.List.{filter};
 ghost use Rattle.std.specs.Option.{option_copied, option_and_then};
 ghost use Rattle.std.specs.Ordering.{is_lt};
 ghost use Rattle.skk_text.specs.Pairs.{all_pairs};
-ghost use Rattle.dict_layers.specs.OrderLaws.{apart};
+ghost use Rattle.skk_calls.specs.OrderLaws.{apart};
 ghost use Rattle.skk_calls.specs.Orders.{key_less, sort_by, text_less};
 ghost use Rattle.skk_calls.specs.Rows.{Row as row_value, keys_differ};
 ghost use Rattle.skk_calls.specs.States.{row_in};

@@ -5,9 +5,9 @@ ghost use Rattle.skk_calls.specs.Found.{merged, ordered, without_hidden};
 ghost use Rattle.skk_calls.specs.Rows.{is_row};
 ghost use Rattle.word_sets.specs.Firsts.{with_new};
 
-use crate::ordering::{copied, ordered};
+use crate::ordering::ordered;
 use crate::system::RowList;
-use skk_calls::{Cand, Cands, Okuri, Row};
+use skk_calls::{Cands, Okuri, Row};
 use skk_text::{Memory, Text};
 use std::alloc::Global;
 use word_sets::{FirstCands, WordSet};
@@ -38,22 +38,17 @@ fn add_layer(
     ensures valid { OnOk result (is_row row.now ≡ true) }
 {
     let cands = ordered(alloc, row, okuri)?;
-    add_shown(alloc, found, hidden, cands.as_slice())?;
+    add_shown(found, hidden, cands)?;
     add_hidden(alloc, hidden, row.hides().as_slice())
 }
 
-// Adds candidates, but for those whose words are hidden.
-fn add_shown(
-    alloc: Global,
-    found: &mut FirstCands,
-    hidden: &WordSet,
-    cands: &[Cand],
-) -> Result<(), Memory>
-    ensures { OnOk result (found.new ≡ fold (with_new (λ cand. cand.word)) found.old (without_hidden hidden.now cands.now)) }
+// Adds candidates, which are moved, but for those whose words are hidden.
+fn add_shown(found: &mut FirstCands, hidden: &WordSet, cands: Cands) -> Result<(), Memory>
+    ensures { OnOk result (found.new ≡ fold (with_new (λ cand. cand.word)) found.old (without_hidden hidden.now cands)) }
 {
-    for cand in cands {
+    for cand in cands.into_vec() {
         if !hidden.contains(cand.word().as_str()) {
-            found.insert(copied(alloc, cand.word())?, copied(alloc, cand.note())?)?;
+            found.insert_cand(cand)?;
         }
     }
     Ok(())
@@ -64,7 +59,7 @@ fn add_hidden(alloc: Global, hidden: &mut WordSet, words: &[Text]) -> Result<(),
     ensures { OnOk result (hidden.new ≡ fold (with_new (λ text. text)) hidden.old words.now) }
 {
     for word in words {
-        hidden.insert(copied(alloc, word)?)?;
+        hidden.insert(word.copy(alloc)?.into_string())?;
     }
     Ok(())
 }

@@ -1,10 +1,9 @@
-ghost use Rattle.std.specs.Prelude.{◌≡◌, Some, IfOk, OnOk};
-ghost use Rattle.std.specs.List.{fold};
+ghost use Rattle.std.specs.Prelude.{◌≡◌, true, Some, IfOk, OnOk};
+ghost use Rattle.std.specs.List.{fold, list_all};
 ghost use Rattle.std.specs.Option.{option_copied};
 ghost use Rattle.skk_calls.specs.Found.{ordered, with_block_first};
-ghost use Rattle.skk_calls.specs.Rows.{same_text};
+ghost use Rattle.skk_calls.specs.Rows.{is_cand, same_text};
 ghost use Rattle.word_sets.specs.Firsts.{with_new};
-ghost use Rattle.word_sets.specs.Strings.{characters};
 ghost use Rattle.dict_layers.specs.Blocks.{block_for, with_notes};
 
 use skk_calls::{Block, Cand, Cands, Okuri, Row};
@@ -16,6 +15,15 @@ use word_sets::FirstCands;
 /// length of the row.
 pub fn ordered(alloc: Global, row: &Row, okuri: Option<&Okuri>) -> Result<Cands, Memory>
     ensures { IfOk result (λ cands. cands ≡ ordered row.now (option_copied okuri.entry)) }
+{
+    let found = by_block(alloc, row, okuri)?;
+    found.into_cands(alloc)
+}
+
+// The candidates of a row in the order of an okurigana.
+fn by_block(alloc: Global, row: &Row, okuri: Option<&Okuri>) -> Result<FirstCands, Memory>
+    ensures value { IfOk result (λ found. found ≡ ordered row.now (option_copied okuri.entry)) }
+    ensures valid { IfOk result (λ found. list_all is_cand found ≡ true) }
 {
     match block_for(row, okuri) {
         Some(block) => with_block_first(alloc, row, block),
@@ -42,24 +50,25 @@ fn is_for(block: &Block, okuri: &Okuri) -> bool
 }
 
 // The candidates of a row as they stand.
-fn cands_of(alloc: Global, row: &Row) -> Result<Cands, Memory>
-    ensures { IfOk result (λ cands. cands ≡ row.now.cands) }
+fn cands_of(alloc: Global, row: &Row) -> Result<FirstCands, Memory>
+    ensures value { IfOk result (λ found. found ≡ row.now.cands) }
+    ensures valid { IfOk result (λ found. list_all is_cand found ≡ true) }
 {
     let mut found = FirstCands::new(alloc);
-    add_cands(alloc, &mut found, row.cands().as_slice())?;
-    found.into_cands(alloc)
+    add_copies(alloc, &mut found, row.cands().as_slice())?;
+    Ok(found)
 }
 
 // The candidates of a row, where the words of a block stand first.
-fn with_block_first(alloc: Global, row: &Row, block: &Block) -> Result<Cands, Memory>
-    ensures { IfOk result (λ cands. cands ≡ with_block_first row.now (Some block.now)) }
+fn with_block_first(alloc: Global, row: &Row, block: &Block) -> Result<FirstCands, Memory>
+    ensures value { IfOk result (λ found. found ≡ with_block_first row.now (Some block.now)) }
+    ensures valid { IfOk result (λ found. list_all is_cand found ≡ true) }
 {
-    let mut notes = FirstCands::new(alloc);
-    add_cands(alloc, &mut notes, row.cands().as_slice())?;
+    let notes = cands_of(alloc, row)?;
     let mut found = FirstCands::new(alloc);
     add_words(alloc, &mut found, &notes, block.words().as_slice())?;
-    add_cands(alloc, &mut found, row.cands().as_slice())?;
-    found.into_cands(alloc)
+    add_cands(&mut found, notes.into_cands(alloc)?)?;
+    Ok(found)
 }
 
 // Adds words with the notes that they have among candidates.
@@ -73,25 +82,29 @@ fn add_words(
 {
     for word in words {
         let note = String::from_str(alloc, notes.note(word.as_str()))?;
-        found.insert(copied(alloc, word)?, note)?;
+        found.insert(word.copy(alloc)?.into_string(), note)?;
     }
     Ok(())
 }
 
-// Adds candidates.
-fn add_cands(alloc: Global, found: &mut FirstCands, cands: &[Cand]) -> Result<(), Memory>
+// Adds copies of candidates.
+fn add_copies(alloc: Global, found: &mut FirstCands, cands: &[Cand]) -> Result<(), Memory>
     ensures { OnOk result (found.new ≡ fold (with_new (λ cand. cand.word)) found.old cands.now) }
 {
     for cand in cands {
-        found.insert(copied(alloc, cand.word())?, copied(alloc, cand.note())?)?;
+        let word = cand.word().copy(alloc)?;
+        let note = cand.note().copy(alloc)?;
+        found.insert(word.into_string(), note.into_string())?;
     }
     Ok(())
 }
 
-/// The string of a text.
-pub fn copied(alloc: Global, text: &Text) -> Result<String, Memory>
-    ensures { IfOk result (λ string. characters string ≡ text.now) }
+// Adds candidates, which are moved.
+fn add_cands(found: &mut FirstCands, cands: Cands) -> Result<(), Memory>
+    ensures { OnOk result (found.new ≡ fold (with_new (λ cand. cand.word)) found.old cands) }
 {
-    let copy = String::from_str(alloc, text.as_str())?;
-    Ok(copy)
+    for cand in cands.into_vec() {
+        found.insert_cand(cand)?;
+    }
+    Ok(())
 }

@@ -85,10 +85,7 @@ impl Walk for System {
     fn above(&self, alloc: Global, file: usize, low: &Text) -> Result<Option<Text>, Memory> {
         let rows = self.books.at(file).rows().as_slice();
         match self.indexes[file].reading_above(rows, low) {
-            Some(reading) => {
-                let copy = String::from_str(alloc, reading.as_str())?;
-                Ok(Some(Text::of(copy)))
-            }
+            Some(reading) => Ok(Some(reading.copy(alloc)?)),
             None => Ok(None),
         }
     }

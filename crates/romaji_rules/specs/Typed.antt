@@ -1,5 +1,5 @@
 -- What a rule set makes of the next character, as functions that compute over the rules in their order.
-use Rattle.std.specs.Prelude.{ℕ, Bool, ◌&&◌, ◌||◌, if◌then◌else◌, nat_eq, nat_lt, Option, None, Some, List, [], ◌∷◌, ◌++◌, length, is_some, find}
+use Rattle.std.specs.Prelude.{ℕ, Bool, false, ◌&&◌, ◌||◌, if◌then◌else◌, nat_eq, nat_lt, Option, None, Some, List, [], ◌∷◌, ◌++◌, length, is_some, find}
 use Rattle.std.specs.List.{list_any, starts_with}
 use Rattle.std.specs.Str.{bytes_eq}
 use Rattle.romaji_rules.specs.declared.out.Out.{Out}
@@ -17,6 +17,11 @@ begins_input rules text = list_any (λ rule. nat_lt (length text) (length rule.i
 -- whether the text is an input or begins one
 abbrev pub goes_on : List Rule → List ℕ → Bool
 goes_on rules text = begins_input rules text || is_some (rule_of rules text)
+
+-- whether something is pending, and a character goes on with it
+abbrev pub extends_pending : List Rule → List ℕ → ℕ → Bool
+extends_pending rules [] c = false
+extends_pending rules (b ∷ pending) c = goes_on rules ((b ∷ pending) ++ c ∷ [])
 
 -- the output of a rule, or nothing where there is no rule
 abbrev pub out_of : Option Rule → Out

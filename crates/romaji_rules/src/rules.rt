@@ -1,7 +1,7 @@
 ghost use Rattle.std.specs.Prelude.{◌≡◌, ◌≤◌, ◌<◌, ◌↔◌, ◌⊎◌, IsTrue, true, false, ℕ, List, [], ◌∷◌, ◌++◌, length, is_some, OnOk, OnErr, IfOk, IfSome, IsSome, IsNone};
 ghost use Rattle.std.specs.Option.{option_copied};
 ghost use Rattle.romaji_rules.specs.Standing.{IsStanding};
-ghost use Rattle.romaji_rules.specs.Typed.{rule_of, goes_on, flushed, fed, fed_alone};
+ghost use Rattle.romaji_rules.specs.Typed.{rule_of, goes_on, extends_pending, flushed, fed, fed_alone};
 ghost use Rattle.romaji_rules.specs.Fed.{Fed, Flushed, GoesOn, BeginsInput};
 ghost use Rattle.romaji_rules.specs.Fitting.{is_rule_set};
 ghost use Rattle.romaji_rules.specs.Standard.{standard};
@@ -69,10 +69,39 @@ impl Rules {
         }
     }
 
-    /// Reads a character as `feed` does, where it goes on with what is pending. Where it does not, there is
-    /// no output, and then, as after `Memory`, the same is pending as before. Takes time in the number of
-    /// rules.
-    pub fn go_on(&self, alloc: Global, pending: &mut Pending, c: u8) -> Result<Option<Out>, Memory>
+    /// Reads a character as `feed` does, where something is pending and it goes on with that. Where it does not,
+    /// there is no output, and then, as after `Memory`, the same is pending as before. Takes time in the number
+    /// of rules.
+    pub fn extend(&self, alloc: Global, pending: &mut Pending, c: u8) -> Result<Option<Out>, Memory>
+        ensures exact { IfOk result (λ out. is_some out ≡ extends_pending self.now pending.old c) }
+        ensures computed { IfOk result (λ out. IfSome out (λ o. fed self.now pending.old c ≡ record { pending = pending.new; out = o })) }
+        ensures waits { IfOk result (λ out. IsSome out → (pending.new ≡ []) ⊎ BeginsInput self.now pending.new) }
+        ensures none { IfOk result (λ out. IsNone out → pending.new ≡ pending.old) }
+        ensures err { OnErr result (pending.new ≡ pending.old) }
+    {
+        if pending.is_empty() {
+            return Ok(None);
+        }
+        self.go_on(alloc, pending, c)
+    }
+
+    /// Reads a character as `feed` does, where `extend` gave no output for it. After `Memory` the same is pending
+    /// as before. Takes time in the number of rules.
+    pub fn feed_anew(&self, alloc: Global, pending: &mut Pending, c: u8) -> Result<Out, Memory>
+        requires { extends_pending self.now pending.old c ≡ false }
+        ensures computed { IfOk result (λ out. fed self.now pending.old c ≡ record { pending = pending.new; out = out }) }
+        ensures waits { OnOk result ((pending.new ≡ []) ⊎ BeginsInput self.now pending.new) }
+        ensures err { OnErr result (pending.new ≡ pending.old) }
+    {
+        if pending.is_empty() {
+            return self.feed_alone(alloc, pending, c);
+        }
+        self.begin_anew(alloc, pending, c)
+    }
+
+    // Reads a character as `feed` does, where it goes on with what is pending. Where it does not, there is no
+    // output, and then, as after `Memory`, the same is pending as before.
+    fn go_on(&self, alloc: Global, pending: &mut Pending, c: u8) -> Result<Option<Out>, Memory>
         ensures exact { IfOk result (λ out. is_some out ≡ goes_on self.now (pending.old ++ c ∷ [])) }
         ensures computed { IfOk result (λ out. IfSome out (λ o. fed self.now pending.old c ≡ record { pending = pending.new; out = o })) }
         ensures waits { IfOk result (λ out. IsSome out → (pending.new ≡ []) ⊎ BeginsInput self.now pending.new) }
@@ -94,10 +123,9 @@ impl Rules {
         }
     }
 
-    /// Reads a character as `feed` does, where it does not go on with what is pending: that is flushed, and
-    /// the character is read alone. After `Memory` the same is pending as before. Takes time in the number
-    /// of rules.
-    pub fn begin_anew(&self, alloc: Global, pending: &mut Pending, c: u8) -> Result<Out, Memory>
+    // Reads a character as `feed` does, where it does not go on with what is pending: that is flushed, and
+    // the character is read alone. After `Memory` the same is pending as before.
+    fn begin_anew(&self, alloc: Global, pending: &mut Pending, c: u8) -> Result<Out, Memory>
         requires { goes_on self.now (pending.old ++ c ∷ []) ≡ false }
         ensures computed { IfOk result (λ out. fed self.now pending.old c ≡ record { pending = pending.new; out = out }) }
         ensures waits { OnOk result ((pending.new ≡ []) ⊎ BeginsInput self.now pending.new) }

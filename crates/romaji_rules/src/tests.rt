@@ -85,10 +85,10 @@ fn reads_the_standard_table(rt: HostRuntime) -> Result<(), Fail> {
 fn letters_go_on_or_begin_anew(rt: HostRuntime) -> Result<(), Fail> {
     let rules = Rules::standard(rt.alloc())?;
     let mut pending = Pending::of(b"n");
-    assert!(rt; rules.go_on(rt.alloc(), &mut pending, b'y')?.is_some());
+    assert!(rt; rules.extend(rt.alloc(), &mut pending, b'y')?.is_some());
     assert_eq!(rt; pending.as_str(), "ny");
     assert!(rt; !rules.goes_on(&pending, b'q'));
-    let out = rules.begin_anew(rt.alloc(), &mut pending, b'q')?;
+    let out = rules.feed_anew(rt.alloc(), &mut pending, b'q')?;
     assert_eq!(rt; out.hira.as_str(), "q");
     assert!(rt; pending.is_empty());
     Ok(())

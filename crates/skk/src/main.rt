@@ -3,7 +3,7 @@
 
 use skk_outside::{HostShelf, ReaderSource, WriterSink};
 use skk_text::Text;
-use skk_top::{RunFault, end_run, run_alone};
+use skk_top::{Run, RunFault, end_run, run_alone};
 use std::io::ErrorKind;
 use std::process::ExitCode;
 use std::{env, io};
@@ -13,7 +13,8 @@ fn main(rt: HostRuntime) -> ExitCode {
         Ok(words) => run(&rt, &words),
         Err(fault) if fault.kind() == ErrorKind::OutOfMemory => {
             let mut err = WriterSink::new(rt.stderr());
-            ExitCode::from(end_run(Err(RunFault::Memory), &mut err))
+            let run = Run::without_calls(Err(RunFault::Memory));
+            ExitCode::from(end_run(run, &mut err).status)
         }
         // A word that is not UTF-8 is in no command, and so is no word at all.
         Err(_) => run(&rt, &[]),
@@ -35,12 +36,13 @@ fn run(rt: &HostRuntime, words: &[Text]) -> ExitCode {
     let mut input = ReaderSource::new(rt.stdin());
     let mut out = WriterSink::new(rt.stdout());
     let mut err = WriterSink::new(rt.stderr());
-    ExitCode::from(run_alone(
+    let finish = run_alone(
         rt.alloc(),
         words,
         &mut shelf,
         &mut input,
         &mut out,
         &mut err,
-    ))
+    );
+    ExitCode::from(finish.status)
 }

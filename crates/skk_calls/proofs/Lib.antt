@@ -2,6 +2,7 @@ pub mod AnswerExamples
 pub mod BadNotes
 pub mod FoundExamples
 pub mod HistoryExamples
+pub mod InteractionExamples
 pub mod LastLetter
 pub mod LearningExamples
 pub mod LineExamples

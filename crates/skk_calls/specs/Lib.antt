@@ -4,8 +4,13 @@ pub mod Completions
 pub mod Dictionary
 pub mod Found
 pub mod Histories
+pub mod InteractionLaws
+pub mod Interactions
+pub mod KeyLaws
 pub mod Learning
+pub mod OrderLaws
 pub mod Orders
+pub mod RowLaws
 pub mod Rows
 pub mod States
 pub mod Tallies

@@ -65,6 +65,14 @@ impl Cand {
         Ok(Cand { word, note })
     }
 
+    /// The word and the note, moved out. Takes no memory.
+    pub fn into_parts(self) -> (Text, Text)
+        ensures value { result ≡ (self.word, self.note) }
+        ensures valid { is_cand self ≡ true }
+    {
+        (self.word, self.note)
+    }
+
     /// The word.
     pub fn word(&self) -> &Text
         ensures value { result.now ≡ self.now.word }

@@ -1,9 +1,13 @@
+pub mod Characters
 pub mod Counts
+pub mod FilterLaws
 pub mod Kana
 pub mod KeyText
 pub mod LineLaws
 pub mod Lines
+pub mod Modes
 pub mod Pairs
+pub mod PairsLaws
 pub mod Results
 pub mod Text
 pub mod TextLaws

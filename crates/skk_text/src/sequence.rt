@@ -48,6 +48,13 @@ impl<T> Sequence<T> {
         &self.items[place]
     }
 
+    /// The items, moved out. Takes no memory.
+    pub fn into_vec(self) -> Vec<T>
+        ensures { result.items ≡ self }
+    {
+        self.items
+    }
+
     /// All items, in order.
     pub fn as_slice(&self) -> &[T]
         ensures { result.now ≡ self.now }

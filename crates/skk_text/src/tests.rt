@@ -25,7 +25,9 @@ fn texts_count_bytes_and_show_characters(rt: HostRuntime) -> Result<(), Fail> {
     assert_eq!(rt; line.byte_len(), 11);
     assert_eq!(rt; line.last(2), "a𠮷");
     line.delete_last();
+    let copy = line.copy(rt.alloc())?;
     assert_eq!(rt; line.as_str(), "かなa");
+    assert_eq!(rt; copy.into_string().as_str(), "かなa");
     Ok(())
 }
 

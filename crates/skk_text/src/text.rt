@@ -1,4 +1,4 @@
-ghost use Rattle.std.specs.Prelude.{◌≡◌, ℕ, List, [], ◌∷◌, ◌++◌, ◌-◌, length, take, string_bytes, encode_utf8_all, OnOk, OnErr};
+ghost use Rattle.std.specs.Prelude.{◌≡◌, ℕ, List, [], ◌∷◌, ◌++◌, ◌-◌, length, take, string_bytes, encode_utf8_all, IfOk, OnOk, OnErr};
 ghost use Rattle.std.specs.Str.{chars};
 ghost use Rattle.skk_text.specs.Text.{byte_len, last_chars, without_last};
 
@@ -47,6 +47,13 @@ impl Text {
         self.text.as_str()
     }
 
+    /// The text as a string, moved. Takes no memory.
+    pub fn into_string(self) -> String
+        ensures { chars (string_bytes result) ≡ self }
+    {
+        self.text
+    }
+
     /// How many bytes the text has in UTF-8. Takes constant time.
     pub fn byte_len(&self) -> usize
         ensures { result ≡ byte_len self.now }
@@ -77,6 +84,14 @@ impl Text {
         ensures { self.new ≡ without_last self.old }
     {
         self.text.pop();
+    }
+
+    /// An equal text. Takes time in the text's length.
+    pub fn copy(&self, alloc: Global) -> Result<Text, Memory>
+        ensures { IfOk result (λ text. text ≡ self.now) }
+    {
+        let text = String::from_str(alloc, self.text.as_str())?;
+        Ok(Text { text })
     }
 
     /// The last characters of the text, at most `count`. Takes time in `count`, not in the

@@ -1,128 +1,151 @@
 -- The definitions at small examples, each worked out by hand.
-use Rattle.std.proofs.Common.{◌≡◌, ◌*◌, ℕ, Option, None, Some, Ok, Err, true, false, List, [], ◌∷◌, ◌++◌, refl, map, codes, replicate, lit≤, arith}
+use Rattle.std.proofs.Common.{◌≡◌, ◌*◌, ℕ, None, Some, Ok, Err, true, false, List, [], ◌∷◌, ◌++◌, refl, map, codes, lit≤, arith}
 use lib.Utf8.{encode}
 use Prim.Native.String.{String}
 use Rattle.std.specs.Fmt.{digits}
-use Rattle.std.specs.List.{flat_map}
 use Rattle.skk_outside.specs.declared.source.ReadFault.TheVariants as reading
 use Rattle.skk_text.specs.declared.key.Key.{Key}
-use Rattle.skk_text.specs.declared.key.Key.TheVariants.{Char, Cj, Cg, Bs, Ret, Tab, Undo}
-use Rattle.skk_text.specs.declared.mode.Mode.TheVariants.{Hira, Kata, Ascii, Wide}
-use Rattle.skk_text.specs.declared.notice.Notice.TheVariants as notices
+use Rattle.skk_text.specs.declared.key.Key.TheVariants.{Char, Undo}
 use Rattle.romaji_rules.specs.declared.rule.Rule.{Rule}
 use Rattle.romaji_rules.specs.Standard.{rule}
 use Rattle.skk_text.specs.Lines.{lines_of}
-use Rattle.skk_top.specs.Characters.{code}
-use Rattle.skk_top.specs.KanaInput.{in_mode, kana_char_step, other_kana}
-use Rattle.skk_top.specs.Printing.{escaped, has_escape, notice_text, indicator, display}
-use Rattle.skk_top.specs.Script.{IsSession, IsTypist, script_limit, session_of, with_said, is_built_line, are_built}
-use Rattle.skk_top.specs.SessionMachine.{text_limit, new_session, after_keys}
+use Rattle.skk_calls.specs.declared.answer.Answer.{Answer}
+use Rattle.skk_calls.specs.declared.answer.Answer.TheVariants.{Done, Refused}
+use Rattle.skk_calls.specs.declared.answer.Refusal.TheVariants as refusals
+use Rattle.skk_calls.specs.declared.answer.Reply.TheVariants.{Found}
+use Rattle.skk_calls.specs.declared.call.Call.{Call}
+use Rattle.skk_calls.specs.declared.call.Call.TheVariants.{Lookup}
+use Rattle.skk_calls.specs.declared.chronicle.Noted.{Noted}
+use Rattle.skk_calls.specs.declared.chronicle.Noted.TheVariants.{Opened, Entered}
+use Rattle.skk_calls.specs.declared.part.Part.TheVariants.{Nasi}
+use Rattle.skk_calls.specs.Chronicles.{opening_of, history_of}
+use Rattle.skk_calls.specs.Interactions.{printed, asked, end_of, printed_alone}
+use Rattle.skk_calls.specs.Rows.{RowKey, Cand, Row}
+use Rattle.skk_calls.specs.States.{empty_state}
+use Rattle.session_machine.specs.declared.session.PressFault.TheVariants as pressing
+use Rattle.session_machine.specs.Session.{Session, new_session}
+use Rattle.skk_top.specs.Answering.{opening_over, are_served, are_of_one, said_in}
+use Rattle.skk_top.specs.Printing.{output_line, closing_line}
+use Rattle.skk_top.specs.Script.{IsSession, IsTypist, script_limit, session_of, with_said, opens_well, is_built_line, are_built}
 use Rattle.skk_top.specs.Sessions.{session_at, session_or_new, with_session}
-use Rattle.skk_top.specs.Status.{message_at, run_status, run_message, fault_of_press, fault_of_read, fault_of_script}
-use Rattle.skk_top.specs.Typed.{typed_from, are_taken_from}
+use Rattle.skk_top.specs.Status.{message_at, run_status, run_message, end_unless_refused, fault_of_press, fault_of_read, fault_of_script}
+use Rattle.skk_top.specs.Typed.{typing, typed, typed_alone}
 use Rattle.skk_top.specs.declared.fault.RunFault.TheVariants.{Words, TooLong, BadLine, LongDictionary, BadDictionary, Outside, Memory, NotBuilt}
-use Rattle.skk_top.specs.declared.kana_input.PlainThen.TheVariants.{Stay, OpenReading, OpenAbbrev}
+use Rattle.skk_top.specs.declared.line.Line.{Line}
 use Rattle.skk_top.specs.declared.line.Line.TheVariants.{Keys, Opening}
 use Rattle.skk_top.specs.declared.script.ScriptFault.TheVariants as scripts
-use Rattle.skk_top.specs.declared.session_machine.PressFault.TheVariants as pressing
-use Rattle.skk_top.specs.declared.session_machine.Session.{Session}
 
 -- a few rules
 abbrev table : List Rule
-table =
-    rule (codes "a") (codes "あ") ∷ rule (codes "ka") (codes "か") ∷ rule (codes "n") (codes "ん") ∷ rule (codes "na") (codes "な")
-    ∷ rule (codes "zl") (codes "→") ∷ rule (codes "z/") (codes "・") ∷ []
+table = rule (codes "a") (codes "あ") ∷ rule (codes "ka") (codes "か") ∷ []
 
 -- the keys of a text
 abbrev letters : String → List Key
 letters text = map Char (codes text)
 
--- a session as its indicator, its text, its pending letters and its notice
-abbrev state : Option Session → List ℕ
-state None = codes "not built"
-state (Some session) = indicator session.plain.mode ++ code "|" ∷ session.text ++ code "|" ∷ session.plain.pending ++ code "|" ∷ notice_text session.notice
-
--- the states of a new session after keys
-abbrev states : List (List Key) → List (List ℕ)
-states all = map (λ keys. state (after_keys table new_session keys)) all
-
--- each key with nothing pending and with letters pending, in hiragana mode
-hiragana_keys : states ([] ∷ letters "a " ∷ letters "aq" ∷ letters "al" ∷ letters "aL" ∷ letters "a1" ∷ letters "ak" ∷ letters "aQ" ∷ letters "a/" ∷ letters "aA" ∷ [])
-    ≡ codes "かな|||" ∷ codes "かな|あ ||" ∷ codes "カナ|あ||" ∷ codes "SKK|あ||" ∷ codes "全英|あ||" ∷ codes "かな|あ1||" ∷ codes "かな|あ|k|" ∷ codes "not built" ∷ codes "not built"
-    ∷ codes "not built" ∷ []
-unfolding encode
-hiragana_keys = refl
-
-hiragana_names : states ((letters "a" ++ Cj ∷ []) ∷ (letters "a" ++ Cg ∷ []) ∷ (letters "a" ++ Bs ∷ []) ∷ (letters "a" ++ Ret ∷ []) ∷ (letters "a" ++ Tab ∷ []) ∷ (letters "a" ++ Undo ∷ []) ∷ (Bs ∷ []) ∷ [])
-    ≡ codes "かな|あ||" ∷ codes "かな|あ||" ∷ codes "かな|||" ∷ (codes "かな|あ" ++ 10 ∷ codes "||") ∷ codes "かな|あ||" ∷ codes "かな|あ||no-undo" ∷ codes "かな|||" ∷ []
-unfolding encode
-hiragana_names = refl
-
-pending_keys : states (letters "an " ∷ letters "anq" ∷ letters "anl" ∷ letters "anL" ∷ letters "ana" ∷ letters "ank" ∷ letters "an1" ∷ letters "akq" ∷ letters "azl" ∷ letters "az/" ∷ letters "azq" ∷ [])
-    ≡ codes "かな|あん ||" ∷ codes "カナ|あん||" ∷ codes "SKK|あん||" ∷ codes "全英|あん||" ∷ codes "かな|あな||" ∷ codes "かな|あん|k|" ∷ codes "かな|あん1||" ∷ codes "カナ|あ||" ∷ codes "かな|あ→||"
-    ∷ codes "かな|あ・||" ∷ codes "カナ|あ||" ∷ []
-unfolding encode
-pending_keys = refl
-
-pending_names : states ((letters "an" ++ Cj ∷ []) ∷ (letters "an" ++ Cg ∷ []) ∷ (letters "an" ++ Bs ∷ []) ∷ (letters "an" ++ Ret ∷ []) ∷ (letters "an" ++ Tab ∷ []) ∷ (letters "an" ++ Undo ∷ []) ∷ [])
-    ≡ codes "かな|あん||" ∷ codes "かな|あ||" ∷ codes "かな|あ||" ∷ (codes "かな|あん" ++ 10 ∷ codes "||") ∷ codes "かな|あ|n|" ∷ codes "かな|あ|n|no-undo" ∷ []
-unfolding encode
-pending_names = refl
-
--- katakana mode, which leaves what was typed before as it is
-katakana_keys : states (letters "aqka" ∷ letters "aqan " ∷ letters "aqnq" ∷ letters "qnl" ∷ (letters "qk" ++ Cg ∷ []) ∷ (letters "qk" ++ Bs ∷ []) ∷ (letters "qn" ++ Ret ∷ []) ∷ [])
-    ≡ codes "カナ|あカ||" ∷ codes "カナ|あアン ||" ∷ codes "かな|あン||" ∷ codes "SKK|ン||" ∷ codes "カナ|||" ∷ codes "カナ|||" ∷ (codes "カナ|ン" ++ 10 ∷ codes "||") ∷ []
-unfolding encode
-katakana_keys = refl
-
--- each key in the two ASCII modes
-ascii_keys : states (letters "lq L/A" ∷ (letters "la" ++ Cj ∷ letters "a") ∷ (letters "la" ++ Cg ∷ []) ∷ (letters "lab" ++ Bs ∷ []) ∷ (letters "la" ++ Ret ∷ []) ∷ (letters "la" ++ Tab ∷ []) ∷ (letters "la" ++ Undo ∷ []) ∷ [])
-    ≡ codes "SKK|q L/A||" ∷ codes "かな|aあ||" ∷ codes "SKK|a||" ∷ codes "SKK|a||" ∷ (codes "SKK|a" ++ 10 ∷ codes "||") ∷ codes "SKK|a||" ∷ codes "SKK|a||no-undo" ∷ []
-unfolding encode
-ascii_keys = refl
-
-wide_keys : states (letters "Lq L" ∷ (letters "La" ++ Cj ∷ letters "a") ∷ (letters "La" ++ Cg ∷ []) ∷ (letters "Lab" ++ Bs ∷ []) ∷ (letters "La" ++ Undo ∷ Tab ∷ []) ∷ [])
-    ≡ (codes "全英|ｑ" ++ 0x3000 ∷ codes "Ｌ||") ∷ codes "かな|ａあ||" ∷ codes "全英|ａ||" ∷ codes "全英|ａ||" ∷ codes "全英|ａ||" ∷ []
-unfolding encode
-wide_keys = refl
-
--- what opens a reading, and the neighbours of the upper-case letters
-openings : map (λ c. (kana_char_step table (in_mode Hira) c).done.then) (0x40 ∷ 0x41 ∷ 0x51 ∷ 0x5A ∷ 0x5B ∷ 0x2F ∷ 0x61 ∷ [])
-    ≡ Stay ∷ OpenReading (Some 0x61) ∷ OpenReading None ∷ OpenReading (Some 0x7A) ∷ Stay ∷ OpenAbbrev ∷ Stay ∷ []
-openings = refl
-
-other_kana_modes : map other_kana (Hira ∷ Kata ∷ Ascii ∷ Wide ∷ []) ≡ Kata ∷ Hira ∷ Ascii ∷ Wide ∷ []
-other_kana_modes = refl
-
--- the limits: 4 MiB of a script, and 1 MiB of a text
-limits : (script_limit ≡ 4 * 1024 * 1024) × (text_limit ≡ 1024 * 1024)
-limits = (refl, refl)
+-- the limit: 4 MiB of a script
+limit : script_limit ≡ 4 * 1024 * 1024
+limit = refl
 
 -- a line of four fields
 abbrev fields : String → String → String → String → List ℕ
 fields number mode shown notice = codes number ++ 9 ∷ codes mode ++ 9 ∷ codes shown ++ 9 ∷ codes notice ++ 10 ∷ []
 
+-- a session with a text
+abbrev with_text : String → Session
+with_text text = let session = new_session 1 1 in record session { frame = record session.frame { text = codes text } }
+
+-- an output line and a closing line
+lines_printed : (output_line 12 (with_text "あ") ≡ fields "12" "かな" "あ" "") × (closing_line 64 (with_text "あ") ≡ codes "64=あ" ++ 10 ∷ [])
+unfolding digits
+lines_printed = (refl, refl)
+
 -- sessions as they come, also one that is only opened, and closing lines ascending by number
-three_sessions : typed_from table [] (Keys 3 (letters "a") ∷ Keys 1 (letters "kak") ∷ Opening 2 7 0 ∷ Keys 3 (Undo ∷ []) ∷ Keys 3 [] ∷ Keys 1 (letters "al") ∷ [])
+three_sessions : printed (typing table [] (Keys 3 (letters "a") ∷ Keys 1 (letters "kak") ∷ Opening 2 7 0 ∷ Keys 3 (Undo ∷ []) ∷ Keys 3 [] ∷ Keys 1 (letters "al") ∷ [])) []
     ≡ fields "3" "かな" "あ" "" ++ fields "1" "かな" "かk" "" ++ fields "3" "かな" "あ" "no-undo" ++ fields "3" "かな" "あ" "no-undo" ++ fields "1" "SKK" "かか" ""
     ++ codes "1=かか" ++ 10 ∷ codes "2=" ++ 10 ∷ codes "3=あ" ++ 10 ∷ []
 unfolding encode digits
 three_sessions = refl
 
--- nothing for no line; and up to the first key that is not taken
-typed_so_far : map (typed_from table []) ([] ∷ (Keys 1 (letters "a") ∷ Keys 1 (letters "aQ") ∷ Keys 1 (letters "a") ∷ []) ∷ [])
-    ≡ [] ∷ fields "1" "かな" "あ" "" ∷ []
+-- a script with a key that is not built in its middle: what is printed before it
+abbrev stopped : List Line
+stopped = Keys 1 (letters "a") ∷ Keys 1 (letters "a/") ∷ Keys 1 (letters "a") ∷ []
+
+typed_so_far : map (λ lines. printed (typing table [] lines) []) ([] ∷ stopped ∷ []) ≡ [] ∷ fields "1" "かな" "あ" "" ∷ []
 unfolding encode digits
 typed_so_far = refl
 
-taken_or_not : map (are_taken_from table []) ([] ∷ (Opening 1 1 0 ∷ Keys 2 (letters "aq") ∷ []) ∷ (Keys 1 (letters "a") ∷ Keys 2 (letters "Q") ∷ Keys 1 [] ∷ []) ∷ [])
-    ≡ true ∷ true ∷ false ∷ []
+ended_or_not : map (λ lines. end_of (typing table [] lines) []) ([] ∷ (Opening 1 1 0 ∷ Keys 2 (letters "aq") ∷ []) ∷ stopped ∷ (Keys 1 (letters "Ka ") ∷ []) ∷ [])
+    ≡ Some true ∷ Some true ∷ Some false ∷ None ∷ []
 unfolding encode
-taken_or_not = refl
+ended_or_not = refl
 
--- a session with a text
-abbrev with_text : String → Session
-with_text text = record { plain = in_mode Hira; text = codes text; notice = notices.Empty }
+-- two candidates of one key, in one system file
+abbrev key : RowKey
+key = record { part = Nasi; reading = codes "か" }
+
+abbrev cands : List Cand
+cands = record { word = codes "蚊"; note = [] } ∷ record { word = codes "可"; note = codes "能" } ∷ []
+
+abbrev files : List (List Row)
+files = (record { key = key; cands = cands; blocks = []; hides = []; stamp = 0 } ∷ []) ∷ []
+
+-- a script that converts them, and goes on to the second
+abbrev script : List Line
+script = Keys 1 (letters "Ka ") ∷ Keys 1 (letters " ") ∷ []
+
+abbrev shown_both : List ℕ
+shown_both = fields "1" "かな" "▼蚊" "" ++ fields "1" "かな" "▼可" ";能" ++ codes "1=" ++ 10 ∷ []
+
+converted_alone : printed_alone files empty_state (typing table [] script) ≡ shown_both
+unfolding encode digits
+converted_alone = refl
+
+-- the call that it asks, and what is printed by its answer; where it is refused the reading stays, and is looked up again
+abbrev call : Call
+call = Lookup 1 key None
+
+abbrev found : Answer
+found = Done (Found cands)
+
+abbrev refused : Answer
+refused = Refused refusals.Memory
+
+converted : map (λ answers. printed (typing table [] script) answers) ([] ∷ (found ∷ []) ∷ (refused ∷ []) ∷ (refused ∷ found ∷ []) ∷ [])
+    ≡ [] ∷ shown_both ∷ fields "1" "かな" "▽か" "refused memory"
+    ∷ (fields "1" "かな" "▽か" "refused memory" ++ fields "1" "かな" "▼蚊" "" ++ codes "1=" ++ 10 ∷ []) ∷ []
+unfolding encode digits
+converted = refl
+
+called : map (λ answers. asked (typing table [] script) answers) ([] ∷ (found ∷ []) ∷ (refused ∷ found ∷ []) ∷ []) ≡ [] ∷ (call ∷ []) ∷ (call ∷ call ∷ []) ∷ []
+unfolding encode
+called = refl
+
+came_to_its_end : map (λ answers. end_of (typing table [] script) answers) ([] ∷ (found ∷ []) ∷ (refused ∷ []) ∷ (refused ∷ found ∷ []) ∷ (found ∷ found ∷ []) ∷ [])
+    ≡ None ∷ Some true ∷ None ∷ Some true ∷ None ∷ []
+unfolding encode
+came_to_its_end = refl
+
+in_bytes : (typed table [] [] ≡ []) × (typed_alone table (Keys 1 (letters "a") ∷ []) [] ≡ 0x31 ∷ 9 ∷ 0xE3 ∷ 0x81 ∷ 0x8B ∷ 0xE3 ∷ 0x81 ∷ 0xAA ∷ 9 ∷ 0xE3 ∷ 0x81 ∷ 0x82 ∷ 9 ∷ 10 ∷ 0x31 ∷ 0x3D ∷ 0xE3 ∷ 0x81 ∷ 0x82 ∷ 10 ∷ [])
+unfolding encode digits
+in_bytes = (refl, refl)
+
+-- a chronicle of the caller 0 with these answers, and one of another caller
+abbrev chronicle_of : ℕ → List Answer → List Noted
+chronicle_of number answers = Opened files empty_state 0 0 0 0 ∷ map (λ answer. Entered number call answer 5 6) answers
+
+chronicle_parts : (opening_of (chronicle_of 0 (found ∷ [])) ≡ Some (opening_over files))
+    × (history_of (chronicle_of 0 (found ∷ [])) ≡ record { number = 0; call = call; answer = found } ∷ [])
+chronicle_parts = (refl, refl)
+
+served_or_not : map are_served ([] ∷ chronicle_of 0 [] ∷ chronicle_of 0 (found ∷ found ∷ []) ∷ chronicle_of 0 (found ∷ refused ∷ []) ∷ []) ≡ true ∷ true ∷ true ∷ false ∷ []
+served_or_not = refl
+
+of_one_or_not : map are_of_one ([] ∷ chronicle_of 0 (found ∷ []) ∷ chronicle_of 1 (found ∷ []) ∷ []) ≡ true ∷ true ∷ false ∷ []
+of_one_or_not = refl
+
+dialogs : map said_in ([] ∷ chronicle_of 0 (found ∷ refused ∷ []) ∷ chronicle_of 1 (found ∷ []) ∷ []) ≡ [] ∷ ((call, found) ∷ (call, refused) ∷ []) ∷ [] ∷ []
+dialogs = refl
 
 -- a map by number: the first, one between, the last, and one anew
 some_sessions : with_session (with_session (with_session (with_session [] 5 (with_text "a")) 2 (with_text "b")) 9 (with_text "c")) 5 (with_text "d")
@@ -132,22 +155,8 @@ some_sessions = refl
 sessions_found : map (session_at ((2, with_text "b") ∷ (5, with_text "d") ∷ [])) (1 ∷ 2 ∷ 3 ∷ 5 ∷ 6 ∷ []) ≡ None ∷ Some (with_text "b") ∷ None ∷ Some (with_text "d") ∷ None ∷ []
 sessions_found = refl
 
-sessions_or_new : map (session_or_new ((2, with_text "b") ∷ [])) (1 ∷ 2 ∷ []) ≡ with_text "" ∷ with_text "b" ∷ []
+sessions_or_new : map (session_or_new ((2, with_text "b") ∷ [])) (1 ∷ 2 ∷ []) ≡ new_session 1 1 ∷ with_text "b" ∷ []
 sessions_or_new = refl
-
--- what is shown of a text of 65 characters, and of pending letters; and the whole of it
-shown_at_most : display (record { plain = record { mode = Hira; pending = codes "ky" }; text = 0x62 ∷ replicate 64 0x61; notice = notices.Limit }) ≡ replicate 64 0x61 ++ codes "ky"
-shown_at_most = refl
-
-printed_characters : flat_map escaped (0x61 ∷ 10 ∷ 13 ∷ 9 ∷ 92 ∷ 11 ∷ 8 ∷ []) ≡ codes "a" ++ 92 ∷ codes "n" ++ 92 ∷ codes "r" ++ 92 ∷ codes "t" ++ 92 ∷ 92 ∷ 11 ∷ 8 ∷ []
-printed_characters = refl
-
-with_escapes : map has_escape (8 ∷ 9 ∷ 10 ∷ 11 ∷ 12 ∷ 13 ∷ 14 ∷ 91 ∷ 92 ∷ 93 ∷ []) ≡ false ∷ true ∷ true ∷ false ∷ false ∷ true ∷ false ∷ false ∷ true ∷ false ∷ []
-with_escapes = refl
-
-notice_texts : map notice_text (notices.Empty ∷ notices.Limit ∷ notices.Reading ∷ notices.NoMore ∷ notices.NoCompletion ∷ notices.NoUndo ∷ notices.NoCandidate ∷ [])
-    ≡ [] ∷ codes "limit" ∷ codes "reading" ∷ codes "no-more" ∷ codes "no-completion" ∷ codes "no-undo" ∷ codes "no-candidate" ∷ []
-notice_texts = refl
 
 -- scripts cut into lines
 script_lines : map lines_of ([] ∷ (10 ∷ []) ∷ codes "a" ∷ (codes "ab" ++ 10 ∷ []) ∷ (10 ∷ 10 ∷ codes "a" ++ 10 ∷ codes "b") ∷ (13 ∷ 10 ∷ []) ∷ [])
@@ -161,6 +170,9 @@ numbers = ((lit≤ tt, lit≤ tt), (lit≤ tt, lit≤ tt), λ is. omega (arith, 
 -- what is built, and which session is named, by a line of each kind; and a line more
 built_lines : map is_built_line (Keys 1 [] ∷ Keys 2 [] ∷ Keys 0 [] ∷ Opening 1 1 0 ∷ []) ≡ true ∷ false ∷ false ∷ false ∷ []
 built_lines = refl
+
+books_of_openings : map opens_well (Keys 1 [] ∷ Opening 1 7 0 ∷ Opening 1 7 7 ∷ Opening 1 7 6 ∷ Opening 1 0 0 ∷ []) ≡ true ∷ true ∷ true ∷ false ∷ true ∷ []
+books_of_openings = refl
 
 built_scripts : map are_built ([] ∷ (Keys 1 [] ∷ []) ∷ (Keys 1 [] ∷ Keys 2 [] ∷ []) ∷ []) ≡ true ∷ true ∷ false ∷ []
 built_scripts = refl
@@ -185,6 +197,9 @@ messages = refl
 
 messages_at : map message_at (0 ∷ 1 ∷ 4 ∷ 6 ∷ 8 ∷ []) ≡ [] ∷ (codes "skk: words" ++ 10 ∷ []) ∷ (codes "skk: outside" ++ 10 ∷ []) ∷ (codes "skk: memory" ++ 10 ∷ []) ∷ (codes "skk: not built" ++ 10 ∷ []) ∷ []
 messages_at = refl
+
+ended_with_refusals : (map (end_unless_refused (Ok tt)) (false ∷ true ∷ []) ≡ Ok tt ∷ Err Memory ∷ []) × (map (end_unless_refused (Err NotBuilt)) (false ∷ true ∷ []) ≡ Err NotBuilt ∷ Err NotBuilt ∷ [])
+ended_with_refusals = (refl, refl)
 
 handed_faults : (map fault_of_press (pressing.NotBuilt ∷ pressing.Memory ∷ []) ≡ NotBuilt ∷ Memory ∷ []) × (map fault_of_read (reading.TooLong ∷ reading.Failed ∷ reading.Memory ∷ []) ≡ TooLong ∷ Outside ∷ Memory ∷ [])
     × (map fault_of_script (scripts.BadLine 5 ∷ scripts.Memory ∷ []) ≡ BadLine 5 ∷ Memory ∷ [])

@@ -1,16 +1,15 @@
+pub mod Callers
 mod CheckExamples
 pub mod CheckRuns
 pub mod Commands
 pub mod Dictionaries
-pub mod Escapes
 mod Examples
-pub mod Limits
+pub mod KeyLines
 pub mod LineReading
 pub mod Lines
 pub mod Marks
 pub mod Numbers
 pub mod Pages
-pub mod PlainKeys
 pub mod PrintedChecks
 pub mod Ranges
 pub mod Reading

@@ -9,8 +9,8 @@ use Rattle.skk_top.specs.Page.{Printed}
 use Rattle.skk_top.specs.Status.{fault_of_press}
 use Rattle.skk_top.specs.declared.fault.RunFault.{RunFault}
 use Rattle.skk_top.specs.declared.fault.RunFault.TheVariants as told
-use Rattle.skk_top.specs.declared.session_machine.PressFault.{PressFault}
-use Rattle.skk_top.specs.declared.session_machine.PressFault.TheVariants as pressing
+use Rattle.session_machine.specs.declared.session.PressFault.{PressFault}
+use Rattle.session_machine.specs.declared.session.PressFault.TheVariants as pressing
 
 -- what holds anyway holds at an error
 pub on_err : {T E P : Type 0} (r : Result T E) → P → OnErr r P
@@ -36,11 +36,6 @@ Appends-none (Some bytes) = sym (append-nil bytes)
 pub Printed-rest : (old new : Option (List ℕ)) (page rest other whole : List ℕ) → rest ≡ other → Printed old new page rest whole → Printed old new page other whole
 Printed-rest old new page rest other whole same printed =
     (printed.0, printed.1, ap (λ r. printed.0 ++ (page ++ r)) (sym same) ∙ printed.2)
-
--- the page and the rest may be parted otherwise
-pub Printed-parted : (old new : Option (List ℕ)) (page rest longer other whole : List ℕ) → longer ++ other ≡ page ++ rest → Printed old new page rest whole → Printed old new longer other whole
-Printed-parted old new page rest longer other whole same printed =
-    (printed.0, printed.1, ap (λ p. printed.0 ++ p) same ∙ printed.2)
 
 -- the head of the rest goes to the page
 pub Printed-more : (old new : Option (List ℕ)) (page more rest whole longer : List ℕ) → longer ≡ page ++ more → Printed old new page (more ++ rest) whole → Printed old new longer rest whole
@@ -85,18 +80,6 @@ pub Printed-whole : (old mid new : Option (List ℕ)) (page whole : List ℕ) �
 Printed-whole old mid new page whole printed written =
     subst (Appends old new) (sym (encodes-append printed.0 page) ∙ ap encode_utf8_all (ap (λ p. printed.0 ++ p) (sym (append-nil page)) ∙ printed.2))
     (Appends-trans old mid new (encode_utf8_all printed.0) (encode_utf8_all page) printed.1 written)
-
--- the last of the rest goes to the page
-pub Printed-last : (old new : Option (List ℕ)) (page last whole longer : List ℕ) → longer ≡ page ++ last → Printed old new page last whole → Printed old new longer [] whole
-Printed-last old new page last whole longer pushed printed =
-    Printed-more old new page last [] whole longer pushed (Printed-rest old new page last (last ++ []) whole (sym (append-nil last)) printed)
-
--- a page that is all of the rest, whether it is written or a write of it fails
-pub Printed-tried : {T E : Type 0} (old mid new : Option (List ℕ)) (page whole : List ℕ) (r : Result T E) → Printed old mid page [] whole
-    → OnOk r (Appends mid new (encode_utf8_all page)) → OnErr r (AppendsPrefix mid new (encode_utf8_all page)) → AppendsPrefix old new (encode_utf8_all whole)
-Printed-tried old mid new page whole (Ok x) printed ok err =
-    Printed-prefix_of_page old mid new page [] whole printed (encode_utf8_all page, ([], sym (append-nil (encode_utf8_all page))), ok)
-Printed-tried old mid new page whole (Err e) printed ok err = Printed-prefix_of_page old mid new page [] whole printed err
 
 -- a prefix of what comes first is a prefix of all
 pub AppendsPrefix-more : (old new : Option (List ℕ)) (first more : List ℕ) → AppendsPrefix old new first → AppendsPrefix old new (first ++ more)

@@ -1,5 +1,5 @@
 -- What a run of `type` leaves, of what its parts leave.
-use Rattle.std.proofs.Common.{◌≡◌, ◌≢◌, ◌≤◌, ◌==◌, ◌∙◌, sym, ap, subst, refl, rules, ℕ, Option, Some, None, List, [], ◌∷◌, Ok, Err, OnOk, OnErr, IfErr, IfSome, IsErrOf, true, false, MatchBool, Contains, arith, inl, inr}
+use Rattle.std.proofs.Common.{◌≡◌, ◌≢◌, ◌≤◌, ◌==◌, ◌∙◌, sym, ap, subst, refl, rules, ℕ, Option, Some, None, Result, List, [], ◌∷◌, Ok, Err, OnOk, OnErr, IfErr, IfSome, IsErrOf, true, false, encode_utf8_all, MatchBool, Contains, arith, inl, inr}
 use Rattle.std.specs.Io.KnownBytes.{Appends, Keeps}
 use Rattle.std.specs.List.{list_any}
 use Rattle.std.proofs.KnownBytes.{Consumes-nil}
@@ -8,17 +8,26 @@ use Rattle.std.proofs.lemmas.List.Elements.{All-contains}
 use Rattle.skk_outside.specs.Written.{AppendsPrefix}
 use Rattle.romaji_rules.specs.declared.rule.Rule.{Rule}
 use Rattle.skk_text.specs.Lines.{lines_of}
+use Rattle.skk_calls.specs.declared.answer.Answer.{Answer}
+use Rattle.skk_calls.specs.declared.chronicle.Noted.{Noted}
+use Rattle.skk_calls.specs.InteractionLaws.{asked-none, printed-answered_alone}
+use Rattle.skk_calls.specs.Interactions.{Dialog, asked, end_of, answers_of, calls_of, IsAnsweredAlone}
+use Rattle.skk_calls.specs.Rows.{Row}
+use Rattle.skk_calls.specs.States.{empty_state}
 use Rattle.dict_format.specs.FileLines.{Lists}
 use Rattle.dict_format.specs.declared.file.Listed.{Listed}
-use Rattle.skk_top.specs.Dictionaries.{AreDictionaries, IsDictionary, IsNoDictionary, IsLongDictionary, IsBadDictionary, IsFirst, TellsDictionaries, LeavesDictionaries}
+use Rattle.skk_top.specs.Answering.{said_in}
+use Rattle.skk_top.specs.Dictionaries.{AreDictionaries, AreRowsOf, IsDictionary, IsNoDictionary, IsLongDictionary, IsBadDictionary, IsFirst, TellsDictionaries, LeavesDictionaries}
 use Rattle.skk_top.specs.Script.{IsScript, are_built}
 use Rattle.skk_top.specs.Status.{Ended, run_status, run_message, status_of, message_of, HasStatus}
-use Rattle.skk_top.specs.TypeCommand.{LeavesTyped, LeavesScript, LeavesLines, IsTooLong, IsBadAt, IsRefused, IsRefusal, PrintsScript}
-use Rattle.skk_top.specs.Typed.{typed}
+use Rattle.skk_top.specs.TypeCommand.{LeavesTyped, LeavesScript, LeavesAnswered, IsTooLong, IsBadAt, IsRefused, IsRefusal, PrintsScript, AsksScript}
+use Rattle.skk_top.specs.Typed.{typed, typed_alone, typing}
 use Rattle.skk_top.specs.declared.fault.RunFault.{RunFault}
-use Rattle.skk_top.specs.declared.fault.RunFault.TheVariants.{Words, TooLong, BadLine, LongDictionary, BadDictionary, Outside, NotBuilt}
+use Rattle.skk_top.specs.declared.fault.RunFault.TheVariants.{Words, TooLong, BadLine, LongDictionary, BadDictionary, Outside, Memory, NotBuilt}
+use Rattle.skk_top.specs.declared.finish.Run.{Run}
 use Rattle.skk_top.specs.declared.line.Line.{Line}
 use Rattle.skk_top.proofs.Pages.{Appends-none, AppendsPrefix-whole}
+use Rattle.skk_top.proofs.Typed.{leaves-stopped, reaches-start, stops-reached}
 use Rattle.skk_top.proofs.Scripts.{OneListOfKeys, no_bad_line, one_list_of_lines}
 
 -- what is known of bytes that are told
@@ -80,7 +89,7 @@ not_built-of (Ok done) e = absurd (omega (arith, e))
 not_built-of (Err fault) e = ap Err (not_built-fault fault e)
 
 -- all or a prefix of it was written
-pub prefix-of : (ended : Ended) (old new : Option (List ℕ)) (whole : List ℕ) → OnOk ended (Appends old new whole) → OnErr ended (AppendsPrefix old new whole) → AppendsPrefix old new whole
+pub prefix-of : {T E : Type 0} (ended : Result T E) (old new : Option (List ℕ)) (whole : List ℕ) → OnOk ended (Appends old new whole) → OnErr ended (AppendsPrefix old new whole) → AppendsPrefix old new whole
 prefix-of (Ok done) old new whole ok err = AppendsPrefix-whole old new whole ok
 prefix-of (Err fault) old new whole ok err = err
 
@@ -92,12 +101,16 @@ refusal (BadLine number) known long bad two = each_some known (λ bytes is. inr 
 refusal fault known long bad two = absurd (omega (arith, two))
 
 -- where no script was read, nothing was printed
-prints-nothing : (rules : List Rule) (status : ℕ) (bytes : List ℕ) (known : Option (List ℕ)) → status ≢ 0 → PrintsScript rules status bytes known known
-prints-nothing rules status bytes known undone lines script =
-    elim (are_built lines) as (λ b. MatchBool b (AppendsPrefix known known (typed rules lines) × (status ≡ 0 → Appends known known (typed rules lines))) (Keeps known known)) [
-      | true ↦ (([], (typed rules lines, refl), Appends-none known), λ e. absurd (undone e))
+prints-nothing : (rules : List Rule) (status : ℕ) (bytes : List ℕ) (answers : List Answer) (known : Option (List ℕ)) → status ≢ 0 → PrintsScript rules status bytes answers known known
+prints-nothing rules status bytes answers known undone lines script =
+    elim (are_built lines) as (λ b. MatchBool b (AppendsPrefix known known (typed rules lines answers) × (status ≡ 0 → Appends known known (typed rules lines answers))) (Keeps known known)) [
+      | true ↦ (([], (typed rules lines answers, refl), Appends-none known), λ e. absurd (undone e))
       | false ↦ Keeps-self known
     ]
+
+-- where no call was made, none was asked for
+asks-nothing : (rules : List Rule) (known : Option (List ℕ)) → IfSome known (λ bytes. AsksScript rules bytes [])
+asks-nothing rules known = IfSome-all known _ (λ bytes lines script. asked-none (typing rules [] lines))
 
 -- what lists something is a dictionary
 pub not_no_dictionary : (bytes : List ℕ) (listed : Listed) → Lists bytes listed → ¬ IsNoDictionary bytes
@@ -120,7 +133,7 @@ unopened fault files long bad three = absurd (omega (arith, three))
 
 -- where no dictionaries were read, no script was
 pub leaves-unopened : (rules : List Rule) (fault : RunFault) (files : List (Option (List ℕ))) (opens opens' : ℕ) (left : Option (List ℕ)) (reads : ℕ) (written : Option (List ℕ)) (writes : ℕ)
-    → LeavesDictionaries (Err fault) files opens opens' → LeavesTyped rules (status_of fault) (message_of fault) files opens opens' left left reads reads written written writes writes
+    → LeavesDictionaries (Err fault) files opens opens' → LeavesTyped rules (status_of fault) (message_of fault) [] files opens opens' left left reads reads written written writes writes
 leaves-unopened rules fault files opens opens' left reads written writes dictionaries =
     let not_two = other-status (3 ∷ 4 ∷ 6 ∷ []) fault 2 dictionaries.fault refl in
     record {
@@ -133,12 +146,18 @@ leaves-unopened rules fault files opens opens' left reads written writes diction
       ended = λ e. absurd (fault-status fault e);
       whole = λ e. absurd (fault-status fault e);
       read = ([], omega arith, Consumes-nil left);
-      prints = IfSome-all left _ (λ bytes. prints-nothing rules (status_of fault) bytes written (fault-status fault));
+      prints = IfSome-all left _ (λ bytes. prints-nothing rules (status_of fault) bytes [] written (fault-status fault));
       nothing = IfSome-all left _ (λ bytes refused. Keeps-self written);
       nothing_refused = λ e. Keeps-self written;
       refused = λ e. absurd (not_two e);
       outside = λ e. inl (dictionaries.outside (ap Err (outside-fault fault e)));
       not_built = λ e. absurd (other-status (3 ∷ 4 ∷ 6 ∷ []) fault 8 dictionaries.fault refl e);
+      asks = asks-nothing rules left;
+      one = refl;
+      legal = inl refl;
+      served = λ e. absurd (fault-status fault e);
+      alone = λ e. absurd (fault-status fault e);
+      uncalled = λ e. refl;
       opens_counted = dictionaries.counted;
       reads_counted = omega arith;
       writes_counted = omega arith;
@@ -146,7 +165,7 @@ leaves-unopened rules fault files opens opens' left reads written writes diction
 
 pub leaves-refused : (rules : List Rule) (fault : RunFault) (files : List (Option (List ℕ))) (opens opens' : ℕ) (left left' : Option (List ℕ)) (reads reads' : ℕ)
     (written : Option (List ℕ)) (writes : ℕ) → AreDictionaries files → opens ≤ opens' → LeavesScript (Err fault) left left' reads reads'
-    → LeavesTyped rules (status_of fault) (message_of fault) files opens opens' left left' reads reads' written written writes writes
+    → LeavesTyped rules (status_of fault) (message_of fault) [] files opens opens' left left' reads reads' written written writes writes
 leaves-refused rules fault files opens opens' left left' reads reads' written writes are opening script =
     let not_three = other-status (2 ∷ 4 ∷ 6 ∷ []) fault 3 script.fault refl in
     record {
@@ -159,12 +178,18 @@ leaves-refused rules fault files opens opens' left left' reads reads' written wr
       ended = λ e. absurd (fault-status fault e);
       whole = λ e. absurd (fault-status fault e);
       read = script.read;
-      prints = IfSome-all left _ (λ bytes. prints-nothing rules (status_of fault) bytes written (fault-status fault));
+      prints = IfSome-all left _ (λ bytes. prints-nothing rules (status_of fault) bytes [] written (fault-status fault));
       nothing = IfSome-all left _ (λ bytes refused. Keeps-self written);
       nothing_refused = λ e. Keeps-self written;
       refused = λ e. refusal fault left (λ is. script.too_long (ap Err is)) (λ number is. script.bad_line number (ap Err is)) e;
       outside = λ e. inr (inl (script.outside (ap Err (outside-fault fault e))));
       not_built = λ e. absurd (other-status (2 ∷ 4 ∷ 6 ∷ []) fault 8 script.fault refl e);
+      asks = asks-nothing rules left;
+      one = refl;
+      legal = inl refl;
+      served = λ e. absurd (fault-status fault e);
+      alone = λ e. absurd (fault-status fault e);
+      uncalled = λ e. refl;
       opens_counted = opening;
       reads_counted = script.counted;
       writes_counted = omega arith;
@@ -175,45 +200,69 @@ not_refused : OneListOfKeys → (lines : List Line) (bytes : List ℕ) → IsScr
 not_refused unique lines bytes script refused =
     elim refused [ inl long ↦ omega (arith, script.0, long) | inr bad ↦ no_bad_line unique (lines_of bytes) lines bad.0 script.1 bad.1.1 ]
 
--- what was printed for a script, by whether it is built
-prints-script : OneListOfKeys → (rules : List Rule) (lines : List Line) (status : ℕ) (old new : Option (List ℕ)) (bytes : List ℕ) → IsScript bytes lines
-    → MatchBool (are_built lines) (AppendsPrefix old new (typed rules lines) × (status ≡ 0 → Appends old new (typed rules lines))) (Keeps old new) → PrintsScript rules status bytes old new
-prints-script unique rules lines status old new bytes script prints others other =
-    subst (λ (ls : List Line). MatchBool (are_built ls) (AppendsPrefix old new (typed rules ls) × (status ≡ 0 → Appends old new (typed rules ls))) (Keeps old new))
-    (one_list_of_lines unique [] (lines_of bytes) lines others script.1 other.1) prints
+-- what holds of the lines of a script holds of those that its bytes are
+of-script : OneListOfKeys → (P : List Line → Type 0) (lines : List Line) (bytes : List ℕ) → IsScript bytes lines → P lines → (others : List Line) → IsScript bytes others → P others
+of-script unique P lines bytes script has others other = subst P (one_list_of_lines unique [] (lines_of bytes) lines others script.1 other.1) has
 
-leaves-built : OneListOfKeys → (rules : List Rule) (lines : List Line) (ended : Ended) (files : List (Option (List ℕ))) (opens opens' : ℕ) (left left' : Option (List ℕ)) (reads reads' : ℕ)
-    (old new : Option (List ℕ)) (writes writes' : ℕ) → AreDictionaries files → opens ≤ opens' → LeavesScript (Ok lines) left left' reads reads' → are_built lines ≡ true → LeavesLines rules lines ended old new writes writes'
-    → LeavesTyped rules (run_status ended) (run_message ended) files opens opens' left left' reads reads' old new writes writes'
-leaves-built unique rules lines ended files opens opens' left left' reads reads' old new writes writes' are opening script built typing =
-    let not_three = other-end (4 ∷ 6 ∷ 8 ∷ []) ended 3 typing.fault refl in
+-- what was printed where every call was answered as by the dictionary of one thread is what is printed where that answers
+printed-alone : (rules : List Rule) (lines : List Line) (books : List (List Row)) (said : Dialog) (old new : Option (List ℕ)) → asked (typing rules [] lines) (answers_of said) ≡ calls_of said
+    → end_of (typing rules [] lines) (answers_of said) ≡ Some true → IsAnsweredAlone books empty_state said → Appends old new (typed rules lines (answers_of said)) → Appends old new (typed_alone rules lines books)
+printed-alone rules lines books said old new asks ended alone written =
+    subst (λ text. Appends old new (encode_utf8_all text)) (printed-answered_alone (typing rules [] lines) said true books empty_state asks ended alone) written
+
+leaves-built : OneListOfKeys → (rules : List Rule) (lines : List Line) (books : List (List Row)) (ended : Ended) (chronicle : List Noted) (files : List (Option (List ℕ))) (opens opens' : ℕ)
+    (left left' : Option (List ℕ)) (reads reads' : ℕ) (old new : Option (List ℕ)) (writes writes' : ℕ) → AreDictionaries files → AreRowsOf books files → opens ≤ opens'
+    → LeavesScript (Ok lines) left left' reads reads' → are_built lines ≡ true → LeavesAnswered rules lines books ended chronicle old new writes writes'
+    → LeavesTyped rules (run_status ended) (run_message ended) chronicle files opens opens' left left' reads reads' old new writes writes'
+leaves-built unique rules lines books ended chronicle files opens opens' left left' reads reads' old new writes writes' are rows opening script built answered =
+    let all = answered.typing in
+    let said = said_in chronicle in
+    let grown : all.dialog ≡ said = sym all.grows in
+    let not_two = other-end (4 ∷ 6 ∷ 8 ∷ []) ended 2 all.fault refl in
+    let not_three = other-end (4 ∷ 6 ∷ 8 ∷ []) ended 3 all.fault refl in
+    let asks : asked (typing rules [] lines) (answers_of said) ≡ calls_of said = subst (λ d. asked (typing rules [] lines) (answers_of d) ≡ calls_of d) grown all.asks in
+    let prefix = subst (λ d. AppendsPrefix old new (typed rules lines (answers_of d))) grown (prefix-of ended old new (typed rules lines (answers_of all.dialog)) all.whole all.prefix) in
+    let whole = λ (done : run_status ended ≡ 0). subst (λ d. Appends old new (typed rules lines (answers_of d))) grown (done-of ended all.whole done) in
+    let taken = λ (done : run_status ended ≡ 0). subst (λ d. end_of (typing rules [] lines) (answers_of d) ≡ Some true) grown (done-of ended all.taken done) in
+    let stopped = λ (eight : run_status ended ≡ 8). subst (λ d. end_of (typing rules [] lines) (answers_of d) ≡ Some false) grown (all.not_built (not_built-of ended eight)) in
     record {
-      words = other-end (4 ∷ 6 ∷ 8 ∷ []) ended 1 typing.fault refl;
+      words = other-end (4 ∷ 6 ∷ 8 ∷ []) ended 1 all.fault refl;
       opened = λ three four six. are;
       nothing_unopened = λ bytes has none. absurd (no-bad files bytes are has none);
       unopened = λ e. absurd (not_three e);
       unopened_unread = λ e. absurd (not_three e);
       unopened_unwritten = λ e. absurd (not_three e);
       ended = λ e. script.ended;
-      whole = λ e. each_some left (λ bytes is. (lines, is, built, done-of ended typing.taken e)) script.whole;
+      whole = λ e. each_some left (λ bytes is. (lines, is, built, taken e)) script.whole;
       read = script.read;
       prints = each_some left (λ bytes is.
-          prints-script unique rules lines (run_status ended) old new bytes is
-          (subst (λ b. MatchBool b (AppendsPrefix old new (typed rules lines) × (run_status ended ≡ 0 → Appends old new (typed rules lines))) (Keeps old new)) (sym built)
-          (prefix-of ended old new (typed rules lines) typing.whole typing.prefix, λ e. done-of ended typing.whole e))) script.whole;
+          of-script unique (λ ls. MatchBool (are_built ls) (AppendsPrefix old new (typed rules ls (answers_of said)) × (run_status ended ≡ 0 → Appends old new (typed rules ls (answers_of said)))) (Keeps old new)) lines bytes is
+          (subst (λ b. MatchBool b (AppendsPrefix old new (typed rules lines (answers_of said)) × (run_status ended ≡ 0 → Appends old new (typed rules lines (answers_of said)))) (Keeps old new)) (sym built) (prefix, whole))) script.whole;
       nothing = each_some left (λ bytes is refused. absurd (not_refused unique lines bytes is refused)) script.whole;
-      nothing_refused = λ e. absurd (other-end (4 ∷ 6 ∷ 8 ∷ []) ended 2 typing.fault refl e);
-      refused = λ e. absurd (other-end (4 ∷ 6 ∷ 8 ∷ []) ended 2 typing.fault refl e);
-      outside = λ e. inr (inr (typing.outside (outside-of ended e)));
-      not_built = λ e. each_some left (λ bytes is. (lines, is, inr (typing.not_built (not_built-of ended e)))) script.whole;
+      nothing_refused = λ e. absurd (not_two e);
+      refused = λ e. absurd (not_two e);
+      outside = λ e. inr (inr (all.outside (outside-of ended e)));
+      not_built = λ e. each_some left (λ bytes is. (lines, is, inr (stopped e))) script.whole;
+      asks = each_some left (λ bytes is. of-script unique (λ ls. asked (typing rules [] ls) (answers_of said) ≡ calls_of said) lines bytes is asks) script.whole;
+      one = answered.one;
+      legal = elim answered.legal [ inl none ↦ inl none | inr over ↦ inr (books, rows, over) ];
+      served = λ e. done-of ended answered.served e;
+      alone = λ e. (
+        books,
+        rows,
+        done-of ended answered.opened e,
+        each_some left (λ bytes is. of-script unique (λ ls. Appends old new (typed_alone rules ls books)) lines bytes is
+            (printed-alone rules lines books said old new asks (taken e) (done-of ended answered.alone e) (whole e))) script.whole,
+      );
+      uncalled = λ e. elim e [ inl two ↦ absurd (not_two two) | inr three ↦ absurd (not_three three) ];
       opens_counted = opening;
       reads_counted = script.counted;
-      writes_counted = typing.counted;
+      writes_counted = all.counted;
     }
 
 leaves-not_built : OneListOfKeys → (rules : List Rule) (lines : List Line) (files : List (Option (List ℕ))) (opens opens' : ℕ) (left left' : Option (List ℕ)) (reads reads' : ℕ)
     (old new : Option (List ℕ)) (writes writes' : ℕ) → AreDictionaries files → opens ≤ opens' → LeavesScript (Ok lines) left left' reads reads' → are_built lines ≡ false → Keeps old new → writes ≤ writes'
-    → LeavesTyped rules 8 (message_of NotBuilt) files opens opens' left left' reads reads' old new writes writes'
+    → LeavesTyped rules 8 (message_of NotBuilt) [] files opens opens' left left' reads reads' old new writes writes'
 leaves-not_built unique rules lines files opens opens' left left' reads reads' old new writes writes' are opening script unbuilt keeps counted = record {
   words = λ e. omega (arith, e);
   opened = λ three four six. are;
@@ -225,27 +274,45 @@ leaves-not_built unique rules lines files opens opens' left left' reads reads' o
   whole = λ e. absurd (omega (arith, e));
   read = script.read;
   prints = each_some left (λ bytes is.
-      prints-script unique rules lines 8 old new bytes is
-      (subst (λ b. MatchBool b (AppendsPrefix old new (typed rules lines) × (status_of NotBuilt ≡ 0 → Appends old new (typed rules lines))) (Keeps old new)) (sym unbuilt) keeps)) script.whole;
+      of-script unique (λ ls. MatchBool (are_built ls) (AppendsPrefix old new (typed rules ls []) × (status_of NotBuilt ≡ 0 → Appends old new (typed rules ls []))) (Keeps old new)) lines bytes is
+      (subst (λ b. MatchBool b (AppendsPrefix old new (typed rules lines []) × (status_of NotBuilt ≡ 0 → Appends old new (typed rules lines []))) (Keeps old new)) (sym unbuilt) keeps)) script.whole;
   nothing = each_some left (λ bytes is refused. keeps) script.whole;
   nothing_refused = λ e. keeps;
   refused = λ e. absurd (omega (arith, e));
   outside = λ e. absurd (omega (arith, e));
   not_built = λ e. each_some left (λ bytes is. (lines, is, inl unbuilt)) script.whole;
+  asks = asks-nothing rules left;
+  one = refl;
+  legal = inl refl;
+  served = λ e. refl;
+  alone = λ e. absurd (omega (arith, e));
+  uncalled = λ e. refl;
   opens_counted = opening;
   reads_counted = script.counted;
   writes_counted = counted;
 }
 
 -- a script that was read, whether it is built or not
-pub leaves-read : OneListOfKeys → (rules : List Rule) (lines : List Line) (ended : Ended) (files : List (Option (List ℕ))) (opens opens' : ℕ) (left left' : Option (List ℕ)) (reads reads' : ℕ)
-    (old new : Option (List ℕ)) (writes writes' : ℕ) → AreDictionaries files → opens ≤ opens' → LeavesScript (Ok lines) left left' reads reads' → (are_built lines ≡ true → LeavesLines rules lines ended old new writes writes')
-    → (are_built lines ≡ false → ended ≡ Err NotBuilt) → (are_built lines ≡ false → Keeps old new) → writes ≤ writes'
-    → LeavesTyped rules (run_status ended) (run_message ended) files opens opens' left left' reads reads' old new writes writes'
-leaves-read unique rules lines ended files opens opens' left left' reads reads' old new writes writes' are opening script typing refused keeps counted =
+pub leaves-read : OneListOfKeys → (rules : List Rule) (lines : List Line) (books : List (List Row)) (run : Run) (files : List (Option (List ℕ))) (opens opens' : ℕ) (left left' : Option (List ℕ)) (reads reads' : ℕ)
+    (old new : Option (List ℕ)) (writes writes' : ℕ) → AreDictionaries files → AreRowsOf books files → opens ≤ opens' → LeavesScript (Ok lines) left left' reads reads'
+    → (are_built lines ≡ true → LeavesAnswered rules lines books run.ended run.chronicle old new writes writes')
+    → (are_built lines ≡ false → run ≡ record { ended = Err NotBuilt; chronicle = [] }) → (are_built lines ≡ false → Keeps old new) → writes ≤ writes'
+    → LeavesTyped rules (run_status run.ended) (run_message run.ended) run.chronicle files opens opens' left left' reads reads' old new writes writes'
+leaves-read unique rules lines books run files opens opens' left left' reads reads' old new writes writes' are rows opening script answered refused keeps counted =
     elim (cases_Bool (are_built lines)) [
-      | inl built ↦ leaves-built unique rules lines ended files opens opens' left left' reads reads' old new writes writes' are opening script built (typing built)
+      | inl built ↦ leaves-built unique rules lines books run.ended run.chronicle files opens opens' left left' reads reads' old new writes writes' are rows opening script built (answered built)
       | inr unbuilt ↦
-          subst (λ (r : Ended). LeavesTyped rules (run_status r) (run_message r) files opens opens' left left' reads reads' old new writes writes') (sym (refused unbuilt))
+          subst (λ (r : Run). LeavesTyped rules (run_status r.ended) (run_message r.ended) r.chronicle files opens opens' left left' reads reads' old new writes writes') (sym (refused unbuilt))
           (leaves-not_built unique rules lines files opens opens' left left' reads reads' old new writes writes' are opening script unbuilt (keeps unbuilt) counted)
     ]
+
+-- where there is no memory for a caller, nothing is typed
+pub leaves-unmade : (rules : List Rule) (lines : List Line) (books : List (List Row)) (old : Option (List ℕ)) (writes : ℕ) → LeavesAnswered rules lines books (Err Memory) [] old old writes writes
+leaves-unmade rules lines books old writes = record {
+  typing = leaves-stopped rules lines (Err Memory) Memory [] [] old old writes writes refl (stops-reached (reaches-start (typing rules [] lines) [] old [] refl)) (λ e. cc) (λ e. absurd (cc)) refl (omega arith);
+  one = refl;
+  legal = inl refl;
+  opened = tt;
+  served = tt;
+  alone = tt;
+}

@@ -1,13 +1,15 @@
 -- Scripts line by line: there is one list of lines, and one first line that is none.
-use Rattle.std.proofs.Common.{true, false, ◌≡◌, ◌≢◌, ◌<◌, ◌≤◌, sym, ℕ, Option, Some, None, List, [], ◌∷◌, ◌++◌, length, get_or, refl, ap, ◌∙◌, subst, arith, inl, inr}
+use Rattle.std.proofs.Common.{true, false, ◌==◌, ◌&&◌, ◌≡◌, ◌≢◌, ◌<◌, ◌≤◌, sym, ℕ, Option, Some, None, List, [], ◌∷◌, ◌++◌, length, get_or, refl, ap, ◌∙◌, subst, arith, inl, inr}
 use Rattle.std.specs.Fmt.{decimal}
 use Rattle.std.specs.Int.{IsInRange}
-use Rattle.std.proofs.lemmas.Bool.{cases_order}
+use Rattle.std.proofs.lemmas.Bool.{and_from, cases_order, eq-eqb, or_left, or_right}
 use Rattle.std.proofs.lemmas.Fmt.{decimal_injective}
 use Rattle.std.proofs.lemmas.List.{append_assoc, length-append, get_or_append_left}
+use Rattle.std.proofs.lemmas.List.Folds.{list_all-append}
+use Rattle.std.specs.List.{list_all}
 use Rattle.skk_text.specs.KeyText.{spelled, AreKeys}
 use Rattle.skk_text.specs.declared.key.Key.{Key}
-use Rattle.skk_top.specs.Script.{Spells, Follows, Says, MayFollow, IsFirstBad, with_said, has_return}
+use Rattle.skk_top.specs.Script.{Spells, Follows, Says, MayFollow, IsFirstBad, with_said, has_return, opens_well}
 use Rattle.skk_top.specs.declared.line.Line.{Line}
 use Rattle.skk_top.specs.declared.line.Line.TheVariants.{Keys, Opening}
 use Rattle.skk_top.proofs.Numbers.{one_number, decimal-digit_at, decimal-length}
@@ -80,6 +82,21 @@ says-push before [] lines text said says spells follows =
     (said, spells, subst (λ (ls : List Line). MayFollow ls said) says follows, ap (λ ls. with_said ls said) says)
 says-push before (first ∷ texts) lines text said says spells follows =
     (says.0, says.1, says.2, says-push (with_said before says.0) texts lines text said says.3 spells follows)
+
+-- each opening line that texts say has a book that may be
+opens-spelled : (text : List ℕ) (line : Line) → Spells text (Some line) → opens_well line ≡ true
+opens-spelled text (Keys session ks) spells = refl
+opens-spelled text (Opening session typist book) spells =
+    elim spells.2 [ inl shared ↦ or_left (book == 0) (book == typist) (eq-eqb book 0 shared) | inr own ↦ or_right (book == 0) (book == typist) (eq-eqb book typist own) ]
+
+opens-said : (before : List Line) (text : List ℕ) (said : Option Line) → Spells text said → list_all opens_well before ≡ true → list_all opens_well (with_said before said) ≡ true
+opens-said before text None spells well = well
+opens-said before text (Some line) spells well =
+    list_all-append opens_well before (line ∷ []) ∙ and_from (list_all opens_well before) (opens_well line && true) well (and_from (opens_well line) true (opens-spelled text line spells) refl)
+
+pub says-open : (before : List Line) (texts : List (List ℕ)) (lines : List Line) → Says before texts lines → list_all opens_well before ≡ true → list_all opens_well lines ≡ true
+says-open before [] lines says well = subst (λ (ls : List Line). list_all opens_well ls ≡ true) (sym says) well
+says-open before (text ∷ texts) lines says well = says-open (with_said before says.0) texts lines says.3 (opens-said before text says.0 says.1 well)
 
 -- the texts say one list of lines
 pub one_list_of_lines : OneListOfKeys → (before : List Line) (texts : List (List ℕ)) (lines others : List Line) → Says before texts lines → Says before texts others → lines ≡ others

@@ -4,7 +4,7 @@ use Rattle.std.specs.Ordering.{match_ordering, nat_cmp}
 use Rattle.std.specs.Cmp.{nat_cmp_total}
 use Rattle.std.proofs.lemmas.Cmp.{tied_itself}
 use Rattle.skk_top.specs.Sessions.{SessionMap, with_session}
-use Rattle.skk_top.specs.declared.session_machine.Session.{Session}
+use Rattle.session_machine.specs.Session.{Session}
 
 -- of two sessions that are put into one place the later stays
 pub put_again : (sessions : SessionMap) (number : ℕ) (first later : Session) → with_session (with_session sessions number first) number later ≡ with_session sessions number later

@@ -1,11 +1,12 @@
 -- What a run of the program leaves, by what its words are.
-use Rattle.std.proofs.Common.{◌≡◌, ◌≢◌, ◌≤◌, ◌⊎◌, ◌↔◌, ◌∙◌, sym, ap, subst, refl, ℕ, true, false, Option, None, Some, is_some, Ok, Err, List, map, IfSome, arith, rules, inl, inr}
+use Rattle.std.proofs.Common.{◌≡◌, ◌≢◌, ◌≤◌, ◌⊎◌, ◌↔◌, ◌∙◌, sym, ap, subst, refl, ℕ, true, false, Option, None, Some, is_some, Ok, Err, List, [], map, IfSome, arith, rules, inl, inr}
 use Rattle.std.specs.Io.KnownBytes.{Keeps}
 use Rattle.std.specs.Option.{option_and_then}
 use Rattle.std.proofs.lemmas.Bool.{both_ways, or_left, or_right}
 use Rattle.std.proofs.lemmas.Option.{MatchOption-from_none, none-some}
 use Rattle.skk_outside.specs.Faults.{Rose}
 use Rattle.romaji_rules.specs.Standard.{standard}
+use Rattle.skk_calls.specs.declared.chronicle.Noted.{Noted}
 use Rattle.skk_top.specs.CheckCommand.{LeavesChecked}
 use Rattle.skk_top.specs.Command.{command_of, dictionaries_alone, file_checked, dictionaries_to_type, file_to_check, are_built_words}
 use Rattle.skk_top.specs.Status.{Ended, IsStatus, Tells, run_status, run_message, message_of, message_at}
@@ -17,14 +18,15 @@ use Rattle.skk_top.proofs.Runs.{IfSome-all, Keeps-self}
 
 -- what a run leaves, by its status: of the files there are, the counts of the shelf's faults; what the input had and has
 -- left with the counts of its own; and what was and is written with those of both sinks
-abbrev pub LeavesRun : (given : List (List ℕ)) (result : ℕ) (file : List ℕ → Option (List ℕ)) (reads reads' : ℕ) (left left' : Option (List ℕ)) (takes takes' : ℕ)
+abbrev pub LeavesRun : (given : List (List ℕ)) (result : ℕ) (chronicle : List Noted) (file : List ℕ → Option (List ℕ)) (reads reads' : ℕ) (left left' : Option (List ℕ)) (takes takes' : ℕ)
     (written written' : Option (List ℕ)) (writes writes' : ℕ) (said said' : Option (List ℕ)) (tells tells' : ℕ) → Type 0
-LeavesRun given result file reads reads' left left' takes takes' written written' writes writes' said said' tells tells' = record {
+LeavesRun given result chronicle file reads reads' left left' takes takes' written written' writes writes' said said' tells tells' = record {
   status : IsStatus result;
   words : (result ≡ 1) ↔ (command_of given ≡ None);
   not_built : IfSome (command_of given) (λ command. are_built_words given ≡ false → result ≡ 8);
   unread : dictionaries_to_type given ≡ None → Keeps left left';
   untouched : are_built_words given ≡ false → Keeps written written';
+  uncalled : dictionaries_to_type given ≡ None → chronicle ≡ [];
   outside : result ≡ 4 → Rose reads reads' ⊎ (Rose takes takes' ⊎ Rose writes writes');
   told : result ≢ 2 → result ≢ 3 → Tells (message_at result) said said' tells tells';
   shelf_counted : reads ≤ reads';
@@ -32,18 +34,19 @@ LeavesRun given result file reads reads' left left' takes takes' written written
   out_counted : writes ≤ writes';
   err_counted : tells ≤ tells';
   types : IfSome (dictionaries_to_type given) (λ names.
-      (message : List ℕ) × Tells message said said' tells tells' × LeavesTyped standard result message (map file names) reads reads' left left' takes takes' written written' writes writes');
+      (message : List ℕ) × Tells message said said' tells tells' × LeavesTyped standard result message chronicle (map file names) reads reads' left left' takes takes' written written' writes writes');
   checks : IfSome (file_to_check given)
       (λ name. (message : List ℕ) × Tells message said said' tells tells' × LeavesChecked result message (file name) reads reads' written written' writes writes');
 }
 
--- whichever way its status is told
-pub with-status : (given : List (List ℕ)) (result status : ℕ) (file : List ℕ → Option (List ℕ)) (reads reads' : ℕ) (left left' : Option (List ℕ)) (takes takes' : ℕ)
-    (written written' : Option (List ℕ)) (writes writes' : ℕ) (said said' : Option (List ℕ)) (tells tells' : ℕ) → result ≡ status
-    → LeavesRun given status file reads reads' left left' takes takes' written written' writes writes' said said' tells tells'
-    → LeavesRun given result file reads reads' left left' takes takes' written written' writes writes' said said' tells tells'
-with-status given result status file reads reads' left left' takes takes' written written' writes writes' said said' tells tells' is leaves =
-    subst (λ s. LeavesRun given s file reads reads' left left' takes takes' written written' writes writes' said said' tells tells') (sym is) leaves
+-- whichever way its status and its chronicle are told
+pub with-finish : (given : List (List ℕ)) (result status : ℕ) (chronicle noted : List Noted) (file : List ℕ → Option (List ℕ)) (reads reads' : ℕ) (left left' : Option (List ℕ)) (takes takes' : ℕ)
+    (written written' : Option (List ℕ)) (writes writes' : ℕ) (said said' : Option (List ℕ)) (tells tells' : ℕ) → result ≡ status → chronicle ≡ noted
+    → LeavesRun given status noted file reads reads' left left' takes takes' written written' writes writes' said said' tells tells'
+    → LeavesRun given result chronicle file reads reads' left left' takes takes' written written' writes writes' said said' tells tells'
+with-finish given result status chronicle noted file reads reads' left left' takes takes' written written' writes writes' said said' tells tells' is same leaves =
+    subst (λ s. LeavesRun given s chronicle file reads reads' left left' takes takes' written written' writes writes' said said' tells tells') (sym is)
+    (subst (λ (noted : List Noted). LeavesRun given status noted file reads reads' left left' takes takes' written written' writes writes' said said' tells tells') (sym same) leaves)
 
 -- a status is one of those that there are, and says what is told but for 2 and 3
 is-status : (ended : Ended) → IsStatus (run_status ended)
@@ -67,13 +70,14 @@ no_script command name e = refl
 -- words that are no command
 pub leaves-no_command : (given : List (List ℕ)) (file : List ℕ → Option (List ℕ)) (reads : ℕ) (left : Option (List ℕ)) (takes : ℕ) (written : Option (List ℕ)) (writes : ℕ)
     (said said' : Option (List ℕ)) (tells tells' : ℕ) → command_of given ≡ None → Tells (message_of Words) said said' tells tells' → tells ≤ tells'
-    → LeavesRun given 1 file reads reads left left takes takes written written writes writes said said' tells tells'
+    → LeavesRun given 1 [] file reads reads left left takes takes written written writes writes said said' tells tells'
 leaves-no_command given file reads left takes written writes said said' tells tells' none told counted = record {
   status = inr (inl refl);
   words = (λ e. none, λ e. refl);
   not_built = MatchOption-from_none (command_of given) _ none;
   unread = λ e. Keeps-self left;
   untouched = λ e. Keeps-self written;
+  uncalled = λ e. refl;
   outside = λ e. absurd (omega (arith, e));
   told = λ two three. told;
   shelf_counted = omega arith;
@@ -88,7 +92,7 @@ leaves-no_command given file reads left takes written writes said said' tells te
 pub leaves-check : (given : List (List ℕ)) (command : Command) (name : List ℕ) (ended : Ended) (file : List ℕ → Option (List ℕ)) (reads reads' : ℕ) (left : Option (List ℕ)) (takes : ℕ)
     (written written' : Option (List ℕ)) (writes writes' : ℕ) (said said' : Option (List ℕ)) (tells tells' : ℕ) → command_of given ≡ Some command → file_checked command ≡ Some name
     → LeavesChecked (run_status ended) (run_message ended) (file name) reads reads' written written' writes writes' → Tells (run_message ended) said said' tells tells' → tells ≤ tells'
-    → LeavesRun given (run_status ended) file reads reads' left left takes takes written written' writes writes' said said' tells tells'
+    → LeavesRun given (run_status ended) [] file reads reads' left left takes takes written written' writes writes' said said' tells tells'
 leaves-check given command name ended file reads reads' left takes written written' writes writes' said said' tells tells' read named leaves told counted =
     let checking : file_to_check given ≡ Some name = ap (option_and_then file_checked) read ∙ named in
     let other : dictionaries_to_type given ≡ None = ap (option_and_then dictionaries_alone) read ∙ no_script command name named in
@@ -99,6 +103,7 @@ leaves-check given command name ended file reads reads' left takes written writt
       not_built = IfSome-all (command_of given) _ (λ c unbuilt. absurd (both_ways (are_built_words given) unbuilt built));
       unread = λ e. Keeps-self left;
       untouched = λ unbuilt. absurd (both_ways (are_built_words given) unbuilt built);
+      uncalled = λ e. refl;
       outside = λ four. elim (leaves.outside four) [ inl shelf ↦ inl shelf | inr out ↦ inr (inr out) ];
       told = λ two three. subst (λ m. Tells m said said' tells tells') (told-of ended two three) told;
       shelf_counted = leaves.reads_counted;
@@ -115,13 +120,14 @@ leaves-check given command name ended file reads reads' left takes written writt
 pub leaves-not_built : (given : List (List ℕ)) (command : Command) (file : List ℕ → Option (List ℕ)) (reads : ℕ) (left : Option (List ℕ)) (takes : ℕ) (written : Option (List ℕ)) (writes : ℕ)
     (said said' : Option (List ℕ)) (tells tells' : ℕ) → command_of given ≡ Some command → file_checked command ≡ None → dictionaries_alone command ≡ None
     → Tells (message_of NotBuilt) said said' tells tells' → tells ≤ tells'
-    → LeavesRun given 8 file reads reads left left takes takes written written writes writes said said' tells tells'
+    → LeavesRun given 8 [] file reads reads left left takes takes written written writes writes said said' tells tells'
 leaves-not_built given command file reads left takes written writes said said' tells tells' read unnamed other told counted = record {
   status = search rules;
   words = (λ one. absurd (omega (arith, one)), λ none. absurd (none-some command (sym none ∙ read)));
   not_built = IfSome-all (command_of given) _ (λ c unbuilt. refl);
   unread = λ e. Keeps-self left;
   untouched = λ e. Keeps-self written;
+  uncalled = λ e. refl;
   outside = λ e. absurd (omega (arith, e));
   told = λ two three. told;
   shelf_counted = omega arith;
@@ -133,11 +139,11 @@ leaves-not_built given command file reads left takes written writes said said' t
 }
 
 -- a script to type
-pub leaves-typed : (given : List (List ℕ)) (command : Command) (names : List (List ℕ)) (ended : Ended) (file : List ℕ → Option (List ℕ)) (reads reads' : ℕ) (left left' : Option (List ℕ)) (takes takes' : ℕ)
+pub leaves-typed : (given : List (List ℕ)) (command : Command) (names : List (List ℕ)) (ended : Ended) (chronicle : List Noted) (file : List ℕ → Option (List ℕ)) (reads reads' : ℕ) (left left' : Option (List ℕ)) (takes takes' : ℕ)
     (written written' : Option (List ℕ)) (writes writes' : ℕ) (said said' : Option (List ℕ)) (tells tells' : ℕ) → command_of given ≡ Some command → file_checked command ≡ None → dictionaries_alone command ≡ Some names
-    → LeavesTyped standard (run_status ended) (run_message ended) (map file names) reads reads' left left' takes takes' written written' writes writes' → Tells (run_message ended) said said' tells tells' → tells ≤ tells'
-    → LeavesRun given (run_status ended) file reads reads' left left' takes takes' written written' writes writes' said said' tells tells'
-leaves-typed given command names ended file reads reads' left left' takes takes' written written' writes writes' said said' tells tells' read unnamed alone leaves told counted =
+    → LeavesTyped standard (run_status ended) (run_message ended) chronicle (map file names) reads reads' left left' takes takes' written written' writes writes' → Tells (run_message ended) said said' tells tells' → tells ≤ tells'
+    → LeavesRun given (run_status ended) chronicle file reads reads' left left' takes takes' written written' writes writes' said said' tells tells'
+leaves-typed given command names ended chronicle file reads reads' left left' takes takes' written written' writes writes' said said' tells tells' read unnamed alone leaves told counted =
     let typing : dictionaries_to_type given ≡ Some names = ap (option_and_then dictionaries_alone) read ∙ alone in
     let built : are_built_words given ≡ true = or_left (is_some (dictionaries_to_type given)) (is_some (file_to_check given)) (ap is_some typing) in
     record {
@@ -146,6 +152,7 @@ leaves-typed given command names ended file reads reads' left left' takes takes'
       not_built = IfSome-all (command_of given) _ (λ c unbuilt. absurd (both_ways (are_built_words given) unbuilt built));
       unread = λ none. absurd (none-some names (sym none ∙ typing));
       untouched = λ unbuilt. absurd (both_ways (are_built_words given) unbuilt built);
+      uncalled = λ none. absurd (none-some names (sym none ∙ typing));
       outside = leaves.outside;
       told = λ two three. subst (λ m. Tells m said said' tells tells') (told-of ended two three) told;
       shelf_counted = leaves.opens_counted;
@@ -154,7 +161,7 @@ leaves-typed given command names ended file reads reads' left left' takes takes'
       err_counted = counted;
       types = subst (λ o. IfSome o (λ ns.
           (message : List ℕ) × Tells message said said' tells tells'
-          × LeavesTyped standard (run_status ended) message (map file ns) reads reads' left left' takes takes' written written' writes writes'))
+          × LeavesTyped standard (run_status ended) message chronicle (map file ns) reads reads' left left' takes takes' written written' writes writes'))
           (sym typing) (run_message ended, told, leaves);
       checks = MatchOption-from_none (file_to_check given) _ (ap (option_and_then file_checked) read ∙ unnamed);
     }

@@ -9,12 +9,24 @@ use Rattle.std.specs.Str.Parse.{digits_value}
 use Rattle.std.proofs.lemmas.Bool.{cases_Bool, cases_lt, and_parts, false_from_ne_true, ne_eqb, eq-eqb, ltb-true, leb-true, le-leb, lt-leb, and_left, and_right}
 use Rattle.std.proofs.lemmas.Fmt.{decimal_is_IsNumeral}
 use Rattle.std.proofs.Math.Seq.{drop-append-add}
-use Rattle.std.proofs.lemmas.List.{get_or-append-add, get_or_at, get_or_past, take_at}
+use Rattle.std.proofs.lemmas.List.{at_drop_more, get_or-append-add, get_or_at, get_or_past, take-append-drop, take_at}
 use Rattle.std.proofs.lemmas.Slice.Eq.{bytes_eq-Decides}
-use Rattle.std.proofs.lemmas.Str.{byte_from_char, char_from_byte, encode_ascii, encodes-chars, chars-IsAscii, encodes-IsAscii}
+use Rattle.std.proofs.lemmas.Str.{byte_from_char, char_from_byte, chars-append, chars_past_char, encode_ascii, encodes-chars, chars-IsAscii, encodes-IsAscii, IsCharBoundary-before_ascii, IsUtf8-drop, IsUtf8-take}
 use Rattle.std.proofs.lemmas.Str.Parse.{digit_at}
 use Rattle.skk_top.specs.Words.{is_name, number_within, with_character, cut}
-use Rattle.skk_top.proofs.Escapes.{chars-split}
+
+-- the characters of a text are those before an ASCII byte, that byte, and those behind it
+chars-split : (text : List ℕ) (place : ℕ) → IsUtf8 text → place < length text → get_or text place 0 < 128
+    → IsUtf8 (take place text) × (chars text ≡ chars (take place text) ++ get_or text place 0 ∷ chars (drop (place + 1) text))
+chars-split text place utf8 within small =
+    let byte = get_or text place 0 in
+    let front = take place text in
+    let behind = drop (place + 1) text in
+    let cut = IsCharBoundary-before_ascii text place within small in
+    let front_utf8 = IsUtf8-take text place utf8 cut in
+    let rest : drop place text ≡ encode byte ++ behind = at_drop_more (λ xs. xs) text place 0 within ∙ ap (λ bs. bs ++ behind) (sym (encode_ascii byte small)) in
+    let rest_chars : chars (drop place text) ≡ byte ∷ chars behind = chars_past_char (drop place text) behind byte (IsUtf8-drop text place utf8 cut) rest in
+    (front_utf8, ap chars (sym (take-append-drop place text)) ∙ chars-append front (drop place text) front_utf8 ∙ ap (λ cs. chars front ++ cs) rest_chars)
 
 -- a text begins with `-` where its bytes do
 first-test : (b : Bool) (c : ℕ) (bs rest : List ℕ) → bs ≡ encode c ++ rest → 0 < length bs → Decides b (get_or bs 0 0 ≡ 45) → not b ≡ not (c == 45)

@@ -1,10 +1,10 @@
 -- Scripts: what each line says, and which line is the first that is none.
-use Rattle.std.specs.Prelude.{◌≡◌, ◌⊎◌, ◌≤◌, ◌+◌, ℕ, Bool, false, ◌==◌, nat_eq, Option, Some, None, List, [], ◌∷◌, ◌++◌, length, map, ⊤, Contains}
+use Rattle.std.specs.Prelude.{◌≡◌, ◌⊎◌, ◌≤◌, ◌+◌, ℕ, Bool, true, false, ◌==◌, ◌||◌, nat_eq, Option, Some, None, List, [], ◌∷◌, ◌++◌, length, map, ⊤, Contains}
 use Rattle.std.specs.Fmt.{decimal}
 use Rattle.std.specs.List.{list_all, list_any}
 use Rattle.skk_text.specs.KeyText.{spelled, AreKeys}
 use Rattle.skk_text.specs.Lines.{lines_of}
-use Rattle.skk_top.specs.Characters.{code, carriage_return}
+use Rattle.skk_text.specs.Characters.{code, carriage_return}
 use Rattle.skk_top.specs.declared.line.Line.{Line}
 use Rattle.skk_top.specs.declared.line.Line.TheVariants.{Keys, Opening}
 
@@ -75,6 +75,11 @@ pub record IsFirstBad (texts : List (List ℕ)) (number : ℕ) : Type 0 where
   pub said : Says [] before lines
   pub none : (said : Option Line) → Spells bad said → MayFollow lines said → ⊥
   pub place : number ≡ length before + 1
+
+-- whether the book of an opening line is the shared one, or its typist's
+abbrev pub opens_well : Line → Bool
+opens_well (Keys session ks) = true
+opens_well (Opening session typist book) = book == 0 || book == typist
 
 -- whether a line is built so far: keys of session 1
 abbrev pub is_built_line : Line → Bool

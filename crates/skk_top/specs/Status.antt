@@ -1,5 +1,5 @@
 -- How a run ends: its status, and its line on standard error.
-use Rattle.std.specs.Prelude.{◌≡◌, ◌⊎◌, ℕ, true, ◌==◌, if◌then◌else◌, Option, Result, Ok, Err, List, ◌++◌, [], ◌∷◌, codes}
+use Rattle.std.specs.Prelude.{◌≡◌, ◌⊎◌, ℕ, Bool, true, ◌==◌, if◌then◌else◌, Option, Result, Ok, Err, List, ◌++◌, [], ◌∷◌, codes}
 use Rattle.std.specs.Fmt.{decimal}
 use Rattle.std.specs.Io.KnownBytes.{Appends}
 use Rattle.std.specs.List.{list_any}
@@ -8,8 +8,8 @@ use Rattle.skk_outside.specs.Written.{AppendsPrefix}
 use Rattle.skk_outside.specs.declared.source.ReadFault.{ReadFault}
 use Rattle.skk_outside.specs.declared.source.ReadFault.TheVariants as reading
 use Rattle.skk_text.specs.Lines.{line_feed}
-use Rattle.skk_top.specs.declared.session_machine.PressFault.{PressFault}
-use Rattle.skk_top.specs.declared.session_machine.PressFault.TheVariants as pressing
+use Rattle.session_machine.specs.declared.session.PressFault.{PressFault}
+use Rattle.session_machine.specs.declared.session.PressFault.TheVariants as pressing
 use Rattle.skk_top.specs.declared.script.ScriptFault.{ScriptFault}
 use Rattle.skk_top.specs.declared.script.ScriptFault.TheVariants as scripts
 use Rattle.skk_top.specs.declared.fault.RunFault.{RunFault}
@@ -34,6 +34,11 @@ status_of NotBuilt = 8
 abbrev pub run_status : Ended → ℕ
 run_status (Ok done) = 0
 run_status (Err fault) = status_of fault
+
+-- how a run ends by how its typing ended and whether a call of it was refused: out of memory, unless something else ended it
+abbrev pub end_unless_refused : Ended → Bool → Ended
+end_unless_refused (Ok done) has_refused = if has_refused then Err Memory else Ok done
+end_unless_refused (Err fault) has_refused = Err fault
 
 -- the statuses that there are so far
 abbrev pub IsStatus : ℕ → Type 0

@@ -1,16 +1,23 @@
 -- What a run of `type` leaves.
-use Rattle.std.specs.Prelude.{◌≡◌, ◌≢◌, ◌⊎◌, ◌+◌, ◌<◌, ◌≤◌, ℕ, true, false, Some, Option, Result, List, [], ◌∷◌, MatchBool, IfOk, IfErr, IfSome, OnOk, OnErr, IsErrOf, Contains, length}
+use Rattle.std.specs.Prelude.{◌≡◌, ◌≢◌, ◌⊎◌, ◌+◌, ◌++◌, ◌<◌, ◌≤◌, ℕ, true, false, Some, Option, Result, List, [], ◌∷◌, MatchBool, IfOk, IfErr, IfSome, OnOk, OnErr, IsErrOf, Contains, length}
 use Rattle.std.specs.Io.KnownBytes.{Appends, IsAtEnd, Keeps}
 use Rattle.skk_outside.specs.Faults.{Rose}
 use Rattle.skk_outside.specs.Taken.{TakesAtMost}
 use Rattle.skk_outside.specs.Written.{AppendsPrefix}
 use Rattle.skk_outside.specs.declared.source.TheConstants.{PIECE}
 use Rattle.romaji_rules.specs.declared.rule.Rule.{Rule}
+use Rattle.skk_calls.specs.declared.answer.Answer.{Answer}
+use Rattle.skk_calls.specs.declared.chronicle.Noted.{Noted}
+use Rattle.skk_calls.specs.Chronicles.{history_of}
+use Rattle.skk_calls.specs.Interactions.{Dialog, asked, end_of, answers_of, calls_of, IsAnsweredAlone}
+use Rattle.skk_calls.specs.Rows.{Row}
+use Rattle.skk_calls.specs.States.{empty_state}
 use Rattle.skk_text.specs.Lines.{lines_of}
-use Rattle.skk_top.specs.Dictionaries.{AreDictionaries, IsNoDictionary, TellsDictionaries}
+use Rattle.skk_top.specs.Answering.{IsLegalOver, IsChronicleOver, are_served, are_of_one, said_in}
+use Rattle.skk_top.specs.Dictionaries.{AreDictionaries, AreRowsOf, IsNoDictionary, TellsDictionaries}
 use Rattle.skk_top.specs.Script.{IsScript, IsFirstBad, are_built, script_limit}
 use Rattle.skk_top.specs.Status.{Ended, message_of, HasStatus}
-use Rattle.skk_top.specs.Typed.{typed, are_taken}
+use Rattle.skk_top.specs.Typed.{typed, typed_alone, typing}
 use Rattle.skk_top.specs.declared.fault.RunFault.{RunFault}
 use Rattle.skk_top.specs.declared.fault.RunFault.TheVariants.{TooLong, BadLine, Outside, NotBuilt}
 use Rattle.skk_top.specs.declared.line.Line.{Line}
@@ -32,29 +39,40 @@ abbrev pub IsRefusal : List ℕ → List ℕ → Type 0
 IsRefusal bytes message =
     (IsTooLong bytes × (message ≡ message_of TooLong)) ⊎ ((number : ℕ) × IsBadAt bytes number × (message ≡ message_of (BadLine number)))
 
--- where bytes are a script, a prefix of what is typed for its lines was written, and with status 0 all of it; nothing,
--- where a line is not built
-abbrev pub PrintsScript : List Rule → ℕ → List ℕ → Option (List ℕ) → Option (List ℕ) → Type 0
-PrintsScript rules status bytes old new =
+-- where bytes are a script, a prefix of what is typed for its lines by these answers was written, and with status 0 all of
+-- it; nothing, where a line is not built
+abbrev pub PrintsScript : List Rule → ℕ → List ℕ → List Answer → Option (List ℕ) → Option (List ℕ) → Type 0
+PrintsScript rules status bytes answers old new =
     (lines : List Line) → IsScript bytes lines → MatchBool (are_built lines)
-    (AppendsPrefix old new (typed rules lines) × (status ≡ 0 → Appends old new (typed rules lines)))
+    (AppendsPrefix old new (typed rules lines answers) × (status ≡ 0 → Appends old new (typed rules lines answers)))
     (Keeps old new)
 
--- bytes are a script whose lines are built and whose keys are taken
-abbrev pub IsTypedWhole : List Rule → List ℕ → Type 0
-IsTypedWhole rules bytes =
-    (lines : List Line) × IsScript bytes lines × (are_built lines ≡ true) × (are_taken rules lines ≡ true)
+-- where bytes are a script, what was written is typed for its lines where the dictionary of one thread answers
+abbrev pub PrintsAlone : List Rule → List ℕ → List (List Row) → Option (List ℕ) → Option (List ℕ) → Type 0
+PrintsAlone rules bytes files old new =
+    (lines : List Line) → IsScript bytes lines → Appends old new (typed_alone rules lines files)
 
--- bytes are a script with a line that is not built, or with a key that is not taken
-abbrev pub IsNotBuilt : List Rule → List ℕ → Type 0
-IsNotBuilt rules bytes =
-    (lines : List Line) × IsScript bytes lines × ((are_built lines ≡ false) ⊎ (are_taken rules lines ≡ false))
+-- where bytes are a script, the calls that were made are those that its lines ask, each by the answers before it
+abbrev pub AsksScript : List Rule → List ℕ → Dialog → Type 0
+AsksScript rules bytes said =
+    (lines : List Line) → IsScript bytes lines → asked (typing rules [] lines) (answers_of said) ≡ calls_of said
 
--- what a run of `type` leaves, by its status and its line on standard error: of what its dictionaries' files have, the
--- counts of the shelf's faults; what its source had and has left with the counts of its own; and what its sink was and is
--- written with the counts of its own
-pub record LeavesTyped (rules : List Rule) (status : ℕ) (message : List ℕ) (files : List (Option (List ℕ))) (opens opens' : ℕ)
-    (left left' : Option (List ℕ)) (reads reads' : ℕ) (written written' : Option (List ℕ)) (writes writes' : ℕ) : Type 0 where
+-- bytes are a script whose lines are built, and these answers lead through all of its keys
+abbrev pub IsTypedWhole : List Rule → List ℕ → List Answer → Type 0
+IsTypedWhole rules bytes answers =
+    (lines : List Line) × IsScript bytes lines × (are_built lines ≡ true) × (end_of (typing rules [] lines) answers ≡ Some true)
+
+-- bytes are a script with a line that is not built, or these answers lead to a key that is not
+abbrev pub IsNotBuilt : List Rule → List ℕ → List Answer → Type 0
+IsNotBuilt rules bytes answers =
+    (lines : List Line) × IsScript bytes lines
+    × ((are_built lines ≡ false) ⊎ (end_of (typing rules [] lines) answers ≡ Some false))
+
+-- what a run of `type` leaves, by its status, its line on standard error and its chronicle: of what its dictionaries' files
+-- have, the counts of the shelf's faults; what its source had and has left with the counts of its own; and what its sink
+-- was and is written with the counts of its own
+pub record LeavesTyped (rules : List Rule) (status : ℕ) (message : List ℕ) (chronicle : List Noted) (files : List (Option (List ℕ)))
+    (opens opens' : ℕ) (left left' : Option (List ℕ)) (reads reads' : ℕ) (written written' : Option (List ℕ)) (writes writes' : ℕ) : Type 0 where
   pub words : status ≢ 1
   pub opened : status ≢ 3 → status ≢ 4 → status ≢ 6 → AreDictionaries files
   pub nothing_unopened : (bytes : List ℕ) → Contains files (Some bytes) → IsNoDictionary bytes → Keeps written written'
@@ -62,14 +80,21 @@ pub record LeavesTyped (rules : List Rule) (status : ℕ) (message : List ℕ) (
   pub unopened_unread : status ≡ 3 → Keeps left left'
   pub unopened_unwritten : status ≡ 3 → Keeps written written'
   pub ended : status ≡ 0 → IsAtEnd left'
-  pub whole : status ≡ 0 → IfSome left (IsTypedWhole rules)
+  pub whole : status ≡ 0 → IfSome left (λ bytes. IsTypedWhole rules bytes (answers_of (said_in chronicle)))
   pub read : TakesAtMost left left' (script_limit + PIECE)
-  pub prints : IfSome left (λ bytes. PrintsScript rules status bytes written written')
+  pub prints : IfSome left (λ bytes. PrintsScript rules status bytes (answers_of (said_in chronicle)) written written')
   pub nothing : IfSome left (λ bytes. IsRefused bytes → Keeps written written')
   pub nothing_refused : status ≡ 2 → Keeps written written'
   pub refused : status ≡ 2 → IfSome left (λ bytes. IsRefusal bytes message)
   pub outside : status ≡ 4 → Rose opens opens' ⊎ (Rose reads reads' ⊎ Rose writes writes')
-  pub not_built : status ≡ 8 → IfSome left (IsNotBuilt rules)
+  pub not_built : status ≡ 8 → IfSome left (λ bytes. IsNotBuilt rules bytes (answers_of (said_in chronicle)))
+  pub asks : IfSome left (λ bytes. AsksScript rules bytes (said_in chronicle))
+  pub one : are_of_one chronicle ≡ true
+  pub legal : IsChronicleOver files chronicle
+  pub served : status ≡ 0 → are_served chronicle ≡ true
+  pub alone : status ≡ 0 → (books : List (List Row)) × AreRowsOf books files × IsLegalOver books chronicle
+      × IfSome left (λ bytes. PrintsAlone rules bytes books written written')
+  pub uncalled : (status ≡ 2) ⊎ (status ≡ 3) → history_of chronicle ≡ []
   pub opens_counted : opens ≤ opens'
   pub reads_counted : reads ≤ reads'
   pub writes_counted : writes ≤ writes'
@@ -85,12 +110,26 @@ pub record LeavesScript (result : Result (List Line) RunFault) (left left' : Opt
   pub read : TakesAtMost left left' (script_limit + PIECE)
   pub counted : reads ≤ reads'
 
--- what the typing of lines leaves in a sink, by how it ends
-pub record LeavesLines (rules : List Rule) (lines : List Line) (ended : Ended) (written written' : Option (List ℕ)) (writes writes' : ℕ) : Type 0 where
-  pub whole : OnOk ended (Appends written written' (typed rules lines))
-  pub prefix : OnErr ended (AppendsPrefix written written' (typed rules lines))
-  pub taken : OnOk ended (are_taken rules lines ≡ true)
-  pub not_built : IsErrOf ended NotBuilt → are_taken rules lines ≡ false
+-- what the typing of lines leaves in a sink and with a caller, by how it ends
+pub record LeavesLines (rules : List Rule) (lines : List Line) (ended : Ended) (said said' : Dialog) (written written' : Option (List ℕ)) (writes writes' : ℕ) : Type 0 where
+  pub dialog : Dialog
+  pub grows : said' ≡ said ++ dialog
+  pub asks : asked (typing rules [] lines) (answers_of dialog) ≡ calls_of dialog
+  pub whole : OnOk ended (Appends written written' (typed rules lines (answers_of dialog)))
+  pub prefix : OnErr ended (AppendsPrefix written written' (typed rules lines (answers_of dialog)))
+  pub taken : OnOk ended (end_of (typing rules [] lines) (answers_of dialog) ≡ Some true)
+  pub not_built : IsErrOf ended NotBuilt → end_of (typing rules [] lines) (answers_of dialog) ≡ Some false
   pub outside : IsErrOf ended Outside → Rose writes writes'
   pub fault : IfErr ended (HasStatus (4 ∷ 6 ∷ 8 ∷ []))
   pub counted : writes ≤ writes'
+
+-- what the typing of lines over system files leaves, by how it ends and its chronicle: what it leaves in a sink and with the
+-- caller, whose calls are all of the chronicle and legal; and at the end they were served as by the dictionary of one thread
+pub record LeavesAnswered (rules : List Rule) (lines : List Line) (books : List (List Row)) (ended : Ended) (chronicle : List Noted)
+    (written written' : Option (List ℕ)) (writes writes' : ℕ) : Type 0 where
+  pub typing : LeavesLines rules lines ended [] (said_in chronicle) written written' writes writes'
+  pub one : are_of_one chronicle ≡ true
+  pub legal : (chronicle ≡ []) ⊎ IsLegalOver books chronicle
+  pub opened : OnOk ended (IsLegalOver books chronicle)
+  pub served : OnOk ended (are_served chronicle ≡ true)
+  pub alone : OnOk ended (IsAnsweredAlone books empty_state (said_in chronicle))

@@ -1,10 +1,15 @@
--- What is printed for the lines of a script.
-use Rattle.std.specs.Prelude.{ℕ, Bool, true, false, List, [], ◌∷◌, ◌++◌, encode_utf8_all}
+-- What is asked and printed for the lines of a script.
+use Rattle.std.specs.Prelude.{ℕ, Bool, true, false, List, [], ◌∷◌, encode_utf8_all}
 use Rattle.std.specs.List.{flat_map}
 use Rattle.std.specs.Option.{option_map_or}
 use Rattle.romaji_rules.specs.declared.rule.Rule.{Rule}
+use Rattle.skk_calls.specs.declared.answer.Answer.{Answer}
+use Rattle.skk_calls.specs.Interactions.{Interaction, ends, prints, followed_by, printed, printed_alone}
+use Rattle.skk_calls.specs.Rows.{Row}
+use Rattle.skk_calls.specs.States.{empty_state}
+use Rattle.session_machine.specs.Pressed.{all_pressed}
+use Rattle.session_machine.specs.Session.{new_session}
 use Rattle.skk_top.specs.Printing.{output_line, closing_line}
-use Rattle.skk_top.specs.SessionMachine.{new_session, after_keys}
 use Rattle.skk_top.specs.Sessions.{SessionMap, session_or_new, with_session}
 use Rattle.skk_top.specs.declared.line.Line.{Line}
 use Rattle.skk_top.specs.declared.line.Line.TheVariants.{Keys, Opening}
@@ -13,29 +18,21 @@ use Rattle.skk_top.specs.declared.line.Line.TheVariants.{Keys, Opening}
 abbrev pub closing_lines : SessionMap → List ℕ
 closing_lines sessions = flat_map (λ entry. closing_line entry.0 entry.1) sessions
 
--- the characters printed for lines from these sessions on: an output line for each key line, up to the first with a
--- key that is not taken, and the closing lines where there is none such
-abbrev pub typed_from : List Rule → SessionMap → List Line → List ℕ
-typed_from rules sessions [] = closing_lines sessions
-typed_from rules sessions (Keys number ks ∷ lines) =
-    option_map_or (λ next. output_line number next ++ typed_from rules (with_session sessions number next) lines)
-    (after_keys rules (session_or_new sessions number) ks) []
-typed_from rules sessions (Opening number typist book ∷ lines) =
-    typed_from rules (with_session sessions number new_session) lines
+-- what lines come to from these sessions on: what their keys ask, an output line behind each key line, and the closing
+-- lines; it ends with whether each key is built, at the first that is not
+abbrev pub typing : List Rule → SessionMap → List Line → Interaction Bool
+typing rules sessions [] = prints (closing_lines sessions) (ends true)
+typing rules sessions (Keys number ks ∷ lines) =
+    followed_by (all_pressed rules (session_or_new sessions number) ks)
+    (λ next. option_map_or (λ session. prints (output_line number session) (typing rules (with_session sessions number session) lines)) next (ends false))
+typing rules sessions (Opening number typist book ∷ lines) =
+    typing rules (with_session sessions number (new_session typist book)) lines
 
--- the bytes printed for the lines of a script
-abbrev pub typed : List Rule → List Line → List ℕ
-typed rules lines = encode_utf8_all (typed_from rules [] lines)
+-- the bytes printed for the lines of a script where their calls get these answers
+abbrev pub typed : List Rule → List Line → List Answer → List ℕ
+typed rules lines answers = encode_utf8_all (printed (typing rules [] lines) answers)
 
--- whether each key of the lines is taken, from these sessions on
-abbrev pub are_taken_from : List Rule → SessionMap → List Line → Bool
-are_taken_from rules sessions [] = true
-are_taken_from rules sessions (Keys number ks ∷ lines) =
-    option_map_or (λ next. are_taken_from rules (with_session sessions number next) lines)
-    (after_keys rules (session_or_new sessions number) ks) false
-are_taken_from rules sessions (Opening number typist book ∷ lines) =
-    are_taken_from rules (with_session sessions number new_session) lines
-
--- whether each key of a script's lines is taken
-abbrev pub are_taken : List Rule → List Line → Bool
-are_taken rules lines = are_taken_from rules [] lines
+-- the bytes printed for the lines of a script where the dictionary of one thread answers, over these system files and
+-- with nothing learnt before
+abbrev pub typed_alone : List Rule → List Line → List (List Row) → List ℕ
+typed_alone rules lines files = encode_utf8_all (printed_alone files empty_state (typing rules [] lines))

@@ -4,7 +4,7 @@ use Rattle.std.specs.Fmt.{decimal}
 use Rattle.std.specs.Option.{option_map}
 use Rattle.std.specs.Str.{bytes_eq}
 use Rattle.std.specs.Str.Parse.{digits_value}
-use Rattle.skk_top.specs.Characters.{code}
+use Rattle.skk_text.specs.Characters.{code}
 
 -- whether a word may be a file's name: it is not empty and does not begin with `-`
 abbrev pub is_name : List ℕ → Bool

@@ -5,9 +5,10 @@ ghost use Rattle.skk_outside.specs.Faults.{Rose};
 ghost use Rattle.skk_outside.specs.Written.{AppendsPrefix};
 ghost use Rattle.skk_top.specs.Status.{run_status, run_message, Tells};
 
+use crate::finish::{Finish, Run};
 use crate::script::ScriptFault;
-use crate::session_machine::PressFault;
 use itoa::Buffer;
+use session_machine::PressFault;
 use skk_outside::{Failed, ReadFault, Sink, write_all};
 use skk_text::Memory;
 
@@ -32,8 +33,20 @@ pub enum RunFault {
     NotBuilt,
 }
 
-/// Ends a run: tells its fault on `err`, and answers the status to exit with. Takes no memory.
-pub fn end_run<E: Sink>(ended: Result<(), RunFault>, err: &mut E) -> u8
+/// Ends a run: tells its fault on `err`, and answers the status to exit with beside its chronicle. Takes no memory.
+pub fn end_run<E: Sink>(run: Run, err: &mut E) -> Finish
+    ensures status { result.status ≡ run_status run.ended }
+    ensures chronicle { result.chronicle ≡ run.chronicle }
+    ensures told { Tells (run_message run.ended) (E.written err.old) (E.written err.new) (E.faults err.old) (E.faults err.new) }
+    ensures counted { E.faults err.old ≤ E.faults err.new }
+{
+    let Run { ended, chronicle } = run;
+    let status = end(ended, err);
+    Finish { status, chronicle }
+}
+
+// Tells a fault on `err`, and answers the status.
+fn end<E: Sink>(ended: Result<(), RunFault>, err: &mut E) -> u8
     ensures status { result ≡ run_status ended }
     ensures told { Tells (run_message ended) (E.written err.old) (E.written err.new) (E.faults err.old) (E.faults err.new) }
     ensures counted { E.faults err.old ≤ E.faults err.new }

@@ -1,9 +1,4 @@
-ghost use Rattle.std.specs.Prelude.{◌≡◌, ◌≤◌, ℕ, List, [], Some};
-ghost use Rattle.skk_text.specs.Text.{byte_len};
-ghost use Rattle.skk_text.specs.declared.key.Key.{Key};
-ghost use Rattle.romaji_rules.specs.declared.rule.Rule.{Rule};
-ghost use Rattle.skk_top.specs.SessionMachine.{text_limit, new_session, after_keys};
-ghost use Rattle.skk_top.specs.declared.session_machine.Session.{Session};
+ghost use Rattle.std.specs.Prelude.{◌≡◌, ℕ, List, [], Some};
 ghost use Rattle.skk_top.specs.Command.{command_of};
 ghost use Rattle.skk_top.specs.Ranges.{HasNumbersInRange};
 ghost use Rattle.skk_top.specs.Script.{Says, IsFirstBad};
@@ -32,11 +27,6 @@ pub fn one_bad_line()
 {
     one_list_of_keys();
 }
-
-/// No text passes its limit, whatever keys a session is given.
-pub fn texts_have_a_limit()
-    ensures { (rules : List Rule) (keys : List Key) (session : Session) → after_keys rules new_session keys ≡ Some session → byte_len session.text ≤ text_limit }
-{}
 
 /// Each number of a command lies in its range.
 pub fn numbers_lie_in_their_ranges()

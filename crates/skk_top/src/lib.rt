@@ -1,11 +1,12 @@
 //! The top call: all that the program does, over what it is handed of the outside.
 //!
 //! It stands on all crates below. `run_alone` reads the words to a command, runs it, tells on standard
-//! error why a run was not done, and answers the status. Each command has a module of its own and one
-//! relation that says what a run of it leaves. The plain state and the session are private parts, in
-//! modules named as the crates that they are to become.
+//! error why a run was not done, and answers the status and the chronicle of its calls. Each command has a
+//! module of its own and one relation that says what a run of it leaves. What is typed is answered over the
+//! system files by the one caller of a run, which notes its calls.
 #![tactic(auto)]
 
+mod answering;
 mod argument;
 mod check_command;
 mod checking;
@@ -13,8 +14,8 @@ mod command;
 mod command_name;
 mod dictionary;
 mod fault;
+mod finish;
 mod given;
-mod kana_input;
 mod laws;
 mod line;
 mod number;
@@ -22,7 +23,6 @@ mod page;
 mod printing;
 mod run;
 mod script;
-mod session_machine;
 mod setting;
 mod settings;
 #[cfg(test)]
@@ -32,8 +32,6 @@ mod typing;
 mod word;
 
 pub use fault::{RunFault, end_run};
-pub use laws::{
-    no_bad_line_in_a_script, numbers_lie_in_their_ranges, one_bad_line, one_script,
-    texts_have_a_limit,
-};
+pub use finish::{Finish, Run};
+pub use laws::{no_bad_line_in_a_script, numbers_lie_in_their_ranges, one_bad_line, one_script};
 pub use run::run_alone;

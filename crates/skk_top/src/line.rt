@@ -1,6 +1,6 @@
 ghost use Rattle.std.specs.Prelude.{◌≡◌, ◌≢◌, ◌<◌, ◌≤◌, ◌⊎◌, [], ◌++◌, ◌∷◌, IfOk, IsErrOf, IfSome, IsNone, MatchOption, ℕ, Option, List, length, slice_index};
 ghost use Rattle.std.specs.Fmt.{decimal};
-ghost use Rattle.skk_top.specs.Characters.{code};
+ghost use Rattle.skk_text.specs.Characters.{code};
 ghost use Rattle.skk_text.specs.Lines.{lines_of};
 ghost use Rattle.skk_top.specs.Script.{Spells, Follows, IsTypist};
 ghost use Rattle.skk_top.specs.declared.line.Line.{Line};

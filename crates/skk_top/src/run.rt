@@ -1,4 +1,4 @@
-ghost use Rattle.std.specs.Prelude.{◌≡◌, ◌≢◌, ◌≤◌, ◌⊎◌, ◌↔◌, ℕ, List, None, IfSome, false, map};
+ghost use Rattle.std.specs.Prelude.{◌≡◌, ◌≢◌, ◌≤◌, ◌⊎◌, ◌↔◌, ℕ, List, [], None, IfSome, false, map};
 ghost use Rattle.std.specs.Io.KnownBytes.{Keeps};
 ghost use Rattle.skk_outside.specs.Faults.{Rose};
 ghost use Rattle.romaji_rules.specs.Standard.{standard};
@@ -10,6 +10,7 @@ ghost use Rattle.skk_top.specs.TypeCommand.{LeavesTyped};
 use crate::check_command::run_check;
 use crate::command::read_command;
 use crate::fault::{RunFault, end_run};
+use crate::finish::{Finish, Run};
 use crate::type_command::run_type;
 use skk_outside::{Shelf, Sink, Source};
 use skk_text::Text;
@@ -26,21 +27,22 @@ pub fn run_alone<H: Shelf, I: Source, O: Sink, E: Sink>(
     input: &mut I,
     out: &mut O,
     err: &mut E,
-) -> u8
-    ensures status { IsStatus result }
+) -> Finish
+    ensures status { IsStatus result.status }
 
     // Words that are no command, or a command that is not built.
-    ensures words { (result ≡ 1) ↔ (command_of words.now ≡ None) }
-    ensures not_built { IfSome (command_of words.now) (λ command. are_built_words words.now ≡ false → result ≡ 8) }
+    ensures words { (result.status ≡ 1) ↔ (command_of words.now ≡ None) }
+    ensures not_built { IfSome (command_of words.now) (λ command. are_built_words words.now ≡ false → result.status ≡ 8) }
     ensures unread { dictionaries_to_type words.now ≡ None → Keeps (I.left input.old) (I.left input.new) }
     ensures untouched { are_built_words words.now ≡ false → Keeps (O.written out.old) (O.written out.new) }
+    ensures uncalled { dictionaries_to_type words.now ≡ None → result.chronicle ≡ [] }
 
     // A call on the outside failed where the status says so.
-    ensures outside { result ≡ 4 → Rose (H.faults shelf.old) (H.faults shelf.new)
+    ensures outside { result.status ≡ 4 → Rose (H.faults shelf.old) (H.faults shelf.new)
         ⊎ (Rose (I.faults input.old) (I.faults input.new) ⊎ Rose (O.faults out.old) (O.faults out.new)) }
 
     // What is told on standard error.
-    ensures told { result ≢ 2 → result ≢ 3 → Tells (message_at result) (E.written err.old) (E.written err.new) (E.faults err.old) (E.faults err.new) }
+    ensures told { result.status ≢ 2 → result.status ≢ 3 → Tells (message_at result.status) (E.written err.old) (E.written err.new) (E.faults err.old) (E.faults err.new) }
 
     // No count of faults falls.
     ensures shelf_counted { H.faults shelf.old ≤ H.faults shelf.new }
@@ -51,21 +53,21 @@ pub fn run_alone<H: Shelf, I: Source, O: Sink, E: Sink>(
     // What each command leaves.
     ensures types { IfSome (dictionaries_to_type words.now) (λ names. (message : List ℕ)
         × Tells message (E.written err.old) (E.written err.new) (E.faults err.old) (E.faults err.new)
-        × LeavesTyped standard result message (map (H.file shelf.old) names) (H.faults shelf.old) (H.faults shelf.new)
+        × LeavesTyped standard result.status message result.chronicle (map (H.file shelf.old) names) (H.faults shelf.old) (H.faults shelf.new)
         (I.left input.old) (I.left input.new) (I.faults input.old) (I.faults input.new) (O.written out.old) (O.written out.new) (O.faults out.old) (O.faults out.new)) }
     ensures checks { IfSome (file_to_check words.now) (λ name. (message : List ℕ)
         × Tells message (E.written err.old) (E.written err.new) (E.faults err.old) (E.faults err.new)
-        × LeavesChecked result message (H.file shelf.old name) (H.faults shelf.old) (H.faults shelf.new)
+        × LeavesChecked result.status message (H.file shelf.old name) (H.faults shelf.old) (H.faults shelf.new)
         (O.written out.old) (O.written out.new) (O.faults out.old) (O.faults out.new)) }
 {
     let Some(command) = read_command(words) else {
-        return end_run(Err(RunFault::Words), err);
+        return end_run(Run::without_calls(Err(RunFault::Words)), err);
     };
     if let Some(name) = command.file_checked() {
-        return end_run(run_check(alloc, &name, shelf, out), err);
+        return end_run(Run::without_calls(run_check(alloc, &name, shelf, out)), err);
     }
     let Some(names) = command.dictionaries_alone() else {
-        return end_run(Err(RunFault::NotBuilt), err);
+        return end_run(Run::without_calls(Err(RunFault::NotBuilt)), err);
     };
     end_run(run_type(alloc, names, shelf, input, out), err)
 }

@@ -19,25 +19,31 @@ pub enum ScriptFault {
     Memory,
 }
 
-/// A script that was checked whole: contracts see its lines. Nothing is held of the texts that are skipped.
+/// A script that was checked whole: contracts see its lines, of which each opening line has a book that may be. Nothing is
+/// held of the texts that are skipped.
 #[derive(Debug, Drop)]
 pub struct Script {
     lines: Sequence<Line>,
 }
 
 impl Model for Script {
-    ghost use Rattle.std.specs.Prelude.{List};
+    ghost use Rattle.std.specs.Prelude.{◌≡◌, List, true};
+    ghost use Rattle.std.specs.List.{list_all};
+    ghost use Rattle.skk_top.specs.Script.{opens_well};
     ghost use Rattle.skk_top.specs.declared.line.Line.{Line};
 
     ghost Value = { List Line };
 
     ghost view = { λ s. s.lines };
+
+    ghost invariant = { λ s. list_all opens_well s.lines ≡ true };
 }
 
 impl Script {
-    ghost use Rattle.std.specs.Prelude.{◌≡◌, ℕ, [], IfOk, IsErrOf};
+    ghost use Rattle.std.specs.Prelude.{◌≡◌, ℕ, [], true, IfOk, IsErrOf};
+    ghost use Rattle.std.specs.List.{list_all};
     ghost use Rattle.skk_text.specs.Lines.{lines_of};
-    ghost use Rattle.skk_top.specs.Script.{Says, IsFirstBad, are_built};
+    ghost use Rattle.skk_top.specs.Script.{Says, IsFirstBad, are_built, opens_well};
 
     /// Reads a script, and checks it whole. Whether a session was named before costs constant time a line.
     pub fn read(alloc: Global, bytes: &[u8]) -> Result<Script, ScriptFault>
@@ -61,7 +67,8 @@ impl Script {
 
     /// Its lines, in order.
     pub fn lines(&self) -> &[Line]
-        ensures { result.now ≡ self.now }
+        ensures value { result.now ≡ self.now }
+        ensures valid { list_all opens_well self.now ≡ true }
     {
         self.lines.as_slice()
     }

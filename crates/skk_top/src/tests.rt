@@ -1,11 +1,8 @@
 ghost use Rattle.std.specs.Prelude.{Some};
 
-use crate::kana_input::Plain;
-use crate::printing::push_closing_line;
 use crate::run_alone;
-use crate::session_machine::Session;
 use skk_outside::{Failed, MemShelf, MemSink, MemSource, Outside, Sink};
-use skk_text::{Bytes, Notice, Text};
+use skk_text::{Bytes, Text};
 use std::alloc::{AllocError, Global};
 use std::test::Fail;
 
@@ -26,7 +23,7 @@ fn type_lines<O: Sink>(
     let mut input = MemSource::new(pieces, vec![in alloc; read]?);
     let words = [Text::of(String::from_str(alloc, "type")?)];
     let mut shelf = MemShelf::new(Vec::new(alloc), Vec::new(alloc));
-    Ok(run_alone(alloc, &words, &mut shelf, &mut input, out, err))
+    Ok(run_alone(alloc, &words, &mut shelf, &mut input, out, err).status)
 }
 
 // The script is read in two pieces and then to its end; the output is written at once and flushed; a fault is told
@@ -87,7 +84,7 @@ fn check_file(
         Text::of(String::from_str(alloc, "check")?),
         Text::of(String::from_str(alloc, name)?),
     ];
-    Ok(run_alone(alloc, &words, &mut shelf, &mut input, out, err))
+    Ok(run_alone(alloc, &words, &mut shelf, &mut input, out, err).status)
 }
 
 // A file is read in one piece and then to its end; the output is written at once and flushed.
@@ -174,20 +171,5 @@ fn bytes_are_written_one_by_one(rt: HostRuntime) -> Result<(), Fail> {
         assert_eq!(rt; written.len() as u64, (call - 1).min(whole.len() as u64));
         assert!(rt; whole.starts_with(written), "at call {call}");
     }
-    Ok(())
-}
-
-// No key puts a CR or a TAB into a text yet.
-#[test]
-fn four_characters_are_escaped(rt: HostRuntime) -> Result<(), Fail> {
-    let alloc = rt.alloc();
-    let session = Session {
-        plain: Plain::new(),
-        text: Text::of(String::from_str(alloc, "あ\nb\r\r\td\\\\え")?),
-        notice: Notice::Empty,
-    };
-    let mut page = Text::new(alloc);
-    push_closing_line(&mut page, 64, &session)?;
-    assert_eq!(rt; page.as_str(), "64=あ\\nb\\r\\r\\td\\\\\\\\え\n");
     Ok(())
 }

@@ -1,50 +1,65 @@
-ghost use Rattle.std.specs.Prelude.{◌≡◌, ◌≤◌, ℕ, Option, List, map, true, false};
+ghost use Rattle.std.specs.Prelude.{◌≡◌, ◌≤◌, ℕ, Option, List, [], map, not, OnOk, OnErr, Err, true, false};
 ghost use Rattle.std.specs.Io.KnownBytes.{Keeps};
 ghost use Rattle.romaji_rules.specs.Standard.{standard};
-ghost use Rattle.skk_top.specs.Dictionaries.{AreDictionaries};
+ghost use Rattle.skk_top.specs.Answering.{said_in};
+ghost use Rattle.skk_top.specs.Dictionaries.{AreRowsOf, LeavesDictionaries};
 ghost use Rattle.skk_top.specs.Script.{are_built};
-ghost use Rattle.skk_top.specs.Status.{run_status, run_message};
-ghost use Rattle.skk_top.specs.TypeCommand.{LeavesTyped, LeavesScript, LeavesLines};
+ghost use Rattle.skk_top.specs.Status.{run_status, run_message, end_unless_refused};
+ghost use Rattle.skk_top.specs.TypeCommand.{LeavesTyped, LeavesScript, LeavesAnswered};
 
+use crate::answering::{Files, SystemCaller};
 use crate::dictionary::read_dictionaries;
 use crate::fault::RunFault;
+use crate::finish::Run;
 use crate::script::Script;
 use crate::typing::type_script;
 use crate::word::Word;
+use dict_layers::System;
 use skk_outside::{Shelf, Sink, Source, read_to_end};
-use skk_text::one_list_of_keys;
+use skk_text::{Memory, one_list_of_keys};
 use std::alloc::Global;
+use std::marker::Brand;
 
 /// The most bytes of a script.
 const SCRIPT_LIMIT: usize = 4_194_304;
 
-/// The command `type`: reads the dictionaries of these names, and then a script, checks it whole, and types it.
+/// The command `type`: reads the dictionaries of these names, and then a script, checks it whole, and types it over them. A
+/// run of which a look-up was refused ends as out of memory, where nothing else ended it before.
 pub fn run_type<H: Shelf, I: Source, O: Sink>(
     alloc: Global,
     names: &[Word],
     shelf: &mut H,
     input: &mut I,
     out: &mut O,
-) -> Result<(), RunFault>
-    ensures { LeavesTyped standard (run_status result) (run_message result) (map (H.file shelf.old) names.now) (H.faults shelf.old) (H.faults shelf.new)
+) -> Run
+    ensures { LeavesTyped standard (run_status result.ended) (run_message result.ended) result.chronicle (map (H.file shelf.old) names.now) (H.faults shelf.old) (H.faults shelf.new)
         (I.left input.old) (I.left input.new) (I.faults input.old) (I.faults input.new) (O.written out.old) (O.written out.new) (O.faults out.old) (O.faults out.new) }
 {
-    match read_dictionaries(alloc, shelf, names) {
-        Ok(_books) => type_input(alloc, input, out),
-        Err(fault) => Err(fault),
+    match read_system(alloc, shelf, names) {
+        Ok(system) => type_input(alloc, system, input, out),
+        Err(fault) => Run::without_calls(Err(fault)),
     }
 }
 
-// Reads a script, checks it whole, and types it, whatever dictionaries were read before.
-fn type_input<I: Source, O: Sink>(alloc: Global, input: &mut I, out: &mut O) -> Result<(), RunFault>
-    ensures { (files : List (Option (List ℕ))) (opens opens' : ℕ) → AreDictionaries files → opens ≤ opens'
-        → LeavesTyped standard (run_status result) (run_message result) files opens opens' (I.left input.old) (I.left input.new) (I.faults input.old) (I.faults input.new)
+// Reads the dictionaries of these names, and keeps their rows as system files.
+fn read_system<H: Shelf>(alloc: Global, shelf: &mut H, names: &[Word]) -> Result<System, RunFault>
+    ensures { LeavesDictionaries result (map (H.file shelf.old) names.now) (H.faults shelf.old) (H.faults shelf.new) }
+{
+    let books = read_dictionaries(alloc, shelf, names)?;
+    let system = System::of_books(alloc, books)?;
+    Ok(system)
+}
+
+// Reads a script, checks it whole, and types it over system files.
+fn type_input<I: Source, O: Sink>(alloc: Global, system: System, input: &mut I, out: &mut O) -> Run
+    ensures { (files : List (Option (List ℕ))) (opens opens' : ℕ) → AreRowsOf system files → opens ≤ opens'
+        → LeavesTyped standard (run_status result.ended) (run_message result.ended) result.chronicle files opens opens' (I.left input.old) (I.left input.new) (I.faults input.old) (I.faults input.new)
         (O.written out.old) (O.written out.new) (O.faults out.old) (O.faults out.new) }
 {
     one_list_of_keys();
     match read_script(alloc, input) {
-        Ok(script) => type_built(alloc, &script, out),
-        Err(fault) => Err(fault),
+        Ok(script) => type_built(alloc, &script, system, out),
+        Err(fault) => Run::without_calls(Err(fault)),
     }
 }
 
@@ -57,15 +72,55 @@ fn read_script<I: Source>(alloc: Global, input: &mut I) -> Result<Script, RunFau
     Ok(script)
 }
 
-// Types a script, if each of its lines is built.
-fn type_built<O: Sink>(alloc: Global, script: &Script, out: &mut O) -> Result<(), RunFault>
-    ensures typed { are_built script.now ≡ true → LeavesLines standard script.now result (O.written out.old) (O.written out.new) (O.faults out.old) (O.faults out.new) }
-    ensures not_built { are_built script.now ≡ false → result ≡ Err RunFault.NotBuilt }
+// Types a script over system files, if each of its lines is built.
+fn type_built<O: Sink>(alloc: Global, script: &Script, system: System, out: &mut O) -> Run
+    ensures typed { are_built script.now ≡ true → LeavesAnswered standard script.now system result.ended result.chronicle (O.written out.old) (O.written out.new) (O.faults out.old) (O.faults out.new) }
+    ensures not_built { are_built script.now ≡ false → result ≡ record { ended = Err RunFault.NotBuilt; chronicle = [] } }
     ensures untouched { are_built script.now ≡ false → Keeps (O.written out.old) (O.written out.new) }
     ensures counted { O.faults out.old ≤ O.faults out.new }
 {
     if !script.is_built() {
-        return Err(RunFault::NotBuilt);
+        return Run::without_calls(Err(RunFault::NotBuilt));
     }
-    type_script(alloc, script.lines(), out)
+    type_over::<Brand, O>(alloc, script, system, out)
+}
+
+// Types a script over system files, which `F` tells the proof.
+fn type_over<F: Files, O: Sink>(alloc: Global, script: &Script, system: System, out: &mut O) -> Run
+    requires { system ≡ F.files }
+    ensures { LeavesAnswered standard script.now F.files result.ended result.chronicle (O.written out.old) (O.written out.new) (O.faults out.old) (O.faults out.new) }
+{
+    match SystemCaller::<F>::new(alloc, system) {
+        Ok(caller) => type_with(alloc, script, caller, out),
+        Err(Memory) => Run::without_calls(Err(RunFault::Memory)),
+    }
+}
+
+// Types a script with a caller that has made no call.
+fn type_with<F: Files, O: Sink>(
+    alloc: Global,
+    script: &Script,
+    caller: SystemCaller<F>,
+    out: &mut O,
+) -> Run
+    requires { said_in caller ≡ [] }
+    ensures { LeavesAnswered standard script.now F.files result.ended result.chronicle (O.written out.old) (O.written out.new) (O.faults out.old) (O.faults out.new) }
+{
+    let mut caller = caller;
+    let ended = type_script(alloc, script.lines(), &mut caller, out);
+    let (chronicle, has_refused) = caller.close();
+    Run {
+        ended: end_unless_refused(ended, has_refused),
+        chronicle,
+    }
+}
+
+// How typing ends: where a call was refused, out of memory, unless something else ended it.
+fn end_unless_refused(ended: Result<(), RunFault>, has_refused: bool) -> Result<(), RunFault>
+    ensures { result ≡ end_unless_refused ended has_refused }
+{
+    match ended {
+        Ok(()) if has_refused => Err(RunFault::Memory),
+        ended => ended,
+    }
 }

@@ -30,7 +30,7 @@ impl<'a> Default for Word<'a> {
 
 impl<'a> Word<'a> {
     /// The empty word.
-    #[tactic(auto, using(crate::proofs::Words::words))]
+    #[tactic(auto, using(crate::proofs::Words::empty))]
     pub fn empty() -> Word<'a>
         ensures { result ≡ [] }
     {

@@ -1,7 +1,7 @@
 -- Sets and maps of strings, as the texts and the candidates in them.
 use Rattle.std.proofs.Common.{◌≡◌, ℕ, Bool, true, false, cond, ◌||◌, Option, None, Some, is_some, String, string_bytes, encode_utf8_all, List, [], ◌∷◌, ◌++◌, map, refl, sym, ap, ◌∙◌}
 use Rattle.std.specs.declared.alloc.Global.{Global}
-use Rattle.std.specs.List.{list_any}
+use Rattle.std.specs.List.{list_any, position_or_len}
 use Rattle.std.specs.Map.{lookup}
 use Rattle.std.specs.Str.{bytes_eq, chars, IsUtf8}
 use Rattle.std.specs.String.{string_eq}
@@ -12,9 +12,10 @@ use Rattle.std.proofs.lemmas.Bool.{or_parts}
 use Rattle.std.proofs.lemmas.Bool.Decides.{same_from_decides, Decides-like}
 use Rattle.indexmap.specs.IndexMap.{insert_entry}
 use Rattle.indexmap.specs.IndexSet.{insert_key}
+use Rattle.skk_calls.specs.KeyLaws.{same_other}
 use Rattle.skk_calls.specs.Found.{note_of}
 use Rattle.skk_calls.specs.Rows.{same_text, has_text, words_of}
-use Rattle.word_sets.specs.FirstLaws.{same_other, texts_stay}
+use Rattle.word_sets.specs.FirstLaws.{texts_stay}
 use Rattle.word_sets.specs.Firsts.{with_new}
 use Rattle.word_sets.specs.Strings.{characters, as_cand}
 
@@ -35,6 +36,11 @@ has_bytes bytes utf8 (key ∷ keys) = rw (same_bytes bytes utf8 key, has_bytes b
 -- a string stands among others where its characters do
 pub has_string : (keys : List (String Global)) (string : String Global) → list_any (string_eq string) keys ≡ has_text (map characters keys) (characters string)
 has_string keys string = has_bytes (string_bytes string) (IsUtf8-string_bytes string) keys
+
+-- its place among them is that of its characters
+pub place_of_string : (keys : List (String Global)) (string : String Global) → position_or_len (string_eq string) keys ≡ position_or_len (same_text (characters string)) (map characters keys)
+place_of_string [] string = refl
+place_of_string (key ∷ keys) string = rw (same_bytes (string_bytes string) (IsUtf8-string_bytes string) key, place_of_string keys string) refl
 
 -- a set with one more string
 pub insert_string : (keys : List (String Global)) (string : String Global) → map characters (insert_key string_eq keys string) ≡ with_new (λ text. text) (map characters keys) (characters string)

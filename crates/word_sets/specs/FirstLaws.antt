@@ -2,30 +2,15 @@
 use Rattle.std.proofs.Common.{◌≡◌, ℕ, Bool, true, false, cond, not, ◌&&◌, ◌||◌, List, [], ◌∷◌, ◌++◌, map, refl, sym, ap, ◌∙◌, append_assoc}
 use Rattle.std.specs.List.{filter, fold, list_all}
 use Rattle.std.proofs.lemmas.Bool.{and_from, and_parts, not-true, not_from_false, or_parts}
-use Rattle.std.proofs.lemmas.Bool.Decides.{same_from_decides, Decides-like}
 use Rattle.std.proofs.lemmas.List.{append-nil, map-append}
 use Rattle.std.proofs.lemmas.List.Folds.{list_all-append, list_any-append}
 use Rattle.std.proofs.lemmas.List.Sums.{fold-append}
-use Rattle.std.proofs.lemmas.Slice.Eq.{bytes_eq-Decides}
 use Rattle.skk_calls.specs.Found.{first_of_each}
+pub use Rattle.skk_calls.specs.KeyLaws.{same_itself, same_equal, same_other}
 use Rattle.skk_calls.specs.Rows.{same_text, has_text, texts_differ}
 use Rattle.word_sets.specs.Firsts.{with_new}
 
 -- Texts
-
--- a text is the same as itself
-pub same_itself : (text : List ℕ) → same_text text text ≡ true
-same_itself text = (bytes_eq-Decides text text).1 refl
-
--- texts that are the same are equal
-pub same_equal : (text other : List ℕ) → same_text text other ≡ true → text ≡ other
-same_equal text other e = (bytes_eq-Decides text other).0 e
-
--- the order of two texts that are compared does not matter
-pub same_other : (text other : List ℕ) → same_text text other ≡ same_text other text
-same_other text other =
-    same_from_decides (same_text text other) (same_text other text) (bytes_eq-Decides text other)
-    (Decides-like (same_text other text) sym sym (bytes_eq-Decides other text))
 
 -- one more text behind texts that differ, which have it not, differs from them too
 pub differ_end : (texts : List (List ℕ)) (last : List ℕ) → texts_differ texts ≡ true → has_text texts last ≡ false → texts_differ (texts ++ last ∷ []) ≡ true
@@ -181,6 +166,10 @@ module _ {X : Type 0} (text_of : X → List ℕ) where
   pub first_of_each-push : (xs : List X) (y : X) → first_of_each text_of [] (xs ++ y ∷ []) ≡ with_new text_of (first_of_each text_of [] xs) y
   first_of_each-push xs y =
       first_of_each-fold (xs ++ y ∷ []) ∙ fold-append (with_new text_of) [] xs (y ∷ []) ∙ ap (λ zs. with_new text_of zs y) (sym (first_of_each-fold xs))
+
+  -- the texts of the first of each are those of all
+  pub first_of_each-texts : (xs : List X) (text : List ℕ) → has_text (map text_of (first_of_each text_of [] xs)) text ≡ has_text (map text_of xs) text
+  first_of_each-texts xs text = ap (λ zs. has_text (map text_of zs) text) (first_of_each-fold xs) ∙ fold_new-texts [] xs text
 
   -- the texts of the first of each differ
   pub first_of_each-differ : (xs : List X) → texts_differ (map text_of (first_of_each text_of [] xs)) ≡ true

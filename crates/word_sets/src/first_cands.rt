@@ -58,6 +58,17 @@ impl FirstCands {
         Ok(true)
     }
 
+    /// Adds a candidate, whose texts are moved, at the end unless its word is there, and answers whether it is a new one.
+    pub fn insert_cand(&mut self, cand: Cand) -> Result<bool, Memory>
+        ensures ok { OnOk result (self.new ≡ with_new (λ cand. cand.word) self.old cand) }
+        ensures is_new { IfOk result (λ is_new. is_new ≡ not (has_text (words_of self.old) cand.word)) }
+        ensures valid { is_cand cand ≡ true }
+        ensures err { OnErr result (self.new ≡ self.old) }
+    {
+        let (word, note) = cand.into_parts();
+        self.insert(word.into_string(), note.into_string())
+    }
+
     /// Whether a candidate of a word is there. Takes no memory.
     pub fn contains(&self, word: &str) -> bool
         ensures { result ≡ has_text (words_of self.now) (chars word.now) }

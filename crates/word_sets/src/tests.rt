@@ -20,6 +20,7 @@ fn each_word_is_kept_once(rt: HostRuntime) -> Result<(), Fail> {
     for (word, is_new) in [("漢字", true), ("幹事", true), ("漢字", false), ("", true)] {
         assert_eq!(rt; words.insert(string(alloc, word)?)?, is_new, "at {word:?}");
     }
+    assert_eq!(rt; words.insert_full(string(alloc, "幹事")?)?, (1, false));
     assert!(rt; words.contains("幹事"));
     assert!(rt; !words.contains("感じ"));
     let texts = words.into_texts(alloc)?;
@@ -30,7 +31,7 @@ fn each_word_is_kept_once(rt: HostRuntime) -> Result<(), Fail> {
     Ok(())
 }
 
-// Inserts a word and a note, which are a candidate.
+// Inserts the candidate of a word and a note.
 fn insert(alloc: Global, found: &mut FirstCands, word: &str, note: &str) -> Result<bool, Fail>
     ensures { OnOk result (list_all is_cand found.old ≡ true → list_all is_cand found.new ≡ true) }
 {
@@ -39,9 +40,7 @@ fn insert(alloc: Global, found: &mut FirstCands, word: &str, note: &str) -> Resu
         Text::of(String::from_str(alloc, note)?),
     )?;
     let _word = cand.word();
-    let copy = String::from_str(alloc, word)?;
-    let note_copy = String::from_str(alloc, note)?;
-    let is_new = found.insert(copy, note_copy)?;
+    let is_new = found.insert_cand(cand)?;
     Ok(is_new)
 }
 

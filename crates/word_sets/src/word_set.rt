@@ -23,8 +23,9 @@ impl Model for WordSet {
 
 impl WordSet {
     ghost use Rattle.std.specs.Prelude.{◌≡◌, [], true, not, IfOk, OnOk, OnErr};
+    ghost use Rattle.std.specs.List.{position_or_len};
     ghost use Rattle.std.specs.Str.{chars};
-    ghost use Rattle.skk_calls.specs.Rows.{has_text, texts_differ};
+    ghost use Rattle.skk_calls.specs.Rows.{has_text, same_text, texts_differ};
     ghost use Rattle.word_sets.specs.Firsts.{with_new};
     ghost use Rattle.word_sets.specs.Strings.{characters};
 
@@ -43,8 +44,19 @@ impl WordSet {
         ensures is_new { IfOk result (λ is_new. is_new ≡ not (has_text self.old (characters word))) }
         ensures err { OnErr result (self.new ≡ self.old) }
     {
-        let is_new = self.words.insert(word)?;
+        let (_, is_new) = self.insert_full(word)?;
         Ok(is_new)
+    }
+
+    /// Adds a word at the end unless it is there, and answers its place, counted from 0, and whether it is a new one.
+    pub fn insert_full(&mut self, word: String) -> Result<(usize, bool), Memory>
+        ensures ok { OnOk result (self.new ≡ with_new (λ text. text) self.old (characters word)) }
+        ensures place { IfOk result (λ parts. parts.0 ≡ position_or_len (same_text (characters word)) self.old) }
+        ensures is_new { IfOk result (λ parts. parts.1 ≡ not (has_text self.old (characters word))) }
+        ensures err { OnErr result (self.new ≡ self.old) }
+    {
+        let (place, is_new) = self.words.insert_full(word)?;
+        Ok((place, is_new))
     }
 
     /// Whether a word is there. Takes no memory.

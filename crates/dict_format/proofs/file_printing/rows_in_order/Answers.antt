@@ -6,7 +6,7 @@ use Rattle.std.proofs.lemmas.List.Sorted.{IsPermutation-map}
 use Rattle.skk_calls.specs.declared.row.Row.{Row as DeclaredRow}
 use Rattle.skk_calls.specs.Rows.{Row, is_row}
 use Rattle.dict_format.specs.PrintedFiles.{is_of, is_printed_before}
-use Rattle.dict_format.proofs.Ascending.{order_read, sorted_once, sorted_read}
+use Rattle.skk_calls.specs.OrderLaws.{order_read, sorted_once, sorted_read}
 use Rattle.dict_format.proofs.PrintingOrder.{part_order, part_apart}
 use Rattle.dict_format.proofs.file_printing.rows_in_order.Goals as goal
 

@@ -1,7 +1,7 @@
 use Rattle.std.proofs.Common.{rules}
 use Rattle.std.proofs.lemmas.List.Folds.{list_all-map}
 use Rattle.dict_format.specs.RowOfItems.{fits}
-use Rattle.dict_format.specs.Views.{characters}
+use Rattle.word_sets.specs.Strings.{characters}
 use Rattle.dict_format.proofs.Strings.{bytes_of_characters}
 use Rattle.dict_format.proofs.items.is_fit.Goals as goal
 

@@ -1,6 +1,6 @@
 use Rattle.std.proofs.Common.{◌≡◌, map, take}
 use Rattle.dict_format.specs.Reading.{said_words}
-use Rattle.dict_format.specs.Views.{characters}
+use Rattle.word_sets.specs.Strings.{characters}
 use Rattle.dict_format.proofs.items.words_of.Given as goal
 
 -- the words of the texts so far

@@ -1,12 +1,16 @@
-use Rattle.std.proofs.Common.{◌∙◌, sym, ap, map}
-use Rattle.dict_format.specs.Building.{as_cand}
-use Rattle.dict_format.proofs.StringSets.{cands_more, cands_same}
+use Rattle.std.proofs.Common.{◌∙◌, sym, ap}
+use Rattle.skk_calls.specs.Rows.{Cand}
+use Rattle.word_sets.specs.Firsts.{with_new}
+use Rattle.word_sets.specs.Strings.{as_cand}
+use Rattle.dict_format.proofs.OnceMore.{once-some, once-none}
 use Rattle.dict_format.proofs.row.add_cand.Goals as goal
 
 pub returns-in_ok-insert : goal.returns-in_ok-insert
 returns-in_ok-insert c before so_far =
-    ap (map as_cand) c.in_ok-insert.ensures.entries
-    ∙ cands_more c.args.cands.now.entries c.args.word c.args.note before so_far (sym c.is_new.ensures ∙ c.if-is_new.true)
+    let cand = as_cand (c.args.word, c.args.note) in
+    c.in_ok-insert.ensures.ok ∙ ap (λ cands. with_new (λ (one : Cand). one.word) cands cand) so_far
+    ∙ sym (once-some (λ (one : Cand). one.word) before cand (sym c.is_some.ensures ∙ c.if-is_some.true))
 
-pub returns-else-is_new : goal.returns-else-is_new
-returns-else-is_new c before so_far = cands_same c.args.cands.now.entries c.args.word c.args.note before so_far (sym c.is_new.ensures ∙ c.if-is_new.false)
+pub returns-else-is_some : goal.returns-else-is_some
+returns-else-is_some c before so_far =
+    so_far ∙ sym (once-none (λ (one : Cand). one.word) before (as_cand (c.args.word, c.args.note)) (sym c.is_some.ensures ∙ c.if-is_some.false))

@@ -1,26 +1,25 @@
-use Rattle.std.proofs.Common.{◌≡◌, ◌++◌, ◌∷◌, [], ◌∙◌, sym, ap, map, true, rules, append_assoc}
+use Rattle.std.proofs.Common.{◌≡◌, ◌++◌, ◌∷◌, [], ◌∙◌, sym, ap, true, rules, append_assoc}
 use Rattle.std.specs.List.{list_all}
 use Rattle.std.specs.Vec.Iter.{into_iter_items}
 use Rattle.std.proofs.lemmas.Bool.{and_parts}
 use Rattle.std.proofs.lemmas.List.{nil_from_length}
 use Rattle.std.proofs.lemmas.List.Folds.{list_all-append}
 use Rattle.skk_calls.specs.Rows.{is_block}
-use Rattle.dict_format.specs.Building.{texts_in, made_blocks}
-use Rattle.dict_format.specs.Views.{characters}
+use Rattle.dict_format.specs.Building.{made_blocks}
 use Rattle.dict_format.proofs.Blocks.{made_blocks-cons, made_blocks-none}
 use Rattle.dict_format.proofs.row.blocks_of.Goals as goal
 
-pub loop-okuri-preserved-in-Continue-1 : goal.loop-okuri-preserved-in-Continue-1
-loop-okuri-preserved-in-Continue-1 c =
-    let okuri = characters c.in-Some.okuri in
-    let words = texts_in c.in-Some-next.words in
-    let okuris = map characters c.next.new.self in
-    let more = map texts_in (into_iter_items c.next-in-loop-okuri.new.self) in
+pub loop-okuri-preserved-in_ok-push_block : goal.loop-okuri-preserved-in_ok-push_block
+loop-okuri-preserved-in_ok-push_block c =
+    let okuri = c.in-Some.okuri in
+    let words = c.in-Some-next.words in
+    let okuris = into_iter_items c.next.new.self in
+    let more = into_iter_items c.next-in-loop-okuri.new.self in
     let first = made_blocks (okuri ∷ []) (words ∷ []) in
     let rest = made_blocks okuris more in
-    let split : made_blocks (map characters c.loop-okuri.okuri-iterator) (map texts_in (into_iter_items c.loop-okuri.left)) ≡ first ++ rest =
-    ap (λ os. made_blocks (map characters os) (map texts_in (into_iter_items c.loop-okuri.left))) c.in-Some.ensures.steps
-    ∙ ap (λ ws. made_blocks (okuri ∷ okuris) (map texts_in ws)) c.in-Some-next.ensures.items
+    let split : made_blocks (into_iter_items c.loop-okuri.okuri-iterator) (into_iter_items c.loop-okuri.left) ≡ first ++ rest =
+    ap (λ os. made_blocks os (into_iter_items c.loop-okuri.left)) c.in-Some.ensures.steps.0
+    ∙ ap (made_blocks (okuri ∷ okuris)) c.in-Some-next.ensures.items
     ∙ made_blocks-cons okuri words okuris more in
     let valid : list_all is_block (first ++ rest) ≡ true = ap (list_all is_block) (sym split) ∙ c.loop-okuri.invariant.valid in
     record {
@@ -32,12 +31,12 @@ loop-okuri-preserved-in-Continue-1 c =
 
 pub loop-okuri-preserved : goal.loop-okuri-preserved
 loop-okuri-preserved c =
-    let okuris = map characters c.next.new.self in
+    let okuris = into_iter_items c.next.new.self in
     let left : into_iter_items c.loop-okuri.left ≡ [] = nil_from_length (into_iter_items c.loop-okuri.left) (search (rules, c.in_default.ensures.cases.0)) in
-    let nothing : made_blocks okuris (map texts_in (into_iter_items c.next-in-loop-okuri.new.self)) ≡ [] =
-    ap (λ ws. made_blocks okuris (map texts_in ws)) (sym c.in_default.ensures.items ∙ left) ∙ made_blocks-none okuris in
-    let before : made_blocks (map characters c.loop-okuri.okuri-iterator) (map texts_in (into_iter_items c.loop-okuri.left)) ≡ [] =
-    ap (λ ws. made_blocks (map characters c.loop-okuri.okuri-iterator) (map texts_in ws)) left ∙ made_blocks-none (map characters c.loop-okuri.okuri-iterator) in
+    let nothing : made_blocks okuris (into_iter_items c.next-in-loop-okuri.new.self) ≡ [] =
+    ap (made_blocks okuris) (sym c.in_default.ensures.items ∙ left) ∙ made_blocks-none okuris in
+    let before : made_blocks (into_iter_items c.loop-okuri.okuri-iterator) (into_iter_items c.loop-okuri.left) ≡ [] =
+    ap (made_blocks (into_iter_items c.loop-okuri.okuri-iterator)) left ∙ made_blocks-none (into_iter_items c.loop-okuri.okuri-iterator) in
     record {
       all =
           ap (λ blocks. c.loop-okuri.blocks ++ blocks) nothing ∙ sym (ap (λ blocks. c.loop-okuri.blocks ++ blocks) before) ∙ c.loop-okuri.invariant.all;

@@ -1,7 +1,7 @@
 use Rattle.std.proofs.Common.{◌≡◌, ◌∷◌, [], ◌∙◌, sym, ap, map, Some, None}
 use Rattle.std.proofs.lemmas.List.{map-append}
 use Rattle.dict_format.specs.Reading.{marked_at}
-use Rattle.dict_format.specs.Views.{characters}
+use Rattle.word_sets.specs.Strings.{characters}
 use Rattle.dict_format.proofs.Taking.{taken_first, taken_more, taken_last}
 use Rattle.dict_format.proofs.WordReading.{marks_shrink}
 use Rattle.dict_format.proofs.words.all_strings.Goals as goal

@@ -1,6 +1,6 @@
 use Rattle.std.proofs.Common.{length, map}
 use Rattle.dict_format.specs.Reading.{marked_at}
-use Rattle.dict_format.specs.Views.{characters}
+use Rattle.word_sets.specs.Strings.{characters}
 use Rattle.dict_format.proofs.Taking.{HasTaken}
 use Rattle.dict_format.proofs.words.all_strings.Given as goal
 

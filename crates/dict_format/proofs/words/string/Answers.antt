@@ -1,7 +1,7 @@
 use Rattle.std.proofs.Common.{sym, ap}
 use Rattle.std.specs.Option.{option_map}
 use Rattle.dict_format.specs.Reading.{piece_at, string_at}
-use Rattle.dict_format.specs.Views.{characters}
+use Rattle.word_sets.specs.Strings.{characters}
 use Rattle.dict_format.proofs.Pieces.{pieces_shrink}
 use Rattle.dict_format.proofs.Strings.{characters-nil}
 use Rattle.dict_format.proofs.Taking.{taken_first, taken_more, taken_last}

@@ -1,6 +1,6 @@
 use Rattle.std.proofs.Common.{length}
 use Rattle.dict_format.specs.Reading.{piece_at}
-use Rattle.dict_format.specs.Views.{characters}
+use Rattle.word_sets.specs.Strings.{characters}
 use Rattle.dict_format.proofs.Taking.{HasTaken}
 use Rattle.dict_format.proofs.words.string.Given as goal
 

@@ -1,7 +1,7 @@
 use Rattle.std.proofs.Common.{◌≡◌, ◌∙◌, sym, ap, refl, true, false, ◌&&◌}
 use Rattle.skk_calls.specs.Canonical.{has_item}
 use Rattle.dict_format.specs.Reading.{strings_at, closes_form}
-use Rattle.dict_format.specs.Views.{characters}
+use Rattle.word_sets.specs.Strings.{characters}
 use Rattle.dict_format.proofs.Cutting.{has_some-map}
 use Rattle.dict_format.proofs.words.strings.Goals as goal
 

@@ -1,5 +1,5 @@
 use Rattle.std.proofs.Common.{ℕ, List, [], ◌∙◌, ap, sym, not, length-take, arith}
-use Rattle.dict_laws.proofs.PairsLaws.{list_all-take, all_pairs-take}
+use Rattle.skk_text.specs.PairsLaws.{list_all-take, all_pairs-take}
 use Rattle.skk_calls.specs.Completions.{completion_limit, all_readings, goes_on_from}
 use Rattle.skk_calls.specs.Found.{first_of_each}
 use Rattle.skk_calls.specs.Rows.{same_text, texts_differ}

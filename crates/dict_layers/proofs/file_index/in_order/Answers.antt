@@ -1,6 +1,6 @@
 use Rattle.std.proofs.Common.{ℕ, rules, slice_get}
 use Rattle.std.proofs.lemmas.Fn.{always_returns_same}
-use Rattle.dict_layers.specs.OrderLaws.{order_read}
+use Rattle.skk_calls.specs.OrderLaws.{order_read}
 use Rattle.dict_layers.specs.Finding.{option_less}
 use Rattle.dict_layers.specs.InOrder.{row_less}
 use Rattle.dict_layers.proofs.Index.{row_order}

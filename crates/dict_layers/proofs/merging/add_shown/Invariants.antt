@@ -1,4 +1,4 @@
-use Rattle.std.proofs.Common.{◌≡◌, take}
+use Rattle.std.proofs.Common.{◌≡◌}
 use Rattle.std.specs.List.{fold}
 use Rattle.skk_calls.specs.Found.{without_hidden}
 use Rattle.word_sets.specs.Firsts.{with_new}
@@ -6,4 +6,4 @@ use Rattle.dict_layers.proofs.merging.add_shown.Given as goal
 
 -- the candidates so far were added, but for the hidden ones
 abbrev pub invariant-loop-cand : goal.invariant-loop-cand
-invariant-loop-cand l = l.found ≡ fold (with_new (λ cand. cand.word)) l.fn.found (without_hidden l.hidden (take l.cand-index l.cands))
+invariant-loop-cand l = l.found ≡ fold (with_new (λ cand. cand.word)) l.fn.found (without_hidden l.hidden l.yielded)

@@ -1,13 +1,11 @@
 use Rattle.std.proofs.Common.{map}
 use Rattle.romaji_rules.specs.Standard.{standard}
-use Rattle.skk_top.proofs.Dictionaries.{are_dictionaries}
 use Rattle.skk_top.proofs.Runs.{leaves-unopened}
 use Rattle.skk_top.proofs.type_command.run_type.Goals as goal
 
 pub returns-in-Ok : goal.returns-in-Ok
 returns-in-Ok g c =
-    let files = map (g.H.Shelf.file c.args.shelf.now) c.args.names.now in
-    c.type_input.ensures files _ _ (are_dictionaries _ files c.in-Ok.ensures.whole) c.in-Ok.ensures.counted
+    let files = map (g.H.Shelf.file c.args.shelf.now) c.args.names.now in c.type_input.ensures files _ _ c.in-Ok.ensures.whole c.in-Ok.ensures.counted
 
 pub returns-in-Err : goal.returns-in-Err
-returns-in-Err g c = leaves-unopened standard c.in-Err.fault _ _ _ _ _ _ _ c.in-Err.ensures
+returns-in-Err g c = rw c.without_calls.ensures (leaves-unopened standard c.in-Err.fault _ _ _ _ _ _ _ c.in-Err.ensures)

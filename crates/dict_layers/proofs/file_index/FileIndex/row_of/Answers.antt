@@ -1,4 +1,4 @@
-use Rattle.std.proofs.Common.{◌≡◌, ◌∙◌, true, false, cond, None, Some, ap, sym, rules, slice_get}
+use Rattle.std.proofs.Common.{◌≡◌, ◌∙◌, cond, None, Some, ap, sym, rules, slice_get}
 use Rattle.std.specs.Option.{option_copied, option_and_then}
 use Rattle.std.proofs.lemmas.List.Sorted.{IsPartitionPoint-from_clause}
 use Rattle.skk_calls.specs.Orders.{key_less}
@@ -8,56 +8,36 @@ use Rattle.dict_layers.specs.Finding.{passes}
 use Rattle.dict_layers.proofs.Index.{keys_parted, key_found}
 use Rattle.dict_layers.proofs.Keys.{if_same}
 use Rattle.dict_layers.proofs.file_index.FileIndex.row_of.Goals as goal
+use Rattle.dict_layers.proofs.file_index.FileIndex.row_of.Goals.{After-row_at, After-is_same_key}
+
+-- the row of the key is the one at the place, where that has the key
+found : (c : After-row_at) → row_in c.args.key.now c.args.rows.now ≡ option_and_then (if_same c.args.key.now) (option_copied c.row_at.result)
+found c =
+    let rows = c.args.rows.now in
+    let key = c.args.key.now in
+    let by_key = c.args.self.now.by_key.items in
+    let here = c.requires.index.keys_in_order in
+    let clause = rw c.deref.ensures.value at c.partition_point-place.ensures.partitioned in
+    let point =
+    IsPartitionPoint-from_clause (λ place. passes (λ row. key_less row.key key) (slice_get rows place)) by_key c.partition_point-place.result clause
+    (keys_parted rows c.requires.differ by_key here key) (λ a r f k. search rules) in
+    key_found rows c.requires.differ by_key here key c.partition_point-place.result point
+    ∙ ap (option_and_then (if_same key)) (sym (c.row_at.ensures ∙ ap (λ places. option_and_then (slice_get rows) (slice_get places c.partition_point-place.result)) c.deref-2.ensures.value))
+
+-- so where a row is there, the test tells whether it is that of the key
+tested : (c : After-is_same_key) → row_in c.args.key.now c.args.rows.now ≡ cond c.is_same_key.result (Some c.in_ok-row.row.now) None
+tested c =
+    let key = c.args.key.now in
+    found (goal.at.After-is_same_key c).After-row_at ∙ ap (λ row. option_and_then (if_same key) (option_copied row)) c.in_ok-row.was
+    ∙ ap (λ b. cond b (Some c.in_ok-row.row.now) None) (sym (c.is_same_key.ensures ∙ ap (λ k. same_key k key) c.key.ensures.value))
 
 pub returns-in_err-row : goal.returns-in_err-row
 returns-in_err-row c =
-    let rows = c.args.rows.now in
-    let key = c.args.key.now in
-    let by_key = c.args.self.now.by_key.items in
-    let here = c.requires.index.keys_in_order in
-    let clause = rw c.deref.ensures.value at c.partition_point-place.ensures.partitioned in
-    let point =
-    IsPartitionPoint-from_clause (λ place. passes (λ row. key_less row.key key) (slice_get rows place)) by_key c.partition_point-place.result clause
-    (keys_parted rows c.requires.differ by_key here key) (λ a r f k. search rules) in
-    let found : row_in key rows ≡ option_and_then (if_same key) (option_copied c.row_at.result) =
-    key_found rows c.requires.differ by_key here key c.partition_point-place.result point
-    ∙ ap (option_and_then (if_same key)) (sym (c.row_at.ensures ∙ ap (λ places. option_and_then (slice_get rows) (slice_get places c.partition_point-place.result)) c.deref-2.ensures.value)) in
-    ap option_copied c.from_residual.ensures ∙ sym (found ∙ ap (λ row. option_and_then (if_same key) (option_copied row)) c.in_err-row.was)
+    ap option_copied c.from_residual.ensures
+    ∙ sym (found (goal.at.returns-in_err-row c).After-row_at ∙ ap (λ row. option_and_then (if_same c.args.key.now) (option_copied row)) c.in_err-row.was)
 
 pub returns-then-is_same_key : goal.returns-then-is_same_key
-returns-then-is_same_key c =
-    let rows = c.args.rows.now in
-    let key = c.args.key.now in
-    let by_key = c.args.self.now.by_key.items in
-    let here = c.requires.index.keys_in_order in
-    let clause = rw c.deref.ensures.value at c.partition_point-place.ensures.partitioned in
-    let point =
-    IsPartitionPoint-from_clause (λ place. passes (λ row. key_less row.key key) (slice_get rows place)) by_key c.partition_point-place.result clause
-    (keys_parted rows c.requires.differ by_key here key) (λ a r f k. search rules) in
-    let found : row_in key rows ≡ option_and_then (if_same key) (option_copied c.row_at.result) =
-    key_found rows c.requires.differ by_key here key c.partition_point-place.result point
-    ∙ ap (option_and_then (if_same key)) (sym (c.row_at.ensures ∙ ap (λ places. option_and_then (slice_get rows) (slice_get places c.partition_point-place.result)) c.deref-2.ensures.value)) in
-    let same : same_key c.in_ok-row.row.now.key key ≡ true = sym (c.is_same_key.ensures ∙ ap (λ k. same_key k key) c.key.ensures.value) ∙ c.if-is_same_key.true in
-    sym (
-    found ∙ ap (λ row. option_and_then (if_same key) (option_copied row)) c.in_ok-row.was
-    ∙ ap (λ b. cond b (Some c.in_ok-row.row.now) None) same
-    )
+returns-then-is_same_key c = sym (tested (goal.at.returns-then-is_same_key c).After-is_same_key ∙ ap (λ b. cond b (Some c.in_ok-row.row.now) None) c.if-is_same_key.true)
 
 pub returns-else-is_same_key : goal.returns-else-is_same_key
-returns-else-is_same_key c =
-    let rows = c.args.rows.now in
-    let key = c.args.key.now in
-    let by_key = c.args.self.now.by_key.items in
-    let here = c.requires.index.keys_in_order in
-    let clause = rw c.deref.ensures.value at c.partition_point-place.ensures.partitioned in
-    let point =
-    IsPartitionPoint-from_clause (λ place. passes (λ row. key_less row.key key) (slice_get rows place)) by_key c.partition_point-place.result clause
-    (keys_parted rows c.requires.differ by_key here key) (λ a r f k. search rules) in
-    let found : row_in key rows ≡ option_and_then (if_same key) (option_copied c.row_at.result) =
-    key_found rows c.requires.differ by_key here key c.partition_point-place.result point
-    ∙ ap (option_and_then (if_same key)) (sym (c.row_at.ensures ∙ ap (λ places. option_and_then (slice_get rows) (slice_get places c.partition_point-place.result)) c.deref-2.ensures.value)) in
-    let same : same_key c.in_ok-row.row.now.key key ≡ false = sym (c.is_same_key.ensures ∙ ap (λ k. same_key k key) c.key.ensures.value) ∙ c.if-is_same_key.false in
-    sym (
-    found ∙ ap (λ row. option_and_then (if_same key) (option_copied row)) c.in_ok-row.was
-    ∙ ap (λ b. cond b (Some c.in_ok-row.row.now) None) same
-    )
+returns-else-is_same_key c = sym (tested (goal.at.returns-else-is_same_key c).After-is_same_key ∙ ap (λ b. cond b (Some c.in_ok-row.row.now) None) c.if-is_same_key.false)

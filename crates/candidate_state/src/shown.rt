@@ -1,0 +1,79 @@
+ghost use Rattle.std.specs.Prelude.{◌≡◌, [], IfOk};
+ghost use Rattle.skk_calls.specs.Found.{first_of_each};
+ghost use Rattle.candidate_state.specs.Shown.{shown_plain};
+
+use skk_calls::{Cand, Cands, RowKey};
+use skk_text::{Memory, Text};
+use std::alloc::Global;
+use std::marker::Model;
+use word_sets::FirstCands;
+
+/// Candidates of a key as they are shown, in order: contracts see the list of them.
+#[derive(Drop)]
+pub struct ShownList {
+    key: RowKey,
+    found: Cands,
+}
+
+impl Model for ShownList {
+    ghost use Rattle.std.specs.Prelude.{List, map};
+    ghost use Rattle.candidate_state.specs.Shown.{Shown, shown_word};
+
+    ghost Value = { List Shown };
+
+    ghost view = { λ s. map (shown_word s.key) s.found };
+}
+
+/// A candidate that is shown: the key that it was found under, the candidate as it was found, and the text that is shown.
+#[derive(Clone, Copy)]
+pub struct Shown<'a> {
+    pub key: &'a RowKey,
+    pub cand: &'a Cand,
+    pub text: &'a Text,
+}
+
+/// The candidates that are shown for what was found of a key: the first of each word, whose texts are moved. Takes time in
+/// their length. After `Memory` the key and the candidates are gone.
+#[tactic(auto, using(crate::proofs::ShownWords::shown_words))]
+pub fn shown_plain(alloc: Global, key: RowKey, found: Cands) -> Result<ShownList, Memory>
+    ensures { IfOk result (λ list. list ≡ shown_plain key found) }
+{
+    let found = first_of_each_word(alloc, found)?;
+    Ok(ShownList { key, found })
+}
+
+// The candidates, the first of each word.
+#[tactic(auto, using(crate::proofs::ShownWords::first_words))]
+fn first_of_each_word(alloc: Global, cands: Cands) -> Result<Cands, Memory>
+    ensures { IfOk result (λ first. first ≡ first_of_each (λ cand. cand.word) [] cands) }
+{
+    let mut first = FirstCands::new(alloc);
+    for cand in cands.into_vec() {
+        first.insert_cand(cand)?;
+    }
+    first.into_cands(alloc)
+}
+
+impl ShownList {
+    ghost use Rattle.std.specs.Prelude.{◌≡◌, ◌<◌, length, slice_get, Some};
+
+    /// How many candidates there are.
+    pub fn len(&self) -> usize
+        ensures { result ≡ length self.now }
+    {
+        self.found.len()
+    }
+
+    /// The candidate of a place, counted from 0. Takes constant time.
+    pub fn at(&self, place: usize) -> Shown<'_>
+        requires { place < length self.now }
+        ensures { slice_get self.now place ≡ Some (record { key = result.key.now; cand = result.cand.now; text = result.text.now }) }
+    {
+        let cand = self.found.at(place);
+        Shown {
+            key: &self.key,
+            cand,
+            text: cand.word(),
+        }
+    }
+}

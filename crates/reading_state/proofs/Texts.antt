@@ -1,0 +1,168 @@
+-- Texts that may stand in an open reading: what is behind them, and what is before.
+use Rattle.std.proofs.Common.{◌≡◌, ◌≤◌, ◌<◌, ◌==◌, ℕ, ◌+◌, ◌-◌, Bool, true, false, ◌&&◌, ◌||◌, not, nat_le, nat_lt, List, [], ◌∷◌, ◌++◌, ◌∙◌, sym, ap, subst, refl, length, take, drop, length-append, append_assoc, arith}
+use Rattle.std.specs.List.{list_all}
+use Rattle.std.proofs.lemmas.Bool.{and_parts, and_from, le-leb, leb-true, lt-ltb, le-ltb, ne_eqb}
+use Rattle.std.proofs.lemmas.List.{take-append-drop}
+use Rattle.std.proofs.lemmas.List.Folds.{list_all-append}
+use Rattle.std.proofs.Math.Seq.{drop-append_seam}
+use Rattle.std.proofs.lemmas.Str.{encode_ascii, length-le-encodes}
+use Rattle.skk_text.specs.Text.{byte_len, without_last, last_chars}
+use Rattle.skk_text.specs.TextLaws.{byte_len-append}
+use Rattle.skk_calls.specs.Rows.{begins_well, is_reading_char, is_okuri_char, is_letter, is_row_key}
+use Rattle.skk_calls.specs.declared.part.Part.TheVariants.{Ari}
+use Rattle.skk_text.specs.declared.notice.Notice.TheVariants as notices
+use Rattle.reading_state.specs.Puts.{is_nil, may_read, may_end, refusal}
+
+-- a text is empty where it has no bytes
+pub byte_len-empty : (text : List ℕ) → (byte_len text == 0) ≡ is_nil text
+byte_len-empty [] = refl
+byte_len-empty (c ∷ text) = ne_eqb (byte_len (c ∷ text)) 0 (λ e. omega (arith, length-le-encodes (c ∷ text)))
+
+-- a text with a piece behind it is empty where both are
+pub is_nil_append : (text piece : List ℕ) → is_nil (text ++ piece) ≡ (is_nil text && is_nil piece)
+is_nil_append [] piece = refl
+is_nil_append (c ∷ text) piece = refl
+
+-- a text with a character has a byte
+some_bytes : (c : ℕ) (text : List ℕ) → nat_le 1 (byte_len (c ∷ text)) ≡ true
+some_bytes c text = le-leb 1 (byte_len (c ∷ text)) (omega (arith, length-le-encodes (c ∷ text)))
+
+-- a reading has at most 254 bytes, and an okurigana at most 60
+pub may_read-short : (text : List ℕ) → may_read text ≡ true → byte_len text ≤ 254
+may_read-short [] may = omega arith
+may_read-short (c ∷ text) may =
+    let parts = and_parts (begins_well (c ∷ text)) _ may in
+    leb-true (byte_len (c ∷ text)) 254 (and_parts (list_all is_reading_char (c ∷ text)) _ parts.1).1
+
+pub may_end-short : (text : List ℕ) → may_end text ≡ true → byte_len text ≤ 60
+may_end-short [] may = omega arith
+may_end-short (c ∷ text) may =
+    let parts = and_parts (nat_le 1 (byte_len (c ∷ text))) _ may in
+    leb-true (byte_len (c ∷ text)) 60 (and_parts (nat_le (byte_len (c ∷ text)) 60) _ parts.1).0
+
+-- tests in another order
+turned : (a b : Bool) → (a && (b && true)) ≡ (b && a)
+turned true true = refl
+turned true false = refl
+turned false true = refl
+turned false false = refl
+
+-- what a reading with a piece behind it asks of the piece
+pub may_read-behind : (text piece : List ℕ) → may_read text ≡ true → byte_len text + byte_len piece ≤ 254
+    → may_read (text ++ piece) ≡ (list_all is_reading_char piece && (not (is_nil text) || (is_nil piece || begins_well piece)))
+may_read-behind [] [] may fits = refl
+may_read-behind [] (c ∷ piece) may fits =
+    rw (le-leb (byte_len (c ∷ piece)) 254 (omega arith)) (turned (begins_well (c ∷ piece)) (list_all is_reading_char (c ∷ piece)))
+may_read-behind (t ∷ text) piece may fits =
+    let parts = and_parts (begins_well (t ∷ text)) _ may in
+    let chars = (and_parts (list_all is_reading_char (t ∷ text)) _ parts.1).0 in
+    let short : nat_le (byte_len ((t ∷ text) ++ piece)) 254 ≡ true =
+    le-leb (byte_len ((t ∷ text) ++ piece)) 254 (omega (arith, byte_len-append (t ∷ text) piece)) in
+    let all : list_all is_reading_char ((t ∷ text) ++ piece) ≡ list_all is_reading_char piece =
+    list_all-append is_reading_char (t ∷ text) piece ∙ ap (λ b. b && list_all is_reading_char piece) chars in
+    ap (λ b. b && (list_all is_reading_char ((t ∷ text) ++ piece) && nat_le (byte_len ((t ∷ text) ++ piece)) 254)) parts.0
+    ∙ ap (λ b. list_all is_reading_char ((t ∷ text) ++ piece) && b) short
+    ∙ ap (λ b. b && true) all
+
+-- what an okurigana with a piece behind it asks of the piece
+pub may_end-behind : (text piece : List ℕ) → may_end text ≡ true → byte_len text + byte_len piece ≤ 60
+    → may_end (text ++ piece) ≡ list_all is_okuri_char piece
+may_end-behind [] [] may fits = refl
+may_end-behind [] (c ∷ piece) may fits = rw (some_bytes c piece, le-leb (byte_len (c ∷ piece)) 60 (omega arith)) refl
+may_end-behind (t ∷ text) piece may fits =
+    let parts = and_parts (nat_le 1 (byte_len (t ∷ text))) _ may in
+    let chars = (and_parts (nat_le (byte_len (t ∷ text)) 60) _ parts.1).1 in
+    let short : nat_le (byte_len ((t ∷ text) ++ piece)) 60 ≡ true =
+    le-leb (byte_len ((t ∷ text) ++ piece)) 60 (omega (arith, byte_len-append (t ∷ text) piece)) in
+    let all : list_all is_okuri_char ((t ∷ text) ++ piece) ≡ list_all is_okuri_char piece =
+    list_all-append is_okuri_char (t ∷ text) piece ∙ ap (λ b. b && list_all is_okuri_char piece) chars in
+    ap (λ b. b && (nat_le (byte_len ((t ∷ text) ++ piece)) 60 && list_all is_okuri_char ((t ∷ text) ++ piece))) (some_bytes t (text ++ piece))
+    ∙ ap (λ b. b && list_all is_okuri_char ((t ∷ text) ++ piece)) short
+    ∙ all
+
+-- the beginning of a reading may be one too
+may_read-before : (text behind : List ℕ) → may_read (text ++ behind) ≡ true → may_read text ≡ true
+may_read-before [] behind may = refl
+may_read-before (t ∷ text) behind may =
+    let parts = and_parts (begins_well (t ∷ text)) _ may in
+    let rest = and_parts (list_all is_reading_char ((t ∷ text) ++ behind)) _ parts.1 in
+    let chars = and_parts (list_all is_reading_char (t ∷ text)) _ (sym (list_all-append is_reading_char (t ∷ text) behind) ∙ rest.0) in
+    let short : byte_len ((t ∷ text) ++ behind) ≤ 254 = leb-true _ _ rest.1 in
+    and_from _ _ parts.0
+    (and_from _ _ chars.0 (le-leb (byte_len (t ∷ text)) 254 (omega (arith, byte_len-append (t ∷ text) behind))))
+
+pub may_read-without_last : (text : List ℕ) → may_read text ≡ true → may_read (without_last text) ≡ true
+may_read-without_last text may =
+    may_read-before (without_last text) (drop (length text - 1) text) (ap may_read (take-append-drop (length text - 1) text) ∙ may)
+
+-- the beginning of an okurigana may be one too
+may_end-before : (text behind : List ℕ) → may_end (text ++ behind) ≡ true → may_end text ≡ true
+may_end-before [] behind may = refl
+may_end-before (t ∷ text) behind may =
+    let parts = and_parts (nat_le 1 (byte_len ((t ∷ text) ++ behind))) _ may in
+    let rest = and_parts (nat_le (byte_len ((t ∷ text) ++ behind)) 60) _ parts.1 in
+    let chars = and_parts (list_all is_okuri_char (t ∷ text)) _ (sym (list_all-append is_okuri_char (t ∷ text) behind) ∙ rest.1) in
+    let short : byte_len ((t ∷ text) ++ behind) ≤ 60 = leb-true _ _ rest.0 in
+    and_from _ _ (some_bytes t text)
+    (and_from _ _ (le-leb (byte_len (t ∷ text)) 60 (omega (arith, byte_len-append (t ∷ text) behind))) chars.0)
+
+pub may_end-without_last : (text : List ℕ) → may_end text ≡ true → may_end (without_last text) ≡ true
+may_end-without_last text may =
+    may_end-before (without_last text) (drop (length text - 1) text) (ap may_end (take-append-drop (length text - 1) text) ∙ may)
+
+-- っ alone may stand in an okurigana
+pub doubled_may_end : may_end (0x3063 ∷ []) ≡ true
+unfolding lib.Utf8.encode
+doubled_may_end = refl
+
+-- the last character of a text with one behind it
+last_chars-behind : (text : List ℕ) (c : ℕ) → last_chars 1 (text ++ c ∷ []) ≡ c ∷ []
+last_chars-behind text c =
+    let place : length (text ++ c ∷ []) - 1 ≡ length text = omega (arith, length-append text (c ∷ [])) in
+    ap (λ n. drop n (text ++ c ∷ [])) place ∙ drop-append_seam text (c ∷ [])
+
+-- a reading with a letter behind it is valid with okurigana
+pub with_letter_valid : (text : List ℕ) (letter : ℕ) → may_read text ≡ true → is_letter (letter ∷ []) ≡ true → is_nil text ≡ false
+    → is_row_key (record { part = Ari; reading = text ++ letter ∷ [] }) ≡ true
+with_letter_valid [] letter may is some = cc
+with_letter_valid (t ∷ text) letter may is some =
+    let parts = and_parts (begins_well (t ∷ text)) _ may in
+    let rest = and_parts (list_all is_reading_char (t ∷ text)) _ parts.1 in
+    let range = and_parts (nat_le 0x61 letter) _ is in
+    let from : 0x61 ≤ letter = leb-true _ _ range.0 in
+    let to : letter ≤ 0x7A = leb-true _ _ range.1 in
+    let char : is_reading_char letter ≡ true = and_from _ _ (lt-ltb 0x20 letter (omega arith)) (ap not (ne_eqb letter 0x7F (λ e. omega arith))) in
+    let chars : list_all is_reading_char ((t ∷ text) ++ letter ∷ []) ≡ true =
+    list_all-append is_reading_char (t ∷ text) (letter ∷ []) ∙ and_from _ _ rest.0 (and_from _ _ char refl) in
+    let one : byte_len (letter ∷ []) ≡ 1 = ap (λ bytes. length (bytes ++ [])) (encode_ascii letter (omega arith)) in
+    let short : byte_len (t ∷ text) ≤ 254 = leb-true _ _ rest.1 in
+    let bytes : byte_len ((t ∷ text) ++ letter ∷ []) ≤ 255 = omega (arith, byte_len-append (t ∷ text) (letter ∷ [])) in
+    let two : 2 ≤ length ((t ∷ text) ++ letter ∷ []) = omega (arith, length-append text (letter ∷ [])) in
+    and_from _ _ parts.0
+    (and_from _ _ chars
+    (and_from _ _ (le-leb (byte_len ((t ∷ text) ++ letter ∷ [])) 255 bytes)
+    (and_from _ _ (le-leb 2 (length ((t ∷ text) ++ letter ∷ [])) two) (ap is_letter (last_chars-behind (t ∷ text) letter) ∙ is))))
+
+-- the mark `>` takes one byte
+mark_bytes : byte_len (0x3E ∷ []) ≡ 1
+unfolding lib.Utf8.encode
+mark_bytes = refl
+
+-- a reading with `>` behind it may be one, where it is not too long
+pub mark_read : (text : List ℕ) → may_read text ≡ true → is_nil text ≡ false → byte_len text < 254 → may_read (text ++ 0x3E ∷ []) ≡ true
+mark_read text may some fits = rw (may_read-behind text (0x3E ∷ []) may (omega (arith, mark_bytes)), some) refl
+
+-- `>` is put where it fits, and passes the limit where it does not
+pub mark_put : (text : List ℕ) → may_read text ≡ true → is_nil text ≡ false → byte_len text < 254
+    → refusal 254 may_read text (0x3E ∷ []) ≡ notices.Empty
+mark_put text may some fits =
+    rw (le-ltb 254 (byte_len text + byte_len (0x3E ∷ [])) (omega (arith, mark_bytes)), mark_read text may some fits) refl
+
+pub mark_refused : (text : List ℕ) → 254 ≤ byte_len text → refusal 254 may_read text (0x3E ∷ []) ≡ notices.Limit
+mark_refused text full = rw (lt-ltb 254 (byte_len text + byte_len (0x3E ∷ [])) (omega (arith, mark_bytes))) refl
+
+pub ruleset marks = (mark_read, mark_put, mark_refused, may_read-short, byte_len-append, append_assoc)
+
+pub ruleset shortened = (may_read-without_last, may_end-without_last)
+
+pub ruleset may_reads = (byte_len-empty, may_read-short, may_end-short, may_read-behind, may_end-behind)

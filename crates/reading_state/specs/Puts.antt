@@ -1,0 +1,98 @@
+-- An open reading, what its type keeps, and what is put into it.
+use Rattle.std.specs.Prelude.{ℕ, ◌+◌, Bool, true, false, ◌&&◌, ◌||◌, not, nat_lt, if◌then◌else◌, Option, None, Some, List, [], ◌∷◌, ◌++◌}
+use Rattle.skk_text.specs.Text.{byte_len}
+use Rattle.skk_text.specs.declared.notice.Notice.{Notice}
+use Rattle.skk_text.specs.declared.notice.Notice.TheVariants as notices
+use Rattle.skk_calls.specs.Dictionary.{is_plain_reading}
+use Rattle.skk_calls.specs.Rows.{is_letter, is_okuri}
+
+-- an okurigana that was begun: the letter behind the reading in its key, and its kana so far
+pub record Begun : Type 0 where
+  pub letter : ℕ
+  pub text : List ℕ
+
+-- an open reading: its characters, whether it is an abbreviation, its okurigana where one was begun, and the letters that
+-- wait for more
+pub record Reading : Type 0 where
+  pub text : List ℕ
+  pub is_abbrev : Bool
+  pub okuri : Option Begun
+  pub pending : List ℕ
+
+-- whether a list is empty
+abbrev pub is_nil : List ℕ → Bool
+is_nil [] = true
+is_nil (c ∷ text) = false
+
+-- a reading that was just opened
+abbrev pub new_reading : Reading
+new_reading = record { text = []; is_abbrev = false; okuri = None; pending = [] }
+
+-- an abbreviation that was just opened
+abbrev pub new_abbrev : Reading
+new_abbrev = record { text = []; is_abbrev = true; okuri = None; pending = [] }
+
+-- a text may stand in an open reading: it is empty, or a valid reading without okurigana
+abbrev pub may_read : List ℕ → Bool
+may_read text = is_nil text || is_plain_reading text
+
+-- a text may stand in an okurigana that was begun: it is empty, or a valid okurigana
+abbrev pub may_end : List ℕ → Bool
+may_end text = is_nil text || is_okuri text
+
+-- an okurigana that was begun has a letter from `a` to `z`, a text that may stand in it, and a reading before it
+abbrev pub fits_reading : List ℕ → Option Begun → Bool
+fits_reading text None = true
+fits_reading text (Some begun) = is_letter (begun.letter ∷ []) && (may_end begun.text && not (is_nil text))
+
+-- a reading is one that may be open: its text and its okurigana may stand there
+abbrev pub is_open : Reading → Bool
+is_open reading = may_read reading.text && fits_reading reading.text reading.okuri
+
+-- a reading after a piece was put, or was not, and the notice of that
+pub record Put : Type 0 where
+  pub reading : Reading
+  pub notice : Notice
+
+-- the notice that stands where two are given one after another
+abbrev pub later_notice : Notice → Notice → Notice
+later_notice first notices.Empty = first
+later_notice first second = second
+
+-- the most bytes of a reading
+abbrev pub reading_limit : ℕ
+reading_limit = 254
+
+-- the most bytes of an okurigana
+abbrev pub okuri_limit : ℕ
+okuri_limit = 60
+
+-- why a piece is not put at the end of a text: it would pass its limit, or would not be one that may stand there; nothing
+-- where it is put
+abbrev pub refusal : ℕ → (List ℕ → Bool) → List ℕ → List ℕ → Notice
+refusal limit may_stand text piece =
+    if nat_lt limit (byte_len text + byte_len piece) then notices.Limit
+    else if may_stand (text ++ piece) then notices.Empty
+    else notices.Reading
+
+-- a text with a piece at its end, unless there is a notice against it
+abbrev pub unless_refused : Notice → List ℕ → List ℕ → List ℕ
+unless_refused notices.Empty text piece = text ++ piece
+unless_refused notice text piece = text
+
+-- what putting a piece makes of a reading: the piece goes behind the okurigana where one was begun, or else behind the
+-- reading
+abbrev pub put_into : Reading → Option Begun → List ℕ → Put
+put_into reading None piece =
+    let notice = refusal reading_limit may_read reading.text piece in
+    record { reading = record reading { text = unless_refused notice reading.text piece }; notice = notice }
+put_into reading (Some begun) piece =
+    let notice = refusal okuri_limit may_end begun.text piece in
+    record {
+      reading = record reading { okuri = Some (record { letter = begun.letter; text = unless_refused notice begun.text piece }) };
+      notice = notice;
+    }
+
+-- what putting a piece makes of a reading
+abbrev pub put : Reading → List ℕ → Put
+put reading piece = put_into reading reading.okuri piece

@@ -1,0 +1,135 @@
+ghost use Rattle.std.specs.Prelude.{◌≡◌, ◌≢◌, [], IfOk};
+ghost use Rattle.std.specs.Option.{option_copied, option_map};
+ghost use Rattle.reading_state.specs.Puts.{new_reading, new_abbrev};
+ghost use Rattle.reading_state.specs.Keys.{key_of, okuri_of};
+
+mod deletes;
+mod okurigana;
+mod prefix;
+mod puts;
+
+use romaji_rules::Pending;
+use skk_calls::{Okuri, Part, RowKey};
+use skk_text::{Memory, Text};
+use std::alloc::Global;
+use std::marker::Model;
+
+/// An okurigana that was begun: the letter behind the reading in its key, and its kana so far.
+#[derive(Drop)]
+pub struct Begun {
+    letter: u8,
+    text: Text,
+}
+
+impl Model for Begun {
+    ghost use Rattle.reading_state.specs.Puts.{Begun};
+
+    ghost Value = { Begun };
+
+    ghost view = { λ b. record { letter = b.letter; text = b.text } };
+}
+
+/// An open reading, its okurigana where one was begun, and the letters that wait for more. The reading is empty or valid
+/// without okurigana, of at most 254 bytes. An okurigana has a letter from `a` to `z` and a reading before it, and is
+/// empty or valid, of at most 60 bytes.
+#[derive(Drop)]
+pub struct Reading {
+    text: Text,
+    is_abbrev: bool,
+    okuri: Option<Begun>,
+    pending: Pending,
+}
+
+impl Model for Reading {
+    ghost use Rattle.std.specs.Prelude.{◌≡◌, true};
+    ghost use Rattle.reading_state.specs.Puts.{Reading, is_open};
+
+    ghost Value = { Reading };
+
+    ghost view = { λ r. record { text = r.text; is_abbrev = r.is_abbrev; okuri = r.okuri; pending = r.pending } };
+
+    ghost invariant = { λ r. is_open (record { text = r.text; is_abbrev = r.is_abbrev; okuri = r.okuri; pending = r.pending }) ≡ true };
+}
+
+impl Reading {
+    /// An empty reading. Takes no memory: the reading keeps the allocator for what is put later.
+    pub fn new(alloc: Global) -> Reading
+        ensures { result ≡ new_reading }
+    {
+        Reading {
+            text: Text::new(alloc),
+            is_abbrev: false,
+            okuri: None,
+            pending: Pending::new(),
+        }
+    }
+
+    /// An empty abbreviation. Takes no memory: the reading keeps the allocator for what is put later.
+    pub fn abbrev(alloc: Global) -> Reading
+        ensures { result ≡ new_abbrev }
+    {
+        Reading {
+            text: Text::new(alloc),
+            is_abbrev: true,
+            okuri: None,
+            pending: Pending::new(),
+        }
+    }
+
+    /// The reading without its okurigana.
+    pub fn text(&self) -> &Text
+        ensures { result.now ≡ self.now.text }
+    {
+        &self.text
+    }
+
+    // Whether the reading is an abbreviation.
+    pub(crate) fn is_abbrev(&self) -> bool
+        ensures { result ≡ self.now.is_abbrev }
+    {
+        self.is_abbrev
+    }
+
+    /// The kana of the okurigana, where one was begun: it may have none yet.
+    pub fn begun_text(&self) -> Option<&Text>
+        ensures { option_copied result ≡ option_map (λ begun. begun.text) self.now.okuri }
+    {
+        match &self.okuri {
+            Some(begun) => Some(&begun.text),
+            None => None,
+        }
+    }
+
+    /// The letters that wait for more.
+    pub fn pending(&self) -> &Pending
+        ensures { result.now ≡ self.now.pending }
+    {
+        &self.pending
+    }
+
+    /// The key that the reading is converted by. Takes time in the reading's length.
+    #[tactic(auto, using(crate::proofs::Texts::with_letter_valid))]
+    pub fn key(&self, alloc: Global) -> Result<RowKey, Memory>
+        requires { self.now.text ≢ [] }
+        ensures { IfOk result (λ key. key ≡ key_of self.now) }
+    {
+        let mut text = self.text.copy(alloc)?;
+        match &self.okuri {
+            Some(begun) => {
+                text.push(begun.letter as char)?;
+                Ok(RowKey::new(Part::Ari, text).unwrap())
+            }
+            None => Ok(RowKey::new(Part::Nasi, text).unwrap()),
+        }
+    }
+
+    /// The okurigana that the reading is converted by, where one was begun and has a kana. Takes time in its length.
+    pub fn okuri(&self, alloc: Global) -> Result<Option<Okuri>, Memory>
+        ensures { IfOk result (λ okuri. okuri ≡ okuri_of self.now) }
+    {
+        match &self.okuri {
+            Some(begun) => begun.okuri(alloc),
+            None => Ok(None),
+        }
+    }
+}

@@ -1,0 +1,277 @@
+ghost use Rattle.std.specs.Prelude.{◌≡◌, ◌≤◌, ◌+◌, ◌++◌, ◌∷◌, ◌||◌, [], true, false, None, is_some, IfOk, IfSome, IsNone, OnErr};
+ghost use Rattle.std.specs.List.{list_all};
+ghost use Rattle.std.specs.Str.{chars};
+ghost use Rattle.skk_text.specs.Text.{byte_len};
+ghost use Rattle.skk_calls.specs.Rows.{begins_well, is_reading_char, is_okuri_char};
+ghost use Rattle.romaji_rules.specs.Typed.{flushed, extends_pending};
+ghost use Rattle.reading_state.specs.Puts.{is_nil, may_read, may_end, reading_limit, okuri_limit, refusal, unless_refused, put};
+ghost use Rattle.reading_state.specs.Reading.{with_pending, flush, feed};
+
+use super::Reading;
+use romaji_rules::{Pending, Rules};
+use skk_text::{Memory, Notice, Text};
+use std::alloc::Global;
+
+// The most bytes of a reading.
+pub(super) const READING_LIMIT: usize = 254;
+
+// The most bytes of an okurigana.
+const OKURI_LIMIT: usize = 60;
+
+// What of a piece is put at the end of a text: all of it, or nothing and the notice of that.
+#[derive(Drop)]
+pub(super) struct Accepted {
+    pub(super) text: Text,
+    pub(super) notice: Notice,
+}
+
+impl Accepted {
+    // All of a piece is put.
+    fn all(piece: Text) -> Accepted
+        ensures { result ≡ record { text = piece; notice = Notice.Empty } }
+    {
+        Accepted {
+            text: piece,
+            notice: Notice::Empty,
+        }
+    }
+
+    // Nothing of a piece is put.
+    fn nothing(alloc: Global, notice: Notice) -> Accepted
+        ensures { result ≡ record { text = []; notice = notice } }
+    {
+        Accepted {
+            text: Text::new(alloc),
+            notice,
+        }
+    }
+}
+
+impl Reading {
+    // Puts a piece behind the okurigana where one was begun, or else behind the reading, and leaves these letters pending.
+    pub(crate) fn put(
+        &mut self,
+        alloc: Global,
+        piece: Text,
+        pending: Pending,
+    ) -> Result<Notice, Memory>
+        ensures ok { IfOk result (λ notice. put (with_pending self.old pending) piece ≡ record { reading = self.new; notice = notice }) }
+        ensures err { OnErr result (self.new ≡ self.old) }
+    {
+        let notice = match &mut self.okuri {
+            Some(begun) => put_in_okuri(alloc, &mut begun.text, piece)?,
+            None => put_in_reading(alloc, &mut self.text, piece)?,
+        };
+        self.pending = pending;
+        Ok(notice)
+    }
+
+    // Puts the hiragana of what is pending.
+    pub(crate) fn flush(&mut self, alloc: Global, rules: &Rules) -> Result<Notice, Memory>
+        ensures ok { IfOk result (λ notice. flush rules.now self.old ≡ record { reading = self.new; notice = notice }) }
+        ensures err { OnErr result (self.new ≡ self.old) }
+    {
+        let flushed = self.flushed(alloc, rules)?;
+        self.put(alloc, flushed, Pending::new())
+    }
+
+    // The hiragana of what is pending.
+    pub(super) fn flushed(&self, alloc: Global, rules: &Rules) -> Result<Text, Memory>
+        ensures { IfOk result (λ text. text ≡ (flushed rules.now self.now.pending).hira) }
+    {
+        let mut pending = Pending::of(self.pending.as_slice());
+        let out = rules.flush(alloc, &mut pending)?;
+        Ok(out.hira)
+    }
+
+    // What is put of the hiragana of what is pending, where no okurigana was begun.
+    pub(super) fn accepted_flush(&self, alloc: Global, rules: &Rules) -> Result<Accepted, Memory>
+        requires { self.now.okuri ≡ None }
+        ensures flush { IfOk result (λ accepted. flush rules.now self.now ≡ record {
+          reading = record { text = self.now.text ++ accepted.text; is_abbrev = self.now.is_abbrev; okuri = None; pending = [] };
+          notice = accepted.notice;
+        }) }
+        ensures may { IfOk result (λ accepted. may_read (self.now.text ++ accepted.text) ≡ true) }
+    {
+        let flushed = self.flushed(alloc, rules)?;
+        Ok(accepted_by_reading(alloc, &self.text, flushed))
+    }
+
+    // Puts the hiragana of a character that the rules read.
+    pub(crate) fn feed(&mut self, alloc: Global, rules: &Rules, c: u8) -> Result<Notice, Memory>
+        ensures ok { IfOk result (λ notice. feed rules.now self.old c ≡ record { reading = self.new; notice = notice }) }
+        ensures err { OnErr result (self.new ≡ self.old) }
+    {
+        let mut pending = Pending::of(self.pending.as_slice());
+        let out = rules.feed(alloc, &mut pending, c)?;
+        self.put(alloc, out.hira, pending)
+    }
+
+    // Puts the hiragana of a character that goes on with what is pending; else nothing changes.
+    pub(crate) fn extend(
+        &mut self,
+        alloc: Global,
+        rules: &Rules,
+        c: u8,
+    ) -> Result<Option<Notice>, Memory>
+        ensures exact { IfOk result (λ found. is_some found ≡ extends_pending rules.now self.old.pending c) }
+        ensures some { IfOk result (λ found. IfSome found (λ notice. feed rules.now self.old c ≡ record { reading = self.new; notice = notice })) }
+        ensures none { IfOk result (λ found. IsNone found → self.new ≡ self.old) }
+        ensures err { OnErr result (self.new ≡ self.old) }
+    {
+        let mut pending = Pending::of(self.pending.as_slice());
+        match rules.extend(alloc, &mut pending, c)? {
+            Some(out) => Ok(Some(self.put(alloc, out.hira, pending)?)),
+            None => Ok(None),
+        }
+    }
+
+    // Puts the hiragana of a character that does not go on with what is pending.
+    pub(crate) fn feed_anew(
+        &mut self,
+        alloc: Global,
+        rules: &Rules,
+        c: u8,
+    ) -> Result<Notice, Memory>
+        requires { extends_pending rules.now self.old.pending c ≡ false }
+        ensures ok { IfOk result (λ notice. feed rules.now self.old c ≡ record { reading = self.new; notice = notice }) }
+        ensures err { OnErr result (self.new ≡ self.old) }
+    {
+        let mut pending = Pending::of(self.pending.as_slice());
+        let out = rules.feed_anew(alloc, &mut pending, c)?;
+        self.put(alloc, out.hira, pending)
+    }
+
+    // Puts a character of an abbreviation as itself.
+    pub(crate) fn put_itself(&mut self, alloc: Global, c: u8) -> Result<Notice, Memory>
+        ensures ok { IfOk result (λ notice. put self.old (c ∷ []) ≡ record { reading = self.new; notice = notice }) }
+        ensures err { OnErr result (self.new ≡ self.old) }
+    {
+        let mut piece = Text::new(alloc);
+        piece.push(c as char)?;
+        let pending = Pending::of(self.pending.as_slice());
+        self.put(alloc, piece, pending)
+    }
+}
+
+// Puts a piece at the end of a reading, where it is accepted.
+fn put_in_reading(alloc: Global, text: &mut Text, piece: Text) -> Result<Notice, Memory>
+    requires { may_read text.old ≡ true }
+    ensures notice { IfOk result (λ notice. notice ≡ refusal reading_limit may_read text.old piece) }
+    ensures text { IfOk result (λ notice. text.new ≡ unless_refused notice text.old piece) }
+    ensures may { may_read text.new ≡ true }
+    ensures err { OnErr result (text.new ≡ text.old) }
+{
+    let accepted = accepted_by_reading(alloc, text, piece);
+    text.push_str(accepted.text.as_str())?;
+    Ok(accepted.notice)
+}
+
+// Puts a piece at the end of an okurigana, where it is accepted.
+fn put_in_okuri(alloc: Global, text: &mut Text, piece: Text) -> Result<Notice, Memory>
+    requires { may_end text.old ≡ true }
+    ensures notice { IfOk result (λ notice. notice ≡ refusal okuri_limit may_end text.old piece) }
+    ensures text { IfOk result (λ notice. text.new ≡ unless_refused notice text.old piece) }
+    ensures may { may_end text.new ≡ true }
+    ensures err { OnErr result (text.new ≡ text.old) }
+{
+    let accepted = accepted_by_okuri(alloc, text, piece);
+    text.push_str(accepted.text.as_str())?;
+    Ok(accepted.notice)
+}
+
+// What of a piece is put at the end of a reading. Takes time in the piece's length.
+#[tactic(auto, using(crate::proofs::Texts::may_reads))]
+fn accepted_by_reading(alloc: Global, text: &Text, piece: Text) -> Accepted
+    requires { may_read text.now ≡ true }
+    ensures notice { result.notice ≡ refusal reading_limit may_read text.now piece }
+    ensures text { text.now ++ result.text ≡ unless_refused result.notice text.now piece }
+    ensures may { may_read (text.now ++ result.text) ≡ true }
+{
+    if piece.byte_len() > READING_LIMIT - text.byte_len() {
+        return Accepted::nothing(alloc, Notice::Limit);
+    }
+    if !may_read_behind(text, &piece) {
+        return Accepted::nothing(alloc, Notice::Reading);
+    }
+    Accepted::all(piece)
+}
+
+// What of a piece is put at the end of an okurigana. Takes time in the piece's length.
+#[tactic(auto, using(crate::proofs::Texts::may_reads))]
+pub(super) fn accepted_by_okuri(alloc: Global, text: &Text, piece: Text) -> Accepted
+    requires { may_end text.now ≡ true }
+    ensures notice { result.notice ≡ refusal okuri_limit may_end text.now piece }
+    ensures text { text.now ++ result.text ≡ unless_refused result.notice text.now piece }
+    ensures may { may_end (text.now ++ result.text) ≡ true }
+{
+    if piece.byte_len() > OKURI_LIMIT - text.byte_len() {
+        return Accepted::nothing(alloc, Notice::Limit);
+    }
+    if !may_end_behind(text, &piece) {
+        return Accepted::nothing(alloc, Notice::Reading);
+    }
+    Accepted::all(piece)
+}
+
+// Whether a text is empty.
+#[tactic(auto, using(crate::proofs::Texts::may_reads))]
+pub(super) fn is_empty(text: &Text) -> bool
+    ensures { result ≡ is_nil text.now }
+{
+    text.byte_len() == 0
+}
+
+// Whether a text with a piece behind it is empty.
+#[tactic(auto, using(crate::proofs::Texts::is_nil_append))]
+pub(super) fn both_empty(text: &Text, piece: &Text) -> bool
+    ensures { result ≡ is_nil (text.now ++ piece.now) }
+{
+    is_empty(text) && is_empty(piece)
+}
+
+// Whether a reading with a piece behind it may be one, where it is not too long.
+#[tactic(auto, using(crate::proofs::Texts::may_reads))]
+fn may_read_behind(text: &Text, piece: &Text) -> bool
+    requires may { may_read text.now ≡ true }
+    requires fits { byte_len text.now + byte_len piece.now ≤ reading_limit }
+    ensures { result ≡ may_read (text.now ++ piece.now) }
+{
+    let piece = piece.as_str();
+    are_reading_chars(piece) && (!is_empty(text) || may_begin(piece))
+}
+
+// Whether an okurigana with a piece behind it may be one, where it is not too long.
+#[tactic(auto, using(crate::proofs::Texts::may_reads))]
+fn may_end_behind(text: &Text, piece: &Text) -> bool
+    requires may { may_end text.now ≡ true }
+    requires fits { byte_len text.now + byte_len piece.now ≤ okuri_limit }
+    ensures { result ≡ may_end (text.now ++ piece.now) }
+{
+    are_okuri_chars(piece.as_str())
+}
+
+// Whether a text is empty, or begins with something else than `;`.
+fn may_begin(text: &str) -> bool
+    ensures { result ≡ (is_nil (chars text.now) || begins_well (chars text.now)) }
+{
+    match text.chars().next() {
+        Some(c) => c != ';',
+        None => true,
+    }
+}
+
+// Whether each character may stand in a reading.
+fn are_reading_chars(text: &str) -> bool
+    ensures { result ≡ list_all is_reading_char (chars text.now) }
+{
+    text.chars().all(|c| c > ' ' && c != '\u{7F}')
+}
+
+// Whether each character may stand in an okurigana.
+fn are_okuri_chars(text: &str) -> bool
+    ensures { result ≡ list_all is_okuri_char (chars text.now) }
+{
+    text.chars()
+        .all(|c| matches!(c, 'ぁ'..='ゖ' | 'ゝ' | 'ゞ' | 'ー'))
+}

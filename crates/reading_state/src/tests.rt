@@ -1,0 +1,127 @@
+use crate::{AfterConfirm, Reading, ReadingDo, ReadingThen, press_reading};
+use romaji_rules::Rules;
+use skk_calls::{Okuri, Part};
+use skk_text::{Key, Notice, read_keys};
+use std::alloc::{AllocError, Global};
+use std::test::Fail;
+
+// What is typed into a new reading, where `_` is the space; `=`; the reading, with `*` before the kana of an okurigana
+// that was begun; `:` and what is pending; and then what the last key tells, and what it does.
+const CASES: &str = "
+kanj=かん:j:Empty:stay kanji=かんじ::Empty:stay a1;-=あ1;ー::Empty:stay ;=::Reading:stay
+Kanji_=かんじ::Empty:convert kan_=かん::Empty:convert _=::Empty:drop k_=::Empty:drop
+ugoK_=うご::Empty:stay YoN_=よ*ん::Empty:convert
+kanq=かん::Empty:other kal=か::Empty:ascii kazl=か→::Empty:stay kanL=かん::Empty:wide kakQ=か::Empty:open
+cho>=ちょ>::Empty:convert n>=ん>::Empty:convert k>=>::Empty:stay ooK>=おお*::Reading:stay
+ITta=い*った::Empty:convert ItTa=い*った::Empty:convert ItT=い*っ:t:Empty:stay
+UgoKu=うご*く::Empty:convert UgoK=うご*:k:Empty:stay OoK1=おお*::Reading:stay
+YoNde=よ*んで::Empty:convert KanJi=かん*じ::Empty:convert kK=:k:Empty:stay KaI=か*い::Empty:convert
+kan<cj>=かん::Empty:confirm kan<ret>=かん::Empty:newline kan<cg>=か:n:Empty:drop kan<undo>=か:n:NoUndo:stay
+kan<tab>=かん::Empty:complete ugoK<tab>=うご*:k:NoCompletion:stay
+kany<bs>=か:n:Empty:stay kana<bs>=か::Empty:stay ItTa<bs>=い*っ::Empty:stay ItTa<bs><bs>=い::Empty:stay
+UgoK<bs>=うご::Empty:stay OoK1<bs>=お::Empty:stay <bs>=::Empty:drop
+";
+
+// What is done with a reading, in a word.
+fn word_of(then: ReadingThen) -> &'static str {
+    match then {
+        ReadingThen::Stay => "stay",
+        ReadingThen::Convert => "convert",
+        ReadingThen::AskCompletions => "complete",
+        ReadingThen::Drop => "drop",
+        ReadingThen::Confirm { other, then } => {
+            if other {
+                return "other";
+            }
+            match then {
+                AfterConfirm::Nothing => "confirm",
+                AfterConfirm::ToAscii => "ascii",
+                AfterConfirm::ToWide => "wide",
+                AfterConfirm::OpenReading => "open",
+                AfterConfirm::Newline => "newline",
+            }
+        }
+    }
+}
+
+// A reading and what is done with it, as the cases have it.
+fn shown(alloc: Global, reading: &Reading, done: ReadingDo) -> Result<String, AllocError> {
+    let text = reading.text().as_str();
+    let pending = reading.pending().as_str();
+    let then = word_of(done.then);
+    let notice = done.notice;
+    match reading.begun_text() {
+        Some(kana) => format!(in alloc; "{text}*{}:{pending}:{notice:?}:{then}", kana.as_str()),
+        None => format!(in alloc; "{text}:{pending}:{notice:?}:{then}"),
+    }
+}
+
+// Presses keys, and gives what the last one gives.
+fn press_keys(
+    alloc: Global,
+    reading: &mut Reading,
+    rules: &Rules,
+    keys: &str,
+) -> Result<ReadingDo, Fail> {
+    let mut done = ReadingDo {
+        notice: Notice::Empty,
+        then: ReadingThen::Stay,
+    };
+    let keys = read_keys(alloc, keys.as_bytes())?;
+    for key in keys.as_slice() {
+        let key = match *key {
+            Key::Char(b'_') => Key::Char(b' '),
+            other => other,
+        };
+        done = press_reading(alloc, reading, rules, key)?;
+    }
+    Ok(done)
+}
+
+#[test]
+fn keys_make_a_reading(rt: HostRuntime) -> Result<(), Fail> {
+    let alloc = rt.alloc();
+    let rules = Rules::standard(alloc)?;
+    assert_eq!(rt; CASES.split_whitespace().count(), 42);
+    for case in CASES.split_whitespace() {
+        let (keys, wanted) = case.split_once('=').ok_or("no `=`")?;
+        let mut reading = Reading::new(alloc);
+        let done = press_keys(alloc, &mut reading, &rules, keys)?;
+        assert_eq!(rt;
+            shown(alloc, &reading, done)?.as_str(),
+            wanted,
+            "typed {keys}"
+        );
+    }
+    Ok(())
+}
+
+// The kana of an okurigana, or nothing where there is none.
+fn kana(okuri: &Option<Okuri>) -> &str {
+    match okuri {
+        Some(okuri) => okuri.text().as_str(),
+        None => "",
+    }
+}
+
+// A reading is converted by its text, with the letter of an okurigana, and an abbreviation as it was typed.
+#[test]
+fn readings_are_converted_by_their_keys(rt: HostRuntime) -> Result<(), Fail> {
+    let alloc = rt.alloc();
+    let rules = Rules::standard(alloc)?;
+    let mut reading = Reading::new(alloc);
+    press_keys(alloc, &mut reading, &rules, "ugoKu")?;
+    assert!(rt; reading.text().byte_len() > 0);
+    let key = reading.key(alloc)?;
+    assert_eq!(rt; key.part(), Part::Ari);
+    assert_eq!(rt; key.reading().as_str(), "うごk");
+    assert_eq!(rt; kana(&reading.okuri(alloc)?), "く");
+    let mut abbrev = Reading::abbrev(alloc);
+    press_keys(alloc, &mut abbrev, &rules, "Vim9_")?;
+    assert!(rt; abbrev.text().byte_len() > 0);
+    let key = abbrev.key(alloc)?;
+    assert_eq!(rt; key.part(), Part::Nasi);
+    assert_eq!(rt; key.reading().as_str(), "Vim9");
+    assert!(rt; abbrev.okuri(alloc)?.is_none());
+    Ok(())
+}

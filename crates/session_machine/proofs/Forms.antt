@@ -1,0 +1,101 @@
+-- How parts of what is shown are printed.
+use Rattle.std.proofs.Common.{◌≡◌, ◌<◌, ◌≤◌, ◌+◌, ◌%◌, ◌^◌, ◌∙◌, sym, ap, ℕ, true, false, Some, List, ◌++◌, ◌∷◌, [], length, drop, get_or, refl, arith, append_assoc, inl, inr}
+use Rattle.std.specs.Fmt.{decimal}
+use Rattle.std.specs.List.{slice_get}
+use Rattle.std.specs.Str.{chars}
+use Rattle.std.proofs.lemmas.Bool.{cases_Bool}
+use Rattle.std.proofs.lemmas.Bool.Decides.{nat_tests}
+use Rattle.std.proofs.lemmas.Fmt.{decimal_by_steps, IsAscii-decimal}
+use Rattle.std.proofs.lemmas.List.{drop_more, drop_all}
+use Rattle.std.proofs.lemmas.List.Concat.{flat_map-append}
+use Rattle.std.proofs.lemmas.List.Folds.{list_any_at}
+use Rattle.std.proofs.lemmas.Option.{slice_get_within, get_or_from_slice_get}
+use Rattle.std.proofs.lemmas.Str.{chars-IsAscii, length-le-encodes}
+use Rattle.skk_text.specs.Characters.{code}
+use Rattle.skk_text.specs.Text.{byte_len}
+use Rattle.candidate_state.specs.Shown.{Shown}
+use Rattle.session_machine.specs.Display.{escaped, has_escape, printed_form, first_text, first_note, lettered, page_letters}
+use Rattle.session_machine.proofs.Escapes.{plain}
+
+-- parts are printed one behind the other
+pub form-append : (text behind : List ℕ) → printed_form (text ++ behind) ≡ printed_form text ++ printed_form behind
+form-append text behind = flat_map-append escaped text behind
+
+-- a text that is put behind a page, and more behind it, are put there together
+pub more : (page text behind : List ℕ) {one two : List ℕ} → one ≡ page ++ printed_form text → two ≡ one ++ printed_form behind → two ≡ page ++ printed_form (text ++ behind)
+more page text behind e f =
+    f ∙ ap (λ cs. cs ++ printed_form behind) e ∙ append_assoc page (printed_form text) (printed_form behind) ∙ ap (λ cs. page ++ cs) (sym (form-append text behind))
+
+-- a digit is printed as it is
+digit-plain : (n : ℕ) → n < 10 → printed_form ((48 + n) ∷ []) ≡ (48 + n) ∷ []
+digit-plain n small = ap (λ cs. cs ++ []) (plain (48 + n) (grind (arith, nat_tests)))
+
+-- a number is printed as it is
+pub decimal-plain : (n : ℕ) → n < 2 ^ 64 → printed_form (decimal n) ≡ decimal n
+decimal-plain = decimal_by_steps (λ n ds. printed_form ds ≡ ds) digit-plain
+    (λ n ds many shorter. form-append ds ((48 + n % 10) ∷ []) ∙ ap (λ cs. cs ++ printed_form ((48 + n % 10) ∷ [])) shorter ∙ ap (λ cs. ds ++ cs) (digit-plain (n % 10) (omega arith)))
+
+-- the digits of a number are its characters, and are printed as they are
+pub decimal-printed : (n : ℕ) → n < 2 ^ 64 → chars (decimal n) ≡ printed_form (decimal n)
+decimal-printed n fits = chars-IsAscii (decimal n) (IsAscii-decimal n fits) ∙ sym (decimal-plain n fits)
+
+-- the candidate of a place is the first of those from it on
+pub first_text-at : (shown : List Shown) (place : ℕ) (cand : Shown) → slice_get shown place ≡ Some cand → first_text (drop place shown) ≡ cand.text
+first_text-at shown place cand found =
+    ap first_text (drop_more shown place cand (slice_get_within shown place cand found)) ∙ ap (λ s. s.text) (get_or_from_slice_get shown place cand cand found)
+
+-- so is its note
+pub first_note-at : (shown : List Shown) (place : ℕ) (cand : Shown) → slice_get shown place ≡ Some cand → first_note (drop place shown) ≡ cand.cand.note
+first_note-at shown place cand found =
+    ap first_note (drop_more shown place cand (slice_get_within shown place cand found)) ∙ ap (λ s. s.cand.note) (get_or_from_slice_get shown place cand cand found)
+
+-- a text of no bytes is empty
+pub note-none : (note : List ℕ) → byte_len note ≡ 0 → note ≡ []
+note-none [] e = refl
+note-none (c ∷ note) e = absurd (omega (arith, e, length-le-encodes (c ∷ note)))
+
+-- the letters of a page are printed as they are
+letter-plain : (count : ℕ) → count < 7 → has_escape (get_or page_letters count 0) ≡ false
+letter-plain count within =
+    elim (cases_Bool (has_escape (get_or page_letters count 0))) [ inl some ↦ let differ : false ≡ true = list_any_at has_escape page_letters count 0 within some in cc | inr none ↦ none ]
+
+-- candidates behind their letters are printed as the first of them behind its letter, and the others behind theirs
+lettered-some : (shown : List Shown) (count place : ℕ) (cand : Shown) → count < 7 → slice_get shown place ≡ Some cand
+    → printed_form (lettered (drop count page_letters) (drop place shown))
+    ≡ get_or page_letters count 0 ∷ code ":" ∷ printed_form cand.text ++ code " " ∷ printed_form (lettered (drop (count + 1) page_letters) (drop (place + 1) shown))
+lettered-some shown count place cand within found =
+    let letter = get_or page_letters count 0 in
+    let others = lettered (drop (count + 1) page_letters) (drop (place + 1) shown) in
+    ap (λ ls. printed_form (lettered ls (drop place shown))) (drop_more page_letters count 0 within)
+    ∙ ap (λ cs. printed_form (lettered (letter ∷ drop (count + 1) page_letters) cs)) (drop_more shown place cand (slice_get_within shown place cand found))
+    ∙ ap (λ c. printed_form (letter ∷ code ":" ∷ c.text ++ code " " ∷ others)) (get_or_from_slice_get shown place cand cand found)
+    ∙ ap (λ cs. cs ++ code ":" ∷ printed_form (cand.text ++ code " " ∷ others)) (plain letter (letter-plain count within))
+    ∙ ap (λ cs. letter ∷ code ":" ∷ cs) (form-append cand.text (code " " ∷ others))
+
+-- a page with the candidate of a place behind its letter, and with the others, is the page before with that one and the others
+pub lettered-next : (page next whole : List ℕ) (shown : List Shown) (count first : ℕ) (cand : Shown)
+    → count < 7 → slice_get shown (first + count) ≡ Some cand
+    → next ≡ page ++ get_or page_letters count 0 ∷ code ":" ∷ printed_form cand.text ++ code " " ∷ []
+    → page ++ printed_form (lettered (drop count page_letters) (drop (first + count) shown)) ≡ whole
+    → next ++ printed_form (lettered (drop (count + 1) page_letters) (drop (first + (count + 1)) shown)) ≡ whole
+lettered-next page next whole shown count first cand within found added all =
+    let one = get_or page_letters count 0 ∷ code ":" ∷ printed_form cand.text in
+    let others = printed_form (lettered (drop (count + 1) page_letters) (drop (first + count + 1) shown)) in
+    let place : first + (count + 1) ≡ first + count + 1 = omega arith in
+    ap (λ place. next ++ printed_form (lettered (drop (count + 1) page_letters) (drop place shown))) place
+    ∙ ap (λ cs. cs ++ others) added ∙ append_assoc (page ++ one) (code " " ∷ []) others ∙ append_assoc page one (code " " ∷ others)
+    ∙ ap (λ cs. page ++ cs) (sym (lettered-some shown count (first + count) cand within found)) ∙ all
+
+-- where no candidate is left, nothing is printed
+pub lettered-none : (letters : List ℕ) (shown : List Shown) (place : ℕ) → length shown ≤ place → printed_form (lettered letters (drop place shown)) ≡ []
+lettered-none letters shown place past = ap (λ cs. printed_form (lettered letters cs)) (drop_all place shown past) ∙ none letters
+  where
+    none : (letters : List ℕ) → printed_form (lettered letters []) ≡ []
+    none [] = refl
+    none (letter ∷ letters) = refl
+
+pub ruleset numbers = decimal-printed
+
+pub ruleset first_shown = (first_text-at, first_note-at)
+
+pub ruleset ascii = chars-IsAscii

@@ -1,0 +1,186 @@
+-- No text passes its limit.
+use Rattle.std.proofs.Common.{◌≡◌, ◌≤◌, ◌+◌, ◌-◌, ◌==◌, ◌∙◌, sym, ap, ℕ, Bool, true, false, Option, Some, None, List, [], ◌∷◌, length, drop, leb-true, subst, arith, refl, if◌then◌else◌}
+use Rattle.std.specs.Prelude.{⊤}
+use Rattle.std.proofs.lemmas.List.{take-append-drop}
+use Rattle.std.specs.List.{list_any}
+use Rattle.std.specs.Option.{option_map_or}
+use Rattle.skk_text.specs.TextLaws.{byte_len-append}
+use Rattle.skk_text.specs.Text.{byte_len, without_last}
+use Rattle.skk_text.specs.declared.key.Key.{Key}
+use Rattle.skk_text.specs.declared.key.Key.TheVariants.{Char}
+use Rattle.skk_text.specs.declared.notice.Notice.{Notice}
+use Rattle.skk_text.specs.declared.notice.Notice.TheVariants as notices
+use Rattle.romaji_rules.specs.declared.rule.Rule.{Rule}
+use Rattle.skk_calls.specs.declared.answer.Answer.{Answer}
+use Rattle.skk_calls.specs.declared.answer.Answer.TheVariants.{Done, Refused}
+use Rattle.skk_calls.specs.declared.answer.Reply.TheVariants as replies
+use Rattle.skk_calls.specs.Interactions.{ends, asks, prints, followed_by, Dialog, Comes}
+use Rattle.kana_input.specs.declared.plain.PlainThen.{PlainThen}
+use Rattle.kana_input.specs.declared.plain.PlainThen.TheVariants as plain
+use Rattle.kana_input.specs.Plain.{plain_step}
+use Rattle.reading_state.specs.declared.reading_do.AfterConfirm.{AfterConfirm}
+use Rattle.reading_state.specs.declared.reading_do.AfterConfirm.TheVariants as behind
+use Rattle.reading_state.specs.declared.reading_do.ReadingThen.{ReadingThen}
+use Rattle.reading_state.specs.declared.reading_do.ReadingThen.TheVariants as effects
+use Rattle.reading_state.specs.Keys.{key_of}
+use Rattle.reading_state.specs.Puts.{Reading, new_reading}
+use Rattle.reading_state.specs.Reading.{reading_step}
+use Rattle.candidate_state.specs.declared.cands_do.CandsDo.{CandsDo}
+use Rattle.candidate_state.specs.declared.cands_do.CandsDo.TheVariants as cands
+use Rattle.candidate_state.specs.Picking.{picking_step}
+use Rattle.candidate_state.specs.Shown.{Shown, shown_plain}
+use Rattle.session_machine.specs.declared.frame.Conversion.{Conversion}
+use Rattle.session_machine.specs.declared.frame.State.{State}
+use Rattle.session_machine.specs.declared.frame.State.TheVariants as states
+use Rattle.session_machine.specs.Pressed.{Meaning, picked, looked_up, converted, reading_inserted, after_confirmed, confirmed, reading_effect, reading_pressed, plain_effect, plain_pressed, picking_effect, picking_pressed, state_pressed, pressed, all_pressed, is_okuri_key, is_space, is_digit, with_plain}
+use Rattle.session_machine.specs.Session.{Session, text_limit, has_room, with_piece, with_insertion, noting, before_key, with_state}
+
+-- the text of the frame is within its limit
+abbrev pub Fits : Session → Type 0
+Fits session = byte_len session.frame.text ≤ text_limit
+
+-- each session that a meaning may come to fits, whatever it is answered
+abbrev pub AllFit : Meaning → Type 0
+AllFit (ends None) = ⊤
+AllFit (ends (Some session)) = Fits session
+AllFit (asks call next) = (answer : Answer) → AllFit (next answer)
+AllFit (prints text rest) = AllFit rest
+
+-- so it does by the answers that it was given
+pub comes-fits : (meaning : Meaning) (dialog : Dialog) (session : Session) → AllFit meaning → Comes meaning dialog (Some session) → Fits session
+comes-fits (ends None) [] session fit comes = cc
+comes-fits (ends (Some end)) [] session fit comes = let same : end ≡ session = cc in subst Fits same fit
+comes-fits (ends end) (pair ∷ dialog) session fit comes = absurd comes
+comes-fits (asks call next) [] session fit comes = absurd comes
+comes-fits (asks call next) (pair ∷ dialog) session fit comes = comes-fits (next pair.1) dialog session (fit pair.1) comes.1
+comes-fits (prints text rest) [] session fit comes = absurd comes
+comes-fits (prints text rest) (pair ∷ dialog) session fit comes = absurd comes
+
+-- a text without its last character is no longer
+shorter : (text : List ℕ) → byte_len (without_last text) ≤ byte_len text
+shorter text =
+    let front = without_last text in
+    let back = drop (length text - 1) text in
+    omega (arith, sym (ap byte_len (take-append-drop (length text - 1) text)) ∙ byte_len-append front back)
+
+noted-fits : (session : Session) (notice : Notice) → Fits session → Fits (noting session notice)
+noted-fits session notices.Empty fits = fits
+noted-fits session notice fits = fits
+
+piece-fits : (session : Session) (piece : List ℕ) → has_room session piece ≡ true → Fits (with_piece session piece)
+piece-fits session piece room =
+    omega (arith, byte_len-append session.frame.text piece, leb-true (byte_len session.frame.text + byte_len piece) text_limit room)
+
+inserted-fits : (session : Session) (piece : List ℕ) → Fits session → Fits (with_insertion session piece)
+inserted-fits session piece fits = by (has_room session piece) refl
+  where
+    by : (room : Bool) → has_room session piece ≡ room → Fits (if room then with_piece session piece else noting session notices.Limit)
+    by true e = piece-fits session piece e
+    by false e = fits
+
+after-fits : (session : Session) (after : AfterConfirm) → Fits session → Fits (after_confirmed session after)
+after-fits session behind.Nothing fits = fits
+after-fits session behind.ToAscii fits = fits
+after-fits session behind.ToWide fits = fits
+after-fits session behind.OpenReading fits = fits
+after-fits session behind.Newline fits = inserted-fits session (10 ∷ []) fits
+
+confirmed-fits : (session : Session) (reading : Reading) (other : Bool) (after : AfterConfirm) → Fits session → Fits (confirmed session reading other after)
+confirmed-fits session reading other after fits = by (has_room session (reading_inserted session.frame.mode reading other)) refl
+  where
+    by : (room : Bool) → has_room session (reading_inserted session.frame.mode reading other) ≡ room
+        → Fits (if room then after_confirmed (with_piece session (reading_inserted session.frame.mode reading other)) after else noting (with_state session (states.Reading reading)) notices.Limit)
+    by true e =
+        let piece = reading_inserted session.frame.mode reading other in
+        after-fits (with_piece session piece) after (piece-fits session piece e)
+    by false e = fits
+
+picked-fit : (session : Session) (reading : Reading) (shown : List Shown) → Fits session → AllFit (picked session reading shown)
+picked-fit session reading shown fits = by (length shown == 0) refl
+  where
+    by : (none : Bool) → (length shown == 0) ≡ none → AllFit (picked session reading shown)
+    by true e = rw e tt
+    by false e = rw e fits
+
+looked-fit : (session : Session) (reading : Reading) (answer : Answer) → Fits session → AllFit (looked_up session reading answer)
+looked-fit session reading (Done (replies.Found found)) fits = picked-fit session reading (shown_plain (key_of reading) found) fits
+looked-fit session reading (Done reply) fits = fits
+looked-fit session reading (Refused refusal) fits = fits
+
+converted-fit : (session : Session) (reading : Reading) → Fits session → AllFit (converted session reading)
+converted-fit session reading fits = by (list_any is_digit reading.text) refl
+  where
+    by : (digits : Bool) → list_any is_digit reading.text ≡ digits → AllFit (converted session reading)
+    by true e = rw e tt
+    by false e = rw e (λ answer. looked-fit session reading answer fits)
+
+reading-effect-fit : (session : Session) (reading : Reading) (key : Key) (effect : ReadingThen) → Fits session → AllFit (reading_effect session reading key effect)
+reading-effect-fit session reading key effects.Stay fits = fits
+reading-effect-fit session reading key effects.Convert fits = by (is_space key) refl
+  where
+    by : (space : Bool) → is_space key ≡ space → AllFit (reading_effect session reading key effects.Convert)
+    by true e = rw e (converted-fit session reading fits)
+    by false e = rw e tt
+reading-effect-fit session reading key effects.AskCompletions fits = tt
+reading-effect-fit session reading key effects.Drop fits = fits
+reading-effect-fit session reading key (effects.Confirm other after) fits = confirmed-fits session reading other after fits
+
+reading-fit : (rules : List Rule) (session : Session) (reading : Reading) (key : Key) → Fits session → AllFit (reading_pressed rules session reading key)
+reading-fit rules session reading key fits = by (is_okuri_key key) refl
+  where
+    by : (later : Bool) → is_okuri_key key ≡ later → AllFit (reading_pressed rules session reading key)
+    by true e = rw e tt
+    by false e =
+        let step = reading_step rules reading key in
+        rw e (reading-effect-fit (noting session step.done.notice) step.reading key step.done.then (noted-fits session step.done.notice fits))
+
+plain-effect-fit : (rules : List Rule) (session : Session) (effect : PlainThen) → Fits session → AllFit (plain_effect rules session effect)
+plain-effect-fit rules session plain.Stay fits = fits
+plain-effect-fit rules session plain.DeleteLast fits = omega (arith, fits, shorter session.frame.text)
+plain-effect-fit rules session plain.Newline fits = inserted-fits session (10 ∷ []) fits
+plain-effect-fit rules session (plain.OpenReading None) fits = fits
+plain-effect-fit rules session (plain.OpenReading (Some letter)) fits = reading-fit rules session new_reading (Char letter) fits
+plain-effect-fit rules session plain.OpenAbbrev fits = tt
+plain-effect-fit rules session plain.Cancel fits = fits
+plain-effect-fit rules session plain.AskUndo fits = fits
+
+plain-fit : (rules : List Rule) (session : Session) (pending : List ℕ) (key : Key) → Fits session → AllFit (plain_pressed rules session pending key)
+plain-fit rules session pending key fits =
+    let step = plain_step rules (record { mode = session.frame.mode; pending = pending }) key in
+    plain-effect-fit rules (with_insertion (with_plain session step.plain) step.done.insert) step.done.then
+    (inserted-fits (with_plain session step.plain) step.done.insert fits)
+
+picking-effect-fit : (session : Session) (conversion : Conversion) (effect : CandsDo) → Fits session → AllFit (picking_effect session conversion effect)
+picking-effect-fit session conversion (cands.Stay notice) fits = noted-fits (with_state session (states.Picking conversion)) notice fits
+picking-effect-fit session conversion cands.Back fits = fits
+picking-effect-fit session conversion cands.Register fits = tt
+picking-effect-fit session conversion cands.Purge fits = tt
+picking-effect-fit session conversion (cands.Choose place after) fits = tt
+
+picking-fit : (session : Session) (conversion : Conversion) (key : Key) → Fits session → AllFit (picking_pressed session conversion key)
+picking-fit session conversion key fits = by (picking_step conversion.picking key).picking.question refl
+  where
+    by : (asked : Bool) → (picking_step conversion.picking key).picking.question ≡ asked → AllFit (picking_pressed session conversion key)
+    by true e = rw e tt
+    by false e =
+        let step = picking_step conversion.picking key in
+        rw e (picking-effect-fit session (record { reading = conversion.reading; picking = step.picking }) step.done fits)
+
+state-fit : (rules : List Rule) (session : Session) (state : State) (key : Key) → Fits session → AllFit (state_pressed rules session state key)
+state-fit rules session (states.Plain pending) key fits = plain-fit rules session pending key fits
+state-fit rules session (states.Reading reading) key fits = reading-fit rules session reading key fits
+state-fit rules session (states.Picking conversion) key fits = picking-fit session conversion key fits
+
+followed-fit : (meaning : Meaning) (behind : Option Session → Meaning) → AllFit meaning → AllFit (behind None)
+    → ((session : Session) → Fits session → AllFit (behind (Some session))) → AllFit (followed_by meaning behind)
+followed-fit (ends None) behind fit none some = none
+followed-fit (ends (Some session)) behind fit none some = some session fit
+followed-fit (asks call next) behind fit none some = λ answer. followed-fit (next answer) behind (fit answer) none some
+followed-fit (prints text rest) behind fit none some = followed-fit rest behind fit none some
+
+-- whatever keys are pressed, and however they are answered
+pub all-fit : (rules : List Rule) (session : Session) (keys : List Key) → Fits session → AllFit (all_pressed rules session keys)
+all-fit rules session [] fits = fits
+all-fit rules session (key ∷ keys) fits =
+    followed-fit (pressed rules session key) (λ next. option_map_or (λ after. all_pressed rules after keys) next (ends None))
+    (state-fit rules (before_key session) session.frame.state key fits) tt (λ after after_fits. all-fit rules after keys after_fits)

@@ -1,0 +1,4 @@
+pub mod Display
+pub mod Pressed
+pub mod Said
+pub mod Session

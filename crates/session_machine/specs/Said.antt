@@ -1,0 +1,21 @@
+-- What a call on a session leaves: what its caller has said, by the session or the fault.
+use Rattle.std.specs.Prelude.{◌≡◌, Result, Some, None, ◌++◌, IfOk, IsErrOf}
+use Rattle.skk_calls.specs.Interactions.{Dialog, Comes, Begins}
+use Rattle.session_machine.specs.Pressed.{Meaning, becomes, not_built}
+use Rattle.session_machine.specs.Session.{Session}
+use Rattle.session_machine.specs.declared.session.PressFault.{PressFault}
+use Rattle.session_machine.specs.declared.session.PressFault.TheVariants as faults
+
+-- a caller has said what a meaning asks, and nothing else: all of it where the session comes out or where something is not
+-- built, and the first of it where memory is out
+pub record Says (meaning : Meaning) (result : Result Session PressFault) (said said' : Dialog) : Type 0 where
+  pub dialog : Dialog
+  pub grows : said' ≡ said ++ dialog
+  pub ok : IfOk result (λ session. Comes meaning dialog (Some session))
+  pub not_built : IsErrOf result faults.NotBuilt → Comes meaning dialog None
+  pub memory : IsErrOf result faults.Memory → Begins meaning dialog
+
+-- a call that asks nothing gives what a meaning comes to: the session, or that something is not built, unless memory is out
+pub record Becomes (meaning : Meaning) (result : Result Session PressFault) : Type 0 where
+  pub ok : IfOk result (λ session. meaning ≡ becomes session)
+  pub not_built : IsErrOf result faults.NotBuilt → meaning ≡ not_built

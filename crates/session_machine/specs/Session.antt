@@ -1,0 +1,84 @@
+-- A session: a typist's frames, and the changes that keys make of them.
+use Rattle.std.specs.Prelude.{ℕ, ◌+◌, Bool, ◌||◌, ◌==◌, nat_le, if◌then◌else◌, List, [], ◌∷◌, ◌++◌}
+use Rattle.skk_text.specs.Text.{byte_len}
+use Rattle.skk_text.specs.declared.mode.Mode.{Mode}
+use Rattle.skk_text.specs.declared.mode.Mode.TheVariants.{Hira}
+use Rattle.skk_text.specs.declared.notice.Notice.{Notice}
+use Rattle.skk_text.specs.declared.notice.Notice.TheVariants as notices
+use Rattle.session_machine.specs.declared.frame.Frame.{Frame}
+use Rattle.session_machine.specs.declared.frame.State.{State}
+use Rattle.session_machine.specs.declared.frame.State.TheVariants.{Plain}
+use Rattle.session_machine.specs.declared.session_notice.SessionNotice.{SessionNotice}
+use Rattle.session_machine.specs.declared.session_notice.SessionNotice.TheVariants.{Step}
+
+-- a session: its typist, the book that it learns in, the frame that its keys go to, the frames outside that one with the
+-- typist's line first, and the notice of the last key
+pub record Session : Type 0 where
+  pub typist : ℕ
+  pub book : ℕ
+  pub frame : Frame
+  pub outer : List Frame
+  pub notice : SessionNotice
+
+-- a session is one that may be: it learns in the shared book, or in its typist's
+abbrev pub is_session : Session → Bool
+is_session session = session.book == 0 || session.book == session.typist
+
+-- the most bytes of a frame's text
+abbrev pub text_limit : ℕ
+text_limit = 1048576
+
+-- a new frame: hiragana mode, an empty text, and nothing pending
+abbrev pub new_frame : Frame
+new_frame = record { text = []; mode = Hira; state = Plain [] }
+
+-- the notice of a key that gives none
+abbrev pub no_notice : SessionNotice
+no_notice = Step notices.Empty
+
+-- a new session of a typist and a book
+abbrev pub new_session : ℕ → ℕ → Session
+new_session typist book = record { typist = typist; book = book; frame = new_frame; outer = []; notice = no_notice }
+
+-- the text of a session's typist, which is that of the outermost frame
+abbrev pub text_among : List Frame → Frame → List ℕ
+text_among [] frame = frame.text
+text_among (outermost ∷ frames) frame = outermost.text
+
+-- the text of a session
+abbrev pub text_of : Session → List ℕ
+text_of session = text_among session.outer session.frame
+
+-- a session with another state of its frame
+abbrev pub with_state : Session → State → Session
+with_state session state = record session { frame = record session.frame { state = state } }
+
+-- a session with another text of its frame
+abbrev pub with_text : Session → List ℕ → Session
+with_text session text = record session { frame = record session.frame { text = text } }
+
+-- a session with another mode of its frame
+abbrev pub with_mode : Session → Mode → Session
+with_mode session mode = record session { frame = record session.frame { mode = mode } }
+
+-- a session with a notice of a step, where it is one
+abbrev pub noting : Session → Notice → Session
+noting session notices.Empty = session
+noting session notice = record session { notice = Step notice }
+
+-- a session as a key finds it: without a notice, and with the state of its frame taken out, which is plain then
+abbrev pub before_key : Session → Session
+before_key session = with_state (record session { notice = no_notice }) (Plain [])
+
+-- whether a piece fits behind the text of a session's frame
+abbrev pub has_room : Session → List ℕ → Bool
+has_room session piece = nat_le (byte_len session.frame.text + byte_len piece) text_limit
+
+-- a session with a piece put at the end of its frame's text
+abbrev pub with_piece : Session → List ℕ → Session
+with_piece session piece = with_text session (session.frame.text ++ piece)
+
+-- a session with a piece inserted, or with the notice of the limit where it does not fit
+abbrev pub with_insertion : Session → List ℕ → Session
+with_insertion session piece =
+    if has_room session piece then with_piece session piece else noting session notices.Limit

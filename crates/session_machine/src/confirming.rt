@@ -1,0 +1,60 @@
+ghost use Rattle.std.specs.Prelude.{◌≡◌, IfOk};
+ghost use Rattle.session_machine.specs.Pressed.{after_confirmed, confirmed, reading_inserted};
+
+use crate::frame::State;
+use crate::kana::{in_kana_of, whole_reading};
+use crate::session::Session;
+use reading_state::{AfterConfirm, Reading};
+use skk_text::{Memory, Mode, Notice, Text};
+use std::alloc::Global;
+
+// Inserts a reading in the frame's kana or in the other, and does what comes behind that. The reading stays open where it
+// does not fit.
+pub(crate) fn confirm(
+    session: Session,
+    alloc: Global,
+    reading: Reading,
+    other: bool,
+    then: AfterConfirm,
+) -> Result<Session, Memory>
+    ensures { IfOk result (λ after. after ≡ confirmed session reading other (then)) }
+{
+    let mut session = session;
+    let piece = reading_inserted(alloc, session.frame.mode, &reading, other)?;
+    if !session.has_room(piece.as_str()) {
+        session.frame.state = State::Reading(reading);
+        session.note(Notice::Limit);
+        return Ok(session);
+    }
+    session.frame.text.push_str(piece.as_str())?;
+    after_confirm(session, alloc, then)
+}
+
+// A reading with its okurigana as it is inserted.
+fn reading_inserted(
+    alloc: Global,
+    mode: Mode,
+    reading: &Reading,
+    other: bool,
+) -> Result<Text, Memory>
+    ensures { IfOk result (λ piece. piece ≡ reading_inserted mode reading.now other) }
+{
+    let mode = if other { mode.other_kana() } else { mode };
+    in_kana_of(alloc, mode, whole_reading(alloc, reading)?)
+}
+
+// Does what comes behind a reading that was inserted.
+#[tactic(auto, using(crate::proofs::Words::words))]
+fn after_confirm(session: Session, alloc: Global, then: AfterConfirm) -> Result<Session, Memory>
+    ensures { IfOk result (λ after. after ≡ after_confirmed session (then)) }
+{
+    let mut session = session;
+    match then {
+        AfterConfirm::Nothing => {}
+        AfterConfirm::ToAscii => session.frame.mode = Mode::Ascii,
+        AfterConfirm::ToWide => session.frame.mode = Mode::Wide,
+        AfterConfirm::OpenReading => session.frame.state = State::Reading(Reading::new(alloc)),
+        AfterConfirm::Newline => session.insert("\n")?,
+    }
+    Ok(session)
+}

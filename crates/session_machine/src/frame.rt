@@ -1,0 +1,34 @@
+use candidate_state::Picking;
+use reading_state::Reading;
+use romaji_rules::Pending;
+use skk_text::{Mode, Text};
+
+/// A text that keys are typed into: the typist's line, or a word that is being registered.
+#[derive(Drop)]
+pub struct Frame {
+    pub text: Text,
+    pub mode: Mode,
+    pub state: State,
+}
+
+/// What a frame's next key goes to.
+#[derive(Drop)]
+pub enum State {
+    /// The plain state, with the letters that wait for more.
+    Plain(Pending),
+    /// ▽: a reading is open.
+    Reading(Reading),
+    /// ▼: candidates are shown.
+    Picking(Conversion),
+}
+
+/// Candidates that are shown for a reading.
+#[derive(Drop)]
+pub struct Conversion {
+    /// As it was when it was converted.
+    pub reading: Reading,
+    pub picking: Picking,
+}
+
+/// Frames, each inside the one before it.
+pub type Frames = skk_text::Sequence<Frame>;

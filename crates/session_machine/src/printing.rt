@@ -1,0 +1,302 @@
+ghost use Rattle.std.specs.Prelude.{◌≡◌, ◌+◌, ◌-◌, ◌<◌, [], ◌∷◌, ◌++◌, OnOk, drop, length};
+ghost use Rattle.std.specs.Fmt.{decimal};
+ghost use Rattle.std.specs.Str.{chars};
+ghost use Rattle.skk_text.specs.Characters.{code};
+ghost use Rattle.skk_text.specs.Modes.{in_kana_of};
+ghost use Rattle.skk_calls.specs.declared.answer.Refusal.TheVariants as refusals;
+ghost use Rattle.candidate_state.specs.Picking.{page_size};
+ghost use Rattle.session_machine.specs.Display.{display, first_note, first_text, indicator, lettered, line, note_text, notice, okuri_shown, page_letters, page_shown, picking_shown, printed_form, question_shown, reading_shown, refusal_text, single_shown, state_note, state_shown, step_text};
+ghost use Rattle.session_machine.specs.Pressed.{kana_begun};
+
+use crate::escaping::push_printed;
+use crate::frame::{Conversion, State};
+use crate::kana::in_kana_of;
+use crate::session::Session;
+use crate::session_notice::SessionNotice;
+use candidate_state::{Picking, Shown, ShownList};
+use itoa::Buffer;
+use reading_state::Reading;
+use romaji_rules::Pending;
+use skk_calls::Refusal;
+use skk_text::{Memory, Mode, Notice, Text, to_katakana};
+use std::alloc::Global;
+
+/// The most characters of a text that are shown.
+const SHOWN: usize = 64;
+
+/// The letters that choose the candidates of a page, in order.
+const LETTERS: [char; 7] = ['A', 'S', 'D', 'F', 'J', 'K', 'L'];
+
+// Adds the line of a session behind a page.
+pub(crate) fn push_line(alloc: Global, page: &mut Text, session: &Session) -> Result<(), Memory>
+    ensures { OnOk result (page.new ≡ page.old ++ line session.now) }
+{
+    page.push_str(indicator(session.frame.mode))?;
+    page.push('\t')?;
+    push_display(alloc, page, session)?;
+    page.push('\t')?;
+    push_notice(page, session)?;
+    page.push('\n')
+}
+
+// Adds the display of a session.
+pub(crate) fn push_display(alloc: Global, page: &mut Text, session: &Session) -> Result<(), Memory>
+    ensures { OnOk result (page.new ≡ page.old ++ display session.now) }
+{
+    let frame = &session.frame;
+    push_printed(page, frame.text.last(SHOWN))?;
+    push_state(alloc, page, frame.mode, &frame.state)
+}
+
+// Adds what is shown of a state.
+fn push_state(alloc: Global, page: &mut Text, mode: Mode, state: &State) -> Result<(), Memory>
+    ensures { OnOk result (page.new ≡ page.old ++ printed_form (state_shown mode state.now)) }
+{
+    match state {
+        State::Plain(pending) => push_pending(page, pending),
+        State::Reading(reading) => push_reading(alloc, page, mode, reading),
+        State::Picking(conversion) => push_picking(alloc, page, mode, conversion),
+    }
+}
+
+// Adds an open reading.
+fn push_reading(alloc: Global, page: &mut Text, mode: Mode, reading: &Reading) -> Result<(), Memory>
+    ensures { OnOk result (page.new ≡ page.old ++ printed_form (reading_shown mode reading.now)) }
+{
+    page.push('▽')?;
+    push_kana(alloc, page, mode, reading.text())?;
+    push_okuri(alloc, page, mode, reading)?;
+    push_pending(page, reading.pending())
+}
+
+// Adds the letters that wait for more.
+#[tactic(auto, using(crate::proofs::Forms::ascii))]
+fn push_pending(page: &mut Text, pending: &Pending) -> Result<(), Memory>
+    ensures { OnOk result (page.new ≡ page.old ++ printed_form pending.now) }
+{
+    push_printed(page, pending.as_str())
+}
+
+// Adds the okurigana of a reading behind a star, where one was begun.
+fn push_okuri(alloc: Global, page: &mut Text, mode: Mode, reading: &Reading) -> Result<(), Memory>
+    ensures { OnOk result (page.new ≡ page.old ++ printed_form (okuri_shown mode reading.now.okuri)) }
+{
+    match reading.begun_text() {
+        Some(okuri) => {
+            page.push('*')?;
+            push_kana(alloc, page, mode, okuri)
+        }
+        None => Ok(()),
+    }
+}
+
+// Adds the kana of an okurigana, where one was begun.
+fn push_begun(alloc: Global, page: &mut Text, mode: Mode, reading: &Reading) -> Result<(), Memory>
+    ensures { OnOk result (page.new ≡ page.old ++ printed_form (in_kana_of mode (kana_begun reading.now.okuri))) }
+{
+    match reading.begun_text() {
+        Some(okuri) => push_kana(alloc, page, mode, okuri),
+        None => Ok(()),
+    }
+}
+
+// Adds a text in the kana of a mode.
+fn push_kana(alloc: Global, page: &mut Text, mode: Mode, text: &Text) -> Result<(), Memory>
+    ensures { OnOk result (page.new ≡ page.old ++ printed_form (in_kana_of mode text.now)) }
+{
+    match mode {
+        Mode::Kata => push_printed(page, to_katakana(alloc, text)?.as_str()),
+        Mode::Hira | Mode::Ascii | Mode::Wide => push_printed(page, text.as_str()),
+    }
+}
+
+// Adds the candidates that are shown.
+fn push_picking(
+    alloc: Global,
+    page: &mut Text,
+    mode: Mode,
+    conversion: &Conversion,
+) -> Result<(), Memory>
+    ensures { OnOk result (page.new ≡ page.old ++ printed_form (picking_shown mode conversion.now)) }
+{
+    if conversion.picking.is_single() {
+        push_single(alloc, page, mode, conversion)
+    } else {
+        push_page(page, &conversion.picking)
+    }
+}
+
+// Adds a single candidate.
+fn push_single(
+    alloc: Global,
+    page: &mut Text,
+    mode: Mode,
+    conversion: &Conversion,
+) -> Result<(), Memory>
+    ensures { OnOk result (page.new ≡ page.old ++ printed_form (single_shown mode conversion.now)) }
+{
+    page.push('▼')?;
+    push_printed(page, picked(&conversion.picking).text.as_str())?;
+    push_begun(alloc, page, mode, &conversion.reading)?;
+    push_question(page, conversion.picking.is_asked())
+}
+
+// The candidate that is picked.
+#[tactic(auto, using(crate::proofs::Forms::first_shown))]
+fn picked(picking: &Picking) -> Shown<'_>
+    ensures text { first_text (drop picking.now.place picking.now.shown) ≡ result.text.now }
+    ensures note { first_note (drop picking.now.place picking.now.shown) ≡ result.cand.now.note }
+{
+    picking.shown().at(picking.place())
+}
+
+// Adds the question of a purge, where it is asked.
+#[tactic(auto, using(crate::proofs::Words::words))]
+fn push_question(page: &mut Text, asked: bool) -> Result<(), Memory>
+    ensures { OnOk result (page.new ≡ page.old ++ printed_form (question_shown asked)) }
+{
+    if asked {
+        page.push_str("[削除 Y/N]")
+    } else {
+        Ok(())
+    }
+}
+
+// Adds a page of candidates.
+fn push_page(page: &mut Text, picking: &Picking) -> Result<(), Memory>
+    ensures { OnOk result (page.new ≡ page.old ++ printed_form (page_shown picking.now)) }
+{
+    page.push_str("▼[")?;
+    push_lettered(page, picking.shown(), picking.place())?;
+    page.push_str("残り ")?;
+    push_count_behind(page, picking)?;
+    page.push(']')
+}
+
+// Adds how many candidates come behind a page.
+fn push_count_behind(page: &mut Text, picking: &Picking) -> Result<(), Memory>
+    ensures { OnOk result (page.new ≡ page.old ++ printed_form (decimal (length picking.now.shown - (picking.now.place + page_size)))) }
+{
+    let count = (picking.shown().len() - picking.place()).saturating_sub(LETTERS.len());
+    push_number(page, count as u64)
+}
+
+// Adds the candidates from a place on behind their letters, as far as there are both.
+fn push_lettered(page: &mut Text, shown: &ShownList, first: usize) -> Result<(), Memory>
+    requires { first < length shown.now }
+    ensures { OnOk result (page.new ≡ page.old ++ printed_form (lettered page_letters (drop first shown.now))) }
+{
+    for (count, letter) in LETTERS.iter().enumerate() {
+        if count >= shown.len() - first {
+            return Ok(());
+        }
+        push_behind_letter(page, *letter, shown.at(first + count).text)?;
+    }
+    Ok(())
+}
+
+// Adds the text of a candidate behind its letter.
+fn push_behind_letter(page: &mut Text, letter: char, text: &Text) -> Result<(), Memory>
+    ensures { OnOk result (page.new ≡ page.old ++ letter ∷ code ":" ∷ printed_form text.now ++ code " " ∷ []) }
+{
+    page.push(letter)?;
+    page.push(':')?;
+    push_printed(page, text.as_str())?;
+    page.push(' ')
+}
+
+// Adds the notice of a session.
+pub(crate) fn push_notice(page: &mut Text, session: &Session) -> Result<(), Memory>
+    ensures { OnOk result (page.new ≡ page.old ++ notice session.now) }
+{
+    match session.notice {
+        SessionNotice::Step(Notice::Empty) => push_state_note(page, &session.frame.state),
+        SessionNotice::Step(notice) => page.push_str(step_text(notice)),
+        SessionNotice::Refused(refusal) => push_refusal(page, refusal),
+    }
+}
+
+// Adds the note of a state: that of a single candidate.
+fn push_state_note(page: &mut Text, state: &State) -> Result<(), Memory>
+    ensures { OnOk result (page.new ≡ page.old ++ printed_form (state_note state.now)) }
+{
+    match state {
+        State::Picking(conversion) if conversion.picking.is_single() => push_note(
+            page,
+            picked(&conversion.picking).cand.note(),
+        ),
+        State::Plain(_) | State::Reading(_) | State::Picking(_) => Ok(()),
+    }
+}
+
+// Adds a note behind a semicolon, where there is one.
+fn push_note(page: &mut Text, note: &Text) -> Result<(), Memory>
+    ensures { OnOk result (page.new ≡ page.old ++ printed_form (note_text note.now)) }
+{
+    if note.byte_len() == 0 {
+        return Ok(());
+    }
+    page.push(';')?;
+    push_printed(page, note.as_str())
+}
+
+// Adds the text of a refusal.
+#[tactic(auto, using(crate::proofs::Words::words))]
+fn push_refusal(page: &mut Text, refusal: Refusal) -> Result<(), Memory>
+    ensures { OnOk result (page.new ≡ page.old ++ printed_form (refusal_text refusal)) }
+{
+    match refusal {
+        Refusal::Memory => page.push_str("refused memory"),
+        Refusal::Disk => page.push_str("refused disk"),
+        Refusal::JournalFull { end, need, limit } => push_full(page, end, need, limit),
+    }
+}
+
+// Adds the text of a refusal because of a full journal.
+fn push_full(page: &mut Text, end: u64, need: u64, limit: u64) -> Result<(), Memory>
+    ensures { OnOk result (page.new ≡ page.old ++ printed_form (refusal_text (refusals.JournalFull end need limit))) }
+{
+    page.push_str("refused full ")?;
+    push_number(page, end)?;
+    page.push(' ')?;
+    push_number(page, need)?;
+    page.push(' ')?;
+    push_number(page, limit)
+}
+
+// Adds a number in decimal.
+#[tactic(auto, using(crate::proofs::Forms::numbers))]
+fn push_number(page: &mut Text, number: u64) -> Result<(), Memory>
+    ensures { OnOk result (page.new ≡ page.old ++ printed_form (decimal number)) }
+{
+    page.push_str(Buffer::new().format(number))
+}
+
+// A mode's indicator.
+#[tactic(auto, using(crate::proofs::Words::words))]
+fn indicator(mode: Mode) -> &'static str
+    ensures { chars result.now ≡ indicator mode }
+{
+    match mode {
+        Mode::Hira => "かな",
+        Mode::Kata => "カナ",
+        Mode::Ascii => "SKK",
+        Mode::Wide => "全英",
+    }
+}
+
+// The text of a step's notice.
+#[tactic(auto, using(crate::proofs::Words::words))]
+fn step_text(notice: Notice) -> &'static str
+    ensures { chars result.now ≡ printed_form (step_text notice) }
+{
+    match notice {
+        Notice::Empty => "",
+        Notice::Limit => "limit",
+        Notice::Reading => "reading",
+        Notice::NoMore => "no-more",
+        Notice::NoCompletion => "no-completion",
+        Notice::NoUndo => "no-undo",
+        Notice::NoCandidate => "no-candidate",
+    }
+}

@@ -1,0 +1,165 @@
+use crate::escaping::push_printed;
+use crate::frame::{Frame, Frames, State};
+use crate::pressing::press_key;
+use crate::printing::{push_display, push_line, push_notice};
+use crate::session_notice::SessionNotice;
+use romaji_rules::{Pending, Rules};
+use skk_calls::Caller;
+use skk_text::{Key, Memory, Mode, Notice, Text};
+use std::alloc::Global;
+use std::marker::Model;
+use thiserror::Error;
+
+/// Why a key was not taken.
+#[derive(Clone, Copy, Debug, PartialEq, Eq, Error)]
+pub enum PressFault {
+    /// What the key does is not built.
+    #[error("not built")]
+    NotBuilt,
+    /// Out of memory.
+    #[error("out of memory")]
+    Memory,
+}
+
+impl From<Memory> for PressFault {
+    ghost use Rattle.std.specs.Prelude.{◌≡◌};
+    ghost use Rattle.session_machine.specs.declared.session.PressFault.TheVariants as faults;
+
+    ghost from_gives = { λ _ fault. fault ≡ faults.Memory };
+
+    fn from(_memory: Memory) -> PressFault {
+        PressFault::Memory
+    }
+}
+
+/// A typist's session: a stack of frames, of which the innermost takes the keys.
+#[derive(Drop)]
+pub struct Session {
+    pub(crate) typist: u16,
+    pub(crate) book: u16,
+    pub(crate) frame: Frame,
+    pub(crate) outer: Frames,
+    pub(crate) notice: SessionNotice,
+}
+
+impl Model for Session {
+    ghost use Rattle.std.specs.Prelude.{◌≡◌, true};
+    ghost use Rattle.session_machine.specs.Session.{Session, is_session};
+
+    ghost Value = { Session };
+
+    ghost view = { λ s. record { typist = s.typist; book = s.book; frame = s.frame; outer = s.outer; notice = s.notice } };
+
+    ghost invariant = { λ s. is_session (record { typist = s.typist; book = s.book; frame = s.frame; outer = s.outer; notice = s.notice }) ≡ true };
+}
+
+impl Session {
+    ghost use Rattle.std.specs.Prelude.{◌≡◌, ◌⊎◌, ◌++◌, IfOk, OnOk};
+    ghost use Rattle.session_machine.specs.Display.{display, notice, line, text_printed};
+    ghost use Rattle.session_machine.specs.Pressed.{pressed, all_pressed};
+    ghost use Rattle.session_machine.specs.Said.{Says};
+    ghost use Rattle.session_machine.specs.Session.{new_session, text_of};
+
+    /// A new session of a typist, who learns in a book: hiragana mode, and an empty text. Takes no memory.
+    pub fn new(alloc: Global, typist: u16, book: u16) -> Session
+        requires { (book ≡ 0) ⊎ (book ≡ typist) }
+        ensures { result ≡ new_session typist book }
+    {
+        let frame = Frame {
+            text: Text::new(alloc),
+            mode: Mode::Hira,
+            state: State::Plain(Pending::new()),
+        };
+        Session {
+            typist,
+            book,
+            frame,
+            outer: Frames::new(alloc),
+            notice: SessionNotice::Step(Notice::Empty),
+        }
+    }
+
+    /// Presses a key, and asks the caller what the key asks. After a fault the session is gone.
+    pub fn press<C: Caller>(
+        self,
+        alloc: Global,
+        rules: &Rules,
+        key: Key,
+        caller: &mut C,
+    ) -> Result<Session, PressFault>
+        ensures said { Says (pressed rules.now self key) result (C.said caller.old) (C.said caller.new) }
+        ensures number { C.number caller.new ≡ C.number caller.old }
+    {
+        press_key(self, alloc, rules, key, caller)
+    }
+
+    /// Presses the keys in order. After a fault the session is gone.
+    pub fn play<C: Caller>(
+        self,
+        alloc: Global,
+        rules: &Rules,
+        keys: &[Key],
+        caller: &mut C,
+    ) -> Result<Session, PressFault>
+        ensures said { Says (all_pressed rules.now self keys.now) result (C.said caller.old) (C.said caller.new) }
+        ensures number { C.number caller.new ≡ C.number caller.old }
+    {
+        let mut session = self;
+        for key in keys {
+            session = session.press(alloc, rules, *key, caller)?;
+        }
+        Ok(session)
+    }
+
+    /// The mode of the frame that takes the keys.
+    pub fn mode(&self) -> Mode
+        ensures { result ≡ self.now.frame.mode }
+    {
+        self.frame.mode
+    }
+
+    /// The typist's text: that of the outermost frame.
+    pub fn text(&self) -> &Text
+        ensures { result.now ≡ text_of self.now }
+    {
+        if self.outer.len() == 0 {
+            return &self.frame.text;
+        }
+        &self.outer.at(0).text
+    }
+
+    /// What is shown of the session, as it is printed: the last 64 characters of the text of the frame that takes the keys,
+    /// and its state. Takes time in what is shown, not in the text's length nor in the number of candidates.
+    pub fn display(&self, alloc: Global) -> Result<Text, Memory>
+        ensures { IfOk result (λ text. text ≡ display self.now) }
+    {
+        let mut text = Text::new(alloc);
+        push_display(alloc, &mut text, self)?;
+        Ok(text)
+    }
+
+    /// What the last key tells the typist, as it is printed: its notice, or where it gave none the note of a single
+    /// candidate behind a `;`.
+    pub fn notice(&self, alloc: Global) -> Result<Text, Memory>
+        ensures { IfOk result (λ text. text ≡ notice self.now) }
+    {
+        let mut text = Text::new(alloc);
+        push_notice(&mut text, self)?;
+        Ok(text)
+    }
+
+    /// Adds the session's line behind a page: the indicator of the mode, the display and the notice, with a TAB between
+    /// two, and LF. Takes time in what is shown.
+    pub fn push_line(&self, alloc: Global, page: &mut Text) -> Result<(), Memory>
+        ensures { OnOk result (page.new ≡ page.old ++ line self.now) }
+    {
+        push_line(alloc, page, self)
+    }
+
+    /// Adds the typist's whole text behind a page, as it is printed.
+    pub fn push_text(&self, page: &mut Text) -> Result<(), Memory>
+        ensures { OnOk result (page.new ≡ page.old ++ text_printed self.now) }
+    {
+        push_printed(page, self.text().as_str())
+    }
+}

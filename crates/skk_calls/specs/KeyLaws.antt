@@ -1,0 +1,62 @@
+-- Texts and keys that are the same are equal.
+use Rattle.std.proofs.Common.{◌≡◌, ℕ, Bool, true, false, List, refl, sym, ◌∙◌, ap}
+use Rattle.std.proofs.lemmas.Bool.{and_from, and_parts}
+use Rattle.std.proofs.lemmas.Bool.Decides.{same_from_decides, Decides-like}
+use Rattle.std.proofs.lemmas.Slice.Eq.{bytes_eq-Decides}
+use Rattle.skk_calls.specs.declared.part.Part.{Part}
+use Rattle.skk_calls.specs.declared.part.Part.TheVariants.{Nasi, Ari}
+use Rattle.skk_calls.specs.Rows.{RowKey, same_text, same_part, same_key}
+
+-- a text is the same as itself
+pub same_itself : (text : List ℕ) → same_text text text ≡ true
+same_itself text = (bytes_eq-Decides text text).1 refl
+
+-- texts that are the same are equal
+pub same_equal : (text other : List ℕ) → same_text text other ≡ true → text ≡ other
+same_equal text other e = (bytes_eq-Decides text other).0 e
+
+-- the order of two texts that are compared does not matter
+pub same_other : (text other : List ℕ) → same_text text other ≡ same_text other text
+same_other text other =
+    same_from_decides (same_text text other) (same_text other text) (bytes_eq-Decides text other)
+    (Decides-like (same_text other text) sym sym (bytes_eq-Decides other text))
+
+-- a part is the same as itself
+pub same_part_itself : (part : Part) → same_part part part ≡ true
+same_part_itself Nasi = refl
+same_part_itself Ari = refl
+
+-- parts that are the same are equal
+pub same_part_equal : (part other : Part) → same_part part other ≡ true → part ≡ other
+same_part_equal Nasi Nasi e = refl
+same_part_equal Ari Ari e = refl
+same_part_equal Nasi Ari e = cc
+same_part_equal Ari Nasi e = cc
+
+-- a key is the same as itself
+pub same_key_itself : (key : RowKey) → same_key key key ≡ true
+same_key_itself key =
+    and_from (same_part key.part key.part) (same_text key.reading key.reading) (same_part_itself key.part) (same_itself key.reading)
+
+-- the key of a part and a reading
+abbrev key_of : Part → List ℕ → RowKey
+key_of part reading = record { part = part; reading = reading }
+
+-- keys that are the same are equal
+pub same_key_equal : (key other : RowKey) → same_key key other ≡ true → key ≡ other
+same_key_equal key other e =
+    let part : key.part ≡ other.part =
+    same_part_equal key.part other.part (and_parts (same_part key.part other.part) (same_text key.reading other.reading) e).0 in
+    let reading : key.reading ≡ other.reading =
+    same_equal key.reading other.reading (and_parts (same_part key.part other.part) (same_text key.reading other.reading) e).1 in
+    ap (λ (p : Part). key_of p key.reading) part ∙ ap (key_of other.part) reading
+
+-- keys that differ differ in either order
+pub same_key_other : (key other : RowKey) → same_key key other ≡ false → same_key other key ≡ false
+same_key_other key other e = by (same_key other key) refl
+  where
+    by : (b : Bool) → same_key other key ≡ b → b ≡ false
+    by true found =
+        let equal : same_key key other ≡ true = ap (same_key key) (same_key_equal other key found) ∙ same_key_itself key in
+        cc
+    by false found = refl

@@ -1,0 +1,40 @@
+-- What a filter keeps, and what a search finds.
+use Rattle.std.specs.Prelude.{◌≡◌, Bool, true, false, not, None, Some, List, [], ◌∷◌, find}
+use Rattle.std.specs.List.{filter, list_all}
+use Rattle.std.proofs.Common.{cond, refl, sym, ◌∙◌, ap}
+use Rattle.std.proofs.lemmas.Bool.{and_parts, not-true}
+
+module _ {X : Type 0} (p : X → Bool) where
+  -- a filter that all pass changes nothing
+  pub filter_all : (xs : List X) → list_all p xs ≡ true → filter p xs ≡ xs
+  filter_all [] e = refl
+  filter_all (x ∷ xs) e =
+      let parts = and_parts (p x) (list_all p xs) e in
+      rw parts.0 (ap (λ ys. x ∷ ys) (filter_all xs parts.1))
+
+  -- each that a filter keeps passes it
+  pub list_all_kept : (xs : List X) → list_all p (filter p xs) ≡ true
+  list_all_kept [] = refl
+  list_all_kept (x ∷ xs) = by (p x) refl (list_all_kept xs)
+    where
+      by : (b : Bool) → p x ≡ b → list_all p (filter p xs) ≡ true → list_all p (cond b (x ∷ filter p xs) (filter p xs)) ≡ true
+      by true e rest = rw e rest
+      by false e rest = rest
+
+  -- where no element passes, nothing is found
+  pub find_none : (xs : List X) → list_all (λ x. not (p x)) xs ≡ true → find p xs ≡ None
+  find_none [] e = refl
+  find_none (x ∷ xs) e =
+      let parts = and_parts (not (p x)) (list_all (λ y. not (p y)) xs) e in
+      rw (not-true (p x) parts.0) (find_none xs parts.1)
+
+-- what holds of each element holds of what is found
+pub list_all_found : {X : Type 0} (p q : X → Bool) (xs : List X) (x : X) → list_all p xs ≡ true → find q xs ≡ Some x → p x ≡ true
+list_all_found p q [] x all e = cc
+list_all_found {X} p q (y ∷ ys) x all e =
+    let parts = and_parts (p y) (list_all p ys) all in
+    by (q y) e parts.0 (list_all_found p q ys x parts.1)
+  where
+    by : (b : Bool) → cond b (Some y) (find q ys) ≡ Some x → p y ≡ true → (find q ys ≡ Some x → p x ≡ true) → p x ≡ true
+    by true found here rest = let same : y ≡ x = cc in ap p (sym same) ∙ here
+    by false found here rest = rest found

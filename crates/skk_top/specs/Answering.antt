@@ -1,0 +1,66 @@
+-- The dictionary that answers a run, and the chronicle of it.
+use Rattle.std.specs.Prelude.{◌≡◌, ◌⊎◌, ⊤, ℕ, Bool, true, false, not, ◌==◌, All, Option, Some, List, []}
+use Rattle.std.specs.List.{list_all}
+use Rattle.skk_calls.specs.declared.answer.Answer.{Answer}
+use Rattle.skk_calls.specs.declared.answer.Answer.TheVariants.{Done, Refused}
+use Rattle.skk_calls.specs.declared.answer.Refusal.TheVariants.{Memory}
+use Rattle.skk_calls.specs.declared.call.Call.{Call}
+use Rattle.skk_calls.specs.declared.chronicle.Noted.{Noted}
+use Rattle.skk_calls.specs.Chronicles.{opening_of, history_of, is_chronicle}
+use Rattle.skk_calls.specs.Dictionary.{answer, moves}
+use Rattle.skk_calls.specs.Histories.{Entry, Opening, IsLegal, dialog}
+use Rattle.skk_calls.specs.Interactions.{Dialog}
+use Rattle.skk_calls.specs.Rows.{Row}
+use Rattle.skk_calls.specs.States.{empty_state}
+use Rattle.skk_top.specs.Dictionaries.{AreRowsOf}
+
+-- the opening of a run over system files, with nothing learnt before and no learned file
+abbrev pub opening_over : List (List Row) → Opening
+opening_over files = record { files = files; state = empty_state; end = 0; limit = 0 }
+
+-- a chronicle has its opening over these system files, and each of its answers is legal at its place
+abbrev pub IsLegalOver : List (List Row) → List Noted → Type 0
+IsLegalOver files chronicle =
+    (opening_of chronicle ≡ Some (opening_over files)) × IsLegal (opening_over files) (history_of chronicle)
+
+-- a chronicle notes nothing, or is legal over the rows that files list
+abbrev pub IsChronicleOver : List (Option (List ℕ)) → List Noted → Type 0
+IsChronicleOver files chronicle =
+    (chronicle ≡ []) ⊎ ((books : List (List Row)) × AreRowsOf books files × IsLegalOver books chronicle)
+
+-- an answer is a reply
+abbrev pub is_reply : Answer → Bool
+is_reply (Done reply) = true
+is_reply (Refused refusal) = false
+
+-- no call of a chronicle was refused
+abbrev pub are_served : List Noted → Bool
+are_served chronicle = list_all (λ entry. is_reply entry.answer) (history_of chronicle)
+
+-- each call of a chronicle is the one caller's, whose number is 0
+abbrev pub are_of_one : List Noted → Bool
+are_of_one chronicle = list_all (λ entry. entry.number == 0) (history_of chronicle)
+
+-- what the one caller of a chronicle said
+abbrev pub said_in : List Noted → Dialog
+said_in chronicle = dialog (history_of chronicle) 0
+
+-- a call that changes nothing is answered by what the dictionary of one thread replies over system files with nothing
+-- learnt, or it is refused as out of memory
+abbrev pub IsAnsweredBy : List (List Row) → Call → Answer → Type 0
+IsAnsweredBy files call (Done reply) = (moves empty_state call ≡ false) × (reply ≡ answer files empty_state call)
+IsAnsweredBy files call (Refused Memory) = ⊤
+IsAnsweredBy files call (Refused refusal) = ⊥
+
+-- an entry is of such a call, and of the caller with the number 0
+abbrev pub IsAnswered : List (List Row) → Entry → Type 0
+IsAnswered files entry = (entry.number ≡ 0) × IsAnsweredBy files entry.call entry.answer
+
+-- what the one caller of a run keeps, by its system files, its chronicle, and whether it has refused a call: the chronicle
+-- begins with the opening over these files, and each call behind it is answered so
+pub record KeepsAnswers (files system : List (List Row)) (chronicle : List Noted) (has_refused : Bool) : Type 0 where
+  pub over : system ≡ files
+  pub begun : is_chronicle chronicle ≡ true
+  pub opened : opening_of chronicle ≡ Some (opening_over files)
+  pub answered : All (IsAnswered files) (history_of chronicle)
+  pub refused : has_refused ≡ not (are_served chronicle)
