@@ -1,0 +1,36 @@
+"""Dictionary files that are made for the benchmarks."""
+
+import random
+
+ARI = ";; okuri-ari entries."
+NASI = ";; okuri-nasi entries."
+KANA = [chr(0x3042 + at) for at in range(80)]
+KANJI = [chr(0x4E00 + at) for at in range(16_300)]
+
+
+def line(reading, items):
+    """A line of these items."""
+    return f"{reading} /{'/'.join(items)}/"
+
+
+def readings(draw, count, lengths):
+    """So many readings, none twice."""
+    drawn = {}
+    while len(drawn) < count:
+        drawn["".join(draw.choices(KANA, k=draw.choice(lengths)))] = True
+    return list(drawn)
+
+
+def candidates(draw, counts=(1, 1, 1, 2, 2, 2, 3, 4)):
+    """The candidates of an everyday line: most have one or two, some a note."""
+    for _ in range(draw.choice(counts)):
+        word = "".join(draw.choices(KANJI, k=draw.choice((1, 2, 2, 3))))
+        yield f"{word};{''.join(draw.choices(KANA, k=4))}" if draw.random() < 0.12 else word
+
+
+def everyday():
+    """The lines of a file of the size and the shape of a large dictionary."""
+    draw = random.Random(1)
+    ari = sorted((f"{reading}{draw.choice('kgstnbmrw')}" for reading in readings(draw, 20_000, (2, 3, 4))), reverse=True)
+    nasi = sorted(readings(draw, 150_000, (3, 4, 5, 6)))
+    return [ARI, *(line(reading, candidates(draw)) for reading in ari), NASI, *(line(reading, candidates(draw)) for reading in nasi)]
