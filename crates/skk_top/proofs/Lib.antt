@@ -11,6 +11,7 @@ pub mod Marks
 pub mod Numbers
 pub mod Pages
 pub mod PrintedChecks
+mod RangeExamples
 pub mod Ranges
 pub mod Reading
 pub mod Runs
