@@ -24,9 +24,14 @@ within :
     × HasNumbersInRange (serving 268435456 65535 1000000) × HasNumbersInRange (dumping 65535) × HasNumbersInRange (loading 0 1 1)
     × HasNumbersInRange (loading (2 ^ 64 - 1) 64 20000)
 within = (
-    (omega arith, omega arith), (omega arith, omega arith), ((omega arith, omega arith), (omega arith, omega arith), (omega arith, omega arith)),
-    ((omega arith, omega arith), (omega arith, omega arith), (omega arith, omega arith)), omega arith, (omega arith, (omega arith, omega arith), (omega arith, omega arith)),
-    (omega arith, (omega arith, omega arith), (omega arith, omega arith)))
+  (omega arith, omega arith),
+  (omega arith, omega arith),
+  ((omega arith, omega arith), (omega arith, omega arith), (omega arith, omega arith)),
+  ((omega arith, omega arith), (omega arith, omega arith), (omega arith, omega arith)),
+  omega arith,
+  (omega arith, (omega arith, omega arith), (omega arith, omega arith)),
+  (omega arith, (omega arith, omega arith), (omega arith, omega arith)),
+)
 
 -- those beside them do not
 limit_outside : (HasNumbersInRange (typing 63) → ⊥) × (HasNumbersInRange (typing 268435457) → ⊥)

@@ -1,11 +1,12 @@
 -- A script as far as it is read.
-use Rattle.std.proofs.Common.{◌≡◌, ◌<◌, ◌≤◌, ◌+◌, sym, ℕ, Bool, false, Option, List, [], ◌∷◌, ◌++◌, length, get_or, replicate, refl, ap, ◌∙◌, subst, arith}
+use Rattle.std.proofs.Common.{◌≡◌, ◌<◌, ◌≤◌, ◌+◌, sym, ℕ, Bool, true, false, Option, List, [], ◌∷◌, ◌++◌, length, get_or, replicate, refl, ap, ◌∙◌, subst, arith}
 use Rattle.std.proofs.lemmas.List.{append_assoc, append-nil, length_push, get_or-replicate}
+use Rattle.std.specs.List.{list_all}
 use Rattle.skk_text.specs.Lines.{lines_of}
 use Rattle.skk_top.specs.Marks.{Mark}
-use Rattle.skk_top.specs.Script.{Spells, Says, MayFollow, IsFirstBad, with_said}
+use Rattle.skk_top.specs.Script.{Spells, Says, MayFollow, IsFirstBad, with_said, opens_well}
 use Rattle.skk_top.specs.declared.line.Line.{Line}
-use Rattle.skk_top.proofs.Scripts.{says-push}
+use Rattle.skk_top.proofs.Scripts.{opens-said, says-push}
 
 -- the texts before the rest say lines, which are counted and marked
 pub record AreRead (bytes rest : List ℕ) (number : ℕ) (lines : List Line) (marks : List Bool) : Type 0 where
@@ -15,6 +16,7 @@ pub record AreRead (bytes rest : List ℕ) (number : ℕ) (lines : List Line) (m
   pub count : number ≡ length before
   pub room : number + length rest ≤ length bytes
   pub marked : Mark marks lines
+  pub well : list_all opens_well lines ≡ true
 
 -- at the start no session is named, and no line is there
 pub none_read : (bytes : List ℕ) (lines : List Line) → lines ≡ [] → AreRead bytes bytes 0 lines (replicate 65 false)
@@ -26,6 +28,7 @@ none_read bytes lines empty = record {
   room = omega arith;
   marked = subst (Mark (replicate 65 false)) (sym empty)
       (λ session small. (λ marked. let unmarked : get_or (replicate 65 false) session false ≡ false = get_or-replicate 65 session false false (omega arith) in cc, λ named. absurd (omega (arith, named.1))));
+  well = ap (list_all opens_well) empty;
 }
 
 -- a text more
@@ -39,6 +42,7 @@ one_more_text bytes rest text behind number lines more marks new read first less
   count = omega (arith, read.count, length_push read.before text);
   room = omega (arith, read.room);
   marked = marked;
+  well = ap (list_all opens_well) next.3 ∙ opens-said lines text next.0 next.1 read.well;
 }
 
 -- at the end the script is said

@@ -89,14 +89,10 @@ opens-spelled text (Keys session ks) spells = refl
 opens-spelled text (Opening session typist book) spells =
     elim spells.2 [ inl shared ↦ or_left (book == 0) (book == typist) (eq-eqb book 0 shared) | inr own ↦ or_right (book == 0) (book == typist) (eq-eqb book typist own) ]
 
-opens-said : (before : List Line) (text : List ℕ) (said : Option Line) → Spells text said → list_all opens_well before ≡ true → list_all opens_well (with_said before said) ≡ true
+pub opens-said : (before : List Line) (text : List ℕ) (said : Option Line) → Spells text said → list_all opens_well before ≡ true → list_all opens_well (with_said before said) ≡ true
 opens-said before text None spells well = well
 opens-said before text (Some line) spells well =
     list_all-append opens_well before (line ∷ []) ∙ and_from (list_all opens_well before) (opens_well line && true) well (and_from (opens_well line) true (opens-spelled text line spells) refl)
-
-pub says-open : (before : List Line) (texts : List (List ℕ)) (lines : List Line) → Says before texts lines → list_all opens_well before ≡ true → list_all opens_well lines ≡ true
-says-open before [] lines says well = subst (λ (ls : List Line). list_all opens_well ls ≡ true) (sym says) well
-says-open before (text ∷ texts) lines says well = says-open (with_said before says.0) texts lines says.3 (opens-said before text says.0 says.1 well)
 
 -- the texts say one list of lines
 pub one_list_of_lines : OneListOfKeys → (before : List Line) (texts : List (List ℕ)) (lines others : List Line) → Says before texts lines → Says before texts others → lines ≡ others

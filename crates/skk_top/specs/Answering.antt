@@ -45,8 +45,8 @@ are_of_one chronicle = list_all (λ entry. entry.number == 0) (history_of chroni
 abbrev pub said_in : List Noted → Dialog
 said_in chronicle = dialog (history_of chronicle) 0
 
--- a call that changes nothing is answered by what the dictionary of one thread replies over system files with nothing
--- learnt, or it is refused as out of memory
+-- an answer is what the dictionary of one thread replies over system files with nothing learnt, to a call that changes
+-- nothing, or it is a refusal as out of memory
 abbrev pub IsAnsweredBy : List (List Row) → Call → Answer → Type 0
 IsAnsweredBy files call (Done reply) = (moves empty_state call ≡ false) × (reply ≡ answer files empty_state call)
 IsAnsweredBy files call (Refused Memory) = ⊤

@@ -10,8 +10,9 @@ use Rattle.skk_top.specs.Sessions.{SessionMap}
 use Rattle.skk_top.specs.Typed.{typing}
 use Rattle.skk_top.specs.declared.line.Line.{Line}
 
--- what the typing of a line leaves of the sessions, of a page, and of what a caller has said, by how it ends: of what the
--- line and any others behind it come to, it leads to what these come to, or to a key that is not built, or begins it
+-- what the typing of a line leaves of the sessions, of a page and of what a caller has said, by how it ends: of what the
+-- line comes to with any lines behind it, it leads to what those come to, or to the end at a key that is not built, or it is
+-- the beginning
 pub record TypesLine (rules : List Rule) (line : Line) (ended : Result (Unit {0}) PressFault) (sessions sessions' : SessionMap)
     (page page' : List ℕ) (said said' : Dialog) : Type 0 where
   pub dialog : Dialog

@@ -1,6 +1,4 @@
-use Rattle.std.proofs.Common.{[], refl}
 use Rattle.skk_top.proofs.Reading.{none_read, one_more_text}
-use Rattle.skk_top.proofs.Scripts.{says-open}
 use Rattle.skk_top.proofs.script.Script.read.Goals as goal
 
 pub loop-text-init : goal.loop-text-init
@@ -11,6 +9,3 @@ loop-text-preserved c =
     let step = c.in-Some.ensures in
     one_more_text c.args.bytes.now c.loop-text.rest.now c.in-Some.text.now c.in-Some.behind.now c.loop-text.number c.loop-text.lines c.push_line.new.lines
     c.loop-text.named c.push_line.new.named c.loop-text.invariant step.0 step.1 c.in-Ok.ensures.marked c.in-Ok.ensures.ok
-
-pub invariant_of-result : goal.invariant_of-result
-invariant_of-result c = says-open [] c.loop-text.invariant.before c.loop-text.lines c.loop-text.invariant.said refl
