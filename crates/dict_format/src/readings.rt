@@ -4,7 +4,7 @@ ghost use Rattle.word_sets.specs.Firsts.{with_new};
 ghost use Rattle.dict_format.specs.FileBuilding.{knows};
 
 use skk_calls::{Part, RowKey};
-use skk_text::{Memory, Text};
+use skk_text::{Copies, Memory, Text};
 use std::alloc::Global;
 use word_sets::WordSet;
 

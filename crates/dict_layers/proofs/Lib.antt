@@ -3,11 +3,9 @@ pub mod Completing
 pub mod Differing
 pub mod Index
 pub mod Indexes
-pub mod Keys
 pub mod LayersAdded
 pub mod Lists
 pub mod Places
 pub mod Sorting
-pub mod Texts
 pub mod Walking
 pub mod Zipped

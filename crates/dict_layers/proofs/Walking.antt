@@ -10,10 +10,10 @@ use Rattle.skk_calls.specs.declared.part.Part.TheVariants.{Nasi, Ari}
 use Rattle.skk_calls.specs.Canonical.{has_item}
 use Rattle.skk_calls.specs.Completions.{reading_of}
 use Rattle.skk_calls.specs.OrderLaws.{holds_moved, sort_moves}
-use Rattle.skk_calls.specs.Orders.{insert_by, sort_by, text_less, less_by_part}
+use Rattle.skk_calls.specs.Orders.{insert_by, sort_by, text_less, less_by_part, row_less}
 use Rattle.skk_calls.specs.Rows.{Row, same_text, same_part, same_key, keys_differ, texts_differ}
 use Rattle.word_sets.specs.FirstLaws.{first_of_each-fresh, texts_stay}
-use Rattle.dict_layers.specs.InOrder.{row_less, is_walked, walked_readings}
+use Rattle.dict_layers.specs.InOrder.{is_walked, walked_readings}
 use Rattle.dict_layers.proofs.Lists.{all_pairs-map, pairs_within}
 
 -- the rows that a walk comes by are without okurigana

@@ -5,12 +5,8 @@ use Rattle.skk_calls.specs.declared.part.Part.TheVariants.{Nasi}
 use Rattle.skk_calls.specs.Canonical.{has_item}
 use Rattle.skk_calls.specs.Completions.{reading_of}
 use Rattle.skk_calls.specs.Found.{first_of_each}
-use Rattle.skk_calls.specs.Orders.{key_less, sort_by, text_less}
+use Rattle.skk_calls.specs.Orders.{row_less, sort_by, text_less}
 use Rattle.skk_calls.specs.Rows.{Row, same_part}
-
--- a row is less than another by its key
-abbrev pub row_less : Row → Row → Bool
-row_less row other = key_less row.key other.key
 
 -- a walk comes by a row: it has no okurigana, and a candidate
 abbrev pub is_walked : Row → Bool

@@ -4,14 +4,14 @@ ghost use Rattle.std.specs.Option.{option_copied, option_and_then};
 ghost use Rattle.std.specs.Ordering.{is_lt};
 ghost use Rattle.skk_text.specs.Pairs.{all_pairs};
 ghost use Rattle.skk_calls.specs.OrderLaws.{apart};
-ghost use Rattle.skk_calls.specs.Orders.{key_less, sort_by, text_less};
+ghost use Rattle.skk_calls.specs.Orders.{key_less, row_less, sort_by, text_less};
 ghost use Rattle.skk_calls.specs.Rows.{Row as row_value, keys_differ};
 ghost use Rattle.skk_calls.specs.States.{row_in};
 ghost use Rattle.skk_calls.specs.Walks.{next_above};
 ghost use Rattle.dict_layers.specs.Finding.{option_less, passes};
-ghost use Rattle.dict_layers.specs.InOrder.{row_less, is_walked, walked_readings, HasAt, IsIndex};
+ghost use Rattle.dict_layers.specs.InOrder.{is_walked, walked_readings, HasAt, IsIndex};
 
-use crate::orders::{is_less, is_same_key, key_order};
+use crate::orders::is_less;
 use skk_calls::{Part, Row, RowKey};
 use skk_text::{Memory, Text};
 use std::alloc::Global;
@@ -48,7 +48,7 @@ impl FileIndex {
             .by_key
             .partition_point(|place| is_less_at(rows, *place, key));
         let row = row_at(rows, &self.by_key, place)?;
-        if is_same_key(row.key(), key) {
+        if row.key().is_same(key) {
             Some(row)
         } else {
             None
@@ -114,7 +114,7 @@ fn order_at(rows: &[Row], place: usize, other: usize) -> Ordering
     ensures { is_lt result ≡ option_less row_less (slice_get rows.now place) (slice_get rows.now other) }
 {
     match (rows.get(place), rows.get(other)) {
-        (Some(row), Some(other)) => key_order(row.key(), other.key()),
+        (Some(row), Some(other)) => row.key().order(other.key()),
         (None, Some(_)) => Ordering::Less,
         (None, None) => Ordering::Equal,
         (Some(_), None) => Ordering::Greater,
@@ -126,7 +126,7 @@ fn is_less_at(rows: &[Row], place: usize, key: &RowKey) -> bool
     ensures { result ≡ passes (λ row. key_less row.key key.now) (slice_get rows.now place) }
 {
     match rows.get(place) {
-        Some(row) => key_order(row.key(), key).is_lt(),
+        Some(row) => row.key().order(key).is_lt(),
         None => false,
     }
 }

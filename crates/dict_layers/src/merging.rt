@@ -8,7 +8,7 @@ ghost use Rattle.word_sets.specs.Firsts.{with_new};
 use crate::ordering::ordered;
 use crate::system::RowList;
 use skk_calls::{Cands, Okuri, Row};
-use skk_text::{Memory, Text};
+use skk_text::{Copies, Memory, Text};
 use std::alloc::Global;
 use word_sets::{FirstCands, WordSet};
 

@@ -7,7 +7,7 @@ ghost use Rattle.word_sets.specs.Firsts.{with_new};
 ghost use Rattle.dict_layers.specs.Blocks.{block_for, with_notes};
 
 use skk_calls::{Block, Cand, Cands, Okuri, Row};
-use skk_text::{Memory, Text};
+use skk_text::{Copies, Memory, Text};
 use std::alloc::Global;
 use word_sets::FirstCands;
 

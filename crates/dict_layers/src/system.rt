@@ -1,6 +1,6 @@
 use crate::file_index::FileIndex;
 use skk_calls::{Books, Row, RowKey, Walk};
-use skk_text::{Memory, Sequence, Text};
+use skk_text::{Copies, Memory, Sequence, Text};
 use std::alloc::Global;
 use std::marker::Model;
 

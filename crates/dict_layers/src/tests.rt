@@ -3,7 +3,6 @@ ghost use Rattle.std.specs.List.{list_all};
 ghost use Rattle.std.specs.Str.{chars};
 ghost use Rattle.skk_calls.specs.Rows.{same_text, same_key, texts_differ, words_of, okuri_of, keys_differ, fits_blocks, is_cand, is_block, is_row};
 
-use crate::orders::is_same_key;
 use crate::{RowList, System, merge, ordered, walks_go_over_completions};
 use skk_calls::{Block, Blocks, Book, Books, Cand, Cands, Okuri, Part, Row, RowKey, Rows, Walk};
 use skk_text::{Text, Texts};
@@ -81,9 +80,7 @@ fn okuris_differ(blocks: &[Block]) -> bool
 fn is_new_key(row: &Row, others: &[Row]) -> bool
     ensures { result ≡ list_all (λ other. not (same_key row.now.key other.key)) others.now }
 {
-    others
-        .iter()
-        .all(|other| !is_same_key(row.key(), other.key()))
+    others.iter().all(|other| !row.key().is_same(other.key()))
 }
 
 // Whether the keys of rows differ.

@@ -10,7 +10,7 @@ mod puts;
 
 use romaji_rules::Pending;
 use skk_calls::{Okuri, Part, RowKey};
-use skk_text::{Memory, Text};
+use skk_text::{Copies, Memory, Text};
 use std::alloc::Global;
 use std::marker::Model;
 

@@ -12,7 +12,7 @@ use crate::rule::Rule;
 use crate::standard::standard_rules;
 use crate::standing::Standing;
 use arrayvec::ArrayVec;
-use skk_text::Memory;
+use skk_text::{Copies, Memory};
 use std::alloc::Global;
 use std::marker::Model;
 

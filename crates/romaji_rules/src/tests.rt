@@ -1,5 +1,5 @@
 use crate::{Out, Pending, Rules};
-use skk_text::{Memory, Text};
+use skk_text::{Copies, Memory, Text};
 use std::alloc::Global;
 use std::test::Fail;
 

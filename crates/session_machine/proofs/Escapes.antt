@@ -7,6 +7,7 @@ use Rattle.std.proofs.lemmas.Bool.{cases_Bool, or_parts, or_cases, eqb-true}
 use Rattle.std.proofs.lemmas.List.{take-append-drop, at_drop_more, get_or-append-add, get_or-take}
 use Rattle.std.proofs.lemmas.List.Concat.{flat_map-append}
 use Rattle.std.proofs.lemmas.Str.{encodes-chars, chars-append, IsUtf8-take, IsUtf8-drop, IsCharBoundary-before_ascii, encode_ascii, chars_past_char}
+use Rattle.skk_text.specs.TextLaws.{chars-split}
 use Rattle.session_machine.specs.Display.{escaped, has_escape}
 
 -- a character without an escape is printed as it is
@@ -46,19 +47,6 @@ run-plain (c ∷ cs) none =
 pub text-plain : (text : List ℕ) → IsUtf8 text → ((k : ℕ) → k < length text → has_escape (get_or text k 0) ≡ false) → flat_map escaped (chars text) ≡ chars text
 text-plain text utf8 none =
     run-plain (chars text) (subst (λ (bs : List ℕ). (k : ℕ) → k < length bs → has_escape (get_or bs k 0) ≡ false) (sym (encodes-chars text utf8)) none)
-
--- the characters of a text are those before an ASCII byte, that byte, and those behind it
-pub chars-split : (text : List ℕ) (place : ℕ) → IsUtf8 text → place < length text → get_or text place 0 < 128
-    → IsUtf8 (take place text) × (chars text ≡ chars (take place text) ++ get_or text place 0 ∷ chars (drop (place + 1) text))
-chars-split text place utf8 within small =
-    let byte = get_or text place 0 in
-    let front = take place text in
-    let behind = drop (place + 1) text in
-    let cut = IsCharBoundary-before_ascii text place within small in
-    let front_utf8 = IsUtf8-take text place utf8 cut in
-    let rest : drop place text ≡ encode byte ++ behind = at_drop_more (λ xs. xs) text place 0 within ∙ ap (λ bs. bs ++ behind) (sym (encode_ascii byte small)) in
-    let rest_chars : chars (drop place text) ≡ byte ∷ chars behind = chars_past_char (drop place text) behind byte (IsUtf8-drop text place utf8 cut) rest in
-    (front_utf8, ap chars (sym (take-append-drop place text)) ∙ chars-append front (drop place text) front_utf8 ∙ ap (λ cs. chars front ++ cs) rest_chars)
 
 -- a text is printed as the run before its first escape, that escape, and what is behind it
 pub text-split : (text : List ℕ) (place : ℕ) → IsUtf8 text → place < length text → ((k : ℕ) → k < place → has_escape (get_or text k 0) ≡ false) → has_escape (get_or text place 0) ≡ true

@@ -3,7 +3,7 @@ ghost use Rattle.skk_text.specs.Modes.{in_kana_of};
 ghost use Rattle.session_machine.specs.Pressed.{kana_begun};
 
 use reading_state::Reading;
-use skk_text::{Memory, Mode, Text, to_katakana};
+use skk_text::{Copies, Memory, Mode, Text, to_katakana};
 use std::alloc::Global;
 
 // A text in the kana of a mode.

@@ -1,8 +1,10 @@
 -- Texts and keys that are the same are equal.
-use Rattle.std.proofs.Common.{◌≡◌, ℕ, Bool, true, false, List, refl, sym, ◌∙◌, ap}
+use Rattle.std.proofs.Common.{◌≡◌, ℕ, Bool, true, false, List, refl, sym, ◌∙◌, ap, encode_utf8_all}
+use Rattle.std.specs.Str.{bytes_eq}
 use Rattle.std.proofs.lemmas.Bool.{and_from, and_parts}
 use Rattle.std.proofs.lemmas.Bool.Decides.{same_from_decides, Decides-like}
 use Rattle.std.proofs.lemmas.Slice.Eq.{bytes_eq-Decides}
+use Rattle.std.proofs.lemmas.Str.{encodes_same}
 use Rattle.skk_calls.specs.declared.part.Part.{Part}
 use Rattle.skk_calls.specs.declared.part.Part.TheVariants.{Nasi, Ari}
 use Rattle.skk_calls.specs.Rows.{RowKey, same_text, same_part, same_key}
@@ -20,6 +22,12 @@ pub same_other : (text other : List ℕ) → same_text text other ≡ same_text 
 same_other text other =
     same_from_decides (same_text text other) (same_text other text) (bytes_eq-Decides text other)
     (Decides-like (same_text other text) sym sym (bytes_eq-Decides other text))
+
+-- texts are the same where their bytes are
+pub same_encoded : (text other : List ℕ) → bytes_eq (encode_utf8_all text) (encode_utf8_all other) ≡ same_text text other
+same_encoded text other =
+    same_from_decides (bytes_eq (encode_utf8_all text) (encode_utf8_all other)) (same_text text other) (bytes_eq-Decides (encode_utf8_all text) (encode_utf8_all other))
+    (Decides-like (same_text text other) (λ e. ap encode_utf8_all e) (λ e. encodes_same text other e) (bytes_eq-Decides text other))
 
 -- a part is the same as itself
 pub same_part_itself : (part : Part) → same_part part part ≡ true

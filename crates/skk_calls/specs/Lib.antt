@@ -12,6 +12,7 @@ pub mod OrderLaws
 pub mod Orders
 pub mod RowLaws
 pub mod Rows
+pub mod RowsInOrder
 pub mod States
 pub mod Tallies
 pub mod Walks

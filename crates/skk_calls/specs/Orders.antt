@@ -20,6 +20,10 @@ less_by_part part other reading_less = reading_less
 abbrev pub key_less : RowKey → RowKey → Bool
 key_less key other = less_by_part key.part other.part (text_less key.reading other.reading)
 
+-- a row is less than another by its key
+abbrev pub row_less : Row → Row → Bool
+row_less row other = key_less row.key other.key
+
 -- a row is newer than another: its stamp is greater, or equal and its reading less
 abbrev pub is_newer : Row → Row → Bool
 is_newer row other =

@@ -2,7 +2,8 @@ ghost use Rattle.std.specs.Prelude.{◌≡◌, true, MatchOption};
 ghost use Rattle.std.specs.Str.{chars};
 ghost use Rattle.skk_calls.specs.Rows.{is_note, IsBadNote};
 
-use skk_text::{Sequence, Text};
+use skk_text::{Copies, Memory, Sequence, Text};
+use std::alloc::Global;
 use std::marker::Model;
 use thiserror::Error;
 
@@ -87,6 +88,15 @@ impl Cand {
         ensures valid { is_cand self.now ≡ true }
     {
         &self.note
+    }
+}
+
+impl Copies for Cand {
+    fn copy(&self, alloc: Global) -> Result<Cand, Memory> {
+        Ok(Cand {
+            word: self.word.copy(alloc)?,
+            note: self.note.copy(alloc)?,
+        })
     }
 }
 

@@ -3,7 +3,8 @@ ghost use Rattle.std.specs.List.{list_all};
 ghost use Rattle.std.specs.Str.{chars};
 ghost use Rattle.skk_calls.specs.Rows.{is_okuri, is_okuri_char};
 
-use skk_text::Text;
+use skk_text::{Copies, Memory, Text};
+use std::alloc::Global;
 use std::marker::Model;
 use thiserror::Error;
 
@@ -53,6 +54,14 @@ impl Okuri {
         ensures valid { is_okuri self.now ≡ true }
     {
         &self.text
+    }
+}
+
+impl Copies for Okuri {
+    fn copy(&self, alloc: Global) -> Result<Okuri, Memory> {
+        Ok(Okuri {
+            text: self.text.copy(alloc)?,
+        })
     }
 }
 

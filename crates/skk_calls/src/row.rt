@@ -1,7 +1,8 @@
 use crate::cand::Cands;
 use crate::okuri::Okuri;
 use crate::row_key::RowKey;
-use skk_text::{Sequence, Texts};
+use skk_text::{Copies, Memory, Sequence, Texts};
+use std::alloc::Global;
 use std::marker::Model;
 
 /// The words that were chosen with one okurigana, the last chosen first: at least one, all different, and each of 1
@@ -49,6 +50,15 @@ impl Block {
         ensures valid { is_block self.now ≡ true }
     {
         &self.words
+    }
+}
+
+impl Copies for Block {
+    fn copy(&self, alloc: Global) -> Result<Block, Memory> {
+        Ok(Block {
+            okuri: self.okuri.copy(alloc)?,
+            words: self.words.copy(alloc)?,
+        })
     }
 }
 
@@ -136,6 +146,18 @@ impl Row {
         ensures valid { is_row self.now ≡ true }
     {
         self.stamp
+    }
+}
+
+impl Copies for Row {
+    fn copy(&self, alloc: Global) -> Result<Row, Memory> {
+        Ok(Row {
+            key: self.key.copy(alloc)?,
+            cands: self.cands.copy(alloc)?,
+            blocks: self.blocks.copy(alloc)?,
+            hides: self.hides.copy(alloc)?,
+            stamp: self.stamp,
+        })
     }
 }
 

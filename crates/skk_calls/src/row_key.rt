@@ -1,11 +1,13 @@
-ghost use Rattle.std.specs.Prelude.{◌≡◌, ◌&&◌, nat_le, length};
+ghost use Rattle.std.specs.Prelude.{◌≡◌, ◌&&◌, nat_le, length, encode_utf8_all};
 ghost use Rattle.std.specs.List.{list_all};
 ghost use Rattle.std.specs.Str.{chars};
 ghost use Rattle.skk_text.specs.Text.{last_chars};
 ghost use Rattle.skk_calls.specs.Rows.{is_row_key, begins_well, is_reading_char, is_letter, fits_part};
 
 use crate::part::Part;
-use skk_text::Text;
+use skk_text::{Copies, Memory, Text};
+use std::alloc::Global;
+use std::cmp::Ordering;
 use std::marker::Model;
 use thiserror::Error;
 
@@ -41,7 +43,9 @@ pub enum RowKeyFault {
 
 impl RowKey {
     ghost use Rattle.std.specs.Prelude.{◌≡◌, ◌↔◌, true, false, IfOk, IsErr};
-    ghost use Rattle.skk_calls.specs.Rows.{is_row_key};
+    ghost use Rattle.std.specs.Ordering.{is_lt};
+    ghost use Rattle.skk_calls.specs.Orders.{key_less};
+    ghost use Rattle.skk_calls.specs.Rows.{is_row_key, same_key};
 
     /// The key of a reading, unless that is not valid. Takes no memory, and time in the reading's length.
     pub fn new(part: Part, reading: Text) -> Result<RowKey, RowKeyFault>
@@ -69,6 +73,40 @@ impl RowKey {
     {
         &self.reading
     }
+
+    /// Which of two keys is the lesser: by the part, and then by the bytes of the reading.
+    pub fn order(&self, other: &RowKey) -> Ordering
+        ensures { is_lt result ≡ key_less self.now other.now }
+    {
+        match (self.part, other.part) {
+            (Part::Nasi, Part::Ari) => Ordering::Less,
+            (Part::Ari, Part::Nasi) => Ordering::Greater,
+            _ => bytes_of(&self.reading).cmp(bytes_of(&other.reading)),
+        }
+    }
+
+    /// Whether two keys are the same.
+    pub fn is_same(&self, other: &RowKey) -> bool
+        ensures { result ≡ same_key self.now other.now }
+    {
+        self.part == other.part && bytes_of(self.reading()) == bytes_of(other.reading())
+    }
+}
+
+impl Copies for RowKey {
+    fn copy(&self, alloc: Global) -> Result<RowKey, Memory> {
+        Ok(RowKey {
+            part: self.part,
+            reading: self.reading.copy(alloc)?,
+        })
+    }
+}
+
+// The bytes of a text.
+fn bytes_of(text: &Text) -> &[u8]
+    ensures { result.now ≡ encode_utf8_all text.now }
+{
+    text.as_str().as_bytes()
 }
 
 // Whether a reading is valid in its part.

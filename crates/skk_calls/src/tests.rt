@@ -2,10 +2,10 @@ ghost use Rattle.std.specs.Prelude.{◌≡◌, [], ◌∷◌, IfOk};
 ghost use Rattle.skk_calls.specs.declared.part.Part.TheVariants.{Nasi};
 
 use crate::{
-    Answer, Call, Caller, Cand, CandFault, Chronicle, Noted, Okuri, OkuriFault, Part, Refusal,
-    Reply, RowKey, RowKeyFault, Tally,
+    Answer, Blocks, Call, Caller, Cand, CandFault, Cands, Chronicle, Noted, Okuri, OkuriFault,
+    Part, Refusal, Reply, Row, RowKey, RowKeyFault, Tally,
 };
-use skk_text::{Memory, Text};
+use skk_text::{Copies, Memory, Text, Texts};
 use skk_trace::{Shows, Trace};
 use std::alloc::Global;
 use std::test::Fail;
@@ -96,6 +96,44 @@ fn short_key(alloc: Global) -> Result<RowKey, Fail>
     ensures { IfOk result (λ key. key ≡ record { part = Nasi; reading = 0x304B ∷ [] }) }
 {
     Ok(RowKey::new(Part::Nasi, one_character(alloc, 'か')?)?)
+}
+
+#[test]
+fn an_okurigana_is_copied(rt: HostRuntime) -> Result<(), Fail> {
+    let alloc = rt.alloc();
+    let okuri = Okuri::new(one_character(alloc, 'く')?)?;
+    assert_eq!(rt; okuri.copy(alloc)?.text().as_str(), "く");
+    Ok(())
+}
+
+#[test]
+fn a_candidate_is_copied(rt: HostRuntime) -> Result<(), Fail> {
+    let alloc = rt.alloc();
+    let cand = Cand::new(one_character(alloc, '蚊')?, Text::new(alloc))?;
+    assert_eq!(rt; cand.copy(alloc)?.word().as_str(), "蚊");
+    Ok(())
+}
+
+// The row of か that says nothing.
+fn row_without_words(alloc: Global, stamp: u64) -> Result<Row, Fail>
+    ensures { IfOk result (λ row. row ≡ record { key = record { part = Nasi; reading = 0x304B ∷ [] }; cands = []; blocks = []; hides = []; stamp = stamp }) }
+{
+    let key = short_key(alloc)?;
+    Ok(Row::new(
+        key,
+        Cands::new(alloc),
+        Blocks::new(alloc),
+        Texts::new(alloc),
+        stamp,
+    ))
+}
+
+#[test]
+fn a_row_is_copied(rt: HostRuntime) -> Result<(), Fail> {
+    let alloc = rt.alloc();
+    let copy = row_without_words(alloc, 7)?.copy(alloc)?;
+    assert_eq!(rt; (copy.key().reading().as_str(), copy.stamp()), ("か", 7));
+    Ok(())
 }
 
 #[test]

@@ -1,5 +1,5 @@
 //! The plain types that every crate above speaks of: texts, bytes, keys, modes and notices, lists of
-//! them, and the fault `Memory`.
+//! them, the copies that are made of them, and the fault `Memory`.
 //!
 //! It stands on nothing but the standard library. A list is seen by contracts as the list of its
 //! items, a text as the list of its characters, and each call says exactly what it makes of them.
@@ -7,6 +7,7 @@
 #![tactic(auto)]
 
 mod bytes;
+mod copies;
 mod kana;
 mod key;
 mod key_text;
@@ -20,6 +21,7 @@ mod tests;
 mod text;
 
 pub use bytes::Bytes;
+pub use copies::Copies;
 pub use kana::{to_hiragana, to_katakana, to_wide};
 pub use key::{Key, Keys};
 pub use key_text::{KeyFault, is_key_text, print_keys, read_keys};

@@ -1,5 +1,6 @@
 ghost use Rattle.std.specs.Prelude.{◌≡◌, ◌<◌, List, [], ◌∷◌, ◌++◌, length, slice_get, Some, OnOk, OnErr};
 
+use crate::copies::Copies;
 use crate::memory::Memory;
 use std::alloc::Global;
 use std::marker::Model;
@@ -71,5 +72,15 @@ impl<T: Drop> Sequence<T> {
     {
         self.items.push(item)?;
         Ok(())
+    }
+}
+
+impl<T: Copies> Copies for Sequence<T> {
+    fn copy(&self, alloc: Global) -> Result<Sequence<T>, Memory> {
+        let mut copies = Sequence::new(alloc);
+        for item in &self.items {
+            copies.push(item.copy(alloc)?)?;
+        }
+        Ok(copies)
     }
 }

@@ -1,6 +1,6 @@
 use crate::{
-    Bytes, Key, KeyFault, Keys, Text, Texts, is_key_text, print_keys, read_keys, to_hiragana,
-    to_katakana, to_wide,
+    Bytes, Copies, Key, KeyFault, Keys, Text, Texts, is_key_text, print_keys, read_keys,
+    to_hiragana, to_katakana, to_wide,
 };
 use std::test::Fail;
 
@@ -25,9 +25,15 @@ fn texts_count_bytes_and_show_characters(rt: HostRuntime) -> Result<(), Fail> {
     assert_eq!(rt; line.byte_len(), 11);
     assert_eq!(rt; line.last(2), "a𠮷");
     line.delete_last();
-    let copy = line.copy(rt.alloc())?;
-    assert_eq!(rt; line.as_str(), "かなa");
-    assert_eq!(rt; copy.into_string().as_str(), "かなa");
+    let mut lines = Texts::new(rt.alloc());
+    lines.push(line)?;
+    let copies = lines.copy(rt.alloc())?;
+    for text in lines.into_vec() {
+        assert_eq!(rt; text.as_str(), "かなa");
+    }
+    for copy in copies.into_vec() {
+        assert_eq!(rt; copy.into_string().as_str(), "かなa");
+    }
     Ok(())
 }
 

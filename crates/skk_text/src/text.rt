@@ -2,6 +2,7 @@ ghost use Rattle.std.specs.Prelude.{◌≡◌, ℕ, List, [], ◌∷◌, ◌++�
 ghost use Rattle.std.specs.Str.{chars};
 ghost use Rattle.skk_text.specs.Text.{byte_len, last_chars, without_last};
 
+use crate::copies::Copies;
 use crate::memory::Memory;
 use crate::sequence::Sequence;
 use std::alloc::Global;
@@ -86,14 +87,6 @@ impl Text {
         self.text.pop();
     }
 
-    /// An equal text. Takes time in the text's length.
-    pub fn copy(&self, alloc: Global) -> Result<Text, Memory>
-        ensures { IfOk result (λ text. text ≡ self.now) }
-    {
-        let text = String::from_str(alloc, self.text.as_str())?;
-        Ok(Text { text })
-    }
-
     /// The last characters of the text, at most `count`. Takes time in `count`, not in the
     /// length of the text.
     pub fn last(&self, count: usize) -> &str
@@ -101,6 +94,13 @@ impl Text {
         ensures characters { chars result.now ≡ last_chars count self.now }
     {
         last_of(self.text.as_str(), count)
+    }
+}
+
+impl Copies for Text {
+    fn copy(&self, alloc: Global) -> Result<Text, Memory> {
+        let text = String::from_str(alloc, self.text.as_str())?;
+        Ok(Text { text })
     }
 }
 

@@ -13,20 +13,8 @@ use Rattle.std.proofs.lemmas.List.{at_drop_more, get_or-append-add, get_or_at, g
 use Rattle.std.proofs.lemmas.Slice.Eq.{bytes_eq-Decides}
 use Rattle.std.proofs.lemmas.Str.{byte_from_char, char_from_byte, chars-append, chars_past_char, encode_ascii, encodes-chars, chars-IsAscii, encodes-IsAscii, IsCharBoundary-before_ascii, IsUtf8-drop, IsUtf8-take}
 use Rattle.std.proofs.lemmas.Str.Parse.{digit_at}
+use Rattle.skk_text.specs.TextLaws.{chars-split}
 use Rattle.skk_top.specs.Words.{is_name, number_within, with_character, cut}
-
--- the characters of a text are those before an ASCII byte, that byte, and those behind it
-chars-split : (text : List ℕ) (place : ℕ) → IsUtf8 text → place < length text → get_or text place 0 < 128
-    → IsUtf8 (take place text) × (chars text ≡ chars (take place text) ++ get_or text place 0 ∷ chars (drop (place + 1) text))
-chars-split text place utf8 within small =
-    let byte = get_or text place 0 in
-    let front = take place text in
-    let behind = drop (place + 1) text in
-    let cut = IsCharBoundary-before_ascii text place within small in
-    let front_utf8 = IsUtf8-take text place utf8 cut in
-    let rest : drop place text ≡ encode byte ++ behind = at_drop_more (λ xs. xs) text place 0 within ∙ ap (λ bs. bs ++ behind) (sym (encode_ascii byte small)) in
-    let rest_chars : chars (drop place text) ≡ byte ∷ chars behind = chars_past_char (drop place text) behind byte (IsUtf8-drop text place utf8 cut) rest in
-    (front_utf8, ap chars (sym (take-append-drop place text)) ∙ chars-append front (drop place text) front_utf8 ∙ ap (λ cs. chars front ++ cs) rest_chars)
 
 -- a text begins with `-` where its bytes do
 first-test : (b : Bool) (c : ℕ) (bs rest : List ℕ) → bs ≡ encode c ++ rest → 0 < length bs → Decides b (get_or bs 0 0 ≡ 45) → not b ≡ not (c == 45)

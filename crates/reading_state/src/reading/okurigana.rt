@@ -7,7 +7,7 @@ use super::puts::{accepted_by_okuri, both_empty, is_empty};
 use super::{Begun, Reading};
 use romaji_rules::{Pending, Rules};
 use skk_calls::Okuri;
-use skk_text::{Memory, Notice, Text};
+use skk_text::{Copies, Memory, Notice, Text};
 use std::alloc::Global;
 
 impl Begun {

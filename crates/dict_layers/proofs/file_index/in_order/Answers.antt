@@ -2,7 +2,7 @@ use Rattle.std.proofs.Common.{ℕ, rules, slice_get}
 use Rattle.std.proofs.lemmas.Fn.{always_returns_same}
 use Rattle.skk_calls.specs.OrderLaws.{order_read}
 use Rattle.dict_layers.specs.Finding.{option_less}
-use Rattle.dict_layers.specs.InOrder.{row_less}
+use Rattle.skk_calls.specs.Orders.{row_less}
 use Rattle.dict_layers.proofs.Index.{row_order}
 use Rattle.dict_layers.proofs.Sorting.{option_order, sorted_places}
 use Rattle.dict_layers.proofs.file_index.in_order.Goals as goal

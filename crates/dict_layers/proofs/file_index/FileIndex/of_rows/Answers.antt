@@ -1,7 +1,7 @@
 use Rattle.std.specs.List.{filter}
 use Rattle.dict_layers.specs.InOrder.{is_walked}
 use Rattle.dict_layers.proofs.Index.{walked_apart}
-use Rattle.dict_layers.proofs.Keys.{rows_apart}
+use Rattle.skk_calls.specs.RowsInOrder.{rows_apart}
 use Rattle.dict_layers.proofs.file_index.FileIndex.of_rows.Goals as goal
 
 pub returns : goal.returns

@@ -1,4 +1,4 @@
--- The row of a key, among rows of which no two have one key.
+-- The row of a key, among rows of which no two have one key, and among rows in order.
 use Rattle.std.proofs.Common.{◌≡◌, Bool, true, false, cond, not, ◌&&◌, ◌||◌, Option, None, Some, List, [], ◌∷◌, find, refl, sym, ap, ◌∙◌}
 use Rattle.std.specs.List.{list_all}
 use Rattle.std.specs.Option.{option_and_then}
@@ -8,15 +8,14 @@ use Rattle.skk_text.specs.PairsLaws.{list_all-weaker, pairs_weaker}
 use Rattle.skk_text.specs.FilterLaws.{find_none}
 use Rattle.skk_calls.specs.KeyLaws.{same_key_equal, same_key_itself}
 use Rattle.skk_calls.specs.OrderLaws.{apart, holds_moved, sort_moves, key_order, keys_apart, less_trans, not_itself}
-use Rattle.skk_calls.specs.Orders.{insert_by, sort_by, key_less}
+use Rattle.skk_calls.specs.Orders.{insert_by, sort_by, key_less, row_less}
 use Rattle.skk_calls.specs.Rows.{RowKey, Row, same_key, keys_differ}
 use Rattle.skk_calls.specs.States.{row_in}
-use Rattle.dict_layers.specs.InOrder.{row_less}
 
 -- Keys
 
 -- a key that is less than another is not the same
-less_differs : (key other : RowKey) → key_less key other ≡ true → same_key key other ≡ false
+pub less_differs : (key other : RowKey) → key_less key other ≡ true → same_key key other ≡ false
 less_differs key other less = by (same_key key other) refl
   where
     by : (b : Bool) → same_key key other ≡ b → b ≡ false
@@ -26,7 +25,7 @@ less_differs key other less = by (same_key key other) refl
     by false e = refl
 
 -- nor one that is greater
-greater_differs : (key other : RowKey) → key_less key other ≡ true → same_key other key ≡ false
+pub greater_differs : (key other : RowKey) → key_less key other ≡ true → same_key other key ≡ false
 greater_differs key other less = by (same_key other key) refl
   where
     by : (b : Bool) → same_key other key ≡ b → b ≡ false

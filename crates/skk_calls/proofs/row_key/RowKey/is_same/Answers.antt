@@ -1,12 +1,12 @@
 use Rattle.std.proofs.Common.{◌≡◌, ◌∙◌, ◌&&◌, true, ap, sym, rules, encode_utf8_all}
 use Rattle.std.specs.Str.{bytes_eq}
+use Rattle.skk_calls.specs.KeyLaws.{same_encoded}
 use Rattle.skk_calls.specs.Rows.{same_part, same_text}
-use Rattle.dict_layers.proofs.Texts.{same_encoded}
-use Rattle.dict_layers.proofs.orders.is_same_key.Goals as goal
+use Rattle.skk_calls.proofs.row_key.RowKey.is_same.Goals as goal
 
 pub returns-then-eq : goal.returns-then-eq
 returns-then-eq c =
-    let key = c.args.key.now in
+    let key = c.args.self.now in
     let other = c.args.other.now in
     let part : same_part key.part other.part ≡ true = search rules in
     c.eq-then-eq.ensures
