@@ -19,6 +19,8 @@ mod pressing;
 mod printing;
 mod session;
 mod session_notice;
+#[cfg(test)]
+mod tests;
 
 pub use frame::{Conversion, Frame, Frames, State};
 pub use laws::texts_have_a_limit;
