@@ -1,6 +1,7 @@
+ghost use Rattle.std.specs.Prelude.{◌≢◌, []};
+
 use crate::{AfterConfirm, Reading, ReadingDo, ReadingThen, press_reading};
 use romaji_rules::Rules;
-use skk_calls::{Okuri, Part};
 use skk_text::{Key, Notice, read_keys};
 use std::alloc::{AllocError, Global};
 use std::test::Fail;
@@ -96,32 +97,50 @@ fn keys_make_a_reading(rt: HostRuntime) -> Result<(), Fail> {
     Ok(())
 }
 
-// The kana of an okurigana, or nothing where there is none.
-fn kana(okuri: &Option<Okuri>) -> &str {
-    match okuri {
-        Some(okuri) => okuri.text().as_str(),
-        None => "",
-    }
+// The reading after keys.
+fn typed(alloc: Global, reading: Reading, keys: &str) -> Result<Reading, Fail> {
+    let rules = Rules::standard(alloc)?;
+    let mut reading = reading;
+    press_keys(alloc, &mut reading, &rules, keys)?;
+    Ok(reading)
 }
 
-// A reading is converted by its text, with the letter of an okurigana, and an abbreviation as it was typed.
+// The part and the text of the key that a reading is converted by.
+fn key_of(alloc: Global, reading: &Reading) -> Result<String, Fail>
+    requires { reading.now.text ≢ [] }
+{
+    let key = reading.key(alloc)?;
+    Ok(format!(in alloc; "{:?} {}", key.part(), key.reading().as_str())?)
+}
+
+// The kana of the okurigana that a reading is converted by, or `-` where there is none.
+fn okuri_of(alloc: Global, reading: &Reading) -> Result<String, Fail> {
+    let okuri = reading.okuri(alloc)?;
+    let kana = match &okuri {
+        Some(okuri) => okuri.text().as_str(),
+        None => "-",
+    };
+    Ok(String::from_str(alloc, kana)?)
+}
+
+// A reading is converted by its text, with the letter of an okurigana.
 #[test]
 fn readings_are_converted_by_their_keys(rt: HostRuntime) -> Result<(), Fail> {
     let alloc = rt.alloc();
-    let rules = Rules::standard(alloc)?;
-    let mut reading = Reading::new(alloc);
-    press_keys(alloc, &mut reading, &rules, "ugoKu")?;
+    let reading = typed(alloc, Reading::new(alloc), "ugoKu")?;
     assert!(rt; reading.text().byte_len() > 0);
-    let key = reading.key(alloc)?;
-    assert_eq!(rt; key.part(), Part::Ari);
-    assert_eq!(rt; key.reading().as_str(), "うごk");
-    assert_eq!(rt; kana(&reading.okuri(alloc)?), "く");
-    let mut abbrev = Reading::abbrev(alloc);
-    press_keys(alloc, &mut abbrev, &rules, "Vim9_")?;
-    assert!(rt; abbrev.text().byte_len() > 0);
-    let key = abbrev.key(alloc)?;
-    assert_eq!(rt; key.part(), Part::Nasi);
-    assert_eq!(rt; key.reading().as_str(), "Vim9");
-    assert!(rt; abbrev.okuri(alloc)?.is_none());
+    assert_eq!(rt; key_of(alloc, &reading)?.as_str(), "Ari うごk");
+    assert_eq!(rt; okuri_of(alloc, &reading)?.as_str(), "く");
+    Ok(())
+}
+
+// An abbreviation is converted as it was typed.
+#[test]
+fn abbreviations_are_converted_by_themselves(rt: HostRuntime) -> Result<(), Fail> {
+    let alloc = rt.alloc();
+    let reading = typed(alloc, Reading::abbrev(alloc), "Vim9_")?;
+    assert!(rt; reading.text().byte_len() > 0);
+    assert_eq!(rt; key_of(alloc, &reading)?.as_str(), "Nasi Vim9");
+    assert_eq!(rt; okuri_of(alloc, &reading)?.as_str(), "-");
     Ok(())
 }
