@@ -1,15 +1,16 @@
 ghost use Rattle.std.specs.Prelude.{◌≡◌, ◌≢◌, ◌≤◌, ◌+◌, ℕ, List, [], ◌∷◌, ◌++◌, Option, Some, None, length, not, true, false};
 ghost use Rattle.std.specs.List.{list_all};
+ghost use Rattle.std.specs.Option.{IfSome};
 ghost use Rattle.skk_calls.specs.declared.call.Call.{Call};
 ghost use Rattle.skk_calls.specs.declared.call.Call.TheVariants.{Learn, Unlearn};
 ghost use Rattle.skk_calls.specs.declared.answer.Reply.TheVariants.{Learned as learned_reply, Restored};
 ghost use Rattle.skk_calls.specs.Completions.{completions, completion_limit, goes_on_from};
-ghost use Rattle.skk_calls.specs.Dictionary.{answer, after, is_call, is_fit, is_stamped, speaks_of};
+ghost use Rattle.skk_calls.specs.Dictionary.{answer, after, is_call, is_fit, is_okuri_or_none, is_row_or_none, is_stamped, speaks_of};
 ghost use Rattle.skk_calls.specs.Found.{found, merged, ordered};
 ghost use Rattle.skk_calls.specs.Histories.{Opening, Entry, IsLegal, room, state_after, changes, after_calls, needs};
 ghost use Rattle.skk_calls.specs.Learning.{learnt, purged, purge_changes};
 ghost use Rattle.skk_calls.specs.Orders.{text_less};
-ghost use Rattle.skk_calls.specs.Rows.{RowKey, Cand, Row, Learned, has_text, texts_differ, words_of, is_row};
+ghost use Rattle.skk_calls.specs.Rows.{RowKey, Cand, Row, Learned, has_text, texts_differ, words_of, is_row_key, is_cand, is_row};
 ghost use Rattle.skk_calls.specs.States.{State, row_at, count_of, is_valid};
 ghost use Rattle.skk_calls.specs.Tallies.{empty_tally, tally_with, tally_of};
 ghost use Rattle.skk_calls.specs.Walks.{texts_ascend, next_above, is_least_above};
@@ -50,6 +51,16 @@ pub fn unlearning_gives_the_row_back()
 pub fn learning_twice_is_learning_once()
     ensures { (before : Option Row) (key : RowKey) (okuri : Option (List ℕ)) (cand : Cand) (first second : ℕ) →
         learnt (Some (learnt before key okuri cand first)) key okuri cand second ≡ learnt before key okuri cand second }
+{}
+
+/// What is made of a row, or of none, by a candidate that is learnt or a word that is purged keeps what a row keeps.
+pub fn changed_rows_are_rows()
+    ensures learnt { (before : Option Row) (key : RowKey) (okuri : Option (List ℕ)) (cand : Cand) (stamp : ℕ) →
+        is_row_key key ≡ true → IfSome before (λ row. row.key ≡ key) → is_row_or_none before ≡ true →
+        is_okuri_or_none okuri ≡ true → is_cand cand ≡ true → is_row (learnt before key okuri cand stamp) ≡ true }
+    ensures purged { (before : Option Row) (key : RowKey) (word : List ℕ) (stamp : ℕ) →
+        is_row_key key ≡ true → IfSome before (λ row. row.key ≡ key) → is_row_or_none before ≡ true →
+        is_row (purged before key word stamp) ≡ true }
 {}
 
 /// A purge is told to change something exactly where it makes another row.

@@ -1,0 +1,5 @@
+pub mod Beginnings
+pub mod Blocks
+pub mod Lengths
+pub mod LineLengths
+pub mod Rows

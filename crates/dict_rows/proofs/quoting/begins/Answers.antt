@@ -1,0 +1,10 @@
+use Rattle.std.proofs.Common.{◌∙◌, nat_eq, ap}
+use Rattle.std.specs.List.{starts_with}
+use Rattle.dict_rows.proofs.Beginnings.{begins_bytes}
+use Rattle.dict_rows.proofs.quoting.begins.Goals as goal
+
+pub returns : goal.returns
+returns c =
+    c.starts_with.ensures.value
+    ∙ ap (λ bytes. starts_with nat_eq bytes c.args.prefix.now) (c.as_bytes.ensures.value ∙ c.as_str.ensures.value)
+    ∙ begins_bytes c.args.prefix.now c.args.word.now c.requires
