@@ -16,7 +16,7 @@ use Rattle.session_machine.specs.declared.frame.Frame.{Frame}
 use Rattle.session_machine.specs.declared.frame.State.{State}
 use Rattle.session_machine.specs.declared.frame.State.TheVariants as states
 use Rattle.session_machine.specs.declared.session_notice.SessionNotice.{SessionNotice}
-use Rattle.session_machine.specs.declared.session_notice.SessionNotice.TheVariants.{Step, Refused}
+use Rattle.session_machine.specs.declared.session_notice.SessionNotice.TheVariants.{Step, Refused, Purged, Unchanged, Undone, Overtaken, TooBig, StampsEnd}
 use Rattle.session_machine.specs.Session.{Session}
 use Rattle.session_machine.specs.Display.{escaped, has_escape, printed_form, shown_characters, okuri_shown, reading_shown, question_shown, first_text, first_note, single_shown, page_letters, lettered, page_shown, picking_shown, state_shown, frame_shown, display, step_text, refusal_text, note_text, state_note, notice_text, notice, indicator, line, text_printed}
 
@@ -139,7 +139,7 @@ characters c (suc count) = c ∷ characters (c + 1) count
 
 -- a frame with a text and a state
 abbrev frame : List ℕ → Mode → State → Frame
-frame text mode state = record { text = text; mode = mode; state = state }
+frame text mode state = record { text = text; mode = mode; state = state; last_choice = None }
 
 -- texts of 63, 64 and 65 characters, each of three bytes: the first of the last is not shown
 long_texts : map (λ count. frame_shown (frame (characters 12400 count) Hira (states.Plain (codes "k")))) (63 ∷ 64 ∷ 65 ∷ [])
@@ -200,8 +200,13 @@ state_notes = refl
 -- a note is told where the last key gave no notice
 notices_told : map (λ (l : SessionNotice × State). notice_text l.0 l.1) (
     (Step notices.Empty, states.Plain []) ∷ (Step notices.Empty, picked three 0) ∷ (Step notices.Empty, picked three 1)
-    ∷ (Step notices.Limit, picked three 1) ∷ (Step notices.NoCandidate, states.Plain []) ∷ (Refused Disk, picked three 1) ∷ [])
-    ≡ [] ∷ [] ∷ codes ";宴会の" ∷ codes "limit" ∷ codes "no-candidate" ∷ codes "refused disk" ∷ []
+    ∷ (Step notices.Limit, picked three 1) ∷ (Step notices.NoCandidate, states.Plain []) ∷ (Refused Disk, picked three 1) ∷ (Purged, states.Plain [])
+    ∷ (Unchanged, states.Plain []) ∷ (Undone, picked three 1) ∷ (Overtaken 0, picked three 1) ∷ (Overtaken 18, picked three 0) ∷ (TooBig 65537, picked three 1)
+    ∷ (StampsEnd, picked three 1) ∷ [])
+    ≡ [] ∷ [] ∷ codes ";宴会の" ∷ codes "limit" ∷ codes "no-candidate" ∷ codes "refused disk" ∷ codes "purged"
+    ∷ codes "unchanged" ∷ codes "undone" ∷ codes "overtaken 0" ∷ codes "overtaken 18" ∷ codes "too-big 65537"
+    ∷ codes "stamps-end" ∷ []
+unfolding digits
 notices_told = refl
 
 -- a note is printed

@@ -4,9 +4,9 @@ use lib.Utf8.{encode, encodes}
 use Rattle.std.specs.List.{flat_map}
 use Rattle.std.specs.Str.{chars, IsUtf8}
 use Rattle.std.proofs.lemmas.Bool.{cases_Bool, or_parts, or_cases, eqb-true}
-use Rattle.std.proofs.lemmas.List.{take-append-drop, at_drop_more, get_or-append-add, get_or-take}
+use Rattle.std.proofs.lemmas.List.{get_or-append-add, get_or-take}
 use Rattle.std.proofs.lemmas.List.Concat.{flat_map-append}
-use Rattle.std.proofs.lemmas.Str.{encodes-chars, chars-append, IsUtf8-take, IsUtf8-drop, IsCharBoundary-before_ascii, encode_ascii, chars_past_char}
+use Rattle.std.proofs.lemmas.Str.{encodes-chars, encode_ascii}
 use Rattle.skk_text.specs.TextLaws.{chars-split}
 use Rattle.session_machine.specs.Display.{escaped, has_escape}
 

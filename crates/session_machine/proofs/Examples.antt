@@ -1,5 +1,5 @@
 -- Sessions and keys, as the definitions compute them.
-use Rattle.std.proofs.Common.{◌≡◌, refl, ℕ, true, false, Option, Some, None, List, [], ◌∷◌, ◌++◌, codes}
+use Rattle.std.proofs.Common.{◌≡◌, refl, ℕ, Bool, true, false, map, Option, Some, None, option_map, List, [], ◌∷◌, ◌++◌, codes}
 use lib.Utf8.{encode}
 use Rattle.skk_text.specs.declared.key.Key.{Key}
 use Rattle.skk_text.specs.declared.key.Key.TheVariants.{Char, Cj, Cg, Bs, Ret, Tab, Undo}
@@ -11,18 +11,21 @@ use Rattle.skk_calls.specs.declared.answer.Answer.{Answer}
 use Rattle.skk_calls.specs.declared.answer.Answer.TheVariants.{Done, Refused}
 use Rattle.skk_calls.specs.declared.answer.Refusal.TheVariants as refusals
 use Rattle.skk_calls.specs.declared.answer.Reply.TheVariants as replies
-use Rattle.skk_calls.specs.declared.call.Call.TheVariants.{Lookup}
-use Rattle.skk_calls.specs.declared.part.Part.TheVariants.{Nasi}
-use Rattle.skk_calls.specs.Interactions.{asked, end_of}
-use Rattle.skk_calls.specs.Rows.{Cand}
+use Rattle.skk_calls.specs.declared.call.Call.TheVariants.{Lookup, Learn, Purge, Unlearn}
+use Rattle.skk_calls.specs.declared.part.Part.TheVariants.{Nasi, Ari}
+use Rattle.skk_calls.specs.Interactions.{ends, asked, end_of}
+use Rattle.skk_calls.specs.Rows.{Cand, Learned, RowKey}
 use Rattle.reading_state.specs.Puts.{Reading}
 use Rattle.candidate_state.specs.Shown.{Shown}
+use Rattle.session_machine.specs.Answered.{reply_notice, answer_notice, learnt_by, says_purged}
+use Rattle.session_machine.specs.declared.frame.Choice.{Choice}
+use Rattle.session_machine.specs.declared.frame.Conversion.{Conversion}
 use Rattle.session_machine.specs.declared.frame.State.{State}
 use Rattle.session_machine.specs.declared.frame.State.TheVariants as states
 use Rattle.session_machine.specs.declared.session_notice.SessionNotice.{SessionNotice}
 use Rattle.session_machine.specs.declared.session_notice.SessionNotice.TheVariants as told
-use Rattle.session_machine.specs.Pressed.{pressed, all_pressed, reading_inserted}
-use Rattle.session_machine.specs.Session.{Session, is_session, text_limit, new_session, text_of}
+use Rattle.session_machine.specs.Pressed.{pressed, all_pressed, reading_inserted, choice_inserted, after_learning}
+use Rattle.session_machine.specs.Session.{Session, is_session, text_limit, new_session, text_of, choice_within, choice_at, without_chars, has_room}
 
 -- a table of two inputs, あ and ん
 abbrev rules : List Rule
@@ -34,7 +37,7 @@ rules =
 -- a session of typist 3, who learns in the shared book, with a text, a mode, a state and a notice
 abbrev at : List ℕ → Mode → State → SessionNotice → Session
 at text mode state notice =
-    record { typist = 3; book = 0; frame = record { text = text; mode = mode; state = state }; outer = []; notice = notice }
+    record { typist = 3; book = 0; frame = record { text = text; mode = mode; state = state; last_choice = None }; outer = []; notice = notice }
 
 abbrev none : SessionNotice
 none = told.Step notices.Empty
@@ -59,12 +62,14 @@ shown key cand = record { key = record { part = Nasi; reading = key }; cand = ca
 abbrev found : List Cand
 found = cand (codes "亜") [] ∷ cand (codes "阿") (codes "二") ∷ []
 
+abbrev conversion : ℕ → Bool → Conversion
+conversion place question = record {
+  reading = reading (codes "あ") [];
+  picking = record { shown = shown (codes "あ") (cand (codes "亜") []) ∷ shown (codes "あ") (cand (codes "阿") (codes "二")) ∷ []; place = place; question = question };
+}
+
 abbrev picking : ℕ → State
-picking place =
-    states.Picking (record {
-      reading = reading (codes "あ") [];
-      picking = record { shown = shown (codes "あ") (cand (codes "亜") []) ∷ shown (codes "あ") (cand (codes "阿") (codes "二")) ∷ []; place = place; question = false };
-    })
+picking place = states.Picking (conversion place false)
 
 -- what a key comes to where its calls get these answers: the session, or that it is not built
 abbrev after : Session → Key → List Answer → Option (Option Session)
@@ -73,7 +78,7 @@ after session key answers = end_of (pressed rules session key) answers
 abbrev found_two : List Answer
 found_two = Done (replies.Found found) ∷ []
 
-new : (new_session 3 3 ≡ record { typist = 3; book = 3; frame = record { text = []; mode = Hira; state = plain }; outer = []; notice = none })
+new : (new_session 3 3 ≡ record { typist = 3; book = 3; frame = record { text = []; mode = Hira; state = plain; last_choice = None }; outer = []; notice = none })
 new = refl
 
 -- a session learns in the shared book or in its typist's
@@ -83,7 +88,7 @@ books = (refl, refl, refl)
 limit : text_limit ≡ 1048576
 limit = refl
 
-outermost : text_of (record (at (codes "内") Hira plain none) { outer = record { text = codes "外"; mode = Kata; state = plain } ∷ record { text = codes "中"; mode = Kata; state = plain } ∷ [] }) ≡ codes "外"
+outermost : text_of (record (at (codes "内") Hira plain none) { outer = record { text = codes "外"; mode = Kata; state = plain; last_choice = None } ∷ record { text = codes "中"; mode = Kata; state = plain; last_choice = None } ∷ [] }) ≡ codes "外"
 outermost = refl
 
 -- in the plain state
@@ -226,10 +231,196 @@ unfolding encode
 none_named = refl
 
 not_built_in_picking :
-    (after (at [] Hira (picking 1) none) (Char 32) [] ≡ Some None) × (after (at [] Hira (picking 0) none) (Char 88) [] ≡ Some None)
-    × (after (at [] Hira (picking 0) none) Cj [] ≡ Some None) × (after (at [] Hira (picking 0) none) (Char 97) [] ≡ Some None)
+    (after (at [] Hira (picking 1) none) (Char 32) [] ≡ Some None) × (after (at [] Hira (picking 0) none) (Char 62) [] ≡ Some None)
 unfolding encode
-not_built_in_picking = (refl, refl, refl, refl)
+not_built_in_picking = (refl, refl)
+
+-- Choices
+
+-- what an answer tells, what it says was learnt, and whether it says that a word is found no more
+abbrev learned : Learned
+learned = record { book = 0; key = record { part = Nasi; reading = codes "あ" }; stamp = 8; before = None }
+
+replies_told : map reply_notice (replies.Found found ∷ replies.Readings [] ∷ replies.Learned learned ∷ replies.Purged ∷ replies.Unchanged ∷ replies.Restored
+    ∷ replies.Overtaken 9 ∷ replies.Overtaken 0 ∷ replies.TooBig 70000 ∷ replies.StampsEnd ∷ [])
+    ≡ none ∷ none ∷ none ∷ told.Purged ∷ told.Unchanged ∷ told.Undone ∷ told.Overtaken 9 ∷ told.Overtaken 0 ∷ told.TooBig 70000 ∷ told.StampsEnd ∷ []
+replies_told = refl
+
+abbrev answers : List Answer
+answers = Done (replies.Learned learned) ∷ Done (replies.Found found) ∷ Done replies.Purged ∷ Done replies.Unchanged ∷ Done replies.Restored
+    ∷ Done (replies.TooBig 9) ∷ Done replies.StampsEnd ∷ Refused refusals.Disk ∷ []
+
+answers_told : map answer_notice answers
+    ≡ none ∷ none ∷ told.Purged ∷ told.Unchanged ∷ told.Undone ∷ told.TooBig 9 ∷ told.StampsEnd ∷ told.Refused refusals.Disk ∷ []
+answers_told = refl
+
+answers_learnt : map learnt_by answers ≡ Some learned ∷ None ∷ None ∷ None ∷ None ∷ None ∷ None ∷ None ∷ []
+answers_learnt = refl
+
+answers_purged : map says_purged answers ≡ false ∷ false ∷ true ∷ true ∷ false ∷ false ∷ false ∷ false ∷ []
+answers_purged = refl
+
+-- what is inserted for a candidate: its text and not its word, as it is, and the okurigana in the kana of a mode
+abbrev begun : List ℕ → Reading
+begun kana = record (reading (codes "おく") []) { okuri = Some (record { letter = 114; text = kana }) }
+
+abbrev numbered : RowKey → List ℕ → Shown
+numbered key text = record { key = key; cand = cand (codes "#1り") (codes "注"); text = text }
+
+abbrev sent : Shown
+sent = numbered (record { part = Ari; reading = codes "おくr" }) (codes "５り")
+
+inserted : map (λ (l : Mode × Reading). choice_inserted l.0 l.1 sent) ((Hira, begun (codes "り")) ∷ (Kata, begun (codes "り")) ∷ (Kata, begun []) ∷ (Kata, reading (codes "おく") []) ∷ [])
+    ≡ codes "５りり" ∷ codes "５りリ" ∷ codes "５り" ∷ codes "５り" ∷ []
+inserted = refl
+
+-- a choice of the candidate of a place of あ: so many characters up to so many bytes, in a mode
+abbrev choice : ℕ → ℕ → Mode → ℕ → Option Learned → Choice
+choice inserted end mode place learned = record { inserted = inserted; end = end; mode = mode; conversion = conversion place false; learned = learned }
+
+-- a session with a last choice
+abbrev chosen : List ℕ → Mode → State → SessionNotice → Choice → Session
+chosen text mode state notice last =
+    record { typist = 3; book = 0; frame = record { text = text; mode = mode; state = state; last_choice = Some last }; outer = []; notice = notice }
+
+-- what was inserted is counted in characters, and where it ends in bytes
+kept : (after_learning (at (codes "x亜リ") Kata plain none) (conversion 1 false) (codes "亜リ") (Done (replies.Learned learned))
+    ≡ chosen (codes "x亜リ") Kata plain none (choice 2 7 Kata 1 (Some learned)))
+    × (after_learning (at (codes "x亜リ") Kata plain none) (conversion 1 false) (codes "亜リ") (Refused refusals.Disk)
+    ≡ chosen (codes "x亜リ") Kata plain (told.Refused refusals.Disk) (choice 2 7 Kata 1 None))
+unfolding encode
+kept = (refl, refl)
+
+-- a choice at one byte less than it had, at as many, and at one more
+abbrev last_choice : Choice
+last_choice = choice 2 7 Kata 0 (Some learned)
+
+choices_within : map (λ bytes. choice_within bytes (Some last_choice)) (6 ∷ 7 ∷ 8 ∷ []) ≡ None ∷ Some last_choice ∷ Some last_choice ∷ []
+choices_within = refl
+
+choices_at : map (λ bytes. choice_at bytes (Some last_choice)) (6 ∷ 7 ∷ 8 ∷ []) ≡ None ∷ Some last_choice ∷ None ∷ []
+choices_at = refl
+
+no_choice : (choice_within 7 None ≡ None) × (choice_at 7 None ≡ None)
+no_choice = (refl, refl)
+
+without : map (λ count. without_chars count (codes "xあ")) (0 ∷ 1 ∷ 2 ∷ 3 ∷ []) ≡ codes "xあ" ∷ codes "x" ∷ [] ∷ [] ∷ []
+without = refl
+
+-- keys that choose: what comes behind the choice, and what is kept of it
+abbrev learnt : List Answer
+learnt = Done (replies.Learned learned) ∷ []
+
+abbrev of_first : Choice
+of_first = choice 1 4 Hira 0 (Some learned)
+
+keys_choose : map (λ key. after (at (codes "x") Hira (picking 0) (told.Step notices.Reading)) key learnt) (Cj ∷ Ret ∷ Bs ∷ Char 97 ∷ Char 110 ∷ Char 81 ∷ Char 113 ∷ [])
+    ≡ Some (Some (chosen (codes "x亜") Hira plain none of_first)) ∷ Some (Some (chosen (codes "x亜" ++ 10 ∷ []) Hira plain none of_first))
+    ∷ Some (Some (at (codes "x") Hira plain none)) ∷ Some (Some (chosen (codes "x亜あ") Hira plain none of_first))
+    ∷ Some (Some (chosen (codes "x亜") Hira (states.Plain (codes "n")) none of_first)) ∷ Some (Some (chosen (codes "x亜") Hira (unfinished []) none of_first))
+    ∷ Some (Some (chosen (codes "x亜") Kata plain none of_first)) ∷ []
+unfolding encode
+keys_choose = refl
+
+-- a learning that is not done, of the second candidate: the choice is made, and what it was answered is told
+not_learnt : map (λ answer. after (at (codes "x") Kata (picking 1) none) Cj (answer ∷ [])) (Done (replies.TooBig 9) ∷ Done replies.StampsEnd ∷ Refused refusals.Disk ∷ [])
+    ≡ Some (Some (chosen (codes "x阿") Kata plain (told.TooBig 9) (choice 1 4 Kata 1 None))) ∷ Some (Some (chosen (codes "x阿") Kata plain told.StampsEnd (choice 1 4 Kata 1 None)))
+    ∷ Some (Some (chosen (codes "x阿") Kata plain (told.Refused refusals.Disk) (choice 1 4 Kata 1 None))) ∷ []
+unfolding encode
+not_learnt = refl
+
+-- pages: a letter chooses its candidate, and no key is read behind it
+abbrev pages : State
+pages = states.Picking (record {
+  reading = begun (codes "り");
+  picking = record { shown = sent ∷ sent ∷ sent ∷ sent ∷ sent ∷ numbered (record { part = Ari; reading = codes "だいr" }) (codes "六") ∷ []; place = 4; question = false };
+})
+
+-- a session, and the state of it after a key with an answer to its call
+abbrev text_after : Session → Key → List Answer → Option (Option (List ℕ × State))
+text_after session key answers = option_map (λ end. option_map (λ (s : Session). (text_of s, s.frame.state)) end) (after session key answers)
+
+page_chooses : map (λ key. text_after (at (codes "x") Kata pages none) key learnt) (Char 97 ∷ Char 115 ∷ []) ≡ Some (Some (codes "x５りリ", plain)) ∷ Some (Some (codes "x六リ", plain)) ∷ []
+unfolding encode
+page_chooses = refl
+
+-- a candidate is learnt in the book, under its key, with its okurigana, and as it was found
+asks_learning : map (λ key. asked (pressed rules (at (codes "x") Kata pages none) key) learnt) (Char 97 ∷ Char 115 ∷ [])
+    ≡ (Learn 0 (record { part = Ari; reading = codes "おくr" }) (Some (codes "り")) (cand (codes "#1り") (codes "注")) ∷ [])
+    ∷ (Learn 0 (record { part = Ari; reading = codes "だいr" }) (Some (codes "り")) (cand (codes "#1り") (codes "注")) ∷ []) ∷ []
+unfolding encode
+asks_learning = refl
+
+asks_once : (asked (pressed rules (record (at [] Hira (picking 1) none) { book = 3 }) (Char 97)) learnt ≡ Learn 3 (record { part = Nasi; reading = codes "あ" }) None (cand (codes "阿") (codes "二")) ∷ [])
+    × (asked (pressed rules (at [] Hira (picking 0) none) (Char 62)) learnt ≡ []) × (after (at [] Hira (picking 0) none) Cj [] ≡ None)
+unfolding encode
+asks_once = (refl, refl, refl)
+
+-- a choice that does not fit asks nothing, and the candidates stay
+no_room : (text : List ℕ) → has_room (at text Hira plain none) (codes "亜") ≡ false
+    → pressed rules (at text Hira (picking 0) none) (Char 97) ≡ ends (Some (at text Hira (picking 0) (told.Step notices.Limit)))
+unfolding encode
+no_room text full = rw full refl
+
+-- Purges
+
+abbrev question : State
+question = states.Picking (conversion 1 true)
+
+purge_asked : after (at [] Hira (picking 1) none) (Char 88) [] ≡ Some (Some (at [] Hira question none))
+unfolding encode
+purge_asked = refl
+
+-- `y` and `Y` purge; any other key ends the question
+abbrev word_purged : List Answer
+word_purged = Done replies.Purged ∷ []
+
+purged : (map (λ key. after (at (codes "x") Hira question none) key word_purged) (Char 121 ∷ Char 89 ∷ [])
+    ≡ Some (Some (at (codes "x") Hira plain told.Purged)) ∷ Some (Some (at (codes "x") Hira plain told.Purged)) ∷ [])
+    × (map (λ key. after (at (codes "x") Hira question none) key []) (Char 110 ∷ Char 88 ∷ Cj ∷ Undo ∷ [])
+    ≡ Some (Some (at (codes "x") Hira (picking 1) none)) ∷ Some (Some (at (codes "x") Hira (picking 1) none)) ∷ Some (Some (at (codes "x") Hira (picking 1) none))
+    ∷ Some (Some (at (codes "x") Hira (picking 1) none)) ∷ [])
+unfolding encode
+purged = (refl, refl)
+
+-- the candidates are closed where there was nothing to purge, and stay where the purge was not done
+purge_answered : map (λ answer. after (at (codes "x") Hira question none) (Char 121) (answer ∷ [])) (Done replies.Unchanged ∷ Done (replies.TooBig 9) ∷ Done replies.StampsEnd ∷ Refused refusals.Memory ∷ [])
+    ≡ Some (Some (at (codes "x") Hira plain told.Unchanged)) ∷ Some (Some (at (codes "x") Hira (picking 1) (told.TooBig 9))) ∷ Some (Some (at (codes "x") Hira (picking 1) told.StampsEnd))
+    ∷ Some (Some (at (codes "x") Hira (picking 1) (told.Refused refusals.Memory))) ∷ []
+unfolding encode
+purge_answered = refl
+
+-- a word is purged from the book, under its key, as it was found
+asks_purge : asked (pressed rules (at (codes "x") Kata (states.Picking (record { reading = begun (codes "り"); picking = record { shown = sent ∷ []; place = 0; question = true } })) none) (Char 121)) word_purged
+    ≡ Purge 0 (record { part = Ari; reading = codes "おくr" }) (codes "#1り") ∷ []
+unfolding encode
+asks_purge = refl
+
+-- Taking back
+
+-- the candidates are shown again in the mode of the choice, without what was inserted, with what the dictionary says of it
+taken_back : map (λ answer. after (chosen (codes "x亜リ") Hira (states.Plain (codes "n")) none last_choice) Undo (answer ∷ []))
+    (Done replies.Restored ∷ Done (replies.Overtaken 2) ∷ Refused refusals.Memory ∷ [])
+    ≡ Some (Some (at (codes "x") Kata (picking 0) told.Undone)) ∷ Some (Some (at (codes "x") Kata (picking 0) (told.Overtaken 2)))
+    ∷ Some (Some (at (codes "x") Kata (picking 0) (told.Refused refusals.Memory))) ∷ []
+unfolding encode
+taken_back = refl
+
+asks_taking_back : asked (pressed rules (chosen (codes "x亜リ") Hira plain none last_choice) Undo) (Done replies.Restored ∷ []) ≡ Unlearn learned ∷ []
+unfolding encode
+asks_taking_back = refl
+
+-- where nothing was learnt nothing is asked
+back_unlearnt : after (chosen (codes "x亜リ") Hira plain none (choice 2 7 Kata 1 None)) Undo [] ≡ Some (Some (at (codes "x") Kata (picking 1) told.Undone))
+unfolding encode
+back_unlearnt = refl
+
+-- where more was typed it can't be taken back, until that is deleted again; where less is left it is given up
+longer : (after (chosen (codes "x亜リy") Hira plain none last_choice) Undo [] ≡ Some (Some (chosen (codes "x亜リy") Hira plain (told.Step notices.NoUndo) last_choice)))
+    × (after (chosen (codes "x亜リy") Hira plain none last_choice) Bs [] ≡ Some (Some (chosen (codes "x亜リ") Hira plain none last_choice)))
+    × (after (chosen (codes "x亜リ") Hira plain none last_choice) Bs [] ≡ Some (Some (at (codes "x亜") Hira plain none)))
+unfolding encode
+longer = (refl, refl, refl)
 
 -- keys one after another, up to the first that is not built
 several : end_of (all_pressed rules (at [] Hira plain none) (Char 65 ∷ Char 32 ∷ Char 32 ∷ [])) found_two ≡ Some (Some (at [] Hira (picking 1) none))

@@ -1,5 +1,5 @@
 -- No text passes its limit.
-use Rattle.std.proofs.Common.{◌≡◌, ◌≤◌, ◌+◌, ◌-◌, ◌==◌, ◌∙◌, sym, ap, ℕ, Bool, true, false, Option, Some, None, List, [], ◌∷◌, length, drop, leb-true, subst, arith, refl, if◌then◌else◌}
+use Rattle.std.proofs.Common.{◌≡◌, ◌≤◌, ◌+◌, ◌-◌, ◌==◌, ◌∙◌, sym, ap, ℕ, slice_get, Bool, true, false, Option, Some, None, List, [], ◌∷◌, length, drop, leb-true, subst, arith, refl, if◌then◌else◌}
 use Rattle.std.specs.Prelude.{⊤}
 use Rattle.std.proofs.lemmas.List.{take-append-drop}
 use Rattle.std.specs.List.{list_any}
@@ -15,6 +15,7 @@ use Rattle.skk_calls.specs.declared.answer.Answer.{Answer}
 use Rattle.skk_calls.specs.declared.answer.Answer.TheVariants.{Done, Refused}
 use Rattle.skk_calls.specs.declared.answer.Reply.TheVariants as replies
 use Rattle.skk_calls.specs.Interactions.{ends, asks, prints, followed_by, Dialog, Comes}
+use Rattle.skk_calls.specs.Rows.{Learned}
 use Rattle.kana_input.specs.declared.plain.PlainThen.{PlainThen}
 use Rattle.kana_input.specs.declared.plain.PlainThen.TheVariants as plain
 use Rattle.kana_input.specs.Plain.{plain_step}
@@ -25,15 +26,19 @@ use Rattle.reading_state.specs.declared.reading_do.ReadingThen.TheVariants as ef
 use Rattle.reading_state.specs.Keys.{key_of}
 use Rattle.reading_state.specs.Puts.{Reading, new_reading}
 use Rattle.reading_state.specs.Reading.{reading_step}
+use Rattle.candidate_state.specs.declared.cands_do.AfterChoose.{AfterChoose}
+use Rattle.candidate_state.specs.declared.cands_do.AfterChoose.TheVariants as choices
 use Rattle.candidate_state.specs.declared.cands_do.CandsDo.{CandsDo}
 use Rattle.candidate_state.specs.declared.cands_do.CandsDo.TheVariants as cands
 use Rattle.candidate_state.specs.Picking.{picking_step}
 use Rattle.candidate_state.specs.Shown.{Shown, shown_plain}
+use Rattle.session_machine.specs.declared.frame.Choice.{Choice}
 use Rattle.session_machine.specs.declared.frame.Conversion.{Conversion}
 use Rattle.session_machine.specs.declared.frame.State.{State}
 use Rattle.session_machine.specs.declared.frame.State.TheVariants as states
-use Rattle.session_machine.specs.Pressed.{Meaning, picked, looked_up, converted, reading_inserted, after_confirmed, confirmed, reading_effect, reading_pressed, plain_effect, plain_pressed, picking_effect, picking_pressed, state_pressed, pressed, all_pressed, is_okuri_key, is_space, is_digit, with_plain}
-use Rattle.session_machine.specs.Session.{Session, text_limit, has_room, with_piece, with_insertion, noting, before_key, with_state}
+use Rattle.session_machine.specs.Answered.{says_purged}
+use Rattle.session_machine.specs.Pressed.{Meaning, not_built, picked, looked_up, converted, reading_inserted, after_confirmed, confirmed, reading_effect, reading_pressed, before_choice, unlearnt, undone, plain_effect, plain_pressed, of_candidate, choice_inserted, after_learning, choice_effect, choosing, after_purge, purging, picking_effect, picking_pressed, state_pressed, pressed, all_pressed, is_okuri_key, is_space, is_digit, with_plain}
+use Rattle.session_machine.specs.Session.{Session, text_limit, choice_at, without_chars, has_room, with_piece, with_insertion, noting, before_key, with_state}
 
 -- the text of the frame is within its limit
 abbrev pub Fits : Session → Type 0
@@ -62,6 +67,12 @@ shorter text =
     let front = without_last text in
     let back = drop (length text - 1) text in
     omega (arith, sym (ap byte_len (take-append-drop (length text - 1) text)) ∙ byte_len-append front back)
+
+shorter_by : (count : ℕ) (text : List ℕ) → byte_len (without_chars count text) ≤ byte_len text
+shorter_by count text =
+    let front = without_chars count text in
+    let back = drop (length text - count) text in
+    omega (arith, sym (ap byte_len (take-append-drop (length text - count) text)) ∙ byte_len-append front back)
 
 noted-fits : (session : Session) (notice : Notice) → Fits session → Fits (noting session notice)
 noted-fits session notices.Empty fits = fits
@@ -134,6 +145,17 @@ reading-fit rules session reading key fits = by (is_okuri_key key) refl
         let step = reading_step rules reading key in
         rw e (reading-effect-fit (noting session step.done.notice) step.reading key step.done.then (noted-fits session step.done.notice fits))
 
+undone-fit : (session : Session) (choice : Option Choice) → Fits session → AllFit (undone session choice)
+undone-fit session None fits = fits
+undone-fit session (Some choice) fits = by choice.learned
+  where
+    shorter_text : Fits (before_choice session choice)
+    shorter_text = omega (arith, fits, shorter_by choice.inserted session.frame.text)
+
+    by : (learned : Option Learned) → AllFit (unlearnt (before_choice session choice) learned)
+    by None = shorter_text
+    by (Some learned) = λ answer. shorter_text
+
 plain-effect-fit : (rules : List Rule) (session : Session) (effect : PlainThen) → Fits session → AllFit (plain_effect rules session effect)
 plain-effect-fit rules session plain.Stay fits = fits
 plain-effect-fit rules session plain.DeleteLast fits = omega (arith, fits, shorter session.frame.text)
@@ -142,7 +164,7 @@ plain-effect-fit rules session (plain.OpenReading None) fits = fits
 plain-effect-fit rules session (plain.OpenReading (Some letter)) fits = reading-fit rules session new_reading (Char letter) fits
 plain-effect-fit rules session plain.OpenAbbrev fits = tt
 plain-effect-fit rules session plain.Cancel fits = fits
-plain-effect-fit rules session plain.AskUndo fits = fits
+plain-effect-fit rules session plain.AskUndo fits = undone-fit session (choice_at (byte_len session.frame.text) session.frame.last_choice) fits
 
 plain-fit : (rules : List Rule) (session : Session) (pending : List ℕ) (key : Key) → Fits session → AllFit (plain_pressed rules session pending key)
 plain-fit rules session pending key fits =
@@ -150,26 +172,62 @@ plain-fit rules session pending key fits =
     plain-effect-fit rules (with_insertion (with_plain session step.plain) step.done.insert) step.done.then
     (inserted-fits (with_plain session step.plain) step.done.insert fits)
 
-picking-effect-fit : (session : Session) (conversion : Conversion) (effect : CandsDo) → Fits session → AllFit (picking_effect session conversion effect)
-picking-effect-fit session conversion (cands.Stay notice) fits = noted-fits (with_state session (states.Picking conversion)) notice fits
-picking-effect-fit session conversion cands.Back fits = fits
-picking-effect-fit session conversion cands.Register fits = tt
-picking-effect-fit session conversion cands.Purge fits = tt
-picking-effect-fit session conversion (cands.Choose place after) fits = tt
+choice-effect-fit : (rules : List Rule) (session : Session) (effect : AfterChoose) → Fits session → AllFit (choice_effect rules session effect)
+choice-effect-fit rules session choices.Nothing fits = fits
+choice-effect-fit rules session choices.Delete fits = omega (arith, fits, shorter session.frame.text)
+choice-effect-fit rules session choices.Newline fits = inserted-fits session (10 ∷ []) fits
+choice-effect-fit rules session choices.OpenSuffix fits = tt
+choice-effect-fit rules session (choices.Read key) fits = plain-fit rules session [] key fits
 
-picking-fit : (session : Session) (conversion : Conversion) (key : Key) → Fits session → AllFit (picking_pressed session conversion key)
-picking-fit session conversion key fits = by (picking_step conversion.picking key).picking.question refl
+choosing-fit : (rules : List Rule) (session : Session) (conversion : Conversion) (effect : AfterChoose) (shown : Shown) → Fits session
+    → AllFit (choosing rules session conversion effect shown)
+choosing-fit rules session conversion effect shown fits = by (has_room session (choice_inserted session.frame.mode conversion.reading shown)) refl
   where
-    by : (asked : Bool) → (picking_step conversion.picking key).picking.question ≡ asked → AllFit (picking_pressed session conversion key)
-    by true e = rw e tt
-    by false e =
-        let step = picking_step conversion.picking key in
-        rw e (picking-effect-fit session (record { reading = conversion.reading; picking = step.picking }) step.done fits)
+    by : (room : Bool) → has_room session (choice_inserted session.frame.mode conversion.reading shown) ≡ room → AllFit (choosing rules session conversion effect shown)
+    by true e =
+        let piece = choice_inserted session.frame.mode conversion.reading shown in
+        rw e (λ answer. choice-effect-fit rules (after_learning (with_piece session piece) conversion piece answer) effect (piece-fits session piece e))
+    by false e = rw e fits
+
+purging-fit : (session : Session) (conversion : Conversion) (shown : Shown) → Fits session → AllFit (purging session conversion shown)
+purging-fit session conversion shown fits = λ answer. by answer (says_purged answer) refl
+  where
+    by : (answer : Answer) (purged : Bool) → says_purged answer ≡ purged → Fits (after_purge session conversion answer)
+    by answer true e = rw e fits
+    by answer false e = rw e fits
+
+candidate-fit : (conversion : Conversion) (place : ℕ) (meaning : Shown → Meaning) → ((shown : Shown) → AllFit (meaning shown)) → AllFit (of_candidate conversion place meaning)
+candidate-fit conversion place meaning fit = by (slice_get conversion.picking.shown place)
+  where
+    by : (found : Option Shown) → AllFit (option_map_or meaning found not_built)
+    by None = tt
+    by (Some shown) = fit shown
+
+picking-effect-fit : (rules : List Rule) (session : Session) (conversion : Conversion) (effect : CandsDo) → Fits session → AllFit (picking_effect rules session conversion effect)
+picking-effect-fit rules session conversion (cands.Stay notice) fits = noted-fits (with_state session (states.Picking conversion)) notice fits
+picking-effect-fit rules session conversion cands.Back fits = fits
+picking-effect-fit rules session conversion cands.Register fits = tt
+picking-effect-fit rules session conversion cands.Purge fits =
+    candidate-fit conversion conversion.picking.place (purging session conversion) (λ shown. purging-fit session conversion shown fits)
+picking-effect-fit rules session conversion (cands.Choose place choices.OpenSuffix) fits = tt
+picking-effect-fit rules session conversion (cands.Choose place choices.Nothing) fits =
+    candidate-fit conversion place (choosing rules session conversion choices.Nothing) (λ shown. choosing-fit rules session conversion choices.Nothing shown fits)
+picking-effect-fit rules session conversion (cands.Choose place choices.Delete) fits =
+    candidate-fit conversion place (choosing rules session conversion choices.Delete) (λ shown. choosing-fit rules session conversion choices.Delete shown fits)
+picking-effect-fit rules session conversion (cands.Choose place choices.Newline) fits =
+    candidate-fit conversion place (choosing rules session conversion choices.Newline) (λ shown. choosing-fit rules session conversion choices.Newline shown fits)
+picking-effect-fit rules session conversion (cands.Choose place (choices.Read key)) fits =
+    candidate-fit conversion place (choosing rules session conversion (choices.Read key)) (λ shown. choosing-fit rules session conversion (choices.Read key) shown fits)
+
+picking-fit : (rules : List Rule) (session : Session) (conversion : Conversion) (key : Key) → Fits session → AllFit (picking_pressed rules session conversion key)
+picking-fit rules session conversion key fits =
+    let step = picking_step conversion.picking key in
+    picking-effect-fit rules session (record { reading = conversion.reading; picking = step.picking }) step.done fits
 
 state-fit : (rules : List Rule) (session : Session) (state : State) (key : Key) → Fits session → AllFit (state_pressed rules session state key)
 state-fit rules session (states.Plain pending) key fits = plain-fit rules session pending key fits
 state-fit rules session (states.Reading reading) key fits = reading-fit rules session reading key fits
-state-fit rules session (states.Picking conversion) key fits = picking-fit session conversion key fits
+state-fit rules session (states.Picking conversion) key fits = picking-fit rules session conversion key fits
 
 followed-fit : (meaning : Meaning) (behind : Option Session → Meaning) → AllFit meaning → AllFit (behind None)
     → ((session : Session) → Fits session → AllFit (behind (Some session))) → AllFit (followed_by meaning behind)

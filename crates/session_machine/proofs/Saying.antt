@@ -1,13 +1,17 @@
 -- What a caller has said where nothing was asked, and where one thing was asked behind another.
-use Rattle.std.proofs.Common.{◌≡◌, ◌∙◌, sym, ap, refl, Result, Ok, Err, Option, Some, None, List, [], ◌∷◌, ◌++◌, IfOk, IsErrAnd, append_assoc, rules, subst}
+use Rattle.std.proofs.Common.{◌≡◌, ◌∙◌, sym, ap, refl, ℕ, slice_get, Result, Ok, Err, Option, Some, None, List, [], ◌∷◌, ◌++◌, IfOk, IsErrAnd, append_assoc, rules, subst}
 use Rattle.std.proofs.lemmas.List.{append-nil}
-use Rattle.skk_calls.specs.Interactions.{Dialog, Comes, Begins, followed_by}
+use Rattle.skk_calls.specs.declared.answer.Answer.{Answer}
+use Rattle.skk_calls.specs.declared.call.Call.{Call}
+use Rattle.skk_calls.specs.Interactions.{Dialog, Comes, Begins, asks, followed_by}
 use Rattle.skk_calls.specs.InteractionLaws.{begins-followed, comes-behind, begins-behind}
 use Rattle.std.specs.Option.{option_map_or}
 use Rattle.skk_text.specs.declared.key.Key.{Key}
 use Rattle.romaji_rules.specs.declared.rule.Rule.{Rule}
-use Rattle.session_machine.specs.Pressed.{Meaning, becomes, not_built, pressed, all_pressed}
-use Rattle.session_machine.specs.Said.{Says, Becomes}
+use Rattle.candidate_state.specs.Shown.{Shown}
+use Rattle.session_machine.specs.declared.frame.Conversion.{Conversion}
+use Rattle.session_machine.specs.Pressed.{Meaning, becomes, not_built, of_candidate, pressed, all_pressed}
+use Rattle.session_machine.specs.Said.{Says, Becomes, after}
 use Rattle.session_machine.specs.Session.{Session}
 use Rattle.session_machine.specs.declared.session.PressFault.{PressFault}
 use Rattle.session_machine.specs.declared.session.PressFault.TheVariants as faults
@@ -32,9 +36,10 @@ pub says-fault : (meaning : Meaning) (fault : PressFault) (said : Dialog) → fa
 says-fault meaning fault said is = subst (λ f. Says meaning (Err f) said said) (sym is) (says-memory meaning said)
 
 -- the same of a result that a call below handed on
-pub says-lacking : (meaning : Meaning) (result : Result Session PressFault) (said : Dialog) → IsErrAnd result (λ fault. fault ≡ faults.Memory) → Says meaning result said said
-says-lacking meaning (Ok session) said is = absurd (search (rules, is))
-says-lacking meaning (Err fault) said is = let lacks : fault ≡ faults.Memory = search (rules, is) in says-fault meaning fault said lacks
+pub says-lacking : (meaning : Meaning) (result : Result (Unit {0}) PressFault) (session : Session) (said : Dialog) → IsErrAnd result (λ fault. fault ≡ faults.Memory)
+    → Says meaning (after result session) said said
+says-lacking meaning (Ok unit) session said is = absurd (search (rules, is))
+says-lacking meaning (Err fault) session said is = let lacks : fault ≡ faults.Memory = search (rules, is) in says-fault meaning fault said lacks
 
 -- something is not built, and nothing was asked
 pub says-not_built : (meaning : Meaning) (said : Dialog) → meaning ≡ not_built → Says meaning (Err faults.NotBuilt) said said
@@ -96,6 +101,19 @@ says-on from to dialog result start middle last goes grows says = record {
   not_built = λ e. goes.comes says.dialog None (says.not_built e);
   memory = λ e. goes.begins says.dialog (says.memory e);
 }
+
+-- a call was made with its answer, and what is said behind it is what the answer comes to
+pub says-asked : (call called : Call) (next : Answer → Meaning) (answer : Answer) (result : Result Session PressFault) (start middle last : Dialog) → called ≡ call
+    → middle ≡ start ++ (called, answer) ∷ [] → Says (next answer) result middle last → Says (asks call next) result start last
+says-asked call called next answer result start middle last is grows says =
+    says-on (asks call next) (next answer) ((called, answer) ∷ []) result start middle last
+    (record { comes = λ rest end comes. (sym is, comes); begins = λ rest begins. (sym is, begins) }) grows says
+
+-- what is said for a candidate is what is said of its place
+pub says-candidate : (conversion : Conversion) (place : ℕ) (meaning : Shown → Meaning) (shown : Shown) (result : Result Session PressFault) (said said' : Dialog)
+    → slice_get conversion.picking.shown place ≡ Some shown → Says (meaning shown) result said said' → Says (of_candidate conversion place meaning) result said said'
+says-candidate conversion place meaning shown result said said' found says =
+    subst (λ o. Says (option_map_or meaning o not_built) result said said') (sym found) says
 
 -- a fault that is handed on is that of the result
 handed-on : (result : Result Session PressFault) (fault : PressFault) → IsErrAnd result (λ handed. handed ≡ fault) → result ≡ Err fault

@@ -78,4 +78,28 @@ pub refused_disk : chars (codes "refused disk") ≡ codes "refused disk"
 unfolding chars
 refused_disk = refl
 
-pub ruleset words = (hira, kata, ascii, wide, none, limit, reading, no_more, no_completion, no_undo, no_candidate, line_feed, return, tab, backslash, newline, question, refused_memory, refused_disk)
+pub purged : chars (codes "purged") ≡ codes "purged"
+unfolding chars
+purged = refl
+
+pub unchanged : chars (codes "unchanged") ≡ codes "unchanged"
+unfolding chars
+unchanged = refl
+
+pub undone : chars (codes "undone") ≡ codes "undone"
+unfolding chars
+undone = refl
+
+pub overtaken : chars (codes "overtaken ") ≡ codes "overtaken "
+unfolding chars
+overtaken = refl
+
+pub too_big : chars (codes "too-big ") ≡ codes "too-big "
+unfolding chars
+too_big = refl
+
+pub stamps_end : chars (codes "stamps-end") ≡ codes "stamps-end"
+unfolding chars
+stamps_end = refl
+
+pub ruleset words = (hira, kata, ascii, wide, none, limit, reading, no_more, no_completion, no_undo, no_candidate, line_feed, return, tab, backslash, newline, question, refused_memory, refused_disk, purged, unchanged, undone, overtaken, too_big, stamps_end)

@@ -153,6 +153,12 @@ abbrev pub notice_text : SessionNotice → State → List ℕ
 notice_text (told.Step notices.Empty) state = state_note state
 notice_text (told.Step notice) state = step_text notice
 notice_text (told.Refused refusal) state = refusal_text refusal
+notice_text told.Purged state = codes "purged"
+notice_text told.Unchanged state = codes "unchanged"
+notice_text told.Undone state = codes "undone"
+notice_text (told.Overtaken stamp) state = codes "overtaken " ++ decimal stamp
+notice_text (told.TooBig length) state = codes "too-big " ++ decimal length
+notice_text told.StampsEnd state = codes "stamps-end"
 
 -- the notice of a session, as it is printed
 abbrev pub notice : Session → List ℕ

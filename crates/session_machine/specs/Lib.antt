@@ -1,3 +1,4 @@
+pub mod Answered
 pub mod Display
 pub mod Pressed
 pub mod Said

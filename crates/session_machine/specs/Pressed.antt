@@ -1,11 +1,11 @@
 -- The meaning of a key: what a session asks the dictionary, and the session after it.
-use Rattle.std.specs.Prelude.{ℕ, Bool, false, ◌&&◌, ◌||◌, ◌==◌, not, nat_le, if◌then◌else◌, Option, None, Some, List, [], ◌∷◌, ◌++◌, length}
+use Rattle.std.specs.Prelude.{ℕ, Bool, false, ◌&&◌, ◌||◌, ◌==◌, not, nat_le, if◌then◌else◌, Option, None, Some, List, [], ◌∷◌, ◌++◌, length, slice_get}
 use Rattle.std.specs.List.{list_any}
 use Rattle.std.specs.Option.{option_map_or}
 use Rattle.skk_text.specs.Characters.{code}
 use Rattle.skk_text.specs.Lines.{line_feed}
 use Rattle.skk_text.specs.Modes.{other_kana, in_kana_of}
-use Rattle.skk_text.specs.Text.{without_last}
+use Rattle.skk_text.specs.Text.{byte_len}
 use Rattle.skk_text.specs.declared.key.Key.{Key}
 use Rattle.skk_text.specs.declared.key.Key.TheVariants.{Char}
 use Rattle.skk_text.specs.declared.mode.Mode.{Mode}
@@ -15,8 +15,9 @@ use Rattle.romaji_rules.specs.declared.rule.Rule.{Rule}
 use Rattle.skk_calls.specs.declared.answer.Answer.{Answer}
 use Rattle.skk_calls.specs.declared.answer.Answer.TheVariants.{Done, Refused}
 use Rattle.skk_calls.specs.declared.answer.Reply.TheVariants.{Found}
-use Rattle.skk_calls.specs.declared.call.Call.TheVariants.{Lookup}
+use Rattle.skk_calls.specs.declared.call.Call.TheVariants.{Lookup, Learn, Purge, Unlearn}
 use Rattle.skk_calls.specs.Interactions.{Interaction, ends, asks, followed_by}
+use Rattle.skk_calls.specs.Rows.{Learned}
 use Rattle.kana_input.specs.declared.plain.Plain.{Plain}
 use Rattle.kana_input.specs.declared.plain.PlainThen.{PlainThen}
 use Rattle.kana_input.specs.declared.plain.PlainThen.TheVariants as plain
@@ -28,15 +29,19 @@ use Rattle.reading_state.specs.declared.reading_do.ReadingThen.TheVariants as ef
 use Rattle.reading_state.specs.Keys.{key_of, okuri_of}
 use Rattle.reading_state.specs.Puts.{Begun, Reading, new_reading}
 use Rattle.reading_state.specs.Reading.{reading_step}
+use Rattle.candidate_state.specs.declared.cands_do.AfterChoose.{AfterChoose}
+use Rattle.candidate_state.specs.declared.cands_do.AfterChoose.TheVariants as choices
 use Rattle.candidate_state.specs.declared.cands_do.CandsDo.{CandsDo}
 use Rattle.candidate_state.specs.declared.cands_do.CandsDo.TheVariants as cands
 use Rattle.candidate_state.specs.Picking.{new_picking, picking_step}
 use Rattle.candidate_state.specs.Shown.{Shown, shown_plain}
+use Rattle.session_machine.specs.Answered.{answer_notice, learnt_by, says_purged}
+use Rattle.session_machine.specs.declared.frame.Choice.{Choice}
 use Rattle.session_machine.specs.declared.frame.Conversion.{Conversion}
 use Rattle.session_machine.specs.declared.frame.State.{State}
 use Rattle.session_machine.specs.declared.frame.State.TheVariants as states
 use Rattle.session_machine.specs.declared.session_notice.SessionNotice.TheVariants as told
-use Rattle.session_machine.specs.Session.{Session, with_state, with_text, with_mode, noting, before_key, has_room, with_piece, with_insertion}
+use Rattle.session_machine.specs.Session.{Session, with_state, with_text, with_mode, with_choice, choice_at, without_chars, shortened, noting, before_key, has_room, with_piece, with_insertion}
 
 -- what a key comes to: what it asks one after another, and the session after it, where all that it does is built
 abbrev pub Meaning : Type 0
@@ -128,17 +133,32 @@ reading_pressed rules session reading key =
 
 -- Plain state
 
--- what a key's effect comes to behind its insertion; abbreviations are not built, there is no registration to cancel, and
--- no confirmation to take back
+-- a session before what was chosen last: without what was inserted, and with the candidates shown again in their mode
+abbrev pub before_choice : Session → Choice → Session
+before_choice session choice =
+    with_state (with_mode (with_text (with_choice session None) (without_chars choice.inserted session.frame.text)) choice.mode)
+    (states.Picking choice.conversion)
+
+-- what it comes to that what was learnt is taken back, if anything was
+abbrev pub unlearnt : Session → Option Learned → Meaning
+unlearnt session None = becomes (record session { notice = told.Undone })
+unlearnt session (Some learned) = asks (Unlearn learned) (λ answer. becomes (record session { notice = answer_notice answer }))
+
+-- what it comes to that a choice is taken back: its candidates are shown again, and what was learnt is taken back
+abbrev pub undone : Session → Option Choice → Meaning
+undone session None = becomes (noting session notices.NoUndo)
+undone session (Some choice) = unlearnt (before_choice session choice) choice.learned
+
+-- what a key's effect comes to behind its insertion; abbreviations are not built, and there is no registration to cancel
 abbrev pub plain_effect : List Rule → Session → PlainThen → Meaning
 plain_effect rules session plain.Stay = becomes session
-plain_effect rules session plain.DeleteLast = becomes (with_text session (without_last session.frame.text))
+plain_effect rules session plain.DeleteLast = becomes (shortened session)
 plain_effect rules session plain.Newline = becomes (with_insertion session (line_feed ∷ []))
 plain_effect rules session (plain.OpenReading None) = becomes (with_state session (states.Reading new_reading))
 plain_effect rules session (plain.OpenReading (Some letter)) = reading_pressed rules session new_reading (Char letter)
 plain_effect rules session plain.OpenAbbrev = not_built
 plain_effect rules session plain.Cancel = becomes session
-plain_effect rules session plain.AskUndo = becomes (noting session notices.NoUndo)
+plain_effect rules session plain.AskUndo = undone session (choice_at (byte_len session.frame.text) session.frame.last_choice)
 
 -- a session in the plain state, with its mode and what is pending
 abbrev pub with_plain : Session → Plain → Session
@@ -159,20 +179,71 @@ plain_pressed rules session pending key =
 
 -- Candidate state
 
--- what a key's effect on candidates comes to; registrations, purges and choices are not built
-abbrev pub picking_effect : Session → Conversion → CandsDo → Meaning
-picking_effect session conversion (cands.Stay notice) = becomes (noting (with_state session (states.Picking conversion)) notice)
-picking_effect session conversion cands.Back = becomes (with_state session (states.Reading conversion.reading))
-picking_effect session conversion cands.Register = not_built
-picking_effect session conversion cands.Purge = not_built
-picking_effect session conversion (cands.Choose place behind) = not_built
+-- what something comes to that is done with the candidate of a place, where there is one
+abbrev pub of_candidate : Conversion → ℕ → (Shown → Meaning) → Meaning
+of_candidate conversion place meaning = option_map_or meaning (slice_get conversion.picking.shown place) not_built
 
--- what a key comes to where candidates are shown; the question of a purge is not built
-abbrev pub picking_pressed : Session → Conversion → Key → Meaning
-picking_pressed session conversion key =
+-- what is inserted for a candidate: its text as it is shown, and the okurigana in the kana of a mode
+abbrev pub choice_inserted : Mode → Reading → Shown → List ℕ
+choice_inserted mode reading shown = shown.text ++ in_kana_of mode (kana_begun reading.okuri)
+
+-- a session into which a piece was inserted for a candidate, after its learning was answered
+abbrev pub after_learning : Session → Conversion → List ℕ → Answer → Session
+after_learning session conversion piece answer =
+    record (with_choice session (Some (record {
+      inserted = length piece;
+      end = byte_len session.frame.text;
+      mode = session.frame.mode;
+      conversion = conversion;
+      learned = learnt_by answer;
+    }))) { notice = answer_notice answer }
+
+-- what comes behind a choice: nothing, or what a key does in the plain state; `>` that opens a reading is not built
+abbrev pub choice_effect : List Rule → Session → AfterChoose → Meaning
+choice_effect rules session choices.Nothing = becomes session
+choice_effect rules session choices.Delete = becomes (shortened session)
+choice_effect rules session choices.Newline = becomes (with_insertion session (line_feed ∷ []))
+choice_effect rules session choices.OpenSuffix = not_built
+choice_effect rules session (choices.Read key) = plain_pressed rules session [] key
+
+-- what it comes to that a candidate is learnt whose piece is inserted: it is learnt as it was found, and then more is done
+abbrev pub learning : List Rule → Session → Conversion → List ℕ → AfterChoose → Shown → Meaning
+learning rules session conversion piece behind shown =
+    asks (Learn session.book shown.key (okuri_of conversion.reading) shown.cand)
+    (λ answer. choice_effect rules (after_learning (with_piece session piece) conversion piece answer) behind)
+
+-- what the choice of a candidate comes to: it is inserted and learnt. Where it does not fit the candidates stay
+abbrev pub choosing : List Rule → Session → Conversion → AfterChoose → Shown → Meaning
+choosing rules session conversion behind shown =
+    let piece = choice_inserted session.frame.mode conversion.reading shown in
+    if has_room session piece then learning rules session conversion piece behind shown
+    else becomes (noting (with_state session (states.Picking conversion)) notices.Limit)
+
+-- a session after the purge of a candidate was answered: the candidates are closed where it is found no more, and stay else
+abbrev pub after_purge : Session → Conversion → Answer → Session
+after_purge session conversion answer =
+    record (if says_purged answer then session else with_state session (states.Picking conversion)) { notice = answer_notice answer }
+
+-- what the purge of a candidate comes to
+abbrev pub purging : Session → Conversion → Shown → Meaning
+purging session conversion shown =
+    asks (Purge session.book shown.key shown.cand.word) (λ answer. becomes (after_purge session conversion answer))
+
+-- what a key's effect on candidates comes to; registrations, and a suffix that `>` opens, are not built
+abbrev pub picking_effect : List Rule → Session → Conversion → CandsDo → Meaning
+picking_effect rules session conversion (cands.Stay notice) = becomes (noting (with_state session (states.Picking conversion)) notice)
+picking_effect rules session conversion cands.Back = becomes (with_state session (states.Reading conversion.reading))
+picking_effect rules session conversion cands.Register = not_built
+picking_effect rules session conversion cands.Purge = of_candidate conversion conversion.picking.place (purging session conversion)
+picking_effect rules session conversion (cands.Choose place choices.OpenSuffix) = not_built
+picking_effect rules session conversion (cands.Choose place behind) =
+    of_candidate conversion place (choosing rules session conversion behind)
+
+-- what a key comes to where candidates are shown
+abbrev pub picking_pressed : List Rule → Session → Conversion → Key → Meaning
+picking_pressed rules session conversion key =
     let step = picking_step conversion.picking key in
-    if step.picking.question then not_built
-    else picking_effect session (record { reading = conversion.reading; picking = step.picking }) step.done
+    picking_effect rules session (record { reading = conversion.reading; picking = step.picking }) step.done
 
 -- Keys
 
@@ -180,7 +251,7 @@ picking_pressed session conversion key =
 abbrev pub state_pressed : List Rule → Session → State → Key → Meaning
 state_pressed rules session (states.Plain pending) key = plain_pressed rules session pending key
 state_pressed rules session (states.Reading reading) key = reading_pressed rules session reading key
-state_pressed rules session (states.Picking conversion) key = picking_pressed session conversion key
+state_pressed rules session (states.Picking conversion) key = picking_pressed rules session conversion key
 
 -- what a key comes to
 abbrev pub pressed : List Rule → Session → Key → Meaning

@@ -1,5 +1,5 @@
 -- What a call on a session leaves: what its caller has said, by the session or the fault.
-use Rattle.std.specs.Prelude.{◌≡◌, Result, Some, None, ◌++◌, IfOk, IsErrOf}
+use Rattle.std.specs.Prelude.{◌≡◌, Result, Ok, Err, Some, None, ◌++◌, IfOk, IsErrOf}
 use Rattle.skk_calls.specs.Interactions.{Dialog, Comes, Begins}
 use Rattle.session_machine.specs.Pressed.{Meaning, becomes, not_built}
 use Rattle.session_machine.specs.Session.{Session}
@@ -19,3 +19,8 @@ pub record Says (meaning : Meaning) (result : Result Session PressFault) (said s
 pub record Becomes (meaning : Meaning) (result : Result Session PressFault) : Type 0 where
   pub ok : IfOk result (λ session. meaning ≡ becomes session)
   pub not_built : IsErrOf result faults.NotBuilt → meaning ≡ not_built
+
+-- what a call comes to that changes a session where it stands: the session as it left it, or the fault
+abbrev pub after : Result (Unit {0}) PressFault → Session → Result Session PressFault
+after (Ok unit) session = Ok session
+after (Err fault) session = Err fault

@@ -1,10 +1,11 @@
 -- A session: a typist's frames, and the changes that keys make of them.
-use Rattle.std.specs.Prelude.{ℕ, ◌+◌, Bool, ◌||◌, ◌==◌, nat_le, if◌then◌else◌, List, [], ◌∷◌, ◌++◌}
-use Rattle.skk_text.specs.Text.{byte_len}
+use Rattle.std.specs.Prelude.{ℕ, ◌+◌, Bool, ◌||◌, ◌==◌, nat_le, nat_lt, if◌then◌else◌, Option, None, Some, List, [], ◌∷◌, ◌++◌, ◌-◌, length, take}
+use Rattle.skk_text.specs.Text.{byte_len, without_last}
 use Rattle.skk_text.specs.declared.mode.Mode.{Mode}
 use Rattle.skk_text.specs.declared.mode.Mode.TheVariants.{Hira}
 use Rattle.skk_text.specs.declared.notice.Notice.{Notice}
 use Rattle.skk_text.specs.declared.notice.Notice.TheVariants as notices
+use Rattle.session_machine.specs.declared.frame.Choice.{Choice}
 use Rattle.session_machine.specs.declared.frame.Frame.{Frame}
 use Rattle.session_machine.specs.declared.frame.State.{State}
 use Rattle.session_machine.specs.declared.frame.State.TheVariants.{Plain}
@@ -28,9 +29,9 @@ is_session session = session.book == 0 || session.book == session.typist
 abbrev pub text_limit : ℕ
 text_limit = 1048576
 
--- a new frame: hiragana mode, an empty text, and nothing pending
+-- a new frame: hiragana mode, an empty text, nothing pending, and nothing chosen
 abbrev pub new_frame : Frame
-new_frame = record { text = []; mode = Hira; state = Plain [] }
+new_frame = record { text = []; mode = Hira; state = Plain []; last_choice = None }
 
 -- the notice of a key that gives none
 abbrev pub no_notice : SessionNotice
@@ -60,6 +61,30 @@ with_text session text = record session { frame = record session.frame { text = 
 -- a session with another mode of its frame
 abbrev pub with_mode : Session → Mode → Session
 with_mode session mode = record session { frame = record session.frame { mode = mode } }
+
+-- a session with another last choice of its frame, or with none
+abbrev pub with_choice : Session → Option Choice → Session
+with_choice session choice = record session { frame = record session.frame { last_choice = choice } }
+
+-- what was chosen last in a text of so many bytes: it is given up where the text is shorter than it was behind it
+abbrev pub choice_within : ℕ → Option Choice → Option Choice
+choice_within bytes None = None
+choice_within bytes (Some choice) = if nat_lt bytes choice.end then None else Some choice
+
+-- what was chosen last, where the text has as many bytes as it had behind it
+abbrev pub choice_at : ℕ → Option Choice → Option Choice
+choice_at bytes None = None
+choice_at bytes (Some choice) = if bytes == choice.end then Some choice else None
+
+-- a text without so many characters at its end, or empty where it has no more
+abbrev pub without_chars : ℕ → List ℕ → List ℕ
+without_chars count text = take (length text - count) text
+
+-- a session without the last character of its frame's text, where it has one
+abbrev pub shortened : Session → Session
+shortened session =
+    let text = without_last session.frame.text in
+    with_choice (with_text session text) (choice_within (byte_len text) session.frame.last_choice)
 
 -- a session with a notice of a step, where it is one
 abbrev pub noting : Session → Notice → Session

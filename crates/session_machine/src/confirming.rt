@@ -1,4 +1,4 @@
-ghost use Rattle.std.specs.Prelude.{◌≡◌, IfOk};
+ghost use Rattle.std.specs.Prelude.{◌≡◌, IfOk, OnOk};
 ghost use Rattle.session_machine.specs.Pressed.{after_confirmed, confirmed, reading_inserted};
 
 use crate::frame::State;
@@ -11,20 +11,19 @@ use std::alloc::Global;
 // Inserts a reading in the frame's kana or in the other, and does what comes behind that. The reading stays open where it
 // does not fit.
 pub(crate) fn confirm(
-    session: Session,
+    session: &mut Session,
     alloc: Global,
     reading: Reading,
     other: bool,
     then: AfterConfirm,
-) -> Result<Session, Memory>
-    ensures { IfOk result (λ after. after ≡ confirmed session reading other (then)) }
+) -> Result<(), Memory>
+    ensures { OnOk result (session.new ≡ confirmed session.old reading other (then)) }
 {
-    let mut session = session;
     let piece = reading_inserted(alloc, session.frame.mode, &reading, other)?;
     if !session.has_room(piece.as_str()) {
-        session.frame.state = State::Reading(reading);
+        session.put_state(State::Reading(reading));
         session.note(Notice::Limit);
-        return Ok(session);
+        return Ok(());
     }
     session.frame.text.push_str(piece.as_str())?;
     after_confirm(session, alloc, then)
@@ -45,16 +44,15 @@ fn reading_inserted(
 
 // Does what comes behind a reading that was inserted.
 #[tactic(auto, using(crate::proofs::Words::words))]
-fn after_confirm(session: Session, alloc: Global, then: AfterConfirm) -> Result<Session, Memory>
-    ensures { IfOk result (λ after. after ≡ after_confirmed session (then)) }
+fn after_confirm(session: &mut Session, alloc: Global, then: AfterConfirm) -> Result<(), Memory>
+    ensures { OnOk result (session.new ≡ after_confirmed session.old (then)) }
 {
-    let mut session = session;
     match then {
         AfterConfirm::Nothing => {}
         AfterConfirm::ToAscii => session.frame.mode = Mode::Ascii,
         AfterConfirm::ToWide => session.frame.mode = Mode::Wide,
-        AfterConfirm::OpenReading => session.frame.state = State::Reading(Reading::new(alloc)),
+        AfterConfirm::OpenReading => session.put_state(State::Reading(Reading::new(alloc))),
         AfterConfirm::Newline => session.insert("\n")?,
     }
-    Ok(session)
+    Ok(())
 }

@@ -1,9 +1,10 @@
 ghost use Rattle.std.specs.Prelude.{◌≡◌, ◌≢◌, [], IfOk};
 ghost use Rattle.std.specs.List.{list_any};
 ghost use Rattle.std.specs.Str.{chars};
-ghost use Rattle.skk_calls.specs.Interactions.{ends};
+ghost use Rattle.skk_calls.specs.declared.call.Call.TheVariants.{Lookup};
+ghost use Rattle.reading_state.specs.Keys.{key_of, okuri_of};
 ghost use Rattle.session_machine.specs.Pressed.{converted, looked_up, picked, is_digit};
-ghost use Rattle.session_machine.specs.Said.{Becomes, Says};
+ghost use Rattle.session_machine.specs.Said.{Becomes, Says, after};
 
 use crate::frame::{Conversion, State};
 use crate::session::{PressFault, Session};
@@ -17,38 +18,45 @@ use std::alloc::Global;
 // Looks a reading up, and shows what is found.
 #[tactic(auto, using(crate::proofs::Saying::says))]
 pub(crate) fn convert<C: Caller>(
-    session: Session,
+    session: &mut Session,
     alloc: Global,
     reading: Reading,
     caller: &mut C,
-) -> Result<Session, PressFault>
+) -> Result<(), PressFault>
     requires { reading.text ≢ [] }
-    ensures said { Says (converted session reading) result (C.said caller.old) (C.said caller.new) }
+    ensures said { Says (converted session.old reading) (after result session.new) (C.said caller.old) (C.said caller.new) }
     ensures number { C.number caller.new ≡ C.number caller.old }
 {
     if has_digit(reading.text().as_str()) {
         return Err(PressFault::NotBuilt);
     }
-    let call = Call::Lookup {
-        who: session.typist,
-        key: reading.key(alloc)?,
-        okuri: reading.okuri(alloc)?,
-    };
+    let call = look_up(alloc, session.typist, &reading)?;
     let answer = caller.call(alloc, &call);
     take_answer(session, alloc, reading, answer)
 }
 
+// The call that looks a reading up for a typist.
+fn look_up(alloc: Global, typist: u16, reading: &Reading) -> Result<Call, Memory>
+    requires { reading.now.text ≢ [] }
+    ensures { IfOk result (λ call. call ≡ Lookup typist (key_of reading.now) (okuri_of reading.now)) }
+{
+    Ok(Call::Lookup {
+        who: typist,
+        key: reading.key(alloc)?,
+        okuri: reading.okuri(alloc)?,
+    })
+}
+
 // Takes the answer to a reading's look-up.
 fn take_answer(
-    session: Session,
+    session: &mut Session,
     alloc: Global,
     reading: Reading,
     answer: Answer,
-) -> Result<Session, PressFault>
+) -> Result<(), PressFault>
     requires { reading.text ≢ [] }
-    ensures { Becomes (looked_up session reading answer) result }
+    ensures { Becomes (looked_up session.old reading answer) (after result session.new) }
 {
-    let mut session = session;
     match answer {
         Answer::Done(Reply::Found(found)) => {
             let shown = shown_plain(alloc, reading.key(alloc)?, found)?;
@@ -57,21 +65,20 @@ fn take_answer(
         Answer::Done(_) => {}
         Answer::Refused(refusal) => session.notice = SessionNotice::Refused(refusal),
     }
-    session.frame.state = State::Reading(reading);
-    Ok(session)
+    session.put_state(State::Reading(reading));
+    Ok(())
 }
 
 // Shows the first of the candidates of a reading.
-fn pick(session: Session, reading: Reading, shown: ShownList) -> Result<Session, PressFault>
-    ensures { Becomes (picked session reading shown) result }
+fn pick(session: &mut Session, reading: Reading, shown: ShownList) -> Result<(), PressFault>
+    ensures { Becomes (picked session.old reading shown) (after result session.new) }
 {
     if shown.len() == 0 {
         return Err(PressFault::NotBuilt);
     }
-    let mut session = session;
     let picking = Picking::new(shown);
-    session.frame.state = State::Picking(Conversion { reading, picking });
-    Ok(session)
+    session.put_state(State::Picking(Conversion { reading, picking }));
+    Ok(())
 }
 
 // Whether a digit is somewhere in a text.

@@ -1,17 +1,22 @@
-use crate::frame::State;
+ghost use Rattle.std.specs.Prelude.{◌≡◌, ◌==◌, nat_lt, false};
+ghost use Rattle.std.specs.Option.{option_map_or};
+ghost use Rattle.session_machine.specs.Session.{without_chars};
+
+use crate::frame::{Choice, State};
 use crate::session::Session;
 use crate::session_notice::SessionNotice;
 use romaji_rules::Pending;
-use skk_text::{Memory, Notice};
+use skk_text::{Memory, Notice, Text};
 use std::mem;
 
 /// The most bytes of a frame's text.
 const TEXT_LIMIT: usize = 1_048_576;
 
 impl Session {
-    ghost use Rattle.std.specs.Prelude.{◌≡◌, OnOk};
+    ghost use Rattle.std.specs.Prelude.{◌≡◌, None, MatchOption, OnOk};
     ghost use Rattle.std.specs.Str.{chars};
-    ghost use Rattle.session_machine.specs.Session.{before_key, has_room, noting, with_insertion};
+    ghost use Rattle.skk_text.specs.Text.{byte_len};
+    ghost use Rattle.session_machine.specs.Session.{before_key, choice_at, has_room, noting, shortened, with_choice, with_insertion, with_state};
 
     // Takes the state of the frame out, which is plain then, and the notice of the key before away.
     pub(crate) fn take_state(&mut self) -> State
@@ -22,12 +27,44 @@ impl Session {
         mem::replace(&mut self.frame.state, State::Plain(Pending::new()))
     }
 
+    // Puts another state into the frame.
+    pub(crate) fn put_state(&mut self, state: State)
+        ensures { self.new ≡ with_state self.old state }
+    {
+        self.frame.state = state;
+    }
+
     // Notes what a step tells, where it tells something.
     pub(crate) fn note(&mut self, notice: Notice)
         ensures { self.new ≡ noting self.old notice }
     {
         if notice != Notice::Empty {
             self.notice = SessionNotice::Step(notice);
+        }
+    }
+
+    // Takes the last character of the frame's text off. What was chosen last is given up where the text gets shorter than it
+    // was behind it.
+    pub(crate) fn shorten(&mut self)
+        ensures { self.new ≡ shortened self.old }
+    {
+        self.frame.text.delete_last();
+        let bytes = self.frame.text.byte_len();
+        if is_behind(&self.frame.last_choice, bytes) {
+            self.frame.last_choice = None;
+        }
+    }
+
+    // Takes what was chosen last out of the frame, where the text is as long as it was behind it.
+    pub(crate) fn take_choice(&mut self) -> Option<Choice>
+        ensures choice { result ≡ choice_at (byte_len self.old.frame.text) self.old.frame.last_choice }
+        ensures left { MatchOption result (self.new ≡ self.old) (λ _. self.new ≡ with_choice self.old None) }
+    {
+        let bytes = self.frame.text.byte_len();
+        if ends_at(&self.frame.last_choice, bytes) {
+            mem::replace(&mut self.frame.last_choice, None)
+        } else {
+            None
         }
     }
 
@@ -47,5 +84,34 @@ impl Session {
             return Ok(());
         }
         self.frame.text.push_str(piece)
+    }
+}
+
+// Whether a text of so many bytes is shorter than it was behind a choice.
+fn is_behind(choice: &Option<Choice>, bytes: usize) -> bool
+    ensures { result ≡ option_map_or (λ c. nat_lt bytes c.end) choice.now false }
+{
+    match choice {
+        Some(choice) => bytes < choice.end,
+        None => false,
+    }
+}
+
+// Whether a text of so many bytes is as long as it was behind a choice.
+fn ends_at(choice: &Option<Choice>, bytes: usize) -> bool
+    ensures { result ≡ option_map_or (λ c. bytes == c.end) choice.now false }
+{
+    match choice {
+        Some(choice) => bytes == choice.end,
+        None => false,
+    }
+}
+
+// Takes so many characters off the end of a text.
+pub(crate) fn delete_chars(text: &mut Text, count: usize)
+    ensures { text.new ≡ without_chars count text.old }
+{
+    for _ in 0..count {
+        text.delete_last();
     }
 }

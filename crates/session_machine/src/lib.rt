@@ -1,13 +1,15 @@
 //! A typist's session: the mode machine over keys and a dictionary.
 //!
 //! It stands on the plain state, the reading state ▽ and the candidate state ▼, each in a crate of its own, and does
-//! what they ask for: it inserts, opens and closes readings, looks them up with a `Caller`, and shows the candidates. What
-//! a key means is a tree of questions (`pressed` in the specs): it ends with the session after the key, or makes a call
-//! and goes on by the answer. `Session::press` promises that the session is the one that the tree comes to by the answers
-//! that its caller gave, and that the calls it made are those that the tree asks, none more. `printing` shows a session
-//! as it is printed.
+//! what they ask for: it inserts, opens and closes readings, looks them up with a `Caller`, shows the candidates, learns
+//! the one that is chosen or purges it, and takes the last choice back. What a key means is a tree of questions
+//! (`pressed` in the specs): it ends with the session after the key, or makes a call and goes on by the answer.
+//! `Session::press` promises that the session is the one that the tree comes to by the answers that its caller gave, and
+//! that the calls it made are those that the tree asks, none more. `printing` shows a session as it is printed.
 #![tactic(auto)]
 
+mod answered;
+mod choosing;
 mod confirming;
 mod converting;
 mod editing;
@@ -17,12 +19,14 @@ mod kana;
 mod laws;
 mod pressing;
 mod printing;
+mod purging;
 mod session;
 mod session_notice;
 #[cfg(test)]
 mod tests;
+mod undoing;
 
-pub use frame::{Conversion, Frame, Frames, State};
+pub use frame::{Choice, Conversion, Frame, Frames, State};
 pub use laws::texts_have_a_limit;
 pub use session::{PressFault, Session};
 pub use session_notice::SessionNotice;

@@ -206,6 +206,7 @@ fn push_behind_letter(page: &mut Text, letter: char, text: &Text) -> Result<(), 
 }
 
 // Adds the notice of a session.
+#[tactic(auto, using(crate::proofs::Words::words))]
 pub(crate) fn push_notice(page: &mut Text, session: &Session) -> Result<(), Memory>
     ensures { OnOk result (page.new ≡ page.old ++ notice session.now) }
 {
@@ -213,7 +214,22 @@ pub(crate) fn push_notice(page: &mut Text, session: &Session) -> Result<(), Memo
         SessionNotice::Step(Notice::Empty) => push_state_note(page, &session.frame.state),
         SessionNotice::Step(notice) => page.push_str(step_text(notice)),
         SessionNotice::Refused(refusal) => push_refusal(page, refusal),
+        SessionNotice::Purged => page.push_str("purged"),
+        SessionNotice::Unchanged => page.push_str("unchanged"),
+        SessionNotice::Undone => page.push_str("undone"),
+        SessionNotice::Overtaken(stamp) => push_numbered(page, "overtaken ", stamp),
+        SessionNotice::TooBig(length) => push_numbered(page, "too-big ", length),
+        SessionNotice::StampsEnd => page.push_str("stamps-end"),
     }
+}
+
+// Adds a word that ends in a space, and a number behind it.
+fn push_numbered(page: &mut Text, word: &str, number: u64) -> Result<(), Memory>
+    requires { printed_form (chars word.now) ≡ chars word.now }
+    ensures { OnOk result (page.new ≡ page.old ++ printed_form (chars word.now ++ decimal number)) }
+{
+    page.push_str(word)?;
+    push_number(page, number)
 }
 
 // Adds the note of a state: that of a single candidate.

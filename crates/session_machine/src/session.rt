@@ -33,13 +33,25 @@ impl From<Memory> for PressFault {
 }
 
 /// A typist's session: a stack of frames, of which the innermost takes the keys.
-#[derive(Drop)]
 pub struct Session {
     pub(crate) typist: u16,
     pub(crate) book: u16,
     pub(crate) frame: Frame,
     pub(crate) outer: Frames,
     pub(crate) notice: SessionNotice,
+}
+
+// Written out, so that whatever drops a session makes one call: a proof of it need not go through all that a session holds.
+impl Drop for Session {
+    fn drop(self) {
+        let Session {
+            typist: _,
+            book: _,
+            frame: _,
+            outer: _,
+            notice: _,
+        } = self;
+    }
 }
 
 impl Model for Session {
@@ -69,6 +81,7 @@ impl Session {
             text: Text::new(alloc),
             mode: Mode::Hira,
             state: State::Plain(Pending::new()),
+            last_choice: None,
         };
         Session {
             typist,
@@ -90,7 +103,9 @@ impl Session {
         ensures said { Says (pressed rules.now self key) result (C.said caller.old) (C.said caller.new) }
         ensures number { C.number caller.new ≡ C.number caller.old }
     {
-        press_key(self, alloc, rules, key, caller)
+        let mut session = self;
+        press_key(&mut session, alloc, rules, key, caller)?;
+        Ok(session)
     }
 
     /// Presses the keys in order. After a fault the session is gone.

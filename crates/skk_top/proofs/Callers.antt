@@ -1,65 +1,100 @@
--- What holds of a chronicle whose calls are answered over system files, with nothing learnt.
-use Rattle.std.proofs.Common.{◌≡◌, ◌∙◌, sym, ap, subst, refl, ℕ, Bool, true, false, not, ◌==◌, ◌&&◌, ◌||◌, All, List, [], ◌∷◌, ◌++◌, eq-eqb}
+-- What holds of a chronicle whose calls are answered over system files and learned books.
+use Rattle.std.proofs.Common.{◌≡◌, ◌∙◌, sym, ap, subst, refl, ℕ, ◌+◌, Bool, true, false, not, ◌==◌, ◌&&◌, ◌||◌, if◌then◌else◌, nat_lt, List, [], ◌∷◌, ◌++◌, eq-eqb}
 use Rattle.std.proofs.lemmas.Bool.{and_from, and_parts}
-use Rattle.std.proofs.lemmas.List.Elements.{All-push, filter_map-append, recursion_from_All}
+use Rattle.std.proofs.lemmas.List.Elements.{filter_map-append}
 use Rattle.std.proofs.lemmas.List.Folds.{list_all-append}
-use Rattle.std.specs.List.{AllByRecursion, list_all}
+use Rattle.std.specs.List.{list_all}
+use Rattle.skk_text.specs.Counts.{last_count}
 use Rattle.skk_calls.specs.declared.answer.Answer.{Answer}
 use Rattle.skk_calls.specs.declared.answer.Answer.TheVariants.{Done, Refused}
 use Rattle.skk_calls.specs.declared.answer.Refusal.TheVariants.{Memory}
+use Rattle.skk_calls.specs.declared.answer.Reply.{Reply}
+use Rattle.skk_calls.specs.declared.answer.Reply.TheVariants as replies
 use Rattle.skk_calls.specs.declared.call.Call.{Call}
+use Rattle.skk_calls.specs.declared.call.Call.TheVariants.{Lookup, Complete, Learn, Purge, Unlearn}
 use Rattle.skk_calls.specs.declared.chronicle.Noted.{Noted}
 use Rattle.skk_calls.specs.declared.chronicle.Noted.TheVariants.{Opened, Entered}
+use Rattle.skk_calls.specs.Canonical.{line_limit}
 use Rattle.skk_calls.specs.Chronicles.{noted_entry, is_entry, is_chronicle, opening_of, history_of}
-use Rattle.skk_calls.specs.Histories.{Entry, IsLegal, IsLegalAnswer, said_by, dialog, after_answer, state_after, room}
+use Rattle.skk_calls.specs.Dictionary.{answer, change_reply, is_stamped, line_length, may_reply, stamp_of}
+use Rattle.skk_calls.specs.Histories.{Entry, IsLegal, IsLegalAnswer, said_by, dialog, after_answer, after_entry, state_after, room}
 use Rattle.skk_calls.specs.Interactions.{Dialog, IsAnsweredAlone}
+use Rattle.skk_calls.specs.Learning.{learnt, purged, purge_changes}
 use Rattle.skk_calls.specs.Rows.{Row}
-use Rattle.skk_calls.specs.States.{State, empty_state}
-use Rattle.skk_top.specs.Answering.{opening_over, IsLegalOver, IsAnsweredBy, IsAnswered, KeepsAnswers, is_reply, are_served, are_of_one, said_in}
+use Rattle.skk_calls.specs.States.{State, count_of, empty_state, row_at}
+use Rattle.learn_index.specs.Plans.{is_question}
+use Rattle.skk_top.specs.Answering.{opening_over, IsLegalOver, IsAnsweredAt, AreAnswered, KeepsAnswers, is_reply, are_served, are_of_one, said_in}
 
--- a call that was answered so leaves the state, and its answer is legal there
-unmoved : (files : List (List Row)) (call : Call) (answer : Answer) → IsAnsweredBy files call answer → after_answer empty_state call answer ≡ empty_state
-unmoved files call (Done reply) is = rw is.0 refl
-unmoved files call (Refused Memory) is = refl
-unmoved files call (Refused refusal) is = absurd is
+-- an answer that is the dictionary's, or a refusal as out of memory, is legal
+legal-answer : (files : List (List Row)) (state : State) (end : ℕ) (call : Call) (answer : Answer) → IsAnsweredAt files state call answer → IsLegalAnswer (opening_over files) state end call answer
+legal-answer files state end call (Done reply) is = is
+legal-answer files state end call (Refused Memory) is = tt
+legal-answer files state end call (Refused refusal) is = absurd is
 
-legal-answer : (files : List (List Row)) (end : ℕ) (call : Call) (answer : Answer) → IsAnsweredBy files call answer → IsLegalAnswer (opening_over files) empty_state end call answer
-legal-answer files end call (Done reply) is = is.1
-legal-answer files end call (Refused Memory) is = tt
-legal-answer files end call (Refused refusal) is = absurd is
-
--- behind entries that were answered so nothing is learnt
-unmoved-behind : (files : List (List Row)) (prefix : List Entry) (entry : Entry) (rest : List Entry) → AllByRecursion (IsAnswered files) (prefix ++ entry ∷ rest)
-    → (state_after empty_state prefix ≡ empty_state) × IsAnswered files entry
-unmoved-behind files [] entry rest all = (refl, all.0)
-unmoved-behind files (first ∷ prefix) entry rest all =
-    let behind = unmoved-behind files prefix entry rest all.1 in
-    (ap (λ state. state_after state prefix) (unmoved files first.call first.answer all.0.1) ∙ behind.0, behind.1)
+-- each entry is answered so in the state that those before it leave
+answered-at : (files : List (List Row)) (state : State) (prefix : List Entry) (entry : Entry) (rest : List Entry) → AreAnswered files state (prefix ++ entry ∷ rest)
+    → IsAnsweredAt files (state_after state prefix) entry.call entry.answer
+answered-at files state [] entry rest all = all.1
+answered-at files state (first ∷ prefix) entry rest all = answered-at files (after_entry state first) prefix entry rest all.2
 
 -- a history of such entries is legal
-pub legal-answered : (files : List (List Row)) (history : List Entry) → All (IsAnswered files) history → IsLegal (opening_over files) history
+pub legal-answered : (files : List (List Row)) (history : List Entry) → AreAnswered files empty_state history → IsLegal (opening_over files) history
 legal-answered files history all prefix entry rest parts =
-    let at = unmoved-behind files prefix entry rest (subst (AllByRecursion (IsAnswered files)) parts (recursion_from_All (IsAnswered files) history all)) in
-    subst (λ (state : State). IsLegalAnswer (opening_over files) state (room empty_state 0 prefix) entry.call entry.answer) (sym at.0)
-    (legal-answer files (room empty_state 0 prefix) entry.call entry.answer at.1.1)
+    legal-answer files (state_after empty_state prefix) (room empty_state 0 prefix) entry.call entry.answer
+    (answered-at files empty_state prefix entry rest (subst (AreAnswered files empty_state) parts all))
 
 -- its entries are all of the caller with the number 0
-pub one-answered : (files : List (List Row)) (history : List Entry) → AllByRecursion (IsAnswered files) history → list_all (λ entry. entry.number == 0) history ≡ true
-one-answered files [] all = refl
-one-answered files (entry ∷ history) all = rw (eq-eqb entry.number 0 all.0.0) (one-answered files history all.1)
+pub one-answered : (files : List (List Row)) (state : State) (history : List Entry) → AreAnswered files state history → list_all (λ entry. entry.number == 0) history ≡ true
+one-answered files state [] all = refl
+one-answered files state (entry ∷ history) all = rw (eq-eqb entry.number 0 all.0) (one-answered files (after_entry state entry) history all.2)
 
 -- where each has a reply, the dictionary of one thread answers them so
-alone-first : (files : List (List Row)) (call : Call) (answer : Answer) (behind : Dialog) → IsAnsweredBy files call answer → is_reply answer ≡ true → IsAnsweredAlone files empty_state behind
-    → IsAnsweredAlone files empty_state ((call, answer) ∷ behind)
-alone-first files call (Done reply) behind is served alone = (ap Done is.1, subst (λ (state : State). IsAnsweredAlone files state behind) (sym (unmoved files call (Done reply) is)) alone)
-alone-first files call (Refused refusal) behind is served alone = absurd (cc)
+alone-first : (files : List (List Row)) (state : State) (call : Call) (answer : Answer) (behind : Dialog) → IsAnsweredAt files state call answer → is_reply answer ≡ true
+    → IsAnsweredAlone files (after_answer state call answer) behind → IsAnsweredAlone files state ((call, answer) ∷ behind)
+alone-first files state call (Done reply) behind is served alone = (ap Done is, alone)
+alone-first files state call (Refused refusal) behind is served alone = absurd (cc)
 
-pub alone-answered : (files : List (List Row)) (history : List Entry) → AllByRecursion (IsAnswered files) history → list_all (λ entry. is_reply entry.answer) history ≡ true
-    → IsAnsweredAlone files empty_state (dialog history 0)
-alone-answered files [] all served = tt
-alone-answered files (entry ∷ history) all served =
+pub alone-answered : (files : List (List Row)) (state : State) (history : List Entry) → AreAnswered files state history → list_all (λ entry. is_reply entry.answer) history ≡ true
+    → IsAnsweredAlone files state (dialog history 0)
+alone-answered files state [] all served = tt
+alone-answered files state (entry ∷ history) all served =
     let parts = and_parts (is_reply entry.answer) (list_all (λ other. is_reply other.answer) history) served in
-    rw (eq-eqb entry.number 0 all.0.0) (alone-first files entry.call entry.answer (dialog history 0) all.0.1 parts.0 (alone-answered files history all.1 parts.1))
+    rw (eq-eqb entry.number 0 all.0)
+    (alone-first files state entry.call entry.answer (dialog history 0) all.1 parts.0 (alone-answered files (after_entry state entry) history all.2 parts.1))
+
+-- an entry more is answered so, and leaves the state behind it
+answered-note : (files : List (List Row)) (state : State) (history : List Entry) (entry : Entry) → AreAnswered files state history → entry.number ≡ 0
+    → IsAnsweredAt files (state_after state history) entry.call entry.answer → AreAnswered files state (history ++ entry ∷ [])
+answered-note files state [] entry all one is = (one, is, tt)
+answered-note files state (first ∷ history) entry all one is = (all.0, all.1, answered-note files (after_entry state first) history entry all.2 one is)
+
+left-note : (state : State) (history : List Entry) (entry : Entry) → state_after state (history ++ entry ∷ []) ≡ after_entry (state_after state history) entry
+left-note state [] entry = refl
+left-note state (first ∷ history) entry = left-note (after_entry state first) history entry
+
+-- a reply to a change is one of its kind
+may-told : (call : Call) (count : ℕ) (after : Row) (reply : Reply) → ((n : ℕ) → may_reply call (replies.TooBig n) ≡ true) → may_reply call replies.StampsEnd ≡ true → may_reply call reply ≡ true
+    → may_reply call (change_reply count after reply) ≡ true
+may-told call count after reply big ended told =
+    elim (count == last_count) as (λ b. may_reply call (if b then replies.StampsEnd else if nat_lt line_limit (line_length after) then replies.TooBig (line_length after) else reply) ≡ true) [
+      | true ↦ ended
+      | false ↦ elim (nat_lt line_limit (line_length after)) as (λ b. may_reply call (if b then replies.TooBig (line_length after) else reply) ≡ true) [ true ↦ big (line_length after) | false ↦ told ]
+    ]
+
+pub may-change : (files : List (List Row)) (state : State) (call : Call) → is_question call ≡ false → may_reply call (answer files state call) ≡ true
+may-change files state (Lookup who key okuri) other = absurd (cc)
+may-change files state (Complete who prefix) other = absurd (cc)
+may-change files state (Learn book key okuri cand) other =
+    may-told (Learn book key okuri cand) (count_of state book) (learnt (row_at state book key) key okuri cand (count_of state book + 1)) _ (λ n. refl) refl refl
+may-change files state (Purge book key word) other =
+    elim (purge_changes (row_at state book key) key word) as (λ b. may_reply (Purge book key word)
+    (if b then change_reply (count_of state book) (purged (row_at state book key) key word (count_of state book + 1)) replies.Purged else replies.Unchanged) ≡ true) [
+      | true ↦ may-told (Purge book key word) (count_of state book) (purged (row_at state book key) key word (count_of state book + 1)) replies.Purged (λ n. refl) refl refl
+      | false ↦ refl
+    ]
+may-change files state (Unlearn learned) other =
+    elim (is_stamped learned.stamp (row_at state learned.book learned.key)) as (λ b. may_reply (Unlearn learned)
+    (if b then replies.Restored else replies.Overtaken (stamp_of (row_at state learned.book learned.key))) ≡ true) [ true ↦ refl | false ↦ refl ]
 
 -- an entry more
 pub history_of-note : (chronicle : List Noted) (note : Noted) → history_of (chronicle ++ note ∷ []) ≡ history_of chronicle ++ history_of (note ∷ [])
@@ -80,18 +115,22 @@ opened-note [] note begun = absurd (cc)
 opened-note (first ∷ rest) note begun = refl
 
 -- the caller keeps what it keeps, with a call more
-pub keeps-note : (files system : List (List Row)) (chronicle : List Noted) (has_refused refused : Bool) (call : Call) (answer : Answer) → KeepsAnswers files system chronicle has_refused
-    → IsAnsweredBy system call answer → refused ≡ (has_refused || not (is_reply answer)) → KeepsAnswers files system (chronicle ++ Entered 0 call answer 0 0 ∷ []) refused
-keeps-note files system chronicle has_refused refused call answer keeps is noted =
+pub keeps-note : (files system : List (List Row)) (state state' : State) (chronicle : List Noted) (has_refused refused : Bool) (call : Call) (answer : Answer)
+    → KeepsAnswers files system state chronicle has_refused → IsAnsweredAt system state call answer → state' ≡ after_answer state call answer
+    → refused ≡ (has_refused || not (is_reply answer)) → KeepsAnswers files system state' (chronicle ++ Entered 0 call answer 0 0 ∷ []) refused
+keeps-note files system state state' chronicle has_refused refused call answer keeps is leaves noted =
     let note : Noted = Entered 0 call answer 0 0 in
     let entry : Entry = record { number = 0; call = call; answer = answer } in
     let history = history_of-note chronicle note in
+    let here : IsAnsweredAt files (state_after empty_state (history_of chronicle)) call answer =
+    subst (λ (s : State). IsAnsweredAt files s call answer) keeps.left (subst (λ (rows : List (List Row)). IsAnsweredAt rows state call answer) keeps.over is) in
     record {
       over = keeps.over;
       begun = begun-note chronicle note refl keeps.begun;
       opened = opened-note chronicle note keeps.begun ∙ keeps.opened;
-      answered = subst (All (IsAnswered files)) (sym history)
-          (All-push (IsAnswered files) (history_of chronicle) entry keeps.answered (refl, subst (λ (rows : List (List Row)). IsAnsweredBy rows call answer) keeps.over is));
+      answered = subst (AreAnswered files empty_state) (sym history) (answered-note files empty_state (history_of chronicle) entry keeps.answered refl here);
+      left = leaves ∙ ap (λ (s : State). after_answer s call answer) keeps.left
+          ∙ sym (ap (state_after empty_state) history ∙ left-note empty_state (history_of chronicle) entry);
       refused = noted ∙ ap (λ b. b || not (is_reply answer)) keeps.refused ∙ not-both (are_served chronicle) (is_reply answer)
           ∙ sym (ap (λ entries. not (list_all (λ e. is_reply e.answer) entries)) history ∙ ap not (list_all-append (λ e. is_reply e.answer) (history_of chronicle) (entry ∷ [])));
     }
@@ -102,14 +141,12 @@ keeps-note files system chronicle has_refused refused call answer keeps is noted
     not-both false b = refl
 
 -- so its chronicle is legal
-pub legal-kept : (files system : List (List Row)) (chronicle : List Noted) (has_refused : Bool) → KeepsAnswers files system chronicle has_refused → IsLegalOver files chronicle
-legal-kept files system chronicle has_refused keeps = (keeps.opened, legal-answered files (history_of chronicle) keeps.answered)
+pub legal-kept : (files system : List (List Row)) (state : State) (chronicle : List Noted) (has_refused : Bool) → KeepsAnswers files system state chronicle has_refused → IsLegalOver files chronicle
+legal-kept files system state chronicle has_refused keeps = (keeps.opened, legal-answered files (history_of chronicle) keeps.answered)
 
-pub one-kept : (files system : List (List Row)) (chronicle : List Noted) (has_refused : Bool) → KeepsAnswers files system chronicle has_refused → are_of_one chronicle ≡ true
-one-kept files system chronicle has_refused keeps =
-    one-answered files (history_of chronicle) (recursion_from_All (IsAnswered files) (history_of chronicle) keeps.answered)
+pub one-kept : (files system : List (List Row)) (state : State) (chronicle : List Noted) (has_refused : Bool) → KeepsAnswers files system state chronicle has_refused → are_of_one chronicle ≡ true
+one-kept files system state chronicle has_refused keeps = one-answered files empty_state (history_of chronicle) keeps.answered
 
-pub alone-kept : (files system : List (List Row)) (chronicle : List Noted) (has_refused : Bool) → KeepsAnswers files system chronicle has_refused → are_served chronicle ≡ true
+pub alone-kept : (files system : List (List Row)) (state : State) (chronicle : List Noted) (has_refused : Bool) → KeepsAnswers files system state chronicle has_refused → are_served chronicle ≡ true
     → IsAnsweredAlone files empty_state (said_in chronicle)
-alone-kept files system chronicle has_refused keeps served =
-    alone-answered files (history_of chronicle) (recursion_from_All (IsAnswered files) (history_of chronicle) keeps.answered) served
+alone-kept files system state chronicle has_refused keeps served = alone-answered files empty_state (history_of chronicle) keeps.answered served

@@ -26,7 +26,7 @@ use Rattle.session_machine.specs.declared.session.PressFault.TheVariants as pres
 use Rattle.session_machine.specs.Session.{Session, new_session}
 use Rattle.skk_top.specs.Answering.{opening_over, are_served, are_of_one, said_in}
 use Rattle.skk_top.specs.Printing.{output_line, closing_line}
-use Rattle.skk_top.specs.Script.{IsSession, IsTypist, script_limit, session_of, with_said, opens_well, is_built_line, are_built}
+use Rattle.skk_top.specs.Script.{IsSession, IsTypist, script_limit, session_of, with_said, opens_well}
 use Rattle.skk_top.specs.Sessions.{session_at, session_or_new, with_session}
 use Rattle.skk_top.specs.Status.{message_at, run_status, run_message, end_unless_refused, fault_of_press, fault_of_read, fault_of_script}
 use Rattle.skk_top.specs.Typed.{typing, typed, typed_alone}
@@ -167,15 +167,9 @@ script_lines = refl
 numbers : IsSession 1 × IsSession 64 × (¬ IsSession 0) × (¬ IsSession 65) × IsTypist 65535 × (¬ IsTypist 65536)
 numbers = ((lit≤ tt, lit≤ tt), (lit≤ tt, lit≤ tt), λ is. omega (arith, is), λ is. omega (arith, is), lit≤ tt, λ is. omega (arith, is))
 
--- what is built, and which session is named, by a line of each kind; and a line more
-built_lines : map is_built_line (Keys 1 [] ∷ Keys 2 [] ∷ Keys 0 [] ∷ Opening 1 1 0 ∷ []) ≡ true ∷ false ∷ false ∷ false ∷ []
-built_lines = refl
-
+-- which books may be, and which session is named, by a line of each kind; and a line more
 books_of_openings : map opens_well (Keys 1 [] ∷ Opening 1 7 0 ∷ Opening 1 7 7 ∷ Opening 1 7 6 ∷ Opening 1 0 0 ∷ []) ≡ true ∷ true ∷ true ∷ false ∷ true ∷ []
 books_of_openings = refl
-
-built_scripts : map are_built ([] ∷ (Keys 1 [] ∷ []) ∷ (Keys 1 [] ∷ Keys 2 [] ∷ []) ∷ []) ≡ true ∷ true ∷ false ∷ []
-built_scripts = refl
 
 named_sessions : map session_of (Keys 4 [] ∷ Opening 5 6 0 ∷ []) ≡ 4 ∷ 5 ∷ []
 named_sessions = refl

@@ -1,5 +1,5 @@
 -- Numbers on both sides of the ends of their ranges.
-use Rattle.std.proofs.Common.{◌≡◌, ◌^◌, ◌-◌, ℕ, false, Option, Some, None, [], codes, arith}
+use Rattle.std.proofs.Common.{◌^◌, ◌-◌, ℕ, false, Some, None, [], codes, arith}
 use Rattle.skk_top.specs.Ranges.{HasNumbersInRange}
 use Rattle.skk_top.specs.declared.command.Command.{Command}
 use Rattle.skk_top.specs.declared.command.Command.TheVariants.{TypeScript, Serve, Dump, Load}

@@ -1,9 +1,9 @@
 -- What a run of `type` leaves, of what its parts leave.
-use Rattle.std.proofs.Common.{◌≡◌, ◌≢◌, ◌≤◌, ◌==◌, ◌∙◌, sym, ap, subst, refl, rules, ℕ, Option, Some, None, Result, List, [], ◌∷◌, Ok, Err, OnOk, OnErr, IfErr, IfSome, IsErrOf, true, false, encode_utf8_all, MatchBool, Contains, arith, inl, inr}
+use Rattle.std.proofs.Common.{◌≡◌, ◌≢◌, ◌≤◌, ◌==◌, ◌∙◌, sym, ap, subst, refl, rules, ℕ, Option, Some, None, Result, List, [], ◌∷◌, Ok, Err, OnOk, OnErr, IfErr, IfSome, IsErrOf, true, false, encode_utf8_all, Contains, arith, inl, inr}
 use Rattle.std.specs.Io.KnownBytes.{Appends, Keeps}
 use Rattle.std.specs.List.{list_any}
 use Rattle.std.proofs.KnownBytes.{Consumes-nil}
-use Rattle.std.proofs.lemmas.Bool.{cases_Bool, false≢true, ne_eqb, or_right}
+use Rattle.std.proofs.lemmas.Bool.{false≢true, ne_eqb, or_right}
 use Rattle.std.proofs.lemmas.List.Elements.{All-contains}
 use Rattle.skk_outside.specs.Written.{AppendsPrefix}
 use Rattle.romaji_rules.specs.declared.rule.Rule.{Rule}
@@ -18,13 +18,12 @@ use Rattle.dict_format.specs.FileLines.{Lists}
 use Rattle.dict_format.specs.declared.file.Listed.{Listed}
 use Rattle.skk_top.specs.Answering.{said_in}
 use Rattle.skk_top.specs.Dictionaries.{AreDictionaries, AreRowsOf, IsDictionary, IsNoDictionary, IsLongDictionary, IsBadDictionary, IsFirst, TellsDictionaries, LeavesDictionaries}
-use Rattle.skk_top.specs.Script.{IsScript, are_built}
+use Rattle.skk_top.specs.Script.{IsScript}
 use Rattle.skk_top.specs.Status.{Ended, run_status, run_message, status_of, message_of, HasStatus}
 use Rattle.skk_top.specs.TypeCommand.{LeavesTyped, LeavesScript, LeavesAnswered, IsTooLong, IsBadAt, IsRefused, IsRefusal, PrintsScript, AsksScript}
 use Rattle.skk_top.specs.Typed.{typed, typed_alone, typing}
 use Rattle.skk_top.specs.declared.fault.RunFault.{RunFault}
 use Rattle.skk_top.specs.declared.fault.RunFault.TheVariants.{Words, TooLong, BadLine, LongDictionary, BadDictionary, Outside, Memory, NotBuilt}
-use Rattle.skk_top.specs.declared.finish.Run.{Run}
 use Rattle.skk_top.specs.declared.line.Line.{Line}
 use Rattle.skk_top.proofs.Pages.{Appends-none, AppendsPrefix-whole}
 use Rattle.skk_top.proofs.Typed.{leaves-stopped, reaches-start, stops-reached}
@@ -102,11 +101,7 @@ refusal fault known long bad two = absurd (omega (arith, two))
 
 -- where no script was read, nothing was printed
 prints-nothing : (rules : List Rule) (status : ℕ) (bytes : List ℕ) (answers : List Answer) (known : Option (List ℕ)) → status ≢ 0 → PrintsScript rules status bytes answers known known
-prints-nothing rules status bytes answers known undone lines script =
-    elim (are_built lines) as (λ b. MatchBool b (AppendsPrefix known known (typed rules lines answers) × (status ≡ 0 → Appends known known (typed rules lines answers))) (Keeps known known)) [
-      | true ↦ (([], (typed rules lines answers, refl), Appends-none known), λ e. absurd (undone e))
-      | false ↦ Keeps-self known
-    ]
+prints-nothing rules status bytes answers known undone lines script = (([], (typed rules lines answers, refl), Appends-none known), λ e. absurd (undone e))
 
 -- where no call was made, none was asked for
 asks-nothing : (rules : List Rule) (known : Option (List ℕ)) → IfSome known (λ bytes. AsksScript rules bytes [])
@@ -210,11 +205,12 @@ printed-alone : (rules : List Rule) (lines : List Line) (books : List (List Row)
 printed-alone rules lines books said old new asks ended alone written =
     subst (λ text. Appends old new (encode_utf8_all text)) (printed-answered_alone (typing rules [] lines) said true books empty_state asks ended alone) written
 
-leaves-built : OneListOfKeys → (rules : List Rule) (lines : List Line) (books : List (List Row)) (ended : Ended) (chronicle : List Noted) (files : List (Option (List ℕ))) (opens opens' : ℕ)
+-- a script that was read
+pub leaves-read : OneListOfKeys → (rules : List Rule) (lines : List Line) (books : List (List Row)) (ended : Ended) (chronicle : List Noted) (files : List (Option (List ℕ))) (opens opens' : ℕ)
     (left left' : Option (List ℕ)) (reads reads' : ℕ) (old new : Option (List ℕ)) (writes writes' : ℕ) → AreDictionaries files → AreRowsOf books files → opens ≤ opens'
-    → LeavesScript (Ok lines) left left' reads reads' → are_built lines ≡ true → LeavesAnswered rules lines books ended chronicle old new writes writes'
+    → LeavesScript (Ok lines) left left' reads reads' → LeavesAnswered rules lines books ended chronicle old new writes writes'
     → LeavesTyped rules (run_status ended) (run_message ended) chronicle files opens opens' left left' reads reads' old new writes writes'
-leaves-built unique rules lines books ended chronicle files opens opens' left left' reads reads' old new writes writes' are rows opening script built answered =
+leaves-read unique rules lines books ended chronicle files opens opens' left left' reads reads' old new writes writes' are rows opening script answered =
     let all = answered.typing in
     let said = said_in chronicle in
     let grown : all.dialog ≡ said = sym all.grows in
@@ -233,16 +229,15 @@ leaves-built unique rules lines books ended chronicle files opens opens' left le
       unopened_unread = λ e. absurd (not_three e);
       unopened_unwritten = λ e. absurd (not_three e);
       ended = λ e. script.ended;
-      whole = λ e. each_some left (λ bytes is. (lines, is, built, taken e)) script.whole;
+      whole = λ e. each_some left (λ bytes is. (lines, is, taken e)) script.whole;
       read = script.read;
       prints = each_some left (λ bytes is.
-          of-script unique (λ ls. MatchBool (are_built ls) (AppendsPrefix old new (typed rules ls (answers_of said)) × (run_status ended ≡ 0 → Appends old new (typed rules ls (answers_of said)))) (Keeps old new)) lines bytes is
-          (subst (λ b. MatchBool b (AppendsPrefix old new (typed rules lines (answers_of said)) × (run_status ended ≡ 0 → Appends old new (typed rules lines (answers_of said)))) (Keeps old new)) (sym built) (prefix, whole))) script.whole;
+          of-script unique (λ ls. AppendsPrefix old new (typed rules ls (answers_of said)) × (run_status ended ≡ 0 → Appends old new (typed rules ls (answers_of said)))) lines bytes is (prefix, whole)) script.whole;
       nothing = each_some left (λ bytes is refused. absurd (not_refused unique lines bytes is refused)) script.whole;
       nothing_refused = λ e. absurd (not_two e);
       refused = λ e. absurd (not_two e);
       outside = λ e. inr (inr (all.outside (outside-of ended e)));
-      not_built = λ e. each_some left (λ bytes is. (lines, is, inr (stopped e))) script.whole;
+      not_built = λ e. each_some left (λ bytes is. (lines, is, stopped e)) script.whole;
       asks = each_some left (λ bytes is. of-script unique (λ ls. asked (typing rules [] ls) (answers_of said) ≡ calls_of said) lines bytes is asks) script.whole;
       one = answered.one;
       legal = elim answered.legal [ inl none ↦ inl none | inr over ↦ inr (books, rows, over) ];
@@ -259,52 +254,6 @@ leaves-built unique rules lines books ended chronicle files opens opens' left le
       reads_counted = script.counted;
       writes_counted = all.counted;
     }
-
-leaves-not_built : OneListOfKeys → (rules : List Rule) (lines : List Line) (files : List (Option (List ℕ))) (opens opens' : ℕ) (left left' : Option (List ℕ)) (reads reads' : ℕ)
-    (old new : Option (List ℕ)) (writes writes' : ℕ) → AreDictionaries files → opens ≤ opens' → LeavesScript (Ok lines) left left' reads reads' → are_built lines ≡ false → Keeps old new → writes ≤ writes'
-    → LeavesTyped rules 8 (message_of NotBuilt) [] files opens opens' left left' reads reads' old new writes writes'
-leaves-not_built unique rules lines files opens opens' left left' reads reads' old new writes writes' are opening script unbuilt keeps counted = record {
-  words = λ e. omega (arith, e);
-  opened = λ three four six. are;
-  nothing_unopened = λ bytes has none. absurd (no-bad files bytes are has none);
-  unopened = λ e. absurd (omega (arith, e));
-  unopened_unread = λ e. absurd (omega (arith, e));
-  unopened_unwritten = λ e. absurd (omega (arith, e));
-  ended = λ e. absurd (omega (arith, e));
-  whole = λ e. absurd (omega (arith, e));
-  read = script.read;
-  prints = each_some left (λ bytes is.
-      of-script unique (λ ls. MatchBool (are_built ls) (AppendsPrefix old new (typed rules ls []) × (status_of NotBuilt ≡ 0 → Appends old new (typed rules ls []))) (Keeps old new)) lines bytes is
-      (subst (λ b. MatchBool b (AppendsPrefix old new (typed rules lines []) × (status_of NotBuilt ≡ 0 → Appends old new (typed rules lines []))) (Keeps old new)) (sym unbuilt) keeps)) script.whole;
-  nothing = each_some left (λ bytes is refused. keeps) script.whole;
-  nothing_refused = λ e. keeps;
-  refused = λ e. absurd (omega (arith, e));
-  outside = λ e. absurd (omega (arith, e));
-  not_built = λ e. each_some left (λ bytes is. (lines, is, inl unbuilt)) script.whole;
-  asks = asks-nothing rules left;
-  one = refl;
-  legal = inl refl;
-  served = λ e. refl;
-  alone = λ e. absurd (omega (arith, e));
-  uncalled = λ e. refl;
-  opens_counted = opening;
-  reads_counted = script.counted;
-  writes_counted = counted;
-}
-
--- a script that was read, whether it is built or not
-pub leaves-read : OneListOfKeys → (rules : List Rule) (lines : List Line) (books : List (List Row)) (run : Run) (files : List (Option (List ℕ))) (opens opens' : ℕ) (left left' : Option (List ℕ)) (reads reads' : ℕ)
-    (old new : Option (List ℕ)) (writes writes' : ℕ) → AreDictionaries files → AreRowsOf books files → opens ≤ opens' → LeavesScript (Ok lines) left left' reads reads'
-    → (are_built lines ≡ true → LeavesAnswered rules lines books run.ended run.chronicle old new writes writes')
-    → (are_built lines ≡ false → run ≡ record { ended = Err NotBuilt; chronicle = [] }) → (are_built lines ≡ false → Keeps old new) → writes ≤ writes'
-    → LeavesTyped rules (run_status run.ended) (run_message run.ended) run.chronicle files opens opens' left left' reads reads' old new writes writes'
-leaves-read unique rules lines books run files opens opens' left left' reads reads' old new writes writes' are rows opening script answered refused keeps counted =
-    elim (cases_Bool (are_built lines)) [
-      | inl built ↦ leaves-built unique rules lines books run.ended run.chronicle files opens opens' left left' reads reads' old new writes writes' are rows opening script built (answered built)
-      | inr unbuilt ↦
-          subst (λ (r : Run). LeavesTyped rules (run_status r.ended) (run_message r.ended) r.chronicle files opens opens' left left' reads reads' old new writes writes') (sym (refused unbuilt))
-          (leaves-not_built unique rules lines files opens opens' left left' reads reads' old new writes writes' are opening script unbuilt (keeps unbuilt) counted)
-    ]
 
 -- where there is no memory for a caller, nothing is typed
 pub leaves-unmade : (rules : List Rule) (lines : List Line) (books : List (List Row)) (old : Option (List ℕ)) (writes : ℕ) → LeavesAnswered rules lines books (Err Memory) [] old old writes writes

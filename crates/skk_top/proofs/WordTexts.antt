@@ -9,9 +9,9 @@ use Rattle.std.specs.Str.Parse.{digits_value}
 use Rattle.std.proofs.lemmas.Bool.{cases_Bool, cases_lt, and_parts, false_from_ne_true, ne_eqb, eq-eqb, ltb-true, leb-true, le-leb, lt-leb, and_left, and_right}
 use Rattle.std.proofs.lemmas.Fmt.{decimal_is_IsNumeral}
 use Rattle.std.proofs.Math.Seq.{drop-append-add}
-use Rattle.std.proofs.lemmas.List.{at_drop_more, get_or-append-add, get_or_at, get_or_past, take-append-drop, take_at}
+use Rattle.std.proofs.lemmas.List.{get_or-append-add, get_or_at, get_or_past, take_at}
 use Rattle.std.proofs.lemmas.Slice.Eq.{bytes_eq-Decides}
-use Rattle.std.proofs.lemmas.Str.{byte_from_char, char_from_byte, chars-append, chars_past_char, encode_ascii, encodes-chars, chars-IsAscii, encodes-IsAscii, IsCharBoundary-before_ascii, IsUtf8-drop, IsUtf8-take}
+use Rattle.std.proofs.lemmas.Str.{byte_from_char, char_from_byte, encode_ascii, encodes-chars, chars-IsAscii, encodes-IsAscii}
 use Rattle.std.proofs.lemmas.Str.Parse.{digit_at}
 use Rattle.skk_text.specs.TextLaws.{chars-split}
 use Rattle.skk_top.specs.Words.{is_name, number_within, with_character, cut}

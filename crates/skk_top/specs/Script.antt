@@ -1,7 +1,7 @@
 -- Scripts: what each line says, and which line is the first that is none.
 use Rattle.std.specs.Prelude.{◌≡◌, ◌⊎◌, ◌≤◌, ◌+◌, ℕ, Bool, true, false, ◌==◌, ◌||◌, nat_eq, Option, Some, None, List, [], ◌∷◌, ◌++◌, length, map, ⊤, Contains}
 use Rattle.std.specs.Fmt.{decimal}
-use Rattle.std.specs.List.{list_all, list_any}
+use Rattle.std.specs.List.{list_any}
 use Rattle.skk_text.specs.KeyText.{spelled, AreKeys}
 use Rattle.skk_text.specs.Lines.{lines_of}
 use Rattle.skk_text.specs.Characters.{code, carriage_return}
@@ -80,12 +80,3 @@ pub record IsFirstBad (texts : List (List ℕ)) (number : ℕ) : Type 0 where
 abbrev pub opens_well : Line → Bool
 opens_well (Keys session ks) = true
 opens_well (Opening session typist book) = book == 0 || book == typist
-
--- whether a line is built so far: keys of session 1
-abbrev pub is_built_line : Line → Bool
-is_built_line (Keys session ks) = session == 1
-is_built_line (Opening session typist book) = false
-
--- whether each of the lines is built
-abbrev pub are_built : List Line → Bool
-are_built lines = list_all is_built_line lines

@@ -1,5 +1,5 @@
 -- What a run of `type` leaves.
-use Rattle.std.specs.Prelude.{◌≡◌, ◌≢◌, ◌⊎◌, ◌+◌, ◌++◌, ◌<◌, ◌≤◌, ℕ, true, false, Some, Option, Result, List, [], ◌∷◌, MatchBool, IfOk, IfErr, IfSome, OnOk, OnErr, IsErrOf, Contains, length}
+use Rattle.std.specs.Prelude.{◌≡◌, ◌≢◌, ◌⊎◌, ◌+◌, ◌++◌, ◌<◌, ◌≤◌, ℕ, true, false, Some, Option, Result, List, [], ◌∷◌, IfOk, IfErr, IfSome, OnOk, OnErr, IsErrOf, Contains, length}
 use Rattle.std.specs.Io.KnownBytes.{Appends, IsAtEnd, Keeps}
 use Rattle.skk_outside.specs.Faults.{Rose}
 use Rattle.skk_outside.specs.Taken.{TakesAtMost}
@@ -15,7 +15,7 @@ use Rattle.skk_calls.specs.States.{empty_state}
 use Rattle.skk_text.specs.Lines.{lines_of}
 use Rattle.skk_top.specs.Answering.{IsLegalOver, IsChronicleOver, are_served, are_of_one, said_in}
 use Rattle.skk_top.specs.Dictionaries.{AreDictionaries, AreRowsOf, IsNoDictionary, TellsDictionaries}
-use Rattle.skk_top.specs.Script.{IsScript, IsFirstBad, are_built, script_limit}
+use Rattle.skk_top.specs.Script.{IsScript, IsFirstBad, script_limit}
 use Rattle.skk_top.specs.Status.{Ended, message_of, HasStatus}
 use Rattle.skk_top.specs.Typed.{typed, typed_alone, typing}
 use Rattle.skk_top.specs.declared.fault.RunFault.{RunFault}
@@ -39,13 +39,11 @@ abbrev pub IsRefusal : List ℕ → List ℕ → Type 0
 IsRefusal bytes message =
     (IsTooLong bytes × (message ≡ message_of TooLong)) ⊎ ((number : ℕ) × IsBadAt bytes number × (message ≡ message_of (BadLine number)))
 
--- where bytes are a script, a prefix of what is typed for its lines by these answers was written, and with status 0 all of
--- it; nothing, where a line is not built
+-- where bytes are a script, a prefix of what is typed for its lines by these answers was written, and with status 0 all of it
 abbrev pub PrintsScript : List Rule → ℕ → List ℕ → List Answer → Option (List ℕ) → Option (List ℕ) → Type 0
 PrintsScript rules status bytes answers old new =
-    (lines : List Line) → IsScript bytes lines → MatchBool (are_built lines)
-    (AppendsPrefix old new (typed rules lines answers) × (status ≡ 0 → Appends old new (typed rules lines answers)))
-    (Keeps old new)
+    (lines : List Line) → IsScript bytes lines
+    → AppendsPrefix old new (typed rules lines answers) × (status ≡ 0 → Appends old new (typed rules lines answers))
 
 -- where bytes are a script, what was written is typed for its lines where the dictionary of one thread answers
 abbrev pub PrintsAlone : List Rule → List ℕ → List (List Row) → Option (List ℕ) → Option (List ℕ) → Type 0
@@ -57,16 +55,15 @@ abbrev pub AsksScript : List Rule → List ℕ → Dialog → Type 0
 AsksScript rules bytes said =
     (lines : List Line) → IsScript bytes lines → asked (typing rules [] lines) (answers_of said) ≡ calls_of said
 
--- bytes are a script whose lines are built, and these answers lead through all of its keys
+-- bytes are a script, and these answers lead through all of its keys
 abbrev pub IsTypedWhole : List Rule → List ℕ → List Answer → Type 0
 IsTypedWhole rules bytes answers =
-    (lines : List Line) × IsScript bytes lines × (are_built lines ≡ true) × (end_of (typing rules [] lines) answers ≡ Some true)
+    (lines : List Line) × IsScript bytes lines × (end_of (typing rules [] lines) answers ≡ Some true)
 
--- bytes are a script with a line that is not built, or these answers lead to a key that is not
+-- bytes are a script, and these answers lead to a key of it that is not built
 abbrev pub IsNotBuilt : List Rule → List ℕ → List Answer → Type 0
 IsNotBuilt rules bytes answers =
-    (lines : List Line) × IsScript bytes lines
-    × ((are_built lines ≡ false) ⊎ (end_of (typing rules [] lines) answers ≡ Some false))
+    (lines : List Line) × IsScript bytes lines × (end_of (typing rules [] lines) answers ≡ Some false)
 
 -- what a run of `type` leaves, by its status, its line on standard error and its chronicle: of what its dictionaries' files
 -- have, the counts of the shelf's faults; what its source had and has left with the counts of its own; and what its sink

@@ -1,12 +1,13 @@
-ghost use Rattle.std.specs.Prelude.{◌≡◌, ℕ, IfOk, true};
-ghost use Rattle.std.specs.Option.{option_copied};
-ghost use Rattle.skk_calls.specs.Dictionary.{may_answer};
-ghost use Rattle.skk_calls.specs.Found.{found};
-ghost use Rattle.skk_calls.specs.States.{empty_state};
-ghost use Rattle.skk_top.specs.Answering.{IsAnsweredBy, is_reply};
+ghost use Rattle.std.specs.Prelude.{◌≡◌, true, false, List};
+ghost use Rattle.skk_calls.specs.Dictionary.{is_fit, may_answer};
+ghost use Rattle.skk_calls.specs.Histories.{after_answer};
+ghost use Rattle.skk_calls.specs.Rows.{Row};
+ghost use Rattle.learn_index.specs.Plans.{is_lookup, is_question};
+ghost use Rattle.skk_top.specs.Answering.{IsAnsweredAt, is_reply};
 
-use dict_layers::{System, merge};
-use skk_calls::{Answer, Call, Caller, Cands, Chronicle, Noted, Okuri, Refusal, Reply, RowKey};
+use dict_layers::System;
+use learn_index::Index;
+use skk_calls::{Answer, Call, Caller, Chronicle, Noted, Refusal};
 use skk_text::Memory;
 use skk_trace::{Shows, Trace};
 use std::alloc::Global;
@@ -26,17 +27,18 @@ impl Files for Brand {
     ghost files = { [] };
 }
 
-/// The one caller of a run, whose number is 0: it looks up in the system files, with nothing learnt, and notes what it
-/// answers. Contracts see its chronicle.
+/// The one caller of a run, whose number is 0: it looks up in the learned books and the system files, learns and purges in the
+/// books, which are in memory alone and empty at first, and notes what it answers. Contracts see its chronicle.
 #[derive(Drop)]
-pub struct SystemCaller<F: Files> {
+pub struct RunCaller<F: Files> {
     system: System,
+    index: Index,
     trace: Trace<Noted>,
     has_refused: bool,
     files: PhantomData<F>,
 }
 
-impl<F: Files> Model for SystemCaller<F> {
+impl<F: Files> Model for RunCaller<F> {
     ghost use Rattle.std.specs.Prelude.{List};
     ghost use Rattle.skk_calls.specs.declared.chronicle.Noted.{Noted};
     ghost use Rattle.skk_top.specs.Answering.{KeepsAnswers};
@@ -45,23 +47,24 @@ impl<F: Files> Model for SystemCaller<F> {
 
     ghost view = { λ c. c.trace };
 
-    ghost invariant = { λ c. KeepsAnswers F.files c.system c.trace c.has_refused };
+    ghost invariant = { λ c. KeepsAnswers F.files c.system c.index.state c.trace c.has_refused };
 }
 
-impl<F: Files> SystemCaller<F> {
+impl<F: Files> RunCaller<F> {
     ghost use Rattle.std.specs.Prelude.{◌≡◌, [], true, not, IfOk};
     ghost use Rattle.skk_calls.specs.States.{empty_state};
     ghost use Rattle.skk_calls.specs.Interactions.{IsAnsweredAlone};
     ghost use Rattle.skk_top.specs.Answering.{IsLegalOver, are_of_one, are_served, said_in};
 
-    /// A caller over these system files, which has made no call.
-    pub fn new(alloc: Global, system: System) -> Result<SystemCaller<F>, Memory>
+    /// A caller over these system files, with nothing learnt, which has made no call.
+    pub fn new(alloc: Global, system: System) -> Result<RunCaller<F>, Memory>
         requires { system ≡ F.files }
         ensures { IfOk result (λ caller. said_in caller ≡ []) }
     {
         let trace = Trace::new(alloc, &Opening { system: &system })?;
-        Ok(SystemCaller {
+        Ok(RunCaller {
             system,
+            index: Index::new(alloc),
             trace,
             has_refused: false,
             files: PhantomData,
@@ -80,7 +83,7 @@ impl<F: Files> SystemCaller<F> {
     }
 }
 
-impl<F: Files> Caller for SystemCaller<F> {
+impl<F: Files> Caller for RunCaller<F> {
     ghost use Rattle.skk_top.specs.Answering.{said_in};
 
     ghost number = { λ _. 0 };
@@ -91,9 +94,9 @@ impl<F: Files> Caller for SystemCaller<F> {
         0
     }
 
-    /// Every call but a look-up is refused as out of memory, for as long as none is made.
+    /// A completion is refused as out of memory, for as long as none is made.
     fn call(&mut self, alloc: Global, call: &Call) -> Answer {
-        let answer = answered(alloc, &self.system, call);
+        let answer = answered(alloc, &self.system, &mut self.index, call);
         self.has_refused = self.has_refused || !is_reply(&answer);
         self.trace.note(&Said {
             call,
@@ -129,31 +132,46 @@ impl Shows<Noted> for Said<'_> {
     ghost shows = { λ said. Entered 0 said.call.now said.answer.now 0 0 };
 }
 
-// What a call is answered over system files.
-fn answered(alloc: Global, system: &System, call: &Call) -> Answer
-    ensures answered { IsAnsweredBy system.now call.now result }
+// What a call is answered over system files and learned books, which it may change.
+fn answered(alloc: Global, system: &System, index: &mut Index, call: &Call) -> Answer
+    requires { is_fit call.now ≡ true }
+    ensures answered { IsAnsweredAt system.now index.old.state call.now result }
+    ensures left { index.new.state ≡ after_answer index.old.state call.now result }
     ensures may { may_answer call.now result ≡ true }
 {
     match call {
-        Call::Lookup { who: _, key, okuri } => match found(alloc, system, key, okuri.as_ref()) {
-            Ok(cands) => Answer::Done(Reply::Found(cands)),
-            Err(Memory) => Answer::Refused(Refusal::Memory),
-        },
-        _ => Answer::Refused(Refusal::Memory),
+        Call::Lookup { .. } => found(alloc, system, index, call),
+        Call::Complete { .. } => Answer::Refused(Refusal::Memory),
+        Call::Learn { .. } | Call::Purge { .. } | Call::Unlearn { .. } => {
+            changed(alloc, index, call)
+        }
     }
 }
 
-// What is found for a key in system files, whoever looks it up where nothing was learnt.
-fn found(
-    alloc: Global,
-    system: &System,
-    key: &RowKey,
-    okuri: Option<&Okuri>,
-) -> Result<Cands, Memory>
-    ensures { IfOk result (λ cands. (who : ℕ) → cands ≡ found system.now empty_state who key.now (option_copied okuri.entry)) }
+// What a look-up is answered.
+fn found(alloc: Global, system: &System, index: &Index, call: &Call) -> Answer
+    requires { is_lookup call.now ≡ true }
+    ensures answered { IsAnsweredAt system.now index.now.state call.now result }
+    ensures may { may_answer call.now result ≡ true }
 {
-    let rows = system.find(alloc, key)?;
-    merge(alloc, &rows, okuri)
+    match index.answer(alloc, system, call) {
+        Ok(reply) => Answer::Done(reply),
+        Err(Memory) => Answer::Refused(Refusal::Memory),
+    }
+}
+
+// What a change is answered, which is made in the learned books.
+fn changed(alloc: Global, index: &mut Index, call: &Call) -> Answer
+    requires change { is_question call.now ≡ false }
+    requires fit { is_fit call.now ≡ true }
+    ensures answered { (files : List (List Row)) → IsAnsweredAt files index.old.state call.now result }
+    ensures left { index.new.state ≡ after_answer index.old.state call.now result }
+    ensures may { may_answer call.now result ≡ true }
+{
+    match index.plan(alloc, call) {
+        Ok(plan) => Answer::Done(index.apply(plan)),
+        Err(Memory) => Answer::Refused(Refusal::Memory),
+    }
 }
 
 // Whether an answer is a reply.

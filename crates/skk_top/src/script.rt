@@ -1,6 +1,6 @@
 ghost use Rattle.std.specs.Prelude.{◌≡◌, ◌∷◌, ◌++◌, ℕ, Option, List, [], IsErrOf, IsTrue, OnOk, Some, false};
 ghost use Rattle.skk_top.specs.Marks.{Mark};
-ghost use Rattle.skk_top.specs.Script.{IsSession, Spells, MayFollow, session_of, with_said, is_built_line};
+ghost use Rattle.skk_top.specs.Script.{IsSession, Spells, MayFollow, session_of, with_said};
 
 use crate::line::{Line, LineFault, next_line, read_line};
 use skk_text::{Sequence, one_list_of_keys};
@@ -43,7 +43,7 @@ impl Script {
     ghost use Rattle.std.specs.Prelude.{◌≡◌, ℕ, [], true, IfOk, IsErrOf};
     ghost use Rattle.std.specs.List.{list_all};
     ghost use Rattle.skk_text.specs.Lines.{lines_of};
-    ghost use Rattle.skk_top.specs.Script.{Says, IsFirstBad, are_built, opens_well};
+    ghost use Rattle.skk_top.specs.Script.{Says, IsFirstBad, opens_well};
 
     /// Reads a script, and checks it whole. Whether a session was named before costs constant time a line.
     pub fn read(alloc: Global, bytes: &[u8]) -> Result<Script, ScriptFault>
@@ -71,13 +71,6 @@ impl Script {
         ensures valid { list_all opens_well self.now ≡ true }
     {
         self.lines.as_slice()
-    }
-
-    /// Whether each line is built.
-    pub fn is_built(&self) -> bool
-        ensures { result ≡ are_built self.now }
-    {
-        self.lines().iter().all(is_built_line)
     }
 }
 
@@ -127,19 +120,5 @@ fn mark(named: &mut [bool; 65], line: &Line) -> bool
             named[*session as usize] = true;
             true
         }
-    }
-}
-
-// Whether a line is built.
-fn is_built_line(line: &Line) -> bool
-    ensures { result ≡ is_built_line line.now }
-{
-    match line {
-        Line::Keys { session, keys: _ } => *session == 1,
-        Line::Opening {
-            session: _,
-            typist: _,
-            book: _,
-        } => false,
     }
 }

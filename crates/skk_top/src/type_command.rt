@@ -1,13 +1,11 @@
-ghost use Rattle.std.specs.Prelude.{◌≡◌, ◌≤◌, ℕ, Option, List, [], map, not, OnOk, OnErr, Err, true, false};
-ghost use Rattle.std.specs.Io.KnownBytes.{Keeps};
+ghost use Rattle.std.specs.Prelude.{◌≡◌, ◌≤◌, ℕ, Option, List, [], map};
 ghost use Rattle.romaji_rules.specs.Standard.{standard};
 ghost use Rattle.skk_top.specs.Answering.{said_in};
 ghost use Rattle.skk_top.specs.Dictionaries.{AreRowsOf, LeavesDictionaries};
-ghost use Rattle.skk_top.specs.Script.{are_built};
 ghost use Rattle.skk_top.specs.Status.{run_status, run_message, end_unless_refused};
 ghost use Rattle.skk_top.specs.TypeCommand.{LeavesTyped, LeavesScript, LeavesAnswered};
 
-use crate::answering::{Files, SystemCaller};
+use crate::answering::{Files, RunCaller};
 use crate::dictionary::read_dictionaries;
 use crate::fault::RunFault;
 use crate::finish::Run;
@@ -58,7 +56,7 @@ fn type_input<I: Source, O: Sink>(alloc: Global, system: System, input: &mut I, 
 {
     one_list_of_keys();
     match read_script(alloc, input) {
-        Ok(script) => type_built(alloc, &script, system, out),
+        Ok(script) => type_over::<Brand, O>(alloc, &script, system, out),
         Err(fault) => Run::without_calls(Err(fault)),
     }
 }
@@ -72,25 +70,12 @@ fn read_script<I: Source>(alloc: Global, input: &mut I) -> Result<Script, RunFau
     Ok(script)
 }
 
-// Types a script over system files, if each of its lines is built.
-fn type_built<O: Sink>(alloc: Global, script: &Script, system: System, out: &mut O) -> Run
-    ensures typed { are_built script.now ≡ true → LeavesAnswered standard script.now system result.ended result.chronicle (O.written out.old) (O.written out.new) (O.faults out.old) (O.faults out.new) }
-    ensures not_built { are_built script.now ≡ false → result ≡ record { ended = Err RunFault.NotBuilt; chronicle = [] } }
-    ensures untouched { are_built script.now ≡ false → Keeps (O.written out.old) (O.written out.new) }
-    ensures counted { O.faults out.old ≤ O.faults out.new }
-{
-    if !script.is_built() {
-        return Run::without_calls(Err(RunFault::NotBuilt));
-    }
-    type_over::<Brand, O>(alloc, script, system, out)
-}
-
 // Types a script over system files, which `F` tells the proof.
 fn type_over<F: Files, O: Sink>(alloc: Global, script: &Script, system: System, out: &mut O) -> Run
     requires { system ≡ F.files }
     ensures { LeavesAnswered standard script.now F.files result.ended result.chronicle (O.written out.old) (O.written out.new) (O.faults out.old) (O.faults out.new) }
 {
-    match SystemCaller::<F>::new(alloc, system) {
+    match RunCaller::<F>::new(alloc, system) {
         Ok(caller) => type_with(alloc, script, caller, out),
         Err(Memory) => Run::without_calls(Err(RunFault::Memory)),
     }
@@ -100,7 +85,7 @@ fn type_over<F: Files, O: Sink>(alloc: Global, script: &Script, system: System, 
 fn type_with<F: Files, O: Sink>(
     alloc: Global,
     script: &Script,
-    caller: SystemCaller<F>,
+    caller: RunCaller<F>,
     out: &mut O,
 ) -> Run
     requires { said_in caller ≡ [] }

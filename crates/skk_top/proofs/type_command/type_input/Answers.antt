@@ -5,8 +5,8 @@ use Rattle.skk_top.proofs.type_command.type_input.Goals as goal
 
 pub returns-in-Ok : goal.returns-in-Ok
 returns-in-Ok g c files opens opens' rows opening =
-    leaves-read c.one_list_of_keys.ensures standard c.in-Ok.script c.args.system c.type_built.result files opens opens' _ _ _ _ _ _ _ _ (are_dictionaries c.args.system files rows) rows opening c.in-Ok.ensures
-    c.type_built.ensures.typed c.type_built.ensures.not_built c.type_built.ensures.untouched c.type_built.ensures.counted
+    leaves-read c.one_list_of_keys.ensures standard c.in-Ok.script c.args.system c.type_over.result.ended c.type_over.result.chronicle files opens opens' _ _ _ _ _ _ _ _
+    (are_dictionaries c.args.system files rows) rows opening c.in-Ok.ensures c.type_over.ensures
 
 pub returns-in-Err : goal.returns-in-Err
 returns-in-Err g c files opens opens' rows opening =

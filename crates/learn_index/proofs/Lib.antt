@@ -1,0 +1,4 @@
+mod Books
+mod Changes
+mod Places
+mod Planned

@@ -1,0 +1,300 @@
+ghost use Rattle.std.specs.Prelude.{◌≡◌, ◌<◌, ◌≤◌, true, false, min, map, Some, None, List, IfOk, OnOk, OnErr};
+ghost use Rattle.std.specs.Option.{option_copied};
+ghost use Rattle.skk_text.specs.Counts.{last_count};
+ghost use Rattle.skk_calls.specs.declared.call.Call.{Call};
+ghost use Rattle.skk_calls.specs.Dictionary.{answer, after, is_call, is_fit};
+ghost use Rattle.skk_calls.specs.Rows.{Row as row_value};
+ghost use Rattle.skk_calls.specs.States.{empty_state, row_at, rows_of, count_of, state_with, is_valid, fits_count};
+ghost use Rattle.skk_calls.specs.Tallies.{count_rows};
+ghost use Rattle.learn_index.specs.Index.{spare_of};
+ghost use Rattle.learn_index.specs.Kept.{keeps_book};
+ghost use Rattle.learn_index.specs.Plans.{is_lookup, is_question, IsPlanned, IsMade, HasRoom};
+ghost use Rattle.learn_index.specs.Records.{state_counted, state_without};
+
+use crate::book::LearnedBook;
+use crate::kept_books::{book_of, has_number_at, place_of};
+use crate::kept_row::KeptRow;
+use crate::layering::layers;
+use crate::plan::Plan;
+use crate::planning::{
+    learning_is_call, plan_learn, plan_purge, plan_unlearn, purge_is_call, unlearning_is_call,
+};
+use dict_laws::changes_keep_states_valid;
+use dict_layers::{System, merge};
+use skk_calls::{Book, Call, Reply, Row, RowKey, Rows};
+use skk_text::Memory;
+use std::alloc::Global;
+use std::marker::Model;
+
+/// All learned books. It stands for a state of a dictionary, and has room for changes of its books.
+#[derive(Drop)]
+pub struct Index {
+    books: Vec<LearnedBook>,
+    rows: u128,
+}
+
+impl Model for Index {
+    ghost use Rattle.learn_index.specs.Index.{Index};
+
+    ghost Value = { Index };
+
+    ghost use Rattle.std.specs.Prelude.{map};
+    ghost use Rattle.learn_index.specs.Kept.{kept, changed, spare, IsKept};
+
+    ghost view = { λ i. record { state = changed (kept i.books.items); spare = map spare i.books.items } };
+
+    ghost invariant = { λ i. IsKept (kept i.books.items) i.rows };
+}
+
+impl Index {
+    /// No books. Takes no memory.
+    pub fn new(alloc: Global) -> Index
+        ensures { result.state ≡ empty_state }
+    {
+        Index {
+            books: Vec::new(alloc),
+            rows: 0,
+        }
+    }
+
+    /// What a look-up is answered over these system files. Takes a logarithm in the rows of a book and of a file, and time in
+    /// the candidates that it gives.
+    pub fn answer(&self, alloc: Global, system: &System, call: &Call) -> Result<Reply, Memory>
+        requires { is_lookup call.now ≡ true }
+        ensures { IfOk result (λ reply. reply ≡ answer system.now self.now.state call.now) }
+    {
+        match call {
+            Call::Lookup { who, key, okuri } => {
+                let layers = layers(self, alloc, system, *who, key)?;
+                Ok(Reply::Found(merge(alloc, &layers, okuri.as_ref())?))
+            }
+            _ => unreachable!(),
+        }
+    }
+
+    /// Plans a change, and takes all memory that it needs. The state stays as it was. Takes a logarithm in the rows of the
+    /// book, time in the row, and, where the book's room grows, time in the number of its rows.
+    pub fn plan(&mut self, alloc: Global, call: &Call) -> Result<Plan, Memory>
+        requires change { is_question call.now ≡ false }
+        requires fit { is_fit call.now ≡ true }
+        ensures state { self.new.state ≡ self.old.state }
+        ensures planned { IfOk result (λ plan. IsPlanned self.old.state call.now plan) }
+        ensures valid { IfOk result (λ _. is_call call.now ≡ true) }
+        ensures made { IfOk result (λ plan. IsMade self.new.state plan) }
+        ensures room { IfOk result (λ plan. HasRoom self.new plan) }
+    {
+        match call {
+            Call::Learn {
+                book,
+                key,
+                okuri,
+                cand,
+            } => {
+                let okuri = okuri.as_ref();
+                learning_is_call(key, okuri, cand);
+                plan_learn(self, alloc, *book, key, okuri, cand)
+            }
+            Call::Purge { book, key, word } => {
+                purge_is_call(key);
+                plan_purge(self, alloc, *book, key, word)
+            }
+            Call::Unlearn { learned } => {
+                unlearning_is_call(learned);
+                plan_unlearn(self, alloc, learned)
+            }
+            _ => unreachable!(),
+        }
+    }
+
+    /// Does what was planned, on the state that it was planned on. Takes no memory, a logarithm in the rows of the book, and
+    /// where a row is new or goes, the time to move a pointer for each row behind it.
+    pub fn apply(&mut self, plan: Plan) -> Reply
+        requires made { IsMade self.old.state plan }
+        requires room { HasRoom self.old plan }
+        ensures reply { (files : List (List row_value)) (call : Call) → is_question call ≡ false → IsPlanned self.old.state call plan → result ≡ answer files self.old.state call }
+        ensures state { (call : Call) → is_call call ≡ true → IsPlanned self.old.state call plan → self.new.state ≡ after self.old.state call }
+    {
+        changes_keep_states_valid();
+        // A field that is read tells that the state is valid.
+        let _valid = self.rows;
+        match plan {
+            Plan::Still(reply) => reply,
+            Plan::Move {
+                book,
+                count,
+                key,
+                row,
+                reply,
+            } => {
+                match row {
+                    Some(row) => self.set_row(book, count, row),
+                    None => self.remove_row(book, count, &key),
+                }
+                reply
+            }
+        }
+    }
+
+    /// Gives a key this row in a book, which gets this count.
+    pub fn put(&mut self, alloc: Global, book: u16, count: u64, row: Row) -> Result<(), Memory>
+        requires count { count_of self.old.state book ≤ count }
+        requires row { fits_count count row ≡ true }
+        ensures ok { OnOk result (self.new.state ≡ state_with self.old.state book count row.key (Some row)) }
+        ensures err { OnErr result (self.new.state ≡ self.old.state) }
+    {
+        // A field that is read tells that the state is valid.
+        let _valid = self.rows;
+        let row = KeptRow::new(alloc, row)?;
+        self.make_room(alloc, book)?;
+        self.set_row(book, count, row);
+        Ok(())
+    }
+
+    /// Takes the row of a key out of a book, which gets this count.
+    pub fn drop_row(
+        &mut self,
+        alloc: Global,
+        book: u16,
+        count: u64,
+        key: &RowKey,
+    ) -> Result<(), Memory>
+        requires { count_of self.old.state book ≤ count }
+        ensures ok { OnOk result (self.new.state ≡ state_without self.old.state book count key.now) }
+        ensures err { OnErr result (self.new.state ≡ self.old.state) }
+    {
+        // A field that is read tells that the state is valid.
+        let _valid = self.rows;
+        if count > 0 {
+            self.make_book(alloc, book)?;
+            self.remove_row(book, count, key);
+        }
+        Ok(())
+    }
+
+    /// Gives a book this count.
+    pub fn set_count(&mut self, alloc: Global, book: u16, count: u64) -> Result<(), Memory>
+        requires { count_of self.old.state book ≤ count }
+        ensures ok { OnOk result (self.new.state ≡ state_counted self.old.state book count) }
+        ensures err { OnErr result (self.new.state ≡ self.old.state) }
+    {
+        // A field that is read tells that the state is valid.
+        let _valid = self.rows;
+        if count > 0 {
+            self.make_book(alloc, book)?;
+            self.give_count(book, count);
+        }
+        Ok(())
+    }
+
+    /// The row of a key in a book. Takes a logarithm in the book's rows, and no memory.
+    pub fn row(&self, book: u16, key: &RowKey) -> Option<&Row>
+        ensures { option_copied result ≡ row_at self.now.state book key.now }
+    {
+        match book_of(&self.books, book) {
+            Some(book) => book.row(key),
+            None => None,
+        }
+    }
+
+    /// The count of a book, 0 where there is none. Takes no memory.
+    pub fn count(&self, book: u16) -> u64
+        ensures value { result ≡ count_of self.now.state book }
+        ensures valid { is_valid self.now.state ≡ true }
+    {
+        match book_of(&self.books, book) {
+            Some(book) => book.count,
+            None => 0,
+        }
+    }
+
+    /// How many rows there are in all books, up to 2^64 - 1. Takes constant time and no memory.
+    pub fn rows(&self) -> u64
+        ensures { result ≡ min (count_rows self.now.state) last_count }
+    {
+        self.rows.min(u128::from(u64::MAX)) as u64
+    }
+
+    /// The rows of a book, ascending by their keys, copied.
+    pub fn book(&self, alloc: Global, number: u16) -> Result<Book, Memory>
+        ensures { IfOk result (λ book. book ≡ rows_of self.now.state number) }
+    {
+        match book_of(&self.books, number) {
+            Some(book) => Ok(Book::new(book.copied_rows(alloc)?)),
+            None => Ok(Book::new(Rows::new(alloc))),
+        }
+    }
+
+    // Makes room for one change of a book. The state stays as it was. Takes a logarithm in the number of books, and time in
+    // the book's rows where its room grows.
+    pub(crate) fn make_room(&mut self, alloc: Global, number: u16) -> Result<(), Memory>
+        ensures state { self.new.state ≡ self.old.state }
+        ensures room { OnOk result (0 < spare_of self.new number) }
+    {
+        self.make_book(alloc, number)?;
+        self.grow(number)
+    }
+
+    // Keeps a book of a number, where there is none yet.
+    fn make_book(&mut self, alloc: Global, number: u16) -> Result<(), Memory>
+        ensures state { self.new.state ≡ self.old.state }
+        ensures there { OnOk result (keeps_book self.new number ≡ true) }
+    {
+        let place = place_of(&self.books, number);
+        if !has_number_at(&self.books, place, number) {
+            self.books.insert(place, LearnedBook::new(alloc, number))?;
+        }
+        Ok(())
+    }
+
+    // Makes room for one change of a book that is kept.
+    fn grow(&mut self, number: u16) -> Result<(), Memory>
+        requires { keeps_book self.old number ≡ true }
+        ensures state { self.new.state ≡ self.old.state }
+        ensures room { OnOk result (0 < spare_of self.new number) }
+    {
+        let place = place_of(&self.books, number);
+        self.books[place].rows.reserve(1)?;
+        Ok(())
+    }
+
+    // Gives the key of a row this row in a book that has room, and the book this count.
+    fn set_row(&mut self, number: u16, count: u64, row: KeptRow)
+        requires room { 0 < spare_of self.old number }
+        requires count { 0 < count }
+        requires valid { is_valid (state_with self.old.state number count row.key (Some row)) ≡ true }
+        ensures { self.new.state ≡ state_with self.old.state number count row.key (Some row) }
+    {
+        let place = place_of(&self.books, number);
+        let book = &mut self.books[place];
+        self.rows -= book.rows.len() as u128;
+        book.set_row(row);
+        book.count = count;
+        self.rows += book.rows.len() as u128;
+    }
+
+    // Takes the row of a key out of a book that is kept, and gives the book this count.
+    fn remove_row(&mut self, number: u16, count: u64, key: &RowKey)
+        requires there { keeps_book self.old number ≡ true }
+        requires count { 0 < count }
+        requires valid { is_valid (state_with self.old.state number count key.now None) ≡ true }
+        ensures { self.new.state ≡ state_with self.old.state number count key.now None }
+    {
+        let place = place_of(&self.books, number);
+        let book = &mut self.books[place];
+        self.rows -= book.rows.len() as u128;
+        book.remove_row(key);
+        book.count = count;
+        self.rows += book.rows.len() as u128;
+    }
+
+    // Gives a book that is kept this count.
+    fn give_count(&mut self, number: u16, count: u64)
+        requires there { keeps_book self.old number ≡ true }
+        requires count { 0 < count }
+        requires valid { is_valid (state_counted self.old.state number count) ≡ true }
+        ensures { self.new.state ≡ state_counted self.old.state number count }
+    {
+        let place = place_of(&self.books, number);
+        self.books[place].count = count;
+    }
+}

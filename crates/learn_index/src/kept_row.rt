@@ -1,0 +1,41 @@
+use skk_calls::Row;
+use skk_text::Memory;
+use std::alloc::Global;
+use std::marker::Model;
+
+/// A row behind a pointer, so that a book that is in order moves few bytes where a row comes between others.
+#[derive(Debug, Drop)]
+pub struct KeptRow {
+    row: Box<Row>,
+}
+
+impl Model for KeptRow {
+    ghost use Rattle.skk_calls.specs.Rows.{Row};
+
+    ghost Value = { Row };
+
+    ghost view = { λ k. k.row.value };
+}
+
+impl KeptRow {
+    ghost use Rattle.std.specs.Prelude.{◌≡◌, true, IfOk};
+    ghost use Rattle.skk_calls.specs.Rows.{is_row};
+
+    /// Keeps a row.
+    pub fn new(alloc: Global, row: Row) -> Result<KeptRow, Memory>
+        ensures { IfOk result (λ kept. kept ≡ row) }
+    {
+        let row = Box::new(alloc, row)?;
+        Ok(KeptRow { row })
+    }
+
+    /// The row.
+    pub fn row(&self) -> &Row
+        ensures value { result.now ≡ self.now }
+        ensures valid { is_row self.now ≡ true }
+    {
+        let row = &*self.row;
+        let _valid = row.stamp();
+        row
+    }
+}

@@ -1,0 +1,17 @@
+use crate::kept_row::KeptRow;
+use skk_calls::{Reply, RowKey};
+
+/// What a change will do, with all memory that it needs.
+#[derive(Debug, Drop)]
+pub enum Plan {
+    /// Nothing changes, and this is the reply.
+    Still(Reply),
+    /// The book of this number gets this count, and the key this row in it, or none; and this is the reply.
+    Move {
+        book: u16,
+        count: u64,
+        key: RowKey,
+        row: Option<KeptRow>,
+        reply: Reply,
+    },
+}

@@ -1,0 +1,216 @@
+ghost use Rattle.std.specs.Prelude.{◌≡◌, ◌<◌, true, ℕ, List, IfOk, OnOk, Some, nat_lt, if◌then◌else◌};
+ghost use Rattle.std.specs.Option.{option_copied};
+ghost use Rattle.skk_calls.specs.declared.answer.Reply.TheVariants.{TooBig, Learned as learned_reply};
+ghost use Rattle.skk_calls.specs.declared.call.Call.TheVariants.{Learn, Purge, Unlearn};
+ghost use Rattle.skk_calls.specs.Canonical.{line_limit};
+ghost use Rattle.skk_calls.specs.Dictionary.{line_length, is_call, is_stamped, stamp_of};
+ghost use Rattle.skk_calls.specs.Rows.{is_word};
+ghost use Rattle.skk_calls.specs.States.{count_of, row_at, is_valid};
+ghost use Rattle.learn_index.specs.declared.plan.Plan.TheVariants.{Still, Move};
+ghost use Rattle.learn_index.specs.Index.{spare_of};
+ghost use Rattle.learn_index.specs.Plans.{IsPlanned, HasRoom};
+
+use crate::index::Index;
+use crate::kept_row::KeptRow;
+use crate::plan::Plan;
+use dict_rows::{learn_row, line_length, purge_row};
+use skk_calls::{Cand, Learned, Okuri, Reply, Row, RowKey};
+use skk_text::{Copies, Memory, Text};
+use std::alloc::Global;
+
+/// Plans that a candidate is learnt.
+pub fn plan_learn(
+    index: &mut Index,
+    alloc: Global,
+    book: u16,
+    key: &RowKey,
+    okuri: Option<&Okuri>,
+    cand: &Cand,
+) -> Result<Plan, Memory>
+    ensures state { index.new.state ≡ index.old.state }
+    ensures planned { IfOk result (λ plan. IsPlanned index.old.state (Learn book key.now (option_copied okuri.entry) cand.now) plan) }
+    ensures room { IfOk result (λ plan. HasRoom index.new plan) }
+{
+    let Some(stamp) = index.count(book).checked_add(1) else {
+        return Ok(Plan::Still(Reply::StampsEnd));
+    };
+    let row = learn_row(alloc, index.row(book, key), key, okuri, cand, stamp)?;
+    let reply = learned(index, alloc, book, key, stamp)?;
+    plan_row(index, alloc, book, stamp, key, row, reply)
+}
+
+/// Plans that a word is purged.
+pub fn plan_purge(
+    index: &mut Index,
+    alloc: Global,
+    book: u16,
+    key: &RowKey,
+    word: &Text,
+) -> Result<Plan, Memory>
+    requires { is_word word.now ≡ true }
+    ensures state { index.new.state ≡ index.old.state }
+    ensures planned { IfOk result (λ plan. IsPlanned index.old.state (Purge book key.now word.now) plan) }
+    ensures room { IfOk result (λ plan. HasRoom index.new plan) }
+{
+    let count = index.count(book);
+    let before = index.row(book, key);
+    let Some(row) = purge_row(alloc, before, key, word, count.saturating_add(1))? else {
+        return Ok(Plan::Still(Reply::Unchanged));
+    };
+    let Some(stamp) = count.checked_add(1) else {
+        return Ok(Plan::Still(Reply::StampsEnd));
+    };
+    plan_row(index, alloc, book, stamp, key, row, Reply::Purged)
+}
+
+/// Plans that what was learnt is taken back.
+pub fn plan_unlearn(index: &mut Index, alloc: Global, learned: &Learned) -> Result<Plan, Memory>
+    ensures state { index.new.state ≡ index.old.state }
+    ensures planned { IfOk result (λ plan. IsPlanned index.old.state (Unlearn learned.now) plan) }
+    ensures room { IfOk result (λ plan. HasRoom index.new plan) }
+{
+    let book = learned.book();
+    let key = learned.key();
+    let row = index.row(book, key);
+    if !is_stamped(learned.stamp(), row) {
+        return Ok(Plan::Still(Reply::Overtaken(stamp_of(row))));
+    }
+    let before = copied(alloc, learned.before())?;
+    let count = index.count(book);
+    make_move(index, alloc, book, count, key, before, Reply::Restored)
+}
+
+/// What the types of a learning's parts keep.
+pub fn learning_is_call(key: &RowKey, okuri: Option<&Okuri>, cand: &Cand)
+    ensures { (book : ℕ) → is_call (Learn book key.now (option_copied okuri.entry) cand.now) ≡ true }
+{
+    let _reading = key.reading();
+    let _word = cand.word();
+    if let Some(okuri) = okuri {
+        let _text = okuri.text();
+    }
+}
+
+/// What the type of a purge's key keeps.
+pub fn purge_is_call(key: &RowKey)
+    ensures { (book : ℕ) (word : List ℕ) → is_call (Purge book key.now word) ≡ true }
+{
+    let _reading = key.reading();
+}
+
+/// What the types of the parts of what was learnt keep.
+pub fn unlearning_is_call(learned: &Learned)
+    ensures { is_call (Unlearn learned.now) ≡ true }
+{
+    let _reading = learned.key().reading();
+    if let Some(row) = learned.before() {
+        let _stamp = row.stamp();
+    }
+}
+
+// Plans that a key gets this row in a book, and the book this count, unless the row's line is too long.
+fn plan_row(
+    index: &mut Index,
+    alloc: Global,
+    book: u16,
+    count: u64,
+    key: &RowKey,
+    row: Row,
+    reply: Reply,
+) -> Result<Plan, Memory>
+    ensures state { index.new.state ≡ index.old.state }
+    ensures plan { IfOk result (λ plan. plan ≡ (if nat_lt line_limit (line_length row) then Still (TooBig (line_length row)) else Move book count key.now (Some row) reply)) }
+    ensures room { IfOk result (λ plan. HasRoom index.new plan) }
+{
+    let length = line_length(&row);
+    if length > LINE_LIMIT {
+        return Ok(Plan::Still(Reply::TooBig(length)));
+    }
+    make_move(index, alloc, book, count, key, Some(row), reply)
+}
+
+// Plans that a key gets this row in a book, or none, and the book this count.
+fn make_move(
+    index: &mut Index,
+    alloc: Global,
+    book: u16,
+    count: u64,
+    key: &RowKey,
+    row: Option<Row>,
+    reply: Reply,
+) -> Result<Plan, Memory>
+    ensures state { index.new.state ≡ index.old.state }
+    ensures plan { IfOk result (λ plan. plan ≡ Move book count key.now row reply) }
+    ensures room { OnOk result (0 < spare_of index.new book) }
+{
+    index.make_room(alloc, book)?;
+    let row = keep(alloc, row)?;
+    let key = key.copy(alloc)?;
+    Ok(Plan::Move {
+        book,
+        count,
+        key,
+        row,
+        reply,
+    })
+}
+
+// Keeps a row, where there is one.
+fn keep(alloc: Global, row: Option<Row>) -> Result<Option<KeptRow>, Memory>
+    ensures { IfOk result (λ kept. kept ≡ row) }
+{
+    match row {
+        Some(row) => Ok(Some(KeptRow::new(alloc, row)?)),
+        None => Ok(None),
+    }
+}
+
+// The reply that a candidate was learnt with this stamp.
+fn learned(
+    index: &Index,
+    alloc: Global,
+    book: u16,
+    key: &RowKey,
+    stamp: u64,
+) -> Result<Reply, Memory>
+    requires valid { is_valid index.now.state ≡ true }
+    requires later { count_of index.now.state book < stamp }
+    ensures { IfOk result (λ reply. reply ≡ learned_reply (record { book = book; key = key.now; stamp = stamp; before = row_at index.now.state book key.now })) }
+{
+    let before = copied(alloc, index.row(book, key))?;
+    let key = key.copy(alloc)?;
+    Ok(Reply::Learned(Learned::new(book, key, stamp, before)))
+}
+
+// A row, copied, where there is one.
+fn copied(alloc: Global, row: Option<&Row>) -> Result<Option<Row>, Memory>
+    ensures { IfOk result (λ copy. copy ≡ option_copied row.entry) }
+{
+    match row {
+        Some(row) => Ok(Some(row.copy(alloc)?)),
+        None => Ok(None),
+    }
+}
+
+// Whether a row is there and has this stamp.
+fn is_stamped(stamp: u64, row: Option<&Row>) -> bool
+    ensures { result ≡ is_stamped stamp (option_copied row.entry) }
+{
+    match row {
+        Some(row) => row.stamp() == stamp,
+        None => false,
+    }
+}
+
+// The stamp of a row, 0 where there is none.
+fn stamp_of(row: Option<&Row>) -> u64
+    ensures { result ≡ stamp_of (option_copied row.entry) }
+{
+    match row {
+        Some(row) => row.stamp(),
+        None => 0,
+    }
+}
+
+// The most bytes of a line.
+const LINE_LIMIT: u64 = 65_535;

@@ -1,0 +1,50 @@
+ghost use Rattle.std.specs.Prelude.{◌≡◌};
+ghost use Rattle.session_machine.specs.Answered.{answer_notice, learnt_by, reply_notice, says_purged};
+
+use crate::session_notice::SessionNotice;
+use skk_calls::{Answer, Learned, Reply};
+use skk_text::Notice;
+
+// What an answer tells.
+pub(crate) fn notice_of(answer: &Answer) -> SessionNotice
+    ensures { result ≡ answer_notice answer.now }
+{
+    match answer {
+        Answer::Done(reply) => reply_notice(reply),
+        Answer::Refused(refusal) => SessionNotice::Refused(*refusal),
+    }
+}
+
+// What a reply tells: nothing where something was found or learnt.
+fn reply_notice(reply: &Reply) -> SessionNotice
+    ensures { result ≡ reply_notice reply.now }
+{
+    match reply {
+        Reply::Found(_) | Reply::Readings(_) | Reply::Learned(_) => SessionNotice::Step(
+            Notice::Empty,
+        ),
+        Reply::Purged => SessionNotice::Purged,
+        Reply::Unchanged => SessionNotice::Unchanged,
+        Reply::Restored => SessionNotice::Undone,
+        Reply::Overtaken(stamp) => SessionNotice::Overtaken(*stamp),
+        Reply::TooBig(length) => SessionNotice::TooBig(*length),
+        Reply::StampsEnd => SessionNotice::StampsEnd,
+    }
+}
+
+// What an answer says was learnt.
+pub(crate) fn learnt_by(answer: Answer) -> Option<Learned>
+    ensures { result ≡ learnt_by answer }
+{
+    match answer {
+        Answer::Done(Reply::Learned(learned)) => Some(learned),
+        Answer::Done(_) | Answer::Refused(_) => None,
+    }
+}
+
+// Whether an answer says that a word is found no more.
+pub(crate) fn says_purged(answer: &Answer) -> bool
+    ensures { result ≡ says_purged answer.now }
+{
+    matches!(answer, Answer::Done(Reply::Purged | Reply::Unchanged))
+}

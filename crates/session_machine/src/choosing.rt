@@ -1,0 +1,159 @@
+ghost use Rattle.std.specs.Prelude.{◌≡◌, ◌<◌, length, IfOk};
+ghost use Rattle.std.specs.Str.{chars};
+ghost use Rattle.skk_calls.specs.declared.call.Call.TheVariants.{Learn};
+ghost use Rattle.reading_state.specs.Keys.{okuri_of};
+ghost use Rattle.session_machine.specs.Pressed.{after_learning, choice_effect, choice_inserted, choosing, learning, of_candidate};
+ghost use Rattle.session_machine.specs.Said.{Says, after};
+ghost use Rattle.session_machine.specs.Session.{with_piece};
+
+use crate::answered::{learnt_by, notice_of};
+use crate::frame::{Choice, Conversion, State};
+use crate::kana::in_kana_of;
+use crate::pressing::press_in_plain;
+use crate::session::{PressFault, Session};
+use candidate_state::{AfterChoose, Shown};
+use reading_state::Reading;
+use romaji_rules::{Pending, Rules};
+use skk_calls::{Answer, Call, Caller};
+use skk_text::{Copies, Memory, Mode, Notice, Text};
+use std::alloc::Global;
+
+// Chooses the candidate of a place: inserts it, learns it, and does what comes behind that. The candidates stay where it does
+// not fit.
+#[tactic(auto, using(crate::proofs::Saying::says))]
+pub(crate) fn choose<C: Caller>(
+    session: &mut Session,
+    alloc: Global,
+    rules: &Rules,
+    conversion: Conversion,
+    place: usize,
+    then: AfterChoose,
+    caller: &mut C,
+) -> Result<(), PressFault>
+    requires { place < length conversion.picking.shown }
+    ensures said { Says (of_candidate conversion place (choosing rules.now session.old conversion (then))) (after result session.new) (C.said caller.old) (C.said caller.new) }
+    ensures number { C.number caller.new ≡ C.number caller.old }
+{
+    let shown = conversion.picking.shown().at(place);
+    let piece = choice_inserted(alloc, session.frame.mode, &conversion.reading, shown)?;
+    if !session.has_room(piece.as_str()) {
+        session.put_state(State::Picking(conversion));
+        session.note(Notice::Limit);
+        return Ok(());
+    }
+    learn(
+        session, alloc, rules, conversion, place, &piece, then, caller,
+    )
+}
+
+// What is inserted for a candidate that was found for a reading.
+fn choice_inserted(
+    alloc: Global,
+    mode: Mode,
+    reading: &Reading,
+    shown: Shown<'_>,
+) -> Result<Text, Memory>
+    ensures { IfOk result (λ piece. piece ≡ choice_inserted mode reading.now (record { key = shown.entry.key.now; cand = shown.entry.cand.now; text = shown.entry.text.now })) }
+{
+    let mut piece = shown.text.copy(alloc)?;
+    if let Some(kana) = reading.begun_text() {
+        let kana = in_kana_of(alloc, mode, kana.copy(alloc)?)?;
+        piece.push_str(kana.as_str())?;
+    }
+    Ok(piece)
+}
+
+// Inserts the piece of a candidate, which fits, learns the candidate, and does what comes behind that.
+#[tactic(auto, using(crate::proofs::Saying::says))]
+fn learn<C: Caller>(
+    session: &mut Session,
+    alloc: Global,
+    rules: &Rules,
+    conversion: Conversion,
+    place: usize,
+    piece: &Text,
+    then: AfterChoose,
+    caller: &mut C,
+) -> Result<(), PressFault>
+    requires { place < length conversion.picking.shown }
+    ensures said { Says (of_candidate conversion place (learning rules.now session.old conversion piece.now (then))) (after result session.new) (C.said caller.old) (C.said caller.new) }
+    ensures number { C.number caller.new ≡ C.number caller.old }
+{
+    let shown = conversion.picking.shown().at(place);
+    let call = insert_choice(session, alloc, &conversion.reading, shown, piece)?;
+    let answer = caller.call(alloc, &call);
+    take_learning(session, conversion, piece, answer);
+    apply_choice(session, alloc, rules, then, caller)
+}
+
+// Inserts the piece of a candidate that was found for a reading, and gives the call that learns the candidate.
+fn insert_choice(
+    session: &mut Session,
+    alloc: Global,
+    reading: &Reading,
+    shown: Shown<'_>,
+    piece: &Text,
+) -> Result<Call, Memory>
+    ensures { IfOk result (λ call. (call ≡ Learn session.old.book shown.entry.key.now (okuri_of reading.now) shown.entry.cand.now) × (session.new ≡ with_piece session.old piece.now)) }
+{
+    let call = learning(alloc, session.book, reading, shown)?;
+    session.frame.text.push_str(piece.as_str())?;
+    Ok(call)
+}
+
+// The call that learns a candidate that was found for a reading.
+fn learning(alloc: Global, book: u16, reading: &Reading, shown: Shown<'_>) -> Result<Call, Memory>
+    ensures { IfOk result (λ call. call ≡ Learn book shown.entry.key.now (okuri_of reading.now) shown.entry.cand.now) }
+{
+    Ok(Call::Learn {
+        book,
+        key: shown.key.copy(alloc)?,
+        okuri: reading.okuri(alloc)?,
+        cand: shown.cand.copy(alloc)?,
+    })
+}
+
+// Takes the answer to the learning of a candidate whose piece was inserted, and keeps what takes the choice back.
+fn take_learning(session: &mut Session, conversion: Conversion, piece: &Text, answer: Answer)
+    ensures { session.new ≡ after_learning session.old conversion piece.now answer }
+{
+    session.notice = notice_of(&answer);
+    session.frame.last_choice = Some(Choice {
+        inserted: char_count(piece.as_str()),
+        end: session.frame.text.byte_len(),
+        mode: session.frame.mode,
+        conversion,
+        learned: learnt_by(answer),
+    });
+}
+
+// How many characters a text has.
+fn char_count(text: &str) -> usize
+    ensures { result ≡ length (chars text.now) }
+{
+    text.chars().count()
+}
+
+// Does what comes behind a choice.
+#[tactic(auto, using(crate::proofs::Words::words, crate::proofs::Saying::says))]
+fn apply_choice<C: Caller>(
+    session: &mut Session,
+    alloc: Global,
+    rules: &Rules,
+    then: AfterChoose,
+    caller: &mut C,
+) -> Result<(), PressFault>
+    ensures said { Says (choice_effect rules.now session.old (then)) (after result session.new) (C.said caller.old) (C.said caller.new) }
+    ensures number { C.number caller.new ≡ C.number caller.old }
+{
+    match then {
+        AfterChoose::Nothing => {}
+        AfterChoose::Delete => session.shorten(),
+        AfterChoose::Newline => session.insert("\n")?,
+        AfterChoose::OpenSuffix => return Err(PressFault::NotBuilt),
+        AfterChoose::Read(key) => {
+            return press_in_plain(session, alloc, rules, Pending::new(), key, caller);
+        }
+    }
+    Ok(())
+}
