@@ -1,4 +1,5 @@
 mod Books
 mod Changes
+mod Examples
 mod Places
 mod Planned
