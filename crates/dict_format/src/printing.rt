@@ -1,12 +1,11 @@
-ghost use Rattle.std.specs.Prelude.{◌≡◌, ◌++◌, ◌∷◌, ◌||◌, nat_eq, nat_lt, true, IfOk, OnOk};
-ghost use Rattle.std.specs.List.{flat_map, list_all, list_any, starts_with};
-ghost use Rattle.std.specs.Str.{chars};
+ghost use Rattle.std.specs.Prelude.{◌≡◌, ◌++◌, ◌∷◌, true, IfOk, OnOk};
+ghost use Rattle.std.specs.List.{flat_map};
 ghost use Rattle.dict_format.specs.Lines.{SpellsRow};
 ghost use Rattle.skk_calls.specs.Rows.{is_row};
-ghost use Rattle.skk_calls.specs.Canonical.{canonical, is_good, item, with_slash, char_in_string, quoted, is_special, begins_form, written_word, written_note, written_block, mark_items};
+ghost use Rattle.skk_calls.specs.Canonical.{canonical, is_good, item, with_slash, char_in_string, quoted, written_word, written_note, written_block, mark_items};
 
 use crate::laws::good_rows_are_read_again;
-use skk_calls::{Block, Blocks, Cand, Cands, Row};
+use skk_calls::{Block, Blocks, Cand, Cands, Row, needs_quotes};
 use skk_text::{Memory, Text, Texts};
 use std::alloc::Global;
 
@@ -120,45 +119,6 @@ fn push_word(line: &mut Text, word: &Text) -> Result<(), Memory>
     push_string(line, word)?;
     line.push(')')?;
     Ok(())
-}
-
-// Whether a word could not be read as it is.
-fn needs_quotes(word: &Text) -> bool
-    ensures { result ≡ (list_any is_special word.now || begins_form word.now) }
-{
-    holds_special(word.as_str()) || begins_form(word)
-}
-
-// Whether a text holds a character that no plain word has.
-fn holds_special(text: &str) -> bool
-    ensures { result ≡ list_any is_special (chars text.now) }
-{
-    text.chars().any(is_special)
-}
-
-// Whether no plain word holds a character.
-fn is_special(c: char) -> bool
-    ensures { result ≡ is_special c }
-{
-    matches!(c, '/' | ';' | '"' | '\\' | '\r' | '\n')
-}
-
-// Whether no plain word begins so.
-fn begins_form(word: &Text) -> bool
-    ensures { result ≡ begins_form word.now }
-{
-    begins(word, b"[")
-        || begins(word, b"]")
-        || begins(word, b"(concat ")
-        || begins(word, b"(skk-ignore-dic-word ")
-}
-
-// Whether a word begins with ASCII text.
-fn begins(word: &Text, prefix: &[u8]) -> bool
-    requires { list_all (λ c. nat_lt c 128) prefix.now ≡ true }
-    ensures { result ≡ starts_with nat_eq word.now prefix.now }
-{
-    word.as_str().as_bytes().starts_with(prefix)
 }
 
 // Adds a text as a string in double quotes.

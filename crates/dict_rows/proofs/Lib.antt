@@ -1,4 +1,3 @@
-pub mod Beginnings
 pub mod Blocks
 pub mod Lengths
 pub mod LineLengths

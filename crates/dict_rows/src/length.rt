@@ -5,8 +5,7 @@ ghost use Rattle.skk_calls.specs.Canonical.{char_in_string, item, mark_items, qu
 ghost use Rattle.skk_calls.specs.Dictionary.{line_length};
 ghost use Rattle.dict_rows.specs.Lengths.{told_len};
 
-use crate::quoting::needs_quotes;
-use skk_calls::{Block, Cand, Row};
+use skk_calls::{Block, Cand, Row, needs_quotes};
 use skk_text::Text;
 
 /// How many bytes a row's line has, or 2^64 - 1 where it has more. Takes no memory, and time in what the row holds: the line

@@ -11,7 +11,6 @@ mod learning;
 mod learnt_blocks;
 mod length;
 mod purging;
-mod quoting;
 #[cfg(test)]
 mod tests;
 

@@ -26,7 +26,7 @@ const CHANGES: &str = "
 おおk +大*き -大 -大 = &&大&2
 ";
 
-// Changes as above, where `_` is the space, `~` CR and `^` LF; and behind the `=` the bytes of the line.
+// Changes as above, where `~` is CR and `^` LF; and behind the `=` the bytes of the line.
 const LENGTHS: &str = r#"
 かんじ +漢字 = 18
 あ +漢字|xy = 15
@@ -34,12 +34,6 @@ const LENGTHS: &str = r#"
 あ +a;b = 23
 あ +and/or;x = 31
 あ +a/b;c"d\~^ = 37
-あ +[x = 19
-あ +] = 18
-あ +(concat_x = 26
-あ +(skk-ignore-dic-word_x = 39
-あ +(concatx = 14
-あ +x[] = 9
 あ -漢字 = 36
 あ -漢字 -"/ = 45
 おおk +a/b*き +大*き = 60
@@ -55,7 +49,6 @@ fn table_text(alloc: Global, content: &str) -> Result<Text, Fail> {
     let mut text = Text::new(alloc);
     for c in content.chars() {
         text.push(match c {
-            '_' => ' ',
             '~' => '\r',
             '^' => '\n',
             _ => c,
@@ -246,7 +239,7 @@ fn changes_make_rows(rt: HostRuntime) -> Result<(), Fail> {
 #[test]
 fn lines_have_lengths(rt: HostRuntime) -> Result<(), Fail> {
     let alloc = rt.alloc();
-    assert_eq!(rt; LENGTHS.trim().lines().count(), 15);
+    assert_eq!(rt; LENGTHS.trim().lines().count(), 9);
     for line in LENGTHS.trim().lines() {
         let (case, wanted) = line.split_once(" = ").ok_or("no ` = `")?;
         let wanted: u64 = wanted.parse()?;

@@ -1,5 +1,6 @@
 pub mod AnswerExamples
 pub mod BadNotes
+pub mod Beginnings
 pub mod FoundExamples
 pub mod HistoryExamples
 pub mod InteractionExamples

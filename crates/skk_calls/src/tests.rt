@@ -3,7 +3,7 @@ ghost use Rattle.skk_calls.specs.declared.part.Part.TheVariants.{Nasi};
 
 use crate::{
     Answer, Blocks, Call, Caller, Cand, CandFault, Cands, Chronicle, Noted, Okuri, OkuriFault,
-    Part, Refusal, Reply, Row, RowKey, RowKeyFault, Tally,
+    Part, Refusal, Reply, Row, RowKey, RowKeyFault, Tally, needs_quotes,
 };
 use skk_text::{Copies, Memory, Text, Texts};
 use skk_trace::{Shows, Trace};
@@ -78,6 +78,31 @@ fn candidates_are_checked(rt: HostRuntime) -> Result<(), Fail> {
         let word = repeated(alloc, "a", count, "")?;
         let note = repeated(alloc, note, 1, "")?;
         assert_eq!(rt; Cand::new(word, note).err(), fault, "at {count}");
+    }
+    Ok(())
+}
+
+#[test]
+fn words_need_quotes(rt: HostRuntime) -> Result<(), Fail> {
+    let alloc = rt.alloc();
+    for (word, needed) in [
+        ("漢字", false),
+        ("a/b", true),
+        ("a;b", true),
+        ("\"", true),
+        ("\\", true),
+        ("a\r", true),
+        ("a\n", true),
+        ("[x", true),
+        ("]", true),
+        ("x[]", false),
+        ("(concat x", true),
+        ("(concatx", false),
+        ("(skk-ignore-dic-word x", true),
+        ("(skk-ignore-dic-word", false),
+    ] {
+        let text = repeated(alloc, word, 1, "")?;
+        assert_eq!(rt; needs_quotes(&text), needed, "at {word:?}");
     }
     Ok(())
 }

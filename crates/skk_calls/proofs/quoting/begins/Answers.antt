@@ -1,7 +1,7 @@
 use Rattle.std.proofs.Common.{◌∙◌, nat_eq, ap}
 use Rattle.std.specs.List.{starts_with}
-use Rattle.dict_rows.proofs.Beginnings.{begins_bytes}
-use Rattle.dict_rows.proofs.quoting.begins.Goals as goal
+use Rattle.skk_calls.proofs.Beginnings.{begins_bytes}
+use Rattle.skk_calls.proofs.quoting.begins.Goals as goal
 
 pub returns : goal.returns
 returns c =
