@@ -1,14 +1,15 @@
 -- Blocks are joined by their okurigana.
-use Rattle.std.proofs.Common.{◌≡◌, ℕ, ◌+◌, suc, Bool, true, false, not, ◌||◌, if◌then◌else◌, String, List, [], ◌∷◌, ◌++◌, map, get_or, length, ◌<◌, refl, sym, ap, ◌∙◌, arith}
+use Rattle.std.proofs.Common.{◌≡◌, ℕ, ◌+◌, suc, Bool, true, false, ◌||◌, if◌then◌else◌, String, List, [], ◌∷◌, ◌++◌, map, get_or, length, ◌<◌, refl, sym, ap, ◌∙◌, arith}
 use Rattle.std.specs.declared.alloc.Global.{Global}
 use Rattle.std.specs.List.{list_any, filter, flat_map, position_or_len}
 use Rattle.std.proofs.Math.ListN.{set}
-use Rattle.std.proofs.lemmas.Bool.{and_parts, or_parts, both_ways, not-true}
+use Rattle.std.proofs.lemmas.Bool.{or_parts, both_ways}
 use Rattle.std.proofs.lemmas.List.{append-nil, map-append, length-map}
 use Rattle.std.proofs.lemmas.List.Elements.{filter-append}
 use Rattle.std.proofs.lemmas.Grind.{flat_map-append}
 use Rattle.skk_calls.specs.KeyLaws.{same_equal, same_itself, same_other}
 use Rattle.skk_calls.specs.Canonical.{has_item}
+use Rattle.skk_calls.specs.DifferLaws.{differ_parts}
 use Rattle.skk_calls.specs.Found.{first_of_each}
 use Rattle.skk_calls.specs.Rows.{Block, same_text, has_text, texts_differ, is_okuri}
 use Rattle.word_sets.specs.FirstLaws.{first_of_each-differ, first_of_each-push, first_of_each-texts, texts_stay}
@@ -16,7 +17,6 @@ use Rattle.word_sets.specs.Firsts.{with_new}
 use Rattle.word_sets.specs.Strings.{characters}
 use Rattle.dict_format.specs.Building.{JoinsBlocks, made_blocks}
 use Rattle.dict_format.specs.RowOfItems.{words_once, words_with, joined_blocks, has_word}
-use Rattle.dict_format.proofs.Differing.{texts_differ-cons}
 
 -- Values beside texts
 
@@ -32,8 +32,8 @@ module _ {V : Type 0} (text : List ℕ) (old new : List ℕ → V) (others : (ot
   set_there : (texts : List (List ℕ)) → texts_differ texts ≡ true → has_text texts text ≡ true → set (map old texts) (position_or_len (same_text text) texts) (new text) ≡ map new texts
   set_there [] all there = absurd (both_ways false refl there)
   set_there (other ∷ texts) all there =
-      let parts = and_parts (not (has_text texts other)) (texts_differ texts) (sym (texts_differ-cons other texts) ∙ all) in
-      by (same_text text other) refl (not-true (has_text texts other) parts.0) (λ h. set_there texts parts.1 h) there
+      let parts = differ_parts other texts all in
+      by (same_text text other) refl parts.0 (λ h. set_there texts parts.1 h) there
     where
       by : (b : Bool) → same_text text other ≡ b → has_text texts other ≡ false → (has_text texts text ≡ true → set (map old texts) (position_or_len (same_text text) texts) (new text) ≡ map new texts)
           → (same_text text other || has_text texts text) ≡ true

@@ -1,6 +1,5 @@
 pub mod Blocks
 pub mod Cutting
-pub mod Differing
 pub mod Examples
 pub mod FileEntries
 pub mod FileExamples

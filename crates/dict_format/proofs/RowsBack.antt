@@ -1,18 +1,18 @@
 -- The items of a row make it again, with stamp 0.
-use Rattle.std.proofs.Common.{◌≡◌, ℕ, ◌+◌, Bool, true, false, not, ◌&&◌, nat_le, if◌then◌else◌, List, [], ◌∷◌, ◌++◌, map, length, refl, sym, ap, ◌∙◌}
+use Rattle.std.proofs.Common.{◌≡◌, ℕ, ◌+◌, Bool, true, false, ◌&&◌, nat_le, if◌then◌else◌, List, [], ◌∷◌, ◌++◌, map, length, refl, ap, ◌∙◌}
 use Rattle.std.specs.List.{flat_map, filter, list_all, list_any}
-use Rattle.std.proofs.lemmas.Bool.{and_parts, or_parts, or_left, both_ways, not-true}
+use Rattle.std.proofs.lemmas.Bool.{and_parts, or_parts, or_left, both_ways}
 use Rattle.std.proofs.lemmas.Grind.{flat_map-append}
 use Rattle.std.proofs.lemmas.List.{append-nil, map-append}
 use Rattle.skk_text.specs.Text.{byte_len}
 use Rattle.skk_calls.specs.KeyLaws.{same_itself}
 use Rattle.skk_calls.specs.Canonical.{has_item}
+use Rattle.skk_calls.specs.DifferLaws.{differ_parts}
 use Rattle.skk_calls.specs.Rows.{Cand, Block, Row, same_text, has_text, texts_differ, is_row_key, is_okuri, is_cand, is_note, is_word, is_block, is_row, fits_blocks, word_limit}
 use Rattle.skk_calls.specs.Found.{first_of_each}
 use Rattle.dict_format.specs.Items.{Item}
 use Rattle.dict_format.specs.RowOfItems.{words_once, words_with, has_word, cand_in, block_in, hidden_in, joined_blocks, row_of_items}
 use Rattle.dict_format.proofs.Blocks.{words_with-none}
-use Rattle.dict_format.proofs.Differing.{texts_differ-cons}
 use Rattle.word_sets.specs.FirstLaws.{first_of_each-fresh, texts_stay}
 use Rattle.dict_format.proofs.RowsAgain.{Pieces, cand_piece, block_piece, mark_pieces, row_items, block_words}
 
@@ -149,12 +149,11 @@ joined_own : (bs : List Block) → list_all is_block bs ≡ true → texts_diffe
 joined_own [] all differ = refl
 joined_own (b ∷ bs) all differ =
     let parts = and_parts (is_block b) (list_all is_block bs) all in
-    let apart = and_parts (not (has_text (map (λ c. c.okuri) bs) b.okuri)) (texts_differ (map (λ c. c.okuri) bs)) (sym (texts_differ-cons b.okuri (map (λ c. c.okuri) bs)) ∙ differ) in
-    let none = not-true (has_text (map (λ c. c.okuri) bs) b.okuri) apart.0 in
+    let apart = differ_parts b.okuri (map (λ c. c.okuri) bs) differ in
     let words = block_words b parts.0 in
-    ap (λ ws. (record { okuri = b.okuri; words = words_once ws }) ∷ map (joined (b ∷ bs)) bs) (own none)
+    ap (λ ws. (record { okuri = b.okuri; words = words_once ws }) ∷ map (joined (b ∷ bs)) bs) (own apart.0)
     ∙ ap (λ ws. (record { okuri = b.okuri; words = ws }) ∷ map (joined (b ∷ bs)) bs) (words_once-fresh b.words words.2 words.3)
-    ∙ ap (λ ys. b ∷ ys) (joined_others b bs bs none ∙ joined_own bs parts.1 apart.1)
+    ∙ ap (λ ys. b ∷ ys) (joined_others b bs bs apart.0 ∙ joined_own bs parts.1 apart.1)
   where
     own : has_text (map (λ (c : Block). c.okuri) bs) b.okuri ≡ false → words_with b.okuri (b ∷ bs) ≡ b.words
     own none =

@@ -1,30 +1,15 @@
 -- Texts that are the same, lists that have a text, and lists of texts that differ.
 use Rattle.std.proofs.Common.{◌≡◌, ℕ, Bool, true, false, cond, not, List, [], ◌∷◌, ◌++◌, refl, ◌∙◌, ap}
 use Rattle.std.specs.List.{filter, list_all}
-use Rattle.std.proofs.lemmas.Bool.{and_from, and_parts, not-true, not_from_false, or_from, or_parts}
+use Rattle.std.proofs.lemmas.Bool.{not-true, not_from_false, or_from, or_parts}
 use Rattle.std.proofs.lemmas.List.Folds.{list_any-append}
 use Rattle.skk_text.specs.PairsLaws.{list_all-weaker, all_pairs-filter}
+use Rattle.skk_calls.specs.DifferLaws.{none_same, has_none}
+pub use Rattle.skk_calls.specs.DifferLaws.{differ_parts, differ_from, differ_front, differ_end}
 use Rattle.skk_calls.specs.KeyLaws.{same_other}
 use Rattle.skk_calls.specs.Learning.{without_text, without_word}
 use Rattle.skk_calls.specs.Rows.{Cand, same_text, has_text, texts_differ, words_of}
 use Rattle.dict_laws.proofs.Filtered.{filter_twice, map_filter}
-
--- a text that a list has not is the same as none of it
-pub none_same : (texts : List (List ℕ)) (text : List ℕ) → has_text texts text ≡ false
-    → list_all (λ other. not (same_text text other)) texts ≡ true
-none_same [] text none = refl
-none_same (other ∷ texts) text none =
-    let parts = or_parts (same_text text other) (has_text texts text) none in
-    and_from (not (same_text text other)) (list_all (λ o. not (same_text text o)) texts)
-    (not_from_false (same_text text other) parts.0) (none_same texts text parts.1)
-
--- the other way round
-pub has_none : (texts : List (List ℕ)) (text : List ℕ) → list_all (λ other. not (same_text text other)) texts ≡ true
-    → has_text texts text ≡ false
-has_none [] text none = refl
-has_none (other ∷ texts) text none =
-    let parts = and_parts (not (same_text text other)) (list_all (λ o. not (same_text text o)) texts) none in
-    or_from (same_text text other) (has_text texts text) (not-true (same_text text other) parts.0) (has_none texts text parts.1)
 
 -- none of a list is the same as a text that the list has not
 pub same_none : (texts : List (List ℕ)) (text : List ℕ) → has_text texts text ≡ false
@@ -32,19 +17,6 @@ pub same_none : (texts : List (List ℕ)) (text : List ℕ) → has_text texts t
 same_none texts text none =
     list_all-weaker (λ other. not (same_text text other)) (λ other. not (same_text other text))
     (λ other e. ap not (same_other other text) ∙ e) texts (none_same texts text none)
-
--- of texts that differ the others have not the first, and differ
-pub differ_parts : (text : List ℕ) (texts : List (List ℕ)) → texts_differ (text ∷ texts) ≡ true
-    → (has_text texts text ≡ false) × (texts_differ texts ≡ true)
-differ_parts text texts e =
-    let parts = and_parts (list_all (λ other. not (same_text text other)) texts) (texts_differ texts) e in
-    (has_none texts text parts.0, parts.1)
-
--- the other way round
-pub differ_from : (text : List ℕ) (texts : List (List ℕ)) → has_text texts text ≡ false → texts_differ texts ≡ true
-    → texts_differ (text ∷ texts) ≡ true
-differ_from text texts none apart =
-    and_from (list_all (λ other. not (same_text text other)) texts) (texts_differ texts) (none_same texts text none) apart
 
 -- to leave out a text twice is to leave it out once
 pub without_twice : (text : List ℕ) (texts : List (List ℕ)) → without_text text (without_text text texts) ≡ without_text text texts
@@ -68,11 +40,6 @@ has_without text (t ∷ ts) = by (same_text t text) refl (has_without text ts)
         → has_text (cond (not b) (t ∷ without_text text ts) (without_text text ts)) text ≡ false
     by true e rest = rest
     by false e rest = or_from (same_text text t) (has_text (without_text text ts) text) (same_other text t ∙ e) rest
-
--- a text that is put in front of the others differs from them
-pub differ_front : (text : List ℕ) (texts : List (List ℕ)) → texts_differ texts ≡ true → texts_differ (text ∷ without_text text texts) ≡ true
-differ_front text texts e =
-    differ_from text (without_text text texts) (has_without text texts) (differ_filter (λ other. not (same_text other text)) texts e)
 
 -- a text that a list has not is not its first, and not in its rest
 not_first : (text : List ℕ) (texts : List (List ℕ)) (other : List ℕ) → not (has_text (text ∷ texts) other) ≡ true
@@ -99,13 +66,6 @@ differ-append (text ∷ texts) others e f apart =
     (list_any-append (same_text text) texts others
     ∙ or_from (has_text texts text) (has_text others text) parts.0 (has_none others text unlike))
     (differ-append texts others parts.1 f rest)
-
--- texts that differ, with a new one at their end
-pub differ_end : (texts : List (List ℕ)) (last : List ℕ) → texts_differ texts ≡ true → has_text texts last ≡ false
-    → texts_differ (texts ++ last ∷ []) ≡ true
-differ_end texts last e new =
-    differ-append texts (last ∷ []) e refl
-    (and_from (not (has_text texts last)) true (not_from_false (has_text texts last) new) refl)
 
 -- the words of candidates without a word are their words without it
 pub words_without : (word : List ℕ) (cands : List Cand) → words_of (without_word word cands) ≡ without_text word (words_of cands)

@@ -5,12 +5,12 @@ use Rattle.std.specs.Option.{unwrap_or}
 use Rattle.std.proofs.lemmas.Bool.{and_from, and_parts}
 use Rattle.std.proofs.lemmas.Bool.Decides.{nat_tests}
 use Rattle.std.proofs.lemmas.Str.{length-le-encodes}
-use Rattle.skk_text.specs.FilterLaws.{list_all_kept}
-use Rattle.skk_text.specs.PairsLaws.{list_all-filter, list_all-weaker, all_pairs-filter}
+use Rattle.skk_text.specs.PairsLaws.{list_all-filter, all_pairs-filter}
 use Rattle.skk_text.specs.Text.{byte_len}
 use Rattle.skk_calls.specs.Canonical.{has_item}
+use Rattle.skk_calls.specs.DifferLaws.{differ_front}
 use Rattle.skk_calls.specs.Found.{note_of}
-use Rattle.skk_calls.specs.KeyLaws.{same_equal, same_other}
+use Rattle.skk_calls.specs.KeyLaws.{same_equal}
 use Rattle.skk_calls.specs.Learning.{block_without, learnt_note, without_text}
 use Rattle.skk_calls.specs.RowLaws.{block_from_parts, block_parts}
 use Rattle.skk_calls.specs.Rows.{Cand, Block, same_text, texts_differ, is_cand, is_block, is_note, is_okuri, is_word, words_of}
@@ -24,14 +24,6 @@ cand_word cand e =
   where
     by : (l w n : ℕ) → nat_le 1 l ≡ true → nat_le (w + n) 4095 ≡ true → (nat_le 1 l && nat_le w 4095) ≡ true
     by l w n has_item short = grind (arith, nat_tests)
-
--- words without one of them differ from it
-differ_front : (word : List ℕ) (words : List (List ℕ)) → texts_differ words ≡ true → texts_differ (word ∷ without_text word words) ≡ true
-differ_front word words differ =
-    and_from (list_all (λ other. not (same_text word other)) (without_text word words)) (texts_differ (without_text word words))
-    (list_all-weaker (λ other. not (same_text other word)) (λ other. not (same_text word other))
-    (λ other e. ap not (same_other word other) ∙ e) (without_text word words) (list_all_kept (λ other. not (same_text other word)) words))
-    (all_pairs-filter (λ text other. not (same_text text other)) (λ other. not (same_text other word)) words differ)
 
 -- a list with an item at its front has one
 one_more : {X : Type 0} (x : X) (xs : List X) → nat_le 1 (length (x ∷ xs)) ≡ true

@@ -2,6 +2,7 @@ pub mod Canonical
 pub mod Chronicles
 pub mod Completions
 pub mod Dictionary
+pub mod DifferLaws
 pub mod Found
 pub mod Histories
 pub mod InteractionLaws

@@ -1,28 +1,17 @@
 -- What holds of the first of each text, and of items that are added one by one where their texts are new.
 use Rattle.std.proofs.Common.{◌≡◌, ℕ, Bool, true, false, cond, not, ◌&&◌, ◌||◌, List, [], ◌∷◌, ◌++◌, map, refl, sym, ap, ◌∙◌, append_assoc}
 use Rattle.std.specs.List.{filter, fold, list_all}
-use Rattle.std.proofs.lemmas.Bool.{and_from, and_parts, not-true, not_from_false, or_parts}
+use Rattle.std.proofs.lemmas.Bool.{and_from, and_parts, not-true}
 use Rattle.std.proofs.lemmas.List.{append-nil, map-append}
 use Rattle.std.proofs.lemmas.List.Folds.{list_all-append, list_any-append}
 use Rattle.std.proofs.lemmas.List.Sums.{fold-append}
+use Rattle.skk_calls.specs.DifferLaws.{differ_end}
 use Rattle.skk_calls.specs.Found.{first_of_each}
 pub use Rattle.skk_calls.specs.KeyLaws.{same_itself, same_equal, same_other}
 use Rattle.skk_calls.specs.Rows.{same_text, has_text, texts_differ}
 use Rattle.word_sets.specs.Firsts.{with_new}
 
 -- Texts
-
--- one more text behind texts that differ, which have it not, differs from them too
-pub differ_end : (texts : List (List ℕ)) (last : List ℕ) → texts_differ texts ≡ true → has_text texts last ≡ false → texts_differ (texts ++ last ∷ []) ≡ true
-differ_end [] last differ none = refl
-differ_end (text ∷ texts) last differ none =
-    let unlike = λ (other : List ℕ). not (same_text text other) in
-    let parts = and_parts (list_all unlike texts) (texts_differ texts) differ in
-    let others = or_parts (same_text last text) (has_text texts last) none in
-    and_from (list_all unlike (texts ++ last ∷ [])) (texts_differ (texts ++ last ∷ []))
-    (list_all-append unlike texts (last ∷ [])
-    ∙ and_from (list_all unlike texts) (unlike last && true) parts.0 (and_from (unlike last) true (not_from_false (same_text text last) (same_other text last ∙ others.0)) refl))
-    (differ_end texts last parts.1 others.1)
 
 -- a list of texts is that of their texts
 pub texts_stay : (texts : List (List ℕ)) → map (λ text. text) texts ≡ texts
