@@ -3,7 +3,7 @@ ghost use Rattle.skk_calls.specs.Learning.{without_text, without_word};
 ghost use Rattle.skk_calls.specs.Rows.{has_text, same_text};
 
 use skk_calls::{Cand, Cands};
-use skk_text::{Copies, Memory, Sequence, Text, Texts};
+use skk_text::{Copies, Memory, Text, Texts};
 use std::alloc::Global;
 
 /// Whether two texts have the same characters.
@@ -18,17 +18,6 @@ pub fn has_text(texts: &[Text], text: &Text) -> bool
     ensures { result ≡ has_text texts.now text.now }
 {
     texts.iter().any(|other| is_same(text, other))
-}
-
-/// Copies of items.
-pub fn copies_of<T: Copies>(alloc: Global, items: &[T]) -> Result<Sequence<T>, Memory>
-    ensures { IfOk result (λ copies. copies ≡ items.now) }
-{
-    let mut copies = Sequence::new(alloc);
-    for item in items {
-        copies.push(item.copy(alloc)?)?;
-    }
-    Ok(copies)
 }
 
 /// Adds copies of texts, but for those that are the same as one.

@@ -5,9 +5,9 @@ ghost use Rattle.skk_calls.specs.Dictionary.{is_okuri_or_none};
 ghost use Rattle.skk_calls.specs.Learning.{blocks_with_word, learnt_blocks, without_text};
 ghost use Rattle.skk_calls.specs.Rows.{is_word, same_text, texts_differ};
 
-use crate::copying::{add_texts_without, copies_of, is_same};
+use crate::copying::{add_texts_without, is_same};
 use skk_calls::{Block, Blocks, Cand, Okuri, Part};
-use skk_text::{Copies, Memory, Text, Texts};
+use skk_text::{Copies, Memory, Text, Texts, copies_of};
 use std::alloc::Global;
 
 /// The blocks of a key of this part after a candidate is learnt. Those of a key with okurigana change where one was chosen.

@@ -6,10 +6,10 @@ ghost use Rattle.skk_calls.specs.Learning.{purged, purge_changes, block_without,
 ghost use Rattle.skk_calls.specs.Rows.{RowKey as key_value, has_text, is_word, words_of};
 
 use crate::before::{blocks_of, cands_of, hides_of};
-use crate::copying::{cands_without, copies_of, has_text, is_same, texts_without};
+use crate::copying::{cands_without, has_text, is_same, texts_without};
 use dict_laws::changed_rows_are_rows;
 use skk_calls::{Block, Blocks, Cand, Row, RowKey};
-use skk_text::{Copies, Memory, Text, Texts};
+use skk_text::{Copies, Memory, Text, Texts, copies_of};
 use std::alloc::Global;
 
 /// The row of a key after a word is purged, or none where the purge changes nothing. Takes time in what the row holds.

@@ -29,5 +29,5 @@ pub use laws::{kana_pairs, one_list_of_keys};
 pub use memory::Memory;
 pub use mode::Mode;
 pub use notice::Notice;
-pub use sequence::Sequence;
+pub use sequence::{Sequence, copies_of};
 pub use text::{Text, Texts};

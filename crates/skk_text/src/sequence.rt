@@ -1,4 +1,4 @@
-ghost use Rattle.std.specs.Prelude.{◌≡◌, ◌<◌, List, [], ◌∷◌, ◌++◌, length, slice_get, Some, OnOk, OnErr};
+ghost use Rattle.std.specs.Prelude.{◌≡◌, ◌<◌, List, [], ◌∷◌, ◌++◌, length, slice_get, Some, IfOk, OnOk, OnErr};
 
 use crate::copies::Copies;
 use crate::memory::Memory;
@@ -77,10 +77,17 @@ impl<T: Drop> Sequence<T> {
 
 impl<T: Copies> Copies for Sequence<T> {
     fn copy(&self, alloc: Global) -> Result<Sequence<T>, Memory> {
-        let mut copies = Sequence::new(alloc);
-        for item in &self.items {
-            copies.push(item.copy(alloc)?)?;
-        }
-        Ok(copies)
+        copies_of(alloc, &self.items)
     }
+}
+
+/// Copies of items, in order.
+pub fn copies_of<T: Copies>(alloc: Global, items: &[T]) -> Result<Sequence<T>, Memory>
+    ensures { IfOk result (λ copies. copies ≡ items.now) }
+{
+    let mut copies = Sequence::new(alloc);
+    for item in items {
+        copies.push(item.copy(alloc)?)?;
+    }
+    Ok(copies)
 }

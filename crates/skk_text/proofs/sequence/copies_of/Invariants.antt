@@ -1,5 +1,5 @@
 use Rattle.std.proofs.Common.{◌≡◌, take}
-use Rattle.dict_rows.proofs.copying.copies_of.Given as goal
+use Rattle.skk_text.proofs.sequence.copies_of.Given as goal
 
 -- the items so far were copied
 abbrev pub invariant-loop-item : goal.invariant-loop-item
