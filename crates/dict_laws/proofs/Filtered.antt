@@ -1,6 +1,7 @@
 -- What a filter keeps, and what a search finds.
-use Rattle.std.proofs.Common.{◌≡◌, Bool, true, false, cond, ◌||◌, Some, Option, List, [], ◌∷◌, refl, sym, ◌∙◌, ap, find, map}
+use Rattle.std.proofs.Common.{◌≡◌, Bool, true, false, cond, ◌||◌, Some, Option, List, [], ◌∷◌, refl, ap, find, map}
 use Rattle.std.specs.List.{filter}
+use Rattle.skk_text.specs.FilterLaws.{filter_all, list_all_kept}
 
 -- a disjunction holds where its last part does
 pub or_last : (a b c : Bool) → c ≡ true → (a || (b || c)) ≡ true
@@ -11,22 +12,7 @@ or_last false false c e = e
 module _ {X : Type 0} (p : X → Bool) where
   -- to filter twice is to filter once
   pub filter_twice : (xs : List X) → filter p (filter p xs) ≡ filter p xs
-  filter_twice [] = refl
-  filter_twice (x ∷ xs) = by (p x) refl (filter_twice xs)
-    where
-      by : (b : Bool) → p x ≡ b → filter p (filter p xs) ≡ filter p xs
-          → filter p (cond b (x ∷ filter p xs) (filter p xs)) ≡ cond b (x ∷ filter p xs) (filter p xs)
-      by true e same = rw e (ap (λ ys. x ∷ ys) same)
-      by false e same = same
-
-  -- what is found passes the test
-  pub find_passes : (xs : List X) (x : X) → find p xs ≡ Some x → p x ≡ true
-  find_passes [] x e = cc
-  find_passes (y ∷ ys) x e = by (p y) refl e (find_passes ys x)
-    where
-      by : (b : Bool) → p y ≡ b → cond b (Some y) (find p ys) ≡ Some x → (find p ys ≡ Some x → p x ≡ true) → p x ≡ true
-      by true t found rest = let same : y ≡ x = cc in ap p (sym same) ∙ t
-      by false f found rest = rest found
+  filter_twice xs = filter_all p (filter p xs) (list_all_kept p xs)
 
   -- the same is found where a filter leaves out what does not pass
   pub find-filter : (q : X → Bool) → ((x : X) → q x ≡ false → p x ≡ false) → (xs : List X)

@@ -14,12 +14,12 @@ use Rattle.skk_calls.specs.Dictionary.{change_reply, after, moves, state_moved, 
 use Rattle.skk_calls.specs.Learning.{learnt, purged, purge_changes, is_row_before, is_valid_learned, row_or_empty}
 use Rattle.skk_calls.specs.Rows.{RowKey, Cand, Row, Learned, same_key, is_row_key, is_cand, is_word, is_row}
 use Rattle.skk_calls.specs.States.{State, row_at, rows_of, count_of, state_with, has_stamp, is_valid}
-use Rattle.dict_laws.proofs.Changing.{has_key, row_in_has_key}
-use Rattle.dict_laws.proofs.KeptBooks.{fits_after, fits_row_at, is_valid_changed}
+use Rattle.dict_laws.specs.ChangedStates.{after_moved, before_has_key, row_in_has_key}
+use Rattle.dict_laws.specs.ValidStates.{fits_after, fits_row_at, is_valid_changed}
 use Rattle.dict_laws.proofs.LearntRows.{learnt_is_row, learnt_is_good}
 use Rattle.dict_laws.proofs.PurgedRows.{purged_is_row, purged_is_good}
 use Rattle.dict_laws.proofs.RowParts.{BeforeParts, before_parts}
-use Rattle.dict_laws.proofs.TakenBack.{after_moved, after_unmoved}
+use Rattle.dict_laws.proofs.TakenBack.{after_unmoved}
 
 -- a number that is no more than a limit, as far as a greater number can tell
 short_is : (length limit last : ℕ) → limit < last → nat_lt limit (min length last) ≡ false → nat_le length limit ≡ true
@@ -70,12 +70,7 @@ stamp_within stamp count (Some row) fits e =
     subst (λ (s : ℕ). (nat_le 1 s && nat_le s count) ≡ true) ((Decides-eqb row.stamp stamp).0 e)
     (and_parts (is_good row) (has_stamp count row) (and_parts (is_row row) (is_good row && has_stamp count row) fits).1).1
 
--- the row before a learning has its key
-pub before_has_key : (key : RowKey) (stamp : ℕ) (before : Option Row) → is_row_before key stamp before ≡ true → has_key key before ≡ true
-before_has_key key stamp None e = refl
-before_has_key key stamp (Some row) e = (and_parts (same_key row.key key) (is_good row && (nat_le 1 row.stamp && nat_lt row.stamp stamp)) e).0
-
--- and may stand in its book
+-- the row before a learning may stand in its book
 before_fits : (key : RowKey) (stamp count : ℕ) (before : Option Row) → is_row_before key stamp before ≡ true
     → is_row_or_none before ≡ true → nat_le stamp count ≡ true
     → fits_after count before ≡ true

@@ -9,9 +9,9 @@ use Rattle.skk_calls.specs.Dictionary.{after, moves, state_moved, is_call, is_ro
 use Rattle.skk_calls.specs.Learning.{learnt, purged, unlearnt, is_valid_learned}
 use Rattle.skk_calls.specs.Rows.{RowKey, Row, same_key, is_row_key}
 use Rattle.skk_calls.specs.States.{State, row_in, book_rows, book_count, row_at, count_of, state_with}
-use Rattle.dict_laws.proofs.Changing.{has_key, row_at_other_key, book_at_other}
-use Rattle.dict_laws.proofs.Keeping.{before_has_key}
-use Rattle.dict_laws.proofs.TakenBack.{after_moved, after_unmoved}
+use Rattle.dict_laws.specs.ChangedStates.{after_moved, before_has_key, has_key}
+use Rattle.dict_laws.proofs.OtherRows.{row_at_other_key, book_at_other}
+use Rattle.dict_laws.proofs.TakenBack.{after_unmoved}
 
 -- of two parts of a test that fails, the second fails where the first does not
 second_fails : (a b : Bool) → (a && b) ≡ false → a ≡ true → b ≡ false

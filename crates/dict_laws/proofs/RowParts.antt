@@ -13,8 +13,8 @@ use Rattle.skk_calls.specs.Learning.{row_or_empty}
 use Rattle.skk_calls.specs.Rows.{RowKey, Cand, Block, Row, is_row_key, is_note, is_word, word_limit, is_cand, is_block, fits_blocks, is_row}
 use Rattle.skk_calls.specs.RowLaws.{RowParts, row_parts, block_parts}
 use Rattle.skk_calls.specs.States.{has_stamp}
-use Rattle.dict_laws.proofs.Changing.{has_key}
-use Rattle.dict_laws.proofs.KeptBooks.{fits_after}
+use Rattle.dict_laws.specs.ChangedStates.{has_key}
+use Rattle.dict_laws.specs.ValidStates.{fits_after}
 
 -- each word of a block is one
 abbrev pub has_words : Block → Bool

@@ -11,11 +11,7 @@ use Rattle.skk_calls.specs.Dictionary.{change_reply, answer, after, moves, state
 use Rattle.skk_calls.specs.Learning.{learnt}
 use Rattle.skk_calls.specs.Rows.{RowKey, Cand, Row, Learned}
 use Rattle.skk_calls.specs.States.{State, row_at, rows_of, count_of}
-use Rattle.dict_laws.proofs.Changing.{row_in_has_key, row_at_changed, count_of_changed, number_itself}
-
--- a call that moves a state leaves the moved one
-pub after_moved : (state : State) (call : Call) → moves state call ≡ true → after state call ≡ state_moved state call
-after_moved state call e = rw e
+use Rattle.dict_laws.specs.ChangedStates.{after_moved, row_in_has_key, row_at_changed, count_of_changed, number_itself}
 
 -- a call that does not move a state leaves it as it was
 pub after_unmoved : (state : State) (call : Call) → moves state call ≡ false → after state call ≡ state

@@ -5,7 +5,8 @@ use Rattle.std.specs.List.Sorted.{IsPartitionedBy, IsPartitionPoint}
 use Rattle.std.specs.Option.{option_and_then, option_map}
 use Rattle.std.proofs.lemmas.Bool.{not-true}
 use Rattle.skk_text.specs.Pairs.{all_pairs}
-use Rattle.skk_text.specs.PairsLaws.{all_pairs-filter}
+use Rattle.skk_text.specs.FilterLaws.{find-map}
+use Rattle.skk_text.specs.PairsLaws.{all_pairs-filter, all_pairs-map}
 use Rattle.skk_calls.specs.Completions.{reading_of}
 use Rattle.skk_calls.specs.OrderLaws.{apart, key_order, less_trans, order_read, sort_ascends, text_order}
 use Rattle.skk_calls.specs.Orders.{key_less, sort_by, text_less, row_less}
@@ -17,7 +18,6 @@ use Rattle.dict_layers.specs.InOrder.{is_walked, walked_readings, HasAt}
 use Rattle.dict_layers.specs.WalkLaws.{walked_ascend}
 use Rattle.skk_calls.specs.RowsInOrder.{if_same, row_in_order, row_not_less, rows_apart}
 use Rattle.dict_layers.proofs.Places.{found_at, partitioned}
-use Rattle.dict_layers.proofs.Lists.{all_pairs-map, find-map}
 use Rattle.dict_layers.proofs.Walking.{walked_in_order}
 use Rattle.std.specs.Cmp.{IsStrictWeakOrder}
 

@@ -1,9 +1,7 @@
--- What a filter keeps, what a search finds, and what holds of each two items.
-use Rattle.std.proofs.Common.{◌≡◌, Bool, true, false, cond, ◌&&◌, Some, List, [], ◌∷◌, find, map, refl, ap, ◌∙◌}
+-- What a filter keeps, and what holds of each two items.
+use Rattle.std.proofs.Common.{◌≡◌, Bool, true, cond, List, [], ◌∷◌, refl, ap, ◌∙◌}
 use Rattle.std.specs.List.{filter, list_all}
-use Rattle.std.specs.Option.{option_map}
 use Rattle.std.proofs.lemmas.Bool.{and_from, and_parts}
-use Rattle.std.proofs.lemmas.List.Folds.{list_all-map}
 use Rattle.skk_text.specs.Pairs.{all_pairs}
 
 -- tests that are the same keep the same
@@ -11,13 +9,6 @@ pub filter_same : {X : Type 0} (p q : X → Bool) → ((x : X) → p x ≡ q x) 
 filter_same p q same [] = refl
 filter_same p q same (x ∷ xs) =
     ap (λ b. cond b (x ∷ filter p xs) (filter p xs)) (same x) ∙ ap (λ ys. cond (q x) (x ∷ ys) ys) (filter_same p q same xs)
-
--- what is made of each two items passes a test as these pass it
-pub all_pairs-map : {X Y : Type 0} (f : X → Y) (test : Y → Y → Bool) (xs : List X) → all_pairs test (map f xs) ≡ all_pairs (λ x y. test (f x) (f y)) xs
-all_pairs-map f test [] = refl
-all_pairs-map f test (x ∷ xs) =
-    ap (λ b. b && all_pairs test (map f xs)) (list_all-map (test (f x)) f xs)
-    ∙ ap (λ b. list_all (λ y. test (f x) (f y)) xs && b) (all_pairs-map f test xs)
 
 -- what each two items pass that pass a test
 pub pairs_within : {X : Type 0} (p : X → Bool) (test other : X → X → Bool) → ((x y : X) → p x ≡ true → p y ≡ true → test x y ≡ true → other x y ≡ true)
@@ -34,12 +25,3 @@ pairs_within {X} p test other so (x ∷ xs) all pairs =
         let others = and_parts (p y) (list_all p ys) rest in
         let aboves = and_parts (test x y) (list_all (test x) ys) above in
         and_from (other x y) (list_all (other x) ys) (so x y one others.0 aboves.0) (each ys one others.1 aboves.1)
-
--- what is found among what is made of items is made of what is found among these
-pub find-map : {X Y : Type 0} (f : X → Y) (p : Y → Bool) (xs : List X) → find p (map f xs) ≡ option_map f (find (λ x. p (f x)) xs)
-find-map f p [] = refl
-find-map {X} {Y} f p (x ∷ xs) = by (p (f x)) (find-map f p xs)
-  where
-    by : (b : Bool) → find p (map f xs) ≡ option_map f (find (λ y. p (f y)) xs) → cond b (Some (f x)) (find p (map f xs)) ≡ option_map f (cond b (Some x) (find (λ y. p (f y)) xs))
-    by true rest = refl
-    by false rest = rest

@@ -4,10 +4,10 @@ use Rattle.std.specs.Cmp.{IsStrictWeakOrder}
 use Rattle.std.specs.List.Sorted.{IsPermutation, IsSortedBy}
 use Rattle.std.proofs.lemmas.List.Sorted.{IsPermutation-map}
 use Rattle.skk_text.specs.Pairs.{all_pairs}
+use Rattle.skk_text.specs.PairsLaws.{all_pairs-map}
 use Rattle.skk_calls.specs.OrderLaws.{apart, sorted_once, sorted_read}
 use Rattle.skk_calls.specs.Orders.{insert_by, sort_by}
 use Rattle.dict_layers.specs.Finding.{option_less}
-use Rattle.dict_layers.proofs.Lists.{all_pairs-map}
 
 module _ {X : Type 0} (less : X → X → Bool) where
   -- items that may not be there are ordered as those that are

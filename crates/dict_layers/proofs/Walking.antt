@@ -4,7 +4,7 @@ use Rattle.std.specs.List.{filter, list_all}
 use Rattle.std.proofs.lemmas.Bool.{and_parts}
 use Rattle.std.proofs.lemmas.List.Elements.{filter_passes}
 use Rattle.std.proofs.lemmas.List.Sums.{list_all-from_AllPass}
-use Rattle.skk_text.specs.PairsLaws.{all_pairs-filter}
+use Rattle.skk_text.specs.PairsLaws.{all_pairs-filter, all_pairs-map}
 use Rattle.skk_calls.specs.declared.part.Part.{Part}
 use Rattle.skk_calls.specs.declared.part.Part.TheVariants.{Nasi, Ari}
 use Rattle.skk_calls.specs.Canonical.{has_item}
@@ -14,7 +14,7 @@ use Rattle.skk_calls.specs.Orders.{insert_by, sort_by, text_less, less_by_part, 
 use Rattle.skk_calls.specs.Rows.{Row, same_text, same_part, same_key, keys_differ, texts_differ}
 use Rattle.word_sets.specs.FirstLaws.{first_of_each-fresh, texts_stay}
 use Rattle.dict_layers.specs.InOrder.{is_walked, walked_readings}
-use Rattle.dict_layers.proofs.Lists.{all_pairs-map, pairs_within}
+use Rattle.dict_layers.proofs.Lists.{pairs_within}
 
 -- the rows that a walk comes by are without okurigana
 walked_part : (row : Row) → is_walked row ≡ true → same_part row.key.part Nasi ≡ true

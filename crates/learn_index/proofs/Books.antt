@@ -1,31 +1,32 @@
 -- The books that an index keeps, and the state of those that have changed.
-use Rattle.std.proofs.Common.{◌≡◌, ◌==◌, ℕ, ◌+◌, ◌*◌, ◌^◌, ◌≤◌, Bool, true, false, cond, not, ◌&&◌, ◌||◌, nat_lt, nat_le, Option, None, Some, List, [], ◌∷◌, length, find, refl, sym, ap, ◌∙◌, arith}
+use Rattle.std.proofs.Common.{◌≡◌, ◌==◌, ℕ, ◌+◌, ◌*◌, ◌^◌, ◌≤◌, Bool, true, false, cond, not, ◌||◌, nat_lt, nat_le, Option, None, Some, List, [], ◌∷◌, length, find, refl, sym, ap, ◌∙◌, arith}
 use Rattle.std.specs.Cmp.{IsStrictWeakOrder}
 use Rattle.std.specs.List.{filter, list_all, sum_by}
 use Rattle.std.proofs.lemmas.Bool.{and_from, and_parts, ltb-true, not_from_false}
 use Rattle.std.proofs.lemmas.Bool.Decides.{nat_tests}
 use Rattle.std.proofs.lemmas.List.{nil_from_length}
 use Rattle.std.proofs.lemmas.List.Elements.{All-weaker}
+use Rattle.std.proofs.lemmas.List.MinMax.{IsStrictWeakOrder-by_number}
 use Rattle.std.proofs.lemmas.List.Sums.{AllPass-from_list_all, sum_by-cons, sum_by-le}
 use Rattle.skk_text.specs.Pairs.{all_pairs}
 use Rattle.skk_text.specs.PairsLaws.{list_all-filter, list_all-weaker, all_pairs-filter, pairs_weaker}
-use Rattle.skk_text.specs.FilterLaws.{find_none, list_all_found, list_all_kept}
+use Rattle.skk_text.specs.FilterLaws.{find_none}
 use Rattle.skk_calls.specs.declared.book.NumberedBook.{NumberedBook}
-use Rattle.skk_calls.specs.OrderLaws.{insert_ascends, less_trans, list_all-insert_by, order_read}
+use Rattle.skk_calls.specs.OrderLaws.{insert_first, less_trans, list_all-insert_by}
 use Rattle.skk_calls.specs.Orders.{insert_by, key_less}
 use Rattle.skk_calls.specs.Rows.{Row, same_key, keys_differ}
 use Rattle.skk_calls.specs.RowsInOrder.{less_differs}
-use Rattle.skk_calls.specs.States.{State, book_at, book_rows, book_count, rows_of, count_of, without_book, with_book, rows_ascend, fits_count, is_book, books_ascend, is_valid}
+use Rattle.skk_calls.specs.States.{State, book_rows, book_count, rows_of, count_of, without_book, with_book, rows_ascend, books_ascend, is_valid}
 use Rattle.skk_calls.specs.Tallies.{count_rows}
+use Rattle.dict_laws.specs.ValidStates.{books_ascend_with_book, rows_of_ascend}
 use Rattle.learn_index.specs.Kept.{has_changed, changed, has_count, is_held, IsKept}
-use Rattle.learn_index.proofs.Places.{number_keys, insert_first}
 
 -- the order of books
 abbrev by_number : NumberedBook → NumberedBook → Bool
 by_number book other = nat_lt book.number other.number
 
 number_order : IsStrictWeakOrder by_number
-number_order = order_read (λ (book : NumberedBook). book.number) nat_lt number_keys.order
+number_order = IsStrictWeakOrder-by_number (λ (book : NumberedBook). book.number)
 
 -- Filters
 
@@ -116,15 +117,7 @@ module _ (all : State) (rows : ℕ) (keeps : IsKept all rows) where
 
   -- the rows of a book ascend
   pub rows_in_order : (number : ℕ) → rows_ascend (rows_of all number) ≡ true
-  rows_in_order number = ap rows_ascend (sym (rows_changed number)) ∙ by (book_at (changed all) number) refl
-    where
-      by : (found : Option NumberedBook) → book_at (changed all) number ≡ found → rows_ascend (book_rows found) ≡ true
-      by None e = refl
-      by (Some book) e =
-          let books = (and_parts (books_ascend (changed all).books) (list_all is_book (changed all).books) keeps.valid).1 in
-          let here = list_all_found is_book (λ (b : NumberedBook). b.number == number) (changed all).books book books e in
-          let more = (and_parts (nat_le 1 book.count) (rows_ascend book.rows && list_all (fits_count book.count) book.rows) here).1 in
-          (and_parts (rows_ascend book.rows) (list_all (fits_count book.count) book.rows) more).0
+  rows_in_order number = ap rows_ascend (sym (rows_changed number)) ∙ rows_of_ascend (changed all) number keeps.valid
 
   -- all rows are those of the books that have changed
   pub all_counted : count_rows (changed all) ≡ rows
@@ -155,19 +148,12 @@ module _ (all : State) (rows : ℕ) (keeps : IsKept all rows) where
   pub kept_with : (book : NumberedBook) (count : ℕ) → has_count book ≡ true → is_held book ≡ true → is_valid (changed (record { books = with_book book all.books })) ≡ true
       → count ≡ count_rows (record { books = with_book book all.books }) → IsKept (record { books = with_book book all.books }) count
   kept_with book count counts held valid counted = record {
-    ascend =
-        insert_ascends by_number number_order book (without_book book.number all.books)
-        (list_all-weaker (λ other. not (other.number == book.number)) (λ other. by_number book other || by_number other book) (λ other. apart book.number other.number) (without_book book.number all.books)
-        (list_all_kept (λ other. not (other.number == book.number)) all.books))
-        (all_pairs-filter by_number (λ other. not (other.number == book.number)) all.books keeps.ascend);
+    ascend = books_ascend_with_book book all.books keeps.ascend;
     valid = valid;
     counts = list_all-insert_by by_number has_count book (without_book book.number all.books) counts (list_all-filter has_count (λ other. not (other.number == book.number)) all.books keeps.counts);
     held = list_all-insert_by by_number is_held book (without_book book.number all.books) held (list_all-filter is_held (λ other. not (other.number == book.number)) all.books keeps.held);
     counted = counted;
   }
-    where
-      apart : (a b : ℕ) → not (b == a) ≡ true → (nat_lt a b || nat_lt b a) ≡ true
-      apart a b e = grind (arith, nat_tests)
 
 -- How many rows there may be
 

@@ -9,6 +9,9 @@ use Rattle.std.proofs.lemmas.Bool.Decides.{nat_tests}
 use Rattle.std.proofs.lemmas.List.{get_or-map, length-map, map-set}
 use Rattle.std.proofs.lemmas.List.Sums.{sum_by-cons, sum_by-insert, sum_by-set}
 use Rattle.std.proofs.lemmas.Option.{get_or_from_slice_get}
+use Rattle.skk_text.specs.Pairs.{all_pairs}
+use Rattle.skk_text.specs.FilterLaws.{find-map}
+use Rattle.skk_text.specs.PairsLaws.{all_pairs-map}
 use Rattle.skk_calls.specs.declared.book.NumberedBook.{NumberedBook}
 use Rattle.skk_calls.specs.Rows.{RowKey, Row}
 use Rattle.skk_calls.specs.States.{State, book_rows, rows_of, with_book, with_row, state_with, books_ascend, is_valid}
@@ -19,7 +22,7 @@ use Rattle.learn_index.specs.Index.{Index, Spare, changes_of, spare_of}
 use Rattle.learn_index.specs.Kept.{numbered, kept, has_changed, changed, spare, keeps_book, IsKept}
 use Rattle.learn_index.specs.Records.{state_counted}
 use Rattle.learn_index.proofs.Books.{book_changed, kept_with, rows_changed}
-use Rattle.learn_index.proofs.Places.{find_read, found_at, found_put, number_keys, pairs_read, place_read, put_insert, put_set}
+use Rattle.learn_index.proofs.Places.{found_at, found_put, number_keys, place_read, put_insert, put_set}
 
 -- the book of a number stands at a place
 pub record IsAt (items : List LearnedBook) (number place : ℕ) (book : LearnedBook) : Type 0 where
@@ -67,19 +70,22 @@ inserted_found p (y ∷ ys) (suc i) x e = by (p y) (inserted_found p ys i x e)
     by true rest = refl
     by false rest = rest
 
+-- books in memory ascend by their numbers
+pub numbers_ascend : (items : List LearnedBook) → books_ascend (kept items).books ≡ true → all_pairs (λ (book other : LearnedBook). nat_lt book.number other.number) items ≡ true
+numbers_ascend items ascend = sym (all_pairs-map numbered (λ (book other : NumberedBook). nat_lt book.number other.number) items) ∙ ascend
+
 module _ (items : List LearnedBook) (number place : ℕ) (ascend : books_ascend (kept items).books ≡ true)
     (point : IsPartitionPoint (λ (book : LearnedBook). nat_lt book.number number ≡ true) (λ (book : LearnedBook). nat_lt book.number number ≡ false) items place) where
   -- the book of the number is the one at the place
-  found : find (λ (book : LearnedBook). book.number == number) items ≡ option_and_then (λ (book : LearnedBook). cond (book.number == number) (Some book) None) (slice_get items place)
+  pub found : find (λ (book : LearnedBook). book.number == number) items ≡ option_and_then (λ (book : LearnedBook). cond (book.number == number) (Some book) None) (slice_get items place)
   found =
-      found_at (λ (book : LearnedBook). book.number) nat_lt (λ a b. a == b) number_keys number items place
-      (sym (pairs_read numbered (λ (book other : NumberedBook). nat_lt book.number other.number) items) ∙ ascend) point
+      found_at (λ (book : LearnedBook). book.number) nat_lt (λ a b. a == b) number_keys number items place (numbers_ascend items ascend) point
 
   -- a book that is there stands at the place
   pub stands : (state : State) → keeps_book (record { state = state; spare = map spare items }) number ≡ true → passes (λ (book : LearnedBook). book.number == number) (slice_get items place) ≡ true
   stands state there =
       by (slice_get items place)
-      (ap is_some (ap (option_map spare) (sym found) ∙ sym (find_read spare (λ s. s.number == number) items)) ∙ there)
+      (ap is_some (ap (option_map spare) (sym found) ∙ sym (find-map spare (λ s. s.number == number) items)) ∙ there)
     where
       by : (item : Option LearnedBook) → is_some (option_map spare (option_and_then (λ (book : LearnedBook). cond (book.number == number) (Some book) None) item)) ≡ true
           → passes (λ (book : LearnedBook). book.number == number) item ≡ true
@@ -99,7 +105,7 @@ module _ (items : List LearnedBook) (number place : ℕ) (ascend : books_ascend 
   -- a book that stands at the place is there
   pub there_by : (state : State) → passes (λ (book : LearnedBook). book.number == number) (slice_get items place) ≡ true → keeps_book (record { state = state; spare = map spare items }) number ≡ true
   there_by state there =
-      ap is_some (find_read spare (λ s. s.number == number) items ∙ ap (option_map spare) found) ∙ by (slice_get items place) there
+      ap is_some (find-map spare (λ s. s.number == number) items ∙ ap (option_map spare) found) ∙ by (slice_get items place) there
     where
       by : (item : Option LearnedBook) → passes (λ (book : LearnedBook). book.number == number) item ≡ true
           → is_some (option_map spare (option_and_then (λ (book : LearnedBook). cond (book.number == number) (Some book) None) item)) ≡ true
@@ -158,12 +164,12 @@ module _ (items : List LearnedBook) (number place : ℕ) (ascend : books_ascend 
 
     -- its rows
     pub rows_here : rows_of (kept items) number ≡ book.rows.items
-    rows_here = ap book_rows (find_read numbered (λ (b : NumberedBook). b.number == number) items ∙ ap (option_map numbered) found_here)
+    rows_here = ap book_rows (find-map numbered (λ (b : NumberedBook). b.number == number) items ∙ ap (option_map numbered) found_here)
 
     -- and its room
     pub room_here : (state : State) → 0 < spare_of (record { state = state; spare = map spare items }) number → vec_len book.rows < vec_capacity book.rows
     room_here state room =
-        let same = ap changes_of (find_read spare (λ s. s.number == number) items ∙ ap (option_map spare) found_here) in
+        let same = ap changes_of (find-map spare (λ s. s.number == number) items ∙ ap (option_map spare) found_here) in
         omega (arith, room, same)
 
     -- what a book with more room leaves as it was
@@ -189,7 +195,7 @@ module _ (items : List LearnedBook) (number place : ℕ) (ascend : books_ascend 
       room_grown state room =
           let within = place_within (λ (b : LearnedBook). b.number == number) items place (ap (passes (λ (b : LearnedBook). b.number == number)) at.here ∙ at.has) in
           let there = found_put (λ (b : LearnedBook). b.number) nat_lt (λ a b. a == b) number_keys number after items place point within (ap (λ n. n == number) number_same ∙ at.has) in
-          let same = ap changes_of (find_read spare (λ s. s.number == number) (set items place after) ∙ ap (option_map spare) there) in
+          let same = ap changes_of (find-map spare (λ s. s.number == number) (set items place after) ∙ ap (option_map spare) there) in
           omega (arith, room, same)
 
     module _ (rows : ℕ) (keeps : IsKept (kept items) rows) where

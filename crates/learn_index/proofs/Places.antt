@@ -3,17 +3,17 @@ use Rattle.std.proofs.Common.{◌≡◌, ◌==◌, ℕ, zero, suc, ◌<◌, ◌�
 use Rattle.std.specs.Cmp.{IsStrictWeakOrder}
 use Rattle.std.specs.List.{filter, list_all, insert, remove}
 use Rattle.std.specs.List.Sorted.{IsPartitionedBy, IsPartitionPoint}
-use Rattle.std.specs.Option.{option_and_then, option_map}
+use Rattle.std.specs.Option.{option_and_then}
 use Rattle.std.proofs.lemmas.Bool.{and_from, and_parts, eqb-true, not_from_false}
 use Rattle.std.proofs.lemmas.Bool.Decides.{nat_tests}
 use Rattle.std.proofs.lemmas.List.{get_or-map, length-map}
-use Rattle.std.proofs.lemmas.List.Folds.{list_all-map}
+use Rattle.std.proofs.lemmas.List.MinMax.{IsStrictWeakOrder-by_number}
 use Rattle.std.proofs.lemmas.List.Sums.{AllPass-from_list_all}
 use Rattle.skk_text.specs.Pairs.{all_pairs}
 use Rattle.skk_text.specs.PairsLaws.{list_all-weaker}
 use Rattle.skk_text.specs.FilterLaws.{filter_all, find_none}
 use Rattle.skk_calls.specs.KeyLaws.{same_key_equal}
-use Rattle.skk_calls.specs.OrderLaws.{less_trans, key_order, keys_apart}
+use Rattle.skk_calls.specs.OrderLaws.{insert_first, less_trans, key_order, keys_apart}
 use Rattle.skk_calls.specs.Orders.{insert_by, key_less}
 use Rattle.skk_calls.specs.Rows.{same_key}
 use Rattle.skk_calls.specs.RowsInOrder.{less_differs, greater_differs}
@@ -26,11 +26,6 @@ pub record Keys {K : Type 0} (less same : K → K → Bool) : Type 0 where
   pub less_differs : (key other : K) → less key other ≡ true → same key other ≡ false
   pub greater_differs : (key other : K) → less key other ≡ true → same other key ≡ false
   pub apart : (key other : K) → same key other ≡ false → (less key other || less other key) ≡ true
-
--- an item that is less than all others is put at their front
-pub insert_first : {X : Type 0} (before : X → X → Bool) (x : X) (xs : List X) → list_all (before x) xs ≡ true → insert_by before x xs ≡ x ∷ xs
-insert_first before x [] all = refl
-insert_first before x (y ∷ ys) all = rw ((and_parts (before x y) (list_all (before x) ys) all).0) refl
 
 module _ {X K : Type 0} (key : X → K) (less same : K → K → Bool) (keys : Keys less same) where
   -- the items without that of a key, and with this one in its place
@@ -183,14 +178,8 @@ row_keys = record { order = key_order; equal = same_key_equal; less_differs = le
 
 -- the numbers of books in order
 pub number_keys : Keys nat_lt (λ a b. a == b)
-number_keys = record { order = record { one_way = one_way; chain = chain }; equal = eqb-true; less_differs = less; greater_differs = greater_number; apart = apart_numbers }
+number_keys = record { order = IsStrictWeakOrder-by_number (λ (n : ℕ). n); equal = eqb-true; less_differs = less; greater_differs = greater_number; apart = apart_numbers }
   where
-    one_way : (a b : ℕ) → nat_lt a b ≡ true → nat_lt b a ≡ false
-    one_way a b e = grind (arith, nat_tests)
-
-    chain : (a b c : ℕ) → nat_lt a b ≡ false → nat_lt b c ≡ false → nat_lt a c ≡ false
-    chain a b c e f = grind (arith, nat_tests)
-
     less : (a b : ℕ) → nat_lt a b ≡ true → (a == b) ≡ false
     less a b e = grind (arith, nat_tests)
 
@@ -200,11 +189,6 @@ number_keys = record { order = record { one_way = one_way; chain = chain }; equa
     apart_numbers : (a b : ℕ) → (a == b) ≡ false → (nat_lt a b || nat_lt b a) ≡ true
     apart_numbers a b e = grind (arith, nat_tests)
 
--- two items of a list that is read stand as what is read of them
-pub pairs_read : {X Y : Type 0} (f : X → Y) (test : Y → Y → Bool) (xs : List X) → all_pairs test (map f xs) ≡ all_pairs (λ x y. test (f x) (f y)) xs
-pairs_read f test [] = refl
-pairs_read f test (x ∷ xs) = rw (list_all-map (test (f x)) f xs, pairs_read f test xs) refl
-
 -- the place of a list is that of what is read of it
 pub place_read : {X Y : Type 0} (f : X → Y) (p : Y → Bool) (xs : List X) (i : ℕ) → i ≤ length xs
     → IsPartitionPoint (λ x. p (f x) ≡ true) (λ x. p (f x) ≡ false) xs i → IsPartitionPoint (λ y. p y ≡ true) (λ y. p y ≡ false) (map f xs) i
@@ -213,13 +197,3 @@ place_read f p (x ∷ xs) i le point = (
   λ k d low high. ap p (get_or-map f (x ∷ xs) k x d (omega (arith, le, high))) ∙ point.0 k x low high,
   λ k d low high. let within : k < length (x ∷ xs) = omega (arith, high, length-map (x ∷ xs) f) in ap p (get_or-map f (x ∷ xs) k x d within) ∙ point.1 k x low within,
 )
-
--- what is found among what is read of items
-pub find_read : {X Y : Type 0} (f : X → Y) (p : Y → Bool) (xs : List X) → find p (map f xs) ≡ option_map f (find (λ x. p (f x)) xs)
-find_read f p [] = refl
-find_read f p (x ∷ xs) = by (p (f x)) (find_read f p xs)
-  where
-    by : (b : Bool) → find p (map f xs) ≡ option_map f (find (λ y. p (f y)) xs)
-        → cond b (Some (f x)) (find p (map f xs)) ≡ option_map f (cond b (Some x) (find (λ y. p (f y)) xs))
-    by true rest = refl
-    by false rest = rest

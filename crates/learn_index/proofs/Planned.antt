@@ -1,14 +1,11 @@
 -- What a plan leaves is what the call that was planned leaves, and it is valid.
-use Rattle.std.proofs.Common.{◌≡◌, ◌==◌, ℕ, ◌+◌, ◌<◌, Bool, true, false, cond, not, ◌&&◌, nat_lt, nat_le, Option, None, Some, List, [], ◌∷◌, refl, sym, ap, ◌∙◌, subst, arith}
-use Rattle.std.specs.List.{list_all}
+use Rattle.std.proofs.Common.{◌≡◌, ◌==◌, ℕ, ◌+◌, ◌<◌, Bool, true, false, cond, not, ◌&&◌, nat_lt, nat_le, Option, None, Some, List, [], refl, sym, ap, ◌∙◌, subst, arith}
 use Rattle.std.specs.Option.{IfSome}
 use Rattle.skk_text.specs.Counts.{last_count}
 use Rattle.std.proofs.lemmas.Bool.{and_from, and_parts, eqb-true, leb-true, not_from_false}
 use Rattle.std.proofs.lemmas.Bool.Decides.{nat_tests}
-use Rattle.std.proofs.lemmas.List.Sorted.{IsPermutation-sym}
-use Rattle.skk_text.specs.FilterLaws.{filter_all, list_all_found}
+use Rattle.skk_text.specs.FilterLaws.{filter_all}
 use Rattle.skk_text.specs.PairsLaws.{list_all-weaker}
-use Rattle.skk_calls.specs.declared.book.NumberedBook.{NumberedBook}
 use Rattle.skk_calls.specs.declared.answer.Reply.{Reply}
 use Rattle.skk_calls.specs.declared.answer.Reply.TheVariants.{Learned, Purged, Unchanged, Restored, Overtaken, TooBig, StampsEnd}
 use Rattle.skk_calls.specs.declared.call.Call.{Call}
@@ -18,14 +15,11 @@ use Rattle.skk_calls.specs.Canonical.{is_good, line_limit}
 use Rattle.skk_calls.specs.Dictionary.{answer, after, state_moved, speaks_of, is_change, is_call, is_fit, is_row_or_none, is_stamped, stamp_of, line_length, change_reply}
 use Rattle.skk_calls.specs.KeyLaws.{same_key_equal, same_key_itself}
 use Rattle.skk_calls.specs.Learning.{learnt, purged, purge_changes, is_row_before, is_valid_learned}
-use Rattle.skk_calls.specs.OrderLaws.{holds_moved, insert_moves}
 use Rattle.skk_calls.specs.Rows.{RowKey, Cand, Row, Learned as LearnedRow, same_key, is_row_key, is_row}
 use Rattle.skk_calls.specs.RowLaws.{row_parts}
-use Rattle.skk_calls.specs.States.{State, row_in, book_at, book_rows, rows_of, row_at, count_of, without_row, without_book, with_book, with_row, state_with, rows_ascend, has_stamp, fits_count, is_book, books_ascend, is_valid}
-use Rattle.dict_laws.proofs.Changing.{has_key, row_in_has_key, number_itself, row_at_changed, count_of_changed}
-use Rattle.dict_laws.proofs.Keeping.{before_has_key}
-use Rattle.dict_laws.proofs.KeptBooks.{fits_after, fits_row_at, is_valid_changed}
-use Rattle.dict_laws.proofs.TakenBack.{after_moved}
+use Rattle.skk_calls.specs.States.{State, row_in, rows_of, row_at, count_of, without_row, with_book, state_with, has_stamp, fits_count, is_valid}
+use Rattle.dict_laws.specs.ChangedStates.{after_moved, before_has_key, book_at_changed, changed_book, count_of_changed, has_key, number_itself, row_at_changed, row_in_has_key}
+use Rattle.dict_laws.specs.ValidStates.{fits_after, fits_row_at, is_valid_changed, parts_at, rows_of_fit}
 use Rattle.learn_index.specs.declared.plan.Plan.{Plan}
 use Rattle.learn_index.specs.declared.plan.Plan.TheVariants.{Still, Move}
 use Rattle.learn_index.specs.Plans.{IsPlanned, IsMade}
@@ -75,18 +69,8 @@ module _ (state : State) (book count : ℕ) (key : RowKey) (row : Option Row) (r
 -- a book of a valid state has a count
 pub some_count : (state : State) (book count : ℕ) (key : RowKey) (row : Option Row) → is_valid (state_with state book count key row) ≡ true → 0 < count
 some_count state book count key row valid =
-    let rows = with_row key row (rows_of state book) in
-    let new = changed_book in
-    let others = without_book book state.books in
-    let books = (and_parts (books_ascend (with_book new state.books)) (list_all is_book (with_book new state.books)) valid).1 in
-    let before = λ (b other : NumberedBook). nat_lt b.number other.number in
-    let all = holds_moved is_book (with_book new state.books) (new ∷ others) (IsPermutation-sym (new ∷ others) (with_book new state.books) (insert_moves before new others)) books in
-    let here = (and_parts (is_book new) (list_all is_book others) all).0 in
-    let some = leb-true 1 count (and_parts (nat_le 1 count) (rows_ascend rows && list_all (fits_count count) rows) here).0 in
-    omega (arith, some)
-  where
-    changed_book : NumberedBook
-    changed_book = record { number = book; count = count; rows = with_row key row (rows_of state book) }
+    let parts = parts_at (state_with state book count key row) book valid (changed_book state book count key row) (book_at_changed state book count key row) in
+    omega (arith, leb-true 1 count parts.count)
 
 -- What is rebuilt
 
@@ -117,7 +101,11 @@ abbrev no_key : RowKey
 no_key = record { part = Nasi; reading = [] }
 
 none_there : (state : State) (book : ℕ) → is_valid state ≡ true → without_row no_key (rows_of state book) ≡ rows_of state book
-none_there state book valid = by (book_at state book) refl
+none_there state book valid =
+    filter_all (λ (row : Row). not (same_key row.key no_key)) (rows_of state book)
+    (list_all-weaker (fits_count (count_of state book)) (λ row. not (same_key row.key no_key))
+    (λ row fits. not_from_false (same_key row.key no_key) (differs row (and_parts (is_row row) (is_good row && has_stamp (count_of state book) row) fits).0)) (rows_of state book)
+    (rows_of_fit state book valid))
   where
     differs : (row : Row) → is_row row ≡ true → same_key row.key no_key ≡ false
     differs row e = either (same_key row.key no_key) refl
@@ -127,17 +115,6 @@ none_there state book valid = by (book_at state book) refl
             let valid_key : is_row_key no_key ≡ true = ap is_row_key (sym (same_key_equal row.key no_key f)) ∙ (row_parts row e).key in
             cc
         either false f = refl
-
-    by : (found : Option NumberedBook) → book_at state book ≡ found → without_row no_key (book_rows found) ≡ book_rows found
-    by None e = refl
-    by (Some b) e =
-        let books = (and_parts (books_ascend state.books) (list_all is_book state.books) valid).1 in
-        let here = list_all_found is_book (λ (other : NumberedBook). other.number == book) state.books b books e in
-        let more = (and_parts (nat_le 1 b.count) (rows_ascend b.rows && list_all (fits_count b.count) b.rows) here).1 in
-        let fit = (and_parts (rows_ascend b.rows) (list_all (fits_count b.count) b.rows) more).1 in
-        filter_all (λ (row : Row). not (same_key row.key no_key)) b.rows
-        (list_all-weaker (fits_count b.count) (λ row. not (same_key row.key no_key))
-        (λ row f. not_from_false (same_key row.key no_key) (differs row (and_parts (is_row row) (is_good row && has_stamp b.count row) f).0)) b.rows fit)
 
 -- a book may get a later count
 pub count_valid : (state : State) (book count : ℕ) → is_valid state ≡ true → 0 < count → nat_le (count_of state book) count ≡ true → is_valid (state_counted state book count) ≡ true

@@ -54,7 +54,8 @@ sort_moves before (x ∷ xs) =
 pub list_all-sort_by : {X : Type 0} (before : X → X → Bool) (p : X → Bool) (xs : List X) → list_all p xs ≡ true → list_all p (sort_by before xs) ≡ true
 list_all-sort_by before p xs all = holds_moved p xs (sort_by before xs) (sort_moves before xs) all
 
-insert_first : {X : Type 0} (before : X → X → Bool) (x : X) (xs : List X) → list_all (before x) xs ≡ true → insert_by before x xs ≡ x ∷ xs
+-- an item that is before all others is put at their front
+pub insert_first : {X : Type 0} (before : X → X → Bool) (x : X) (xs : List X) → list_all (before x) xs ≡ true → insert_by before x xs ≡ x ∷ xs
 insert_first before x [] all = refl
 insert_first before x (y ∷ ys) all = rw ((and_parts (before x y) (list_all (before x) ys) all).0) refl
 

@@ -1,9 +1,9 @@
 -- What holds of lists of which each item passes a test, or every two items stand in a relation.
-use Rattle.std.specs.Prelude.{◌≡◌, ℕ, Bool, true, false, List, [], ◌∷◌, ◌++◌, take}
+use Rattle.std.specs.Prelude.{◌≡◌, ℕ, Bool, true, false, ◌&&◌, List, [], ◌∷◌, ◌++◌, map, take}
 use Rattle.std.specs.List.{filter, list_all}
-use Rattle.std.proofs.Common.{cond, refl, zero, suc, ◌∙◌}
+use Rattle.std.proofs.Common.{cond, refl, zero, suc, ap, ◌∙◌}
 use Rattle.std.proofs.lemmas.Bool.{and_from, and_parts}
-use Rattle.std.proofs.lemmas.List.Folds.{list_all-append}
+use Rattle.std.proofs.lemmas.List.Folds.{list_all-append, list_all-map}
 use Rattle.skk_text.specs.Pairs.{all_pairs}
 
 module _ {X : Type 0} (test : X → Bool) where
@@ -56,6 +56,13 @@ module _ {X : Type 0} (test : X → X → Bool) where
       let parts = and_parts (list_all (test x) xs) (all_pairs test xs) all in
       and_from (list_all (test x) (take count xs)) (all_pairs test (take count xs)) (list_all-take (test x) count xs parts.0)
       (all_pairs-take count xs parts.1)
+
+-- what is made of each two items passes a test as these pass it
+pub all_pairs-map : {X Y : Type 0} (f : X → Y) (test : Y → Y → Bool) (xs : List X) → all_pairs test (map f xs) ≡ all_pairs (λ x y. test (f x) (f y)) xs
+all_pairs-map f test [] = refl
+all_pairs-map f test (x ∷ xs) =
+    ap (λ b. b && all_pairs test (map f xs)) (list_all-map (test (f x)) f xs)
+    ∙ ap (λ b. list_all (λ y. test (f x) (f y)) xs && b) (all_pairs-map f test xs)
 
 -- what each two items pass, they pass of another test that is no harder
 pub pairs_weaker : {X : Type 0} (test other : X → X → Bool) → ((x y : X) → test x y ≡ true → other x y ≡ true) → (xs : List X) → all_pairs test xs ≡ true → all_pairs other xs ≡ true

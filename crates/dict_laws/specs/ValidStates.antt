@@ -1,9 +1,9 @@
--- A valid state stays valid where a row that may stand in a book changes there.
+-- What the books of a valid state keep, and that it stays valid where a row that may stand in a book changes there.
 use Rattle.std.proofs.Common.{◌≡◌, ℕ, Bool, true, false, not, ◌&&◌, ◌||◌, ◌==◌, nat_lt, nat_le, None, Some, Option, List, refl, sym, subst, arith}
 use Rattle.std.proofs.lemmas.Bool.Decides.{nat_tests}
-use Rattle.std.specs.Cmp.{IsStrictWeakOrder}
 use Rattle.std.specs.List.{list_all}
 use Rattle.std.proofs.lemmas.Bool.{and_from, and_parts, not-true}
+use Rattle.std.proofs.lemmas.List.MinMax.{IsStrictWeakOrder-by_number}
 use Rattle.skk_text.specs.PairsLaws.{list_all-filter, list_all-weaker, all_pairs-filter}
 use Rattle.skk_text.specs.FilterLaws.{list_all_found, list_all_kept}
 use Rattle.skk_calls.specs.KeyLaws.{same_key_equal, same_key_other}
@@ -13,7 +13,7 @@ use Rattle.skk_calls.specs.OrderLaws.{insert_ascends, key_order, keys_apart, lis
 use Rattle.skk_calls.specs.Orders.{key_less}
 use Rattle.skk_calls.specs.Rows.{RowKey, Row, same_key, is_row}
 use Rattle.skk_calls.specs.States.{State, book_at, book_rows, book_count, rows_of, row_at, count_of, without_row, with_row, without_book, with_book, state_with, rows_ascend, has_stamp, fits_count, is_book, books_ascend, is_valid}
-use Rattle.dict_laws.proofs.Changing.{has_key, changed_book}
+use Rattle.dict_laws.specs.ChangedStates.{has_key, changed_book}
 
 -- Rows
 
@@ -61,10 +61,10 @@ fits_with_row count key (Some row) rows new all =
 -- Books
 
 -- what a book keeps
-record BookParts (book : NumberedBook) : Type 0 where
-  count : nat_le 1 book.count ≡ true
-  ascend : rows_ascend book.rows ≡ true
-  fit : list_all (fits_count book.count) book.rows ≡ true
+pub record BookParts (book : NumberedBook) : Type 0 where
+  pub count : nat_le 1 book.count ≡ true
+  pub ascend : rows_ascend book.rows ≡ true
+  pub fit : list_all (fits_count book.count) book.rows ≡ true
 
 -- a book has its parts
 book_parts : (book : NumberedBook) → is_book book ≡ true → BookParts book
@@ -79,13 +79,13 @@ module _ (state : State) (number : ℕ) (valid : is_valid state ≡ true) where
   state_books = (and_parts (books_ascend state.books) (list_all is_book state.books) valid).1
 
   -- each book of a valid state has its parts
-  parts_at : (book : NumberedBook) → book_at state number ≡ Some book → BookParts book
+  pub parts_at : (book : NumberedBook) → book_at state number ≡ Some book → BookParts book
   parts_at book e =
       book_parts book
       (list_all_found is_book (λ (b : NumberedBook). b.number == number) state.books book state_books e)
 
   -- the rows of a book of a valid state ascend
-  rows_of_ascend : rows_ascend (rows_of state number) ≡ true
+  pub rows_of_ascend : rows_ascend (rows_of state number) ≡ true
   rows_of_ascend = by (book_at state number) parts_at
     where
       by : (book : Option NumberedBook) → ((b : NumberedBook) → book ≡ Some b → BookParts b) → rows_ascend (book_rows book) ≡ true
@@ -93,7 +93,7 @@ module _ (state : State) (number : ℕ) (valid : is_valid state ≡ true) where
       by (Some book) parts = (parts book refl).ascend
 
   -- and may stand in it
-  rows_of_fit : list_all (fits_count (count_of state number)) (rows_of state number) ≡ true
+  pub rows_of_fit : list_all (fits_count (count_of state number)) (rows_of state number) ≡ true
   rows_of_fit = by (book_at state number) parts_at
     where
       by : (book : Option NumberedBook) → ((b : NumberedBook) → book ≡ Some b → BookParts b)
@@ -115,21 +115,11 @@ module _ (state : State) (number : ℕ) (valid : is_valid state ≡ true) where
 numbers_apart : (a b : ℕ) → not (b == a) ≡ true → (nat_lt a b || nat_lt b a) ≡ true
 numbers_apart a b other = grind (arith, nat_tests)
 
--- the order of numbers is one
-number_order : IsStrictWeakOrder nat_lt
-number_order = record { one_way = one_way; chain = chain }
-  where
-    one_way : (a b : ℕ) → nat_lt a b ≡ true → nat_lt b a ≡ false
-    one_way a b ab = grind (arith, nat_tests)
-
-    chain : (a b c : ℕ) → nat_lt a b ≡ false → nat_lt b c ≡ false → nat_lt a c ≡ false
-    chain a b c ab bc = grind (arith, nat_tests)
-
 -- books with one in place of that of its number ascend
-books_ascend_with_book : (book : NumberedBook) (books : List NumberedBook) → books_ascend books ≡ true
+pub books_ascend_with_book : (book : NumberedBook) (books : List NumberedBook) → books_ascend books ≡ true
     → books_ascend (with_book book books) ≡ true
 books_ascend_with_book book books ascend =
-    insert_ascends (λ (b other : NumberedBook). nat_lt b.number other.number) (order_read (λ (b : NumberedBook). b.number) nat_lt number_order) book (without_book book.number books)
+    insert_ascends (λ (b other : NumberedBook). nat_lt b.number other.number) (IsStrictWeakOrder-by_number (λ (b : NumberedBook). b.number)) book (without_book book.number books)
     (list_all-weaker (λ (other : NumberedBook). not (other.number == book.number))
     (λ (other : NumberedBook). nat_lt book.number other.number || nat_lt other.number book.number)
     (λ (other : NumberedBook). numbers_apart book.number other.number) (without_book book.number books)

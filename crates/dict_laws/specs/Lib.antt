@@ -1,0 +1,2 @@
+pub mod ChangedStates
+pub mod ValidStates
