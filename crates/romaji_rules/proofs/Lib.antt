@@ -2,6 +2,7 @@ pub mod Begins
 mod Examples
 pub mod Fits
 pub mod Found
-pub mod Looking
+pub mod InOrder
+pub mod Indexed
 pub mod Rows
 pub mod Step

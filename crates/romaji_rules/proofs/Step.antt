@@ -68,7 +68,7 @@ module _ (rules : List Rule) where
       subst P e (fed-exact pending c)
 
 -- two rules with one input are one rule
-same_rule : (rules : List Rule) → inputs_differ rules ≡ true → (a b : Rule) → Contains rules a → Contains rules b → a.input ≡ b.input → a ≡ b
+pub same_rule : (rules : List Rule) → inputs_differ rules ≡ true → (a b : Rule) → Contains rules a → Contains rules b → a.input ≡ b.input → a ≡ b
 same_rule [] d a b x y e = absurd (omega (arith, x.1))
 same_rule (rule ∷ rules) d a b x y e = by (Contains-cases rule rules a x) (Contains-cases rule rules b y) (same_rule rules parts.1 a b)
   where
@@ -99,7 +99,7 @@ module _ (rules : List Rule) (differ : inputs_differ rules ≡ true) where
           let same : h.0 ≡ rule = same_rule rules differ h.0 rule h.1 at.0 (h.2 ∙ sym at.1) in
           (rule, e, sym (ap (λ (r : Rule). r.next) same) ∙ h.3, sym (ap (λ (r : Rule). r.out) same) ∙ h.4)
 
-  no_rule : (text : List ℕ) → ¬ IsInput rules text → rule_of rules text ≡ None
+  pub no_rule : (text : List ℕ) → ¬ IsInput rules text → rule_of rules text ≡ None
   no_rule text none = by (rule_of rules text) refl
     where
       by : (o : Option Rule) → rule_of rules text ≡ o → rule_of rules text ≡ None

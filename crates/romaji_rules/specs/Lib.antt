@@ -1,5 +1,6 @@
 pub mod Fed
 pub mod Fitting
+pub mod InOrder
 pub mod Output
 pub mod Standard
 pub mod Standing

@@ -1,17 +1,18 @@
 //! The romaji automaton: a rule set turns the letters that are typed into kana.
 //!
-//! It stands on `skk_text`. A rule set is seen as the list of its rules. `Rules::standard` is the
+//! It stands on `skk_text`, and for the laws of lists in order on `skk_calls`. A rule set is seen as the list of its rules. `Rules::standard` is the
 //! standard table; `Rules::feed` makes exactly the step that the rules define, which `one_step` says
 //! is the only one, and `Rules::flush` gives out what is pending, of which `one_flush` says the same.
 //! `feed` is two calls, which may be made one by one: `Rules::extend` reads a letter that goes on with
 //! what is pending, and `Rules::feed_anew` one that does not. `Rules::goes_on` is the test of that
-//! alone. Each of them goes over the rules once for a text that it looks for.
+//! alone. A text is looked for by halves, among the places of the rules in order by their inputs.
 #![tactic(auto)]
 
 mod laws;
 mod out;
 mod pending;
 mod rule;
+mod rule_list;
 mod rules;
 mod standard;
 mod standing;

@@ -1,14 +1,14 @@
 ghost use Rattle.std.specs.Prelude.{◌≡◌, ◌≤◌, ◌<◌, ◌↔◌, ◌⊎◌, IsTrue, true, false, ℕ, List, [], ◌∷◌, ◌++◌, length, is_some, OnOk, OnErr, IfOk, IfSome, IsSome, IsNone};
 ghost use Rattle.std.specs.Option.{option_copied};
 ghost use Rattle.romaji_rules.specs.Standing.{IsStanding};
-ghost use Rattle.romaji_rules.specs.Typed.{rule_of, goes_on, extends_pending, flushed, fed, fed_alone};
+ghost use Rattle.romaji_rules.specs.Typed.{goes_on, extends_pending, flushed, fed, fed_alone};
 ghost use Rattle.romaji_rules.specs.Fed.{Fed, Flushed, GoesOn, BeginsInput};
 ghost use Rattle.romaji_rules.specs.Fitting.{is_rule_set};
 ghost use Rattle.romaji_rules.specs.Standard.{standard};
 
 use crate::out::Out;
 use crate::pending::Pending;
-use crate::rule::Rule;
+use crate::rule_list::RuleList;
 use crate::standard::standard_rules;
 use crate::standing::Standing;
 use arrayvec::ArrayVec;
@@ -19,7 +19,7 @@ use std::marker::Model;
 /// A rule set.
 #[derive(Debug, Drop)]
 pub struct Rules {
-    rules: Vec<Rule>,
+    rules: RuleList,
 }
 
 impl Model for Rules {
@@ -29,9 +29,9 @@ impl Model for Rules {
 
     ghost Value = { List Rule };
 
-    ghost view = { λ r. r.rules.items };
+    ghost view = { λ r. r.rules };
 
-    ghost invariant = { λ r. is_rule_set r.rules.items ≡ true };
+    ghost invariant = { λ r. is_rule_set r.rules ≡ true };
 }
 
 impl Rules {
@@ -39,12 +39,14 @@ impl Rules {
     pub fn standard(alloc: Global) -> Result<Rules, Memory>
         ensures { IfOk result (λ rules. rules ≡ standard) }
     {
+        let rules = standard_rules(alloc)?;
         Ok(Rules {
-            rules: standard_rules(alloc)?,
+            rules: RuleList::of(alloc, rules)?,
         })
     }
 
-    /// Whether what is pending, followed by `c`, is an input or begins one. Takes time in the number of rules.
+    /// Whether what is pending, followed by `c`, is an input or begins one. Takes time with a logarithm in the
+    /// number of rules.
     pub fn goes_on(&self, pending: &Pending, c: u8) -> bool
         ensures exact { IsTrue result ↔ GoesOn self.now (pending.now ++ c ∷ []) }
         ensures computed { result ≡ goes_on self.now (pending.now ++ c ∷ []) }
@@ -56,7 +58,7 @@ impl Rules {
     }
 
     /// Reads a character: what is pending changes, and the output comes out. After `Memory` the same is
-    /// pending as before. Takes time in the number of rules.
+    /// pending as before. Takes time with a logarithm in the number of rules.
     pub fn feed(&self, alloc: Global, pending: &mut Pending, c: u8) -> Result<Out, Memory>
         ensures exact { IfOk result (λ out. Fed self.now pending.old c pending.new out) }
         ensures computed { IfOk result (λ out. fed self.now pending.old c ≡ record { pending = pending.new; out = out }) }
@@ -70,8 +72,8 @@ impl Rules {
     }
 
     /// Reads a character as `feed` does, where something is pending and it goes on with that. Where it does not,
-    /// there is no output, and then, as after `Memory`, the same is pending as before. Takes time in the number
-    /// of rules.
+    /// there is no output, and then, as after `Memory`, the same is pending as before. Takes time with a logarithm in
+    /// the number of rules.
     pub fn extend(&self, alloc: Global, pending: &mut Pending, c: u8) -> Result<Option<Out>, Memory>
         ensures exact { IfOk result (λ out. is_some out ≡ extends_pending self.now pending.old c) }
         ensures computed { IfOk result (λ out. IfSome out (λ o. fed self.now pending.old c ≡ record { pending = pending.new; out = o })) }
@@ -86,7 +88,7 @@ impl Rules {
     }
 
     /// Reads a character as `feed` does, where `extend` gave no output for it. After `Memory` the same is pending
-    /// as before. Takes time in the number of rules.
+    /// as before. Takes time with a logarithm in the number of rules.
     pub fn feed_anew(&self, alloc: Global, pending: &mut Pending, c: u8) -> Result<Out, Memory>
         requires { extends_pending self.now pending.old c ≡ false }
         ensures computed { IfOk result (λ out. fed self.now pending.old c ≡ record { pending = pending.new; out = out }) }
@@ -142,7 +144,7 @@ impl Rules {
     }
 
     /// Gives out what is pending: its output where it is an input, else nothing. Nothing is pending then.
-    /// After `Memory` the same is pending as before. Takes time in the number of rules.
+    /// After `Memory` the same is pending as before. Takes time with a logarithm in the number of rules.
     pub fn flush(&self, alloc: Global, pending: &mut Pending) -> Result<Out, Memory>
         ensures exact { IfOk result (λ out. Flushed self.now pending.old out) }
         ensures computed { IfOk result (λ out. out ≡ flushed self.now pending.old) }
@@ -171,35 +173,21 @@ impl Rules {
     fn flushed(&self, alloc: Global, pending: &Pending) -> Result<Out, Memory>
         ensures { IfOk result (λ out. out ≡ flushed self.now pending.now) }
     {
-        match self.rule_of(pending.as_slice()) {
+        match self.rules.rule_of(pending.as_slice()) {
             Some(rule) => rule.out.copy(alloc),
             None => Ok(Out::nothing(alloc)),
         }
     }
 
-    // The rule whose input is the text.
-    fn rule_of(&self, text: &[u8]) -> Option<&Rule>
-        ensures { option_copied result ≡ rule_of self.now text.now }
-    {
-        self.rules.iter().find(|rule| rule.input.as_slice() == text)
-    }
-
-    // What the text is among the inputs. Goes over the rules once.
+    // What the text is among the inputs.
     fn standing(&self, text: &[u8]) -> Standing<'_>
         ensures standing { IsStanding self.now text.now result }
         ensures fits { is_rule_set self.now ≡ true }
     {
-        let mut found = None;
-        for rule in &self.rules {
-            let input = rule.input.as_slice();
-            if input.starts_with(text) {
-                if text.len() < input.len() {
-                    return Standing::Begins;
-                }
-                found = found.or(Some(rule));
-            }
+        if self.rules.begins_input(text) {
+            return Standing::Begins;
         }
-        match found {
+        match self.rules.rule_of(text) {
             Some(rule) => Standing::Input(rule),
             None => Standing::Neither,
         }

@@ -8,6 +8,7 @@ pub mod Lines
 pub mod Modes
 pub mod Pairs
 pub mod PairsLaws
+pub mod Places
 pub mod Results
 pub mod Text
 pub mod TextLaws
