@@ -13,11 +13,10 @@ use Rattle.skk_calls.specs.Orders.{key_less, sort_by, text_less, row_less}
 use Rattle.skk_calls.specs.Rows.{RowKey, Row, keys_differ}
 use Rattle.skk_calls.specs.States.{row_in}
 use Rattle.skk_calls.specs.Walks.{next_above, texts_ascend}
-use Rattle.dict_layers.specs.Finding.{passes}
-use Rattle.dict_layers.specs.InOrder.{is_walked, walked_readings, HasAt}
+use Rattle.skk_text.specs.Places.{HasAt, passes, found_at, partitioned}
+use Rattle.dict_layers.specs.InOrder.{is_walked, walked_readings}
 use Rattle.dict_layers.specs.WalkLaws.{walked_ascend}
 use Rattle.skk_calls.specs.RowsInOrder.{if_same, row_in_order, row_not_less, rows_apart}
-use Rattle.dict_layers.proofs.Places.{found_at, partitioned}
 use Rattle.dict_layers.proofs.Walking.{walked_in_order}
 use Rattle.std.specs.Cmp.{IsStrictWeakOrder}
 

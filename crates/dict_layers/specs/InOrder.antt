@@ -1,6 +1,7 @@
 -- The rows of a file in order, and the readings that a walk goes over.
-use Rattle.std.specs.Prelude.{◌≡◌, ℕ, Bool, ◌&&◌, Some, List, [], map, slice_get}
+use Rattle.std.specs.Prelude.{ℕ, Bool, ◌&&◌, List, [], map}
 use Rattle.std.specs.List.{filter}
+use Rattle.skk_text.specs.Places.{HasAt}
 use Rattle.skk_calls.specs.declared.part.Part.TheVariants.{Nasi}
 use Rattle.skk_calls.specs.Canonical.{has_item}
 use Rattle.skk_calls.specs.Completions.{reading_of}
@@ -15,10 +16,6 @@ is_walked row = same_part row.key.part Nasi && has_item row.cands
 -- the readings of a file that a walk goes over, each once, ascending by their bytes
 abbrev pub walked_readings : List Row → List (List ℕ)
 walked_readings rows = sort_by text_less (first_of_each (λ reading. reading) [] (map reading_of (filter is_walked rows)))
-
--- at places of a list these items stand, in this order
-pub record HasAt {X : Type 0} (all : List X) (places : List ℕ) (items : List X) : Type 0 where
-  pub items_are : map (slice_get all) places ≡ map Some items
 
 -- places of a file's rows: those of all rows, in order by their keys, and of the rows that a walk comes by, likewise
 pub record IsIndex (rows : List Row) (by_key readings : List ℕ) : Type 0 where

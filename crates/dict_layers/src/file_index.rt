@@ -3,13 +3,14 @@ ghost use Rattle.std.specs.List.{filter};
 ghost use Rattle.std.specs.Option.{option_copied, option_and_then};
 ghost use Rattle.std.specs.Ordering.{is_lt};
 ghost use Rattle.skk_text.specs.Pairs.{all_pairs};
+ghost use Rattle.skk_text.specs.Places.{HasAt, passes};
 ghost use Rattle.skk_calls.specs.OrderLaws.{apart};
 ghost use Rattle.skk_calls.specs.Orders.{key_less, row_less, sort_by, text_less};
 ghost use Rattle.skk_calls.specs.Rows.{Row as row_value, keys_differ};
 ghost use Rattle.skk_calls.specs.States.{row_in};
 ghost use Rattle.skk_calls.specs.Walks.{next_above};
-ghost use Rattle.dict_layers.specs.Finding.{option_less, passes};
-ghost use Rattle.dict_layers.specs.InOrder.{is_walked, walked_readings, HasAt, IsIndex};
+ghost use Rattle.dict_layers.specs.Finding.{option_less};
+ghost use Rattle.dict_layers.specs.InOrder.{is_walked, walked_readings, IsIndex};
 
 use crate::orders::is_less;
 use skk_calls::{Part, Row, RowKey};

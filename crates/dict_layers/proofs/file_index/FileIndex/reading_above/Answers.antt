@@ -5,7 +5,7 @@ use Rattle.skk_calls.specs.Completions.{reading_of}
 use Rattle.skk_calls.specs.Orders.{text_less}
 use Rattle.skk_calls.specs.Rows.{RowKey}
 use Rattle.skk_calls.specs.Walks.{next_above}
-use Rattle.dict_layers.specs.Finding.{passes}
+use Rattle.skk_text.specs.Places.{passes}
 use Rattle.dict_layers.specs.InOrder.{walked_readings}
 use Rattle.dict_layers.proofs.Index.{readings_parted, reading_found}
 use Rattle.dict_layers.proofs.file_index.FileIndex.reading_above.Goals as goal

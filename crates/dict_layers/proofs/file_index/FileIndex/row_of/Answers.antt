@@ -4,7 +4,7 @@ use Rattle.std.proofs.lemmas.List.Sorted.{IsPartitionPoint-from_clause}
 use Rattle.skk_calls.specs.Orders.{key_less}
 use Rattle.skk_calls.specs.Rows.{same_key}
 use Rattle.skk_calls.specs.States.{row_in}
-use Rattle.dict_layers.specs.Finding.{passes}
+use Rattle.skk_text.specs.Places.{passes}
 use Rattle.dict_layers.proofs.Index.{keys_parted, key_found}
 use Rattle.skk_calls.specs.RowsInOrder.{if_same}
 use Rattle.dict_layers.proofs.file_index.FileIndex.row_of.Goals as goal
