@@ -14,8 +14,8 @@ use Rattle.reading_state.specs.declared.reading_do.AfterConfirm.TheVariants.{Not
 use Rattle.reading_state.specs.declared.reading_do.ReadingThen.{ReadingThen}
 use Rattle.reading_state.specs.declared.reading_do.ReadingThen.TheVariants.{Stay, Convert, AskCompletions, Drop, Confirm}
 use Rattle.reading_state.specs.Keys.{key_of, okuri_of}
-use Rattle.reading_state.specs.Puts.{Begun, Reading, new_reading, new_abbrev, is_open, later_notice}
-use Rattle.reading_state.specs.Reading.{ReadingStep, reading_step, step_to}
+use Rattle.reading_state.specs.Puts.{Begun, Reading, new_reading, new_abbrev, is_open, may_complete, later_notice}
+use Rattle.reading_state.specs.Reading.{ReadingStep, reading_step, step_to, completed}
 
 -- vowels, rows of k and t, n, doubled letters, and rules with outputs that are refused here or there
 abbrev rules : List Rule
@@ -32,7 +32,7 @@ rule_set = refl
 
 -- an open reading: its text, its okurigana, and what is pending
 abbrev opened : List ℕ → Option Begun → String → Reading
-opened text okuri pending = record { text = text; is_abbrev = false; okuri = okuri; pending = codes pending }
+opened text okuri pending = record { text = text; is_abbrev = false; okuri = okuri; pending = codes pending; completions = None }
 
 -- an okurigana that was begun: its letter, and its kana
 abbrev okuri : String → List ℕ → Option Begun
@@ -47,7 +47,7 @@ begun text letter kana = opened text (okuri letter kana) ""
 
 -- an abbreviation
 abbrev abbreviated : List ℕ → Reading
-abbreviated text = record { text = text; is_abbrev = true; okuri = None; pending = [] }
+abbreviated text = record { text = text; is_abbrev = true; okuri = None; pending = []; completions = None }
 
 -- the keys of characters
 abbrev chars : String → List Key
@@ -244,6 +244,55 @@ abbreviations : Makes (
     ∷ [])
 unfolding lib.Utf8.encode
 abbreviations = refl
+
+-- Completions
+
+-- か completed by three readings, of which the one of a place is shown
+abbrev readings : List (List ℕ)
+readings = codes "かん" ∷ codes "かんじ" ∷ codes "かき" ∷ []
+
+abbrev completed_at : ℕ → String → Reading
+completed_at place text = record (plain (codes text)) { completions = Some (record { readings = readings; place = place }) }
+
+-- the first of the readings replaces the one that they complete, and all are kept, or there are none
+completions : completed (opened (codes "か") None "") readings ≡ record { reading = completed_at 0 "かん"; notice = notices.Empty }
+completions = refl
+
+no_completion : completed (plain (codes "か")) [] ≡ record { reading = plain (codes "か"); notice = notices.NoCompletion }
+no_completion = refl
+
+-- Tab and `.` go to the next, `,` to the one before, and past either end the reading stays
+completions_in_turn : Makes (
+    (completed_at 0 "かん", Tab ∷ [], quiet (completed_at 1 "かんじ") Stay) ∷ (completed_at 0 "かん", chars ".", quiet (completed_at 1 "かんじ") Stay)
+    ∷ (completed_at 1 "かんじ", Tab ∷ [], quiet (completed_at 2 "かき") Stay) ∷ (completed_at 1 "かんじ", chars ".", quiet (completed_at 2 "かき") Stay)
+    ∷ (completed_at 2 "かき", Tab ∷ [], step_to (completed_at 2 "かき") notices.NoMore Stay) ∷ (completed_at 2 "かき", chars ".", step_to (completed_at 2 "かき") notices.NoMore Stay)
+    ∷ (completed_at 2 "かき", chars ",", quiet (completed_at 1 "かんじ") Stay) ∷ (completed_at 1 "かんじ", chars ",", quiet (completed_at 0 "かん") Stay)
+    ∷ (completed_at 0 "かん", chars ",", step_to (completed_at 0 "かん") notices.NoMore Stay) ∷ (completed_at 0 "かん", chars ".,", quiet (completed_at 0 "かん") Stay)
+    ∷ [])
+completions_in_turn = refl
+
+-- any other key gives the completions up, and is read where none are kept
+completions_given_up : Makes (
+    (completed_at 1 "かんじ", chars "n", quiet (opened (codes "かんじ") None "n") Stay) ∷ (completed_at 1 "かんじ", chars "a.", quiet (plain (codes "かんじあ.")) Stay)
+    ∷ (completed_at 1 "かんじ", chars " ", quiet (plain (codes "かんじ")) Convert) ∷ (completed_at 2 "かき", chars "q", quiet (plain (codes "かき")) (Confirm true Nothing))
+    ∷ (completed_at 1 "かんじ", chars "-", quiet (plain (codes "かんじ-")) Stay) ∷ (completed_at 1 "かんじ", chars "/", quiet (plain (codes "かんじ/")) Stay)
+    ∷ (completed_at 2 "かき", chars "K", quiet (opened (codes "かき") (okuri "k" []) "k") Stay) ∷ (completed_at 2 "かき", chars ">", quiet (plain (codes "かき>")) Convert)
+    ∷ (completed_at 1 "かんじ", Cj ∷ [], quiet (plain (codes "かんじ")) (Confirm false Nothing)) ∷ (completed_at 1 "かんじ", Ret ∷ [], quiet (plain (codes "かんじ")) (Confirm false Newline))
+    ∷ (completed_at 1 "かんじ", Cg ∷ [], quiet (plain (codes "かんじ")) Drop) ∷ (completed_at 1 "かんじ", Bs ∷ [], quiet (plain (codes "かん")) Stay)
+    ∷ (completed_at 1 "かんじ", Undo ∷ [], step_to (plain (codes "かんじ")) notices.NoUndo Stay)
+    ∷ (record (completed_at 1 "ab") { is_abbrev = true }, chars ".", quiet (record (completed_at 2 "かき") { is_abbrev = true }) Stay)
+    ∷ (record (completed_at 1 "ab") { is_abbrev = true }, chars "/", quiet (abbreviated (codes "ab/")) Stay)
+    ∷ [])
+unfolding lib.Utf8.encode
+completions_given_up = refl
+
+-- completions that are kept are valid readings, and the place is that of one of them
+kept_completions : map may_complete (
+    record { readings = readings; place = 0 } ∷ record { readings = readings; place = 2 } ∷ record { readings = readings; place = 3 }
+    ∷ record { readings = []; place = 0 } ∷ record { readings = codes ";" ∷ []; place = 0 } ∷ record { readings = codes "か" ∷ [] ∷ []; place = 0 } ∷ [])
+    ≡ true ∷ true ∷ false ∷ false ∷ false ∷ false ∷ []
+unfolding lib.Utf8.encode
+kept_completions = refl
 
 -- What an open reading keeps, and what it is converted by
 

@@ -34,6 +34,14 @@ kept-shortened text okuri begun is e =
     let k = kept text okuri begun is e in
     and_from _ _ k.may (and_from _ _ k.letter (and_from _ _ (may_end-without_last begun.text k.kana) (ap not k.some)))
 
+-- an okurigana that stands behind a reading may stand behind another that is not empty
+pub refitted : (old new : List ℕ) (okuri : Option Begun) → may_read new ≡ true → is_nil new ≡ false
+    → (may_read old && fits_reading old okuri) ≡ true → (may_read new && fits_reading new okuri) ≡ true
+refitted old new None may some is = and_from _ _ may refl
+refitted old new (Some begun) may some is =
+    let k = kept old (Some begun) begun is refl in
+    and_from _ _ may (and_from _ _ k.letter (and_from _ _ k.kana (ap not some)))
+
 -- a result that is no fault is a value
 pub ok_unless : {A E : Type 0} (result : Result A E) → (IsErr result → ⊥) → IsOk result
 ok_unless (Ok value) none = refl
@@ -47,7 +55,7 @@ ends (Some begun) flush e some = cc
 -- a reading that a flush leaves, where no okurigana was begun
 abbrev pub flushed_to : Reading → List ℕ → Notice → Put
 flushed_to reading added notice =
-    record { reading = record { text = reading.text ++ added; is_abbrev = reading.is_abbrev; okuri = None; pending = [] }; notice = notice }
+    record { reading = record { text = reading.text ++ added; is_abbrev = reading.is_abbrev; okuri = None; pending = []; completions = reading.completions }; notice = notice }
 
 -- a reading as its fields are seen, which a flush leaves with this behind its text and this notice
 module _ (rules : List Rule) (reading seen : Reading) (view : seen ≡ reading) (added : List ℕ) (notice : Notice) (flushed : flush rules reading ≡ flushed_to reading added notice) where
@@ -61,7 +69,7 @@ module _ (rules : List Rule) (reading seen : Reading) (view : seen ≡ reading) 
       → after ≡ seen.text ++ whole → pending ≡ []
       → (ends_prefix reading.okuri (flush rules reading) ≡ true)
       × (prefix_step (flush rules reading)
-      ≡ record { reading = record { text = after; is_abbrev = seen.is_abbrev; okuri = seen.okuri; pending = pending }; done = record { notice = last; then = Convert } })
+      ≡ record { reading = record { text = after; is_abbrev = seen.is_abbrev; okuri = seen.okuri; pending = pending; completions = seen.completions }; done = record { notice = last; then = Convert } })
   prefix_ended whole after pending last none some is_last is_whole is_after nothing = (
     ends reading.okuri (flush rules reading) (ap (λ (r : Reading). r.okuri) (sym view) ∙ none) (ap (λ (put : Put). is_nil put.reading.text) flushed_seen ∙ some),
     ap prefix_step flushed_seen ∙ rw (is_last, is_after, is_whole, none, nothing) refl,
@@ -74,7 +82,7 @@ module _ (rules : List Rule) (reading seen : Reading) (view : seen ≡ reading) 
       → after ≡ seen.text ++ added → last ≡ later_notice notice second
       → begin_okuri rules (flush rules reading) c
       ≡ record {
-        reading = record { text = after; is_abbrev = seen.is_abbrev; okuri = Some (record { letter = c; text = kana }); pending = pending };
+        reading = record { text = after; is_abbrev = seen.is_abbrev; okuri = Some (record { letter = c; text = kana }); pending = pending; completions = seen.completions };
         notice = last;
       }
   okuri_begun c before empty after pending kana out second last some is_before is_fed is_empty is_second is_kana is_after is_last =

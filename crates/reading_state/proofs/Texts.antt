@@ -1,6 +1,7 @@
 -- Texts that may stand in an open reading: what is behind them, and what is before.
-use Rattle.std.proofs.Common.{◌≡◌, ◌≤◌, ◌<◌, ◌==◌, ℕ, ◌+◌, ◌-◌, Bool, true, false, ◌&&◌, ◌||◌, not, nat_le, nat_lt, List, [], ◌∷◌, ◌++◌, ◌∙◌, sym, ap, subst, refl, length, take, drop, length-append, append_assoc, arith}
+use Rattle.std.proofs.Common.{◌≡◌, zero, suc, Some, slice_get, ◌≤◌, ◌<◌, ◌==◌, ℕ, ◌+◌, ◌-◌, Bool, true, false, ◌&&◌, ◌||◌, not, nat_le, nat_lt, List, [], ◌∷◌, ◌++◌, ◌∙◌, sym, ap, subst, refl, length, take, drop, length-append, append_assoc, arith}
 use Rattle.std.specs.List.{list_all}
+use Rattle.std.specs.Option.{option_map_or}
 use Rattle.std.proofs.lemmas.Bool.{and_parts, and_from, le-leb, leb-true, lt-ltb, le-ltb, ne_eqb}
 use Rattle.std.proofs.lemmas.List.{take-append-drop}
 use Rattle.std.proofs.lemmas.List.Folds.{list_all-append}
@@ -8,6 +9,7 @@ use Rattle.std.proofs.Math.Seq.{drop-append_seam}
 use Rattle.std.proofs.lemmas.Str.{encode_ascii, length-le-encodes}
 use Rattle.skk_text.specs.Text.{byte_len, without_last, last_chars}
 use Rattle.skk_text.specs.TextLaws.{byte_len-append}
+use Rattle.skk_calls.specs.Dictionary.{is_plain_reading}
 use Rattle.skk_calls.specs.Rows.{begins_well, is_reading_char, is_okuri_char, is_letter, is_row_key}
 use Rattle.skk_calls.specs.declared.part.Part.TheVariants.{Ari}
 use Rattle.skk_text.specs.declared.notice.Notice.TheVariants as notices
@@ -148,6 +150,11 @@ mark_bytes : byte_len (0x3E ∷ []) ≡ 1
 unfolding lib.Utf8.encode
 mark_bytes = refl
 
+-- `>` alone may stand in an open reading
+pub mark_may_read : may_read (0x3E ∷ []) ≡ true
+unfolding lib.Utf8.encode
+mark_may_read = refl
+
 -- a reading with `>` behind it may be one, where it is not too long
 pub mark_read : (text : List ℕ) → may_read text ≡ true → is_nil text ≡ false → byte_len text < 254 → may_read (text ++ 0x3E ∷ []) ≡ true
 mark_read text may some fits = rw (may_read-behind text (0x3E ∷ []) may (omega (arith, mark_bytes)), some) refl
@@ -161,8 +168,27 @@ mark_put text may some fits =
 pub mark_refused : (text : List ℕ) → 254 ≤ byte_len text → refusal 254 may_read text (0x3E ∷ []) ≡ notices.Limit
 mark_refused text full = rw (lt-ltb 254 (byte_len text + byte_len (0x3E ∷ [])) (omega (arith, mark_bytes))) refl
 
+-- a valid reading may stand in an open one
+pub plain_read : (text : List ℕ) → is_plain_reading text ≡ true → may_read text ≡ true
+plain_read [] plain = refl
+plain_read (c ∷ text) plain = plain
+
+-- a valid reading is not empty
+pub plain_some : (text : List ℕ) → is_plain_reading text ≡ true → is_nil text ≡ false
+plain_some [] plain = cc
+plain_some (c ∷ text) plain = refl
+
+-- each of the completions that may be kept is a valid reading
+pub completion_read : (readings : List (List ℕ)) (place : ℕ) (text : List ℕ) → list_all is_plain_reading readings ≡ true
+    → slice_get readings place ≡ Some text → is_plain_reading text ≡ true
+completion_read [] place text all at = cc
+completion_read (first ∷ rest) zero text all at = sym (ap (λ found. option_map_or is_plain_reading found true) at) ∙ (and_parts (is_plain_reading first) _ all).0
+completion_read (first ∷ rest) (suc place) text all at = completion_read rest place text (and_parts (is_plain_reading first) _ all).1 at
+
 pub ruleset marks = (mark_read, mark_put, mark_refused, may_read-short, byte_len-append, append_assoc)
 
 pub ruleset shortened = (may_read-without_last, may_end-without_last)
 
 pub ruleset may_reads = (byte_len-empty, may_read-short, may_end-short, may_read-behind, may_end-behind)
+
+pub ruleset completions_read = (plain_read, plain_some, completion_read)

@@ -1,5 +1,7 @@
 -- An open reading, what its type keeps, and what is put into it.
-use Rattle.std.specs.Prelude.{ℕ, ◌+◌, Bool, true, false, ◌&&◌, ◌||◌, not, nat_lt, if◌then◌else◌, Option, None, Some, List, [], ◌∷◌, ◌++◌}
+use Rattle.std.specs.Prelude.{ℕ, ◌+◌, Bool, true, false, ◌&&◌, ◌||◌, not, nat_lt, if◌then◌else◌, Option, None, Some, List, [], ◌∷◌, ◌++◌, length}
+use Rattle.std.specs.List.{list_all}
+use Rattle.skk_text.specs.Characters.{code}
 use Rattle.skk_text.specs.Text.{byte_len}
 use Rattle.skk_text.specs.declared.notice.Notice.{Notice}
 use Rattle.skk_text.specs.declared.notice.Notice.TheVariants as notices
@@ -11,13 +13,19 @@ pub record Begun : Type 0 where
   pub letter : ℕ
   pub text : List ℕ
 
--- an open reading: its characters, whether it is an abbreviation, its okurigana where one was begun, and the letters that
--- wait for more
+-- readings that complete what was typed, and the place of the one that is shown
+pub record Completions : Type 0 where
+  pub readings : List (List ℕ)
+  pub place : ℕ
+
+-- an open reading: its characters, whether it is an abbreviation, its okurigana where one was begun, the letters that wait
+-- for more, and its completions where they are kept
 pub record Reading : Type 0 where
   pub text : List ℕ
   pub is_abbrev : Bool
   pub okuri : Option Begun
   pub pending : List ℕ
+  pub completions : Option Completions
 
 -- whether a list is empty
 abbrev pub is_nil : List ℕ → Bool
@@ -26,11 +34,15 @@ is_nil (c ∷ text) = false
 
 -- a reading that was just opened
 abbrev pub new_reading : Reading
-new_reading = record { text = []; is_abbrev = false; okuri = None; pending = [] }
+new_reading = record { text = []; is_abbrev = false; okuri = None; pending = []; completions = None }
 
 -- an abbreviation that was just opened
 abbrev pub new_abbrev : Reading
-new_abbrev = record { text = []; is_abbrev = true; okuri = None; pending = [] }
+new_abbrev = record { text = []; is_abbrev = true; okuri = None; pending = []; completions = None }
+
+-- a reading that was opened for a suffix, which begins with `>`
+abbrev pub suffix_reading : Reading
+suffix_reading = record new_reading { text = code ">" ∷ [] }
 
 -- a text may stand in an open reading: it is empty, or a valid reading without okurigana
 abbrev pub may_read : List ℕ → Bool
@@ -48,6 +60,10 @@ fits_reading text (Some begun) = is_letter (begun.letter ∷ []) && (may_end beg
 -- a reading is one that may be open: its text and its okurigana may stand there
 abbrev pub is_open : Reading → Bool
 is_open reading = may_read reading.text && fits_reading reading.text reading.okuri
+
+-- completions may be kept: each is a valid reading without okurigana, and the place is that of one of them
+abbrev pub may_complete : Completions → Bool
+may_complete kept = list_all is_plain_reading kept.readings && nat_lt kept.place (length kept.readings)
 
 -- a reading after a piece was put, or was not, and the notice of that
 pub record Put : Type 0 where

@@ -1,6 +1,7 @@
 -- The reading state ▽: what a key does to an open reading.
-use Rattle.std.specs.Prelude.{ℕ, Bool, true, false, ◌&&◌, ◌||◌, ◌==◌, not, nat_le, if◌then◌else◌, Option, None, Some, List, [], ◌∷◌}
+use Rattle.std.specs.Prelude.{ℕ, suc, ◌-◌, Bool, true, false, ◌&&◌, ◌||◌, ◌==◌, not, nat_le, if◌then◌else◌, Option, None, Some, List, [], ◌∷◌, slice_get}
 use Rattle.std.specs.Char.{to_ascii_lowercase}
+use Rattle.std.specs.Option.{option_map_or}
 use Rattle.skk_text.specs.Characters.{code}
 use Rattle.skk_text.specs.Text.{without_last}
 use Rattle.skk_text.specs.declared.key.Key.{Key}
@@ -9,7 +10,7 @@ use Rattle.skk_text.specs.declared.notice.Notice.{Notice}
 use Rattle.skk_text.specs.declared.notice.Notice.TheVariants as notices
 use Rattle.romaji_rules.specs.declared.rule.Rule.{Rule}
 use Rattle.romaji_rules.specs.Typed.{fed, flushed, extends_pending}
-use Rattle.reading_state.specs.Puts.{Begun, Reading, Put, put, is_nil, later_notice}
+use Rattle.reading_state.specs.Puts.{Begun, Completions, Reading, Put, put, is_nil, later_notice}
 use Rattle.reading_state.specs.declared.reading_do.AfterConfirm.{AfterConfirm}
 use Rattle.reading_state.specs.declared.reading_do.AfterConfirm.TheVariants.{Nothing, ToAscii, ToWide, OpenReading, Newline}
 use Rattle.reading_state.specs.declared.reading_do.ReadingDo.{ReadingDo}
@@ -157,12 +158,71 @@ abbrev pub tab_step : List Rule → Reading → Option Begun → ReadingStep
 tab_step rules reading None = let flush = flush rules reading in step_to flush.reading flush.notice AskCompletions
 tab_step rules reading (Some begun) = step_to reading notices.NoCompletion Stay
 
+-- the step of a key where no completions are kept
+abbrev pub key_step : List Rule → Reading → Key → ReadingStep
+key_step rules reading (Char c) = char_step rules reading c
+key_step rules reading Cj = confirm_step rules reading false Nothing
+key_step rules reading Cg = step_to reading notices.Empty Drop
+key_step rules reading Bs = delete_step reading
+key_step rules reading Ret = confirm_step rules reading false Newline
+key_step rules reading Tab = tab_step rules reading reading.okuri
+key_step rules reading Undo = step_to reading notices.NoUndo Stay
+
+-- a reading without completions
+abbrev pub without_completions : Reading → Reading
+without_completions reading = record reading { completions = None }
+
+-- a reading that shows the completion of a place
+abbrev pub showing : Reading → Completions → ℕ → List ℕ → Reading
+showing reading kept place text =
+    record reading { text = text; completions = Some (record { readings = kept.readings; place = place }) }
+
+-- the step to the completion of a place: behind the last one there is no more, and the reading stays
+abbrev pub completion_step : Reading → Completions → ℕ → ReadingStep
+completion_step reading kept place =
+    option_map_or (λ text. step_to (showing reading kept place text) notices.Empty Stay)
+    (slice_get kept.readings place)
+    (step_to reading notices.NoMore Stay)
+
+-- the step to the completion after the one that is shown
+abbrev pub next_step : Reading → Completions → ReadingStep
+next_step reading kept = completion_step reading kept (suc kept.place)
+
+-- the step to the completion before the one that is shown: before the first one there is no more, and the reading stays
+abbrev pub previous_step : Reading → Completions → ReadingStep
+previous_step reading kept =
+    if kept.place == 0 then step_to reading notices.NoMore Stay else completion_step reading kept (kept.place - 1)
+
+-- whether a key goes to the next of the completions that are kept
+abbrev pub is_next : Key → Bool
+is_next Tab = true
+is_next (Char c) = c == code "."
+is_next key = false
+
+-- whether a key goes to the one before among the completions that are kept
+abbrev pub is_previous : Key → Bool
+is_previous (Char c) = c == code ","
+is_previous key = false
+
+-- the step of a key where completions are kept: Tab and `.` go to the next, `,` to the one before, and any other key gives
+-- them up
+abbrev pub kept_step : List Rule → Reading → Completions → Key → ReadingStep
+kept_step rules reading kept key =
+    if is_next key then next_step reading kept
+    else if is_previous key then previous_step reading kept
+    else key_step rules (without_completions reading) key
+
+-- the step of a key, with completions that are kept or without
+abbrev pub step_with : List Rule → Reading → Option Completions → Key → ReadingStep
+step_with rules reading None key = key_step rules reading key
+step_with rules reading (Some kept) key = kept_step rules reading kept key
+
 -- the step of a key in the reading state
 abbrev pub reading_step : List Rule → Reading → Key → ReadingStep
-reading_step rules reading (Char c) = char_step rules reading c
-reading_step rules reading Cj = confirm_step rules reading false Nothing
-reading_step rules reading Cg = step_to reading notices.Empty Drop
-reading_step rules reading Bs = delete_step reading
-reading_step rules reading Ret = confirm_step rules reading false Newline
-reading_step rules reading Tab = tab_step rules reading reading.okuri
-reading_step rules reading Undo = step_to reading notices.NoUndo Stay
+reading_step rules reading key = step_with rules reading reading.completions key
+
+-- what readings that complete a reading make of it: the first of them replaces it and all are kept, or there are none
+abbrev pub completed : Reading → List (List ℕ) → Put
+completed reading [] = record { reading = reading; notice = notices.NoCompletion }
+completed reading (first ∷ rest) =
+    record { reading = showing reading (record { readings = first ∷ rest; place = 0 }) 0 first; notice = notices.Empty }

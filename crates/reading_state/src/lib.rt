@@ -13,5 +13,5 @@ mod reading_do;
 mod tests;
 
 pub use press::press_reading;
-pub use reading::{Begun, Reading};
+pub use reading::{Begun, Completions, Reading};
 pub use reading_do::{AfterConfirm, ReadingDo, ReadingThen};

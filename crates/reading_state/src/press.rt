@@ -1,6 +1,6 @@
 ghost use Rattle.std.specs.Prelude.{◌≡◌, ◌≢◌, ◌==◌, ◌&&◌, not, [], false, if◌then◌else◌, IfOk, OnErr};
 ghost use Rattle.romaji_rules.specs.Typed.{extends_pending};
-ghost use Rattle.reading_state.specs.Reading.{reading_step, char_step, typed_step, space_step, confirm_step, tab_step, ends_prefix, prefix_step, flush, feed};
+ghost use Rattle.reading_state.specs.Reading.{reading_step, key_step, is_next, is_previous, without_completions, char_step, typed_step, space_step, confirm_step, tab_step, ends_prefix, prefix_step, flush, feed};
 
 use crate::reading::Reading;
 use crate::reading_do::{AfterConfirm, ReadingDo, ReadingThen};
@@ -8,8 +8,8 @@ use romaji_rules::Rules;
 use skk_text::{Key, Memory, Notice};
 use std::alloc::Global;
 
-/// Reads a key in the reading state. After `Memory` the reading is as before. Takes time in what the key does: in the
-/// number of rules, and in the text that it puts.
+/// Reads a key in the reading state. After `Memory` the reading is as before. Takes time in what the key does: in the step
+/// of the rules, and in the text that it puts.
 pub fn press_reading(
     alloc: Global,
     reading: &mut Reading,
@@ -17,6 +17,62 @@ pub fn press_reading(
     key: Key,
 ) -> Result<ReadingDo, Memory>
     ensures ok { IfOk result (λ done. reading_step rules.now reading.old key ≡ record { reading = reading.new; done = done }) }
+    ensures err { OnErr result (reading.new ≡ reading.old) }
+    ensures convertible { IfOk result (λ done. done.then ≡ ReadingThen.Convert → reading.new.text ≢ []) }
+{
+    if !reading.keeps_completions() {
+        return press_key(alloc, reading, rules, key);
+    }
+    if is_next(key) {
+        return reading.show_next(alloc);
+    }
+    if is_previous(key) {
+        return reading.show_previous(alloc);
+    }
+    press_other(alloc, reading, rules, key)
+}
+
+// Whether a key goes to the next of the completions that are kept.
+fn is_next(key: Key) -> bool
+    ensures { result ≡ is_next key }
+{
+    matches!(key, Key::Tab | Key::Char(b'.'))
+}
+
+// Whether a key goes to the one before among the completions that are kept.
+fn is_previous(key: Key) -> bool
+    ensures { result ≡ is_previous key }
+{
+    key == Key::Char(b',')
+}
+
+// Reads a key that goes to no other completion: those that are kept are given up.
+fn press_other(
+    alloc: Global,
+    reading: &mut Reading,
+    rules: &Rules,
+    key: Key,
+) -> Result<ReadingDo, Memory>
+    ensures ok { IfOk result (λ done. key_step rules.now (without_completions reading.old) key ≡ record { reading = reading.new; done = done }) }
+    ensures err { OnErr result (reading.new ≡ reading.old) }
+    ensures convertible { IfOk result (λ done. done.then ≡ ReadingThen.Convert → reading.new.text ≢ []) }
+{
+    let kept = reading.take_completions();
+    let pressed = press_key(alloc, reading, rules, key);
+    if pressed.is_err() {
+        reading.put_completions(kept);
+    }
+    pressed
+}
+
+// Reads a key where no completions are kept.
+fn press_key(
+    alloc: Global,
+    reading: &mut Reading,
+    rules: &Rules,
+    key: Key,
+) -> Result<ReadingDo, Memory>
+    ensures ok { IfOk result (λ done. key_step rules.now reading.old key ≡ record { reading = reading.new; done = done }) }
     ensures err { OnErr result (reading.new ≡ reading.old) }
     ensures convertible { IfOk result (λ done. done.then ≡ ReadingThen.Convert → reading.new.text ≢ []) }
 {

@@ -1,12 +1,15 @@
 ghost use Rattle.std.specs.Prelude.{◌≡◌, ◌≢◌, [], IfOk};
 ghost use Rattle.std.specs.Option.{option_copied, option_map};
-ghost use Rattle.reading_state.specs.Puts.{new_reading, new_abbrev};
+ghost use Rattle.reading_state.specs.Puts.{new_reading, new_abbrev, suffix_reading};
 ghost use Rattle.reading_state.specs.Keys.{key_of, okuri_of};
 
+mod completing;
 mod deletes;
 mod okurigana;
 mod prefix;
 mod puts;
+
+pub use completing::Completions;
 
 use romaji_rules::Pending;
 use skk_calls::{Okuri, Part, RowKey};
@@ -29,15 +32,16 @@ impl Model for Begun {
     ghost view = { λ b. record { letter = b.letter; text = b.text } };
 }
 
-/// An open reading, its okurigana where one was begun, and the letters that wait for more. The reading is empty or valid
-/// without okurigana, of at most 254 bytes. An okurigana has a letter from `a` to `z` and a reading before it, and is
-/// empty or valid, of at most 60 bytes.
+/// An open reading, its okurigana where one was begun, the letters that wait for more, and its completions where they are
+/// kept. The reading is empty or valid without okurigana, of at most 254 bytes. An okurigana has a letter from `a` to `z`
+/// and a reading before it, and is empty or valid, of at most 60 bytes.
 #[derive(Drop)]
 pub struct Reading {
     text: Text,
     is_abbrev: bool,
     okuri: Option<Begun>,
     pending: Pending,
+    completions: Option<Completions>,
 }
 
 impl Model for Reading {
@@ -46,9 +50,9 @@ impl Model for Reading {
 
     ghost Value = { Reading };
 
-    ghost view = { λ r. record { text = r.text; is_abbrev = r.is_abbrev; okuri = r.okuri; pending = r.pending } };
+    ghost view = { λ r. record { text = r.text; is_abbrev = r.is_abbrev; okuri = r.okuri; pending = r.pending; completions = r.completions } };
 
-    ghost invariant = { λ r. is_open (record { text = r.text; is_abbrev = r.is_abbrev; okuri = r.okuri; pending = r.pending }) ≡ true };
+    ghost invariant = { λ r. is_open (record { text = r.text; is_abbrev = r.is_abbrev; okuri = r.okuri; pending = r.pending; completions = r.completions }) ≡ true };
 }
 
 impl Reading {
@@ -61,6 +65,7 @@ impl Reading {
             is_abbrev: false,
             okuri: None,
             pending: Pending::new(),
+            completions: None,
         }
     }
 
@@ -73,7 +78,18 @@ impl Reading {
             is_abbrev: true,
             okuri: None,
             pending: Pending::new(),
+            completions: None,
         }
+    }
+
+    /// A reading that begins with `>`, for a suffix.
+    #[tactic(auto, using(crate::proofs::Texts::mark_may_read))]
+    pub fn suffix(alloc: Global) -> Result<Reading, Memory>
+        ensures { IfOk result (λ reading. reading ≡ suffix_reading) }
+    {
+        let mut reading = Reading::new(alloc);
+        reading.text.push('>')?;
+        Ok(reading)
     }
 
     /// The reading without its okurigana.

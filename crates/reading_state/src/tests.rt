@@ -1,8 +1,11 @@
-ghost use Rattle.std.specs.Prelude.{◌≢◌, []};
+ghost use Rattle.std.specs.Prelude.{◌≡◌, ◌≢◌, [], true, IfOk};
+ghost use Rattle.std.specs.List.{list_all};
+ghost use Rattle.skk_calls.specs.Dictionary.{is_plain_reading};
 
 use crate::{AfterConfirm, Reading, ReadingDo, ReadingThen, press_reading};
 use romaji_rules::Rules;
-use skk_text::{Key, Notice, read_keys};
+use skk_calls::{Part, RowKey};
+use skk_text::{Copies, Key, Notice, Text, Texts, read_keys};
 use std::alloc::{AllocError, Global};
 use std::test::Fail;
 
@@ -94,6 +97,56 @@ fn keys_make_a_reading(rt: HostRuntime) -> Result<(), Fail> {
             "typed {keys}"
         );
     }
+    Ok(())
+}
+
+// The readings かん, かんじ and かき, which complete か.
+fn completions(alloc: Global) -> Result<Texts, Fail>
+    ensures { IfOk result (λ readings. list_all is_plain_reading readings ≡ true) }
+{
+    let mut readings = Texts::new(alloc);
+    readings.push(plain_reading(alloc, "かん")?)?;
+    readings.push(plain_reading(alloc, "かんじ")?)?;
+    readings.push(plain_reading(alloc, "かき")?)?;
+    Ok(readings)
+}
+
+// A valid reading without okurigana.
+fn plain_reading(alloc: Global, text: &str) -> Result<Text, Fail>
+    ensures { IfOk result (λ reading. is_plain_reading reading ≡ true) }
+{
+    let mut reading = Text::new(alloc);
+    reading.push_str(text)?;
+    let key = RowKey::new(Part::Nasi, reading)?;
+    Ok(key.reading().copy(alloc)?)
+}
+
+// What is typed where か was completed, and the reading after it.
+const COMPLETED: &str = "
+.=かんじ::Empty:stay .<tab>=かき::Empty:stay ..<tab>=かき::NoMore:stay ,=かん::NoMore:stay .,=かん::Empty:stay
+.n.=かんじん。::Empty:stay .,n=かん:n:Empty:stay ._=かんじ::Empty:convert .<undo>=かんじ::NoUndo:stay
+..<bs>,=か、::Empty:stay .Ku=かんじ*く::Empty:convert .<cg>=かんじ::Empty:drop
+";
+
+#[test]
+fn completions_are_gone_over(rt: HostRuntime) -> Result<(), Fail> {
+    let alloc = rt.alloc();
+    let rules = Rules::standard(alloc)?;
+    assert_eq!(rt; COMPLETED.split_whitespace().count(), 12);
+    for case in COMPLETED.split_whitespace() {
+        let (keys, wanted) = case.split_once('=').ok_or("no `=`")?;
+        let mut reading = Reading::new(alloc);
+        press_keys(alloc, &mut reading, &rules, "ka")?;
+        assert_eq!(rt; reading.complete(alloc, completions(alloc)?)?, Notice::Empty);
+        let done = press_keys(alloc, &mut reading, &rules, keys)?;
+        assert_eq!(rt;
+            shown(alloc, &reading, done)?.as_str(),
+            wanted,
+            "typed {keys}"
+        );
+    }
+    let mut reading = Reading::new(alloc);
+    assert_eq!(rt; reading.complete(alloc, Texts::new(alloc))?, Notice::NoCompletion);
     Ok(())
 }
 

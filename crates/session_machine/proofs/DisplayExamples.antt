@@ -44,7 +44,7 @@ abbrev begun : String → Option Begun
 begun text = Some (record { letter = code "r"; text = codes text })
 
 abbrev reading : String → Option Begun → String → Reading
-reading text okuri pending = record { text = codes text; is_abbrev = false; okuri = okuri; pending = codes pending }
+reading text okuri pending = record { text = codes text; is_abbrev = false; okuri = okuri; pending = codes pending; completions = None }
 
 okurigana : map (λ (l : Mode × Option Begun). okuri_shown l.0 l.1) ((Hira, None) ∷ (Kata, None) ∷ (Hira, begun "る") ∷ (Kata, begun "る") ∷ (Ascii, begun "る") ∷ (Wide, begun "る") ∷ (Kata, begun "") ∷ [])
     ≡ [] ∷ [] ∷ codes "*る" ∷ codes "*ル" ∷ codes "*る" ∷ codes "*る" ∷ codes "*" ∷ []

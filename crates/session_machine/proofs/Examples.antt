@@ -47,10 +47,18 @@ plain = states.Plain []
 
 -- an open reading, with what is pending
 abbrev reading : List ℕ → List ℕ → Reading
-reading text pending = record { text = text; is_abbrev = false; okuri = None; pending = pending }
+reading text pending = record { text = text; is_abbrev = false; okuri = None; pending = pending; completions = None }
 
 abbrev unfinished : List ℕ → State
 unfinished text = states.Reading (reading text [])
+
+-- an abbreviation that is open
+abbrev abbreviation : List ℕ → State
+abbreviation text = states.Reading (record (reading text []) { is_abbrev = true })
+
+-- an open reading with an okurigana that was begun: its letter, and its kana
+abbrev with_begun : List ℕ → ℕ → List ℕ → Reading
+with_begun text letter kana = record (reading text []) { okuri = Some (record { letter = letter; text = kana }) }
 
 abbrev cand : List ℕ → List ℕ → Cand
 cand word note = record { word = word; note = note }
@@ -112,9 +120,9 @@ opened_with : after (at (codes "x") Kata (states.Plain (codes "n")) none) (Char 
 unfolding encode
 opened_with = refl
 
-no_abbreviation : after (at [] Hira plain none) (Char 47) [] ≡ Some None
+abbreviated : after (at (codes "x") Hira (states.Plain (codes "n")) none) (Char 47) [] ≡ Some (Some (at (codes "xん") Hira (abbreviation []) none))
 unfolding encode
-no_abbreviation = refl
+abbreviated = refl
 
 cancelled : after (at (codes "x") Hira plain none) Cg [] ≡ Some (Some (at (codes "x") Hira plain none))
 unfolding encode
@@ -170,12 +178,18 @@ unfolding encode
 with_okuri = refl
 
 not_built_in_reading :
-    (after (at [] Hira (unfinished (codes "あ")) none) Tab [] ≡ Some None) × (after (at [] Hira (unfinished (codes "あ")) none) (Char 62) [] ≡ Some None)
-    × (after (at [] Hira (unfinished (codes "あ")) none) (Char 65) [] ≡ Some None) × (after (at [] Hira (unfinished (codes "あ")) none) (Char 90) [] ≡ Some None)
-    × (after (at [] Hira (unfinished []) none) (Char 75) [] ≡ Some None)
+    (after (at [] Hira (unfinished (codes "あ")) none) Tab [] ≡ Some None)
     × (after (at [] Hira (unfinished (codes "あ0")) none) (Char 32) [] ≡ Some None) × (after (at [] Hira (unfinished (codes "9あ")) none) (Char 32) [] ≡ Some None)
+    × (after (at [] Hira (unfinished (codes "あ0")) none) (Char 62) [] ≡ Some None) × (after (at [] Hira (unfinished (codes "0")) none) (Char 65) [] ≡ Some None)
+    × (after (at [] Hira (abbreviation (codes "p125")) none) (Char 32) [] ≡ Some None)
 unfolding encode
-not_built_in_reading = (refl, refl, refl, refl, refl, refl, refl)
+not_built_in_reading = (refl, refl, refl, refl, refl, refl)
+
+-- an upper-case letter is read in an empty reading, and begins an okurigana behind another, which may refuse it
+upper_case : map (λ (text : List ℕ). after (at [] Hira (unfinished text) none) (Char 75) []) ([] ∷ codes "あ" ∷ [])
+    ≡ Some (Some (at [] Hira (unfinished (codes "k")) none)) ∷ Some (Some (at [] Hira (states.Reading (with_begun (codes "あ") 107 [])) (told.Step notices.Reading))) ∷ []
+unfolding encode
+upper_case = refl
 
 -- characters beside the letters and the digits
 beside_letters :
@@ -190,6 +204,25 @@ looked_up : asked (pressed rules (at (codes "x") Kata (states.Reading (reading (
     ≡ Lookup 3 (record { part = Nasi; reading = codes "あん" }) None ∷ []
 unfolding encode
 looked_up = refl
+
+-- an okurigana that is whole, a prefix with its `>` and an abbreviation are looked up too, the okurigana with its key's letter
+asked_for : map (λ (line : State × Key). asked (pressed rules (at (codes "x") Kata line.0 none) line.1) found_two)
+    ((unfinished (codes "あ"), Char 65) ∷ (states.Reading (with_begun (codes "あ") 107 []), Char 97) ∷ (unfinished (codes "あ"), Char 62)
+    ∷ (states.Reading (reading (codes "あ") (codes "n")), Char 62) ∷ (states.Reading (with_begun (codes "あ") 107 (codes "く")), Char 32)
+    ∷ (abbreviation (codes "ab"), Char 32) ∷ [])
+    ≡ (Lookup 3 (record { part = Ari; reading = codes "あa" }) (Some (codes "あ")) ∷ []) ∷ (Lookup 3 (record { part = Ari; reading = codes "あk" }) (Some (codes "あ")) ∷ [])
+    ∷ (Lookup 3 (record { part = Nasi; reading = codes "あ>" }) None ∷ []) ∷ (Lookup 3 (record { part = Nasi; reading = codes "あん>" }) None ∷ [])
+    ∷ (Lookup 3 (record { part = Ari; reading = codes "あk" }) (Some (codes "く")) ∷ []) ∷ (Lookup 3 (record { part = Nasi; reading = codes "ab" }) None ∷ []) ∷ []
+unfolding encode
+asked_for = refl
+
+-- a notice of the key stays where its reading is converted
+converted_with_notice : (after (at (codes "x") Hira (states.Reading (with_begun (codes "あ") 107 (codes "く"))) none) (Char 49) (Refused refusals.Disk ∷ [])
+    ≡ Some (Some (at (codes "x") Hira (states.Reading (with_begun (codes "あ") 107 (codes "く"))) (told.Refused refusals.Disk))))
+    × (after (at (codes "x") Hira (states.Reading (with_begun (codes "あ") 107 (codes "く"))) none) (Char 49) (Done replies.Purged ∷ [])
+    ≡ Some (Some (at (codes "x") Hira (states.Reading (with_begun (codes "あ") 107 (codes "く"))) (told.Step notices.Reading))))
+unfolding encode
+converted_with_notice = (refl, refl)
 
 unanswered : after (at [] Hira (unfinished (codes "あ")) none) (Char 32) [] ≡ None
 unfolding encode
@@ -230,10 +263,9 @@ none_named : after (at [] Hira (states.Picking (record { reading = reading (code
 unfolding encode
 none_named = refl
 
-not_built_in_picking :
-    (after (at [] Hira (picking 1) none) (Char 32) [] ≡ Some None) × (after (at [] Hira (picking 0) none) (Char 62) [] ≡ Some None)
+not_built_in_picking : after (at [] Hira (picking 1) none) (Char 32) [] ≡ Some None
 unfolding encode
-not_built_in_picking = (refl, refl)
+not_built_in_picking = refl
 
 -- Choices
 
@@ -314,11 +346,12 @@ learnt = Done (replies.Learned learned) ∷ []
 abbrev of_first : Choice
 of_first = choice 1 4 Hira 0 (Some learned)
 
-keys_choose : map (λ key. after (at (codes "x") Hira (picking 0) (told.Step notices.Reading)) key learnt) (Cj ∷ Ret ∷ Bs ∷ Char 97 ∷ Char 110 ∷ Char 81 ∷ Char 113 ∷ [])
+keys_choose : map (λ key. after (at (codes "x") Hira (picking 0) (told.Step notices.Reading)) key learnt) (Cj ∷ Ret ∷ Bs ∷ Char 97 ∷ Char 110 ∷ Char 81 ∷ Char 113 ∷ Char 62 ∷ Char 47 ∷ [])
     ≡ Some (Some (chosen (codes "x亜") Hira plain none of_first)) ∷ Some (Some (chosen (codes "x亜" ++ 10 ∷ []) Hira plain none of_first))
     ∷ Some (Some (at (codes "x") Hira plain none)) ∷ Some (Some (chosen (codes "x亜あ") Hira plain none of_first))
     ∷ Some (Some (chosen (codes "x亜") Hira (states.Plain (codes "n")) none of_first)) ∷ Some (Some (chosen (codes "x亜") Hira (unfinished []) none of_first))
-    ∷ Some (Some (chosen (codes "x亜") Kata plain none of_first)) ∷ []
+    ∷ Some (Some (chosen (codes "x亜") Kata plain none of_first)) ∷ Some (Some (chosen (codes "x亜") Hira (unfinished (codes ">")) none of_first))
+    ∷ Some (Some (chosen (codes "x亜") Hira (abbreviation []) none of_first)) ∷ []
 unfolding encode
 keys_choose = refl
 
@@ -352,7 +385,7 @@ unfolding encode
 asks_learning = refl
 
 asks_once : (asked (pressed rules (record (at [] Hira (picking 1) none) { book = 3 }) (Char 97)) learnt ≡ Learn 3 (record { part = Nasi; reading = codes "あ" }) None (cand (codes "阿") (codes "二")) ∷ [])
-    × (asked (pressed rules (at [] Hira (picking 0) none) (Char 62)) learnt ≡ []) × (after (at [] Hira (picking 0) none) Cj [] ≡ None)
+    × (asked (pressed rules (at [] Hira (picking 0) none) (Char 62)) learnt ≡ Learn 0 (record { part = Nasi; reading = codes "あ" }) None (cand (codes "亜") []) ∷ []) × (after (at [] Hira (picking 0) none) Cj [] ≡ None)
 unfolding encode
 asks_once = (refl, refl, refl)
 
@@ -427,6 +460,6 @@ several : end_of (all_pressed rules (at [] Hira plain none) (Char 65 ∷ Char 32
 unfolding encode
 several = refl
 
-stopped : end_of (all_pressed rules (at [] Hira plain none) (Char 97 ∷ Char 47 ∷ Char 97 ∷ [])) [] ≡ Some None
+stopped : end_of (all_pressed rules (at [] Hira plain none) (Char 65 ∷ Tab ∷ Char 97 ∷ [])) [] ≡ Some None
 unfolding encode
 stopped = refl

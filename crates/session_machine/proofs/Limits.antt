@@ -37,7 +37,7 @@ use Rattle.session_machine.specs.declared.frame.Conversion.{Conversion}
 use Rattle.session_machine.specs.declared.frame.State.{State}
 use Rattle.session_machine.specs.declared.frame.State.TheVariants as states
 use Rattle.session_machine.specs.Answered.{says_purged}
-use Rattle.session_machine.specs.Pressed.{Meaning, not_built, picked, looked_up, converted, reading_inserted, after_confirmed, confirmed, reading_effect, reading_pressed, before_choice, unlearnt, undone, plain_effect, plain_pressed, of_candidate, choice_inserted, after_learning, choice_effect, choosing, after_purge, purging, picking_effect, picking_pressed, state_pressed, pressed, all_pressed, is_okuri_key, is_space, is_digit, with_plain}
+use Rattle.session_machine.specs.Pressed.{Meaning, not_built, picked, looked_up, converted, reading_inserted, after_confirmed, confirmed, reading_effect, reading_pressed, before_choice, unlearnt, undone, plain_effect, plain_pressed, of_candidate, choice_inserted, after_learning, choice_effect, choosing, after_purge, purging, picking_effect, picking_pressed, state_pressed, pressed, all_pressed, is_digit, with_plain}
 use Rattle.session_machine.specs.Session.{Session, text_limit, choice_at, without_chars, has_room, with_piece, with_insertion, noting, before_key, with_state}
 
 -- the text of the frame is within its limit
@@ -125,25 +125,17 @@ converted-fit session reading fits = by (list_any is_digit reading.text) refl
     by true e = rw e tt
     by false e = rw e (λ answer. looked-fit session reading answer fits)
 
-reading-effect-fit : (session : Session) (reading : Reading) (key : Key) (effect : ReadingThen) → Fits session → AllFit (reading_effect session reading key effect)
-reading-effect-fit session reading key effects.Stay fits = fits
-reading-effect-fit session reading key effects.Convert fits = by (is_space key) refl
-  where
-    by : (space : Bool) → is_space key ≡ space → AllFit (reading_effect session reading key effects.Convert)
-    by true e = rw e (converted-fit session reading fits)
-    by false e = rw e tt
-reading-effect-fit session reading key effects.AskCompletions fits = tt
-reading-effect-fit session reading key effects.Drop fits = fits
-reading-effect-fit session reading key (effects.Confirm other after) fits = confirmed-fits session reading other after fits
+reading-effect-fit : (session : Session) (reading : Reading) (effect : ReadingThen) → Fits session → AllFit (reading_effect session reading effect)
+reading-effect-fit session reading effects.Stay fits = fits
+reading-effect-fit session reading effects.Convert fits = converted-fit session reading fits
+reading-effect-fit session reading effects.AskCompletions fits = tt
+reading-effect-fit session reading effects.Drop fits = fits
+reading-effect-fit session reading (effects.Confirm other after) fits = confirmed-fits session reading other after fits
 
 reading-fit : (rules : List Rule) (session : Session) (reading : Reading) (key : Key) → Fits session → AllFit (reading_pressed rules session reading key)
-reading-fit rules session reading key fits = by (is_okuri_key key) refl
-  where
-    by : (later : Bool) → is_okuri_key key ≡ later → AllFit (reading_pressed rules session reading key)
-    by true e = rw e tt
-    by false e =
-        let step = reading_step rules reading key in
-        rw e (reading-effect-fit (noting session step.done.notice) step.reading key step.done.then (noted-fits session step.done.notice fits))
+reading-fit rules session reading key fits =
+    let step = reading_step rules reading key in
+    reading-effect-fit (noting session step.done.notice) step.reading step.done.then (noted-fits session step.done.notice fits)
 
 undone-fit : (session : Session) (choice : Option Choice) → Fits session → AllFit (undone session choice)
 undone-fit session None fits = fits
@@ -162,7 +154,7 @@ plain-effect-fit rules session plain.DeleteLast fits = omega (arith, fits, short
 plain-effect-fit rules session plain.Newline fits = inserted-fits session (10 ∷ []) fits
 plain-effect-fit rules session (plain.OpenReading None) fits = fits
 plain-effect-fit rules session (plain.OpenReading (Some letter)) fits = reading-fit rules session new_reading (Char letter) fits
-plain-effect-fit rules session plain.OpenAbbrev fits = tt
+plain-effect-fit rules session plain.OpenAbbrev fits = fits
 plain-effect-fit rules session plain.Cancel fits = fits
 plain-effect-fit rules session plain.AskUndo fits = undone-fit session (choice_at (byte_len session.frame.text) session.frame.last_choice) fits
 
@@ -176,7 +168,7 @@ choice-effect-fit : (rules : List Rule) (session : Session) (effect : AfterChoos
 choice-effect-fit rules session choices.Nothing fits = fits
 choice-effect-fit rules session choices.Delete fits = omega (arith, fits, shorter session.frame.text)
 choice-effect-fit rules session choices.Newline fits = inserted-fits session (10 ∷ []) fits
-choice-effect-fit rules session choices.OpenSuffix fits = tt
+choice-effect-fit rules session choices.OpenSuffix fits = fits
 choice-effect-fit rules session (choices.Read key) fits = plain-fit rules session [] key fits
 
 choosing-fit : (rules : List Rule) (session : Session) (conversion : Conversion) (effect : AfterChoose) (shown : Shown) → Fits session
@@ -209,15 +201,8 @@ picking-effect-fit rules session conversion cands.Back fits = fits
 picking-effect-fit rules session conversion cands.Register fits = tt
 picking-effect-fit rules session conversion cands.Purge fits =
     candidate-fit conversion conversion.picking.place (purging session conversion) (λ shown. purging-fit session conversion shown fits)
-picking-effect-fit rules session conversion (cands.Choose place choices.OpenSuffix) fits = tt
-picking-effect-fit rules session conversion (cands.Choose place choices.Nothing) fits =
-    candidate-fit conversion place (choosing rules session conversion choices.Nothing) (λ shown. choosing-fit rules session conversion choices.Nothing shown fits)
-picking-effect-fit rules session conversion (cands.Choose place choices.Delete) fits =
-    candidate-fit conversion place (choosing rules session conversion choices.Delete) (λ shown. choosing-fit rules session conversion choices.Delete shown fits)
-picking-effect-fit rules session conversion (cands.Choose place choices.Newline) fits =
-    candidate-fit conversion place (choosing rules session conversion choices.Newline) (λ shown. choosing-fit rules session conversion choices.Newline shown fits)
-picking-effect-fit rules session conversion (cands.Choose place (choices.Read key)) fits =
-    candidate-fit conversion place (choosing rules session conversion (choices.Read key)) (λ shown. choosing-fit rules session conversion (choices.Read key) shown fits)
+picking-effect-fit rules session conversion (cands.Choose place effect) fits =
+    candidate-fit conversion place (choosing rules session conversion effect) (λ shown. choosing-fit rules session conversion effect shown fits)
 
 picking-fit : (rules : List Rule) (session : Session) (conversion : Conversion) (key : Key) → Fits session → AllFit (picking_pressed rules session conversion key)
 picking-fit rules session conversion key fits =

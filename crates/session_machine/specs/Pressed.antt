@@ -27,7 +27,7 @@ use Rattle.reading_state.specs.declared.reading_do.AfterConfirm.TheVariants as b
 use Rattle.reading_state.specs.declared.reading_do.ReadingThen.{ReadingThen}
 use Rattle.reading_state.specs.declared.reading_do.ReadingThen.TheVariants as effects
 use Rattle.reading_state.specs.Keys.{key_of, okuri_of}
-use Rattle.reading_state.specs.Puts.{Begun, Reading, new_reading}
+use Rattle.reading_state.specs.Puts.{Begun, Reading, new_reading, new_abbrev, suffix_reading}
 use Rattle.reading_state.specs.Reading.{reading_step}
 use Rattle.candidate_state.specs.declared.cands_do.AfterChoose.{AfterChoose}
 use Rattle.candidate_state.specs.declared.cands_do.AfterChoose.TheVariants as choices
@@ -56,16 +56,6 @@ abbrev pub not_built : Meaning
 not_built = ends None
 
 -- Reading state
-
--- whether a key of an open reading is an upper-case letter that may begin an okurigana, which is not built
-abbrev pub is_okuri_key : Key → Bool
-is_okuri_key (Char c) = nat_le (code "A") c && nat_le c (code "Z") && not (c == code "L" || c == code "Q")
-is_okuri_key key = false
-
--- whether a key is the space
-abbrev pub is_space : Key → Bool
-is_space (Char c) = c == code " "
-is_space key = false
 
 -- whether a character is a digit
 abbrev pub is_digit : ℕ → Bool
@@ -116,20 +106,19 @@ confirmed session reading other behind =
     if has_room session piece then after_confirmed (with_piece session piece) behind
     else noting (with_state session (states.Reading reading)) notices.Limit
 
--- what a key's effect on an open reading comes to; completions, and a prefix that `>` converts, are not built
-abbrev pub reading_effect : Session → Reading → Key → ReadingThen → Meaning
-reading_effect session reading key effects.Stay = becomes (with_state session (states.Reading reading))
-reading_effect session reading key effects.Convert = if is_space key then converted session reading else not_built
-reading_effect session reading key effects.AskCompletions = not_built
-reading_effect session reading key effects.Drop = becomes session
-reading_effect session reading key (effects.Confirm other behind) = becomes (confirmed session reading other behind)
+-- what a key's effect on an open reading comes to; completions are not built
+abbrev pub reading_effect : Session → Reading → ReadingThen → Meaning
+reading_effect session reading effects.Stay = becomes (with_state session (states.Reading reading))
+reading_effect session reading effects.Convert = converted session reading
+reading_effect session reading effects.AskCompletions = not_built
+reading_effect session reading effects.Drop = becomes session
+reading_effect session reading (effects.Confirm other behind) = becomes (confirmed session reading other behind)
 
 -- what a key comes to where a reading is open
 abbrev pub reading_pressed : List Rule → Session → Reading → Key → Meaning
 reading_pressed rules session reading key =
-    if is_okuri_key key then not_built
-    else let step = reading_step rules reading key in
-    reading_effect (noting session step.done.notice) step.reading key step.done.then
+    let step = reading_step rules reading key in
+    reading_effect (noting session step.done.notice) step.reading step.done.then
 
 -- Plain state
 
@@ -149,14 +138,14 @@ abbrev pub undone : Session → Option Choice → Meaning
 undone session None = becomes (noting session notices.NoUndo)
 undone session (Some choice) = unlearnt (before_choice session choice) choice.learned
 
--- what a key's effect comes to behind its insertion; abbreviations are not built, and there is no registration to cancel
+-- what a key's effect comes to behind its insertion; there is no registration to cancel
 abbrev pub plain_effect : List Rule → Session → PlainThen → Meaning
 plain_effect rules session plain.Stay = becomes session
 plain_effect rules session plain.DeleteLast = becomes (shortened session)
 plain_effect rules session plain.Newline = becomes (with_insertion session (line_feed ∷ []))
 plain_effect rules session (plain.OpenReading None) = becomes (with_state session (states.Reading new_reading))
 plain_effect rules session (plain.OpenReading (Some letter)) = reading_pressed rules session new_reading (Char letter)
-plain_effect rules session plain.OpenAbbrev = not_built
+plain_effect rules session plain.OpenAbbrev = becomes (with_state session (states.Reading new_abbrev))
 plain_effect rules session plain.Cancel = becomes session
 plain_effect rules session plain.AskUndo = undone session (choice_at (byte_len session.frame.text) session.frame.last_choice)
 
@@ -198,12 +187,12 @@ after_learning session conversion piece answer =
       learned = learnt_by answer;
     }))) { notice = answer_notice answer }
 
--- what comes behind a choice: nothing, or what a key does in the plain state; `>` that opens a reading is not built
+-- what comes behind a choice: nothing, a reading that opens for a suffix, or what a key does in the plain state
 abbrev pub choice_effect : List Rule → Session → AfterChoose → Meaning
 choice_effect rules session choices.Nothing = becomes session
 choice_effect rules session choices.Delete = becomes (shortened session)
 choice_effect rules session choices.Newline = becomes (with_insertion session (line_feed ∷ []))
-choice_effect rules session choices.OpenSuffix = not_built
+choice_effect rules session choices.OpenSuffix = becomes (with_state session (states.Reading suffix_reading))
 choice_effect rules session (choices.Read key) = plain_pressed rules session [] key
 
 -- what it comes to that a candidate is learnt whose piece is inserted: it is learnt as it was found, and then more is done
@@ -229,13 +218,12 @@ abbrev pub purging : Session → Conversion → Shown → Meaning
 purging session conversion shown =
     asks (Purge session.book shown.key shown.cand.word) (λ answer. becomes (after_purge session conversion answer))
 
--- what a key's effect on candidates comes to; registrations, and a suffix that `>` opens, are not built
+-- what a key's effect on candidates comes to; registrations are not built
 abbrev pub picking_effect : List Rule → Session → Conversion → CandsDo → Meaning
 picking_effect rules session conversion (cands.Stay notice) = becomes (noting (with_state session (states.Picking conversion)) notice)
 picking_effect rules session conversion cands.Back = becomes (with_state session (states.Reading conversion.reading))
 picking_effect rules session conversion cands.Register = not_built
 picking_effect rules session conversion cands.Purge = of_candidate conversion conversion.picking.place (purging session conversion)
-picking_effect rules session conversion (cands.Choose place choices.OpenSuffix) = not_built
 picking_effect rules session conversion (cands.Choose place behind) =
     of_candidate conversion place (choosing rules session conversion behind)
 

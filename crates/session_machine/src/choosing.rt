@@ -1,4 +1,4 @@
-ghost use Rattle.std.specs.Prelude.{◌≡◌, ◌<◌, length, IfOk};
+ghost use Rattle.std.specs.Prelude.{◌≡◌, ◌<◌, length, IfOk, OnOk};
 ghost use Rattle.std.specs.Str.{chars};
 ghost use Rattle.skk_calls.specs.declared.call.Call.TheVariants.{Learn};
 ghost use Rattle.reading_state.specs.Keys.{okuri_of};
@@ -94,7 +94,8 @@ fn insert_choice(
     shown: Shown<'_>,
     piece: &Text,
 ) -> Result<Call, Memory>
-    ensures { IfOk result (λ call. (call ≡ Learn session.old.book shown.entry.key.now (okuri_of reading.now) shown.entry.cand.now) × (session.new ≡ with_piece session.old piece.now)) }
+    ensures call { IfOk result (λ call. call ≡ Learn session.old.book shown.entry.key.now (okuri_of reading.now) shown.entry.cand.now) }
+    ensures inserted { OnOk result (session.new ≡ with_piece session.old piece.now) }
 {
     let call = learning(alloc, session.book, reading, shown)?;
     session.frame.text.push_str(piece.as_str())?;
@@ -150,7 +151,7 @@ fn apply_choice<C: Caller>(
         AfterChoose::Nothing => {}
         AfterChoose::Delete => session.shorten(),
         AfterChoose::Newline => session.insert("\n")?,
-        AfterChoose::OpenSuffix => return Err(PressFault::NotBuilt),
+        AfterChoose::OpenSuffix => session.put_state(State::Reading(Reading::suffix(alloc)?)),
         AfterChoose::Read(key) => {
             return press_in_plain(session, alloc, rules, Pending::new(), key, caller);
         }

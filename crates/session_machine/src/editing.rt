@@ -62,7 +62,7 @@ impl Session {
     {
         let bytes = self.frame.text.byte_len();
         if ends_at(&self.frame.last_choice, bytes) {
-            mem::replace(&mut self.frame.last_choice, None)
+            self.frame.last_choice.take()
         } else {
             None
         }

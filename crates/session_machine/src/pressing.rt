@@ -1,6 +1,6 @@
 ghost use Rattle.std.specs.Prelude.{◌≡◌, ◌≢◌, ◌<◌, ℕ, [], length, IfOk};
 ghost use Rattle.reading_state.specs.declared.reading_do.ReadingThen.TheVariants as effects;
-ghost use Rattle.session_machine.specs.Pressed.{is_okuri_key, is_space, pressed, plain_pressed, plain_typed, plain_effect, reading_pressed, reading_effect, picking_pressed, picking_effect};
+ghost use Rattle.session_machine.specs.Pressed.{pressed, plain_pressed, plain_typed, plain_effect, reading_pressed, reading_effect, picking_pressed, picking_effect};
 ghost use Rattle.session_machine.specs.Said.{Says, after};
 
 use crate::choosing::choose;
@@ -98,7 +98,7 @@ fn apply_plain<C: Caller>(
             let key = Key::Char(letter);
             return press_in_reading(session, alloc, rules, Reading::new(alloc), key, caller);
         }
-        PlainThen::OpenAbbrev => return Err(PressFault::NotBuilt),
+        PlainThen::OpenAbbrev => session.put_state(State::Reading(Reading::abbrev(alloc))),
         PlainThen::AskUndo => undo(session, alloc, caller),
     }
     Ok(())
@@ -117,13 +117,10 @@ fn press_in_reading<C: Caller>(
     ensures said { Says (reading_pressed rules.now session.old reading key) (after result session.new) (C.said caller.old) (C.said caller.new) }
     ensures number { C.number caller.new ≡ C.number caller.old }
 {
-    if is_okuri_key(key) {
-        return Err(PressFault::NotBuilt);
-    }
     let mut reading = reading;
     let ReadingDo { notice, then } = press_reading(alloc, &mut reading, rules, key)?;
     session.note(notice);
-    apply_reading(session, alloc, reading, key, then, caller)
+    apply_reading(session, alloc, reading, then, caller)
 }
 
 // Does what a key of the reading state does.
@@ -132,18 +129,17 @@ fn apply_reading<C: Caller>(
     session: &mut Session,
     alloc: Global,
     reading: Reading,
-    key: Key,
     then: ReadingThen,
     caller: &mut C,
 ) -> Result<(), PressFault>
     requires { then ≡ effects.Convert → reading.text ≢ [] }
-    ensures said { Says (reading_effect session.old reading key (then)) (after result session.new) (C.said caller.old) (C.said caller.new) }
+    ensures said { Says (reading_effect session.old reading (then)) (after result session.new) (C.said caller.old) (C.said caller.new) }
     ensures number { C.number caller.new ≡ C.number caller.old }
 {
     match then {
         ReadingThen::Stay => session.put_state(State::Reading(reading)),
-        ReadingThen::Convert if is_space(key) => return convert(session, alloc, reading, caller),
-        ReadingThen::Convert | ReadingThen::AskCompletions => return Err(PressFault::NotBuilt),
+        ReadingThen::Convert => return convert(session, alloc, reading, caller),
+        ReadingThen::AskCompletions => return Err(PressFault::NotBuilt),
         ReadingThen::Drop => {}
         ReadingThen::Confirm { other, then } => confirm(session, alloc, reading, other, then)?,
     }
@@ -204,26 +200,8 @@ fn apply_picking<C: Caller>(
         }
         CandsDo::Register => Err(PressFault::NotBuilt),
         CandsDo::Purge => purge(session, alloc, conversion, caller),
-        CandsDo::Choose {
-            place: _,
-            then: AfterChoose::OpenSuffix,
-        } => Err(PressFault::NotBuilt),
         CandsDo::Choose { place, then } => {
             choose(session, alloc, rules, conversion, place, then, caller)
         }
     }
-}
-
-// Whether a key is an upper-case letter that may begin an okurigana.
-fn is_okuri_key(key: Key) -> bool
-    ensures { result ≡ is_okuri_key key }
-{
-    matches!(key, Key::Char(b'A'..=b'K' | b'M'..=b'P' | b'R'..=b'Z'))
-}
-
-// Whether a key is the space.
-fn is_space(key: Key) -> bool
-    ensures { result ≡ is_space key }
-{
-    key == Key::Char(b' ')
 }

@@ -299,15 +299,35 @@ Ka_<bs><undo> 12 learned restored=|no-undo
 Ka_<cj><bs>a<undo> 12 learned restored=あ|no-undo
 Ka_<cj>Ka__<cj><undo> 12 learned 12 learned restored=甲▼乙|undone
 Ka_<cj>Ka_<cj><undo><cg><cg><undo> 12 learned 12 learned restored=甲|no-undo
-/ =~
+/ =▽|
+n/aQ-> =ん▽aQ->|
+/;a =▽a|
+/ab_ 12=▼甲|
+/_ =|
+KaK =▽か*k|
+KaK_ =▽か|
+KaKu 12=▼甲く|
+qKakKu 12=▼甲ック|
+KaKu<cg> 12=▽か*く|
+KaKu memory=▽か*く|refused memory
+KaKu_ 12=▼乙く|;二
+aKaKu<cj> 12 learned=あ甲く|
+KaKu<cj><undo> 12 learned restored=▼甲く|undone
+KaKuXy 12 purged=|purged
+Ka> 12=▼甲|
+Kan><cg> 12=▽かん>|
+Ka_> 12 learned=甲▽>|
+Ka_/ 12 learned=甲▽|
+Ka> memory=▽か>|refused memory
 Ka<tab> =~
-Ka> =~
-KaK =~
 Q1_ =~
+Q1> =~
+Q1A =~
+/a1_ =~
+KaKu 0=~
 Ka_ 0=~
 Ka__ 1=~
 Ka______ 11=~
-Ka_> 12=~
 ";
 
 // What a case has of a session.
@@ -324,7 +344,7 @@ fn shown(alloc: Global, ended: Result<Session, PressFault>) -> Result<String, Fa
 #[test]
 fn sessions_are_shown(rt: HostRuntime) -> Result<(), Fail> {
     let alloc = rt.alloc();
-    assert_eq!(rt; CASES.lines().count(), 97);
+    assert_eq!(rt; CASES.lines().count(), 117);
     for case in CASES.lines().skip(1) {
         let (typing, wanted) = case.split_once('=').ok_or("no `=`")?;
         let (keys, words) = typing.split_once(' ').ok_or("no space")?;

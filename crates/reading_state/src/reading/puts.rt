@@ -59,8 +59,14 @@ impl Reading {
         ensures err { OnErr result (self.new ≡ self.old) }
     {
         let notice = match &mut self.okuri {
-            Some(begun) => put_in_okuri(alloc, &mut begun.text, piece)?,
-            None => put_in_reading(alloc, &mut self.text, piece)?,
+            Some(begun) => {
+                let accepted = accepted_by_okuri(alloc, &begun.text, piece);
+                push_accepted(&mut begun.text, &accepted)?
+            }
+            None => {
+                let accepted = accepted_by_reading(alloc, &self.text, piece);
+                push_accepted(&mut self.text, &accepted)?
+            }
         };
         self.pending = pending;
         Ok(notice)
@@ -88,7 +94,7 @@ impl Reading {
     pub(super) fn accepted_flush(&self, alloc: Global, rules: &Rules) -> Result<Accepted, Memory>
         requires { self.now.okuri ≡ None }
         ensures flush { IfOk result (λ accepted. flush rules.now self.now ≡ record {
-          reading = record { text = self.now.text ++ accepted.text; is_abbrev = self.now.is_abbrev; okuri = None; pending = [] };
+          reading = record { text = self.now.text ++ accepted.text; is_abbrev = self.now.is_abbrev; okuri = None; pending = []; completions = self.now.completions };
           notice = accepted.notice;
         }) }
         ensures may { IfOk result (λ accepted. may_read (self.now.text ++ accepted.text) ≡ true) }
@@ -154,28 +160,12 @@ impl Reading {
     }
 }
 
-// Puts a piece at the end of a reading, where it is accepted.
-fn put_in_reading(alloc: Global, text: &mut Text, piece: Text) -> Result<Notice, Memory>
-    requires { may_read text.old ≡ true }
-    ensures notice { IfOk result (λ notice. notice ≡ refusal reading_limit may_read text.old piece) }
-    ensures text { IfOk result (λ notice. text.new ≡ unless_refused notice text.old piece) }
-    ensures may { may_read text.new ≡ true }
+// Puts what is accepted at the end of a text, and gives the notice of that.
+fn push_accepted(text: &mut Text, accepted: &Accepted) -> Result<Notice, Memory>
+    ensures notice { IfOk result (λ notice. notice ≡ accepted.now.notice) }
+    ensures text { IfOk result (λ notice. text.new ≡ text.old ++ accepted.now.text) }
     ensures err { OnErr result (text.new ≡ text.old) }
 {
-    let accepted = accepted_by_reading(alloc, text, piece);
-    text.push_str(accepted.text.as_str())?;
-    Ok(accepted.notice)
-}
-
-// Puts a piece at the end of an okurigana, where it is accepted.
-fn put_in_okuri(alloc: Global, text: &mut Text, piece: Text) -> Result<Notice, Memory>
-    requires { may_end text.old ≡ true }
-    ensures notice { IfOk result (λ notice. notice ≡ refusal okuri_limit may_end text.old piece) }
-    ensures text { IfOk result (λ notice. text.new ≡ unless_refused notice text.old piece) }
-    ensures may { may_end text.new ≡ true }
-    ensures err { OnErr result (text.new ≡ text.old) }
-{
-    let accepted = accepted_by_okuri(alloc, text, piece);
     text.push_str(accepted.text.as_str())?;
     Ok(accepted.notice)
 }
