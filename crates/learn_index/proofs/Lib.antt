@@ -1,5 +1,6 @@
 mod Books
 mod Changes
 mod Examples
+mod FoundBook
 mod Places
 mod Planned
