@@ -17,7 +17,7 @@ use Rattle.skk_calls.specs.Rows.{RowKey, Row}
 use Rattle.skk_calls.specs.States.{State, book_rows, rows_of, with_book, with_row, state_with, books_ascend, is_valid}
 use Rattle.skk_calls.specs.Tallies.{count_rows}
 use Rattle.learn_index.specs.declared.book.LearnedBook.{LearnedBook}
-use Rattle.dict_layers.specs.Finding.{passes}
+use Rattle.skk_text.specs.Places.{passes}
 use Rattle.learn_index.specs.Index.{Index, Spare, changes_of, spare_of}
 use Rattle.learn_index.specs.Kept.{numbered, kept, has_changed, changed, spare, keeps_book, IsKept}
 use Rattle.learn_index.specs.Records.{state_counted}

@@ -17,7 +17,7 @@ use Rattle.skk_calls.specs.OrderLaws.{insert_first, less_trans, key_order, keys_
 use Rattle.skk_calls.specs.Orders.{insert_by, key_less}
 use Rattle.skk_calls.specs.Rows.{same_key}
 use Rattle.skk_calls.specs.RowsInOrder.{less_differs, greater_differs}
-use Rattle.dict_layers.specs.Finding.{passes}
+use Rattle.skk_text.specs.Places.{passes}
 
 -- an order of keys, and which of them are the same
 pub record Keys {K : Type 0} (less same : K → K → Bool) : Type 0 where

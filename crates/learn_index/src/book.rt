@@ -6,7 +6,7 @@ ghost use Rattle.skk_calls.specs.Orders.{key_less};
 ghost use Rattle.skk_calls.specs.Rows.{same_key};
 ghost use Rattle.skk_calls.specs.RowsInOrder.{if_same};
 ghost use Rattle.skk_calls.specs.States.{row_in, with_row, without_row, rows_ascend};
-ghost use Rattle.dict_layers.specs.Finding.{passes};
+ghost use Rattle.skk_text.specs.Places.{passes};
 
 use crate::kept_row::KeptRow;
 use skk_calls::{Row, RowKey, Rows};

@@ -2,7 +2,7 @@ ghost use Rattle.std.specs.Prelude.{◌≡◌, ◌==◌, ◌<◌, ◌≤◌, tru
 ghost use Rattle.std.specs.List.Sorted.{IsPartitionPoint};
 ghost use Rattle.std.specs.Option.{option_and_then, option_copied, option_map};
 ghost use Rattle.skk_calls.specs.States.{books_ascend, book_at};
-ghost use Rattle.dict_layers.specs.Finding.{passes};
+ghost use Rattle.skk_text.specs.Places.{passes};
 ghost use Rattle.learn_index.specs.Kept.{kept, numbered};
 
 use crate::book::LearnedBook;

@@ -1,7 +1,7 @@
 use Rattle.std.proofs.Common.{◌≡◌, ◌==◌, ◌≤◌, ◌∙◌, false, length, ap, sym, subst, slice_get, arith}
 use Rattle.std.specs.List.{insert}
 use Rattle.learn_index.specs.declared.book.LearnedBook.{LearnedBook}
-use Rattle.dict_layers.specs.Finding.{passes}
+use Rattle.skk_text.specs.Places.{passes}
 use Rattle.learn_index.specs.Index.{Index}
 use Rattle.learn_index.specs.Kept.{changed, keeps_book, kept, IsKept}
 use Rattle.learn_index.proofs.Changes.{kept_new, new_there, state_insert, there_by}
