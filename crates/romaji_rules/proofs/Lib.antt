@@ -1,8 +1,12 @@
 pub mod Begins
+pub mod CutLines
 mod Examples
+mod FileExamples
+pub mod FileRules
 pub mod Fits
 pub mod Found
 pub mod InOrder
 pub mod Indexed
+pub mod ReadLines
 pub mod Rows
 pub mod Step

@@ -2,6 +2,8 @@ pub mod Fed
 pub mod Fitting
 pub mod InOrder
 pub mod Output
+pub mod RuleFiles
+pub mod RuleLines
 pub mod Standard
 pub mod Standing
 pub mod Table

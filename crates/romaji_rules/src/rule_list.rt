@@ -1,8 +1,9 @@
-ghost use Rattle.std.specs.Prelude.{◌≡◌, ◌≤◌, ◌∷◌, ◌++◌, [], true, false, not, None, ℕ, List, length, slice_get, IfOk};
+ghost use Rattle.std.specs.Prelude.{◌≡◌, ◌≤◌, ◌∷◌, ◌++◌, [], true, false, not, None, List, length, position, slice_get, IfOk};
 ghost use Rattle.std.specs.Option.{option_copied, option_and_then};
 ghost use Rattle.skk_text.specs.Places.{passes};
 ghost use Rattle.romaji_rules.specs.Fitting.{inputs_differ};
 ghost use Rattle.romaji_rules.specs.InOrder.{bytes_less, IsIndexed, IsParted};
+ghost use Rattle.romaji_rules.specs.RuleFiles.{has_bad_next};
 ghost use Rattle.romaji_rules.specs.Typed.{rule_of, begins_input};
 
 use crate::rule::Rule;
@@ -90,6 +91,30 @@ impl RuleList {
             Some(rule) => rule.input.as_slice().starts_with(text),
             None => false,
         }
+    }
+
+    /// How many rules there are.
+    pub fn len(&self) -> usize
+        ensures { result ≡ length self.now }
+    {
+        self.rules.len()
+    }
+
+    /// The place of the first rule whose next text is bad among all. Takes time in the number of rules, and with one
+    /// logarithm in it.
+    pub fn bad_next(&self) -> Option<usize>
+        ensures differ { inputs_differ self.now ≡ true }
+        ensures place { result ≡ position (has_bad_next self.now) self.now }
+    {
+        self.rules.iter().position(|rule| self.has_bad_next(rule))
+    }
+
+    // Whether the next text of a rule is bad among these.
+    fn has_bad_next(&self, rule: &Rule) -> bool
+        ensures { result ≡ has_bad_next self.now rule.now }
+    {
+        let next = rule.next.as_slice();
+        !next.is_empty() && (!self.begins_input(next) || self.begins_input(rule.input.as_slice()))
     }
 }
 

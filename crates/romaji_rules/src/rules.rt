@@ -1,5 +1,8 @@
-ghost use Rattle.std.specs.Prelude.{◌≡◌, ◌≤◌, ◌<◌, ◌↔◌, ◌⊎◌, IsTrue, true, false, ℕ, List, [], ◌∷◌, ◌++◌, length, is_some, OnOk, OnErr, IfOk, IfSome, IsSome, IsNone};
-ghost use Rattle.std.specs.Option.{option_copied};
+ghost use Rattle.std.specs.Prelude.{◌≡◌, ◌≤◌, ◌<◌, ◌↔◌, ◌⊎◌, IsTrue, true, false, ℕ, List, [], ◌∷◌, ◌++◌, length, is_some, OnOk, OnErr, IfOk, IfSome, IsSome, IsNone, IsErrOf, Ok, Err};
+ghost use Rattle.std.specs.Str.{IsUtf8};
+ghost use Rattle.std.specs.Str.Lossy.{utf8_valid_len};
+ghost use Rattle.skk_text.specs.Results.{AnswersUnless};
+ghost use Rattle.romaji_rules.specs.RuleFiles.{file_limit, rules_in};
 ghost use Rattle.romaji_rules.specs.Standing.{IsStanding};
 ghost use Rattle.romaji_rules.specs.Typed.{goes_on, extends_pending, flushed, fed, fed_alone};
 ghost use Rattle.romaji_rules.specs.Fed.{Fed, Flushed, GoesOn, BeginsInput};
@@ -8,6 +11,8 @@ ghost use Rattle.romaji_rules.specs.Standard.{standard};
 
 use crate::out::Out;
 use crate::pending::Pending;
+use crate::rule_fault::RuleFault;
+use crate::rule_file::{RULE_FILE_LIMIT, read_rules};
 use crate::rule_list::RuleList;
 use crate::standard::standard_rules;
 use crate::standing::Standing;
@@ -15,6 +20,7 @@ use arrayvec::ArrayVec;
 use skk_text::{Copies, Memory};
 use std::alloc::Global;
 use std::marker::Model;
+use std::str;
 
 /// A rule set.
 #[derive(Debug, Drop)]
@@ -43,6 +49,37 @@ impl Rules {
         Ok(Rules {
             rules: RuleList::of(alloc, rules)?,
         })
+    }
+
+    /// Reads a rule file: the rules of its lines, in their order. Takes time in its bytes, and for its rules with one
+    /// logarithm in their number.
+    pub fn read(alloc: Global, bytes: &[u8]) -> Result<Rules, RuleFault>
+        ensures ok { IfOk result (λ rules. rules_in bytes.now ≡ Ok rules) }
+        ensures exact { length bytes.now ≤ file_limit → IsUtf8 bytes.now → AnswersUnless RuleFault.Memory result (rules_in bytes.now) }
+        ensures too_long { file_limit < length bytes.now → result ≡ Err (RuleFault.TooLong (length bytes.now)) }
+        ensures only_too_long { (count : ℕ) → IsErrOf result (RuleFault.TooLong count) → file_limit < length bytes.now }
+        ensures not_utf8 { length bytes.now ≤ file_limit → (¬ IsUtf8 bytes.now) → result ≡ Err (RuleFault.NotUtf8 (utf8_valid_len bytes.now)) }
+        ensures only_not_utf8 { (at : ℕ) → IsErrOf result (RuleFault.NotUtf8 at) → (length bytes.now ≤ file_limit) × ¬ IsUtf8 bytes.now }
+    {
+        if bytes.len() > RULE_FILE_LIMIT {
+            return Err(RuleFault::TooLong { bytes: bytes.len() });
+        }
+        match str::from_utf8(bytes) {
+            Ok(text) => Rules::of_text(alloc, text),
+            Err(fault) => Err(RuleFault::NotUtf8 {
+                at: fault.valid_up_to(),
+            }),
+        }
+    }
+
+    // The rules of a file that is not too long and is UTF-8.
+    fn of_text(alloc: Global, text: &str) -> Result<Rules, RuleFault>
+        ensures { AnswersUnless RuleFault.Memory result (rules_in text.now) }
+    {
+        match read_rules(alloc, text) {
+            Ok(rules) => Ok(Rules { rules }),
+            Err(fault) => Err(fault),
+        }
     }
 
     /// Whether what is pending, followed by `c`, is an input or begins one. Takes time with a logarithm in the

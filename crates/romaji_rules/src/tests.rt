@@ -1,4 +1,4 @@
-use crate::{Out, Pending, Rules};
+use crate::{Out, Pending, RuleFault, Rules};
 use skk_text::{Copies, Memory, Text};
 use std::alloc::Global;
 use std::test::Fail;
@@ -114,5 +114,89 @@ fn outputs_are_made_and_appended(rt: HostRuntime) -> Result<(), Fail> {
     let copy = out.copy(rt.alloc())?;
     assert_eq!(rt; copy.hira.as_str(), "なq");
     assert_eq!(rt; copy.kata.as_str(), "ナq");
+    Ok(())
+}
+
+// The fault of a file, if it has one.
+fn fault_of(alloc: Global, file: &str) -> Option<RuleFault> {
+    Rules::read(alloc, file.as_bytes()).err()
+}
+
+#[test]
+fn rule_files_are_read_or_refused(rt: HostRuntime) -> Result<(), Fail> {
+    for (file, fault) in [
+        ("", None),
+        ("ka\t\tか\tカ\n", None),
+        (
+            "ka\t\tか\tカ\nka\t\tか\tカ\n",
+            Some(RuleFault::Twice { line: 2 }),
+        ),
+        ("kk\tk\tっ\tッ\n", None),
+        ("a\tb\tあ\tア\n", Some(RuleFault::BadNext { line: 1 })),
+        // a comment, an empty line, and CR before LF
+        ("# か\r\n\r\nka\t\tか\tカ\r\nki\t\tき\tキ", None),
+        // a last line keeps its CR, and a mark at the beginning stays
+        ("ka\t\tか\tカ\r", Some(RuleFault::BadLine { line: 1 })),
+        ("\u{FEFF}ka\t\tか\tカ\n", Some(RuleFault::BadLine { line: 1 })),
+        // inputs of 8 and 9 bytes, and one with an upper-case letter
+        ("abcdefgh\t\tあ\tア\n", None),
+        ("abcdefghi\t\tあ\tア\n", Some(RuleFault::BadLine { line: 1 })),
+        ("kA\t\tか\tカ\n", Some(RuleFault::BadLine { line: 1 })),
+        // next texts of 8 and 9 bytes
+        ("a\tabcdefgh\tあ\tア\n", Some(RuleFault::BadNext { line: 1 })),
+        ("a\tabcdefghi\tあ\tア\n", Some(RuleFault::BadLine { line: 1 })),
+        // outputs of 24 and 25 bytes, an empty one, and one with a space
+        ("a\t\tああああああああ\tア\n", None),
+        ("a\t\tああああああああa\tア\n", Some(RuleFault::BadLine { line: 1 })),
+        ("a\t\t\t\n", None),
+        ("a\t\tあ \tア\n", Some(RuleFault::BadLine { line: 1 })),
+        // three fields, and five
+        ("a\t\tあ\n", Some(RuleFault::BadLine { line: 1 })),
+        ("a\t\tあ\tア\t\n", Some(RuleFault::BadLine { line: 1 })),
+        // the input of a rule with a next text begins another
+        (
+            "k\tk\tっ\tッ\nka\t\tか\tカ\n",
+            Some(RuleFault::BadNext { line: 1 }),
+        ),
+        // of two faults the first line is told, and a fault of a line by itself before one among all
+        (
+            "a\tb\tあ\tア\na\t\tあ\tア\nA\n",
+            Some(RuleFault::Twice { line: 2 }),
+        ),
+        (
+            "a\t\tあ\tア\nA\na\t\tあ\tア\n",
+            Some(RuleFault::BadLine { line: 2 }),
+        ),
+    ] {
+        assert!(rt; fault_of(rt.alloc(), file) == fault, "{file}");
+    }
+    Ok(())
+}
+
+// A file of so many rules, of which the 4,097th has the input of the first.
+fn many_rules(alloc: Global, count: usize) -> Result<Text, Memory> {
+    let mut file = Text::new(alloc);
+    for n in 0..count {
+        for digit in [n / 256, n / 16, n] {
+            file.push(char::from(b'a' + (digit % 16) as u8))?;
+        }
+        file.push_str("\t\tあ\tア\n")?;
+    }
+    Ok(file)
+}
+
+#[test]
+fn rule_files_have_limits(rt: HostRuntime) -> Result<(), Fail> {
+    let alloc = rt.alloc();
+    let most = many_rules(alloc, 4096)?;
+    assert!(rt; fault_of(alloc, most.as_str()) == None);
+    let more = many_rules(alloc, 4097)?;
+    assert!(rt; fault_of(alloc, more.as_str()) == Some(RuleFault::BadLine { line: 4097 }));
+    let mut bytes = Vec::new(alloc);
+    bytes.resize(1_048_576, b'#')?;
+    assert!(rt; Rules::read(alloc, &bytes).is_ok());
+    bytes.push(b'#')?;
+    assert!(rt; Rules::read(alloc, &bytes).err() == Some(RuleFault::TooLong { bytes: 1_048_577 }));
+    assert!(rt; Rules::read(alloc, b"#\xFFa").err() == Some(RuleFault::NotUtf8 { at: 1 }));
     Ok(())
 }
