@@ -445,10 +445,7 @@ fn word(alloc: Global, content: &str) -> Result<Text, Fail>
 // The words of candidates.
 fn told_words(alloc: Global, cands: &Cands) -> Result<String, Fail> {
     let mut told = String::new(alloc);
-    for cand in cands.as_slice() {
-        told.push(' ')?;
-        told.push_str(cand.word().as_str())?;
-    }
+    add_words(&mut told, cands)?;
     trimmed(alloc, &told)
 }
 
@@ -460,6 +457,15 @@ fn told_readings(alloc: Global, book: &Book) -> Result<String, Fail> {
         told.push_str(row.key().reading().as_str())?;
     }
     trimmed(alloc, &told)
+}
+
+// The words of candidates, each with a space before it.
+fn add_words(told: &mut String, cands: &Cands) -> Result<(), AllocError> {
+    for cand in cands.as_slice() {
+        told.push(' ')?;
+        told.push_str(cand.word().as_str())?;
+    }
+    Ok(())
 }
 
 // Texts, each with a space before it.
@@ -476,23 +482,23 @@ fn told_row(alloc: Global, row: Option<&Row>) -> Result<String, Fail> {
     let Some(row) = row else {
         return Ok(String::from_str(alloc, "none")?);
     };
-    let words = told_words(alloc, row.cands())?;
-    let blocks = told_blocks(alloc, row.blocks())?;
-    let mut hides = String::new(alloc);
-    add_texts(&mut hides, row.hides())?;
-    let told = format!(in alloc; "{}: {words} / {blocks} /{hides}", row.stamp())?;
-    Ok(told.replace(alloc, "  ", " ")?)
+    let mut told = format!(in alloc; "{}:", row.stamp())?;
+    add_words(&mut told, row.cands())?;
+    told.push_str(" /")?;
+    add_blocks(&mut told, row.blocks())?;
+    told.push_str(" /")?;
+    add_texts(&mut told, row.hides())?;
+    Ok(told)
 }
 
 // The blocks of a row, each its okurigana and its words.
-fn told_blocks(alloc: Global, blocks: &Blocks) -> Result<String, Fail> {
-    let mut told = String::new(alloc);
+fn add_blocks(told: &mut String, blocks: &Blocks) -> Result<(), AllocError> {
     for block in blocks.as_slice() {
         told.push(' ')?;
         told.push_str(block.okuri().text().as_str())?;
-        add_texts(&mut told, block.words())?;
+        add_texts(told, block.words())?;
     }
-    trimmed(alloc, &told)
+    Ok(())
 }
 
 // A text without the spaces around it.
@@ -529,7 +535,7 @@ fn put_into(
     row: Row,
 ) -> Result<String, Fail> {
     if !fits_count(&row, count) || count < index.count(number) {
-        return Ok(String::from_str(alloc, "does not fit")?);
+        return Err("does not fit".into());
     }
     index.put(alloc, number, count, row)?;
     done(alloc)
