@@ -10,7 +10,6 @@ mod prefix;
 mod puts;
 
 pub use completing::Completions;
-
 use romaji_rules::Pending;
 use skk_calls::{Okuri, Part, RowKey};
 use skk_text::{Copies, Memory, Text};

@@ -137,7 +137,10 @@ fn completions_are_gone_over(rt: HostRuntime) -> Result<(), Fail> {
         let (keys, wanted) = case.split_once('=').ok_or("no `=`")?;
         let mut reading = Reading::new(alloc);
         press_keys(alloc, &mut reading, &rules, "ka")?;
-        assert_eq!(rt; reading.complete(alloc, completions(alloc)?)?, Notice::Empty);
+        assert_eq!(rt;
+            reading.complete(alloc, completions(alloc)?)?,
+            Notice::Empty
+        );
         let done = press_keys(alloc, &mut reading, &rules, keys)?;
         assert_eq!(rt;
             shown(alloc, &reading, done)?.as_str(),
@@ -146,7 +149,10 @@ fn completions_are_gone_over(rt: HostRuntime) -> Result<(), Fail> {
         );
     }
     let mut reading = Reading::new(alloc);
-    assert_eq!(rt; reading.complete(alloc, Texts::new(alloc))?, Notice::NoCompletion);
+    assert_eq!(rt;
+        reading.complete(alloc, Texts::new(alloc))?,
+        Notice::NoCompletion
+    );
     Ok(())
 }
 
