@@ -1,8 +1,8 @@
 -- A rule file: its lines, the rules that they spell, and the fault for which it is refused.
-use Rattle.std.specs.Prelude.{ℕ, Bool, false, ◌==◌, ◌&&◌, ◌||◌, not, nat_le, nat_lt, if◌then◌else◌, Option, None, Some, Result, Ok, Err, List, [], ◌∷◌, ◌++◌, find, is_some, length, map}
+use Rattle.std.specs.Prelude.{◌≤◌, ℕ, Bool, true, false, ◌==◌, ◌&&◌, ◌||◌, not, nat_le, nat_lt, if◌then◌else◌, Option, None, Some, Result, Ok, Err, List, [], ◌∷◌, ◌++◌, find, is_some, length, map}
 use Rattle.std.specs.List.{enumerate_from, filter, filter_map, list_all, slice_split}
 use Rattle.std.specs.Option.{option_map, option_or}
-use Rattle.std.specs.Str.{chars}
+use Rattle.std.specs.Str.{IsUtf8, chars}
 use Rattle.skk_text.specs.Lines.{line_feed, lines_of}
 use Rattle.skk_calls.specs.Canonical.{has_item}
 use Rattle.romaji_rules.specs.declared.rule.Rule.{Rule}
@@ -112,6 +112,17 @@ first_next_fault all = option_map (λ numbered. BadNext numbered.0) (find (λ nu
 abbrev pub refused_or : {X : Type 0} → Option RuleFault → Result X RuleFault → Result X RuleFault
 refused_or None answer = answer
 refused_or (Some fault) answer = Err fault
+
+-- bytes may be a rule file: they are not too many, and UTF-8
+abbrev pub MayBeRules : List ℕ → Type 0
+MayBeRules bytes = (length bytes ≤ file_limit) × IsUtf8 bytes
+
+-- whether a fault is that of a line
+abbrev pub is_of_line : RuleFault → Bool
+is_of_line (BadLine line) = true
+is_of_line (Twice line) = true
+is_of_line (BadNext line) = true
+is_of_line fault = false
 
 -- what a file comes to that is UTF-8 and not too long: the first fault that a line has by itself, or else the first among
 -- all rules, or else the rules of its lines

@@ -1,8 +1,8 @@
-ghost use Rattle.std.specs.Prelude.{◌≡◌, ◌≤◌, ◌<◌, ◌↔◌, ◌⊎◌, IsTrue, true, false, ℕ, List, [], ◌∷◌, ◌++◌, length, is_some, OnOk, OnErr, IfOk, IfSome, IsSome, IsNone, IsErrOf, Ok, Err};
+ghost use Rattle.std.specs.Prelude.{◌≡◌, ◌≤◌, ◌<◌, ◌↔◌, ◌⊎◌, IsTrue, true, false, ℕ, List, [], ◌∷◌, ◌++◌, length, is_some, OnOk, OnErr, IfOk, IfErr, IfSome, IsSome, IsNone, IsErrOf, Ok, Err};
 ghost use Rattle.std.specs.Str.{IsUtf8};
 ghost use Rattle.std.specs.Str.Lossy.{utf8_valid_len};
 ghost use Rattle.skk_text.specs.Results.{AnswersUnless};
-ghost use Rattle.romaji_rules.specs.RuleFiles.{file_limit, rules_in};
+ghost use Rattle.romaji_rules.specs.RuleFiles.{MayBeRules, file_limit, is_of_line, rules_in};
 ghost use Rattle.romaji_rules.specs.Standing.{IsStanding};
 ghost use Rattle.romaji_rules.specs.Typed.{goes_on, extends_pending, flushed, fed, fed_alone};
 ghost use Rattle.romaji_rules.specs.Fed.{Fed, Flushed, GoesOn, BeginsInput};
@@ -55,7 +55,9 @@ impl Rules {
     /// logarithm in their number.
     pub fn read(alloc: Global, bytes: &[u8]) -> Result<Rules, RuleFault>
         ensures ok { IfOk result (λ rules. rules_in bytes.now ≡ Ok rules) }
-        ensures exact { length bytes.now ≤ file_limit → IsUtf8 bytes.now → AnswersUnless RuleFault.Memory result (rules_in bytes.now) }
+        ensures may { IfOk result (λ rules. MayBeRules bytes.now) }
+        ensures exact { MayBeRules bytes.now → AnswersUnless RuleFault.Memory result (rules_in bytes.now) }
+        ensures only_lines { IfErr result (λ fault. is_of_line fault ≡ true → MayBeRules bytes.now × (rules_in bytes.now ≡ Err fault)) }
         ensures too_long { file_limit < length bytes.now → result ≡ Err (RuleFault.TooLong (length bytes.now)) }
         ensures only_too_long { (count : ℕ) → IsErrOf result (RuleFault.TooLong count) → file_limit < length bytes.now }
         ensures not_utf8 { length bytes.now ≤ file_limit → (¬ IsUtf8 bytes.now) → result ≡ Err (RuleFault.NotUtf8 (utf8_valid_len bytes.now)) }

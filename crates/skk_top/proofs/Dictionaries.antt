@@ -62,6 +62,7 @@ leaves-listed number listed bytes known reads reads' is lists only counted = rec
   not_utf8 = λ k at e. absurd (cc);
   outside = λ e. absurd (cc);
   fault = search rules;
+  no_rules = search rules;
   counted = counted;
 }
 
@@ -77,6 +78,7 @@ leaves-refused number (files.TooLong count) bytes known reads reads' is long at_
   not_utf8 = λ k at e. absurd (cc);
   outside = λ e. absurd (cc);
   fault = refl;
+  no_rules = refl;
   counted = counted;
 }
 leaves-refused number (files.NotUtf8 at) bytes known reads reads' is long at_end bad counted = record {
@@ -89,6 +91,7 @@ leaves-refused number (files.NotUtf8 at) bytes known reads reads' is long at_end
       let stops : place ≡ utf8_valid_len bytes = cc in (cc, each_some known (λ file f. subst (λ b. IsBadDictionary b place) f (parts.0, parts.1, stops)) is);
   outside = λ e. absurd (cc);
   fault = refl;
+  no_rules = refl;
   counted = counted;
 }
 leaves-refused number files.Memory bytes known reads reads' is long at_end bad counted = record {
@@ -97,6 +100,7 @@ leaves-refused number files.Memory bytes known reads reads' is long at_end bad c
   not_utf8 = λ k at e. absurd (cc);
   outside = λ e. absurd (cc);
   fault = refl;
+  no_rules = refl;
   counted = counted;
 }
 
@@ -110,6 +114,7 @@ leaves-unread number reading.TooLong known reads reads' long failed counted = re
   not_utf8 = λ k at e. absurd (cc);
   outside = λ e. absurd (cc);
   fault = refl;
+  no_rules = refl;
   counted = counted;
 }
 leaves-unread number reading.Failed known reads reads' long failed counted = record {
@@ -118,6 +123,7 @@ leaves-unread number reading.Failed known reads reads' long failed counted = rec
   not_utf8 = λ k at e. absurd (cc);
   outside = λ e. failed refl;
   fault = refl;
+  no_rules = refl;
   counted = counted;
 }
 leaves-unread number reading.Memory known reads reads' long failed counted = record {
@@ -126,6 +132,7 @@ leaves-unread number reading.Memory known reads reads' long failed counted = rec
   not_utf8 = λ k at e. absurd (cc);
   outside = λ e. absurd (cc);
   fault = refl;
+  no_rules = refl;
   counted = counted;
 }
 
@@ -141,5 +148,6 @@ leaves-stopped tells books names name k number fault first reads reads' within c
       let has = one.not_utf8 n at (ap Err (cc)) in is_first (λ bytes. IsBadDictionary bytes at) tells books names name k n within count (has.0 ∙ is) rows has.1;
   outside = λ e. rose (one.outside (ap Err (cc)));
   fault = one.fault;
+  no_rules = one.no_rules;
   counted = omega (arith, counted, one.counted);
 }

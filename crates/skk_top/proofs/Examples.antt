@@ -5,7 +5,7 @@ use Prim.Native.String.{String}
 use Rattle.std.specs.Fmt.{digits}
 use Rattle.skk_outside.specs.declared.source.ReadFault.TheVariants as reading
 use Rattle.skk_text.specs.declared.key.Key.{Key}
-use Rattle.skk_text.specs.declared.key.Key.TheVariants.{Char, Undo}
+use Rattle.skk_text.specs.declared.key.Key.TheVariants.{Char, Tab, Undo}
 use Rattle.romaji_rules.specs.declared.rule.Rule.{Rule}
 use Rattle.romaji_rules.specs.Standard.{rule}
 use Rattle.skk_text.specs.Lines.{lines_of}
@@ -69,7 +69,7 @@ three_sessions = refl
 
 -- a script with a key that is not built in its middle: what is printed before it
 abbrev stopped : List Line
-stopped = Keys 1 (letters "a") ∷ Keys 1 (letters "a/") ∷ Keys 1 (letters "a") ∷ []
+stopped = Keys 1 (letters "a") ∷ Keys 1 (letters "aQ" ++ Tab ∷ []) ∷ Keys 1 (letters "a") ∷ []
 
 typed_so_far : map (λ lines. printed (typing table [] lines) []) ([] ∷ stopped ∷ []) ≡ [] ∷ fields "1" "かな" "あ" "" ∷ []
 unfolding encode digits

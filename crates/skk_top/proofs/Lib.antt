@@ -14,6 +14,7 @@ pub mod PrintedChecks
 mod RangeExamples
 pub mod Ranges
 pub mod Reading
+pub mod RuledRuns
 pub mod Runs
 pub mod Scripts
 pub mod SessionMaps

@@ -19,11 +19,11 @@ use Rattle.dict_format.specs.declared.file.Listed.{Listed}
 use Rattle.skk_top.specs.Answering.{said_in}
 use Rattle.skk_top.specs.Dictionaries.{AreDictionaries, AreRowsOf, IsDictionary, IsNoDictionary, IsLongDictionary, IsBadDictionary, IsFirst, TellsDictionaries, LeavesDictionaries}
 use Rattle.skk_top.specs.Script.{IsScript}
-use Rattle.skk_top.specs.Status.{Ended, run_status, run_message, status_of, message_of, HasStatus}
+use Rattle.skk_top.specs.Status.{Ended, run_status, run_message, status_of, message_of, HasStatus, is_of_rules}
 use Rattle.skk_top.specs.TypeCommand.{LeavesTyped, LeavesScript, LeavesAnswered, IsTooLong, IsBadAt, IsRefused, IsRefusal, PrintsScript, AsksScript}
 use Rattle.skk_top.specs.Typed.{typed, typed_alone, typing}
 use Rattle.skk_top.specs.declared.fault.RunFault.{RunFault}
-use Rattle.skk_top.specs.declared.fault.RunFault.TheVariants.{Words, TooLong, BadLine, LongDictionary, BadDictionary, Outside, Memory, NotBuilt}
+use Rattle.skk_top.specs.declared.fault.RunFault.TheVariants.{Words, TooLong, BadLine, LongRules, BadRules, BadRule, LongDictionary, BadDictionary, Outside, Memory, NotBuilt}
 use Rattle.skk_top.specs.declared.line.Line.{Line}
 use Rattle.skk_top.proofs.Pages.{Appends-none, AppendsPrefix-whole}
 use Rattle.skk_top.proofs.Typed.{leaves-stopped, reaches-start, stops-reached}
@@ -121,10 +121,13 @@ first-as : {P Q : List ℕ → Type 0} (number : ℕ) (files : List (Option (Lis
 first-as number files so (before, after, file, is, count, are, has) = (before, after, file, is, count, are, each_some file so has)
 
 unopened : (fault : RunFault) (files : List (Option (List ℕ))) → ((number : ℕ) → fault ≡ LongDictionary number → IsFirst IsLongDictionary number files)
-    → ((number at : ℕ) → fault ≡ BadDictionary number at → IsFirst (λ bytes. IsBadDictionary bytes at) number files) → status_of fault ≡ 3 → TellsDictionaries files (message_of fault)
-unopened (LongDictionary number) files long bad three = (number, first-as number files (λ bytes is. inl (is, refl)) (long number refl))
-unopened (BadDictionary number at) files long bad three = (number, first-as number files (λ bytes is. inr (at, is, refl)) (bad number at refl))
-unopened fault files long bad three = absurd (omega (arith, three))
+    → ((number at : ℕ) → fault ≡ BadDictionary number at → IsFirst (λ bytes. IsBadDictionary bytes at) number files) → is_of_rules fault ≡ false → status_of fault ≡ 3 → TellsDictionaries files (message_of fault)
+unopened (LongDictionary number) files long bad other three = (number, first-as number files (λ bytes is. inl (is, refl)) (long number refl))
+unopened (BadDictionary number at) files long bad other three = (number, first-as number files (λ bytes is. inr (at, is, refl)) (bad number at refl))
+unopened LongRules files long bad other three = absurd (false≢true (sym other))
+unopened (BadRules at) files long bad other three = absurd (false≢true (sym other))
+unopened (BadRule number) files long bad other three = absurd (false≢true (sym other))
+unopened fault files long bad other three = absurd (omega (arith, three))
 
 -- where no dictionaries were read, no script was
 pub leaves-unopened : (rules : List Rule) (fault : RunFault) (files : List (Option (List ℕ))) (opens opens' : ℕ) (left : Option (List ℕ)) (reads : ℕ) (written : Option (List ℕ)) (writes : ℕ)
@@ -135,7 +138,7 @@ leaves-unopened rules fault files opens opens' left reads written writes diction
       words = other-status (3 ∷ 4 ∷ 6 ∷ []) fault 1 dictionaries.fault refl;
       opened = λ three four six. absurd (none-else (status_of fault) 3 4 6 dictionaries.fault three four six);
       nothing_unopened = λ bytes has none. Keeps-self written;
-      unopened = unopened fault files (λ number is. dictionaries.too_long number (ap Err is)) (λ number at is. dictionaries.not_utf8 number at (ap Err is));
+      unopened = unopened fault files (λ number is. dictionaries.too_long number (ap Err is)) (λ number at is. dictionaries.not_utf8 number at (ap Err is)) dictionaries.no_rules;
       unopened_unread = λ e. Keeps-self left;
       unopened_unwritten = λ e. Keeps-self written;
       ended = λ e. absurd (fault-status fault e);

@@ -1,19 +1,20 @@
 -- What a run of the program leaves, by what its words are.
 use Rattle.std.proofs.Common.{◌≡◌, ◌≢◌, ◌≤◌, ◌⊎◌, ◌↔◌, ◌∙◌, sym, ap, subst, refl, ℕ, true, false, Option, None, Some, is_some, Ok, Err, List, [], map, IfSome, arith, rules, inl, inr}
 use Rattle.std.specs.Io.KnownBytes.{Keeps}
-use Rattle.std.specs.Option.{option_and_then}
+use Rattle.std.specs.Option.{option_and_then, option_map}
 use Rattle.std.proofs.lemmas.Bool.{both_ways, or_left, or_right}
 use Rattle.std.proofs.lemmas.Option.{MatchOption-from_none, none-some}
 use Rattle.skk_outside.specs.Faults.{Rose}
-use Rattle.romaji_rules.specs.Standard.{standard}
 use Rattle.skk_calls.specs.declared.chronicle.Noted.{Noted}
 use Rattle.skk_top.specs.CheckCommand.{LeavesChecked}
-use Rattle.skk_top.specs.Command.{command_of, dictionaries_alone, file_checked, dictionaries_to_type, file_to_check, are_built_words}
+use Rattle.skk_top.specs.Command.{command_of, files_alone, file_checked, files_to_type, file_to_check, are_built_words}
 use Rattle.skk_top.specs.Status.{Ended, IsStatus, Tells, run_status, run_message, message_of, message_at}
-use Rattle.skk_top.specs.TypeCommand.{LeavesTyped}
+use Rattle.skk_top.specs.TypeCommand.{LeavesTypedFrom}
 use Rattle.skk_top.specs.declared.command.Command.{Command}
 use Rattle.skk_top.specs.declared.command.Command.TheVariants.{TypeScript}
-use Rattle.skk_top.specs.declared.fault.RunFault.TheVariants.{Words, TooLong, BadLine, LongDictionary, BadDictionary, NotBuilt}
+use Rattle.skk_top.specs.declared.command.TypeOptions.{TypeOptions}
+use Rattle.skk_top.specs.declared.fault.RunFault.TheVariants.{Words, TooLong, BadLine, LongRules, BadRules, BadRule, LongDictionary, BadDictionary, NotBuilt}
+use Rattle.skk_top.proofs.RuledRuns.{typed-from}
 use Rattle.skk_top.proofs.Runs.{IfSome-all, Keeps-self}
 
 -- what a run leaves, by its status: of the files there are, the counts of the shelf's faults; what the input had and has
@@ -24,17 +25,17 @@ LeavesRun given result chronicle file reads reads' left left' takes takes' writt
   status : IsStatus result;
   words : (result ≡ 1) ↔ (command_of given ≡ None);
   not_built : IfSome (command_of given) (λ command. are_built_words given ≡ false → result ≡ 8);
-  unread : dictionaries_to_type given ≡ None → Keeps left left';
+  unread : files_to_type given ≡ None → Keeps left left';
   untouched : are_built_words given ≡ false → Keeps written written';
-  uncalled : dictionaries_to_type given ≡ None → chronicle ≡ [];
+  uncalled : files_to_type given ≡ None → chronicle ≡ [];
   outside : result ≡ 4 → Rose reads reads' ⊎ (Rose takes takes' ⊎ Rose writes writes');
   told : result ≢ 2 → result ≢ 3 → Tells (message_at result) said said' tells tells';
   shelf_counted : reads ≤ reads';
   input_counted : takes ≤ takes';
   out_counted : writes ≤ writes';
   err_counted : tells ≤ tells';
-  types : IfSome (dictionaries_to_type given) (λ names.
-      (message : List ℕ) × Tells message said said' tells tells' × LeavesTyped standard result message chronicle (map file names) reads reads' left left' takes takes' written written' writes writes');
+  types : IfSome (files_to_type given) (λ options.
+      (message : List ℕ) × Tells message said said' tells tells' × LeavesTypedFrom (option_map file options.rules) result message chronicle (map file options.dictionaries.items) reads reads' left left' takes takes' written written' writes writes');
   checks : IfSome (file_to_check given)
       (λ name. (message : List ℕ) × Tells message said said' tells tells' × LeavesChecked result message (file name) reads reads' written written' writes writes');
 }
@@ -58,12 +59,15 @@ told-of : (ended : Ended) → run_status ended ≢ 2 → run_status ended ≢ 3 
 told-of (Ok done) two three = refl
 told-of (Err TooLong) two three = absurd (two refl)
 told-of (Err (BadLine number)) two three = absurd (two refl)
+told-of (Err LongRules) two three = absurd (three refl)
+told-of (Err (BadRules at)) two three = absurd (three refl)
+told-of (Err (BadRule number)) two three = absurd (three refl)
 told-of (Err (LongDictionary number)) two three = absurd (three refl)
 told-of (Err (BadDictionary number at)) two three = absurd (three refl)
 told-of (Err fault) two three = refl
 
 -- a command that checks a file types no script
-no_script : (command : Command) (name : List ℕ) → file_checked command ≡ Some name → dictionaries_alone command ≡ None
+no_script : (command : Command) (name : List ℕ) → file_checked command ≡ Some name → files_alone command ≡ None
 no_script (TypeScript options) name e = absurd (none-some name e)
 no_script command name e = refl
 
@@ -84,7 +88,7 @@ leaves-no_command given file reads left takes written writes said said' tells te
   input_counted = omega arith;
   out_counted = omega arith;
   err_counted = counted;
-  types = MatchOption-from_none (dictionaries_to_type given) _ (ap (option_and_then dictionaries_alone) none);
+  types = MatchOption-from_none (files_to_type given) _ (ap (option_and_then files_alone) none);
   checks = MatchOption-from_none (file_to_check given) _ (ap (option_and_then file_checked) none);
 }
 
@@ -95,8 +99,8 @@ pub leaves-check : (given : List (List ℕ)) (command : Command) (name : List �
     → LeavesRun given (run_status ended) [] file reads reads' left left takes takes written written' writes writes' said said' tells tells'
 leaves-check given command name ended file reads reads' left takes written written' writes writes' said said' tells tells' read named leaves told counted =
     let checking : file_to_check given ≡ Some name = ap (option_and_then file_checked) read ∙ named in
-    let other : dictionaries_to_type given ≡ None = ap (option_and_then dictionaries_alone) read ∙ no_script command name named in
-    let built : are_built_words given ≡ true = or_right (is_some (dictionaries_to_type given)) (is_some (file_to_check given)) (ap is_some checking) in
+    let other : files_to_type given ≡ None = ap (option_and_then files_alone) read ∙ no_script command name named in
+    let built : are_built_words given ≡ true = or_right (is_some (files_to_type given)) (is_some (file_to_check given)) (ap is_some checking) in
     record {
       status = is-status ended;
       words = (λ one. absurd (leaves.words one), λ none. absurd (none-some command (sym none ∙ read)));
@@ -110,7 +114,7 @@ leaves-check given command name ended file reads reads' left takes written writt
       input_counted = omega arith;
       out_counted = leaves.writes_counted;
       err_counted = counted;
-      types = MatchOption-from_none (dictionaries_to_type given) _ other;
+      types = MatchOption-from_none (files_to_type given) _ other;
       checks = subst (λ o. IfSome o (λ n.
           (message : List ℕ) × Tells message said said' tells tells' × LeavesChecked (run_status ended) message (file n) reads reads' written written' writes writes'))
           (sym checking) (run_message ended, told, leaves);
@@ -118,7 +122,7 @@ leaves-check given command name ended file reads reads' left takes written writt
 
 -- a command that is not built
 pub leaves-not_built : (given : List (List ℕ)) (command : Command) (file : List ℕ → Option (List ℕ)) (reads : ℕ) (left : Option (List ℕ)) (takes : ℕ) (written : Option (List ℕ)) (writes : ℕ)
-    (said said' : Option (List ℕ)) (tells tells' : ℕ) → command_of given ≡ Some command → file_checked command ≡ None → dictionaries_alone command ≡ None
+    (said said' : Option (List ℕ)) (tells tells' : ℕ) → command_of given ≡ Some command → file_checked command ≡ None → files_alone command ≡ None
     → Tells (message_of NotBuilt) said said' tells tells' → tells ≤ tells'
     → LeavesRun given 8 [] file reads reads left left takes takes written written writes writes said said' tells tells'
 leaves-not_built given command file reads left takes written writes said said' tells tells' read unnamed other told counted = record {
@@ -134,34 +138,36 @@ leaves-not_built given command file reads left takes written writes said said' t
   input_counted = omega arith;
   out_counted = omega arith;
   err_counted = counted;
-  types = MatchOption-from_none (dictionaries_to_type given) _ (ap (option_and_then dictionaries_alone) read ∙ other);
+  types = MatchOption-from_none (files_to_type given) _ (ap (option_and_then files_alone) read ∙ other);
   checks = MatchOption-from_none (file_to_check given) _ (ap (option_and_then file_checked) read ∙ unnamed);
 }
 
 -- a script to type
-pub leaves-typed : (given : List (List ℕ)) (command : Command) (names : List (List ℕ)) (ended : Ended) (chronicle : List Noted) (file : List ℕ → Option (List ℕ)) (reads reads' : ℕ) (left left' : Option (List ℕ)) (takes takes' : ℕ)
-    (written written' : Option (List ℕ)) (writes writes' : ℕ) (said said' : Option (List ℕ)) (tells tells' : ℕ) → command_of given ≡ Some command → file_checked command ≡ None → dictionaries_alone command ≡ Some names
-    → LeavesTyped standard (run_status ended) (run_message ended) chronicle (map file names) reads reads' left left' takes takes' written written' writes writes' → Tells (run_message ended) said said' tells tells' → tells ≤ tells'
+pub leaves-typed : (given : List (List ℕ)) (command : Command) (options : TypeOptions) (ended : Ended) (chronicle : List Noted) (file : List ℕ → Option (List ℕ)) (reads reads' : ℕ) (left left' : Option (List ℕ)) (takes takes' : ℕ)
+    (written written' : Option (List ℕ)) (writes writes' : ℕ) (said said' : Option (List ℕ)) (tells tells' : ℕ) → command_of given ≡ Some command → file_checked command ≡ None → files_alone command ≡ Some options
+    → LeavesTypedFrom (option_map file options.rules) (run_status ended) (run_message ended) chronicle (map file options.dictionaries.items) reads reads' left left' takes takes' written written' writes writes'
+    → Tells (run_message ended) said said' tells tells' → tells ≤ tells'
     → LeavesRun given (run_status ended) chronicle file reads reads' left left' takes takes' written written' writes writes' said said' tells tells'
-leaves-typed given command names ended chronicle file reads reads' left left' takes takes' written written' writes writes' said said' tells tells' read unnamed alone leaves told counted =
-    let typing : dictionaries_to_type given ≡ Some names = ap (option_and_then dictionaries_alone) read ∙ alone in
-    let built : are_built_words given ≡ true = or_left (is_some (dictionaries_to_type given)) (is_some (file_to_check given)) (ap is_some typing) in
+leaves-typed given command options ended chronicle file reads reads' left left' takes takes' written written' writes writes' said said' tells tells' read unnamed alone leaves told counted =
+    let typing : files_to_type given ≡ Some options = ap (option_and_then files_alone) read ∙ alone in
+    let built : are_built_words given ≡ true = or_left (is_some (files_to_type given)) (is_some (file_to_check given)) (ap is_some typing) in
+    let kept = typed-from (option_map file options.rules) (run_status ended) (run_message ended) chronicle (map file options.dictionaries.items) reads reads' left left' takes takes' written written' writes writes' leaves in
     record {
       status = is-status ended;
-      words = (λ one. absurd (leaves.words one), λ none. absurd (none-some command (sym none ∙ read)));
+      words = (λ one. absurd (kept.words one), λ none. absurd (none-some command (sym none ∙ read)));
       not_built = IfSome-all (command_of given) _ (λ c unbuilt. absurd (both_ways (are_built_words given) unbuilt built));
-      unread = λ none. absurd (none-some names (sym none ∙ typing));
+      unread = λ none. absurd (none-some options (sym none ∙ typing));
       untouched = λ unbuilt. absurd (both_ways (are_built_words given) unbuilt built);
-      uncalled = λ none. absurd (none-some names (sym none ∙ typing));
-      outside = leaves.outside;
+      uncalled = λ none. absurd (none-some options (sym none ∙ typing));
+      outside = kept.outside;
       told = λ two three. subst (λ m. Tells m said said' tells tells') (told-of ended two three) told;
-      shelf_counted = leaves.opens_counted;
-      input_counted = leaves.reads_counted;
-      out_counted = leaves.writes_counted;
+      shelf_counted = kept.opens_counted;
+      input_counted = kept.reads_counted;
+      out_counted = kept.writes_counted;
       err_counted = counted;
-      types = subst (λ o. IfSome o (λ ns.
+      types = subst (λ o. IfSome o (λ os.
           (message : List ℕ) × Tells message said said' tells tells'
-          × LeavesTyped standard (run_status ended) message chronicle (map file ns) reads reads' left left' takes takes' written written' writes writes'))
+          × LeavesTypedFrom (option_map file os.rules) (run_status ended) message chronicle (map file os.dictionaries.items) reads reads' left left' takes takes' written written' writes writes'))
           (sym typing) (run_message ended, told, leaves);
       checks = MatchOption-from_none (file_to_check given) _ (ap (option_and_then file_checked) read ∙ unnamed);
     }

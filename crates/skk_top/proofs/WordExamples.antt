@@ -3,11 +3,13 @@ use Rattle.std.proofs.Common.{◌≡◌, ◌==◌, ℕ, Bool, true, false, if◌
 use Prim.Native.String.{String}
 use Rattle.std.specs.Fmt.{digits}
 use Rattle.std.specs.List.{filter}
-use Rattle.skk_top.specs.Command.{command_of, dictionaries_to_type, file_to_check, are_built_words}
+use Rattle.std.specs.Option.{option_map}
+use Rattle.skk_top.specs.Command.{command_of, files_to_type, file_to_check, are_built_words}
 use Rattle.skk_text.specs.Lines.{with_first}
 use Rattle.skk_top.specs.Words.{is_name, number_within, cut}
 use Rattle.skk_top.specs.declared.command.Command.{Command}
 use Rattle.skk_top.specs.declared.command.Command.TheVariants.{TypeScript, Serve, Check, Dump, Load}
+use Rattle.skk_top.specs.declared.command.TypeOptions.{TypeOptions}
 
 -- the words of a line, between single spaces
 abbrev split : List ℕ → List (List ℕ)
@@ -133,23 +135,24 @@ cuts : map (λ text. cut (codes text)) ("" ∷ "a" ∷ "=" ∷ "a=" ∷ "=b" ∷
     ≡ None ∷ None ∷ Some ([], []) ∷ Some (codes "a", []) ∷ Some ([], codes "b") ∷ Some (codes "a", codes "b") ∷ Some (codes "a", codes "b=c") ∷ Some (codes "ab", codes "=") ∷ []
 cuts = refl
 
--- what is built: `type` with dictionaries alone, and `check`
+-- what is built: `type` with files to read alone, and `check`
 abbrev some_lines : List String
 some_lines =
-    "type" ∷ "type --limit 268435456" ∷ "type --limit 64" ∷ "type --dict a" ∷ "type --rules a" ∷ "type --learned a" ∷ "type --threads" ∷ "type --dict a --dict=b" ∷ "type --dict a --threads"
+    "type" ∷ "type --limit 268435456" ∷ "type --limit 64" ∷ "type --dict a" ∷ "type --rules a" ∷ "type --learned a" ∷ "type --threads" ∷ "type --dict a --dict=b" ∷ "type --dict a --threads" ∷ "type --rules a --dict b" ∷ "type --rules a --limit 64"
     ∷ "serve --learned a --dict b" ∷ "check a" ∷ "check" ∷ "check a b" ∷ "dump --learned a" ∷ "load --seed 1 --sessions 1 --lines 1" ∷ "typ" ∷ []
 
 built : map (λ line. are_built_words (words line)) some_lines
-    ≡ true ∷ false ∷ false ∷ true ∷ false ∷ false ∷ false ∷ true ∷ false ∷ false ∷ true ∷ false ∷ false ∷ false ∷ false ∷ false ∷ []
+    ≡ true ∷ false ∷ false ∷ true ∷ true ∷ false ∷ false ∷ true ∷ false ∷ true ∷ false ∷ false ∷ true ∷ false ∷ false ∷ false ∷ false ∷ false ∷ []
 unfolding digits
 built = refl
 
-typed_with : map (λ line. dictionaries_to_type (words line)) some_lines
-    ≡ Some [] ∷ None ∷ None ∷ Some (codes "a" ∷ []) ∷ None ∷ None ∷ None ∷ Some (codes "a" ∷ codes "b" ∷ []) ∷ None ∷ None ∷ None ∷ None ∷ None ∷ None ∷ None ∷ None ∷ []
+typed_with : map (λ line. option_map {U = Option (List ℕ) × List (List ℕ)} (λ (options : TypeOptions). (options.rules, options.dictionaries.items)) (files_to_type (words line))) some_lines
+    ≡ Some (None, []) ∷ None ∷ None ∷ Some (None, codes "a" ∷ []) ∷ Some (Some (codes "a"), []) ∷ None ∷ None ∷ Some (None, codes "a" ∷ codes "b" ∷ []) ∷ None
+    ∷ Some (Some (codes "a"), codes "b" ∷ []) ∷ None ∷ None ∷ None ∷ None ∷ None ∷ None ∷ None ∷ None ∷ []
 unfolding digits
 typed_with = refl
 
 files_to_check : map (λ line. file_to_check (words line)) some_lines
-    ≡ None ∷ None ∷ None ∷ None ∷ None ∷ None ∷ None ∷ None ∷ None ∷ None ∷ Some (codes "a") ∷ None ∷ None ∷ None ∷ None ∷ None ∷ []
+    ≡ None ∷ None ∷ None ∷ None ∷ None ∷ None ∷ None ∷ None ∷ None ∷ None ∷ None ∷ None ∷ Some (codes "a") ∷ None ∷ None ∷ None ∷ None ∷ None ∷ []
 unfolding digits
 files_to_check = refl

@@ -90,17 +90,17 @@ abbrev pub command_of : List (List ℕ) → Option Command
 command_of [] = None
 command_of (word ∷ words) = option_and_then (λ name. option_and_then (command_with name) (settings_of words)) (command_named word)
 
--- whether no option of `type` but dictionaries is given
-abbrev pub has_dictionaries_alone : TypeOptions → Bool
-has_dictionaries_alone options = not (is_some options.rules || (is_some options.learned || (is_some options.limit || options.threads)))
+-- whether no option of `type` is given but files to read: dictionaries and rules
+abbrev pub has_files_alone : TypeOptions → Bool
+has_files_alone options = not (is_some options.learned || (is_some options.limit || options.threads))
 
--- the names of the dictionaries of a command that is to type a script, and that has no other option
-abbrev pub dictionaries_alone : Command → Option (List (List ℕ))
-dictionaries_alone (commands.TypeScript options) = if has_dictionaries_alone options then Some options.dictionaries.items else None
-dictionaries_alone (commands.Serve options) = None
-dictionaries_alone (commands.Check file) = None
-dictionaries_alone (commands.Dump learned book) = None
-dictionaries_alone (commands.Load options) = None
+-- the options of a command that is to type a script, where they are files to read alone
+abbrev pub files_alone : Command → Option TypeOptions
+files_alone (commands.TypeScript options) = if has_files_alone options then Some options else None
+files_alone (commands.Serve options) = None
+files_alone (commands.Check file) = None
+files_alone (commands.Dump learned book) = None
+files_alone (commands.Load options) = None
 
 -- the name of the file that a command is to check
 abbrev pub file_checked : Command → Option (List ℕ)
@@ -110,14 +110,14 @@ file_checked (commands.Check file) = Some file
 file_checked (commands.Dump learned book) = None
 file_checked (commands.Load options) = None
 
--- the names of the dictionaries, where words are `type` with no other option
-abbrev pub dictionaries_to_type : List (List ℕ) → Option (List (List ℕ))
-dictionaries_to_type words = option_and_then dictionaries_alone (command_of words)
+-- the options, where words are `type` with files to read alone
+abbrev pub files_to_type : List (List ℕ) → Option TypeOptions
+files_to_type words = option_and_then files_alone (command_of words)
 
 -- the name of the file that words ask to check, where they are `check`
 abbrev pub file_to_check : List (List ℕ) → Option (List ℕ)
 file_to_check words = option_and_then file_checked (command_of words)
 
--- whether words are a command that is built so far: `type` with dictionaries alone, or `check`
+-- whether words are a command that is built so far: `type` with files to read alone, or `check`
 abbrev pub are_built_words : List (List ℕ) → Bool
-are_built_words words = is_some (dictionaries_to_type words) || is_some (file_to_check words)
+are_built_words words = is_some (files_to_type words) || is_some (file_to_check words)

@@ -1,5 +1,5 @@
 -- Dictionaries: their files, one or several in order, and what the reading of these leaves.
-use Rattle.std.specs.Prelude.{◌≡◌, ◌⊎◌, ⊤, ◌<◌, ◌≤◌, ◌+◌, ℕ, Option, Result, List, [], ◌∷◌, ◌++◌, IfOk, IfErr, IfSome, IsErrOf, All, length}
+use Rattle.std.specs.Prelude.{◌≡◌, ◌⊎◌, ⊤, ◌<◌, ◌≤◌, ◌+◌, ℕ, false, Option, Result, List, [], ◌∷◌, ◌++◌, IfOk, IfErr, IfSome, IsErrOf, All, length}
 use Rattle.std.specs.Str.{IsUtf8}
 use Rattle.std.specs.Str.Lossy.{utf8_valid_len}
 use Rattle.skk_outside.specs.Faults.{Rose}
@@ -10,7 +10,7 @@ use Rattle.dict_format.specs.FileLines.{Lists, file_limit}
 use Rattle.dict_format.specs.declared.file.FileFault.{FileFault}
 use Rattle.dict_format.specs.declared.file.FileFault.TheVariants as files
 use Rattle.dict_format.specs.declared.file.Listed.{Listed}
-use Rattle.skk_top.specs.Status.{message_of, HasStatus}
+use Rattle.skk_top.specs.Status.{message_of, HasStatus, is_of_rules}
 use Rattle.skk_top.specs.declared.fault.RunFault.{RunFault}
 use Rattle.skk_top.specs.declared.fault.RunFault.TheVariants.{LongDictionary, BadDictionary, Outside, Memory}
 
@@ -72,6 +72,7 @@ pub record LeavesDictionary (number : ℕ) (result : Result Listed RunFault) (fi
   pub not_utf8 : (k at : ℕ) → IsErrOf result (BadDictionary k at) → (k ≡ number) × IfSome file (λ bytes. IsBadDictionary bytes at)
   pub outside : IsErrOf result Outside → Rose reads reads'
   pub fault : IfErr result (HasStatus (3 ∷ 4 ∷ 6 ∷ []))
+  pub no_rules : IfErr result (λ fault. is_of_rules fault ≡ false)
   pub counted : reads ≤ reads'
 
 -- what the reading of dictionaries leaves, by the rows of each or the fault
@@ -81,6 +82,7 @@ pub record LeavesDictionaries (result : Result (List (List Row)) RunFault) (file
   pub not_utf8 : (number at : ℕ) → IsErrOf result (BadDictionary number at) → IsFirst (λ bytes. IsBadDictionary bytes at) number files
   pub outside : IsErrOf result Outside → Rose reads reads'
   pub fault : IfErr result (HasStatus (3 ∷ 4 ∷ 6 ∷ []))
+  pub no_rules : IfErr result (λ fault. is_of_rules fault ≡ false)
   pub counted : reads ≤ reads'
 
 -- what a fault of reading its file is for the dictionary with this number

@@ -8,6 +8,7 @@ pub mod Marks
 pub mod Page
 pub mod Printing
 pub mod Ranges
+pub mod RunRules
 pub mod Script
 pub mod Sessions
 pub mod Settings

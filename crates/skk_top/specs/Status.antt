@@ -1,5 +1,5 @@
 -- How a run ends: its status, and its line on standard error.
-use Rattle.std.specs.Prelude.{◌≡◌, ◌⊎◌, ℕ, Bool, true, ◌==◌, if◌then◌else◌, Option, Result, Ok, Err, List, ◌++◌, [], ◌∷◌, codes}
+use Rattle.std.specs.Prelude.{◌≡◌, ◌⊎◌, ℕ, Bool, true, false, ◌==◌, if◌then◌else◌, Option, Result, Ok, Err, List, ◌++◌, [], ◌∷◌, codes}
 use Rattle.std.specs.Fmt.{decimal}
 use Rattle.std.specs.Io.KnownBytes.{Appends}
 use Rattle.std.specs.List.{list_any}
@@ -13,7 +13,7 @@ use Rattle.session_machine.specs.declared.session.PressFault.TheVariants as pres
 use Rattle.skk_top.specs.declared.script.ScriptFault.{ScriptFault}
 use Rattle.skk_top.specs.declared.script.ScriptFault.TheVariants as scripts
 use Rattle.skk_top.specs.declared.fault.RunFault.{RunFault}
-use Rattle.skk_top.specs.declared.fault.RunFault.TheVariants.{Words, TooLong, BadLine, LongDictionary, BadDictionary, Outside, Memory, NotBuilt}
+use Rattle.skk_top.specs.declared.fault.RunFault.TheVariants.{Words, TooLong, BadLine, LongRules, BadRules, BadRule, LongDictionary, BadDictionary, Outside, Memory, NotBuilt}
 
 -- how a run ends: done, or with a fault
 abbrev pub Ended : Type 0
@@ -24,6 +24,9 @@ abbrev pub status_of : RunFault → ℕ
 status_of Words = 1
 status_of TooLong = 2
 status_of (BadLine number) = 2
+status_of LongRules = 3
+status_of (BadRules at) = 3
+status_of (BadRule number) = 3
 status_of (LongDictionary number) = 3
 status_of (BadDictionary number at) = 3
 status_of Outside = 4
@@ -49,6 +52,9 @@ abbrev pub message_of : RunFault → List ℕ
 message_of Words = codes "skk: words" ++ line_feed ∷ []
 message_of TooLong = codes "skk: script too long" ++ line_feed ∷ []
 message_of (BadLine number) = codes "skk: line " ++ decimal number ++ line_feed ∷ []
+message_of LongRules = codes "skk: rules too long" ++ line_feed ∷ []
+message_of (BadRules at) = codes "skk: rules byte " ++ decimal at ++ line_feed ∷ []
+message_of (BadRule number) = codes "skk: rules line " ++ decimal number ++ line_feed ∷ []
 message_of (LongDictionary number) = codes "skk: dictionary " ++ decimal number ++ codes " too long" ++ line_feed ∷ []
 message_of (BadDictionary number at) = codes "skk: dictionary " ++ decimal number ++ codes " byte " ++ decimal at ++ line_feed ∷ []
 message_of Outside = codes "skk: outside" ++ line_feed ∷ []
@@ -77,6 +83,13 @@ Tells message old new faults_before faults_after =
 -- a fault has one of these statuses
 abbrev pub HasStatus : List ℕ → RunFault → Type 0
 HasStatus statuses fault = list_any (λ status. status_of fault == status) statuses ≡ true
+
+-- whether a fault is one of the rules of a run
+abbrev pub is_of_rules : RunFault → Bool
+is_of_rules LongRules = true
+is_of_rules (BadRules at) = true
+is_of_rules (BadRule number) = true
+is_of_rules fault = false
 
 -- what a fault of a key is for the run
 abbrev pub fault_of_press : PressFault → RunFault

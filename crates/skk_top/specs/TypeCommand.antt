@@ -15,8 +15,9 @@ use Rattle.skk_calls.specs.States.{empty_state}
 use Rattle.skk_text.specs.Lines.{lines_of}
 use Rattle.skk_top.specs.Answering.{IsLegalOver, IsChronicleOver, are_served, are_of_one, said_in}
 use Rattle.skk_top.specs.Dictionaries.{AreDictionaries, AreRowsOf, IsNoDictionary, TellsDictionaries}
+use Rattle.skk_top.specs.RunRules.{AreRules, RefusesRules}
 use Rattle.skk_top.specs.Script.{IsScript, IsFirstBad, script_limit}
-use Rattle.skk_top.specs.Status.{Ended, message_of, HasStatus}
+use Rattle.skk_top.specs.Status.{Ended, message_of, status_of, HasStatus}
 use Rattle.skk_top.specs.Typed.{typed, typed_alone, typing}
 use Rattle.skk_top.specs.declared.fault.RunFault.{RunFault}
 use Rattle.skk_top.specs.declared.fault.RunFault.TheVariants.{TooLong, BadLine, Outside, NotBuilt}
@@ -65,7 +66,7 @@ abbrev pub IsNotBuilt : List Rule → List ℕ → List Answer → Type 0
 IsNotBuilt rules bytes answers =
     (lines : List Line) × IsScript bytes lines × (end_of (typing rules [] lines) answers ≡ Some false)
 
--- what a run of `type` leaves, by its status, its line on standard error and its chronicle: of what its dictionaries' files
+-- what a run of `type` by some rules leaves, by its status, its line on standard error and its chronicle: of what its dictionaries' files
 -- have, the counts of the shelf's faults; what its source had and has left with the counts of its own; and what its sink
 -- was and is written with the counts of its own
 pub record LeavesTyped (rules : List Rule) (status : ℕ) (message : List ℕ) (chronicle : List Noted) (files : List (Option (List ℕ)))
@@ -95,6 +96,29 @@ pub record LeavesTyped (rules : List Rule) (status : ℕ) (message : List ℕ) (
   pub opens_counted : opens ≤ opens'
   pub reads_counted : reads ≤ reads'
   pub writes_counted : writes ≤ writes'
+
+-- what a run of `type` leaves whose rules are refused: it tells why, and nothing else was done
+pub record LeavesUnruled (source : Option (Option (List ℕ))) (status : ℕ) (message : List ℕ) (chronicle : List Noted)
+    (opens opens' : ℕ) (left left' : Option (List ℕ)) (reads reads' : ℕ) (written written' : Option (List ℕ)) (writes writes' : ℕ) : Type 0 where
+  pub fault : RunFault
+  pub refused : RefusesRules source opens opens' fault
+  pub status_is : status ≡ status_of fault
+  pub message_is : message ≡ message_of fault
+  pub uncalled : chronicle ≡ []
+  pub unread : Keeps left left'
+  pub unwritten : Keeps written written'
+  pub opens_counted : opens ≤ opens'
+  pub reads_counted : reads ≤ reads'
+  pub writes_counted : writes ≤ writes'
+
+-- what a run of `type` leaves, with the file that its rules come from, if one is named: the rules are refused, or else what
+-- is left is left by these rules
+abbrev pub LeavesTypedFrom : Option (Option (List ℕ)) → ℕ → List ℕ → List Noted → List (Option (List ℕ))
+    → ℕ → ℕ → Option (List ℕ) → Option (List ℕ) → ℕ → ℕ → Option (List ℕ) → Option (List ℕ) → ℕ → ℕ → Type 0
+LeavesTypedFrom source status message chronicle files opens opens' left left' reads reads' written written' writes writes' =
+    LeavesUnruled source status message chronicle opens opens' left left' reads reads' written written' writes writes'
+    ⊎ ((rules : List Rule) × AreRules source rules
+    × LeavesTyped rules status message chronicle files opens opens' left left' reads reads' written written' writes writes')
 
 -- what the reading of a script leaves, by its lines or the fault
 pub record LeavesScript (result : Result (List Line) RunFault) (left left' : Option (List ℕ)) (reads reads' : ℕ) : Type 0 where

@@ -1,6 +1,6 @@
 ghost use Rattle.std.specs.Prelude.{◌≡◌, ◌<◌, if◌then◌else◌, Some, None, MatchOption};
-ghost use Rattle.std.specs.Option.{option_map};
-ghost use Rattle.skk_top.specs.Command.{command_of, type_options, serve_options, load_options, has_dictionaries_alone, dictionaries_alone, file_checked};
+ghost use Rattle.std.specs.Option.{option_copied};
+ghost use Rattle.skk_top.specs.Command.{command_of, type_options, serve_options, load_options, has_files_alone, files_alone, file_checked};
 ghost use Rattle.skk_top.specs.Settings.{times};
 ghost use Rattle.skk_top.specs.declared.argument.Argument.TheVariants.{Dictionary};
 
@@ -48,12 +48,12 @@ impl<'a> Command<'a> {
         }
     }
 
-    /// The names of the dictionaries, where it is to type a script and has no other option.
-    pub fn dictionaries_alone(&self) -> Option<&[Word<'a>]>
-        ensures { option_map (λ names. names.now) result ≡ dictionaries_alone self.now }
+    /// The options, where it is to type a script and they are files to read alone.
+    pub fn files_alone(&self) -> Option<&TypeOptions<'a>>
+        ensures { option_copied result ≡ files_alone self.now }
     {
         match self {
-            Command::TypeScript(options) => options.dictionaries_alone(),
+            Command::TypeScript(options) => options.files_alone(),
             Command::Serve(_) | Command::Check(_) | Command::Load(_) => None,
             Command::Dump {
                 learned: _,
@@ -92,18 +92,15 @@ impl<'a> TypeOptions<'a> {
         })
     }
 
-    // The names of the dictionaries, where there is no other option.
-    fn dictionaries_alone(&self) -> Option<&[Word<'a>]>
-        ensures { option_map (λ names. names.now) result ≡ (if has_dictionaries_alone self.now then Some self.now.dictionaries.items else None) }
+    // These options, where they are files to read alone.
+    fn files_alone(&self) -> Option<&TypeOptions<'a>>
+        ensures { option_copied result ≡ (if has_files_alone self.now then Some self.now else None) }
     {
-        let others = self.rules.is_some()
-            || self.learned.is_some()
-            || self.limit.is_some()
-            || self.threads;
-        if others {
-            return None;
+        if self.learned.is_some() || self.limit.is_some() || self.threads {
+            None
+        } else {
+            Some(self)
         }
-        Some(self.dictionaries.as_slice())
     }
 }
 

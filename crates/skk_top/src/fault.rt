@@ -21,6 +21,12 @@ pub enum RunFault {
     TooLong,
     /// The first line of the script that is none, counted from 1.
     BadLine { number: usize },
+    /// The rule file has more bytes than a rule file may have.
+    LongRules,
+    /// The rule file is not UTF-8: the longest prefix of it that is ends at this byte.
+    BadRules { at: usize },
+    /// The line of the rule file that is at fault, counted from 1.
+    BadRule { number: usize },
     /// The dictionary with this number, counted from 1, has more bytes than a dictionary may have.
     LongDictionary { number: usize },
     /// The dictionary with this number is not UTF-8: the longest prefix of it that is ends at this byte.
@@ -74,6 +80,8 @@ impl RunFault {
         match self {
             RunFault::Words => 1,
             RunFault::TooLong | RunFault::BadLine { number: _ } => 2,
+            RunFault::LongRules => 3,
+            RunFault::BadRules { at: _ } | RunFault::BadRule { number: _ } => 3,
             RunFault::LongDictionary { number: _ } => 3,
             RunFault::BadDictionary { number: _, at: _ } => 3,
             RunFault::Outside => 4,
@@ -93,6 +101,9 @@ impl RunFault {
             RunFault::Words => write_all(err, b"skk: words\n"),
             RunFault::TooLong => write_all(err, b"skk: script too long\n"),
             RunFault::BadLine { number } => tell_number(err, b"skk: line ", number, b"\n"),
+            RunFault::LongRules => write_all(err, b"skk: rules too long\n"),
+            RunFault::BadRules { at } => tell_number(err, b"skk: rules byte ", at, b"\n"),
+            RunFault::BadRule { number } => tell_number(err, b"skk: rules line ", number, b"\n"),
             RunFault::LongDictionary { number } => {
                 tell_number(err, b"skk: dictionary ", number, b" too long\n")
             }

@@ -21,6 +21,7 @@ mod line;
 mod number;
 mod page;
 mod printing;
+mod rule_file;
 mod run;
 mod script;
 mod setting;

@@ -1,11 +1,11 @@
 ghost use Rattle.std.specs.Prelude.{◌≡◌, ◌≢◌, ◌≤◌, ◌⊎◌, ◌↔◌, ℕ, List, [], None, IfSome, false, map};
 ghost use Rattle.std.specs.Io.KnownBytes.{Keeps};
+ghost use Rattle.std.specs.Option.{option_map};
 ghost use Rattle.skk_outside.specs.Faults.{Rose};
-ghost use Rattle.romaji_rules.specs.Standard.{standard};
 ghost use Rattle.skk_top.specs.CheckCommand.{LeavesChecked};
-ghost use Rattle.skk_top.specs.Command.{command_of, dictionaries_to_type, file_to_check, are_built_words};
+ghost use Rattle.skk_top.specs.Command.{command_of, files_to_type, file_to_check, are_built_words};
 ghost use Rattle.skk_top.specs.Status.{IsStatus, Tells, message_at};
-ghost use Rattle.skk_top.specs.TypeCommand.{LeavesTyped};
+ghost use Rattle.skk_top.specs.TypeCommand.{LeavesTypedFrom};
 
 use crate::check_command::run_check;
 use crate::command::read_command;
@@ -19,7 +19,7 @@ use std::alloc::Global;
 /// All that the program does. The words are those behind the program's name.
 ///
 /// A write on `err` that fails changes no status. Of the input at most one piece more is read than a
-/// script may have, and of a file than a dictionary may have.
+/// script may have, and of a file than a rule file or a dictionary may have.
 pub fn run_alone<H: Shelf, I: Source, O: Sink, E: Sink>(
     alloc: Global,
     words: &[Text],
@@ -33,9 +33,9 @@ pub fn run_alone<H: Shelf, I: Source, O: Sink, E: Sink>(
     // Words that are no command, or a command that is not built.
     ensures words { (result.status ≡ 1) ↔ (command_of words.now ≡ None) }
     ensures not_built { IfSome (command_of words.now) (λ command. are_built_words words.now ≡ false → result.status ≡ 8) }
-    ensures unread { dictionaries_to_type words.now ≡ None → Keeps (I.left input.old) (I.left input.new) }
+    ensures unread { files_to_type words.now ≡ None → Keeps (I.left input.old) (I.left input.new) }
     ensures untouched { are_built_words words.now ≡ false → Keeps (O.written out.old) (O.written out.new) }
-    ensures uncalled { dictionaries_to_type words.now ≡ None → result.chronicle ≡ [] }
+    ensures uncalled { files_to_type words.now ≡ None → result.chronicle ≡ [] }
 
     // A call on the outside failed where the status says so.
     ensures outside { result.status ≡ 4 → Rose (H.faults shelf.old) (H.faults shelf.new)
@@ -51,9 +51,9 @@ pub fn run_alone<H: Shelf, I: Source, O: Sink, E: Sink>(
     ensures err_counted { E.faults err.old ≤ E.faults err.new }
 
     // What each command leaves.
-    ensures types { IfSome (dictionaries_to_type words.now) (λ names. (message : List ℕ)
+    ensures types { IfSome (files_to_type words.now) (λ options. (message : List ℕ)
         × Tells message (E.written err.old) (E.written err.new) (E.faults err.old) (E.faults err.new)
-        × LeavesTyped standard result.status message result.chronicle (map (H.file shelf.old) names) (H.faults shelf.old) (H.faults shelf.new)
+        × LeavesTypedFrom (option_map (H.file shelf.old) options.rules) result.status message result.chronicle (map (H.file shelf.old) options.dictionaries.items) (H.faults shelf.old) (H.faults shelf.new)
         (I.left input.old) (I.left input.new) (I.faults input.old) (I.faults input.new) (O.written out.old) (O.written out.new) (O.faults out.old) (O.faults out.new)) }
     ensures checks { IfSome (file_to_check words.now) (λ name. (message : List ℕ)
         × Tells message (E.written err.old) (E.written err.new) (E.faults err.old) (E.faults err.new)
@@ -66,8 +66,8 @@ pub fn run_alone<H: Shelf, I: Source, O: Sink, E: Sink>(
     if let Some(name) = command.file_checked() {
         return end_run(Run::without_calls(run_check(alloc, &name, shelf, out)), err);
     }
-    let Some(names) = command.dictionaries_alone() else {
+    let Some(options) = command.files_alone() else {
         return end_run(Run::without_calls(Err(RunFault::NotBuilt)), err);
     };
-    end_run(run_type(alloc, names, shelf, input, out), err)
+    end_run(run_type(alloc, options, shelf, input, out), err)
 }

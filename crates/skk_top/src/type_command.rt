@@ -1,18 +1,21 @@
 ghost use Rattle.std.specs.Prelude.{◌≡◌, ◌≤◌, ℕ, Option, List, [], map};
-ghost use Rattle.romaji_rules.specs.Standard.{standard};
+ghost use Rattle.std.specs.Option.{option_map};
 ghost use Rattle.skk_top.specs.Answering.{said_in};
 ghost use Rattle.skk_top.specs.Dictionaries.{AreRowsOf, LeavesDictionaries};
 ghost use Rattle.skk_top.specs.Status.{run_status, run_message, end_unless_refused};
-ghost use Rattle.skk_top.specs.TypeCommand.{LeavesTyped, LeavesScript, LeavesAnswered};
+ghost use Rattle.skk_top.specs.TypeCommand.{LeavesTyped, LeavesTypedFrom, LeavesScript, LeavesAnswered};
 
 use crate::answering::{Files, RunCaller};
+use crate::command::TypeOptions;
 use crate::dictionary::read_dictionaries;
 use crate::fault::RunFault;
 use crate::finish::Run;
+use crate::rule_file::read_rules;
 use crate::script::Script;
 use crate::typing::type_script;
 use crate::word::Word;
 use dict_layers::System;
+use romaji_rules::Rules;
 use skk_outside::{Shelf, Sink, Source, read_to_end};
 use skk_text::{Memory, one_list_of_keys};
 use std::alloc::Global;
@@ -21,20 +24,42 @@ use std::marker::Brand;
 /// The most bytes of a script.
 const SCRIPT_LIMIT: usize = 4_194_304;
 
-/// The command `type`: reads the dictionaries of these names, and then a script, checks it whole, and types it over them. A
-/// run of which a look-up was refused ends as out of memory, where nothing else ended it before.
+/// The command `type`: reads the rules, then the dictionaries, and then a script, checks it whole, and types it by the rules
+/// over the dictionaries. A run of which a look-up was refused ends as out of memory, where nothing else ended it before.
 pub fn run_type<H: Shelf, I: Source, O: Sink>(
     alloc: Global,
+    options: &TypeOptions,
+    shelf: &mut H,
+    input: &mut I,
+    out: &mut O,
+) -> Run
+    ensures { LeavesTypedFrom (option_map (H.file shelf.old) options.now.rules) (run_status result.ended) (run_message result.ended) result.chronicle
+        (map (H.file shelf.old) options.now.dictionaries.items) (H.faults shelf.old) (H.faults shelf.new)
+        (I.left input.old) (I.left input.new) (I.faults input.old) (I.faults input.new) (O.written out.old) (O.written out.new) (O.faults out.old) (O.faults out.new) }
+{
+    match read_rules(alloc, shelf, &options.rules) {
+        Ok(rules) => {
+            let names = options.dictionaries.as_slice();
+            type_by(alloc, &rules, names, shelf, input, out)
+        }
+        Err(fault) => Run::without_calls(Err(fault)),
+    }
+}
+
+// Reads the dictionaries of these names, and then a script, and types it by the rules over them.
+fn type_by<H: Shelf, I: Source, O: Sink>(
+    alloc: Global,
+    rules: &Rules,
     names: &[Word],
     shelf: &mut H,
     input: &mut I,
     out: &mut O,
 ) -> Run
-    ensures { LeavesTyped standard (run_status result.ended) (run_message result.ended) result.chronicle (map (H.file shelf.old) names.now) (H.faults shelf.old) (H.faults shelf.new)
+    ensures { LeavesTyped rules.now (run_status result.ended) (run_message result.ended) result.chronicle (map (H.file shelf.old) names.now) (H.faults shelf.old) (H.faults shelf.new)
         (I.left input.old) (I.left input.new) (I.faults input.old) (I.faults input.new) (O.written out.old) (O.written out.new) (O.faults out.old) (O.faults out.new) }
 {
     match read_system(alloc, shelf, names) {
-        Ok(system) => type_input(alloc, system, input, out),
+        Ok(system) => type_input(alloc, rules, system, input, out),
         Err(fault) => Run::without_calls(Err(fault)),
     }
 }
@@ -49,14 +74,20 @@ fn read_system<H: Shelf>(alloc: Global, shelf: &mut H, names: &[Word]) -> Result
 }
 
 // Reads a script, checks it whole, and types it over system files.
-fn type_input<I: Source, O: Sink>(alloc: Global, system: System, input: &mut I, out: &mut O) -> Run
+fn type_input<I: Source, O: Sink>(
+    alloc: Global,
+    rules: &Rules,
+    system: System,
+    input: &mut I,
+    out: &mut O,
+) -> Run
     ensures { (files : List (Option (List ℕ))) (opens opens' : ℕ) → AreRowsOf system files → opens ≤ opens'
-        → LeavesTyped standard (run_status result.ended) (run_message result.ended) result.chronicle files opens opens' (I.left input.old) (I.left input.new) (I.faults input.old) (I.faults input.new)
+        → LeavesTyped rules.now (run_status result.ended) (run_message result.ended) result.chronicle files opens opens' (I.left input.old) (I.left input.new) (I.faults input.old) (I.faults input.new)
         (O.written out.old) (O.written out.new) (O.faults out.old) (O.faults out.new) }
 {
     one_list_of_keys();
     match read_script(alloc, input) {
-        Ok(script) => type_over::<Brand, O>(alloc, &script, system, out),
+        Ok(script) => type_over::<Brand, O>(alloc, rules, &script, system, out),
         Err(fault) => Run::without_calls(Err(fault)),
     }
 }
@@ -71,12 +102,18 @@ fn read_script<I: Source>(alloc: Global, input: &mut I) -> Result<Script, RunFau
 }
 
 // Types a script over system files, which `F` tells the proof.
-fn type_over<F: Files, O: Sink>(alloc: Global, script: &Script, system: System, out: &mut O) -> Run
+fn type_over<F: Files, O: Sink>(
+    alloc: Global,
+    rules: &Rules,
+    script: &Script,
+    system: System,
+    out: &mut O,
+) -> Run
     requires { system ≡ F.files }
-    ensures { LeavesAnswered standard script.now F.files result.ended result.chronicle (O.written out.old) (O.written out.new) (O.faults out.old) (O.faults out.new) }
+    ensures { LeavesAnswered rules.now script.now F.files result.ended result.chronicle (O.written out.old) (O.written out.new) (O.faults out.old) (O.faults out.new) }
 {
     match RunCaller::<F>::new(alloc, system) {
-        Ok(caller) => type_with(alloc, script, caller, out),
+        Ok(caller) => type_with(alloc, rules, script, caller, out),
         Err(Memory) => Run::without_calls(Err(RunFault::Memory)),
     }
 }
@@ -84,15 +121,16 @@ fn type_over<F: Files, O: Sink>(alloc: Global, script: &Script, system: System, 
 // Types a script with a caller that has made no call.
 fn type_with<F: Files, O: Sink>(
     alloc: Global,
+    rules: &Rules,
     script: &Script,
     caller: RunCaller<F>,
     out: &mut O,
 ) -> Run
     requires { said_in caller ≡ [] }
-    ensures { LeavesAnswered standard script.now F.files result.ended result.chronicle (O.written out.old) (O.written out.new) (O.faults out.old) (O.faults out.new) }
+    ensures { LeavesAnswered rules.now script.now F.files result.ended result.chronicle (O.written out.old) (O.written out.new) (O.faults out.old) (O.faults out.new) }
 {
     let mut caller = caller;
-    let ended = type_script(alloc, script.lines(), &mut caller, out);
+    let ended = type_script(alloc, rules, script.lines(), &mut caller, out);
     let (chronicle, has_refused) = caller.close();
     Run {
         ended: end_unless_refused(ended, has_refused),

@@ -2,7 +2,6 @@ ghost use Rattle.std.specs.Prelude.{◌≡◌, ◌≤◌, ◌++◌, ◌∷◌, �
 ghost use Rattle.std.specs.List.{list_all};
 ghost use Rattle.skk_outside.specs.Faults.{Rose};
 ghost use Rattle.skk_outside.specs.Written.{AppendsPrefix};
-ghost use Rattle.romaji_rules.specs.Standard.{standard};
 ghost use Rattle.skk_calls.specs.Interactions.{ends};
 ghost use Rattle.session_machine.specs.Session.{Session, new_session};
 ghost use Rattle.skk_top.specs.Page.{Printed};
@@ -25,19 +24,19 @@ use skk_text::{Keys, Memory, Text};
 use std::alloc::Global;
 use std::collections::BTreeMap;
 
-/// Types the lines of a script by the standard rules, asks the caller what their keys ask, and prints an output line for
+/// Types the lines of a script by the rules, asks the caller what their keys ask, and prints an output line for
 /// each key line and the closing lines. At a key that is not built the lines before it are printed.
 pub fn type_script<C: Caller, O: Sink>(
     alloc: Global,
+    rules: &Rules,
     lines: &[Line],
     caller: &mut C,
     out: &mut O,
 ) -> Result<(), RunFault>
     requires { list_all opens_well lines.now ≡ true }
-    ensures { LeavesLines standard lines.now result (C.said caller.old) (C.said caller.new) (O.written out.old) (O.written out.new) (O.faults out.old) (O.faults out.new) }
+    ensures { LeavesLines rules.now lines.now result (C.said caller.old) (C.said caller.new) (O.written out.old) (O.written out.new) (O.faults out.old) (O.faults out.new) }
 {
-    let rules = Rules::standard(alloc)?;
-    print_script(alloc, &rules, lines, caller, out)?;
+    print_script(alloc, rules, lines, caller, out)?;
     out.flush()?;
     Ok(())
 }
