@@ -5,10 +5,12 @@ pub mod Kana
 pub mod KeyText
 pub mod LineLaws
 pub mod Lines
+pub mod Lists
 pub mod Modes
 pub mod Pairs
 pub mod PairsLaws
 pub mod Places
 pub mod Results
 pub mod Text
+pub mod TextFiles
 pub mod TextLaws

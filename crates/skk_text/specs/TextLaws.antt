@@ -1,11 +1,18 @@
 -- What holds of the lengths of texts, and of their characters before and behind an ASCII byte.
-use Rattle.std.specs.Prelude.{◌≡◌, ◌<◌, ℕ, ◌+◌, List, ◌∷◌, ◌++◌, length, take, drop, get_or, encode_utf8_all}
+use Rattle.std.specs.Prelude.{◌≡◌, ◌<◌, ℕ, ◌+◌, ◌==◌, List, [], ◌∷◌, ◌++◌, length, take, drop, get_or, encode_utf8_all}
 use lib.Utf8.{encode}
 use Rattle.std.specs.Str.{chars, IsUtf8}
-use Rattle.std.proofs.Common.{◌∙◌, sym, ap, length-append}
+use Rattle.std.proofs.Common.{◌∙◌, sym, ap, refl, arith, length-append}
+use Rattle.std.proofs.lemmas.Bool.{ne_eqb}
 use Rattle.std.proofs.lemmas.List.{take-append-drop, at_drop_more}
-use Rattle.std.proofs.lemmas.Str.{encodes-append, chars-append, chars_past_char, encode_ascii, IsCharBoundary-before_ascii, IsUtf8-drop, IsUtf8-take}
+use Rattle.std.proofs.lemmas.Str.{encodes-append, chars-append, chars_past_char, encode_ascii, length-le-encodes, IsCharBoundary-before_ascii, IsUtf8-drop, IsUtf8-take}
+use Rattle.skk_text.specs.Lists.{is_empty}
 use Rattle.skk_text.specs.Text.{byte_len}
+
+-- a text is empty where it has no bytes
+pub byte_len-empty : (text : List ℕ) → (byte_len text == 0) ≡ is_empty text
+byte_len-empty [] = refl
+byte_len-empty (c ∷ text) = ne_eqb (byte_len (c ∷ text)) 0 (λ e. omega (arith, length-le-encodes (c ∷ text)))
 
 -- a text that is put behind another adds its bytes to those of the other
 pub byte_len-append : (text behind : List ℕ) → byte_len (text ++ behind) ≡ byte_len text + byte_len behind

@@ -19,6 +19,7 @@ mod sequence;
 #[cfg(test)]
 mod tests;
 mod text;
+mod text_file;
 
 pub use bytes::Bytes;
 pub use copies::Copies;
@@ -31,3 +32,4 @@ pub use mode::Mode;
 pub use notice::Notice;
 pub use sequence::{Sequence, copies_of};
 pub use text::{Text, Texts};
+pub use text_file::{TextFault, text_within};

@@ -1,9 +1,13 @@
 ghost use Rattle.std.specs.Prelude.{◌≡◌, ◌<◌, List, [], ◌∷◌, ◌++◌, length, slice_get, Some, IfOk, OnOk, OnErr};
+ghost use Rattle.std.specs.Iterator.Adapters.{IterYieldsInOrder};
+ghost use Rattle.std.specs.Slice.Iter.{iter_rest};
+ghost use Rattle.skk_text.specs.Lists.{is_empty};
 
 use crate::copies::Copies;
 use crate::memory::Memory;
 use std::alloc::Global;
 use std::marker::Model;
+use std::slice::Iter;
 
 /// Items in order: what every named list of the workspace is.
 #[derive(Debug, Drop)]
@@ -41,6 +45,13 @@ impl<T> Sequence<T> {
         self.items.len()
     }
 
+    /// Whether there is no item.
+    pub fn is_empty(&self) -> bool
+        ensures { result ≡ is_empty self.now }
+    {
+        self.items.is_empty()
+    }
+
     /// The item at a place, counted from 0.
     pub fn at(&self, place: usize) -> &T
         requires { place < length self.now }
@@ -54,6 +65,15 @@ impl<T> Sequence<T> {
         ensures { result.items ≡ self }
     {
         self.items
+    }
+
+    /// The items, one after another.
+    pub fn iter(&self) -> Iter<'_, T>
+        ensures rest { iter_rest result ≡ self.now }
+        ensures len { length (iter_rest result) ≡ length self.now }
+        ensures runs { IterYieldsInOrder T }
+    {
+        self.items.iter()
     }
 
     /// All items, in order.

@@ -1,5 +1,6 @@
 ghost use Rattle.std.specs.Prelude.{◌≡◌, ℕ, List, [], ◌∷◌, ◌++◌, ◌-◌, length, take, string_bytes, encode_utf8_all, IfOk, OnOk, OnErr};
 ghost use Rattle.std.specs.Str.{chars};
+ghost use Rattle.skk_text.specs.Lists.{is_empty};
 ghost use Rattle.skk_text.specs.Text.{byte_len, last_chars, without_last};
 
 use crate::copies::Copies;
@@ -60,6 +61,13 @@ impl Text {
         ensures { result ≡ byte_len self.now }
     {
         self.text.len()
+    }
+
+    /// Whether the text has no character.
+    pub fn is_empty(&self) -> bool
+        ensures { result ≡ is_empty self.now }
+    {
+        self.byte_len() == 0
     }
 
     /// Adds a character at the end.
