@@ -6,7 +6,7 @@ use Rattle.skk_calls.specs.declared.answer.Answer.TheVariants.{Done, Refused}
 use Rattle.skk_calls.specs.declared.call.Call.{Call}
 use Rattle.skk_calls.specs.declared.call.Call.TheVariants.{Lookup, Complete, Learn, Purge, Unlearn}
 use Rattle.skk_calls.specs.Dictionary.{answer, is_change, moves, after}
-use Rattle.skk_calls.specs.Histories.{Entry, Opening, IsLegalAnswer, IsLegal, tells_change, after_answer, after_entry, state_after, end_after, room, changes, after_calls, need, needs}
+use Rattle.skk_calls.specs.Histories.{Entry, Opening, LacksRoom, IsLegalAnswer, IsLegal, tells_change, after_answer, after_entry, state_after, end_after, room, changes, after_calls, need, needs}
 use Rattle.skk_calls.specs.Rows.{Row}
 use Rattle.skk_calls.specs.States.{State}
 use Rattle.dict_laws.proofs.TakenBack.{after_unmoved}
@@ -20,7 +20,7 @@ files_have_no_say files state (Purge book key word) = refl
 files_have_no_say files state (Unlearn learned) = refl
 
 -- a call with a legal answer makes another state exactly where the answer tells of a change
-state_as_told : (opening : Opening) (state : State) (end : ℕ) (call : Call) (told : Answer) → IsLegalAnswer opening state end call told
+state_as_told : (opening : Opening) (state : State) (end : ℕ) (call : Call) (told : Answer) → IsLegalAnswer LacksRoom opening state end call told
     → after_answer state call told ≡ cond (tells_change told) (after state call) state
 state_as_told opening state end call (Refused refusal) legal = refl
 state_as_told opening state end call (Done reply) legal = by (is_change reply) refl
@@ -33,7 +33,7 @@ state_as_told opening state end call (Done reply) legal = by (is_change reply) r
 
 -- an opening with another state and another end
 abbrev moved_on : Opening → State → ℕ → Opening
-moved_on opening state end = record { files = opening.files; state = state; end = end; limit = opening.limit }
+moved_on opening state end = record opening { state = state; end = end }
 
 -- of a legal history what stands behind the first entry is legal from there on
 legal_rest : (opening : Opening) (entry : Entry) (history : List Entry) → IsLegal opening (entry ∷ history)

@@ -12,7 +12,8 @@ use Rattle.skk_calls.specs.declared.chronicle.Noted.{Noted}
 use Rattle.skk_calls.specs.declared.chronicle.Noted.TheVariants.{Opened, Entered}
 use Rattle.skk_calls.specs.Chronicles.{is_chronicle, is_chronicle_or_none, noted, opening_of, history_of}
 use Rattle.skk_calls.specs.Dictionary.{answer}
-use Rattle.skk_calls.specs.Histories.{Entry, Opening, IsLegalAnswer, IsLegal, after_entry, state_after, end_after, room, changes, after_calls, need, needs, dialog, in_doubt, states_left}
+use Rattle.skk_calls.specs.Histories.{Entry, Opening, LacksRoom, IsLegalAnswer, IsLegal, after_entry, state_after, end_after, room, changes, after_calls, need, needs, dialog, in_doubt, states_left}
+use Rattle.skk_calls.specs.Openings.{fresh_opening, said_in, are_of_one, is_reply, are_served, is_reply_or_memory, is_without_disk}
 use Rattle.skk_calls.specs.Rows.{Row, Learned}
 use Rattle.skk_calls.specs.States.{State, empty_state}
 use Rattle.skk_calls.specs.Tallies.{Tally, empty_tally, tally_with, tally_of}
@@ -179,51 +180,51 @@ rows_counted = refl
 
 -- a learned file of at most 64 bytes that ends at 18, over the empty state, and one of other limits
 abbrev opening_of_limit : ℕ → Opening
-opening_of_limit limit = record { files = files; state = empty_state; end = 18; limit = limit }
+opening_of_limit limit = record { files = files; state = empty_state; end = 18; limit = limit; time = 3; faults = 0 }
 
 abbrev opening : Opening
 opening = opening_of_limit 64
 
 -- 49 bytes behind the first 18 pass 66 bytes, but not 67
-full_is_legal : IsLegalAnswer (opening_of_limit 66) empty_state 18 learn_katsushika (Refused (JournalFull 18 49 66))
+full_is_legal : IsLegalAnswer LacksRoom (opening_of_limit 66) empty_state 18 learn_katsushika (Refused (JournalFull 18 49 66))
 unfolding lib.Utf8.encode
-full_is_legal = (refl, refl, refl, refl, omega arith)
+full_is_legal = (refl, (refl, refl, refl, omega arith))
 
-room_for_all : IsLegalAnswer (opening_of_limit 67) empty_state 18 learn_katsushika (Refused (JournalFull 18 49 67)) → ⊥
+room_for_all : IsLegalAnswer LacksRoom (opening_of_limit 67) empty_state 18 learn_katsushika (Refused (JournalFull 18 49 67)) → ⊥
 unfolding lib.Utf8.encode
-room_for_all h = omega (arith, h.4)
+room_for_all h = omega (arith, h.1.3)
 
 -- the file is told to be full at its own end, need and limit alone, and for a change alone
-other_end : IsLegalAnswer opening empty_state 18 learn_katsushika (Refused (JournalFull 19 49 64)) → ⊥
-other_end h = let e : 19 ≡ 18 = h.0 in omega (arith, e)
+other_end : IsLegalAnswer LacksRoom opening empty_state 18 learn_katsushika (Refused (JournalFull 19 49 64)) → ⊥
+other_end h = let e : 19 ≡ 18 = h.1.0 in omega (arith, e)
 
-other_need : IsLegalAnswer opening empty_state 18 learn_katsushika (Refused (JournalFull 18 48 64)) → ⊥
+other_need : IsLegalAnswer LacksRoom opening empty_state 18 learn_katsushika (Refused (JournalFull 18 48 64)) → ⊥
 unfolding lib.Utf8.encode
-other_need h = let e : 48 ≡ 49 = h.1 in omega (arith, e)
+other_need h = let e : 48 ≡ 49 = h.1.1 in omega (arith, e)
 
-other_limit : IsLegalAnswer opening empty_state 18 learn_katsushika (Refused (JournalFull 18 49 65)) → ⊥
-other_limit h = let e : 65 ≡ 64 = h.2 in omega (arith, e)
+other_limit : IsLegalAnswer LacksRoom opening empty_state 18 learn_katsushika (Refused (JournalFull 18 49 65)) → ⊥
+other_limit h = let e : 65 ≡ 64 = h.1.2 in omega (arith, e)
 
-no_change : IsLegalAnswer (opening_of_limit 17) empty_state 18 lookup_kanji (Refused (JournalFull 18 0 17)) → ⊥
-no_change h = false≢true h.3
+no_change : IsLegalAnswer LacksRoom (opening_of_limit 17) empty_state 18 lookup_kanji (Refused (JournalFull 18 0 17)) → ⊥
+no_change h = false≢true h.0
 
 -- the disk may fail a change alone
-disk_is_legal : IsLegalAnswer opening empty_state 18 learn_kanji (Refused Disk)
+disk_is_legal : IsLegalAnswer LacksRoom opening empty_state 18 learn_kanji (Refused Disk)
 unfolding lib.Utf8.encode
 disk_is_legal = refl
 
-disk_is_not_legal : IsLegalAnswer opening empty_state 18 lookup_kanji (Refused Disk) → ⊥
+disk_is_not_legal : IsLegalAnswer LacksRoom opening empty_state 18 lookup_kanji (Refused Disk) → ⊥
 disk_is_not_legal h = false≢true h
 
 -- memory may lack for each call
-memory_is_legal : IsLegalAnswer opening empty_state 18 lookup_kanji (Refused Memory)
+memory_is_legal : IsLegalAnswer LacksRoom opening empty_state 18 lookup_kanji (Refused Memory)
 memory_is_legal = tt
 
 -- a reply is the dictionary's, over the files, and no other
-reply_is_legal : IsLegalAnswer opening empty_state 18 lookup_kanji found_kanji
+reply_is_legal : IsLegalAnswer LacksRoom opening empty_state 18 lookup_kanji found_kanji
 reply_is_legal = refl
 
-other_reply : IsLegalAnswer opening empty_state 18 lookup_kanji (Done (replies.Found [])) → ⊥
+other_reply : IsLegalAnswer LacksRoom opening empty_state 18 lookup_kanji (Done (replies.Found [])) → ⊥
 other_reply h = cc
 
 -- Legal histories
@@ -232,27 +233,27 @@ other_reply h = cc
 abbrev IsLegalFrom : Opening → State → ℕ → List Entry → Type 0
 IsLegalFrom over state end [] = Unit {0}
 IsLegalFrom over state end (entry ∷ rest) =
-    IsLegalAnswer over state end entry.call entry.answer × IsLegalFrom over (after_entry state entry) (end_after state end entry) rest
+    IsLegalAnswer LacksRoom over state end entry.call entry.answer × IsLegalFrom over (after_entry state entry) (end_after state end entry) rest
 
 -- a history that is legal answer by answer is legal
 legal_by_answers : (over : Opening) (state : State) (end : ℕ) (whole : List Entry) → IsLegalFrom over state end whole
     → (prefix : List Entry) (entry : Entry) (rest : List Entry) → whole ≡ prefix ++ entry ∷ rest
-    → IsLegalAnswer over (state_after state prefix) (room state end prefix) entry.call entry.answer
+    → IsLegalAnswer LacksRoom over (state_after state prefix) (room state end prefix) entry.call entry.answer
 legal_by_answers over state end [] legal [] entry rest e = cc
 legal_by_answers over state end [] legal (p ∷ prefix) entry rest e = cc
 legal_by_answers over state end (first_entry ∷ whole) legal [] entry rest e =
     let same : first_entry ≡ entry = cc in
-    subst (λ (x : Entry). IsLegalAnswer over state end x.call x.answer) same legal.0
+    subst (λ (x : Entry). IsLegalAnswer LacksRoom over state end x.call x.answer) same legal.0
 legal_by_answers over state end (first_entry ∷ whole) legal (p ∷ prefix) entry rest e =
     let same : first_entry ≡ p = cc in
     let behind : whole ≡ prefix ++ entry ∷ rest = cc in
-    subst (λ (x : Entry). IsLegalAnswer over (state_after (after_entry state x) prefix) (room (after_entry state x) (end_after state end x) prefix) entry.call entry.answer)
+    subst (λ (x : Entry). IsLegalAnswer LacksRoom over (state_after (after_entry state x) prefix) (room (after_entry state x) (end_after state end x) prefix) entry.call entry.answer)
     same (legal_by_answers over (after_entry state first_entry) (end_after state end first_entry) whole legal.1 prefix entry rest behind)
 
 -- a learning, and behind it another for which the file is full: it ends at 61 by then
 legal_history : IsLegal opening (learned_first ∷ full ∷ [])
 unfolding lib.Utf8.encode
-legal_history = legal_by_answers opening empty_state 18 (learned_first ∷ full ∷ []) (refl, ((refl, refl, refl, refl, omega arith), tt))
+legal_history = legal_by_answers opening empty_state 18 (learned_first ∷ full ∷ []) (refl, ((refl, (refl, refl, refl, omega arith)), tt))
 
 -- two learnings, where the stamp of the second is the next one
 legal_learnings : IsLegal opening (learned_first ∷ learned_second ∷ [])
@@ -270,7 +271,7 @@ unfolding lib.Utf8.encode
 not_legal_first legal = let told : 2 ≡ 1 = ap stamp_told (legal [] learned_second [] refl) in omega (arith, told)
 
 not_full_first : IsLegal opening (full ∷ []) → ⊥
-not_full_first legal = let told : 61 ≡ 18 = (legal [] full [] refl).0 in omega (arith, told)
+not_full_first legal = let told : 61 ≡ 18 = (legal [] full [] refl).1.0 in omega (arith, told)
 
 -- nor is the first legal twice: a history is judged at the state of its place
 not_legal_twice : IsLegal opening (learned_first ∷ learned_first ∷ []) → ⊥
@@ -304,9 +305,68 @@ lists_of_traces = refl
 
 -- its opening, and its history
 openings : Gives opening_of (
-    ([], None) ∷ (noted_opening ∷ noted_look_up ∷ [], Some (record { files = files; state = first_state; end = 61; limit = 64 })) ∷ (noted_look_up ∷ noted_opening ∷ [], None)
+    ([], None) ∷ (noted_look_up ∷ noted_opening ∷ [], None)
+    ∷ (
+      noted_opening ∷ noted_look_up ∷ [],
+      Some (record { files = files; state = first_state; end = 61; limit = 64; time = 3; faults = 0 }),
+    )
     ∷ [])
 openings = refl
 
 histories : Gives history_of (([], []) ∷ (noted_opening ∷ noted_look_up ∷ noted_failure ∷ [], looked_up ∷ failed ∷ []) ∷ [])
 histories = refl
+
+-- an answer is a reply, or a refusal
+replies_told : Gives is_reply (
+    (found_kanji, true) ∷ (learned_kanji, true) ∷ (Refused Memory, false) ∷ (Refused Disk, false)
+    ∷ (Refused (JournalFull 18 49 64), false)
+    ∷ [])
+replies_told = refl
+
+replies_or_memory : Gives is_reply_or_memory (
+    (found_kanji, true) ∷ (learned_kanji, true) ∷ (Refused Memory, true) ∷ (Refused Disk, false)
+    ∷ (Refused (JournalFull 18 49 64), false)
+    ∷ [])
+replies_or_memory = refl
+
+-- a refusal in a chronicle is seen behind its opening and behind other entries
+served : Gives are_served (
+    (noted_opening ∷ [], true) ∷ (noted_opening ∷ noted_look_up ∷ [], true)
+    ∷ (noted_opening ∷ noted_look_up ∷ noted_failure ∷ [], false) ∷ (noted_opening ∷ noted_failure ∷ noted_look_up ∷ [], false)
+    ∷ [])
+served = refl
+
+-- an entry of another caller than the one with the number 0 is seen
+abbrev noted_of : ℕ → Noted
+noted_of number = Entered number lookup_kanji found_kanji 3 0
+
+of_one : Gives are_of_one (
+    (noted_opening ∷ [], true) ∷ (noted_opening ∷ noted_of 0 ∷ noted_of 0 ∷ [], true)
+    ∷ (noted_opening ∷ noted_of 0 ∷ noted_of 1 ∷ [], false) ∷ (noted_opening ∷ noted_of 2 ∷ [], false)
+    ∷ [])
+of_one = refl
+
+-- each caller's calls are its own
+said : Gives2 said_in (
+    (noted_opening ∷ noted_of 0 ∷ noted_look_up ∷ [], 0, (lookup_kanji, found_kanji) ∷ [])
+    ∷ (noted_opening ∷ noted_of 0 ∷ noted_look_up ∷ noted_failure ∷ [], 2, (learn_katsushika, Refused Disk) ∷ [])
+    ∷ (noted_opening ∷ noted_look_up ∷ [], 0, [])
+    ∷ [])
+said = refl
+
+-- without a disk nothing is refused but for want of memory, and neither the time nor the count of faults moves: the entries
+-- of time 3 and no fault alone are so
+without_disk : Gives (is_without_disk (opening_of_limit 64)) (
+    (noted_opening ∷ [], true) ∷ (noted_opening ∷ noted_of 0 ∷ [], true)
+    ∷ (noted_opening ∷ Entered 0 lookup_kanji (Refused Memory) 3 0 ∷ [], true)
+    ∷ (noted_opening ∷ Entered 0 learn_kanji (Refused Disk) 3 0 ∷ [], false)
+    ∷ (noted_opening ∷ Entered 0 learn_kanji (Refused (JournalFull 18 49 64)) 3 0 ∷ [], false)
+    ∷ (noted_opening ∷ Entered 0 lookup_kanji found_kanji 4 0 ∷ [], false)
+    ∷ (noted_opening ∷ Entered 0 lookup_kanji found_kanji 3 1 ∷ [], false)
+    ∷ (Opened files first_state 61 64 4 0 ∷ [], false) ∷ (Opened files first_state 61 64 3 1 ∷ [], false)
+    ∷ [])
+without_disk = refl
+
+-- nothing is learnt before a fresh opening, and there is no disk
+fresh : fresh_opening files ≡ record { files = files; state = empty_state; end = 0; limit = 0; time = 0; faults = 0 }
+fresh = refl

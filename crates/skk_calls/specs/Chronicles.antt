@@ -8,7 +8,7 @@ use Rattle.skk_calls.specs.Histories.{Entry, Opening}
 -- what is noted as an opening
 abbrev pub noted_opening : Noted → Option Opening
 noted_opening (Opened files state end limit time faults) =
-    Some (record { files = files; state = state; end = end; limit = limit })
+    Some (record { files = files; state = state; end = end; limit = limit; time = time; faults = faults })
 noted_opening (Entered number call answer time faults) = None
 
 -- what is noted as an entry

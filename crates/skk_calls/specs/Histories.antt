@@ -19,13 +19,15 @@ pub record Entry : Type 0 where
   pub call : Call
   pub answer : Answer
 
--- what a history stands over: the rows of the system files, the state and the end of the learned file at its opening,
--- and the limit of the learned file
+-- what a history stands over: the rows of the system files, and at its opening the state, the end and the limit of the
+-- learned file, and the time and the count of faults of the disk
 pub record Opening : Type 0 where
   pub files : List (List Row)
   pub state : State
   pub end : ℕ
   pub limit : ℕ
+  pub time : ℕ
+  pub faults : ℕ
 
 -- an answer tells of a change
 abbrev pub tells_change : Answer → Bool
@@ -120,21 +122,38 @@ abbrev pub needs : State → List Call → ℕ
 needs state [] = 0
 needs state (call ∷ calls) = need state call + needs (after state call) calls
 
+-- what is told of a learned file that is full: its end, what a call needs, and its limit
+pub record FullFile : Type 0 where
+  pub end : ℕ
+  pub need : ℕ
+  pub limit : ℕ
+
+-- a learned file with this end has no room for what a call needs at a state, and what is told of it is so
+abbrev pub LacksRoom : Opening → State → ℕ → Call → FullFile → Type 0
+LacksRoom opening state end call told =
+    (told.end ≡ end) × (told.need ≡ need state call) × (told.limit ≡ opening.limit)
+    × (opening.limit < end + need state call)
+
 -- an answer is the dictionary's at this state and end, or a refusal with its cause: out of memory, a disk that failed a
--- change, or a learned file that has no room for a change
-abbrev pub IsLegalAnswer : Opening → State → ℕ → Call → Answer → Type 0
-IsLegalAnswer opening state end call (Done reply) = reply ≡ answer opening.files state call
-IsLegalAnswer opening state end call (Refused refusals.Memory) = ⊤
-IsLegalAnswer opening state end call (Refused refusals.Disk) = moves state call ≡ true
-IsLegalAnswer opening state end call (Refused (refusals.JournalFull told_end told_need told_limit)) =
-    (told_end ≡ end) × (told_need ≡ need state call) × (told_limit ≡ opening.limit)
-    × (moves state call ≡ true) × (opening.limit < end + need state call)
+-- change, or a learned file that was full for a change, as `Full` says of what is told
+abbrev pub IsLegalAnswer : (Opening → State → ℕ → Call → FullFile → Type 0) → Opening → State → ℕ → Call → Answer → Type 0
+IsLegalAnswer Full opening state end call (Done reply) = reply ≡ answer opening.files state call
+IsLegalAnswer Full opening state end call (Refused refusals.Memory) = ⊤
+IsLegalAnswer Full opening state end call (Refused refusals.Disk) = moves state call ≡ true
+IsLegalAnswer Full opening state end call (Refused (refusals.JournalFull told_end told_need told_limit)) =
+    (moves state call ≡ true)
+    × Full opening state end call (record { end = told_end; need = told_need; limit = told_limit })
+
+-- each answer of a history is legal at its place, where a learned file is full as `Full` says
+abbrev pub IsLegalWhere : (Opening → State → ℕ → Call → FullFile → Type 0) → Opening → List Entry → Type 0
+IsLegalWhere Full opening history =
+    (prefix : List Entry) (entry : Entry) (rest : List Entry) → history ≡ prefix ++ entry ∷ rest
+    → IsLegalAnswer Full opening (state_after opening.state prefix) (room opening.state opening.end prefix)
+    entry.call entry.answer
 
 -- each answer of a history is legal at its place
 abbrev pub IsLegal : Opening → List Entry → Type 0
-IsLegal opening history =
-    (prefix : List Entry) (entry : Entry) (rest : List Entry) → history ≡ prefix ++ entry ∷ rest
-    → IsLegalAnswer opening (state_after opening.state prefix) (room opening.state opening.end prefix) entry.call entry.answer
+IsLegal = IsLegalWhere LacksRoom
 
 -- what an entry says of a caller: its call and its answer, where the entry is this caller's
 abbrev pub said_by : ℕ → Entry → Option (Call × Answer)

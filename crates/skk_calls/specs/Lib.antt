@@ -10,6 +10,7 @@ pub mod Interactions
 pub mod KeyLaws
 pub mod Learning
 pub mod OrderLaws
+pub mod Openings
 pub mod Orders
 pub mod RowLaws
 pub mod Rows
