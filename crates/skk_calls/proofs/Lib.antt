@@ -10,3 +10,4 @@ pub mod LineExamples
 pub mod RowExamples
 pub mod Samples
 pub mod StateExamples
+pub mod TextOrder

@@ -6,7 +6,7 @@ use Rattle.std.proofs.lemmas.Bool.Decides.{nat_tests}
 use Rattle.skk_text.specs.Text.{byte_len}
 use Rattle.skk_calls.specs.Found.{note_of}
 use Rattle.skk_calls.specs.KeyLaws.{same_equal}
-use Rattle.skk_calls.specs.Rows.{Cand, Block, Row, same_text, texts_differ, is_row_key, is_okuri, is_word, is_cand, is_block, fits_blocks, words_of, okuri_of, is_row}
+use Rattle.skk_calls.specs.Rows.{Cand, Block, Row, same_text, texts_differ, word_limit, is_row_key, is_okuri, is_word, is_cand, is_block, fits_blocks, words_of, okuri_of, is_row}
 
 -- what a row keeps
 pub record RowParts (row : Row) : Type 0 where
@@ -80,7 +80,7 @@ pub cand_with_note_of : (cands : List Cand) (word : List ℕ) → is_word word �
     → is_cand (record { word = word; note = note_of cands word }) ≡ true
 cand_with_note_of [] word e all = by (length word) (byte_len word) e
   where
-    by : (l w : ℕ) → (nat_le 1 l && nat_le w 4095) ≡ true → (nat_le 1 l && (true && nat_le (w + 0) 4095)) ≡ true
+    by : (l w : ℕ) → (nat_le 1 l && nat_le w word_limit) ≡ true → (nat_le 1 l && (true && nat_le (w + 0) word_limit)) ≡ true
     by l w h = grind (arith, nat_tests)
 cand_with_note_of (cand ∷ cands) word e all =
     by (same_text cand.word word) refl (cand_with_note_of cands word e (and_parts (is_cand cand) (list_all is_cand cands) all).1)

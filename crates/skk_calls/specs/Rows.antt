@@ -60,10 +60,14 @@ same_part part other = false
 abbrev pub same_key : RowKey → RowKey → Bool
 same_key key other = same_part key.part other.part && same_text key.reading other.reading
 
--- a text is not empty, and begins with something else than `;`
+-- a character may begin a reading: it is no `;`
+abbrev pub may_begin_reading : ℕ → Bool
+may_begin_reading c = not (c == 0x3B)
+
+-- a text is not empty, and its first character may begin a reading
 abbrev pub begins_well : List ℕ → Bool
 begins_well [] = false
-begins_well (c ∷ text) = not (c == 0x3B)
+begins_well (c ∷ text) = may_begin_reading c
 
 -- a character may stand in a reading: it lies behind the space, and is no DEL
 abbrev pub is_reading_char : ℕ → Bool
@@ -75,11 +79,16 @@ is_letter [] = false
 is_letter (c ∷ []) = nat_le 0x61 c && nat_le c 0x7A
 is_letter (c ∷ d ∷ text) = false
 
--- a reading without okurigana has at most 254 bytes, and one with it has at most 255 and ends in its letter behind
--- something else
+-- the most bytes of a reading: 254 without okurigana, and 255 with it
+abbrev pub reading_limit : Part → ℕ
+reading_limit Nasi = 254
+reading_limit Ari = 255
+
+-- a reading has no more bytes than its part allows, and with okurigana it ends in its letter behind something else
 abbrev pub fits_part : Part → List ℕ → Bool
-fits_part Nasi text = nat_le (byte_len text) 254
-fits_part Ari text = nat_le (byte_len text) 255 && (nat_le 2 (length text) && is_letter (last_chars 1 text))
+fits_part Nasi text = nat_le (byte_len text) (reading_limit Nasi)
+fits_part Ari text =
+    nat_le (byte_len text) (reading_limit Ari) && (nat_le 2 (length text) && is_letter (last_chars 1 text))
 
 -- a key has a reading that is valid in its part
 abbrev pub is_row_key : RowKey → Bool
@@ -90,9 +99,13 @@ is_row_key key =
 abbrev pub is_okuri_char : ℕ → Bool
 is_okuri_char c = is_hiragana c || c == 0x30FC
 
--- an okurigana has 1 to 60 bytes of such characters
+-- the most bytes of an okurigana
+abbrev pub okuri_limit : ℕ
+okuri_limit = 60
+
+-- an okurigana is not empty, not too long, and of such characters alone
 abbrev pub is_okuri : List ℕ → Bool
-is_okuri text = nat_le 1 (byte_len text) && (nat_le (byte_len text) 60 && list_all is_okuri_char text)
+is_okuri text = nat_le 1 (byte_len text) && (nat_le (byte_len text) okuri_limit && list_all is_okuri_char text)
 
 -- a character may stand in a note: it is no `/`, CR or LF
 abbrev pub is_note_char : ℕ → Bool

@@ -2,6 +2,7 @@ ghost use Rattle.std.specs.Prelude.{◌≡◌, true, MatchOption};
 ghost use Rattle.std.specs.Str.{chars};
 ghost use Rattle.skk_calls.specs.Rows.{is_note, IsBadNote};
 
+use crate::limits::WORD_LIMIT;
 use skk_text::{Copies, Memory, Sequence, Text};
 use std::alloc::Global;
 use std::marker::Model;
@@ -106,9 +107,6 @@ fn bad_note_at(note: &str) -> Option<usize>
 {
     note.find(['/', '\r', '\n'])
 }
-
-/// The most bytes of a word with its note.
-pub const WORD_LIMIT: usize = 4_095;
 
 /// Candidates in order.
 pub type Cands = Sequence<Cand>;

@@ -15,6 +15,7 @@ mod caller;
 mod cand;
 mod chronicle;
 mod learned;
+mod limits;
 mod office;
 mod okuri;
 mod opening;
@@ -35,13 +36,16 @@ pub use caller::{Caller, Kept};
 pub use cand::{Cand, CandFault, Cands};
 pub use chronicle::{Chronicle, Noted};
 pub use learned::Learned;
+pub use limits::{LINE_LIMIT, OKURI_LIMIT, OKURI_READING_LIMIT, READING_LIMIT, WORD_LIMIT};
 pub use office::Office;
-pub use okuri::{Okuri, OkuriFault};
+pub use okuri::{Okuri, OkuriFault, are_okuri_chars};
 pub use opening::OpeningName;
 pub use part::Part;
 pub use quoting::needs_quotes;
 pub use row::{Block, Blocks, Row, Rows};
-pub use row_key::{RowKey, RowKeyFault};
+pub use row_key::{
+    RowKey, RowKeyFault, are_reading_chars, begins_well, is_reading_char, may_begin_reading,
+};
 pub use state::State;
 pub use tally::Tally;
 pub use walk::Walk;

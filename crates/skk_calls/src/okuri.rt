@@ -3,6 +3,7 @@ ghost use Rattle.std.specs.List.{list_all};
 ghost use Rattle.std.specs.Str.{chars};
 ghost use Rattle.skk_calls.specs.Rows.{is_okuri, is_okuri_char};
 
+use crate::limits::OKURI_LIMIT;
 use skk_text::{Copies, Memory, Text};
 use std::alloc::Global;
 use std::marker::Model;
@@ -70,11 +71,11 @@ fn is_okuri(text: &Text) -> bool
     ensures { result ≡ is_okuri text.now }
 {
     let bytes = text.byte_len();
-    1 <= bytes && bytes <= 60 && are_okuri_chars(text.as_str())
+    1 <= bytes && bytes <= OKURI_LIMIT && are_okuri_chars(text.as_str())
 }
 
-// Whether each character may stand in an okurigana.
-fn are_okuri_chars(text: &str) -> bool
+/// Whether each character may stand in an okurigana. Takes no memory, and time in the text's length.
+pub fn are_okuri_chars(text: &str) -> bool
     ensures { result ≡ list_all is_okuri_char (chars text.now) }
 {
     text.chars().all(is_okuri_char)

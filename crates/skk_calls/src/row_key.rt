@@ -1,8 +1,10 @@
 ghost use Rattle.std.specs.Prelude.{◌≡◌, ◌&&◌, nat_le, length, encode_utf8_all};
 ghost use Rattle.std.specs.List.{list_all};
+ghost use Rattle.std.specs.Ordering.{is_lt, is_eq, is_gt};
 ghost use Rattle.std.specs.Str.{chars};
 ghost use Rattle.skk_text.specs.Text.{last_chars};
-ghost use Rattle.skk_calls.specs.Rows.{is_row_key, begins_well, is_reading_char, is_letter, fits_part};
+ghost use Rattle.skk_calls.specs.Orders.{text_less};
+ghost use Rattle.skk_calls.specs.Rows.{is_row_key, same_text, begins_well, may_begin_reading, is_reading_char, is_letter, fits_part};
 
 use crate::part::Part;
 use skk_text::{Copies, Memory, Text};
@@ -43,7 +45,6 @@ pub enum RowKeyFault {
 
 impl RowKey {
     ghost use Rattle.std.specs.Prelude.{◌≡◌, ◌↔◌, true, false, IfOk, IsErr};
-    ghost use Rattle.std.specs.Ordering.{is_lt};
     ghost use Rattle.skk_calls.specs.Orders.{key_less};
     ghost use Rattle.skk_calls.specs.Rows.{is_row_key, same_key};
 
@@ -76,12 +77,14 @@ impl RowKey {
 
     /// Which of two keys is the lesser: by the part, and then by the bytes of the reading.
     pub fn order(&self, other: &RowKey) -> Ordering
-        ensures { is_lt result ≡ key_less self.now other.now }
+        ensures less { is_lt result ≡ key_less self.now other.now }
+        ensures equal { is_eq result ≡ same_key self.now other.now }
+        ensures greater { is_gt result ≡ key_less other.now self.now }
     {
         match (self.part, other.part) {
             (Part::Nasi, Part::Ari) => Ordering::Less,
             (Part::Ari, Part::Nasi) => Ordering::Greater,
-            _ => bytes_of(&self.reading).cmp(bytes_of(&other.reading)),
+            _ => text_order(&self.reading, &other.reading),
         }
     }
 
@@ -102,6 +105,15 @@ impl Copies for RowKey {
     }
 }
 
+// Which of two texts is the lesser by its bytes.
+fn text_order(text: &Text, other: &Text) -> Ordering
+    ensures less { is_lt result ≡ text_less text.now other.now }
+    ensures equal { is_eq result ≡ same_text text.now other.now }
+    ensures greater { is_gt result ≡ text_less other.now text.now }
+{
+    bytes_of(text).cmp(bytes_of(other))
+}
+
 // The bytes of a text.
 fn bytes_of(text: &Text) -> &[u8]
     ensures { result.now ≡ encode_utf8_all text.now }
@@ -117,25 +129,33 @@ fn is_row_key(part: Part, reading: &Text) -> bool
     begins_well(text) && are_reading_chars(text) && fits_part(part, reading)
 }
 
-// Whether a text begins, and with something else than `;`.
-fn begins_well(text: &str) -> bool
+/// Whether a text begins as a reading does: it is not empty, and begins with something else than `;`. Takes no memory and
+/// constant time.
+pub fn begins_well(text: &str) -> bool
     ensures { result ≡ begins_well (chars text.now) }
 {
     match text.chars().next() {
-        Some(c) => c != ';',
+        Some(c) => may_begin_reading(c),
         None => false,
     }
 }
 
-// Whether each character may stand in a reading.
-fn are_reading_chars(text: &str) -> bool
+/// Whether a reading may begin with a character that may stand in it.
+pub fn may_begin_reading(c: char) -> bool
+    ensures { result ≡ may_begin_reading c }
+{
+    c != ';'
+}
+
+/// Whether each character may stand in a reading. Takes no memory, and time in the text's length.
+pub fn are_reading_chars(text: &str) -> bool
     ensures { result ≡ list_all is_reading_char (chars text.now) }
 {
     text.chars().all(is_reading_char)
 }
 
-// Whether a character may stand in a reading.
-fn is_reading_char(c: char) -> bool
+/// Whether a character may stand in a reading.
+pub fn is_reading_char(c: char) -> bool
     ensures { result ≡ is_reading_char c }
 {
     c > ' ' && c != '\u{7F}'
@@ -145,10 +165,10 @@ fn is_reading_char(c: char) -> bool
 fn fits_part(part: Part, reading: &Text) -> bool
     ensures { result ≡ fits_part part reading.now }
 {
-    let bytes = reading.byte_len();
+    let fits = reading.byte_len() <= part.reading_limit();
     match part {
-        Part::Nasi => bytes <= 254,
-        Part::Ari => bytes <= 255 && ends_in_letter(reading),
+        Part::Nasi => fits,
+        Part::Ari => fits && ends_in_letter(reading),
     }
 }
 

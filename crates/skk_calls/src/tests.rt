@@ -11,7 +11,7 @@ use std::alloc::Global;
 use std::test::Fail;
 
 // A text that is `unit` so many times, and then `end`.
-fn repeated(alloc: Global, unit: &str, count: usize, end: &str) -> Result<Text, Memory> {
+fn repeat(alloc: Global, unit: &str, count: usize, end: &str) -> Result<Text, Memory> {
     let mut text = Text::new(alloc);
     for _ in 0..count {
         text.push_str(unit)?;
@@ -36,7 +36,7 @@ fn readings_of_keys_are_checked(rt: HostRuntime) -> Result<(), Fail> {
         (Part::Ari, "あ", 84, "aaz", None),
         (Part::Ari, "あ", 84, "aaaz", Some(RowKeyFault::Invalid)),
     ] {
-        let reading = repeated(alloc, unit, count, end)?;
+        let reading = repeat(alloc, unit, count, end)?;
         assert_eq!(rt;
             RowKey::new(part, reading).err(),
             fault,
@@ -57,7 +57,7 @@ fn okurigana_are_checked(rt: HostRuntime) -> Result<(), Fail> {
         ("く", 20, None),
         ("く", 21, Some(OkuriFault::Invalid)),
     ] {
-        let okuri = repeated(alloc, unit, count, "")?;
+        let okuri = repeat(alloc, unit, count, "")?;
         assert_eq!(rt; Okuri::new(okuri).err(), fault, "at {count} {unit:?}");
     }
     Ok(())
@@ -75,8 +75,8 @@ fn candidates_are_checked(rt: HostRuntime) -> Result<(), Fail> {
         (4_094, "x", None),
         (4_095, "", None),
     ] {
-        let word = repeated(alloc, "a", count, "")?;
-        let note = repeated(alloc, note, 1, "")?;
+        let word = repeat(alloc, "a", count, "")?;
+        let note = repeat(alloc, note, 1, "")?;
         assert_eq!(rt; Cand::new(word, note).err(), fault, "at {count}");
     }
     Ok(())
@@ -101,7 +101,7 @@ fn words_need_quotes(rt: HostRuntime) -> Result<(), Fail> {
         ("(skk-ignore-dic-word x", true),
         ("(skk-ignore-dic-word", false),
     ] {
-        let text = repeated(alloc, word, 1, "")?;
+        let text = repeat(alloc, word, 1, "")?;
         assert_eq!(rt; needs_quotes(&text), needed, "at {word:?}");
     }
     Ok(())
