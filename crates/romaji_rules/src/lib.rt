@@ -23,6 +23,7 @@ mod standard;
 mod standing;
 #[cfg(test)]
 mod tests;
+mod text_end;
 
 pub use laws::{one_flush, one_step};
 pub use out::Out;

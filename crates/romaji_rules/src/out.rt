@@ -1,3 +1,4 @@
+use crate::text_end::take_off;
 use skk_text::{Memory, Text, to_katakana};
 use std::alloc::Global;
 
@@ -11,7 +12,7 @@ pub struct Out {
 }
 
 impl Out {
-    ghost use Rattle.std.specs.Prelude.{◌≡◌, OnOk, IfOk};
+    ghost use Rattle.std.specs.Prelude.{◌≡◌, OnOk, OnErr, IfOk};
     ghost use Rattle.romaji_rules.specs.Output.{nothing, itself, of_hiragana, appended};
 
     /// No output. Takes no memory.
@@ -42,13 +43,20 @@ impl Out {
         Ok(Out { hira, kata })
     }
 
-    /// Adds another output behind this one. After `Memory` the output is of no use.
+    /// Adds another output behind this one. After `Memory` the output is as before.
     pub fn append(&mut self, other: &Out) -> Result<(), Memory>
-        ensures { OnOk result (self.new ≡ appended self.old other.now) }
+        ensures ok { OnOk result (self.new ≡ appended self.old other.now) }
+        ensures err { OnErr result (self.new ≡ self.old) }
     {
-        self.hira.push_str(other.hira.as_str())?;
-        self.kata.push_str(other.kata.as_str())?;
-        Ok(())
+        let added = other.hira.as_str();
+        self.hira.push_str(added)?;
+        match self.kata.push_str(other.kata.as_str()) {
+            Ok(()) => Ok(()),
+            Err(Memory) => {
+                take_off(&mut self.hira, added);
+                Err(Memory)
+            }
+        }
     }
 
     /// An equal output.

@@ -90,7 +90,7 @@ impl Rules {
         ensures exact { IsTrue result ↔ GoesOn self.now (pending.now ++ c ∷ []) }
         ensures computed { result ≡ goes_on self.now (pending.now ++ c ∷ []) }
     {
-        match self.standing(typed(pending, c).as_slice()) {
+        match self.standing(text_with(pending, c).as_slice()) {
             Standing::Begins | Standing::Input(_) => true,
             Standing::Neither => false,
         }
@@ -149,7 +149,7 @@ impl Rules {
         ensures none { IfOk result (λ out. IsNone out → pending.new ≡ pending.old) }
         ensures err { OnErr result (pending.new ≡ pending.old) }
     {
-        let text = typed(pending, c);
+        let text = text_with(pending, c);
         match self.standing(text.as_slice()) {
             Standing::Begins => {
                 *pending = Pending::of(text.as_slice());
@@ -175,7 +175,7 @@ impl Rules {
         if pending.is_empty() {
             return Out::itself(alloc, c);
         }
-        let mut out = self.flushed(alloc, pending)?;
+        let mut out = self.pending_output(alloc, pending)?;
         let mut alone = Pending::new();
         out.append(&self.feed_alone(alloc, &mut alone, c)?)?;
         *pending = alone;
@@ -190,7 +190,7 @@ impl Rules {
         ensures empty { OnOk result (pending.new ≡ []) }
         ensures err { OnErr result (pending.new ≡ pending.old) }
     {
-        let out = self.flushed(alloc, pending)?;
+        let out = self.pending_output(alloc, pending)?;
         *pending = Pending::new();
         Ok(out)
     }
@@ -209,7 +209,7 @@ impl Rules {
     }
 
     // The output of what is pending, where that is an input.
-    fn flushed(&self, alloc: Global, pending: &Pending) -> Result<Out, Memory>
+    fn pending_output(&self, alloc: Global, pending: &Pending) -> Result<Out, Memory>
         ensures { IfOk result (λ out. out ≡ flushed self.now pending.now) }
     {
         match self.rules.rule_of(pending.as_slice()) {
@@ -234,7 +234,7 @@ impl Rules {
 }
 
 // What is pending, followed by the character.
-fn typed(pending: &Pending, c: u8) -> ArrayVec<u8, 9>
+fn text_with(pending: &Pending, c: u8) -> ArrayVec<u8, 9>
     ensures { result.items ≡ pending.now ++ c ∷ [] }
 {
     let mut text = ArrayVec::new();

@@ -128,7 +128,7 @@ fn add_doubled_rules(alloc: Global, rules: &mut Vec<Rule>) -> Result<(), Memory>
     ensures { OnOk result (rules.new.items ≡ rules.old.items ++ doubled_rules) }
 {
     for letter in &DOUBLED {
-        rules.push(doubled(alloc, *letter)?)?;
+        rules.push(doubled_rule(alloc, *letter)?)?;
     }
     Ok(())
 }
@@ -208,7 +208,7 @@ fn single(alloc: Global, input: &str, kana: &str) -> Result<Rule, Memory>
 }
 
 // A doubled consonant gives っ and leaves its second letter pending.
-fn doubled(alloc: Global, letter: u8) -> Result<Rule, Memory>
+fn doubled_rule(alloc: Global, letter: u8) -> Result<Rule, Memory>
     ensures { IfOk result (λ r. r ≡ doubled letter) }
 {
     let mut hira = Text::new(alloc);

@@ -57,7 +57,7 @@ xx=っ:x xxa=っぁ: yy=っ:y yya=っや: zz=っ:z zza=っざ:
 ";
 
 // What comes out of the letters that are typed, and what is pending behind them.
-fn typed(alloc: Global, rules: &Rules, letters: &str) -> Result<(Out, Pending), Memory> {
+fn output_of(alloc: Global, rules: &Rules, letters: &str) -> Result<(Out, Pending), Memory> {
     let mut pending = Pending::new();
     let mut out = Out::nothing(alloc);
     for c in letters.bytes() {
@@ -74,7 +74,7 @@ fn reads_the_standard_table(rt: HostRuntime) -> Result<(), Fail> {
     for case in CASES.split_whitespace() {
         let (letters, wanted) = case.split_once('=').ok_or("no `=`")?;
         let (hira, pending) = wanted.split_once(':').ok_or("no `:`")?;
-        let (out, left) = typed(alloc, &rules, letters)?;
+        let (out, left) = output_of(alloc, &rules, letters)?;
         assert_eq!(rt; out.hira.as_str(), hira, "typed {letters}");
         assert_eq!(rt; left.as_str(), pending, "left by {letters}");
     }
