@@ -2,6 +2,7 @@
 use Rattle.std.proofs.Common.{◌≡◌, ◌≤◌, ◌<◌, ◌+◌, ◌∙◌, sym, ap, subst, ℕ, Bool, true, false, List, [], ◌∷◌, ◌++◌, length, Result, Ok, Err, IfOk, IfErr, refl, arith, inl, inr}
 use Rattle.std.proofs.lemmas.Bool.{both_ways}
 use Rattle.std.proofs.lemmas.List.{append_assoc, append-nil}
+use Rattle.std.specs.Str.{IsUtf8}
 use Rattle.skk_text.specs.Lines.{lines_of}
 use Rattle.skk_text.specs.Results.{AnswersUnless}
 use Rattle.skk_calls.specs.declared.part.Part.{Part}
@@ -12,10 +13,10 @@ use Rattle.dict_format.specs.declared.file.FileFault.TheVariants.{Memory}
 use Rattle.dict_format.specs.declared.file.Listed.{Listed}
 use Rattle.dict_format.specs.declared.reason.LineReason.{LineReason}
 use Rattle.dict_format.specs.declared.reason.LineReason.TheVariants.{Twice}
-use Rattle.dict_format.specs.FileBuilding.{listed_with}
-use Rattle.dict_format.specs.FileLines.{FileEntry, Takes, TakeAll, Refuses, has_key, Lists, none_listed, entries_from, entries_of, entry_of, part_behind, kind_of, trimmed}
+use Rattle.dict_format.specs.FileBuilding.{listed_with, refused_with}
+use Rattle.dict_format.specs.FileLines.{FileEntry, Takes, TakeAll, Refuses, has_key, Lists, file_limit, none_listed, entries_from, entries_of, entry_of, part_behind, kind_of, trimmed_line}
 use Rattle.dict_format.specs.Lines.{SpellsRow}
-use Rattle.dict_format.proofs.LineReading.{row_once, reason_once, not_both}
+use Rattle.dict_format.proofs.LineReading.{row_once, reason_once, row_or_reason, not_both}
 
 -- What an entry takes
 
@@ -75,6 +76,21 @@ all-once (entry ∷ entries) before after other takes also =
     let same = takes-once before entry takes.0 also.0 takes.1 also.1 in
     all-once entries also.0 after other (subst (λ (next : Listed). TakeAll next entries after) same takes.2) also.2
 
+-- an entry takes what was listed to something, and so do all entries
+some-taken : (before : Listed) (entry : FileEntry) → (after : Listed) × Takes before entry after
+some-taken before entry =
+    elim (row_or_reason entry.part entry.text) [
+      | inl spelled ↦ (listed_with before entry.number spelled.0, row-taken before entry spelled.0 spelled.1)
+      | inr first ↦ (refused_with before entry.number first.0, inr (first.0, inl first.1, refl))
+    ]
+
+all-taken : (entries : List FileEntry) (before : Listed) → (after : Listed) × TakeAll before entries after
+all-taken [] before = (before, refl)
+all-taken (entry ∷ entries) before =
+    let one = some-taken before entry in
+    let more = all-taken entries one.0 in
+    (more.0, (one.0, one.1, more.1))
+
 -- entries behind others
 all-behind : (entries more : List FileEntry) (before between after : Listed) → TakeAll before entries between → TakeAll between more after → TakeAll before (entries ++ more) after
 all-behind [] more before between after takes also = subst (λ (listed : Listed). TakeAll listed more after) takes also
@@ -95,11 +111,12 @@ none-read bytes = record { before = []; parts = refl; taken = refl; room = omega
 
 -- a line more
 pub line-read : (bytes rest line behind : List ℕ) (number : ℕ) (part : Part) (listed more : Listed) → IsReadTo bytes rest number part listed → lines_of rest ≡ line ∷ lines_of behind
-    → length behind < length rest → TakeAll listed (entry_of (kind_of (trimmed line)) (number + 1) part (trimmed line)) more
-    → IsReadTo bytes behind (number + 1) (part_behind (kind_of (trimmed line)) part) more
+    → length behind < length rest
+    → TakeAll listed (entry_of (kind_of (trimmed_line line)) (number + 1) part (trimmed_line line)) more
+    → IsReadTo bytes behind (number + 1) (part_behind (kind_of (trimmed_line line)) part) more
 line-read bytes rest line behind number part listed more read first less takes =
-    let entry = entry_of (kind_of (trimmed line)) (number + 1) part (trimmed line) in
-    let left = entries_from ((number + 1) + 1) (part_behind (kind_of (trimmed line)) part) (lines_of behind) in
+    let entry = entry_of (kind_of (trimmed_line line)) (number + 1) part (trimmed_line line) in
+    let left = entries_from ((number + 1) + 1) (part_behind (kind_of (trimmed_line line)) part) (lines_of behind) in
     record {
       before = read.before ++ entry;
       parts = read.parts ∙ ap (λ lines. read.before ++ entries_from (number + 1) part lines) first ∙ sym (append_assoc read.before entry left);
@@ -114,6 +131,17 @@ all-read bytes rest number part listed read end =
     (sym (read.parts ∙ ap (λ r. read.before ++ entries_from (number + 1) part (lines_of r)) end ∙ append-nil read.before)) read.taken
 
 -- What a file lists
+
+-- one thing at most
+pub listed-once : (bytes : List ℕ) (listed other : Listed) → Lists bytes listed → Lists bytes other → listed ≡ other
+listed-once bytes listed other lists also =
+    all-once (entries_of bytes) none_listed listed other lists.entries also.entries
+
+-- and something, where it is not too long and is UTF-8
+pub listed-some : (bytes : List ℕ) → length bytes ≤ file_limit → IsUtf8 bytes → (listed : Listed) × Lists bytes listed
+listed-some bytes not_long valid =
+    let all = all-taken (entries_of bytes) none_listed in
+    (all.0, record { not_long = not_long; valid = valid; entries = all.1 })
 
 -- what is answered for a file that is not too long and is UTF-8
 pub only-listed : (bytes text : List ℕ) (answer : Result Listed FileFault) → text ≡ bytes → IfOk answer (TakeAll none_listed (entries_of text)) → IfErr answer (λ fault. fault ≡ Memory)

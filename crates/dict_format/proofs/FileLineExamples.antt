@@ -6,7 +6,7 @@ use Rattle.skk_calls.specs.Rows.{Row}
 use Rattle.dict_format.specs.declared.file_lines.LineKind.TheVariants.{Opening, Entry, Skipped}
 use Rattle.dict_format.specs.declared.reason.LineReason.TheVariants.{Twice, NoSlash}
 use Rattle.dict_format.specs.FileBuilding.{refused_with, listed_with}
-use Rattle.dict_format.specs.FileLines.{file_limit, without_mark, trimmed, kind_of, entries_of, has_key, none_listed}
+use Rattle.dict_format.specs.FileLines.{file_limit, without_mark, trimmed_line, kind_of, entries_of, has_key, none_listed}
 
 limit_of_a_file : file_limit ≡ 64 * 1024 * 1024
 limit_of_a_file = refl
@@ -17,7 +17,7 @@ marks : map without_mark ([] ∷ (0xEF ∷ 0xBB ∷ 0xBF ∷ []) ∷ (0xEF ∷ 0
 marks = refl
 
 -- one CR at the end, and then spaces and TABs
-ends_of_lines : map trimmed ([] ∷ (13 ∷ []) ∷ (97 ∷ 13 ∷ []) ∷ (97 ∷ 13 ∷ 13 ∷ []) ∷ (97 ∷ 32 ∷ 9 ∷ 13 ∷ []) ∷ (97 ∷ 13 ∷ 32 ∷ []) ∷ (32 ∷ 97 ∷ 32 ∷ 98 ∷ 9 ∷ []) ∷ (32 ∷ 9 ∷ []) ∷ (97 ∷ 11 ∷ []) ∷ [])
+ends_of_lines : map trimmed_line ([] ∷ (13 ∷ []) ∷ (97 ∷ 13 ∷ []) ∷ (97 ∷ 13 ∷ 13 ∷ []) ∷ (97 ∷ 32 ∷ 9 ∷ 13 ∷ []) ∷ (97 ∷ 13 ∷ 32 ∷ []) ∷ (32 ∷ 97 ∷ 32 ∷ 98 ∷ 9 ∷ []) ∷ (32 ∷ 9 ∷ []) ∷ (97 ∷ 11 ∷ []) ∷ [])
     ≡ [] ∷ [] ∷ (97 ∷ []) ∷ (97 ∷ 13 ∷ []) ∷ (97 ∷ []) ∷ (97 ∷ 13 ∷ []) ∷ (32 ∷ 97 ∷ 32 ∷ 98 ∷ []) ∷ [] ∷ (97 ∷ 11 ∷ []) ∷ []
 ends_of_lines = refl
 

@@ -17,7 +17,7 @@ use Rattle.skk_calls.specs.Canonical.{canonical, is_good}
 use Rattle.skk_calls.specs.Rows.{Row, is_row, same_key, keys_differ}
 use Rattle.dict_format.specs.declared.file.Listed.{Listed}
 use Rattle.dict_format.specs.declared.file_lines.LineKind.TheVariants.{Entry}
-use Rattle.dict_format.specs.FileLines.{FileEntry, Lists, TakeAll, entries_from, entries_of, entry_of, file_limit, has_key, kind_of, none_listed, part_behind, trimmed}
+use Rattle.dict_format.specs.FileLines.{FileEntry, Lists, TakeAll, entries_from, entries_of, entry_of, file_limit, has_key, kind_of, none_listed, part_behind, trimmed_line}
 use Rattle.dict_format.specs.Lines.{SpellsRow, lacks}
 use Rattle.dict_format.specs.PrintedFiles.{in_printing_order, is_of, part_in_order, part_line, printed_file, printed_part, with_line_end, without_stamp}
 use Rattle.skk_calls.specs.OrderLaws.{holds_moved}
@@ -60,7 +60,7 @@ written row = encode_utf8_all (canonical row)
 -- they are the bytes of a line of a part which spells the row
 record IsRead (part : Part) (row : Row) : Type 0 where
   no_end : lacks 10 (written row) ≡ true
-  whole : trimmed (written row) ≡ written row
+  whole : trimmed_line (written row) ≡ written row
   entry : kind_of (written row) ≡ Entry
   spells : SpellsRow part (chars (written row)) (without_stamp row)
 
@@ -72,7 +72,7 @@ row_read row valid good text =
     let slash : written row ≡ encode_utf8_all ends.0 ++ 0x2F ∷ [] = ap encode_utf8_all ends.1 ∙ bytes_slash ends.0 in
     record {
       no_end = bytes_lack 10 (omega arith) (canonical row) (canonical_lacks row is);
-      whole = ap trimmed slash ∙ trimmed_slash (encode_utf8_all ends.0) ∙ sym slash;
+      whole = ap trimmed_line slash ∙ trimmed_slash (encode_utf8_all ends.0) ∙ sym slash;
       entry = kind_entry (written row) (bytes_begin (canonical row) (canonical_begins row is));
       spells = subst (λ (line : List ℕ). SpellsRow row.key.part line (without_stamp row)) (sym (chars-encodes (canonical row) text)) (canonical_spells row valid good (row_back row valid is.hides));
     }
@@ -124,7 +124,7 @@ key_new (other ∷ rows) row more differ =
 abbrev listing : List Row → Listed
 listing rows = record { book = rows; bad = [] }
 
-line_entry : (number : ℕ) (part : Part) (line : List ℕ) (lines : List (List ℕ)) → trimmed line ≡ line → kind_of line ≡ Entry
+line_entry : (number : ℕ) (part : Part) (line : List ℕ) (lines : List (List ℕ)) → trimmed_line line ≡ line → kind_of line ≡ Entry
     → entries_from number part (line ∷ lines) ≡ record { number = number; part = part; text = chars line } ∷ entries_from (number + 1) part lines
 line_entry number part line lines whole entry =
     ap (λ text. entry_of (kind_of text) number part text ++ entries_from (number + 1) (part_behind (kind_of text) part) lines) whole

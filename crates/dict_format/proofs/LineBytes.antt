@@ -10,7 +10,7 @@ use Rattle.skk_calls.specs.declared.part.Part.{Part}
 use Rattle.skk_calls.specs.declared.part.Part.TheVariants.{Nasi, Ari}
 use Rattle.skk_calls.specs.Rows.{begins_well}
 use Rattle.dict_format.specs.declared.file_lines.LineKind.TheVariants.{Entry}
-use Rattle.dict_format.specs.FileLines.{is_blank, without_return, without_blanks, trimmed, kind_of}
+use Rattle.dict_format.specs.FileLines.{is_blank, without_return, without_blanks, trimmed_line, kind_of}
 use Rattle.dict_format.specs.Lines.{lacks}
 use Rattle.dict_format.specs.PrintedFiles.{part_line}
 
@@ -86,7 +86,7 @@ kind_entry [] begins = absurd (both_ways false refl begins)
 kind_entry (c ∷ line) begins = let other : (c == 0x3B) ≡ false = not-true (c == 0x3B) begins in rw other refl
 
 -- of a line that ends in a slash all is read
-pub trimmed_slash : (front : List ℕ) → trimmed (front ++ 0x2F ∷ []) ≡ front ++ 0x2F ∷ []
+pub trimmed_slash : (front : List ℕ) → trimmed_line (front ++ 0x2F ∷ []) ≡ front ++ 0x2F ∷ []
 trimmed_slash front = ap without_blanks (no_return front) ∙ no_blanks front
   where
     no_return : (xs : List ℕ) → without_return (xs ++ 0x2F ∷ []) ≡ xs ++ 0x2F ∷ []

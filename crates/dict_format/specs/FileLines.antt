@@ -43,8 +43,8 @@ without_blanks [] = []
 without_blanks (c ∷ line) = if list_all is_blank (c ∷ line) then [] else c ∷ without_blanks line
 
 -- what is read of a line: not the CR at its end, nor the spaces and TABs before that
-abbrev pub trimmed : List ℕ → List ℕ
-trimmed line = without_blanks (without_return line)
+abbrev pub trimmed_line : List ℕ → List ℕ
+trimmed_line line = without_blanks (without_return line)
 
 -- what a line is, by what is read of it: a part line opens its part; it is skipped where it is empty or a comment; any
 -- other is an entry
@@ -77,8 +77,8 @@ entry_of Skipped number part line = []
 abbrev pub entries_from : ℕ → Part → List (List ℕ) → List FileEntry
 entries_from number part [] = []
 entries_from number part (line ∷ lines) =
-    let kind = kind_of (trimmed line) in
-    entry_of kind number part (trimmed line) ++ entries_from (number + 1) (part_behind kind part) lines
+    let kind = kind_of (trimmed_line line) in
+    entry_of kind number part (trimmed_line line) ++ entries_from (number + 1) (part_behind kind part) lines
 
 -- the entries of a file: before the first part line they are of the okuri-nasi part
 abbrev pub entries_of : List ℕ → List FileEntry

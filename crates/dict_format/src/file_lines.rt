@@ -1,6 +1,6 @@
 ghost use Rattle.std.specs.Prelude.{◌≡◌, ◌∷◌, ◌++◌, ◌<◌, [], ℕ, true, length, MatchOption};
 ghost use Rattle.skk_text.specs.Lines.{lines_of};
-ghost use Rattle.dict_format.specs.FileLines.{without_mark, without_return, without_blanks, is_blank, trimmed, kind_of};
+ghost use Rattle.dict_format.specs.FileLines.{without_mark, without_return, without_blanks, is_blank, trimmed_line, kind_of};
 
 use skk_calls::Part;
 
@@ -54,8 +54,8 @@ pub fn next_line(text: &str) -> Option<(&str, &str)>
 }
 
 /// A line without the CR at its end, nor the spaces and TABs before that.
-pub fn trimmed(line: &str) -> &str
-    ensures { result.now ≡ trimmed line.now }
+pub fn trimmed_line(line: &str) -> &str
+    ensures { result.now ≡ trimmed_line line.now }
 {
     without_blanks(without_return(line))
 }

@@ -2,11 +2,11 @@ ghost use Rattle.std.specs.Prelude.{◌≡◌, ◌≤◌, ◌<◌, ℕ, length, 
 ghost use Rattle.std.specs.Str.{IsUtf8, chars};
 ghost use Rattle.std.specs.Str.Lossy.{utf8_valid_len};
 ghost use Rattle.skk_text.specs.Results.{AnswersUnless};
-ghost use Rattle.dict_format.specs.FileLines.{Lists, TakeAll, file_limit, none_listed, entries_from, entries_of, entry_of, part_behind, kind_of, trimmed};
+ghost use Rattle.dict_format.specs.FileLines.{Lists, TakeAll, file_limit, none_listed, entries_from, entries_of, entry_of, part_behind, kind_of, trimmed_line};
 ghost use Rattle.dict_format.specs.declared.file.Listed.{Listed};
 
 use crate::file::{FileFault, Listed};
-use crate::file_lines::{LineKind, kind_of, next_line, trimmed, without_mark};
+use crate::file_lines::{LineKind, kind_of, next_line, trimmed_line, without_mark};
 use crate::listing::Listing;
 use skk_calls::Part;
 use skk_text::Memory;
@@ -58,12 +58,12 @@ fn read_text(alloc: Global, text: &str) -> Result<Listed, Memory>
     let mut rest = without_mark(text);
     while let Some((line, behind)) = next_line(rest) {
         number += 1;
-        let read = trimmed(line);
+        let read = trimmed_line(line);
         listing = take_line(alloc, listing, number, part, read)?;
         part = part_behind(read, part);
         rest = behind;
     }
-    Ok(listing.listed())
+    Ok(listing.into_listed())
 }
 
 // The part in which the lines behind a line stand, where that line stands in the other.

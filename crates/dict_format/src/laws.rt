@@ -5,6 +5,7 @@ ghost use Rattle.std.specs.Str.{IsUtf8};
 ghost use Rattle.skk_calls.specs.declared.part.Part.{Part};
 ghost use Rattle.skk_calls.specs.Canonical.{canonical, is_good};
 ghost use Rattle.skk_calls.specs.Rows.{Row, is_row, keys_differ};
+ghost use Rattle.dict_format.specs.declared.file.Listed.{Listed};
 ghost use Rattle.dict_format.specs.declared.reason.LineReason.{LineReason};
 ghost use Rattle.dict_format.specs.FileLines.{Lists, file_limit};
 ghost use Rattle.dict_format.specs.Lines.{SpellsRow};
@@ -42,4 +43,12 @@ pub fn printed_files_are_read_again()
     ensures { (rows : List Row) → keys_differ rows ≡ true → list_all is_row rows ≡ true → list_all is_good rows ≡ true
         → length (encode_utf8_all (printed_file rows)) ≤ file_limit → IsUtf8 (encode_utf8_all (printed_file rows))
         → Lists (encode_utf8_all (printed_file rows)) (record { book = map without_stamp (in_printing_order rows); bad = [] }) }
+{}
+
+/// The bytes of a file list one thing at most, and those of each file that is not too long and is UTF-8 list something:
+/// what a file comes to is never open.
+pub fn files_list_one_thing()
+    ensures once { (bytes : List ℕ) (listed other : Listed) → Lists bytes listed → Lists bytes other → listed ≡ other }
+    ensures some { (bytes : List ℕ) → length bytes ≤ file_limit → IsUtf8 bytes
+        → (listed : Listed) × Lists bytes listed }
 {}

@@ -5,9 +5,9 @@
 //! the slashes of a line spell, the row that they make, and what each reason says of a line; and of whole files: what
 //! each of their lines is, and the rows and bad lines that they come to. `read_line` is proved to give that row, or the
 //! first reason that fits, and `read_file` those rows and bad lines, unless memory is out; `print_line` and
-//! `print_file` what is defined. Laws say that each line has the one or the other, that the canonical line of a good
-//! row is read again as that row, that the order of a file moves rows and no more, and that the file of good rows lists
-//! them again.
+//! `print_file` what is defined. Laws say that each line has the one or the other, that a file lists one thing alone,
+//! that the canonical line of a good row is read again as that row, that the order of a file moves rows and no more,
+//! and that the file of good rows lists them again.
 #![tactic(auto)]
 
 mod cut;
@@ -31,7 +31,7 @@ pub use file::{BadLine, BadLines, FileFault, Listed};
 pub use file_printing::print_file;
 pub use file_reading::{FILE_LIMIT, read_file};
 pub use laws::{
-    good_rows_are_read_again, lines_spell_one_row, lines_spell_rows_or_have_reasons,
+    files_list_one_thing, good_rows_are_read_again, lines_spell_one_row, lines_spell_rows_or_have_reasons,
     printed_files_are_read_again, printing_order_moves_rows,
 };
 pub use line::read_line;

@@ -47,7 +47,7 @@ impl Listing {
     }
 
     /// What is listed.
-    pub fn listed(self) -> Listed
+    pub fn into_listed(self) -> Listed
         ensures { result ≡ self }
     {
         Listed {

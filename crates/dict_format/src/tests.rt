@@ -1,6 +1,7 @@
 use crate::{
-    FileFault, LineFault, LineReason, lines_spell_one_row, lines_spell_rows_or_have_reasons,
-    print_file, print_item, print_line, printing_order_moves_rows, read_file, read_line,
+    FileFault, LineFault, LineReason, files_list_one_thing, lines_spell_one_row,
+    lines_spell_rows_or_have_reasons, print_file, print_item, print_line, printing_order_moves_rows,
+    read_file, read_line,
 };
 use skk_calls::{Cand, Part};
 use skk_text::{Memory, Text};
@@ -12,7 +13,7 @@ fn text(alloc: Global, content: &str) -> Result<Text, AllocError> {
 }
 
 // A text that is `start`, `unit` so many times, and then `end`.
-fn long(alloc: Global, start: &str, unit: &str, count: usize, end: &str) -> Result<Text, Memory> {
+fn long_text(alloc: Global, start: &str, unit: &str, count: usize, end: &str) -> Result<Text, Memory> {
     let mut text = Text::new(alloc);
     text.push_str(start)?;
     for _ in 0..count {
@@ -23,7 +24,7 @@ fn long(alloc: Global, start: &str, unit: &str, count: usize, end: &str) -> Resu
 }
 
 // The canonical line of the row that a line spells, or why it spells none.
-fn printed(alloc: Global, part: Part, line: &Text) -> Result<Text, LineFault> {
+fn printed_line(alloc: Global, part: Part, line: &Text) -> Result<Text, LineFault> {
     let row = read_line(alloc, part, line)?;
     Ok(print_line(alloc, &row)?)
 }
@@ -110,7 +111,7 @@ fn lines_are_read_and_printed(rt: HostRuntime) -> Result<(), Fail> {
             "か /(concat \"(skk-ignore-dic-word  \\\"x\\\")\")/(skk-ignore-dic-word)/",
         ),
     ] {
-        match printed(alloc, part, &text(alloc, line)?) {
+        match printed_line(alloc, part, &text(alloc, line)?) {
             Ok(again) => assert_eq!(rt; again.as_str(), canonical),
             Err(fault) => assert!(rt; false, "at {line:?}: {fault:?}"),
         }
@@ -224,8 +225,8 @@ fn lines_are_refused_by_their_first_reason(rt: HostRuntime) -> Result<(), Fail> 
             Some(LineReason::LongLine),
         ),
     ] {
-        let line = long(alloc, start, unit, count, end)?;
-        let fault = printed(alloc, part, &line).err();
+        let line = long_text(alloc, start, unit, count, end)?;
+        let fault = printed_line(alloc, part, &line).err();
         assert_eq!(rt;
             fault,
             reason.map(LineFault::Reason),
@@ -302,6 +303,7 @@ fn files_are_read_and_printed(rt: HostRuntime) -> Result<(), Fail> {
     }
     let fault = read_file(alloc, b";; okuri-nasi entries.\n\xA4\xA2").err();
     assert_eq!(rt; fault, Some(FileFault::NotUtf8 { at: 23 }));
+    files_list_one_thing();
     printing_order_moves_rows();
     Ok(())
 }

@@ -162,14 +162,14 @@ fn piece(text: &[char]) -> Option<(char, &[char])>
 {
     match text {
         [] | ['"', ..] => None,
-        ['\\', escape, rest @ ..] => escaped(*escape, rest),
+        ['\\', escape, rest @ ..] => escaped_char(*escape, rest),
         ['\\'] => None,
         [c, rest @ ..] => Some((*c, rest)),
     }
 }
 
 // The character that a backslash with another behind it spells.
-fn escaped(escape: char, rest: &[char]) -> Option<(char, &[char])>
+fn escaped_char(escape: char, rest: &[char]) -> Option<(char, &[char])>
     ensures { option_map (λ parts. (parts.0, parts.1.now)) result ≡ escape_at (escape ∷ rest.now) }
 {
     match escape {

@@ -11,7 +11,7 @@ loop-line-preserved c =
     let behind = c.in-Some.behind.now in
     let number = c.loop-line.number in
     let part = c.loop-line.part in
-    let read = c.trimmed-read.ensures in (
+    let read = c.trimmed_line-read.ensures in (
       search rules,
       subst (λ (p : Part). IsReadTo bytes behind (number + 1) p c.in_ok-listing.listing)
           (sym (c.part_behind-part.ensures ∙ ap (λ r. part_behind (kind_of r) part) read))
