@@ -5,11 +5,12 @@ use Rattle.std.proofs.lemmas.List.{append_assoc, append-nil}
 use Rattle.std.specs.Str.{IsUtf8}
 use Rattle.skk_text.specs.Lines.{lines_of}
 use Rattle.skk_text.specs.Results.{AnswersUnless}
+use Rattle.skk_text.specs.declared.text_file.TextFault.{TextFault}
 use Rattle.skk_calls.specs.declared.part.Part.{Part}
 use Rattle.skk_calls.specs.declared.part.Part.TheVariants.{Nasi}
 use Rattle.skk_calls.specs.Rows.{Row}
 use Rattle.dict_format.specs.declared.file.FileFault.{FileFault}
-use Rattle.dict_format.specs.declared.file.FileFault.TheVariants.{Memory}
+use Rattle.dict_format.specs.declared.file.FileFault.TheVariants.{Memory, NoText}
 use Rattle.dict_format.specs.declared.file.Listed.{Listed}
 use Rattle.dict_format.specs.declared.reason.LineReason.{LineReason}
 use Rattle.dict_format.specs.declared.reason.LineReason.TheVariants.{Twice}
@@ -149,3 +150,9 @@ pub only-listed : (bytes text : List ℕ) (answer : Result Listed FileFault) →
 only-listed bytes text (Ok found) same takes memory listed lists =
     inr (ap Ok (all-once (entries_of bytes) none_listed found listed (subst (λ (bs : List ℕ). TakeAll none_listed (entries_of bs) found) same takes) lists.entries))
 only-listed bytes text (Err fault) same takes memory listed lists = inl (ap Err memory)
+
+-- an answer whose only fault is the want of memory tells no fault of a text
+pub memory-alone : (answer : Result Listed FileFault) (fault : TextFault)
+    → IfErr answer (λ told. told ≡ Memory) → answer ≡ Err (NoText fault) → ⊥
+memory-alone (Ok found) fault memory told = cc
+memory-alone (Err given) fault memory told = cc

@@ -124,7 +124,8 @@ key_new (other ∷ rows) row more differ =
 abbrev listing : List Row → Listed
 listing rows = record { book = rows; bad = [] }
 
-line_entry : (number : ℕ) (part : Part) (line : List ℕ) (lines : List (List ℕ)) → trimmed_line line ≡ line → kind_of line ≡ Entry
+line_entry : (number : ℕ) (part : Part) (line : List ℕ) (lines : List (List ℕ))
+    → trimmed_line line ≡ line → kind_of line ≡ Entry
     → entries_from number part (line ∷ lines) ≡ record { number = number; part = part; text = chars line } ∷ entries_from (number + 1) part lines
 line_entry number part line lines whole entry =
     ap (λ text. entry_of (kind_of text) number part text ++ entries_from (number + 1) (part_behind (kind_of text) part) lines) whole

@@ -1,6 +1,6 @@
 use crate::reason::LineReason;
 use skk_calls::Book;
-use skk_text::Sequence;
+use skk_text::{Sequence, TextFault};
 use thiserror::Error;
 
 /// A line of a file that gives no row.
@@ -27,12 +27,9 @@ pub struct Listed {
 /// Why a file is not read.
 #[derive(Clone, Copy, Debug, PartialEq, Eq, Error)]
 pub enum FileFault {
-    /// It has more bytes than `FILE_LIMIT`.
-    #[error("{bytes} bytes are too many")]
-    TooLong { bytes: usize },
-    /// It is not UTF-8: the longest prefix that is ends at this byte.
-    #[error("not UTF-8 at byte {at}")]
-    NotUtf8 { at: usize },
+    /// It is no text of at most `FILE_LIMIT` bytes.
+    #[error("{0}")]
+    NoText(TextFault),
     /// Out of memory.
     #[error("out of memory")]
     Memory,

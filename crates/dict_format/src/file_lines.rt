@@ -1,6 +1,7 @@
 ghost use Rattle.std.specs.Prelude.{◌≡◌, ◌∷◌, ◌++◌, ◌<◌, [], ℕ, true, length, MatchOption};
 ghost use Rattle.skk_text.specs.Lines.{lines_of};
-ghost use Rattle.dict_format.specs.FileLines.{without_mark, without_return, without_blanks, is_blank, trimmed_line, kind_of};
+ghost use Rattle.dict_format.specs.FileLines.{without_mark, without_return, without_blanks};
+ghost use Rattle.dict_format.specs.FileLines.{is_blank, trimmed_line, kind_of};
 
 use skk_calls::Part;
 
@@ -42,7 +43,8 @@ pub fn without_mark(text: &str) -> &str
 
 /// The first line without its LF, and what follows it; nothing where there is no line.
 pub fn next_line(text: &str) -> Option<(&str, &str)>
-    ensures { MatchOption result (text.now ≡ []) (λ p. (lines_of text.now ≡ p.0.now ∷ lines_of p.1.now) × (length p.1.now < length text.now)) }
+    ensures { MatchOption result (text.now ≡ [])
+        (λ p. (lines_of text.now ≡ p.0.now ∷ lines_of p.1.now) × (length p.1.now < length text.now)) }
 {
     if text.is_empty() {
         return None;
@@ -83,7 +85,8 @@ fn without_blanks(line: &str) -> &str
 
 // A line without the space or TAB at its end; nothing where neither is there.
 fn without_blank(line: &str) -> Option<&str>
-    ensures { MatchOption result (without_blanks line.now ≡ line.now) (λ shorter. (blank : ℕ) × (is_blank blank ≡ true) × (line.now ≡ shorter.now ++ blank ∷ [])) }
+    ensures { MatchOption result (without_blanks line.now ≡ line.now)
+        (λ shorter. (blank : ℕ) × (is_blank blank ≡ true) × (line.now ≡ shorter.now ++ blank ∷ [])) }
 {
     match line.strip_suffix(' ') {
         Some(shorter) => Some(shorter),

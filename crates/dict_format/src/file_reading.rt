@@ -1,17 +1,17 @@
-ghost use Rattle.std.specs.Prelude.{◌≡◌, ◌≤◌, ◌<◌, ℕ, length, IfOk, IfErr, IsErrOf, Ok, Err};
-ghost use Rattle.std.specs.Str.{IsUtf8, chars};
-ghost use Rattle.std.specs.Str.Lossy.{utf8_valid_len};
+ghost use Rattle.std.specs.Prelude.{◌≡◌, ◌↔◌, IfOk, IfErr, Ok, Err};
 ghost use Rattle.skk_text.specs.Results.{AnswersUnless};
-ghost use Rattle.dict_format.specs.FileLines.{Lists, TakeAll, file_limit, none_listed, entries_from, entries_of, entry_of, part_behind, kind_of, trimmed_line};
+ghost use Rattle.skk_text.specs.TextFiles.{IsTextFault};
+ghost use Rattle.skk_text.specs.declared.text_file.TextFault.{TextFault};
+ghost use Rattle.dict_format.specs.FileLines.{Lists, TakeAll, file_limit, none_listed};
+ghost use Rattle.dict_format.specs.FileLines.{entries_of, entry_of, part_behind, kind_of};
 ghost use Rattle.dict_format.specs.declared.file.Listed.{Listed};
 
 use crate::file::{FileFault, Listed};
 use crate::file_lines::{LineKind, kind_of, next_line, trimmed_line, without_mark};
 use crate::listing::Listing;
 use skk_calls::Part;
-use skk_text::Memory;
+use skk_text::{Memory, text_within};
 use std::alloc::Global;
-use std::str;
 
 /// The most bytes that a dictionary file may have.
 pub const FILE_LIMIT: usize = 67_108_864;
@@ -21,19 +21,12 @@ pub const FILE_LIMIT: usize = 67_108_864;
 pub fn read_file(alloc: Global, bytes: &[u8]) -> Result<Listed, FileFault>
     ensures ok { IfOk result (Lists bytes.now) }
     ensures only { (listed : Listed) → Lists bytes.now listed → AnswersUnless FileFault.Memory result (Ok listed) }
-    ensures too_long { file_limit < length bytes.now → result ≡ Err (FileFault.TooLong (length bytes.now)) }
-    ensures only_too_long { (count : ℕ) → IsErrOf result (FileFault.TooLong count) → file_limit < length bytes.now }
-    ensures not_utf8 { length bytes.now ≤ file_limit → (¬ IsUtf8 bytes.now) → result ≡ Err (FileFault.NotUtf8 (utf8_valid_len bytes.now)) }
-    ensures only_not_utf8 { (at : ℕ) → IsErrOf result (FileFault.NotUtf8 at) → (length bytes.now ≤ file_limit) × ¬ IsUtf8 bytes.now }
+    ensures no_text { (fault : TextFault)
+        → (result ≡ Err (FileFault.NoText fault)) ↔ IsTextFault file_limit bytes.now fault }
 {
-    if bytes.len() > FILE_LIMIT {
-        return Err(FileFault::TooLong { bytes: bytes.len() });
-    }
-    match str::from_utf8(bytes) {
+    match text_within(bytes, FILE_LIMIT) {
         Ok(text) => read_valid(alloc, text),
-        Err(fault) => Err(FileFault::NotUtf8 {
-            at: fault.valid_up_to(),
-        }),
+        Err(fault) => Err(FileFault::NoText(fault)),
     }
 }
 

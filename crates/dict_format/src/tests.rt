@@ -4,7 +4,7 @@ use crate::{
     read_file, read_line,
 };
 use skk_calls::{Cand, Part};
-use skk_text::{Memory, Text};
+use skk_text::{Memory, Text, TextFault};
 use std::alloc::{AllocError, Global};
 use std::test::Fail;
 
@@ -302,7 +302,7 @@ fn files_are_read_and_printed(rt: HostRuntime) -> Result<(), Fail> {
         }
     }
     let fault = read_file(alloc, b";; okuri-nasi entries.\n\xA4\xA2").err();
-    assert_eq!(rt; fault, Some(FileFault::NotUtf8 { at: 23 }));
+    assert_eq!(rt; fault, Some(FileFault::NoText(TextFault::NotUtf8 { at: 23 })));
     files_list_one_thing();
     printing_order_moves_rows();
     Ok(())

@@ -11,7 +11,7 @@ use Rattle.skk_text.specs.Results.{AnswersUnless}
 use Rattle.skk_calls.specs.Canonical.{has_item}
 use Rattle.romaji_rules.specs.declared.rule.Rule.{Rule}
 use Rattle.romaji_rules.specs.declared.rule_fault.RuleFault.{RuleFault}
-use Rattle.romaji_rules.specs.declared.rule_fault.RuleFault.TheVariants.{TooLong, NotUtf8, BadLine, Twice, BadNext, Memory}
+use Rattle.romaji_rules.specs.declared.rule_fault.RuleFault.TheVariants.{NoText, BadLine, Twice, BadNext, Memory}
 use Rattle.romaji_rules.specs.Fitting.{is_input_text, is_next_text, inputs_differ, is_rule_set}
 use Rattle.romaji_rules.specs.RuleFiles.{fields_fit, is_output, rule_limit, rule_of_fields, rule_of_line, numbered_rules, rules_of, first_given, with_before, fault_behind, first_own_fault, has_bad_next, first_next_fault, entries_of, rules_in, refused_or}
 use Rattle.romaji_rules.specs.RuleLines.{AreNumbered}
@@ -150,8 +150,7 @@ is_set entries none differ =
 
 -- a fault that does not tell of all bytes of a file
 abbrev pub IsLineFault : RuleFault → Type 0
-IsLineFault (TooLong bytes) = ⊥
-IsLineFault (NotUtf8 at) = ⊥
+IsLineFault (NoText fault) = ⊥
 IsLineFault (BadLine line) = Unit {0}
 IsLineFault (Twice line) = Unit {0}
 IsLineFault (BadNext line) = Unit {0}

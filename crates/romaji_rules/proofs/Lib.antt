@@ -10,3 +10,4 @@ pub mod Indexed
 pub mod ReadLines
 pub mod Rows
 pub mod Step
+pub mod TextFaults

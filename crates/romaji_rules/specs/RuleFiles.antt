@@ -1,9 +1,10 @@
 -- A rule file: its lines, the rules that they spell, and the fault for which it is refused.
-use Rattle.std.specs.Prelude.{◌≤◌, ℕ, Bool, true, false, ◌==◌, ◌&&◌, ◌||◌, not, nat_le, nat_lt, if◌then◌else◌, Option, None, Some, Result, Ok, Err, List, [], ◌∷◌, ◌++◌, find, is_some, length, map}
+use Rattle.std.specs.Prelude.{ℕ, Bool, true, false, ◌==◌, ◌&&◌, ◌||◌, not, nat_le, nat_lt, if◌then◌else◌, Option, None, Some, Result, Ok, Err, List, [], ◌∷◌, ◌++◌, find, is_some, length, map}
 use Rattle.std.specs.List.{enumerate_from, filter, filter_map, list_all, slice_split}
 use Rattle.std.specs.Option.{option_map, option_or}
-use Rattle.std.specs.Str.{IsUtf8, chars}
+use Rattle.std.specs.Str.{chars}
 use Rattle.skk_text.specs.Lines.{line_feed, lines_of}
+use Rattle.skk_text.specs.TextFiles.{IsTextWithin}
 use Rattle.skk_calls.specs.Canonical.{has_item}
 use Rattle.romaji_rules.specs.declared.rule.Rule.{Rule}
 use Rattle.romaji_rules.specs.declared.rule_fault.RuleFault.{RuleFault}
@@ -115,7 +116,7 @@ refused_or (Some fault) answer = Err fault
 
 -- bytes may be a rule file: they are not too many, and UTF-8
 abbrev pub MayBeRules : List ℕ → Type 0
-MayBeRules bytes = (length bytes ≤ file_limit) × IsUtf8 bytes
+MayBeRules bytes = IsTextWithin file_limit bytes
 
 -- whether a fault is that of a line
 abbrev pub is_of_line : RuleFault → Bool

@@ -1,17 +1,13 @@
-use skk_text::Memory;
+use skk_text::{Memory, TextFault};
 use thiserror::Error;
 
-/// Why a rule file is not read: it is too long, or else it is not UTF-8, or else the first of its lines that is bad or
-/// comes twice is told, or else the first with a bad next text. Lines are counted from 1 over all lines of the file, and
-/// bytes from 0.
+/// Why a rule file is not read: it is no text, or else the first of its lines that is bad or comes twice is told, or
+/// else the first with a bad next text. Lines are counted from 1 over all lines of the file.
 #[derive(Clone, Copy, Debug, PartialEq, Eq, Error)]
 pub enum RuleFault {
-    /// It has more bytes than `RULE_FILE_LIMIT`.
-    #[error("{bytes} bytes are too many")]
-    TooLong { bytes: usize },
-    /// It is not UTF-8: the longest prefix that is ends at this byte.
-    #[error("not UTF-8 at byte {at}")]
-    NotUtf8 { at: usize },
+    /// It is no text of at most `RULE_FILE_LIMIT` bytes.
+    #[error("{0}")]
+    NoText(TextFault),
     /// The line spells no rule, or there are as many as `RULE_LIMIT` before it.
     #[error("line {line} is no rule")]
     BadLine { line: usize },

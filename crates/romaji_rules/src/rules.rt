@@ -1,7 +1,8 @@
-ghost use Rattle.std.specs.Prelude.{◌≡◌, ◌≤◌, ◌<◌, ◌↔◌, ◌⊎◌, IsTrue, true, false, ℕ, List, [], ◌∷◌, ◌++◌, length, is_some, OnOk, OnErr, IfOk, IfErr, IfSome, IsSome, IsNone, IsErrOf, Ok, Err};
-ghost use Rattle.std.specs.Str.{IsUtf8};
-ghost use Rattle.std.specs.Str.Lossy.{utf8_valid_len};
+ghost use Rattle.std.specs.Prelude.{◌≡◌, ◌↔◌, ◌⊎◌, IsTrue, true, false, [], ◌∷◌, ◌++◌, Ok, Err};
+ghost use Rattle.std.specs.Prelude.{is_some, OnOk, OnErr, IfOk, IfErr, IfSome, IsSome, IsNone};
 ghost use Rattle.skk_text.specs.Results.{AnswersUnless};
+ghost use Rattle.skk_text.specs.TextFiles.{IsTextFault};
+ghost use Rattle.skk_text.specs.declared.text_file.TextFault.{TextFault};
 ghost use Rattle.romaji_rules.specs.RuleFiles.{MayBeRules, file_limit, is_of_line, rules_in};
 ghost use Rattle.romaji_rules.specs.Standing.{IsStanding};
 ghost use Rattle.romaji_rules.specs.Typed.{goes_on, extends_pending, flushed, fed, fed_alone};
@@ -17,10 +18,9 @@ use crate::rule_list::RuleList;
 use crate::standard::standard_rules;
 use crate::standing::Standing;
 use arrayvec::ArrayVec;
-use skk_text::{Copies, Memory};
+use skk_text::{Copies, Memory, text_within};
 use std::alloc::Global;
 use std::marker::Model;
-use std::str;
 
 /// A rule set.
 #[derive(Debug, Drop)]
@@ -57,20 +57,14 @@ impl Rules {
         ensures ok { IfOk result (λ rules. rules_in bytes.now ≡ Ok rules) }
         ensures may { IfOk result (λ rules. MayBeRules bytes.now) }
         ensures exact { MayBeRules bytes.now → AnswersUnless RuleFault.Memory result (rules_in bytes.now) }
-        ensures only_lines { IfErr result (λ fault. is_of_line fault ≡ true → MayBeRules bytes.now × (rules_in bytes.now ≡ Err fault)) }
-        ensures too_long { file_limit < length bytes.now → result ≡ Err (RuleFault.TooLong (length bytes.now)) }
-        ensures only_too_long { (count : ℕ) → IsErrOf result (RuleFault.TooLong count) → file_limit < length bytes.now }
-        ensures not_utf8 { length bytes.now ≤ file_limit → (¬ IsUtf8 bytes.now) → result ≡ Err (RuleFault.NotUtf8 (utf8_valid_len bytes.now)) }
-        ensures only_not_utf8 { (at : ℕ) → IsErrOf result (RuleFault.NotUtf8 at) → (length bytes.now ≤ file_limit) × ¬ IsUtf8 bytes.now }
+        ensures only_lines { IfErr result (λ fault. is_of_line fault ≡ true
+            → MayBeRules bytes.now × (rules_in bytes.now ≡ Err fault)) }
+        ensures no_text { (fault : TextFault)
+            → (result ≡ Err (RuleFault.NoText fault)) ↔ IsTextFault file_limit bytes.now fault }
     {
-        if bytes.len() > RULE_FILE_LIMIT {
-            return Err(RuleFault::TooLong { bytes: bytes.len() });
-        }
-        match str::from_utf8(bytes) {
+        match text_within(bytes, RULE_FILE_LIMIT) {
             Ok(text) => Rules::of_text(alloc, text),
-            Err(fault) => Err(RuleFault::NotUtf8 {
-                at: fault.valid_up_to(),
-            }),
+            Err(fault) => Err(RuleFault::NoText(fault)),
         }
     }
 

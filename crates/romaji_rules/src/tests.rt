@@ -1,5 +1,5 @@
 use crate::{Out, Pending, RuleFault, Rules};
-use skk_text::{Copies, Memory, Text};
+use skk_text::{Copies, Memory, Text, TextFault};
 use std::alloc::Global;
 use std::test::Fail;
 
@@ -196,7 +196,9 @@ fn rule_files_have_limits(rt: HostRuntime) -> Result<(), Fail> {
     bytes.resize(1_048_576, b'#')?;
     assert!(rt; Rules::read(alloc, &bytes).is_ok());
     bytes.push(b'#')?;
-    assert!(rt; Rules::read(alloc, &bytes).err() == Some(RuleFault::TooLong { bytes: 1_048_577 }));
-    assert!(rt; Rules::read(alloc, b"#\xFFa").err() == Some(RuleFault::NotUtf8 { at: 1 }));
+    let long = TextFault::TooLong { bytes: 1_048_577 };
+    assert!(rt; Rules::read(alloc, &bytes).err() == Some(RuleFault::NoText(long)));
+    let invalid = TextFault::NotUtf8 { at: 1 };
+    assert!(rt; Rules::read(alloc, b"#\xFFa").err() == Some(RuleFault::NoText(invalid)));
     Ok(())
 }
