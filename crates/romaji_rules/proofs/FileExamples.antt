@@ -1,10 +1,11 @@
 -- The definitions of rule files at small files, each worked out by hand.
 use Rattle.std.proofs.Common.{◌≡◌, ℕ, true, false, None, Some, Ok, Err, List, [], ◌∷◌, ◌++◌, length, map, codes, refl, replicate}
 use Rattle.std.specs.Str.{chars}
+use Rattle.skk_text.specs.declared.text_file.TextFault.TheVariants.{TooLong, NotUtf8}
 use Rattle.romaji_rules.specs.declared.rule.Rule.{Rule}
-use Rattle.romaji_rules.specs.declared.rule_fault.RuleFault.TheVariants.{BadLine, Twice, BadNext}
+use Rattle.romaji_rules.specs.declared.rule_fault.RuleFault.TheVariants.{NoText, BadLine, Twice, BadNext, Memory}
 use Rattle.romaji_rules.specs.Output.{nothing}
-use Rattle.romaji_rules.specs.RuleFiles.{without_returns, says_rule, entries_of, is_output, rule_of_line, with_before, fault_behind, has_bad_next, rules_in}
+use Rattle.romaji_rules.specs.RuleFiles.{without_returns, says_rule, entries_of, is_output, rule_of_line, with_before, fault_behind, has_bad_next, is_of_line, rules_in}
 use Rattle.romaji_rules.specs.Typed.{rule_of}
 use Prim.Native.String.{String}
 
@@ -85,6 +86,13 @@ rules = rule "n" "" "x" "y" ∷ rule "ka" "" "x" "y" ∷ rule "kk" "k" "x" "y" �
 nexts : map (has_bad_next rules) (rule "n" "" "x" "y" ∷ rule "kk" "k" "x" "y" ∷ rule "x" "n" "x" "y" ∷ rule "x" "q" "x" "y" ∷ rule "k" "k" "x" "y" ∷ rule "k" "" "x" "y" ∷ [])
     ≡ false ∷ false ∷ true ∷ true ∷ true ∷ false ∷ []
 nexts = refl
+
+-- each fault of a line, and each other one
+faults_of_lines : map is_of_line (BadLine 1 ∷ Twice 2 ∷ BadNext 3 ∷ []) ≡ true ∷ true ∷ true ∷ []
+faults_of_lines = refl
+
+other_faults : map is_of_line (NoText (TooLong 1) ∷ NoText (NotUtf8 2) ∷ Memory ∷ []) ≡ false ∷ false ∷ false ∷ []
+other_faults = refl
 
 -- Files
 

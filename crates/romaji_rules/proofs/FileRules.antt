@@ -7,8 +7,8 @@ use Rattle.std.proofs.lemmas.Bool.{and_from, and_parts, ltb-false}
 use Rattle.std.proofs.lemmas.List.{length-map}
 use Rattle.std.proofs.lemmas.List.Folds.{find_at}
 use Rattle.std.proofs.lemmas.Option.{slice_get-map, slice_get_past}
+use Rattle.skk_text.specs.Lists.{is_empty}
 use Rattle.skk_text.specs.Results.{AnswersUnless}
-use Rattle.skk_calls.specs.Canonical.{has_item}
 use Rattle.romaji_rules.specs.declared.rule.Rule.{Rule}
 use Rattle.romaji_rules.specs.declared.rule_fault.RuleFault.{RuleFault}
 use Rattle.romaji_rules.specs.declared.rule_fault.RuleFault.TheVariants.{NoText, BadLine, Twice, BadNext, Memory}
@@ -20,19 +20,21 @@ use Rattle.romaji_rules.specs.Typed.{begins_input, rule_of}
 -- Lines
 
 -- more than four fields are no rule
-pub too_many : (first second third fourth last : List ℕ) (fields : List (List ℕ)) → fields ≡ first ∷ second ∷ third ∷ fourth ∷ slice_split (λ c. c == 9) last → rule_of_fields fields ≡ None
+pub too_many : (first second third fourth last : List ℕ) (fields : List (List ℕ))
+    → fields ≡ first ∷ second ∷ third ∷ fourth ∷ slice_split (λ c. c == 9) last → rule_of_fields fields ≡ None
 too_many first second third fourth last fields e = ap rule_of_fields e ∙ by (slice_split (λ c. c == 9) last) (some last)
   where
-    some : (text : List ℕ) → has_item (slice_split (λ c. c == 9) text) ≡ true
+    some : (text : List ℕ) → is_empty (slice_split (λ c. c == 9) text) ≡ false
     some [] = refl
     some (c ∷ text) = either (c == 9) (slice_split (λ d. d == 9) text)
       where
-        either : (b : Bool) (parts : List (List ℕ)) → has_item (cond b ([] ∷ parts) (onto_first c parts)) ≡ true
+        either : (b : Bool) (parts : List (List ℕ)) → is_empty (cond b ([] ∷ parts) (onto_first c parts)) ≡ false
         either true parts = refl
         either false [] = refl
         either false (part ∷ parts) = refl
 
-    by : (parts : List (List ℕ)) → has_item parts ≡ true → rule_of_fields (first ∷ second ∷ third ∷ fourth ∷ parts) ≡ None
+    by : (parts : List (List ℕ)) → is_empty parts ≡ false
+        → rule_of_fields (first ∷ second ∷ third ∷ fourth ∷ parts) ≡ None
     by [] e = cc
     by (part ∷ parts) e = refl
 
@@ -113,7 +115,8 @@ no_bad_number rules numbers numbered are none =
 -- a rule set
 
 -- where no next text is bad, each is such
-next_fits : (all : List Rule) (next : List ℕ) (b : Bool) → (has_item next && (not (begins_input all next) || b)) ≡ false → is_next_text all next ≡ true
+next_fits : (all : List Rule) (next : List ℕ) (b : Bool)
+    → (not (is_empty next) && (not (begins_input all next) || b)) ≡ false → is_next_text all next ≡ true
 next_fits all [] b e = refl
 next_fits all (c ∷ next) b e = by (begins_input all (c ∷ next)) e
   where

@@ -1,11 +1,12 @@
 -- A rule file: its lines, the rules that they spell, and the fault for which it is refused.
-use Rattle.std.specs.Prelude.{ℕ, Bool, true, false, ◌==◌, ◌&&◌, ◌||◌, not, nat_le, nat_lt, if◌then◌else◌, Option, None, Some, Result, Ok, Err, List, [], ◌∷◌, ◌++◌, find, is_some, length, map}
+use Rattle.std.specs.Prelude.{ℕ, Bool, true, false, ◌==◌, ◌&&◌, ◌||◌, not, nat_le, nat_lt, if◌then◌else◌}
+use Rattle.std.specs.Prelude.{Option, None, Some, Result, Ok, Err, List, [], ◌∷◌, ◌++◌, find, is_some, length, map}
 use Rattle.std.specs.List.{enumerate_from, filter, filter_map, list_all, slice_split}
 use Rattle.std.specs.Option.{option_map, option_or}
 use Rattle.std.specs.Str.{chars}
 use Rattle.skk_text.specs.Lines.{line_feed, lines_of}
+use Rattle.skk_text.specs.Lists.{is_empty}
 use Rattle.skk_text.specs.TextFiles.{IsTextWithin}
-use Rattle.skk_calls.specs.Canonical.{has_item}
 use Rattle.romaji_rules.specs.declared.rule.Rule.{Rule}
 use Rattle.romaji_rules.specs.declared.rule_fault.RuleFault.{RuleFault}
 use Rattle.romaji_rules.specs.declared.rule_fault.RuleFault.TheVariants.{BadLine, Twice, BadNext}
@@ -103,7 +104,8 @@ first_own_fault entries = first_given (λ p. fault_behind (rules_of p.0) p.1.0 (
 -- the next text of a rule is bad among all rules: it is not empty, and begins no input or stands behind an input that
 -- begins another
 abbrev pub has_bad_next : List Rule → Rule → Bool
-has_bad_next rules rule = has_item rule.next && (not (begins_input rules rule.next) || begins_input rules rule.input)
+has_bad_next rules rule =
+    not (is_empty rule.next) && (not (begins_input rules rule.next) || begins_input rules rule.input)
 
 -- the fault of the first rule whose next text is bad among all
 abbrev pub first_next_fault : List (ℕ × Rule) → Option RuleFault
