@@ -116,7 +116,7 @@ module _ (bytes : List ℕ) (keys : List Key) (at : ℕ) (read : Read bytes keys
   ends : first_key (drop at bytes) ≡ None
   ends = fault-first_key bytes at fault told
 
-  pub fault-none : (others : List Key) → AreKeys others → spelled others ≢ bytes
+  fault-none : (others : List Key) → AreKeys others → spelled others ≢ bytes
   fault-none others os e = fault-more bytes at fault told (same_spelling bytes keys at read ends others os e).1
 
   pub fault-only_keys : (others : List Key) → AreKeys others → spelled others ≡ bytes → AnswersUnless Memory (Err fault) (Ok others)

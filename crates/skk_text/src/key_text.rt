@@ -1,4 +1,5 @@
-ghost use Rattle.std.specs.Prelude.{◌≡◌, ◌≢◌, ◌<◌, ◌+◌, ◌++◌, ℕ, List, length, drop, nat_eq, true, false, IfOk, OnOk, IsErrOf, IfSome, IsNone, IsTrue, Ok, Err};
+ghost use Rattle.std.specs.Prelude.{◌≡◌, ◌≢◌, ◌<◌, ◌+◌, ◌++◌, ℕ, List, length, drop, nat_eq, true, false};
+ghost use Rattle.std.specs.Prelude.{IfOk, OnOk, IsErrOf, IfSome, IsNone, Ok, Err};
 ghost use Rattle.std.specs.List.{list_any, starts_with};
 ghost use Rattle.skk_text.specs.KeyText.{spell, spelled, is_keyboard_key, is_printable, names, AreKeys, BeginsBadName, BeginsNotAscii, HasBadName, HasNotAscii};
 ghost use Rattle.skk_text.specs.Results.{AnswersUnless};
@@ -56,21 +57,6 @@ pub fn read_keys(alloc: Global, bytes: &[u8]) -> Result<Keys, KeyFault>
         }
     }
     Ok(keys)
-}
-
-/// Whether the bytes are key text. Takes no memory.
-pub fn is_key_text(bytes: &[u8]) -> bool
-    ensures keys { IsTrue result → (keys : List Key) × AreKeys keys × (spelled keys ≡ bytes.now) }
-    ensures none { result ≡ false → (keys : List Key) → AreKeys keys → spelled keys ≢ bytes.now }
-{
-    let mut at = 0;
-    while at < bytes.len() {
-        match key_at(bytes, at) {
-            Ok((_, length)) => at += length,
-            Err(_) => return false,
-        }
-    }
-    true
 }
 
 // The key that is spelled at a place, and how many bytes its spelling has.

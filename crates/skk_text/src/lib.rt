@@ -25,7 +25,7 @@ pub use bytes::Bytes;
 pub use copies::Copies;
 pub use kana::{to_hiragana, to_katakana, to_wide};
 pub use key::{Key, Keys};
-pub use key_text::{KeyFault, is_key_text, print_keys, read_keys};
+pub use key_text::{KeyFault, print_keys, read_keys};
 pub use laws::{kana_pairs, one_list_of_keys};
 pub use memory::Memory;
 pub use mode::Mode;
