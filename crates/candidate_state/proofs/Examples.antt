@@ -52,8 +52,8 @@ some_from c (suc count) = shown_as (c ∷ []) [] (c ∷ []) ∷ some_from (c + 1
 abbrev at : ℕ → ℕ → Picking
 at count place = record { shown = some_from (code "A") count; place = place; question = false }
 
-abbrev asked : ℕ → ℕ → Picking
-asked count place = record { shown = some_from (code "A") count; place = place; question = true }
+abbrev asking_at : ℕ → ℕ → Picking
+asking_at count place = record { shown = some_from (code "A") count; place = place; question = true }
 
 single_places : map is_single (0 ∷ 3 ∷ 4 ∷ 11 ∷ []) ≡ true ∷ true ∷ false ∷ false ∷ []
 single_places = refl
@@ -65,7 +65,8 @@ view_places = refl
 
 -- places among the candidates and behind them, inside a page, and questions at a single candidate and on a page
 pickings : map is_picking
-    (at 0 0 ∷ at 1 0 ∷ at 1 1 ∷ at 4 3 ∷ at 4 4 ∷ at 5 4 ∷ at 12 5 ∷ at 11 11 ∷ at 12 11 ∷ asked 1 0 ∷ asked 4 3 ∷ asked 5 4 ∷ asked 12 11 ∷ [])
+    (at 0 0 ∷ at 1 0 ∷ at 1 1 ∷ at 4 3 ∷ at 4 4 ∷ at 5 4 ∷ at 12 5 ∷ at 11 11 ∷ at 12 11
+        ∷ asking_at 1 0 ∷ asking_at 4 3 ∷ asking_at 5 4 ∷ asking_at 12 11 ∷ [])
     ≡ false ∷ true ∷ false ∷ true ∷ false ∷ true ∷ false ∷ false ∷ true ∷ true ∷ true ∷ false ∷ false ∷ []
 pickings = refl
 
@@ -75,12 +76,12 @@ first_picked = refl
 -- Keys
 
 -- what a step comes to: the place, whether there is a question, and what is done
-abbrev told : PickingStep → ℕ × Bool × CandsDo
-told step = (step.picking.place, step.picking.question, step.done)
+abbrev outcome : PickingStep → ℕ × Bool × CandsDo
+outcome step = (step.picking.place, step.picking.question, step.done)
 
 -- keys of pickings do what a table says
 abbrev Presses : List (Picking × Key × (ℕ × Bool × CandsDo)) → Type 0
-Presses table = map (λ line. told (picking_step line.0 line.1)) table ≡ map (λ line. line.2) table
+Presses table = map (λ line. outcome (picking_step line.0 line.1)) table ≡ map (λ line. line.2) table
 
 -- a step leaves the candidates as they are
 whole_step : picking_step (at 5 3) (Char (code " ")) ≡ record { picking = at 5 4; done = Stay Empty }
@@ -98,7 +99,8 @@ single_keys : Presses (
 single_keys = refl
 
 -- every other character is read behind the candidate that it chooses
-read_keys : map (λ c. told (picking_step (at 12 2) (Char c))) (codes "!asl=?WYwyz~") ≡ map (λ c. (2, false, Choose 2 (Read (Char c)))) (codes "!asl=?WYwyz~")
+read_keys : map (λ c. outcome (picking_step (at 12 2) (Char c))) (codes "!asl=?WYwyz~")
+    ≡ map (λ c. (2, false, Choose 2 (Read (Char c)))) (codes "!asl=?WYwyz~")
 read_keys = refl
 
 -- the seven letters of a page, and characters beside them
@@ -126,15 +128,20 @@ page_turns : Presses (
 page_turns = refl
 
 -- every other key does nothing on a page
-page_others : map (λ key. told (picking_step (at 12 4) key)) (Cj ∷ Ret ∷ Tab ∷ Undo ∷ map Char (codes "!;>ASLXYbghmwyz")) ≡ map (λ key. (4, false, Stay Empty)) (Cj ∷ Ret ∷ Tab ∷ Undo ∷ map Char (codes "!;>ASLXYbghmwyz"))
+page_others :
+    map (λ key. outcome (picking_step (at 12 4) key)) (Cj ∷ Ret ∷ Tab ∷ Undo ∷ map Char (codes "!;>ASLXYbghmwyz"))
+    ≡ map (λ key. (4, false, Stay Empty)) (Cj ∷ Ret ∷ Tab ∷ Undo ∷ map Char (codes "!;>ASLXYbghmwyz"))
 page_others = refl
 
 -- `y` and `Y` say yes, and every other key only ends the question
 yes : map says_yes (Char (code "y") ∷ Char (code "Y") ∷ Char (code "x") ∷ Char (code "z") ∷ Char (code "X") ∷ Char (code "Z") ∷ Ret ∷ []) ≡ true ∷ true ∷ false ∷ false ∷ false ∷ false ∷ false ∷ []
 yes = refl
 
-question_yes : map (λ key. told (picking_step (asked 4 2) key)) (map Char (codes "yY")) ≡ (2, false, Purge) ∷ (2, false, Purge) ∷ []
+question_yes : map (λ key. outcome (picking_step (asking_at 4 2) key)) (map Char (codes "yY"))
+    ≡ (2, false, Purge) ∷ (2, false, Purge) ∷ []
 question_yes = refl
 
-question_no : map (λ key. told (picking_step (asked 4 2) key)) (Cj ∷ Cg ∷ Bs ∷ Ret ∷ Tab ∷ Undo ∷ map Char (codes " >XZanxz")) ≡ map (λ key. (2, false, Stay Empty)) (Cj ∷ Cg ∷ Bs ∷ Ret ∷ Tab ∷ Undo ∷ map Char (codes " >XZanxz"))
+question_no :
+    map (λ key. outcome (picking_step (asking_at 4 2) key)) (Cj ∷ Cg ∷ Bs ∷ Ret ∷ Tab ∷ Undo ∷ map Char (codes " >XZanxz"))
+    ≡ map (λ key. (2, false, Stay Empty)) (Cj ∷ Cg ∷ Bs ∷ Ret ∷ Tab ∷ Undo ∷ map Char (codes " >XZanxz"))
 question_no = refl

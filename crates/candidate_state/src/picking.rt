@@ -37,7 +37,7 @@ impl Picking {
     }
 
     /// The candidates.
-    pub fn shown(&self) -> &ShownList
+    pub fn shown_list(&self) -> &ShownList
         ensures value { result.now ≡ self.now.shown }
         ensures valid { is_picking self.now ≡ true }
     {

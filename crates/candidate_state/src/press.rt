@@ -158,7 +158,7 @@ fn go_on(picking: &mut Picking, count: usize) -> CandsDo
     ensures { next_step picking.old (picking.old.place + count) ≡ record { picking = picking.new; done = result } }
 {
     let place = picking.place();
-    if count >= picking.shown().len() - place {
+    if count >= picking.shown_list().len() - place {
         return CandsDo::Register;
     }
     picking.go_to(place + count);
@@ -170,7 +170,7 @@ fn choose_named(picking: &Picking, count: usize) -> CandsDo
     ensures { choose_named picking.now (picking.now.place + count) ≡ record { picking = picking.now; done = result } }
 {
     let place = picking.place();
-    if count < picking.shown().len() - place {
+    if count < picking.shown_list().len() - place {
         choose(place + count, AfterChoose::Nothing)
     } else {
         CandsDo::Stay(Notice::NoCandidate)

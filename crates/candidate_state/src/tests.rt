@@ -13,7 +13,7 @@ fn text(alloc: Global, content: &str) -> Result<Text, Fail> {
 }
 
 // The candidates that are shown for the first of these words, each with a `/` and its note behind it.
-fn shown(alloc: Global, words: &str, count: usize) -> Result<ShownList, Fail> {
+fn shown_list(alloc: Global, words: &str, count: usize) -> Result<ShownList, Fail> {
     let mut found = Cands::new(alloc);
     for entry in words.split_whitespace().take(count) {
         let (word, note) = entry.split_once('/').ok_or("no `/`")?;
@@ -24,17 +24,17 @@ fn shown(alloc: Global, words: &str, count: usize) -> Result<ShownList, Fail> {
 }
 
 // What keys make of so many candidates, and what is done behind the last key.
-fn pressed(
+fn picking_after(
     rt: &impl Abort,
     alloc: Global,
     count: usize,
     keys: &str,
 ) -> Result<(Picking, CandsDo), Fail> {
-    let list = shown(alloc, NUMBERS, count)?;
+    let list = shown_list(alloc, NUMBERS, count)?;
     assert!(rt; list.len() > 0);
     let mut picking = Picking::new(list);
     let mut done = CandsDo::Stay(Notice::Empty);
-    for key in read_keys(alloc, keys.as_bytes())?.as_slice() {
+    for key in read_keys(alloc, keys.as_bytes())?.iter() {
         done = press_cands(&mut picking, *key);
     }
     Ok((picking, done))
@@ -73,10 +73,10 @@ fn keys_pick_candidates(rt: HostRuntime) -> Result<(), Fail> {
         (12, "    <cg>", "4 false Back"),
         (12, "    X", "4 false Stay(Empty)"),
     ] {
-        let (picking, done) = pressed(&rt, alloc, count, keys)?;
+        let (picking, done) = picking_after(&rt, alloc, count, keys)?;
         let (place, asked) = (picking.place(), picking.is_asked());
-        let told = format!(in alloc; "{place} {asked} {done:?}")?;
-        assert_eq!(rt; told.as_str(), wanted, "{keys:?} at {count}");
+        let outcome = format!(in alloc; "{place} {asked} {done:?}")?;
+        assert_eq!(rt; outcome.as_str(), wanted, "{keys:?} at {count}");
     }
     Ok(())
 }
@@ -84,7 +84,7 @@ fn keys_pick_candidates(rt: HostRuntime) -> Result<(), Fail> {
 #[test]
 fn the_first_of_each_word_is_shown(rt: HostRuntime) -> Result<(), Fail> {
     let alloc = rt.alloc();
-    let list = shown(alloc, "幹事/宴会の 漢字/ 幹事/x", 3)?;
+    let list = shown_list(alloc, "幹事/宴会の 漢字/ 幹事/x", 3)?;
     assert_eq!(rt; list.len(), 2);
     for (place, (word, note)) in [("幹事", "宴会の"), ("漢字", "")].iter().enumerate() {
         let shown = list.at(place);

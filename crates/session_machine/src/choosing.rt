@@ -34,7 +34,7 @@ pub(crate) fn choose<C: Caller>(
     ensures said { Says (of_candidate conversion place (choosing rules.now session.old conversion (then))) (after result session.new) (C.said caller.old) (C.said caller.new) }
     ensures number { C.number caller.new ≡ C.number caller.old }
 {
-    let shown = conversion.picking.shown().at(place);
+    let shown = conversion.picking.shown_list().at(place);
     let piece = choice_inserted(alloc, session.frame.mode, &conversion.reading, shown)?;
     if !session.has_room(piece.as_str()) {
         session.put_state(State::Picking(conversion));
@@ -79,7 +79,7 @@ fn learn<C: Caller>(
     ensures said { Says (of_candidate conversion place (learning rules.now session.old conversion piece.now (then))) (after result session.new) (C.said caller.old) (C.said caller.new) }
     ensures number { C.number caller.new ≡ C.number caller.old }
 {
-    let shown = conversion.picking.shown().at(place);
+    let shown = conversion.picking.shown_list().at(place);
     let call = insert_choice(session, alloc, &conversion.reading, shown, piece)?;
     let answer = caller.call(alloc, &call);
     take_learning(session, conversion, piece, answer);

@@ -147,7 +147,7 @@ fn picked(picking: &Picking) -> Shown<'_>
     ensures text { first_text (drop picking.now.place picking.now.shown) ≡ result.text.now }
     ensures note { first_note (drop picking.now.place picking.now.shown) ≡ result.cand.now.note }
 {
-    picking.shown().at(picking.place())
+    picking.shown_list().at(picking.place())
 }
 
 // Adds the question of a purge, where it is asked.
@@ -167,7 +167,7 @@ fn push_page(page: &mut Text, picking: &Picking) -> Result<(), Memory>
     ensures { OnOk result (page.new ≡ page.old ++ printed_form (page_shown picking.now)) }
 {
     page.push_str("▼[")?;
-    push_lettered(page, picking.shown(), picking.place())?;
+    push_lettered(page, picking.shown_list(), picking.place())?;
     page.push_str("残り ")?;
     push_count_behind(page, picking)?;
     page.push(']')
@@ -177,7 +177,7 @@ fn push_page(page: &mut Text, picking: &Picking) -> Result<(), Memory>
 fn push_count_behind(page: &mut Text, picking: &Picking) -> Result<(), Memory>
     ensures { OnOk result (page.new ≡ page.old ++ printed_form (decimal (length picking.now.shown - (picking.now.place + page_size)))) }
 {
-    let count = (picking.shown().len() - picking.place()).saturating_sub(LETTERS.len());
+    let count = (picking.shown_list().len() - picking.place()).saturating_sub(LETTERS.len());
     push_number(page, count as u64)
 }
 
