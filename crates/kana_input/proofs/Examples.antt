@@ -20,15 +20,15 @@ table =
     ∷ rule (codes "zl") (codes "→") ∷ rule (codes "z/") (codes "・") ∷ []
 
 -- the name of what a key does besides
-abbrev named : PlainThen → List ℕ
-named Stay = []
-named DeleteLast = codes "delete"
-named Newline = codes "newline"
-named (OpenReading None) = codes "open"
-named (OpenReading (Some letter)) = codes "open " ++ letter ∷ []
-named OpenAbbrev = codes "abbreviation"
-named Cancel = codes "cancel"
-named AskUndo = codes "undo"
+abbrev word_of : PlainThen → List ℕ
+word_of Stay = []
+word_of DeleteLast = codes "delete"
+word_of Newline = codes "newline"
+word_of (OpenReading None) = codes "open"
+word_of (OpenReading (Some letter)) = codes "open " ++ letter ∷ []
+word_of OpenAbbrev = codes "abbreviation"
+word_of Cancel = codes "cancel"
+word_of AskUndo = codes "undo"
 
 -- the name of a mode
 abbrev mode_named : Mode → List ℕ
@@ -41,7 +41,7 @@ mode_named Wide = codes "wide"
 abbrev step : Mode → String → Key → List ℕ
 step mode pending key =
     let after = plain_step table (record { mode = mode; pending = codes pending }) key in
-    mode_named after.plain.mode ++ code "|" ∷ after.done.insert ++ code "|" ∷ after.plain.pending ++ code "|" ∷ named after.done.then
+    mode_named after.plain.mode ++ code "|" ∷ after.done.insert ++ code "|" ∷ after.plain.pending ++ code "|" ∷ word_of after.done.then
 
 -- the steps of the characters of a text
 abbrev steps : Mode → String → String → List (List ℕ)

@@ -14,13 +14,13 @@ ky<bs>=:k:Hira:Stay ka<bs>=か::Hira:DeleteLast k<cg>=::Hira:Stay ka<cg>=か::Hi
 n<tab>=:n:Hira:Stay n<undo>=:n:Hira:AskUndo l<ret>=::Ascii:Newline l<cg>=::Ascii:Stay l<bs>=::Ascii:DeleteLast
 ";
 
-// Types keys in hiragana mode, and gives what a case has of them.
-fn typed(alloc: Global, rules: &Rules, keys: &str) -> Result<String, Fail> {
+// What keys come to that are typed in hiragana mode, as a case has it.
+fn outcome_of(alloc: Global, rules: &Rules, keys: &str) -> Result<String, Fail> {
     let mut plain = Plain::new();
     let mut inserted = Text::new(alloc);
     let mut then = PlainThen::Stay;
     let keys = read_keys(alloc, keys.as_bytes())?;
-    for key in keys.as_slice() {
+    for key in keys.iter() {
         let done = press_plain(alloc, &mut plain, rules, *key)?;
         inserted.push_str(done.insert.as_str())?;
         then = done.then;
@@ -39,7 +39,7 @@ fn keys_are_read_in_the_plain_state(rt: HostRuntime) -> Result<(), Fail> {
     for case in CASES.split_whitespace() {
         let (keys, wanted) = case.split_once('=').ok_or("no `=`")?;
         assert_eq!(rt;
-            typed(alloc, &rules, keys)?.as_str(),
+            outcome_of(alloc, &rules, keys)?.as_str(),
             wanted,
             "typed {keys}"
         );

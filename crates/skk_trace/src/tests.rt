@@ -47,7 +47,7 @@ fn three_answers<D: Disk>(alloc: Global, disk: &D) -> Result<Trace<Event>, Alloc
     Ok(trace)
 }
 
-fn sent<T: Send>(value: T) -> T
+fn send<T: Send>(value: T) -> T
     ensures { result ≡ value }
 {
     value
@@ -56,7 +56,7 @@ fn sent<T: Send>(value: T) -> T
 #[test]
 fn a_trace_is_made_and_noted_in(rt: HostRuntime) -> Result<(), Fail> {
     let disk = SmallDisk { blocks: 3 };
-    let mut trace = sent(three_answers(rt.alloc(), &disk)?);
+    let mut trace = send(three_answers(rt.alloc(), &disk)?);
     for _ in 0..100 {
         trace.note(&Answered {
             disk: &disk,

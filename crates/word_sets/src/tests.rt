@@ -25,7 +25,7 @@ fn each_word_is_kept_once(rt: HostRuntime) -> Result<(), Fail> {
     assert!(rt; !words.contains("感じ"));
     let texts = words.into_texts(alloc)?;
     assert_eq!(rt; texts.len(), 3);
-    for (text, word) in texts.as_slice().iter().zip(["漢字", "幹事", ""]) {
+    for (text, word) in texts.iter().zip(["漢字", "幹事", ""]) {
         assert_eq!(rt; text.as_str(), word);
     }
     Ok(())
@@ -58,7 +58,7 @@ fn first_cands(rt: &impl Abort, alloc: Global) -> Result<FirstCands, Fail>
 // The candidates are a word with a note and one without.
 fn expect(rt: &impl Abort, cands: &Cands) {
     assert_eq!(rt; cands.len(), 2);
-    for (cand, (word, note)) in cands.as_slice().iter().zip([("幹事", "宴会の"), ("漢字", "")]) {
+    for (cand, (word, note)) in cands.iter().zip([("幹事", "宴会の"), ("漢字", "")]) {
         assert_eq!(rt; (cand.word().as_str(), cand.note().as_str()), (word, note));
     }
 }
