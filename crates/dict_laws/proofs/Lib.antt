@@ -16,3 +16,4 @@ pub mod RowParts
 pub mod Seen
 pub mod TakenBack
 pub mod Texts
+pub mod TwoBooks

@@ -2,7 +2,7 @@ ghost use Rattle.std.specs.Prelude.{◌≡◌, ◌≢◌, ◌≤◌, ◌+◌, �
 ghost use Rattle.std.specs.List.{list_all};
 ghost use Rattle.std.specs.Option.{IfSome};
 ghost use Rattle.skk_calls.specs.declared.call.Call.{Call};
-ghost use Rattle.skk_calls.specs.declared.call.Call.TheVariants.{Learn, Unlearn};
+ghost use Rattle.skk_calls.specs.declared.call.Call.TheVariants.{Lookup, Complete, Learn, Unlearn};
 ghost use Rattle.skk_calls.specs.declared.answer.Reply.TheVariants.{Learned as learned_reply, Restored};
 ghost use Rattle.skk_calls.specs.Completions.{completions, completion_limit, goes_on_from};
 ghost use Rattle.skk_calls.specs.Dictionary.{answer, after, is_call, is_fit, is_okuri_or_none, is_row_or_none, is_stamped, speaks_of};
@@ -11,7 +11,7 @@ ghost use Rattle.skk_calls.specs.Histories.{Opening, Entry, IsLegal, room, state
 ghost use Rattle.skk_calls.specs.Learning.{learnt, purged, purge_changes};
 ghost use Rattle.skk_calls.specs.Orders.{text_less};
 ghost use Rattle.skk_calls.specs.Rows.{RowKey, Cand, Row, Learned, has_text, texts_differ, words_of, is_row_key, is_cand, is_row};
-ghost use Rattle.skk_calls.specs.States.{State, row_at, count_of, is_valid};
+ghost use Rattle.skk_calls.specs.States.{State, rows_of, row_at, count_of, is_valid};
 ghost use Rattle.skk_calls.specs.Tallies.{empty_tally, tally_with, tally_of};
 ghost use Rattle.skk_calls.specs.Walks.{texts_ascend, next_above, is_least_above};
 
@@ -73,6 +73,18 @@ pub fn purges_are_told_to_change_what_they_change()
 pub fn no_row_hides_its_own_words()
     ensures { (row : Row) (below : List Row) (okuri : Option (List ℕ)) → is_row row ≡ true →
         (rest : List Cand) × (merged (row ∷ below) okuri ≡ ordered row okuri ++ rest) }
+{}
+
+/// What a typist's look-up and completion are answered depends on the rows of the typist's book and of the shared one,
+/// and on the system files, alone.
+pub fn answers_depend_on_two_books()
+    ensures lookup { (files : List (List Row)) (state other : State) (who : ℕ) →
+        rows_of other who ≡ rows_of state who → rows_of other 0 ≡ rows_of state 0 →
+        (key : RowKey) (okuri : Option (List ℕ)) →
+        answer files other (Lookup who key okuri) ≡ answer files state (Lookup who key okuri) }
+    ensures complete { (files : List (List Row)) (state other : State) (who : ℕ) →
+        rows_of other who ≡ rows_of state who → rows_of other 0 ≡ rows_of state 0 →
+        (prefix : List ℕ) → answer files other (Complete who prefix) ≡ answer files state (Complete who prefix) }
 {}
 
 /// No word is found twice.
