@@ -1,9 +1,9 @@
 -- The rows of a file in order, and the readings that a walk goes over.
-use Rattle.std.specs.Prelude.{ℕ, Bool, ◌&&◌, List, [], map}
+use Rattle.std.specs.Prelude.{ℕ, Bool, ◌&&◌, List, [], map, not}
 use Rattle.std.specs.List.{filter}
 use Rattle.skk_text.specs.Places.{HasAt}
 use Rattle.skk_calls.specs.declared.part.Part.TheVariants.{Nasi}
-use Rattle.skk_calls.specs.Canonical.{has_item}
+use Rattle.skk_text.specs.Lists.{is_empty}
 use Rattle.skk_calls.specs.Completions.{reading_of}
 use Rattle.skk_calls.specs.Found.{first_of_each}
 use Rattle.skk_calls.specs.Orders.{row_less, sort_by, text_less}
@@ -11,7 +11,7 @@ use Rattle.skk_calls.specs.Rows.{Row, same_part}
 
 -- a walk comes by a row: it has no okurigana, and a candidate
 abbrev pub is_walked : Row → Bool
-is_walked row = same_part row.key.part Nasi && has_item row.cands
+is_walked row = same_part row.key.part Nasi && not (is_empty row.cands)
 
 -- the readings of a file that a walk goes over, each once, ascending by their bytes
 abbrev pub walked_readings : List Row → List (List ℕ)

@@ -1,4 +1,5 @@
 pub mod Blocks
+pub mod Files
 pub mod Finding
 pub mod InOrder
 pub mod WalkLaws

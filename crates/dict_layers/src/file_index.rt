@@ -1,14 +1,15 @@
-ghost use Rattle.std.specs.Prelude.{◌≡◌, true, not, ℕ, List, slice_get, IfOk};
-ghost use Rattle.std.specs.List.{filter};
+ghost use Rattle.std.specs.Prelude.{◌≡◌, true, not, ℕ, List, slice_get, IfOk, OnOk};
+ghost use Rattle.std.specs.List.{filter, list_all};
 ghost use Rattle.std.specs.Option.{option_copied, option_and_then};
 ghost use Rattle.std.specs.Ordering.{is_lt};
 ghost use Rattle.skk_text.specs.Pairs.{all_pairs};
 ghost use Rattle.skk_text.specs.Places.{HasAt, passes};
 ghost use Rattle.skk_calls.specs.OrderLaws.{apart};
 ghost use Rattle.skk_calls.specs.Orders.{key_less, row_less, sort_by, text_less};
-ghost use Rattle.skk_calls.specs.Rows.{Row as row_value, keys_differ};
+ghost use Rattle.skk_calls.specs.Rows.{Row as row_value, is_row, keys_differ};
 ghost use Rattle.skk_calls.specs.States.{row_in};
 ghost use Rattle.skk_calls.specs.Walks.{next_above};
+ghost use Rattle.dict_layers.specs.Files.{is_file};
 ghost use Rattle.dict_layers.specs.Finding.{option_less};
 ghost use Rattle.dict_layers.specs.InOrder.{is_walked, walked_readings, IsIndex};
 
@@ -29,7 +30,8 @@ impl FileIndex {
     /// The index of a file's rows. Takes time in their number, and with one logarithm in it.
     pub fn of_rows(alloc: Global, rows: &[Row]) -> Result<FileIndex, Memory>
         requires { keys_differ rows.now ≡ true }
-        ensures { IfOk result (λ index. IsIndex rows.now index.by_key.items index.readings.items) }
+        ensures index { IfOk result (λ index. IsIndex rows.now index.by_key.items index.readings.items) }
+        ensures file { OnOk result (is_file rows.now ≡ true) }
     {
         let all = all_places(alloc, rows)?;
         let walked = walked_places(alloc, rows)?;
@@ -83,7 +85,8 @@ fn all_places(alloc: Global, rows: &[Row]) -> Result<Vec<usize>, Memory>
 
 // The places of the rows that a walk comes by.
 fn walked_places(alloc: Global, rows: &[Row]) -> Result<Vec<usize>, Memory>
-    ensures { IfOk result (λ places. HasAt rows.now places.items (filter is_walked rows.now)) }
+    ensures places { IfOk result (λ places. HasAt rows.now places.items (filter is_walked rows.now)) }
+    ensures rows { OnOk result (list_all is_row rows.now ≡ true) }
 {
     let mut places = Vec::new(alloc);
     for (place, row) in rows.iter().enumerate() {
@@ -96,9 +99,10 @@ fn walked_places(alloc: Global, rows: &[Row]) -> Result<Vec<usize>, Memory>
 
 // Whether a walk comes by a row.
 fn is_walked(row: &Row) -> bool
-    ensures { result ≡ is_walked row.now }
+    ensures value { result ≡ is_walked row.now }
+    ensures valid { is_row row.now ≡ true }
 {
-    row.key().part() == Part::Nasi && row.cands().len() > 0
+    row.key().part() == Part::Nasi && !row.cands().is_empty()
 }
 
 // Places in order by the keys of the rows there.

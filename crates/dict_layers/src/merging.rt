@@ -5,7 +5,7 @@ ghost use Rattle.skk_calls.specs.Found.{merged, ordered, without_hidden};
 ghost use Rattle.skk_calls.specs.Rows.{is_row};
 ghost use Rattle.word_sets.specs.Firsts.{with_new};
 
-use crate::ordering::ordered;
+use crate::ordering::cands_in_order;
 use crate::system::RowList;
 use skk_calls::{Cands, Okuri, Row};
 use skk_text::{Copies, Memory, Text};
@@ -37,7 +37,7 @@ fn add_layer(
     ensures hides { OnOk result (hidden.new ≡ fold (with_new (λ text. text)) hidden.old row.now.hides) }
     ensures valid { OnOk result (is_row row.now ≡ true) }
 {
-    let cands = ordered(alloc, row, okuri)?;
+    let cands = cands_in_order(alloc, row, okuri)?;
     add_shown(found, hidden, cands)?;
     add_hidden(alloc, hidden, row.hides().as_slice())
 }

@@ -15,23 +15,27 @@ pub struct System {
 }
 
 impl Model for System {
-    ghost use Rattle.std.specs.Prelude.{List};
-    ghost use Rattle.std.specs.List.{AllZip};
+    ghost use Rattle.std.specs.Prelude.{◌≡◌, true, List};
+    ghost use Rattle.std.specs.List.{AllZip, list_all};
     ghost use Rattle.skk_calls.specs.Rows.{Row};
+    ghost use Rattle.dict_layers.specs.Files.{is_file};
     ghost use Rattle.dict_layers.specs.InOrder.{IsIndex};
 
     ghost Value = { List (List Row) };
 
     ghost view = { λ s. s.books };
 
-    ghost invariant = { λ s. AllZip (λ rows index. IsIndex rows index.by_key.items index.readings.items) s.books s.indexes.items };
+    ghost invariant = { λ s.
+        AllZip (λ rows index. IsIndex rows index.by_key.items index.readings.items) s.books s.indexes.items
+        × (list_all is_file s.books ≡ true) };
 }
 
 impl System {
-    ghost use Rattle.std.specs.Prelude.{◌≡◌, ◌<◌, length, get_or, [], map, IfOk};
-    ghost use Rattle.std.specs.List.{filter_map};
+    ghost use Rattle.std.specs.Prelude.{◌≡◌, ◌<◌, true, length, get_or, [], map, IfOk};
+    ghost use Rattle.std.specs.List.{filter_map, list_all};
     ghost use Rattle.std.specs.Option.{option_copied};
     ghost use Rattle.skk_calls.specs.States.{row_in};
+    ghost use Rattle.dict_layers.specs.Files.{is_file};
 
     /// The system files with these rows, which are moved. Takes time in the number of rows, and with one logarithm in it.
     pub fn of_books(alloc: Global, books: Books) -> Result<System, Memory>
@@ -42,6 +46,14 @@ impl System {
             indexes.push(FileIndex::of_rows(alloc, book.rows().as_slice())?)?;
         }
         Ok(System { books, indexes })
+    }
+
+    /// How many files there are. Takes no memory.
+    pub fn file_count(&self) -> usize
+        ensures value { result ≡ length self.now }
+        ensures valid { list_all is_file self.now ≡ true }
+    {
+        self.books.len()
     }
 
     /// The rows of a key, in the order of the files that have one. Takes time in the number of files, and in each with a
@@ -78,7 +90,7 @@ impl Walk for System {
     ghost ascending = { all_walked_ascend };
 
     fn files(&self) -> usize {
-        self.books.len()
+        self.file_count()
     }
 
     /// Takes time with a logarithm in the number of the file's rows.

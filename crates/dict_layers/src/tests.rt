@@ -3,7 +3,7 @@ ghost use Rattle.std.specs.List.{list_all};
 ghost use Rattle.std.specs.Str.{chars};
 ghost use Rattle.skk_calls.specs.Rows.{same_text, same_key, texts_differ, words_of, okuri_of, keys_differ, fits_blocks, is_cand, is_block, is_row};
 
-use crate::{RowList, System, merge, ordered, walks_go_over_completions};
+use crate::{RowList, System, cands_in_order, merge, walks_go_over_completions};
 use skk_calls::{Block, Blocks, Book, Books, Cand, Cands, Okuri, Part, Row, RowKey, Rows, Walk};
 use skk_text::{Text, Texts};
 use std::alloc::{AllocError, Global};
@@ -256,18 +256,18 @@ fn words_of_a_block_stand_first(rt: HostRuntime) -> Result<(), Fail> {
         ("た", &[("大", ""), ("多", "おおい")]),
     ] {
         let okuri = Okuri::new(text(alloc, okuri)?)?;
-        expect(&rt, &ordered(alloc, &row, Some(&okuri))?, table);
+        expect(&rt, &cands_in_order(alloc, &row, Some(&okuri))?, table);
     }
     expect(
         &rt,
-        &ordered(alloc, &row, None)?,
+        &cands_in_order(alloc, &row, None)?,
         &[("大", ""), ("多", "おおい")],
     );
     Ok(())
 }
 
 // The candidates of two layers for an okurigana: of a row that hides words, and of one with a block.
-fn merged(
+fn cands_of_two_layers(
     alloc: Global,
     okuri: &str,
     upper: &[(&str, &str)],
@@ -297,7 +297,7 @@ fn both(alloc: Global, upper: &Row, lower: &Row, okuri: &str) -> Result<Cands, F
 fn layers_are_merged(rt: HostRuntime) -> Result<(), Fail> {
     let alloc = rt.alloc();
     let lower = [("漢字", ""), ("幹事", "宴会の"), ("感じ", "")];
-    let cands = merged(alloc, "き", &[], &["漢字"], &lower)?;
+    let cands = cands_of_two_layers(alloc, "き", &[], &["漢字"], &lower)?;
     expect(&rt, &cands, &[("幹事", "宴会の"), ("感じ", "")]);
     walks_go_over_completions();
     Ok(())
@@ -309,7 +309,7 @@ fn rows_hide_no_words_of_their_own(rt: HostRuntime) -> Result<(), Fail> {
     let alloc = rt.alloc();
     let upper = [("a", "x"), ("b", "")];
     let lower = [("c", ""), ("a", ""), ("b", "y"), ("d", "")];
-    let cands = merged(alloc, "き", &upper, &["a", "c"], &lower)?;
+    let cands = cands_of_two_layers(alloc, "き", &upper, &["a", "c"], &lower)?;
     expect(&rt, &cands, &[("a", "x"), ("b", ""), ("d", "")]);
     Ok(())
 }
@@ -318,7 +318,7 @@ fn rows_hide_no_words_of_their_own(rt: HostRuntime) -> Result<(), Fail> {
 fn blocks_of_lower_layers_count(rt: HostRuntime) -> Result<(), Fail> {
     let alloc = rt.alloc();
     let lower = [("大", ""), ("多", "y"), ("b", "z")];
-    let cands = merged(alloc, "く", &[("b", "")], &[], &lower)?;
+    let cands = cands_of_two_layers(alloc, "く", &[("b", "")], &[], &lower)?;
     expect(&rt, &cands, &[("b", ""), ("多", "y"), ("大", "")]);
     Ok(())
 }

@@ -1,6 +1,10 @@
-use Rattle.std.proofs.Common.{◌≡◌, ◌∙◌, ◌++◌, ◌∷◌, [], Some, ap, sym, map, slice_get}
+use Rattle.std.proofs.Common.{◌≡◌, ◌∙◌, ◌++◌, ◌∷◌, [], Some, ap, sym, map, slice_get, get_or, take}
+use Rattle.std.specs.List.{list_all}
+use Rattle.std.proofs.lemmas.Bool.{and_from}
 use Rattle.std.proofs.lemmas.List.{map-append}
+use Rattle.std.proofs.lemmas.List.Folds.{list_all_more}
 use Rattle.std.proofs.lemmas.Option.{slice_get-get_or}
+use Rattle.skk_calls.specs.Rows.{is_row}
 use Rattle.dict_layers.specs.InOrder.{is_walked}
 use Rattle.dict_layers.proofs.Places.{kept_more, kept_same}
 use Rattle.dict_layers.proofs.file_index.walked_places.Goals as goal
@@ -12,13 +16,19 @@ loop-place-preserved c =
     let place = c.loop-place.place in
     let row = c.index-rows-place.result in
     let here : slice_get rows place ≡ Some row = slice_get-get_or rows place row c.loop-place-test.true ∙ ap (λ r. Some r) (sym c.index-rows-place.is) in
-    elim c.if-is_walked.branch [
-      | then-is_walked+in_ok-push w ↦
-          ap (λ places. map (slice_get rows) places.items) w.places-is
-          ∙ ap (map (slice_get rows)) w.in_ok-push.ensures.items ∙ map-append (slice_get rows) c.loop-place.places.items (place ∷ [])
-          ∙ ap (λ found. found ++ slice_get rows place ∷ []) c.loop-place.invariant
-          ∙ sym (kept_more is_walked rows place row here (sym c.is_walked.ensures ∙ w.if-is_walked.true))
-      | else-is_walked w ↦
-          ap (λ places. map (slice_get rows) places.items) w.places-is ∙ c.loop-place.invariant
-          ∙ sym (kept_same is_walked rows place row here (sym c.is_walked.ensures ∙ w.if-is_walked.false))
-    ]
+    record {
+      places = elim c.if-is_walked.branch [
+        | then-is_walked+in_ok-push w ↦
+            ap (λ places. map (slice_get rows) places.items) w.places-is
+            ∙ ap (map (slice_get rows)) w.in_ok-push.ensures.items ∙ map-append (slice_get rows) c.loop-place.places.items (place ∷ [])
+            ∙ ap (λ found. found ++ slice_get rows place ∷ []) c.loop-place.invariant.places
+            ∙ sym (kept_more is_walked rows place row here (sym c.is_walked.ensures.value ∙ w.if-is_walked.true))
+        | else-is_walked w ↦
+            ap (λ places. map (slice_get rows) places.items) w.places-is ∙ c.loop-place.invariant.places
+            ∙ sym (kept_same is_walked rows place row here (sym c.is_walked.ensures.value ∙ w.if-is_walked.false))
+      ];
+      rows =
+          list_all_more is_row rows place row c.loop-place-test.true
+          ∙ and_from (list_all is_row (take place rows)) (is_row (get_or rows place row)) c.loop-place.invariant.rows
+          (ap is_row (sym c.index-rows-place.is) ∙ c.is_walked.ensures.valid);
+    }

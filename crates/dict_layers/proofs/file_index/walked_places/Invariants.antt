@@ -1,8 +1,12 @@
-use Rattle.std.proofs.Common.{◌≡◌, Some, map, slice_get, take}
-use Rattle.std.specs.List.{filter}
+use Rattle.std.proofs.Common.{◌≡◌, true, Some, map, slice_get, take}
+use Rattle.std.specs.List.{filter, list_all}
+use Rattle.skk_calls.specs.Rows.{is_row}
 use Rattle.dict_layers.specs.InOrder.{is_walked}
 use Rattle.dict_layers.proofs.file_index.walked_places.Given as goal
 
--- the places so far are those of the rows so far that a walk comes by
+-- the places so far are those of the rows so far that a walk comes by, and these are rows
 abbrev pub invariant-loop-place : goal.invariant-loop-place
-invariant-loop-place l = map (slice_get l.rows) l.places.items ≡ map Some (filter is_walked (take l.place l.rows))
+invariant-loop-place l = record {
+  places : map (slice_get l.rows) l.places.items ≡ map Some (filter is_walked (take l.place l.rows));
+  rows : list_all is_row (take l.place l.rows) ≡ true;
+}

@@ -9,14 +9,14 @@ index-requires c =
     let books = c.self.inside.books in
     let indexes = c.self.inside.indexes in
     let low : c.args.file < length books = omega (arith, ap length c.self.view_is, c.requires) in
-    omega (arith, index_there books indexes.items c.self.invariant c.args.file low, indexes.ok.0)
+    omega (arith, index_there books indexes.items c.self.invariant.0 c.args.file low, indexes.ok.0)
 
 pub row_of-requires-clause-index : goal.row_of-requires-clause-index
 row_of-requires-clause-index c =
     let books = c.self.inside.books in
     let low : c.args.file < length books = omega (arith, ap length c.self.view_is, c.requires) in
     rw (c.as_slice-rows.ensures, c.rows.ensures.value)
-    (index_fits books c.self.inside.indexes.items c.self.invariant c.args.file low c.at.result.now c.index.result.now c.at.ensures c.index.ensures)
+    (index_fits books c.self.inside.indexes.items c.self.invariant.0 c.args.file low c.at.result.now c.index.result.now c.at.ensures c.index.ensures)
 
 pub returns : goal.returns
 returns c =

@@ -12,14 +12,14 @@ index-requires c =
     let books = c.self.inside.books in
     let indexes = c.self.inside.indexes in
     let low : c.args.file < length books = omega (arith, ap length c.self.view_is, c.requires, length-map c.args.self.now walked_readings) in
-    omega (arith, index_there books indexes.items c.self.invariant c.args.file low, indexes.ok.0)
+    omega (arith, index_there books indexes.items c.self.invariant.0 c.args.file low, indexes.ok.0)
 
 pub reading_above-requires-clause-index : goal.reading_above-requires-clause-index
 reading_above-requires-clause-index c =
     let books = c.self.inside.books in
     let low : c.args.file < length books = omega (arith, ap length c.self.view_is, c.requires, length-map c.args.self.now walked_readings) in
     rw (c.as_slice-rows.ensures, c.rows.ensures.value)
-    (index_fits books c.self.inside.indexes.items c.self.invariant c.args.file low c.at.result.now c.index.result.now c.at.ensures c.index.ensures)
+    (index_fits books c.self.inside.indexes.items c.self.invariant.0 c.args.file low c.at.result.now c.index.result.now c.at.ensures c.index.ensures)
 
 -- the readings of the file
 walked : (c : After-reading_above) → walked_readings c.as_slice-rows.result.now ≡ get_or (map walked_readings c.args.self.now) c.args.file []
