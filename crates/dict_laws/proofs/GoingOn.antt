@@ -1,12 +1,12 @@
 -- Every completion goes on from its prefix.
-use Rattle.std.proofs.Common.{◌≡◌, ◌∙◌, ℕ, Bool, true, false, cond, ◌&&◌, ◌==◌, List, [], ◌++◌, refl, map}
+use Rattle.std.proofs.Common.{◌≡◌, ◌∙◌, ℕ, Bool, true, false, cond, ◌&&◌, ◌==◌, List, [], ◌++◌, refl, map, not}
 use Rattle.std.specs.List.{filter, flat_map, list_all}
 use Rattle.std.proofs.lemmas.Bool.{and_parts, and_from}
 use Rattle.std.proofs.lemmas.List.Folds.{list_all-append, list_all-map}
 use Rattle.skk_text.specs.PairsLaws.{list_all-weaker}
 use Rattle.skk_text.specs.FilterLaws.{list_all_kept}
 use Rattle.skk_calls.specs.declared.part.Part.TheVariants.{Nasi}
-use Rattle.skk_calls.specs.Canonical.{has_item}
+use Rattle.skk_text.specs.Lists.{is_empty}
 use Rattle.skk_calls.specs.Completions.{goes_on_from, completes, reading_of, newest_readings, ascending_readings, all_readings}
 use Rattle.skk_calls.specs.OrderLaws.{list_all-sort_by}
 use Rattle.skk_calls.specs.Orders.{sort_by, is_newer, text_less}
@@ -17,8 +17,8 @@ use Rattle.dict_laws.proofs.Seen.{list_all-flat_map}
 -- the reading of a row that completes goes on from the prefix
 pub completes_goes_on : (prefix : List ℕ) (row : Row) → completes prefix row ≡ true → goes_on_from prefix (reading_of row) ≡ true
 completes_goes_on prefix row e =
-    let rest = and_parts (same_part row.key.part Nasi) (has_item row.cands && goes_on_from prefix (reading_of row)) e in
-    (and_parts (has_item row.cands) (goes_on_from prefix (reading_of row)) rest.1).1
+    let rest = and_parts (same_part row.key.part Nasi) (not (is_empty row.cands) && goes_on_from prefix (reading_of row)) e in
+    (and_parts (not (is_empty row.cands)) (goes_on_from prefix (reading_of row)) rest.1).1
 
 -- so do the readings of all rows that complete
 pub completing_go_on : (prefix : List ℕ) (rows : List Row) → list_all (λ row. goes_on_from prefix (reading_of row)) (filter (completes prefix) rows) ≡ true

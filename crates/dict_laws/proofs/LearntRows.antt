@@ -7,7 +7,8 @@ use Rattle.skk_text.specs.Text.{byte_len}
 use Rattle.skk_text.specs.PairsLaws.{list_all-filter}
 use Rattle.skk_calls.specs.declared.part.Part.{Part}
 use Rattle.skk_calls.specs.declared.part.Part.TheVariants.{Nasi, Ari}
-use Rattle.skk_calls.specs.Canonical.{canonical, is_good, has_item, line_limit}
+use Rattle.skk_calls.specs.Canonical.{canonical, is_good, line_limit}
+use Rattle.skk_text.specs.Lists.{is_empty}
 use Rattle.skk_calls.specs.Dictionary.{is_okuri_or_none}
 use Rattle.skk_calls.specs.Found.{note_of}
 use Rattle.skk_calls.specs.Learning.{without_text, without_word, learnt_note, learnt_cands, blocks_with_word, learnt_blocks, learnt, row_or_empty}
@@ -23,11 +24,11 @@ one_more x xs = grind (arith, nat_tests)
 -- the candidate that is learnt is one, with the note that it takes
 learnt_is_cand : (cands : List Cand) (cand : Cand) → is_cand cand ≡ true → list_all is_cand cands ≡ true
     → is_cand (record { word = cand.word; note = learnt_note cands cand }) ≡ true
-learnt_is_cand cands cand e all = by (has_item cand.note)
+learnt_is_cand cands cand e all = by (is_empty cand.note)
   where
-    by : (b : Bool) → is_cand (record { word = cand.word; note = cond b cand.note (note_of cands cand.word) }) ≡ true
-    by true = e
-    by false = cand_with_note_of cands cand.word (cand_word cand e) all
+    by : (b : Bool) → is_cand (record { word = cand.word; note = cond b (note_of cands cand.word) cand.note }) ≡ true
+    by true = cand_with_note_of cands cand.word (cand_word cand e) all
+    by false = e
 
 -- candidates with the one that is learnt are candidates
 pub cands_learnt : (cands : List Cand) (cand : Cand) → is_cand cand ≡ true → list_all is_cand cands ≡ true

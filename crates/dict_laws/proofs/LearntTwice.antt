@@ -3,7 +3,7 @@ use Rattle.std.proofs.Common.{◌≡◌, ℕ, Bool, true, false, cond, Option, N
 use Rattle.skk_calls.specs.KeyLaws.{same_itself}
 use Rattle.skk_calls.specs.declared.part.Part.{Part}
 use Rattle.skk_calls.specs.declared.part.Part.TheVariants.{Nasi, Ari}
-use Rattle.skk_calls.specs.Canonical.{has_item}
+use Rattle.skk_text.specs.Lists.{is_empty}
 use Rattle.skk_calls.specs.Found.{note_of}
 use Rattle.skk_calls.specs.Learning.{without_text, without_word, learnt_note, learnt_cands, blocks_with_word, learnt_blocks, learnt, row_or_empty}
 use Rattle.skk_calls.specs.Rows.{RowKey, Cand, Block, Row, same_text}
@@ -11,9 +11,10 @@ use Rattle.dict_laws.proofs.Texts.{without_twice, without_word_twice}
 
 -- the note of a candidate that stands at the front already
 pub note_learnt_again : (cands : List Cand) (cand : Cand) → learnt_note (learnt_cands cands cand) cand ≡ learnt_note cands cand
-note_learnt_again cands cand = rw (same_itself cand.word) (by (has_item cand.note))
+note_learnt_again cands cand = rw (same_itself cand.word) (by (is_empty cand.note))
   where
-    by : (b : Bool) → cond b cand.note (cond b cand.note (note_of cands cand.word)) ≡ cond b cand.note (note_of cands cand.word)
+    by : (b : Bool)
+        → cond b (cond b (note_of cands cand.word) cand.note) cand.note ≡ cond b (note_of cands cand.word) cand.note
     by true = refl
     by false = refl
 

@@ -10,7 +10,8 @@ use Rattle.skk_text.specs.Text.{byte_len}
 use Rattle.skk_text.specs.FilterLaws.{filter_all}
 use Rattle.skk_calls.specs.declared.answer.Reply.TheVariants as replies
 use Rattle.skk_calls.specs.declared.call.Call.TheVariants.{Learn}
-use Rattle.skk_calls.specs.Canonical.{canonical, with_slash, item, items, is_special, begins_form, has_item}
+use Rattle.skk_calls.specs.Canonical.{canonical, with_slash, item, items, is_special, begins_form}
+use Rattle.skk_text.specs.Lists.{is_empty}
 use Rattle.skk_calls.specs.Dictionary.{answer}
 use Rattle.skk_calls.specs.Found.{note_of}
 use Rattle.skk_calls.specs.Learning.{learnt, without_word}
@@ -31,7 +32,7 @@ needs_no_quotes word = not (list_any is_special word || begins_form word)
 
 -- a candidate without a note, whose word is written as it is
 abbrev pub is_plain : Cand → Bool
-is_plain cand = not (has_item cand.note) && needs_no_quotes cand.word
+is_plain cand = is_empty cand.note && needs_no_quotes cand.word
 
 -- the bytes of a word and of its slash
 abbrev pub slashed : List ℕ → ℕ
@@ -51,12 +52,12 @@ length_of_start = refl
 plain_item : (cand : Cand) → is_plain cand ≡ true → item cand ≡ cand.word
 plain_item cand e = by cand.note refl
   where
-    parts : (not (has_item cand.note) ≡ true) × (needs_no_quotes cand.word ≡ true)
-    parts = and_parts (not (has_item cand.note)) (needs_no_quotes cand.word) e
+    parts : (is_empty cand.note ≡ true) × (needs_no_quotes cand.word ≡ true)
+    parts = and_parts (is_empty cand.note) (needs_no_quotes cand.word) e
 
     by : (note : List ℕ) → cand.note ≡ note → item cand ≡ cand.word
     by [] f = rw (f, not-true (list_any is_special cand.word || begins_form cand.word) parts.1) (append-nil cand.word)
-    by (c ∷ note) f = absurd (both_ways (not (has_item cand.note)) (ap (λ text. not (has_item text)) f) parts.0)
+    by (c ∷ note) f = absurd (both_ways (is_empty cand.note) (ap (λ text. is_empty text) f) parts.0)
 
 -- the items of plain candidates have the bytes of their words and slashes
 length_of_items : (cands : List Cand) → list_all is_plain cands ≡ true

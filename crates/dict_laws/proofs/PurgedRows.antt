@@ -7,7 +7,8 @@ use Rattle.skk_text.specs.Text.{byte_len}
 use Rattle.skk_text.specs.PairsLaws.{list_all-filter}
 use Rattle.skk_calls.specs.declared.part.Part.{Part}
 use Rattle.skk_calls.specs.declared.part.Part.TheVariants.{Nasi, Ari}
-use Rattle.skk_calls.specs.Canonical.{canonical, is_good, has_item, line_limit}
+use Rattle.skk_calls.specs.Canonical.{canonical, is_good, line_limit}
+use Rattle.skk_text.specs.Lists.{is_empty}
 use Rattle.skk_calls.specs.Learning.{without_text, without_word, block_without, blocks_without, hides_with, purged, row_or_empty}
 use Rattle.skk_calls.specs.Rows.{RowKey, Cand, Block, Row, same_text, has_text, texts_differ, is_row_key, is_word, is_cand, is_block, fits_blocks, words_of, okuri_of, is_row}
 use Rattle.dict_laws.proofs.Filtered.{or_last}
@@ -16,7 +17,7 @@ use Rattle.dict_laws.proofs.RowParts.{BeforeParts, good_from_parts}
 use Rattle.dict_laws.proofs.Texts.{differ_parts, differ_from, differ_filter, differ_end, words_without}
 
 -- a list that has an item has one at least
-some_length : {X : Type 0} (xs : List X) → has_item xs ≡ true → nat_le 1 (length xs) ≡ true
+some_length : {X : Type 0} (xs : List X) → not (is_empty xs) ≡ true → nat_le 1 (length xs) ≡ true
 some_length [] e = cc
 some_length (x ∷ xs) e = grind (arith, nat_tests)
 
@@ -40,9 +41,10 @@ module _ (word : List ℕ) where
       → list_all is_block (blocks_without word blocks) ≡ true
   blocks_without_all [] all = refl
   blocks_without_all (block ∷ blocks) all =
-      by (has_item (without_text word block.words)) refl (blocks_without_all blocks (and_parts (is_block block) (list_all is_block blocks) all).1)
+      by (not (is_empty (without_text word block.words))) refl (blocks_without_all blocks (and_parts (is_block block) (list_all is_block blocks) all).1)
     where
-      by : (b : Bool) → has_item (without_text word block.words) ≡ b → list_all is_block (blocks_without word blocks) ≡ true
+      by : (b : Bool) → not (is_empty (without_text word block.words)) ≡ b
+          → list_all is_block (blocks_without word blocks) ≡ true
           → list_all is_block (cond b (block_without word block ∷ blocks_without word blocks) (blocks_without word blocks)) ≡ true
       by true more rest =
           let parts = block_parts block (and_parts (is_block block) (list_all is_block blocks) all).0 in
@@ -59,7 +61,7 @@ module _ (word : List ℕ) where
       → has_text (okuri_of (blocks_without word blocks)) text ≡ false
   has_okuri_left [] text e = refl
   has_okuri_left (block ∷ blocks) text e =
-      by (has_item (without_text word block.words)) (has_okuri_left blocks text (or_parts (same_text text block.okuri) (has_text (okuri_of blocks) text) e).1)
+      by (not (is_empty (without_text word block.words))) (has_okuri_left blocks text (or_parts (same_text text block.okuri) (has_text (okuri_of blocks) text) e).1)
     where
       by : (b : Bool) → has_text (okuri_of (blocks_without word blocks)) text ≡ false
           → has_text (okuri_of (cond b (block_without word block ∷ blocks_without word blocks) (blocks_without word blocks))) text ≡ false
@@ -73,7 +75,7 @@ module _ (word : List ℕ) where
       → texts_differ (okuri_of (blocks_without word blocks)) ≡ true
   blocks_without_differ [] e = refl
   blocks_without_differ (block ∷ blocks) e =
-      by (has_item (without_text word block.words)) (differ_parts block.okuri (okuri_of blocks) e).0
+      by (not (is_empty (without_text word block.words))) (differ_parts block.okuri (okuri_of blocks) e).0
       (blocks_without_differ blocks (differ_parts block.okuri (okuri_of blocks) e).1)
     where
       by : (b : Bool) → has_text (okuri_of blocks) block.okuri ≡ false → texts_differ (okuri_of (blocks_without word blocks)) ≡ true
@@ -91,11 +93,11 @@ module _ (word : List ℕ) where
       by false new = differ_end hides word e new
 
   -- there are some
-  pub hidden_too_some : (hides : List (List ℕ)) → has_item (hides_with word hides) ≡ true
+  pub hidden_too_some : (hides : List (List ℕ)) → not (is_empty (hides_with word hides)) ≡ true
   hidden_too_some [] = refl
   hidden_too_some (text ∷ texts) = by (has_text (text ∷ texts) word)
     where
-      by : (b : Bool) → has_item (cond b (text ∷ texts) ((text ∷ texts) ++ word ∷ [])) ≡ true
+      by : (b : Bool) → not (is_empty (cond b (text ∷ texts) ((text ∷ texts) ++ word ∷ []))) ≡ true
       by true = refl
       by false = refl
 
@@ -143,6 +145,6 @@ module _ (before : Option Row) (key : RowKey) (word : List ℕ) (stamp : ℕ) (i
   purged_is_good fits short =
       good_from_parts (purged before key word stamp) purged_parts
       (hidden_too_words word (row_or_empty key before).hides fits was.hidden)
-      (or_last (has_item (without_word word (row_or_empty key before).cands)) (has_item (blocks_without word (row_or_empty key before).blocks))
-      (has_item (hides_with word (row_or_empty key before).hides)) (hidden_too_some word (row_or_empty key before).hides))
+      (or_last (not (is_empty (without_word word (row_or_empty key before).cands))) (not (is_empty (blocks_without word (row_or_empty key before).blocks)))
+      (not (is_empty (hides_with word (row_or_empty key before).hides))) (hidden_too_some word (row_or_empty key before).hides))
       short

@@ -5,7 +5,7 @@ use Rattle.std.proofs.lemmas.Bool.{and_parts, or_from, or_parts, both_ways}
 use Rattle.std.proofs.lemmas.List.Folds.{list_any-append, list_all-map}
 use Rattle.skk_text.specs.FilterLaws.{filter_all}
 use Rattle.skk_calls.specs.KeyLaws.{same_itself}
-use Rattle.skk_calls.specs.Canonical.{has_item}
+use Rattle.skk_text.specs.Lists.{is_empty}
 use Rattle.skk_calls.specs.Learning.{without_text, without_word, block_without, blocks_without, hides_with, purged, purge_changes}
 use Rattle.skk_calls.specs.Rows.{Cand, Block, Row, same_text, has_text, words_of, is_block, is_row}
 use Rattle.skk_calls.specs.RowLaws.{row_parts, block_parts}
@@ -24,7 +24,7 @@ without_no_word word cands none =
     filter_all (λ (cand : Cand). not (same_text cand.word word)) cands
     (sym (list_all-map (λ other. not (same_text other word)) (λ (cand : Cand). cand.word) cands) ∙ same_none (words_of cands) word none)
 
-some_from_length : (texts : List (List ℕ)) → nat_le 1 (length texts) ≡ true → has_item texts ≡ true
+some_from_length : (texts : List (List ℕ)) → nat_le 1 (length texts) ≡ true → not (is_empty texts) ≡ true
 some_from_length [] e = cc
 some_from_length (text ∷ texts) e = refl
 
@@ -34,9 +34,9 @@ blocks_left word (block ∷ blocks) all none =
     let parts = and_parts (is_block block) (list_all is_block blocks) all in
     let others = or_parts (has_word word block) (list_any (has_word word) blocks) none in
     let same_block : block_without word block ≡ block = ap (λ words. record { okuri = block.okuri; words = words }) (without_none word block.words others.0) in
-    let words : has_item block.words ≡ true = some_from_length block.words (block_parts block parts.0).has_item in
+    let words : not (is_empty block.words) ≡ true = some_from_length block.words (block_parts block parts.0).has_item in
     let rest = blocks_without word blocks in
-    ap (λ (b : Block). cond (has_item b.words) (b ∷ rest) rest) same_block
+    ap (λ (b : Block). cond (not (is_empty b.words)) (b ∷ rest) rest) same_block
     ∙ ap (λ kept. cond kept (block ∷ rest) rest) words
     ∙ ap (λ behind. block ∷ behind) (blocks_left word blocks parts.1 others.1)
 
@@ -55,7 +55,7 @@ purge_leaves row word e none =
 -- no block has a word that was taken out of all
 no_block_has : (word : List ℕ) (blocks : List Block) → list_any (has_word word) (blocks_without word blocks) ≡ false
 no_block_has word [] = refl
-no_block_has word (block ∷ blocks) = by (has_item (without_text word block.words)) (no_block_has word blocks)
+no_block_has word (block ∷ blocks) = by (not (is_empty (without_text word block.words))) (no_block_has word blocks)
   where
     by : (b : Bool) → list_any (has_word word) (blocks_without word blocks) ≡ false
         → list_any (has_word word) (cond b (block_without word block ∷ blocks_without word blocks) (blocks_without word blocks)) ≡ false

@@ -1,5 +1,5 @@
 -- What a row and its parts keep, each by its name.
-use Rattle.std.proofs.Common.{◌≡◌, ℕ, ◌+◌, Bool, true, ◌&&◌, ◌||◌, nat_le, None, Some, Option, [], length, refl, arith}
+use Rattle.std.proofs.Common.{◌≡◌, ℕ, ◌+◌, Bool, true, ◌&&◌, ◌||◌, nat_le, None, Some, Option, [], length, refl, arith, not}
 use Rattle.std.proofs.lemmas.Bool.Decides.{nat_tests}
 use Rattle.std.specs.List.{list_all}
 use Rattle.std.proofs.lemmas.Bool.{and_from, and_parts}
@@ -8,7 +8,8 @@ use Rattle.skk_text.specs.PairsLaws.{list_all-weaker}
 use Rattle.skk_calls.specs.KeyLaws.{same_key_equal}
 use Rattle.skk_calls.specs.declared.part.Part.{Part}
 use Rattle.skk_calls.specs.declared.part.Part.TheVariants.{Nasi, Ari}
-use Rattle.skk_calls.specs.Canonical.{canonical, is_good, has_item, line_limit}
+use Rattle.skk_calls.specs.Canonical.{canonical, is_good, line_limit}
+use Rattle.skk_text.specs.Lists.{is_empty}
 use Rattle.skk_calls.specs.Learning.{row_or_empty}
 use Rattle.skk_calls.specs.Rows.{RowKey, Cand, Block, Row, is_row_key, is_note, is_word, word_limit, is_cand, is_block, fits_blocks, is_row}
 use Rattle.skk_calls.specs.RowLaws.{RowParts, row_parts, block_parts}
@@ -29,7 +30,7 @@ pub record BeforeParts (key : RowKey) (row : Row) : Type 0 where
 -- the words that a good row hides are words
 pub good_hides : (row : Row) → is_good row ≡ true → list_all is_word row.hides ≡ true
 good_hides row e =
-    (and_parts (list_all is_word row.hides) (list_all has_words row.blocks && nat_le (byte_len (canonical row)) line_limit) (and_parts (has_item row.cands || (has_item row.blocks || has_item row.hides)) (list_all is_word row.hides && (list_all has_words row.blocks && nat_le (byte_len (canonical row)) line_limit)) e).1).0
+    (and_parts (list_all is_word row.hides) (list_all has_words row.blocks && nat_le (byte_len (canonical row)) line_limit) (and_parts (not (is_empty row.cands) || (not (is_empty row.blocks) || not (is_empty row.hides))) (list_all is_word row.hides && (list_all has_words row.blocks && nat_le (byte_len (canonical row)) line_limit)) e).1).0
 
 -- each part fits no blocks
 fits_no_blocks : (part : Part) → fits_blocks part [] ≡ true
@@ -66,10 +67,10 @@ cand_word cand e =
 
 -- a row that says something, hides words alone and is short is good
 pub good_from_parts : (row : Row) → RowParts row → list_all is_word row.hides ≡ true
-    → (has_item row.cands || (has_item row.blocks || has_item row.hides)) ≡ true
+    → (not (is_empty row.cands) || (not (is_empty row.blocks) || not (is_empty row.hides))) ≡ true
     → nat_le (byte_len (canonical row)) line_limit ≡ true → is_good row ≡ true
 good_from_parts row parts hidden says short =
     let words : list_all has_words row.blocks ≡ true =
     list_all-weaker is_block has_words (λ (block : Block) (e : is_block block ≡ true). (block_parts block e).words)
     row.blocks parts.blocks in
-    and_from (has_item row.cands || (has_item row.blocks || has_item row.hides)) (list_all is_word row.hides && (list_all has_words row.blocks && nat_le (byte_len (canonical row)) line_limit)) says (and_from (list_all is_word row.hides) (list_all has_words row.blocks && nat_le (byte_len (canonical row)) line_limit) hidden (and_from (list_all has_words row.blocks) (nat_le (byte_len (canonical row)) line_limit) words short))
+    and_from (not (is_empty row.cands) || (not (is_empty row.blocks) || not (is_empty row.hides))) (list_all is_word row.hides && (list_all has_words row.blocks && nat_le (byte_len (canonical row)) line_limit)) says (and_from (list_all is_word row.hides) (list_all has_words row.blocks && nat_le (byte_len (canonical row)) line_limit) hidden (and_from (list_all has_words row.blocks) (nat_le (byte_len (canonical row)) line_limit) words short))

@@ -1,12 +1,12 @@
 -- Of the readings that a walk goes over, those that go on from a prefix.
-use Rattle.std.proofs.Common.{◌≡◌, ℕ, Bool, true, false, cond, ◌&&◌, List, [], ◌∷◌, map, refl, sym, ap, ◌∙◌}
+use Rattle.std.proofs.Common.{◌≡◌, ℕ, Bool, true, false, cond, ◌&&◌, List, [], ◌∷◌, map, refl, sym, ap, ◌∙◌, not}
 use Rattle.std.specs.Cmp.{IsStrictWeakOrder}
 use Rattle.std.specs.List.{filter, list_all}
 use Rattle.std.proofs.lemmas.Bool.{and_from, and_parts}
 use Rattle.skk_text.specs.Pairs.{all_pairs}
 use Rattle.skk_text.specs.PairsLaws.{list_all-filter, list_all-weaker}
 use Rattle.skk_calls.specs.declared.part.Part.TheVariants.{Nasi}
-use Rattle.skk_calls.specs.Canonical.{has_item}
+use Rattle.skk_text.specs.Lists.{is_empty}
 use Rattle.skk_calls.specs.Completions.{ascending_readings, completes, goes_on_from, reading_of}
 use Rattle.skk_calls.specs.OrderLaws.{apart, less_trans, sort_ascends, text_order}
 use Rattle.skk_calls.specs.Orders.{insert_by, sort_by, text_less}
@@ -94,4 +94,4 @@ readings_complete prefix rows differ =
     ∙ ap (map reading_of)
     (filter_both is_walked (λ row. goes_on_from prefix (reading_of row)) rows
     ∙ filter_same (λ row. is_walked row && goes_on_from prefix (reading_of row)) (completes prefix)
-    (λ row. and_turned (same_part row.key.part Nasi) (has_item row.cands) (goes_on_from prefix row.key.reading)) rows))
+    (λ row. and_turned (same_part row.key.part Nasi) (not (is_empty row.cands)) (goes_on_from prefix row.key.reading)) rows))

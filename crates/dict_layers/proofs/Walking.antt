@@ -7,7 +7,7 @@ use Rattle.std.proofs.lemmas.List.Sums.{list_all-from_AllPass}
 use Rattle.skk_text.specs.PairsLaws.{all_pairs-filter, all_pairs-map}
 use Rattle.skk_calls.specs.declared.part.Part.{Part}
 use Rattle.skk_calls.specs.declared.part.Part.TheVariants.{Nasi, Ari}
-use Rattle.skk_calls.specs.Canonical.{has_item}
+use Rattle.skk_text.specs.Lists.{is_empty}
 use Rattle.skk_calls.specs.Completions.{reading_of}
 use Rattle.skk_calls.specs.OrderLaws.{holds_moved, sort_moves}
 use Rattle.skk_calls.specs.Orders.{insert_by, sort_by, text_less, less_by_part, row_less}
@@ -18,7 +18,7 @@ use Rattle.dict_layers.proofs.Lists.{pairs_within}
 
 -- the rows that a walk comes by are without okurigana
 walked_part : (row : Row) → is_walked row ≡ true → same_part row.key.part Nasi ≡ true
-walked_part row e = (and_parts (same_part row.key.part Nasi) (has_item row.cands) e).0
+walked_part row e = (and_parts (same_part row.key.part Nasi) (not (is_empty row.cands)) e).0
 
 -- so their readings order them
 less_by_reading : (row other : Row) → is_walked row ≡ true → is_walked other ≡ true → text_less row.key.reading other.key.reading ≡ row_less row other

@@ -1,6 +1,7 @@
 -- How a row is written on its one canonical line.
-use Rattle.std.specs.Prelude.{ℕ, Bool, true, false, ◌&&◌, ◌||◌, ◌==◌, nat_eq, nat_le, if◌then◌else◌, List, [], ◌∷◌, ◌++◌, codes, map}
+use Rattle.std.specs.Prelude.{ℕ, Bool, ◌&&◌, ◌||◌, ◌==◌, not, nat_eq, nat_le, if◌then◌else◌, List, [], ◌∷◌, ◌++◌, codes, map}
 use Rattle.std.specs.List.{flat_map, list_any, list_all, starts_with}
+use Rattle.skk_text.specs.Lists.{is_empty}
 use Rattle.skk_text.specs.Text.{byte_len}
 use Rattle.skk_calls.specs.Rows.{Cand, Block, Row, is_word}
 
@@ -72,12 +73,11 @@ line_limit = 65535
 
 -- a list has an item
 abbrev pub has_item : {X : Type 0} → List X → Bool
-has_item [] = false
-has_item (x ∷ xs) = true
+has_item xs = not (is_empty xs)
 
 -- a row can be written on a line: it says something, its words are words, and its line is not too long
 abbrev pub is_good : Row → Bool
 is_good row =
-    (has_item row.cands || (has_item row.blocks || has_item row.hides))
+    (not (is_empty row.cands) || (not (is_empty row.blocks) || not (is_empty row.hides)))
     && (list_all is_word row.hides && (list_all (λ block. list_all is_word block.words) row.blocks
     && nat_le (byte_len (canonical row)) line_limit))

@@ -2,7 +2,7 @@
 use Rattle.std.specs.Prelude.{ℕ, Bool, ◌&&◌, ◌==◌, not, nat_eq, if◌then◌else◌, List, [], ◌++◌, map, take}
 use Rattle.std.specs.List.{filter, flat_map, starts_with}
 use Rattle.skk_calls.specs.declared.part.Part.TheVariants.{Nasi}
-use Rattle.skk_calls.specs.Canonical.{has_item}
+use Rattle.skk_text.specs.Lists.{is_empty}
 use Rattle.skk_calls.specs.Found.{first_of_each}
 use Rattle.skk_calls.specs.Orders.{sort_by, is_newer, text_less}
 use Rattle.skk_calls.specs.Rows.{Row, same_text, same_part}
@@ -15,7 +15,7 @@ goes_on_from prefix reading = starts_with nat_eq reading prefix && not (same_tex
 -- a row completes a prefix: it has a candidate and no okurigana, and its reading goes on from the prefix
 abbrev pub completes : List ℕ → Row → Bool
 completes prefix row =
-    same_part row.key.part Nasi && (has_item row.cands && goes_on_from prefix row.key.reading)
+    same_part row.key.part Nasi && (not (is_empty row.cands) && goes_on_from prefix row.key.reading)
 
 -- the reading of a row
 abbrev pub reading_of : Row → List ℕ

@@ -3,7 +3,8 @@ use Rattle.std.specs.Prelude.{ℕ, Bool, true, ◌&&◌, ◌||◌, not, nat_le, 
 use Rattle.std.specs.List.{filter, list_any}
 use Rattle.skk_calls.specs.declared.part.Part.{Part}
 use Rattle.skk_calls.specs.declared.part.Part.TheVariants.{Nasi, Ari}
-use Rattle.skk_calls.specs.Canonical.{has_item, is_good}
+use Rattle.skk_calls.specs.Canonical.{is_good}
+use Rattle.skk_text.specs.Lists.{is_empty}
 use Rattle.skk_calls.specs.Found.{note_of}
 use Rattle.skk_calls.specs.Rows.{RowKey, Cand, Block, Row, Learned, same_text, same_key, has_text, words_of}
 
@@ -26,7 +27,7 @@ without_word word cands = filter (λ cand. not (same_text cand.word word)) cands
 
 -- the note of a candidate that is learnt: its own, or where it has none that of the candidate with its word
 abbrev pub learnt_note : List Cand → Cand → List ℕ
-learnt_note cands cand = if has_item cand.note then cand.note else note_of cands cand.word
+learnt_note cands cand = if is_empty cand.note then note_of cands cand.word else cand.note
 
 -- the candidates with one that is learnt at their front, and another with its word gone
 abbrev pub learnt_cands : List Cand → Cand → List Cand
@@ -64,7 +65,7 @@ block_without word block = record { okuri = block.okuri; words = without_text wo
 
 -- the blocks without a word, as far as words are left in them
 abbrev pub blocks_without : List ℕ → List Block → List Block
-blocks_without word blocks = filter (λ block. has_item block.words) (map (block_without word) blocks)
+blocks_without word blocks = filter (λ block. not (is_empty block.words)) (map (block_without word) blocks)
 
 -- the hidden words with one that is hidden too, at their end where it is new
 abbrev pub hides_with : List ℕ → List (List ℕ) → List (List ℕ)

@@ -80,7 +80,8 @@ pub cand_with_note_of : (cands : List Cand) (word : List ℕ) → is_word word �
     → is_cand (record { word = word; note = note_of cands word }) ≡ true
 cand_with_note_of [] word e all = by (length word) (byte_len word) e
   where
-    by : (l w : ℕ) → (nat_le 1 l && nat_le w word_limit) ≡ true → (nat_le 1 l && (true && nat_le (w + 0) word_limit)) ≡ true
+    by : (l w : ℕ) → (nat_le 1 l && nat_le w word_limit) ≡ true
+        → (nat_le 1 l && (true && nat_le (w + 0) word_limit)) ≡ true
     by l w h = grind (arith, nat_tests)
 cand_with_note_of (cand ∷ cands) word e all =
     by (same_text cand.word word) refl (cand_with_note_of cands word e (and_parts (is_cand cand) (list_all is_cand cands) all).1)

@@ -129,8 +129,8 @@ fn is_row_key(part: Part, reading: &Text) -> bool
     begins_well(text) && are_reading_chars(text) && fits_part(part, reading)
 }
 
-/// Whether a text begins as a reading does: it is not empty, and begins with something else than `;`. Takes no memory and
-/// constant time.
+/// Whether a text begins as a reading does: it is not empty, and begins with something else than `;`. Takes no memory
+/// and constant time.
 pub fn begins_well(text: &str) -> bool
     ensures { result ≡ begins_well (chars text.now) }
 {

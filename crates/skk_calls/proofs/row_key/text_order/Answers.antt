@@ -6,7 +6,8 @@ use Rattle.skk_calls.proofs.row_key.text_order.Goals as goal
 use Rattle.skk_calls.proofs.row_key.text_order.Goals.{After-cmp}
 
 -- the answer is the order of the bytes
-ordered : (c : After-cmp) → c.cmp.result ≡ slice_cmp nat_cmp (encode_utf8_all c.args.text.now) (encode_utf8_all c.args.other.now)
+ordered : (c : After-cmp)
+    → c.cmp.result ≡ slice_cmp nat_cmp (encode_utf8_all c.args.text.now) (encode_utf8_all c.args.other.now)
 ordered c =
     c.cmp.ensures ∙ ap (λ bytes. slice_cmp nat_cmp bytes c.bytes_of-2.result.now) c.bytes_of.ensures
     ∙ ap (slice_cmp nat_cmp (encode_utf8_all c.args.text.now)) c.bytes_of-2.ensures
