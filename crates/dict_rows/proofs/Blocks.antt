@@ -7,22 +7,22 @@ use Rattle.std.proofs.lemmas.Bool.Decides.{nat_tests}
 use Rattle.std.proofs.lemmas.Str.{length-le-encodes}
 use Rattle.skk_text.specs.PairsLaws.{list_all-filter, all_pairs-filter}
 use Rattle.skk_text.specs.Text.{byte_len}
-use Rattle.skk_calls.specs.Canonical.{has_item}
+use Rattle.skk_text.specs.Lists.{is_empty}
 use Rattle.skk_calls.specs.DifferLaws.{differ_front}
 use Rattle.skk_calls.specs.Found.{note_of}
 use Rattle.skk_calls.specs.KeyLaws.{same_equal}
 use Rattle.skk_calls.specs.Learning.{block_without, learnt_note, without_text}
 use Rattle.skk_calls.specs.RowLaws.{block_from_parts, block_parts}
-use Rattle.skk_calls.specs.Rows.{Cand, Block, same_text, texts_differ, is_cand, is_block, is_note, is_okuri, is_word, words_of}
+use Rattle.skk_calls.specs.Rows.{Cand, Block, same_text, texts_differ, is_cand, is_block, is_note, is_okuri, is_word, word_limit, words_of}
 
 -- the word of a candidate is one
 pub cand_word : (cand : Cand) → is_cand cand ≡ true → is_word cand.word ≡ true
 cand_word cand e =
-    let parts = and_parts (nat_le 1 (length cand.word)) (is_note cand.note && nat_le (byte_len cand.word + byte_len cand.note) 4095) e in
+    let parts = and_parts (nat_le 1 (length cand.word)) (is_note cand.note && nat_le (byte_len cand.word + byte_len cand.note) word_limit) e in
     by (length cand.word) (byte_len cand.word) (byte_len cand.note) parts.0
-    (and_parts (is_note cand.note) (nat_le (byte_len cand.word + byte_len cand.note) 4095) parts.1).1
+    (and_parts (is_note cand.note) (nat_le (byte_len cand.word + byte_len cand.note) word_limit) parts.1).1
   where
-    by : (l w n : ℕ) → nat_le 1 l ≡ true → nat_le (w + n) 4095 ≡ true → (nat_le 1 l && nat_le w 4095) ≡ true
+    by : (l w n : ℕ) → nat_le 1 l ≡ true → nat_le (w + n) word_limit ≡ true → (nat_le 1 l && nat_le w word_limit) ≡ true
     by l w n has_item short = grind (arith, nat_tests)
 
 -- a list with an item at its front has one
@@ -44,19 +44,21 @@ chosen_is_block okuri cand words okuri_is cand_is all differ =
     })
 
 -- a block without a word is one where words are left
-pub left_is_block : (word : List ℕ) (block : Block) → is_block block ≡ true → (length (without_text word block.words) ≡ 0 → ⊥) → is_block (block_without word block) ≡ true
+pub left_is_block : (word : List ℕ) (block : Block) → is_block block ≡ true → is_empty (without_text word block.words) ≡ false
+    → is_block (block_without word block) ≡ true
 left_is_block word block is some =
     let parts = block_parts block is in
     block_from_parts (block_without word block)
     (record {
       okuri = parts.okuri;
-      has_item = by (length (without_text word block.words)) some;
+      has_item = by (without_text word block.words) some;
       words = list_all-filter is_word (λ other. not (same_text other word)) block.words parts.words;
       different = all_pairs-filter (λ text other. not (same_text text other)) (λ other. not (same_text other word)) block.words parts.different;
     })
   where
-    by : (l : ℕ) → (l ≡ 0 → ⊥) → nat_le 1 l ≡ true
-    by l e = grind (arith, nat_tests, e)
+    by : (words : List (List ℕ)) → is_empty words ≡ false → nat_le 1 (length words) ≡ true
+    by [] e = cc
+    by (text ∷ words) e = one_more text words
 
 -- a word is among those of candidates where one of these has it
 pub word_among : (test : List ℕ → Bool) (cands : List Cand) → list_any (λ (cand : Cand). test cand.word) cands ≡ list_any test (words_of cands)
@@ -77,12 +79,12 @@ first_noted (other ∷ cands) cand e = by (same_text other.word cand.word) refl 
     by true same rest = ap (λ word. record { word = word; note = other.note }) (same_equal other.word cand.word same)
     by false none rest = rest
 
-pub first_without_note : (cands : List Cand) (cand : Cand) → byte_len cand.note ≡ 0
+pub first_without_note : (cands : List Cand) (cand : Cand) → is_empty cand.note ≡ true
     → unwrap_or (find (λ other. same_text other.word cand.word) cands) cand ≡ record { word = cand.word; note = learnt_note cands cand }
 first_without_note cands cand e =
-    let empty : cand.note ≡ [] = by cand.note e in
-    first_noted cands cand empty ∙ sym (ap (λ note. record { word = cand.word; note = cond (has_item note) cand.note (note_of cands cand.word) }) empty)
+    first_noted cands cand (by cand.note e)
+    ∙ sym (ap (λ b. record { word = cand.word; note = cond b (note_of cands cand.word) cand.note }) e)
   where
-    by : (note : List ℕ) → byte_len note ≡ 0 → note ≡ []
+    by : (note : List ℕ) → is_empty note ≡ true → note ≡ []
     by [] f = refl
-    by (c ∷ note) f = absurd (omega (arith, f, length-le-encodes (c ∷ note)))
+    by (c ∷ note) f = cc

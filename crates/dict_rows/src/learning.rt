@@ -3,9 +3,9 @@ ghost use Rattle.std.specs.Option.{option_copied, IfSome};
 ghost use Rattle.skk_calls.specs.Learning.{learnt, learnt_cands, learnt_note};
 ghost use Rattle.skk_calls.specs.Rows.{same_text};
 
-use crate::before::{blocks_of, cands_of, hides_of};
 use crate::copying::{add_cands_without, is_same, texts_without};
 use crate::learnt_blocks::learnt_blocks;
+use crate::row_or_empty::{blocks_of, cands_of, hides_of};
 use dict_laws::changed_rows_are_rows;
 use skk_calls::{Cand, Cands, Okuri, Row, RowKey};
 use skk_text::{Copies, Memory, Text};
@@ -46,7 +46,7 @@ fn learnt_cands(alloc: Global, cands: &[Cand], cand: &Cand) -> Result<Cands, Mem
 fn first_cand<'a>(cands: &'a [Cand], cand: &'a Cand) -> &'a Cand
     ensures { result.now ≡ record { word = cand.now.word; note = learnt_note cands.now cand.now } }
 {
-    if cand.note().byte_len() > 0 {
+    if !cand.note().is_empty() {
         return cand;
     }
     cand_of(cands, cand.word()).unwrap_or(cand)

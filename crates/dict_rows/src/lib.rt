@@ -5,12 +5,12 @@
 //! (`learnt`, `purged`), and so is the line whose length it gives.
 #![tactic(auto)]
 
-mod before;
 mod copying;
 mod learning;
 mod learnt_blocks;
 mod length;
 mod purging;
+mod row_or_empty;
 #[cfg(test)]
 mod tests;
 

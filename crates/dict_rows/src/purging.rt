@@ -1,12 +1,12 @@
 ghost use Rattle.std.specs.Prelude.{◌≡◌, ◌||◌, true, not, IfOk, Some, None, if◌then◌else◌};
 ghost use Rattle.std.specs.List.{list_any};
 ghost use Rattle.std.specs.Option.{option_copied, IfSome};
-ghost use Rattle.skk_calls.specs.Canonical.{has_item};
+ghost use Rattle.skk_text.specs.Lists.{is_empty};
 ghost use Rattle.skk_calls.specs.Learning.{purged, purge_changes, block_without, blocks_without, hides_with, without_text};
 ghost use Rattle.skk_calls.specs.Rows.{RowKey as key_value, has_text, is_word, words_of};
 
-use crate::before::{blocks_of, cands_of, hides_of};
 use crate::copying::{cands_without, has_text, is_same, texts_without};
+use crate::row_or_empty::{blocks_of, cands_of, hides_of};
 use dict_laws::changed_rows_are_rows;
 use skk_calls::{Block, Blocks, Cand, Row, RowKey};
 use skk_text::{Copies, Memory, Text, Texts, copies_of};
@@ -92,10 +92,11 @@ fn blocks_without(alloc: Global, blocks: &[Block], word: &Text) -> Result<Blocks
 
 // A copy of a block without a word, unless no word is left.
 fn block_without(alloc: Global, block: &Block, word: &Text) -> Result<Option<Block>, Memory>
-    ensures { IfOk result (λ left. left ≡ (if has_item (without_text word.now block.now.words) then Some (block_without word.now block.now) else None)) }
+    ensures { IfOk result (λ left. left
+        ≡ (if is_empty (without_text word.now block.now.words) then None else Some (block_without word.now block.now))) }
 {
     let words = texts_without(alloc, block.words().as_slice(), word)?;
-    if words.len() == 0 {
+    if words.is_empty() {
         return Ok(None);
     }
     Ok(Some(Block::new(block.okuri().copy(alloc)?, words)))

@@ -74,7 +74,7 @@ fn key(alloc: Global, reading: &str) -> Result<RowKey, Fail> {
 }
 
 // The row after a candidate is learnt, with an okurigana that may be empty.
-fn learnt_with(
+fn learnt_row_with(
     alloc: Global,
     row: Option<&Row>,
     key: &RowKey,
@@ -93,7 +93,7 @@ fn learnt_with(
 }
 
 // The row after a candidate is learnt, which may have its okurigana behind a `*`.
-fn learnt(
+fn learnt_row(
     alloc: Global,
     row: Option<&Row>,
     key: &RowKey,
@@ -105,12 +105,12 @@ fn learnt(
 {
     let (entry, okuri) = entry.split_once('*').unwrap_or((entry, ""));
     let cand = cand(alloc, entry)?;
-    learnt_with(alloc, row, key, okuri, &cand, stamp)
+    learnt_row_with(alloc, row, key, okuri, &cand, stamp)
 }
 
 // The row after a word is purged, or none where nothing changes.
 #[tactic(auto, using(crate::proofs::Blocks::cand_word))]
-fn purged(
+fn purged_row(
     alloc: Global,
     row: Option<&Row>,
     key: &RowKey,
@@ -125,7 +125,7 @@ fn purged(
 }
 
 // The row after a change of the tables, or none where nothing changes.
-fn changed(
+fn changed_row(
     alloc: Global,
     row: Option<&Row>,
     key: &RowKey,
@@ -136,10 +136,10 @@ fn changed(
     ensures { IfOk result (λ after. IfSome after (λ after. after.key ≡ key.now)) }
 {
     match change.strip_prefix('-') {
-        Some(word) => purged(alloc, row, key, word, stamp),
+        Some(word) => purged_row(alloc, row, key, word, stamp),
         None => {
             let entry = change.strip_prefix('+').ok_or("no change")?;
-            Ok(Some(learnt(alloc, row, key, entry, stamp)?))
+            Ok(Some(learnt_row(alloc, row, key, entry, stamp)?))
         }
     }
 }
@@ -150,7 +150,7 @@ fn row_after(alloc: Global, key: &RowKey, changes: &str) -> Result<Option<Row>, 
     let mut stamp = 0u64;
     for change in changes.split_whitespace() {
         stamp = stamp.saturating_add(1);
-        if let Some(after) = changed(alloc, row.as_ref(), key, change, stamp)? {
+        if let Some(after) = changed_row(alloc, row.as_ref(), key, change, stamp)? {
             row = Some(after);
         }
     }
@@ -193,7 +193,7 @@ fn show_blocks(shown: &mut String, row: &Row) -> Result<(), AllocError> {
 }
 
 // A row as the table has it.
-fn shown(alloc: Global, row: &Row) -> Result<String, AllocError> {
+fn row_text(alloc: Global, row: &Row) -> Result<String, AllocError> {
     let mut shown = String::new(alloc);
     show_cands(&mut shown, row)?;
     shown.push('&')?;
@@ -213,9 +213,9 @@ fn row_of(alloc: Global, case: &str) -> Result<Row, Fail> {
 }
 
 // The row that a case makes, as the table has it.
-fn shown_after(alloc: Global, case: &str) -> Result<String, Fail> {
+fn row_text_after(alloc: Global, case: &str) -> Result<String, Fail> {
     let row = row_of(alloc, case)?;
-    Ok(shown(alloc, &row)?)
+    Ok(row_text(alloc, &row)?)
 }
 
 // The bytes of the line that a case makes.
@@ -230,7 +230,7 @@ fn changes_make_rows(rt: HostRuntime) -> Result<(), Fail> {
     assert_eq!(rt; CHANGES.trim().lines().count(), 14);
     for line in CHANGES.trim().lines() {
         let (case, wanted) = line.split_once(" = ").ok_or("no ` = `")?;
-        let shown = shown_after(alloc, case)?;
+        let shown = row_text_after(alloc, case)?;
         assert_eq!(rt; shown.as_str(), wanted, "after {case}");
     }
     Ok(())

@@ -1,6 +1,6 @@
-use Rattle.std.proofs.Common.{◌≡◌, ◌∙◌, Option, None, Some, Bor, find, refl, ap, arith}
+use Rattle.std.proofs.Common.{◌≡◌, ◌∙◌, Option, None, Some, Bor, find, refl, sym, ap}
 use Rattle.std.specs.Option.{option_copied, unwrap_or}
-use Rattle.skk_text.specs.Text.{byte_len}
+use Rattle.skk_text.specs.Lists.{is_empty}
 use Rattle.skk_calls.specs.declared.cand.Cand.{Cand as DeclaredCand}
 use Rattle.skk_calls.specs.Rows.{same_text}
 use Rattle.dict_rows.proofs.Blocks.{first_without_note}
@@ -16,4 +16,4 @@ returns c =
     let cand = c.args.cand.now in
     ap (λ other. other.now) c.unwrap_or.ensures ∙ found_or c.cand_of.result c.args.cand
     ∙ ap (λ other. unwrap_or other cand) (c.cand_of.ensures ∙ ap (λ word. find (λ other. same_text other.word word) c.args.cands.now) c.word.ensures.value)
-    ∙ first_without_note c.args.cands.now cand (omega (arith, c.byte_len.ensures, ap byte_len c.note.ensures.value, c.if-byte_len-gt0.false))
+    ∙ first_without_note c.args.cands.now cand (sym (c.is_empty.ensures ∙ ap is_empty c.note.ensures.value) ∙ c.if-not-is_empty.false)
