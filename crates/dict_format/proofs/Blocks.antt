@@ -1,5 +1,5 @@
 -- Blocks are joined by their okurigana.
-use Rattle.std.proofs.Common.{◌≡◌, ℕ, ◌+◌, suc, Bool, true, false, ◌||◌, if◌then◌else◌, String, List, [], ◌∷◌, ◌++◌, map, get_or, length, ◌<◌, refl, sym, ap, ◌∙◌, arith}
+use Rattle.std.proofs.Common.{◌≡◌, not, ℕ, ◌+◌, suc, Bool, true, false, ◌||◌, if◌then◌else◌, String, List, [], ◌∷◌, ◌++◌, map, get_or, length, ◌<◌, refl, sym, ap, ◌∙◌, arith}
 use Rattle.std.specs.declared.alloc.Global.{Global}
 use Rattle.std.specs.List.{list_any, filter, flat_map, position_or_len}
 use Rattle.std.proofs.Math.ListN.{set}
@@ -7,8 +7,8 @@ use Rattle.std.proofs.lemmas.Bool.{or_parts, both_ways}
 use Rattle.std.proofs.lemmas.List.{append-nil, map-append, length-map}
 use Rattle.std.proofs.lemmas.List.Elements.{filter-append}
 use Rattle.std.proofs.lemmas.Grind.{flat_map-append}
+use Rattle.skk_text.specs.Lists.{is_empty}
 use Rattle.skk_calls.specs.KeyLaws.{same_equal, same_itself, same_other}
-use Rattle.skk_calls.specs.Canonical.{has_item}
 use Rattle.skk_calls.specs.DifferLaws.{differ_parts}
 use Rattle.skk_calls.specs.Found.{first_of_each}
 use Rattle.skk_calls.specs.Rows.{Block, same_text, has_text, texts_differ, is_okuri}
@@ -213,13 +213,13 @@ joined-made okuris groups blocks joins =
     ∙ made_blocks-is words_of (first_of_each (λ b. b.okuri) [] blocks)
 
 -- a block has a word where its strings have one
-pub has_word-is : (okuri : String Global) (words : List (String Global)) (result : Bool) → result ≡ list_any (λ word. has_item (characters word)) words
+pub has_word-is : (okuri : String Global) (words : List (String Global)) (result : Bool) → result ≡ list_any (λ word. not (is_empty (characters word))) words
     → has_word (record { okuri = characters okuri; words = map characters words }) ≡ result
 has_word-is okuri words result e = of words ∙ sym e
   where
-    of : (strings : List (String Global)) → list_any has_item (map characters strings) ≡ list_any (λ word. has_item (characters word)) strings
+    of : (strings : List (String Global)) → list_any (λ word. not (is_empty word)) (map characters strings) ≡ list_any (λ word. not (is_empty (characters word))) strings
     of [] = refl
-    of (string ∷ strings) = ap (λ b. has_item (characters string) || b) (of strings)
+    of (string ∷ strings) = ap (λ b. not (is_empty (characters string)) || b) (of strings)
 
 -- the first okurigana makes its block before those of the others
 pub made_blocks-cons : (okuri : List ℕ) (words : List (List ℕ)) (okuris : List (List ℕ)) (more : List (List (List ℕ)))

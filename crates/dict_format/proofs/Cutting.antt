@@ -1,11 +1,11 @@
 -- A list cut at the first item that passes a test.
-use Rattle.std.proofs.Common.{◌≡◌, ◌<◌, ◌≤◌, ℕ, ◌+◌, zero, suc, Bool, true, false, not, map, ◌==◌, cond, nat_lt, Option, None, Some, List, [], ◌∷◌, ◌++◌, length, take, drop, refl, ap, ◌∙◌, arith}
-use Rattle.skk_calls.specs.Canonical.{has_item}
+use Rattle.std.proofs.Common.{◌≡◌, ◌<◌, ◌≤◌, ℕ, ◌+◌, zero, suc, Bool, true, false, not, map, ◌==◌, cond, nat_lt, Option, None, Some, List, [], ◌∷◌, ◌++◌, length, take, drop, refl, sym, ap, ◌∙◌, arith}
 use Rattle.std.specs.List.{list_all, position, position_or_len, prefix_len}
 use Rattle.std.proofs.lemmas.List.{length-map, take-map}
 use Rattle.std.specs.Option.{option_map}
 use Rattle.std.proofs.lemmas.Bool.{and_from, and_parts, both_ways, not-true, not_from_false, ltb-true, ltb-false, lt-ltb, le-ltb, ne_eqb}
 use Rattle.std.proofs.lemmas.Option.{some_pair_parts}
+use Rattle.skk_text.specs.Lists.{is_empty}
 use Rattle.dict_format.specs.Reading.{cut}
 
 module _ {X : Type 0} (test : X → Bool) where
@@ -109,15 +109,15 @@ module _ {X : Type 0} (test : X → Bool) where
       let parts = and_parts (fails x) (list_all fails xs) none in
       rw (not-true (test x) parts.0, cut-nowhere xs parts.1) refl
 
--- there is an item where the length is not 0
-pub has_some_not_empty : {X : Type 0} (xs : List X) → has_item xs ≡ not (length xs == 0)
-has_some_not_empty [] = refl
-has_some_not_empty (x ∷ xs) = let more : (suc (length xs) == 0) ≡ false = ne_eqb (suc (length xs)) 0 (λ e. omega arith) in rw more refl
+-- a list is empty where its length is 0
+pub empty_by_length : {X : Type 0} (xs : List X) → is_empty xs ≡ (length xs == 0)
+empty_by_length [] = refl
+empty_by_length (x ∷ xs) = sym (ne_eqb (suc (length xs)) 0 (λ e. omega arith))
 
--- also of what is made of each
-pub has_some-map : {X Y : Type 0} (f : X → Y) (xs : List X) → has_item (map f xs) ≡ has_item xs
-has_some-map f [] = refl
-has_some-map f (x ∷ xs) = refl
+-- and where that of what is made of each is
+pub is_empty-map : {X Y : Type 0} (f : X → Y) (xs : List X) → is_empty (map f xs) ≡ is_empty xs
+is_empty-map f [] = refl
+is_empty-map f (x ∷ xs) = refl
 
 module _ {X Y : Type 0} (f : X → Y) (test : Y → Bool) where
   -- as many images stand before the first that passes as items
@@ -142,13 +142,13 @@ module _ {X Y : Type 0} (f : X → Y) (test : Y → Bool) where
       by (Some at) = ap (λ (ys : List Y). Some (ys, drop (at + 1) (map f xs))) (take-map f at xs)
 
 -- items are left before the end, and none behind it
-pub has_some-drop : {X : Type 0} (xs : List X) (n : ℕ) → n < length xs → has_item (drop n xs) ≡ true
-has_some-drop [] n lt = absurd (omega arith)
-has_some-drop (x ∷ xs) zero lt = refl
-has_some-drop (x ∷ xs) (suc n) lt = has_some-drop xs n (omega arith)
+pub is_empty-drop_before : {X : Type 0} (xs : List X) (n : ℕ) → n < length xs → is_empty (drop n xs) ≡ false
+is_empty-drop_before [] n lt = absurd (omega arith)
+is_empty-drop_before (x ∷ xs) zero lt = refl
+is_empty-drop_before (x ∷ xs) (suc n) lt = is_empty-drop_before xs n (omega arith)
 
-pub has_none-drop : {X : Type 0} (xs : List X) (n : ℕ) → length xs ≤ n → has_item (drop n xs) ≡ false
-has_none-drop [] zero le = refl
-has_none-drop [] (suc n) le = refl
-has_none-drop (x ∷ xs) zero le = absurd (omega arith)
-has_none-drop (x ∷ xs) (suc n) le = has_none-drop xs n (omega arith)
+pub is_empty-drop_behind : {X : Type 0} (xs : List X) (n : ℕ) → length xs ≤ n → is_empty (drop n xs) ≡ true
+is_empty-drop_behind [] zero le = refl
+is_empty-drop_behind [] (suc n) le = refl
+is_empty-drop_behind (x ∷ xs) zero le = absurd (omega arith)
+is_empty-drop_behind (x ∷ xs) (suc n) le = is_empty-drop_behind xs n (omega arith)

@@ -1,10 +1,10 @@
 -- The definitions at work: the row that items make, and what a text says.
 use Rattle.std.proofs.Common.{◌≡◌, true, false, [], ◌∷◌, codes, refl}
 use Rattle.skk_calls.specs.declared.part.Part.TheVariants.{Nasi, Ari}
-use Rattle.skk_calls.specs.Rows.{RowKey}
+use Rattle.skk_calls.specs.Rows.{RowKey, reading_limit}
 use Rattle.dict_format.specs.Items.{before_note, note_of_text, opens_block, closes_block}
 use Rattle.dict_format.specs.Items.Item.{candidate, block, mark}
-use Rattle.dict_format.specs.Reasons.{is_bad_reading, reading_limit, lacks_letter, is_slashed}
+use Rattle.dict_format.specs.Reasons.{is_bad_reading, lacks_letter, is_slashed}
 use Rattle.dict_format.specs.RowOfItems.{row_of_items, says_something}
 
 -- Rows

@@ -1,12 +1,12 @@
 -- Reading items is the relation: texts are read as the items that they spell, and only as these.
 use Rattle.std.proofs.Common.{◌≡◌, ◌<◌, ℕ, ◌+◌, true, false, not, cond, inl, inr, Option, None, Some, List, [], ◌∷◌, ◌++◌, codes, map, length, take, drop, ◌-◌, Bor, refl, sym, ap, ◌∙◌, subst, arith, length-append, length-drop, append_assoc}
-use Rattle.skk_calls.specs.Canonical.{has_item}
 use Rattle.std.specs.List.{flat_map, list_all, AllByRecursion}
 use Rattle.std.specs.Option.{option_map}
 use Rattle.std.proofs.lemmas.Bool.{and_parts, and_from, eqb-true, both_ways}
 use Rattle.std.proofs.lemmas.List.{append-nil, take_all, drop-map, drop-drop}
 use Rattle.std.proofs.lemmas.Option.{some_pair_parts, none-some, same_Some}
 use Rattle.std.proofs.lemmas.Slice.Eq.{bytes_eq-Decides}
+use Rattle.skk_text.specs.Lists.{is_empty}
 use Rattle.skk_calls.specs.declared.part.Part.{Part}
 use Rattle.skk_calls.specs.declared.part.Part.TheVariants.{Nasi, Ari}
 use Rattle.dict_format.specs.Items.{Item, SpellsItem, SpellsItems, before_note, note_of_text, opens_block, closes_block}
@@ -181,18 +181,18 @@ unfolding item_at
 no_item part = refl
 
 -- a list without an item is empty
-pub empty_list : {X : Type 0} (xs : List X) → has_item xs ≡ false → xs ≡ []
+pub empty_list : {X : Type 0} (xs : List X) → is_empty xs ≡ true → xs ≡ []
 empty_list [] e = refl
-empty_list (x ∷ xs) e = absurd (both_ways true e refl)
+empty_list (x ∷ xs) e = absurd (both_ways false refl e)
 
 pub items_at-sound : (part : Part) (texts : List (List ℕ)) (items : List Item) → items_at part texts ≡ Some items → SpellsItems part texts items
 unfolding items_at
 items_at-sound part texts items e =
     let parts = taken (item_at part) texts in
     let all = IsTaken-taken (item_at part) (items_shrink part) (SpellsItem part) (item_at-sound part) texts in
-    elim (chosen (has_item parts.1) _ _ _ e) [
-      | inl none ↦ absurd (none-some items none.1)
-      | inr some ↦
+    elim (chosen (is_empty parts.1) _ _ _ e) [
+      | inr none ↦ absurd (none-some items none.1)
+      | inl some ↦
           record {
             pieces = all.pieces;
             spelled = all.each;
@@ -217,7 +217,7 @@ items_at-none Nasi texts e =
     let all = IsTaken-taken (item_at Nasi) (items_shrink Nasi) (SpellsItem Nasi) (item_at-sound Nasi) texts in
     absurd (by parts.1 all.ends e)
   where
-    by : (rest : List (List ℕ)) → item_at Nasi rest ≡ None → cond (has_item rest) None (Some (taken (item_at Nasi) texts).0) ≡ None → ⊥
+    by : (rest : List (List ℕ)) → item_at Nasi rest ≡ None → cond (is_empty rest) (Some (taken (item_at Nasi) texts).0) None ≡ None → ⊥
     by [] ends e = none-some _ (sym e)
     by (text ∷ rest) ends e = none-some _ (sym ends)
 

@@ -5,9 +5,9 @@ use Rattle.std.proofs.lemmas.Bool.{and_parts, and_from, and_left, and_right, or_
 use Rattle.skk_text.specs.Text.{byte_len}
 use Rattle.skk_calls.specs.declared.part.Part.{Part}
 use Rattle.skk_calls.specs.declared.part.Part.TheVariants.{Nasi, Ari}
-use Rattle.skk_calls.specs.Rows.{is_row_key, begins_well, is_reading_char, fits_part}
+use Rattle.skk_calls.specs.Rows.{is_row_key, begins_well, is_reading_char, fits_part, reading_limit}
 use Rattle.dict_format.specs.Lines.{lacks}
-use Rattle.dict_format.specs.Reasons.{is_control, is_bad_reading, reading_limit, lacks_letter}
+use Rattle.dict_format.specs.Reasons.{is_control, is_bad_reading, lacks_letter}
 
 -- a character that is no space and no control character may stand in a reading
 reading_char : (c : ℕ) → (c == 0x20) ≡ false → is_control c ≡ false → is_reading_char c ≡ true
@@ -27,8 +27,12 @@ reading_chars (c ∷ reading) none control =
 
 -- a reading that is short enough fits its part where it has its letter
 fits_part-is : (part : Part) (reading : List ℕ) → nat_lt (reading_limit part) (byte_len reading) ≡ false → fits_part part reading ≡ not (lacks_letter part reading)
-fits_part-is Nasi reading short = le-leb (byte_len reading) 254 (ltb-false 254 (byte_len reading) short)
-fits_part-is Ari reading short = rw (le-leb (byte_len reading) 255 (ltb-false 255 (byte_len reading) short)) (sym (twice _))
+fits_part-is Nasi reading short =
+    let limit = reading_limit Nasi in
+    le-leb (byte_len reading) limit (ltb-false limit (byte_len reading) short)
+fits_part-is Ari reading short =
+    let limit = reading_limit Ari in
+    rw (le-leb (byte_len reading) limit (ltb-false limit (byte_len reading) short)) (sym (twice _))
   where
     twice : (b : Bool) → not (not b) ≡ b
     twice true = refl
@@ -71,8 +75,12 @@ key_bad part reading e =
 
 -- nor is one that is too long
 long_part : (part : Part) (reading : List ℕ) → nat_lt (reading_limit part) (byte_len reading) ≡ true → fits_part part reading ≡ false
-long_part Nasi reading e = lt-leb (byte_len reading) 254 (ltb-true 254 (byte_len reading) e)
-long_part Ari reading e = and_left (nat_le (byte_len reading) 255) _ (lt-leb (byte_len reading) 255 (ltb-true 255 (byte_len reading) e))
+long_part Nasi reading e =
+    let limit = reading_limit Nasi in
+    lt-leb (byte_len reading) limit (ltb-true limit (byte_len reading) e)
+long_part Ari reading e =
+    let limit = reading_limit Ari in
+    and_left (nat_le (byte_len reading) limit) _ (lt-leb (byte_len reading) limit (ltb-true limit (byte_len reading) e))
 
 pub key_long : (part : Part) (reading : List ℕ) → nat_lt (reading_limit part) (byte_len reading) ≡ true → is_row_key (record { part = part; reading = reading }) ≡ false
 key_long part reading e =

@@ -7,7 +7,7 @@ use Rattle.skk_text.specs.Text.{byte_len}
 use Rattle.skk_text.specs.Results.{AnswersUnless}
 use Rattle.skk_calls.specs.declared.part.Part.{Part}
 use Rattle.skk_calls.specs.Canonical.{line_limit}
-use Rattle.skk_calls.specs.Rows.{Row, RowKey, is_row_key}
+use Rattle.skk_calls.specs.Rows.{Row, RowKey, is_row_key, reading_limit}
 use Rattle.dict_format.specs.declared.reason.LineFault.{LineFault}
 use Rattle.dict_format.specs.declared.reason.LineFault.TheVariants.{Reason, Memory}
 use Rattle.dict_format.specs.declared.reason.LineReason.{LineReason}
@@ -15,7 +15,7 @@ use Rattle.dict_format.specs.declared.reason.LineReason.TheVariants as reason
 use Rattle.dict_format.specs.Items.{Item, SpellsItems}
 use Rattle.dict_format.specs.Lines.{HasBody, HasTexts, SpellsRow}
 use Rattle.dict_format.specs.Reading.{cut, is_space, without_spaces, texts_at, items_at, or_reason, and_then, key_at, fit_items_at, some_row_of, row_reading, line_reading}
-use Rattle.dict_format.specs.Reasons.{is_bad_reading, reading_limit, lacks_letter, is_slashed, Fits, reasons, IsReason}
+use Rattle.dict_format.specs.Reasons.{is_bad_reading, lacks_letter, is_slashed, Fits, reasons, IsReason}
 use Rattle.dict_format.specs.RowOfItems.{item_fits, row_of_items, says_something}
 use Rattle.dict_format.specs.Views.{Gives}
 use Rattle.dict_format.proofs.Cutting.{cut-none, cut-nowhere}

@@ -1,12 +1,12 @@
 -- The texts between the slashes of a line.
 use Rattle.std.proofs.Common.{◌≡◌, ◌≢◌, ◌≤◌, ℕ, ◌-◌, zero, suc, Bool, true, false, not, ◌==◌, ◌&&◌, nat_le, nat_eq, if◌then◌else◌, inl, inr, None, Some, List, [], ◌∷◌, ◌++◌, codes, map, length, take, drop, replicate, refl, sym, ap, ◌∙◌, arith, length-append, append_assoc}
-use Rattle.skk_calls.specs.Canonical.{has_item}
 use Rattle.std.specs.List.{flat_map, list_all, AllByRecursion, starts_with, ends_with}
 use Rattle.std.proofs.lemmas.Bool.{and_parts, and_from, eqb-true, both_ways, not-true, not_from_false, le-leb}
 use Rattle.std.proofs.lemmas.Bool.Decides.{Decides-eqb}
 use Rattle.std.proofs.lemmas.List.{append-nil}
 use Rattle.std.proofs.lemmas.Option.{none-some, same_Some}
 use Rattle.std.proofs.lemmas.Slice.Eq.{starts_is, ends_is}
+use Rattle.skk_text.specs.Lists.{is_empty}
 use Rattle.skk_calls.specs.Canonical.{with_slash}
 use Rattle.dict_format.specs.Lines.{lacks, begins_without_space, HasBody, HasTexts}
 use Rattle.dict_format.specs.Reading.{cut, taken, is_slash, is_space, without_spaces, texts_at}
@@ -115,10 +115,11 @@ pieces_of_texts (text ∷ texts) none =
     )
 
 -- a list that has an item is not empty, and the other way round
-some_is : {X : Type 0} (xs : List X) → has_item xs ≡ true → xs ≢ []
-some_is xs e none = both_ways (has_item xs) (ap has_item none) e
+some_is : {X : Type 0} (xs : List X) → not (is_empty xs) ≡ true → xs ≢ []
+some_is [] e none = both_ways false refl e
+some_is (x ∷ xs) e none = cc
 
-is_some_list : {X : Type 0} (xs : List X) → xs ≢ [] → has_item xs ≡ true
+is_some_list : {X : Type 0} (xs : List X) → xs ≢ [] → not (is_empty xs) ≡ true
 is_some_list [] some = absurd (some refl)
 is_some_list (x ∷ xs) some = refl
 
@@ -133,10 +134,10 @@ texts-sound [] texts e = absurd (none-some texts e)
 texts-sound (c ∷ rest) texts e =
     let parts = taken (cut is_slash) rest in
     let all = taken_texts rest in
-    elim (chosen (is_slash c && (has_item parts.0 && not (has_item parts.1))) _ _ _ e) [
+    elim (chosen (is_slash c && (not (is_empty parts.0) && is_empty parts.1)) _ _ _ e) [
       | inl some ↦
-          let tests = and_parts (is_slash c) (has_item parts.0 && not (has_item parts.1)) some.0 in
-          let more = and_parts (has_item parts.0) (not (has_item parts.1)) tests.1 in
+          let tests = and_parts (is_slash c) (not (is_empty parts.0) && is_empty parts.1) some.0 in
+          let more = and_parts (not (is_empty parts.0)) (is_empty parts.1) tests.1 in
           let same = same_Some parts.0 texts some.1 in
           let of = texts_of_pieces all.pieces all.each in
           let items : texts ≡ map (λ piece. piece.1) all.pieces = sym same ∙ all.items_are in
@@ -144,7 +145,7 @@ texts-sound (c ∷ rest) texts e =
             some_text = λ none. some_is parts.0 more.0 (same ∙ none);
             body_is =
                 ap (λ d. d ∷ rest) (eqb-true c 0x2F tests.0)
-                ∙ ap (λ ys. 0x2F ∷ ys) (all.list_is ∙ ap (λ ys. flat_map (λ piece. piece.0) all.pieces ++ ys) (empty_list parts.1 (not-true (has_item parts.1) more.1)) ∙ append-nil (flat_map (λ piece. piece.0) all.pieces) ∙ of.0 ∙ ap (flat_map with_slash) (sym items));
+                ∙ ap (λ ys. 0x2F ∷ ys) (all.list_is ∙ ap (λ ys. flat_map (λ piece. piece.0) all.pieces ++ ys) (empty_list parts.1 more.1) ∙ append-nil (flat_map (λ piece. piece.0) all.pieces) ∙ of.0 ∙ ap (flat_map with_slash) (sym items));
             no_slash = ap (list_all (lacks 0x2F)) items ∙ of.1;
           }
       | inr none ↦ absurd (none-some texts none.1)
@@ -160,7 +161,7 @@ texts-complete body texts has =
     ∙ taken-pieces (cut is_slash) texts_shrink IsEnded text-complete pieces.0 [] pieces.1 refl
     ∙ ap (λ (ts : List (List ℕ)). (ts, [])) (sym pieces.3) in
     ap texts_at has.body_is
-    ∙ ap (λ (parts : List (List ℕ) × List ℕ). if has_item parts.0 && not (has_item parts.1) then Some parts.0 else None) read
+    ∙ ap (λ (parts : List (List ℕ) × List ℕ). if not (is_empty parts.0) && is_empty parts.1 then Some parts.0 else None) read
     ∙ ap (λ b. if b && true then Some texts else None) (is_some_list texts has.some_text)
 
 -- Slashes at both ends
@@ -210,20 +211,20 @@ slashed-some c d rest slashed =
     let last : ends_slash (d ∷ rest) ≡ true = ap ends_slash ends ∙ ends_slash-append (take (length body - length (codes "/")) body) 0x2F [] in
     let parts = taken (cut is_slash) (d ∷ rest) in
     let all = taken_texts (d ∷ rest) in
-    let nothing : has_item parts.1 ≡ false = none_left (flat_map (λ piece. piece.0) all.pieces) parts.1 all.list_is (cut-none is_slash parts.1 all.ends) last in
-    let something : has_item parts.0 ≡ true = some_taken all.pieces parts.1 parts.0 all.list_is all.items_are nothing in
+    let nothing : is_empty parts.1 ≡ true = none_left (flat_map (λ piece. piece.0) all.pieces) parts.1 all.list_is (cut-none is_slash parts.1 all.ends) last in
+    let something : is_empty parts.0 ≡ false = some_taken all.pieces parts.1 parts.0 all.list_is all.items_are nothing in
     (parts.0, rw (slash, something, nothing) refl)
   where
-    none_left : (front left : List ℕ) → d ∷ rest ≡ front ++ left → lacks 0x2F left ≡ true → ends_slash (d ∷ rest) ≡ true → has_item left ≡ false
+    none_left : (front left : List ℕ) → d ∷ rest ≡ front ++ left → lacks 0x2F left ≡ true → ends_slash (d ∷ rest) ≡ true → is_empty left ≡ true
     none_left front [] is lack ends = refl
     none_left front (x ∷ xs) is lack ends =
         absurd (both_ways (ends_slash (d ∷ rest)) (ap ends_slash is ∙ ends_slash-append front x xs ∙ ends_slash-lacks (x ∷ xs) lack) ends)
 
     some_taken : (pieces : Pieces) (left : List ℕ) (texts : List (List ℕ)) → d ∷ rest ≡ flat_map (λ piece. piece.0) pieces ++ left → texts ≡ map (λ piece. piece.1) pieces
-        → has_item left ≡ false → has_item texts ≡ true
+        → is_empty left ≡ true → is_empty texts ≡ false
     some_taken [] [] texts is items none = cc
-    some_taken [] (x ∷ xs) texts is items none = absurd (both_ways true none refl)
-    some_taken (piece ∷ pieces) left texts is items none = ap has_item items
+    some_taken [] (x ∷ xs) texts is items none = absurd (both_ways false refl none)
+    some_taken (piece ∷ pieces) left texts is items none = ap (λ (ts : List (List ℕ)). is_empty ts) items
 
 pub slashed-none : (body : List ℕ) → texts_at body ≡ None → is_slashed body ≡ false
 slashed-none [] e = refl

@@ -1,10 +1,11 @@
 -- The canonical line of a good row spells that row.
-use Rattle.std.proofs.Common.{◌≡◌, ◌≢◌, ℕ, ◌+◌, Bool, true, false, ◌&&◌, ◌||◌, nat_le, List, [], ◌∷◌, ◌++◌, map, length, refl, sym, ap, ◌∙◌, arith, append_assoc}
+use Rattle.std.proofs.Common.{◌≡◌, ◌≢◌, not, ℕ, ◌+◌, Bool, true, false, ◌&&◌, ◌||◌, nat_le, List, [], ◌∷◌, ◌++◌, map, length, refl, sym, ap, ◌∙◌, arith, append_assoc}
 use Rattle.std.specs.List.{flat_map, list_all}
 use Rattle.std.proofs.lemmas.Bool.{and_parts, and_from, both_ways, leb-true}
 use Rattle.std.proofs.lemmas.List.Folds.{list_all-append, list_all-map}
+use Rattle.skk_text.specs.Lists.{is_empty}
 use Rattle.skk_text.specs.Text.{byte_len}
-use Rattle.skk_calls.specs.Canonical.{canonical, item, with_slash, mark_items, items as row_items_written, has_item, is_good, line_limit}
+use Rattle.skk_calls.specs.Canonical.{canonical, item, with_slash, mark_items, items as row_items_written, is_good, line_limit}
 use Rattle.skk_calls.specs.Rows.{Cand, Block, Row, texts_differ, begins_well, is_row_key, is_reading_char, is_cand, is_note, is_word, is_block, is_row, fits_blocks, fits_part, word_limit, words_of, okuri_of}
 use Rattle.dict_format.specs.Items.{Item, SpellsItem, SpellsItems}
 use Rattle.dict_format.specs.Lines.{lacks, HasBody, HasTexts, SpellsRow}
@@ -20,9 +21,22 @@ pub record GoodRow (row : Row) : Type 0 where
   pub cands : list_all is_cand row.cands ≡ true
   part : fits_blocks row.key.part row.blocks ≡ true
   pub blocks : list_all is_block row.blocks ≡ true
-  something : (has_item row.cands || (has_item row.blocks || has_item row.hides)) ≡ true
+  something : (not (is_empty row.cands) || (not (is_empty row.blocks) || not (is_empty row.hides))) ≡ true
   pub hides : list_all is_word row.hides ≡ true
   not_long : nat_le (byte_len (canonical row)) line_limit ≡ true
+
+-- a good row says something
+good_says : (row : Row) → is_good row ≡ true
+    → (not (is_empty row.cands) || (not (is_empty row.blocks) || not (is_empty row.hides))) ≡ true
+good_says row good = by row.cands row.blocks row.hides good
+  where
+    by : (cs : List Cand) (bs : List Block) (hs : List (List ℕ))
+        → is_good (record row { cands = cs; blocks = bs; hides = hs }) ≡ true
+        → (not (is_empty cs) || (not (is_empty bs) || not (is_empty hs))) ≡ true
+    by [] [] [] e = e
+    by [] [] (h ∷ hs) e = refl
+    by [] (b ∷ bs) hs e = refl
+    by (c ∷ cs) bs hs e = refl
 
 pub good_row : (row : Row) → is_row row ≡ true → is_good row ≡ true → GoodRow row
 good_row row valid good =
@@ -34,7 +48,7 @@ good_row row valid good =
     let most = and_parts all_blocks (texts_differ row.hides) inner.1 in
     let two = and_parts (fits_blocks row.key.part row.blocks && list_all is_block row.blocks) (texts_differ (okuri_of row.blocks)) most.0 in
     let blocks = and_parts (fits_blocks row.key.part row.blocks) (list_all is_block row.blocks) two.0 in
-    let says = and_parts (has_item row.cands || (has_item row.blocks || has_item row.hides)) _ good in
+    let says = and_parts _ _ good in
     let hidden = and_parts (list_all is_word row.hides) _ says.1 in
     let words = and_parts (list_all (λ (b : Block). list_all is_word b.words) row.blocks) (nat_le (byte_len (canonical row)) line_limit) hidden.1 in
     record {
@@ -42,7 +56,7 @@ good_row row valid good =
       cands = cands.0;
       part = blocks.0;
       blocks = blocks.1;
-      something = says.0;
+      something = good_says row good;
       hides = hidden.0;
       not_long = words.1;
     }
@@ -64,11 +78,11 @@ canonical_body row key =
 -- The texts
 
 -- a row that says something has a text
-some_text : (row : Row) → (has_item row.cands || (has_item row.blocks || has_item row.hides)) ≡ true → row_texts row ≢ []
+some_text : (row : Row) → (not (is_empty row.cands) || (not (is_empty row.blocks) || not (is_empty row.hides))) ≡ true → row_texts row ≢ []
 unfolding row_texts
 some_text row = by row.cands row.blocks row.hides
   where
-    by : (cs : List Cand) (bs : List Block) (words : List (List ℕ)) → (has_item cs || (has_item bs || has_item words)) ≡ true → ((map item cs ++ flat_map block_texts bs) ++ mark_items words) ≢ []
+    by : (cs : List Cand) (bs : List Block) (words : List (List ℕ)) → (not (is_empty cs) || (not (is_empty bs) || not (is_empty words))) ≡ true → ((map item cs ++ flat_map block_texts bs) ++ mark_items words) ≢ []
     by (c ∷ cs) bs words some e = cc
     by [] (b ∷ bs) words some e = cc
     by [] [] (w ∷ words) some e = cc

@@ -1,11 +1,12 @@
 -- What is printed piece by piece.
-use Rattle.std.proofs.Common.{◌≡◌, ℕ, ◌+◌, Some, List, [], ◌∷◌, ◌++◌, codes, map, take, length, refl, sym, ap, ◌∙◌, append_assoc, arith}
+use Rattle.std.proofs.Common.{◌≡◌, ℕ, ◌+◌, true, false, Some, List, [], ◌∷◌, ◌++◌, codes, map, take, length, refl, sym, ap, ◌∙◌, append_assoc, arith}
 use Rattle.std.specs.List.{flat_map, slice_get}
 use Rattle.std.proofs.lemmas.Grind.{flat_map-append}
 use Rattle.std.proofs.lemmas.List.{append-nil, take_more}
 use Rattle.std.proofs.lemmas.Option.{slice_get_within, get_or_from_slice_get}
 use Rattle.std.proofs.lemmas.Str.{length-le-encodes}
 use Rattle.skk_text.specs.Text.{byte_len}
+use Rattle.skk_text.specs.Lists.{is_empty}
 use Rattle.skk_calls.specs.Canonical.{with_slash, quoted, mark_items, written_note, items, item, written_block}
 use Rattle.skk_calls.specs.Rows.{Row}
 
@@ -32,16 +33,17 @@ mark_none [] e = refl
 mark_none (word ∷ words) e = absurd (omega arith)
 
 -- one mark with its slash
-pub mark_some : (hides : List (List ℕ)) → (length hides ≡ 0 → ⊥) → flat_map with_slash (mark_items hides) ≡ codes "(skk-ignore-dic-word" ++ flat_map (λ w. 0x20 ∷ quoted w) hides ++ codes ")/"
-mark_some [] e = absurd (e refl)
+pub mark_some : (hides : List (List ℕ)) → is_empty hides ≡ false
+    → flat_map with_slash (mark_items hides) ≡ codes "(skk-ignore-dic-word" ++ flat_map (λ w. 0x20 ∷ quoted w) hides ++ codes ")/"
+mark_some [] e = cc
 mark_some (word ∷ words) e =
     append-nil (with_slash (codes "(skk-ignore-dic-word" ++ flat_map (λ w. 0x20 ∷ quoted w) (word ∷ words) ++ codes ")"))
     ∙ append_assoc (codes "(skk-ignore-dic-word" ++ flat_map (λ w. 0x20 ∷ quoted w) (word ∷ words)) (codes ")") (0x2F ∷ [])
 
 -- no note, nothing
-pub note_none : (note : List ℕ) → byte_len note ≡ 0 → written_note note ≡ []
+pub note_none : (note : List ℕ) → is_empty note ≡ true → written_note note ≡ []
 note_none [] e = refl
-note_none (c ∷ note) e = absurd (omega (arith, e, length-le-encodes (c ∷ note)))
+note_none (c ∷ note) e = cc
 
 -- texts that are made are ended as they are made
 pub ended_map : {X : Type 0} (f : X → List ℕ) (xs : List X) → flat_map with_slash (map f xs) ≡ flat_map (λ x. with_slash (f x)) xs

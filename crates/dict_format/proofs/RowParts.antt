@@ -6,11 +6,11 @@ use Rattle.std.proofs.lemmas.Grind.{flat_map-append}
 use Rattle.std.proofs.lemmas.List.Elements.{filter-append}
 use Rattle.std.proofs.lemmas.List.Folds.{list_all-append, list_any-append}
 use Rattle.skk_text.specs.FilterLaws.{list_all_kept}
+use Rattle.skk_text.specs.Lists.{is_empty}
 use Rattle.skk_text.specs.PairsLaws.{all_pairs-filter, list_all-filter}
 use Rattle.skk_text.specs.Text.{byte_len}
 use Rattle.skk_calls.specs.KeyLaws.{same_itself}
-use Rattle.skk_calls.specs.Canonical.{has_item}
-use Rattle.skk_calls.specs.Rows.{RowKey, Cand, Block, same_text, texts_differ, is_row_key, is_word, is_cand, is_note, is_okuri, is_block, is_row, fits_blocks}
+use Rattle.skk_calls.specs.Rows.{RowKey, Cand, Block, same_text, texts_differ, is_row_key, is_word, is_cand, is_note, is_okuri, is_block, is_row, fits_blocks, word_limit}
 use Rattle.skk_calls.specs.Found.{first_of_each}
 use Rattle.word_sets.specs.FirstLaws.{first_of_each-all, first_of_each-differ, texts_stay}
 use Rattle.dict_format.specs.Items.{Item}
@@ -24,23 +24,23 @@ has_note (block okuri words) = true
 has_note (mark words) = true
 
 -- a text that is not empty has a character
-pub some-longer : (text : List ℕ) → has_item text ≡ true → nat_le 1 (length text) ≡ true
+pub some-longer : (text : List ℕ) → not (is_empty text) ≡ true → nat_le 1 (length text) ≡ true
 some-longer [] e = absurd (both_ways false refl e)
 some-longer (c ∷ text) e = le-leb 1 (length (c ∷ text)) (omega arith)
 
 -- Candidates
 
 -- the candidates that are not skipped are candidates
-cands_valid : (items : List Item) → list_all item_fits items ≡ true → list_all has_note items ≡ true → list_all is_cand (filter (λ cand. has_item cand.word) (flat_map cand_in items)) ≡ true
+cands_valid : (items : List Item) → list_all item_fits items ≡ true → list_all has_note items ≡ true → list_all is_cand (filter (λ cand. not (is_empty cand.word)) (flat_map cand_in items)) ≡ true
 cands_valid [] fit noted = refl
 cands_valid (candidate word note ∷ items) fit noted =
     let fits_all = and_parts (item_fits (candidate word note)) (list_all item_fits items) fit in
     let notes_all = and_parts (is_note note) (list_all has_note items) noted in
-    by (has_item word) refl fits_all.0 notes_all.0 (cands_valid items fits_all.1 notes_all.1)
+    by (not (is_empty word)) refl fits_all.0 notes_all.0 (cands_valid items fits_all.1 notes_all.1)
   where
-    by : (b : Bool) → has_item word ≡ b → nat_le (byte_len word + byte_len note) 4095 ≡ true → is_note note ≡ true
-        → list_all is_cand (filter (λ cand. has_item cand.word) (flat_map cand_in items)) ≡ true
-        → list_all is_cand (filter (λ cand. has_item cand.word) (record { word = word; note = note } ∷ flat_map cand_in items)) ≡ true
+    by : (b : Bool) → not (is_empty word) ≡ b → nat_le (byte_len word + byte_len note) word_limit ≡ true → is_note note ≡ true
+        → list_all is_cand (filter (λ cand. not (is_empty cand.word)) (flat_map cand_in items)) ≡ true
+        → list_all is_cand (filter (λ cand. not (is_empty cand.word)) (record { word = word; note = note } ∷ flat_map cand_in items)) ≡ true
     by true e short good rest = rw e (and_from (is_cand (record { word = word; note = note })) _ (and_from (nat_le 1 (length word)) _ (some-longer word e) (and_from (is_note note) _ good short)) rest)
     by false e short good rest = rw e rest
 cands_valid (block okuri words ∷ items) fit noted = cands_valid items (and_parts (list_all fits words) (list_all item_fits items) fit).1 noted
@@ -49,35 +49,40 @@ cands_valid (mark words ∷ items) fit noted = cands_valid items (and_parts (lis
 -- Words
 
 -- words that fit are words where they are not skipped
-not_empty_words : (words : List (List ℕ)) → list_all fits words ≡ true → list_all is_word (filter has_item words) ≡ true
+not_empty_words : (words : List (List ℕ)) → list_all fits words ≡ true → list_all is_word (filter (λ word. not (is_empty word)) words) ≡ true
 not_empty_words [] fit = refl
 not_empty_words (word ∷ words) fit =
     let parts = and_parts (fits word) (list_all fits words) fit in
-    by (has_item word) refl parts.0 (not_empty_words words parts.1)
+    by (not (is_empty word)) refl parts.0 (not_empty_words words parts.1)
   where
-    by : (b : Bool) → has_item word ≡ b → fits word ≡ true → list_all is_word (filter has_item words) ≡ true → list_all is_word (filter has_item (word ∷ words)) ≡ true
+    by : (b : Bool) → not (is_empty word) ≡ b → fits word ≡ true → list_all is_word (filter (λ word. not (is_empty word)) words) ≡ true → list_all is_word (filter (λ word. not (is_empty word)) (word ∷ words)) ≡ true
     by true e short rest = rw e (and_from (is_word word) _ (and_from (nat_le 1 (length word)) (fits word) (some-longer word e) short) rest)
     by false e short rest = rw e rest
 
 words_valid : (words : List (List ℕ)) → list_all fits words ≡ true → list_all is_word (words_once words) ≡ true
-words_valid words fit = first_of_each-all (λ word. word) is_word (filter has_item words) (not_empty_words words fit)
+words_valid words fit = first_of_each-all (λ word. word) is_word (filter (λ word. not (is_empty word)) words) (not_empty_words words fit)
 
 words_differ : (words : List (List ℕ)) → texts_differ (words_once words) ≡ true
-words_differ words = ap texts_differ (sym (texts_stay (words_once words))) ∙ first_of_each-differ (λ word. word) (filter has_item words)
+words_differ words = ap texts_differ (sym (texts_stay (words_once words))) ∙ first_of_each-differ (λ word. word) (filter (λ word. not (is_empty word)) words)
 
 -- where some word is not empty there is a word
-words_some : (words : List (List ℕ)) → list_any has_item words ≡ true → nat_le 1 (length (words_once words)) ≡ true
-words_some words e = first (filter has_item words) (kept words e)
+words_some : (words : List (List ℕ)) → list_any (λ word. not (is_empty word)) words ≡ true → nat_le 1 (length (words_once words)) ≡ true
+words_some words e = first (filter (λ word. not (is_empty word)) words) (kept words e)
   where
-    kept : (ws : List (List ℕ)) → list_any has_item ws ≡ true → has_item (filter has_item ws) ≡ true
+    kept : (ws : List (List ℕ)) → list_any (λ word. not (is_empty word)) ws ≡ true
+        → not (is_empty (filter (λ word. not (is_empty word)) ws)) ≡ true
     kept [] e = absurd (both_ways false refl e)
-    kept (w ∷ ws) e = by (has_item w) refl (λ h. kept ws h) e
+    kept (w ∷ ws) e = by (not (is_empty w)) refl (λ h. kept ws h) e
       where
-        by : (b : Bool) → has_item w ≡ b → (list_any has_item ws ≡ true → has_item (filter has_item ws) ≡ true) → (has_item w || list_any has_item ws) ≡ true → has_item (filter has_item (w ∷ ws)) ≡ true
+        by : (b : Bool) → not (is_empty w) ≡ b
+            → (list_any (λ word. not (is_empty word)) ws ≡ true
+            → not (is_empty (filter (λ word. not (is_empty word)) ws)) ≡ true)
+            → (not (is_empty w) || list_any (λ word. not (is_empty word)) ws) ≡ true
+            → not (is_empty (filter (λ word. not (is_empty word)) (w ∷ ws))) ≡ true
         by true f later h = rw f refl
         by false f later h = rw f (later (rw f at h))
 
-    first : (ws : List (List ℕ)) → has_item ws ≡ true → nat_le 1 (length (first_of_each (λ word. word) [] ws)) ≡ true
+    first : (ws : List (List ℕ)) → not (is_empty ws) ≡ true → nat_le 1 (length (first_of_each (λ word. word) [] ws)) ≡ true
     first [] e = absurd (both_ways false refl e)
     first (w ∷ ws) e = le-leb 1 (length (first_of_each (λ word. word) [] (w ∷ ws))) (omega arith)
 
@@ -106,29 +111,29 @@ words_with_fit okuri blocks fit = joined (filter (λ b. same_text b.okuri okuri)
         list_all-append fits b.words (flat_map (λ c. c.words) bs) ∙ and_from (list_all fits b.words) _ parts.0 (joined bs parts.1)
 
 -- each block that has a word gives its okurigana one
-each_has : (before after : List Block) → list_all has_word after ≡ true → list_all (λ b. list_any has_item (words_with b.okuri (before ++ after))) after ≡ true
+each_has : (before after : List Block) → list_all has_word after ≡ true → list_all (λ b. list_any (λ word. not (is_empty word)) (words_with b.okuri (before ++ after))) after ≡ true
 each_has before [] all = refl
 each_has before (b ∷ after) all =
     let parts = and_parts (has_word b) (list_all has_word after) all in
-    and_from (list_any has_item (words_with b.okuri (before ++ b ∷ after))) _ (here parts.0)
-    (ap (λ bs. list_all (λ c. list_any has_item (words_with c.okuri bs)) after) (sym (append_assoc before (b ∷ []) after)) ∙ each_has (before ++ b ∷ []) after parts.1)
+    and_from (list_any (λ word. not (is_empty word)) (words_with b.okuri (before ++ b ∷ after))) _ (here parts.0)
+    (ap (λ bs. list_all (λ c. list_any (λ word. not (is_empty word)) (words_with c.okuri bs)) after) (sym (append_assoc before (b ∷ []) after)) ∙ each_has (before ++ b ∷ []) after parts.1)
   where
-    here : has_word b ≡ true → list_any has_item (words_with b.okuri (before ++ b ∷ after)) ≡ true
+    here : has_word b ≡ true → list_any (λ word. not (is_empty word)) (words_with b.okuri (before ++ b ∷ after)) ≡ true
     here some_word =
         let test : Block → Bool = λ c. same_text c.okuri b.okuri in
         let rest = flat_map (λ (c : Block). c.words) (filter test after) in
-        ap (λ bs. list_any has_item (flat_map (λ c. c.words) bs)) (filter-append test before (b ∷ after))
-        ∙ ap (list_any has_item) (flat_map-append (λ (c : Block). c.words) (filter test before) (filter test (b ∷ after)))
-        ∙ list_any-append has_item (flat_map (λ c. c.words) (filter test before)) (flat_map (λ c. c.words) (filter test (b ∷ after)))
-        ∙ ap (λ x. list_any has_item (flat_map (λ c. c.words) (filter test before)) || list_any has_item (flat_map (λ c. c.words) (if x then b ∷ filter test after else filter test after))) (same_itself b.okuri)
-        ∙ or_right (list_any has_item (flat_map (λ c. c.words) (filter test before))) _ (list_any-append has_item b.words rest ∙ or_left (list_any has_item b.words) (list_any has_item rest) some_word)
+        ap (λ bs. list_any (λ word. not (is_empty word)) (flat_map (λ c. c.words) bs)) (filter-append test before (b ∷ after))
+        ∙ ap (list_any (λ word. not (is_empty word))) (flat_map-append (λ (c : Block). c.words) (filter test before) (filter test (b ∷ after)))
+        ∙ list_any-append (λ word. not (is_empty word)) (flat_map (λ c. c.words) (filter test before)) (flat_map (λ c. c.words) (filter test (b ∷ after)))
+        ∙ ap (λ x. list_any (λ word. not (is_empty word)) (flat_map (λ c. c.words) (filter test before)) || list_any (λ word. not (is_empty word)) (flat_map (λ c. c.words) (if x then b ∷ filter test after else filter test after))) (same_itself b.okuri)
+        ∙ or_right (list_any (λ word. not (is_empty word)) (flat_map (λ c. c.words) (filter test before))) _ (list_any-append (λ word. not (is_empty word)) b.words rest ∙ or_left (list_any (λ word. not (is_empty word)) b.words) (list_any (λ word. not (is_empty word)) rest) some_word)
 
 -- so the joined blocks of valid okurigana are blocks
-joined_valid : (blocks firsts : List Block) → list_all block_fits blocks ≡ true → list_all (λ b. list_any has_item (words_with b.okuri blocks)) firsts ≡ true
+joined_valid : (blocks firsts : List Block) → list_all block_fits blocks ≡ true → list_all (λ b. list_any (λ word. not (is_empty word)) (words_with b.okuri blocks)) firsts ≡ true
     → list_all is_block (filter (λ b. is_okuri b.okuri) (map (λ first. record { okuri = first.okuri; words = words_once (words_with first.okuri blocks) }) firsts)) ≡ true
 joined_valid blocks [] fit have = refl
 joined_valid blocks (first ∷ firsts) fit have =
-    let parts = and_parts (list_any has_item (words_with first.okuri blocks)) (list_all (λ b. list_any has_item (words_with b.okuri blocks)) firsts) have in
+    let parts = and_parts (list_any (λ word. not (is_empty word)) (words_with first.okuri blocks)) (list_all (λ b. list_any (λ word. not (is_empty word)) (words_with b.okuri blocks)) firsts) have in
     by (is_okuri first.okuri) refl parts.0 (joined_valid blocks firsts fit parts.1)
   where
     words : List (List ℕ)
@@ -137,7 +142,7 @@ joined_valid blocks (first ∷ firsts) fit have =
     made : List Block
     made = map (λ f. record { okuri = f.okuri; words = words_once (words_with f.okuri blocks) }) firsts
 
-    by : (b : Bool) → is_okuri first.okuri ≡ b → list_any has_item (words_with first.okuri blocks) ≡ true
+    by : (b : Bool) → is_okuri first.okuri ≡ b → list_any (λ word. not (is_empty word)) (words_with first.okuri blocks) ≡ true
         → list_all is_block (filter (λ b. is_okuri b.okuri) (map (λ f. record { okuri = f.okuri; words = words_once (words_with f.okuri blocks) }) firsts)) ≡ true
         → list_all is_block (filter (λ b. is_okuri b.okuri) (map (λ f. record { okuri = f.okuri; words = words_once (words_with f.okuri blocks) }) (first ∷ firsts))) ≡ true
     by true e some_word rest =
@@ -171,15 +176,15 @@ row_of_items-valid key items valid fit noted part =
     let worded = filter has_word (flat_map block_in items) in
     let fit_blocks = list_all-filter block_fits has_word (flat_map block_in items) (blocks_fit items fit) in
     let all_worded = list_all_kept has_word (flat_map block_in items) in
-    let have = first_of_each-all (λ (b : Block). b.okuri) (λ b. list_any has_item (words_with b.okuri worded)) worded (each_has [] worded all_worded) in
+    let have = first_of_each-all (λ (b : Block). b.okuri) (λ b. list_any (λ word. not (is_empty word)) (words_with b.okuri worded)) worded (each_has [] worded all_worded) in
     let okuris =
     ap texts_differ (kept_okuris (λ okuri. words_once (words_with okuri worded)) (first_of_each (λ b. b.okuri) [] worded))
     ∙ all_pairs-filter (λ text other. not (same_text text other)) is_okuri (map (λ (b : Block). b.okuri) (first_of_each (λ b. b.okuri) [] worded)) (first_of_each-differ (λ (b : Block). b.okuri) worded) in
     and_from (is_row_key key) _ valid
     (and_from (list_all is_cand row.cands && texts_differ (map (λ cand. cand.word) row.cands)) _
     (and_from (list_all is_cand row.cands) (texts_differ (map (λ cand. cand.word) row.cands))
-    (first_of_each-all (λ (cand : Cand). cand.word) is_cand (filter (λ cand. has_item cand.word) (flat_map cand_in items)) (cands_valid items fit noted))
-    (first_of_each-differ (λ (cand : Cand). cand.word) (filter (λ cand. has_item cand.word) (flat_map cand_in items))))
+    (first_of_each-all (λ (cand : Cand). cand.word) is_cand (filter (λ cand. not (is_empty cand.word)) (flat_map cand_in items)) (cands_valid items fit noted))
+    (first_of_each-differ (λ (cand : Cand). cand.word) (filter (λ cand. not (is_empty cand.word)) (flat_map cand_in items))))
     (and_from (fits_blocks key.part row.blocks && list_all is_block row.blocks && texts_differ (map (λ b. b.okuri) row.blocks)) (texts_differ row.hides)
     (and_from (fits_blocks key.part row.blocks && list_all is_block row.blocks) (texts_differ (map (λ b. b.okuri) row.blocks))
     (and_from (fits_blocks key.part row.blocks) (list_all is_block row.blocks) part

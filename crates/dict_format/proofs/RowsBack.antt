@@ -1,12 +1,12 @@
 -- The items of a row make it again, with stamp 0.
-use Rattle.std.proofs.Common.{◌≡◌, ℕ, ◌+◌, Bool, true, false, ◌&&◌, nat_le, if◌then◌else◌, List, [], ◌∷◌, ◌++◌, map, length, refl, ap, ◌∙◌}
+use Rattle.std.proofs.Common.{◌≡◌, not, ℕ, ◌+◌, Bool, true, false, ◌&&◌, nat_le, if◌then◌else◌, List, [], ◌∷◌, ◌++◌, map, length, refl, ap, ◌∙◌}
 use Rattle.std.specs.List.{flat_map, filter, list_all, list_any}
 use Rattle.std.proofs.lemmas.Bool.{and_parts, or_parts, or_left, both_ways}
 use Rattle.std.proofs.lemmas.Grind.{flat_map-append}
 use Rattle.std.proofs.lemmas.List.{append-nil, map-append}
+use Rattle.skk_text.specs.Lists.{is_empty}
 use Rattle.skk_text.specs.Text.{byte_len}
 use Rattle.skk_calls.specs.KeyLaws.{same_itself}
-use Rattle.skk_calls.specs.Canonical.{has_item}
 use Rattle.skk_calls.specs.DifferLaws.{differ_parts}
 use Rattle.skk_calls.specs.Rows.{Cand, Block, Row, same_text, has_text, texts_differ, is_row_key, is_okuri, is_cand, is_note, is_word, is_block, is_row, fits_blocks, word_limit}
 use Rattle.skk_calls.specs.Found.{first_of_each}
@@ -96,28 +96,28 @@ all_pass p q by (x ∷ xs) all =
     let here = by x parts.0 in
     rw here (all_pass p q by xs parts.1)
 
-longer-some : {X : Type 0} (xs : List X) → nat_le 1 (length xs) ≡ true → has_item xs ≡ true
+longer-some : {X : Type 0} (xs : List X) → nat_le 1 (length xs) ≡ true → not (is_empty xs) ≡ true
 longer-some [] e = absurd (both_ways false refl e)
 longer-some (x ∷ xs) e = refl
 
-word_some : (word : List ℕ) → is_word word ≡ true → has_item word ≡ true
+word_some : (word : List ℕ) → is_word word ≡ true → not (is_empty word) ≡ true
 word_some word e = longer-some word (and_parts (nat_le 1 (length word)) (nat_le (byte_len word) word_limit) e).0
 
 -- words that differ are each once there
 words_once-fresh : (words : List (List ℕ)) → list_all is_word words ≡ true → texts_differ words ≡ true → words_once words ≡ words
 words_once-fresh words all differ =
-    ap (first_of_each (λ word. word) []) (all_kept has_item words (all_pass is_word has_item word_some words all))
+    ap (first_of_each (λ word. word) []) (all_kept (λ word. not (is_empty word)) words (all_pass is_word (λ word. not (is_empty word)) word_some words all))
     ∙ first_of_each-fresh (λ word. word) words (ap texts_differ (texts_stay words) ∙ differ)
 
 -- Candidates
 
-cand_some : (c : Cand) → is_cand c ≡ true → has_item c.word ≡ true
+cand_some : (c : Cand) → is_cand c ≡ true → not (is_empty c.word) ≡ true
 cand_some c e = longer-some c.word (and_parts (nat_le 1 (length c.word)) (is_note c.note && nat_le (byte_len c.word + byte_len c.note) word_limit) e).0
 
 cands_back : (cs : List Cand) → list_all is_cand cs ≡ true → texts_differ (map (λ cand. cand.word) cs) ≡ true
-    → first_of_each (λ (cand : Cand). cand.word) [] (filter (λ cand. has_item cand.word) cs) ≡ cs
+    → first_of_each (λ (cand : Cand). cand.word) [] (filter (λ cand. not (is_empty cand.word)) cs) ≡ cs
 cands_back cs all differ =
-    ap (first_of_each (λ (cand : Cand). cand.word) []) (all_kept (λ (cand : Cand). has_item cand.word) cs (all_pass is_cand (λ cand. has_item cand.word) cand_some cs all))
+    ap (first_of_each (λ (cand : Cand). cand.word) []) (all_kept (λ (cand : Cand). not (is_empty cand.word)) cs (all_pass is_cand (λ cand. not (is_empty cand.word)) cand_some cs all))
     ∙ first_of_each-fresh (λ (cand : Cand). cand.word) cs differ
 
 -- Blocks
@@ -125,9 +125,9 @@ cands_back cs all differ =
 block_has_word : (b : Block) → is_block b ≡ true → has_word b ≡ true
 block_has_word b e = let parts = block_words b e in some_word b.words parts.1 parts.2
   where
-    some_word : (words : List (List ℕ)) → nat_le 1 (length words) ≡ true → list_all is_word words ≡ true → list_any has_item words ≡ true
+    some_word : (words : List (List ℕ)) → nat_le 1 (length words) ≡ true → list_all is_word words ≡ true → list_any (λ word. not (is_empty word)) words ≡ true
     some_word [] some all = absurd (both_ways false refl some)
-    some_word (w ∷ words) some all = or_left (has_item w) (list_any has_item words) (word_some w (and_parts (is_word w) (list_all is_word words) all).0)
+    some_word (w ∷ words) some all = or_left (not (is_empty w)) (list_any (λ word. not (is_empty word)) words) (word_some w (and_parts (is_word w) (list_all is_word words) all).0)
 
 block_okuri : (b : Block) → is_block b ≡ true → is_okuri b.okuri ≡ true
 block_okuri b e = (block_words b e).0
@@ -191,7 +191,7 @@ row_parts row valid =
 pub row_back : (row : Row) → is_row row ≡ true → list_all is_word row.hides ≡ true → row_of_items row.key (row_items row) ≡ record row { stamp = 0 }
 row_back row valid words =
     let parts = row_parts row valid in
-    let cands_of : List Cand → List Cand = λ cs. first_of_each (λ cand. cand.word) [] (filter (λ cand. has_item cand.word) cs) in
+    let cands_of : List Cand → List Cand = λ cs. first_of_each (λ cand. cand.word) [] (filter (λ cand. not (is_empty cand.word)) cs) in
     let blocks_of : List Block → List Block = λ bs. filter (λ b. is_okuri b.okuri) (joined_blocks (filter has_word bs)) in
     let cands : cands_of (flat_map cand_in (row_items row)) ≡ row.cands = ap cands_of (cands_said row) ∙ cands_back row.cands parts.0 parts.1 in
     let blocks : blocks_of (flat_map block_in (row_items row)) ≡ row.blocks = ap blocks_of (blocks_said row) ∙ blocks_back row.blocks parts.2 parts.3 in

@@ -6,13 +6,13 @@ use Rattle.std.proofs.lemmas.List.Folds.{list_all-append}
 use Rattle.skk_text.specs.Text.{byte_len}
 use Rattle.skk_calls.specs.declared.part.Part.{Part}
 use Rattle.skk_calls.specs.declared.part.Part.TheVariants.{Nasi, Ari}
-use Rattle.skk_calls.specs.Rows.{RowKey, is_row_key, is_note, is_note_char, is_row, fits_blocks, is_okuri}
+use Rattle.skk_calls.specs.Rows.{RowKey, is_row_key, is_note, is_note_char, is_row, fits_blocks, is_okuri, reading_limit}
 use Rattle.dict_format.specs.declared.reason.LineReason.TheVariants as reason
 use Rattle.dict_format.specs.Items.{Item, SpellsItem, is_semicolon, note_of_text}
 use Rattle.dict_format.specs.Items.SpellsItem.{marks, says, blocks}
 use Rattle.dict_format.specs.Lines.{lacks}
 use Rattle.dict_format.specs.Reading.{texts_at, items_at, or_reason, and_then, key_at, fit_items_at}
-use Rattle.dict_format.specs.Reasons.{is_bad_reading, reading_limit, lacks_letter}
+use Rattle.dict_format.specs.Reasons.{is_bad_reading, lacks_letter}
 use Rattle.dict_format.specs.RowOfItems.{item_fits, block_in, has_word, joined_blocks, blocks_of_items, row_of_items}
 use Rattle.dict_format.proofs.ItemReading.{items_at-sound}
 use Rattle.dict_format.proofs.KeyReading.{is_key-from}

@@ -1,13 +1,14 @@
 -- The characters of strings.
-use Rattle.std.proofs.Common.{◌≡◌, ℕ, String, string_bytes, encode_utf8, encode_utf8_all, List, [], ◌∷◌, ◌++◌, ◌∙◌, sym, ap, refl, length, not, ◌==◌, false, arith}
+use Rattle.std.proofs.Common.{◌≡◌, ℕ, String, string_bytes, encode_utf8, encode_utf8_all, List, [], ◌∷◌, ◌++◌, ◌∙◌, sym, ap, refl, length, ◌==◌, arith, rules}
 use Rattle.std.specs.declared.alloc.Global.{Global}
 use Rattle.std.specs.Char.{IsScalar}
 use Rattle.std.specs.Str.{chars}
+use Rattle.std.specs.String.{string_len}
 use Rattle.std.proofs.lemmas.List.{append-nil}
 use Rattle.std.proofs.lemmas.Str.{chars-append, chars-nil, chars_past_char, length-le-encodes, encodes-chars, encodes_same, IsUtf8-encode, IsUtf8-string_bytes}
 use Rattle.std.proofs.lemmas.Bool.{ne_eqb}
+use Rattle.skk_text.specs.Lists.{is_empty}
 use Rattle.skk_text.specs.Text.{byte_len}
-use Rattle.skk_calls.specs.Canonical.{has_item}
 use Rattle.word_sets.specs.Strings.{characters}
 
 -- a new string has none
@@ -34,11 +35,13 @@ characters-encodes string text e =
     encodes_same (characters string) text (encodes-chars (string_bytes string) (IsUtf8-string_bytes string) ∙ e)
 
 -- a string is empty where it has no characters
-pub some_characters : (string : String Global) → not (length (string_bytes string) == 0) ≡ has_item (characters string)
-some_characters string = by (characters string) (sym (encodes-chars (string_bytes string) (IsUtf8-string_bytes string)))
+pub empty_string : (string : String Global) → (string_len string == 0) ≡ is_empty (characters string)
+empty_string string =
+    ap (λ n. n == 0) (search rules)
+    ∙ by (characters string) (sym (encodes-chars (string_bytes string) (IsUtf8-string_bytes string)))
   where
-    by : (text : List ℕ) → string_bytes string ≡ encode_utf8_all text → not (length (string_bytes string) == 0) ≡ has_item text
+    by : (text : List ℕ) → string_bytes string ≡ encode_utf8_all text
+        → (length (string_bytes string) == 0) ≡ is_empty text
     by [] e = rw e refl
     by (c ∷ text) e =
-        let more : (length (string_bytes string) == 0) ≡ false = ne_eqb (length (string_bytes string)) 0 (λ none. omega (arith, ap length e, length-le-encodes (c ∷ text))) in
-        rw more refl
+        ne_eqb (length (string_bytes string)) 0 (λ none. omega (arith, ap length e, length-le-encodes (c ∷ text)))

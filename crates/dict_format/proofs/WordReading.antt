@@ -1,6 +1,5 @@
 -- Reading words is the relation: a string, a quoted word and a mark are read as what they say, and only as that.
-use Rattle.std.proofs.Common.{◌≡◌, ◌≢◌, ◌<◌, ℕ, true, false, ◌==◌, ◌&&◌, if◌then◌else◌, inl, inr, nat_eq, Option, None, Some, List, [], ◌∷◌, ◌++◌, codes, map, length, drop, refl, sym, ap, ◌∙◌, subst, arith, length-append, append_assoc, Bor, MatchOption}
-use Rattle.skk_calls.specs.Canonical.{has_item}
+use Rattle.std.proofs.Common.{◌≡◌, ◌≢◌, ◌<◌, not, ℕ, true, false, ◌==◌, ◌&&◌, if◌then◌else◌, inl, inr, nat_eq, Option, None, Some, List, [], ◌∷◌, ◌++◌, codes, map, length, drop, refl, sym, ap, ◌∙◌, subst, arith, length-append, append_assoc, Bor, MatchOption}
 use Rattle.std.specs.List.{flat_map, AllByRecursion, starts_with}
 use Rattle.std.specs.Option.{option_map, unwrap_or}
 use Rattle.std.proofs.lemmas.Bool.{and_parts, eqb-true, both_ways}
@@ -8,6 +7,7 @@ use Rattle.std.proofs.lemmas.Bool.Decides.{Decides-eqb}
 use Rattle.std.proofs.lemmas.Option.{some_pair_parts, none-some, same_Some}
 use Rattle.std.proofs.lemmas.Slice.Eq.{starts_is}
 use Rattle.std.proofs.Math.Seq.{drop-append_seam}
+use Rattle.skk_text.specs.Lists.{is_empty}
 use Rattle.dict_format.specs.Reading.{behind, taken, piece_at, closed, behind_quote, string_at, closes_form, if_closed, then_at, quoted_word, said, marked_at, strings_at, marked}
 use Rattle.dict_format.specs.Words.{SpellsCharacter, SpellsWord, QuotesWord, SaysWord, MarksWords}
 use Rattle.dict_format.proofs.Pieces.{chosen, pieces_shrink, piece_at-sound, piece_at-complete}
@@ -219,8 +219,8 @@ strings_of ((piece, word) ∷ pieces) each =
     )
 
 -- words that are there are those of strings that are there
-some_string : (strings : Strings) (words : List (List ℕ)) → words ≡ map (λ string. string.1) strings → has_item words ≡ true → strings ≢ []
-some_string strings words e some none = both_ways (has_item words) (ap has_item (e ∙ ap (map (λ string. string.1)) none)) some
+some_string : (strings : Strings) (words : List (List ℕ)) → words ≡ map (λ string. string.1) strings → not (is_empty words) ≡ true → strings ≢ []
+some_string strings words e some none = both_ways (not (is_empty words)) (ap (λ word. not (is_empty word)) (e ∙ ap (map (λ string. string.1)) none)) some
 
 -- the words that are read marked are those that the text marks
 pub marked-sound : (text : List ℕ) (words : List (List ℕ)) → marked text ≡ Some words → MarksWords text words
@@ -229,9 +229,9 @@ marked-sound text words e =
     let found = then_at-some (behind (codes "(skk-ignore-dic-word") text) strings_at words e in
     let parts = taken marked_at found.0 in
     let all = IsTaken-taken marked_at marks_shrink IsMarked marked_at-sound found.0 in
-    elim (chosen (has_item parts.0 && closes_form parts.1) _ _ _ found.2) [
+    elim (chosen (not (is_empty parts.0) && closes_form parts.1) _ _ _ found.2) [
       | inl some ↦
-          let tests = and_parts (has_item parts.0) (closes_form parts.1) some.0 in
+          let tests = and_parts (not (is_empty parts.0)) (closes_form parts.1) some.0 in
           let strings = strings_of all.pieces all.each in
           let words_are : parts.0 ≡ map (λ string. string.1) strings.0 = all.items_are ∙ sym strings.3 in
           let same = same_Some parts.0 words some.1 in
@@ -249,7 +249,7 @@ marked-sound text words e =
     ]
 
 -- strings that are there have words
-has_words : (strings : Strings) → strings ≢ [] → has_item (map (λ string. string.1) strings) ≡ true
+has_words : (strings : Strings) → strings ≢ [] → not (is_empty (map (λ string. string.1) strings)) ≡ true
 has_words [] some = absurd (some refl)
 has_words (string ∷ strings) some = refl
 
@@ -266,7 +266,7 @@ marked-complete text words marks =
     ∙ ap (λ ys. (ys, codes ")")) (sym pieces.3) in
     ap (λ ys. then_at (behind (codes "(skk-ignore-dic-word") ys) strings_at) marks.text_is
     ∙ ap (λ o. then_at o strings_at) (behind-complete (codes "(skk-ignore-dic-word") rest)
-    ∙ ap (λ (parts : List (List ℕ) × List ℕ). if has_item parts.0 && closes_form parts.1 then Some parts.0 else None) read
+    ∙ ap (λ (parts : List (List ℕ) × List ℕ). if not (is_empty parts.0) && closes_form parts.1 then Some parts.0 else None) read
     ∙ ap (λ b. if b && true then Some strings else None) (has_words marks.strings marks.some_string)
     ∙ ap Some (sym marks.words_are)
 

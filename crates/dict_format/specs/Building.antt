@@ -1,7 +1,7 @@
 -- What the parts of a row are while its items are gone through.
-use Rattle.std.specs.Prelude.{◌≡◌, ℕ, if◌then◌else◌, List, [], ◌∷◌, map}
+use Rattle.std.specs.Prelude.{◌≡◌, not, ℕ, if◌then◌else◌, List, [], ◌∷◌, map}
 use Rattle.std.specs.List.{filter, flat_map}
-use Rattle.skk_calls.specs.Canonical.{has_item}
+use Rattle.skk_text.specs.Lists.{is_empty}
 use Rattle.skk_calls.specs.Found.{first_of_each}
 use Rattle.skk_calls.specs.Rows.{Cand, Block, is_okuri}
 use Rattle.dict_format.specs.declared.row.Parts.{Parts}
@@ -10,7 +10,7 @@ use Rattle.dict_format.specs.RowOfItems.{words_once, words_with, has_word, cand_
 
 -- the first candidate of each word that is not empty
 abbrev pub cands_once : List Cand → List Cand
-cands_once cands = first_of_each (λ cand. cand.word) [] (filter (λ cand. has_item cand.word) cands)
+cands_once cands = first_of_each (λ cand. cand.word) [] (filter (λ cand. not (is_empty cand.word)) cands)
 
 -- the okurigana of blocks in the order of the first of each, and beside them the words of each
 pub record JoinsBlocks (okuris : List (List ℕ)) (words : List (List (List ℕ))) (blocks : List Block) : Type 0 where

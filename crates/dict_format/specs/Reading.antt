@@ -1,17 +1,17 @@
 -- A line read from left to right, as lists: what the functions of the code that read it give.
 use Rattle.std.specs.Prelude.{ℕ, ◌+◌, ◌-◌, ◌*◌, Bool, false, ◌==◌, ◌&&◌, ◌||◌, not, nat_eq, nat_le, nat_lt, if◌then◌else◌, Option, None, Some, Result, Ok, Err, List, [], ◌∷◌, codes, map, length, drop}
-use Rattle.skk_calls.specs.Canonical.{has_item}
 use Rattle.std.specs.Option.{option_map, unwrap_or}
 use Rattle.std.specs.List.{list_all, starts_with}
+use Rattle.skk_text.specs.Lists.{is_empty}
 use Rattle.skk_text.specs.Text.{byte_len}
 use Rattle.skk_calls.specs.declared.part.Part.{Part}
 use Rattle.skk_calls.specs.Canonical.{line_limit}
-use Rattle.skk_calls.specs.Rows.{Row, RowKey}
+use Rattle.skk_calls.specs.Rows.{Row, RowKey, reading_limit}
 use Rattle.dict_format.specs.declared.reason.LineReason.{LineReason}
 use Rattle.dict_format.specs.declared.reason.LineReason.TheVariants as reasons
 use Rattle.dict_format.specs.Items.{Item, before_note, note_of_text, opens_block, closes_block}
 use Rattle.dict_format.specs.Items.Item.{candidate, block, mark}
-use Rattle.dict_format.specs.Reasons.{is_bad_reading, reading_limit, lacks_letter}
+use Rattle.dict_format.specs.Reasons.{is_bad_reading, lacks_letter}
 use Rattle.dict_format.specs.RowOfItems.{item_fits, row_of_items, says_something}
 
 -- what stands before the first item that passes a test, and what behind it, where there is one
@@ -116,7 +116,7 @@ marked_at text = then_at (behind (codes " \"") text) string_at
 unfoldable pub strings_at : List ℕ → Option (List (List ℕ))
 strings_at text =
     let parts = taken marked_at text in
-    if has_item parts.0 && closes_form parts.1 then Some parts.0 else None
+    if not (is_empty parts.0) && closes_form parts.1 then Some parts.0 else None
 
 -- the words that a text marks
 unfoldable pub marked : List ℕ → Option (List (List ℕ))
@@ -146,7 +146,7 @@ item_at part (text ∷ texts) = if opens_block part text then block_at (drop 1 t
 
 -- the items, where no text is left
 abbrev pub if_all : {X Y : Type 0} → List X × List Y → Option (List X)
-if_all parts = if has_item parts.1 then None else Some parts.0
+if_all parts = if is_empty parts.1 then Some parts.0 else None
 
 -- the items that texts spell
 unfoldable pub items_at : Part → List (List ℕ) → Option (List Item)
@@ -161,7 +161,7 @@ unfoldable pub texts_at : List ℕ → Option (List (List ℕ))
 texts_at [] = None
 texts_at (c ∷ rest) =
     let parts = taken (cut is_slash) rest in
-    if is_slash c && (has_item parts.0 && not (has_item parts.1)) then Some parts.0 else None
+    if is_slash c && (not (is_empty parts.0) && is_empty parts.1) then Some parts.0 else None
 
 -- a space
 abbrev pub is_space : ℕ → Bool

@@ -5,7 +5,7 @@ use Rattle.skk_text.specs.Text.{byte_len, last_chars}
 use Rattle.skk_calls.specs.declared.part.Part.{Part}
 use Rattle.skk_calls.specs.declared.part.Part.TheVariants.{Nasi, Ari}
 use Rattle.skk_calls.specs.Canonical.{line_limit}
-use Rattle.skk_calls.specs.Rows.{begins_well, is_letter}
+use Rattle.skk_calls.specs.Rows.{begins_well, is_letter, reading_limit}
 use Rattle.dict_format.specs.declared.reason.LineReason.{LineReason}
 use Rattle.dict_format.specs.declared.reason.LineReason.TheVariants.{LongLine, NoSpace, BadReading, LongReading, OkuriKey, NoSlash, Block, LongCandidate, Empty, Twice}
 use Rattle.dict_format.specs.Items.{Item, SpellsItems}
@@ -19,11 +19,6 @@ is_control c = nat_lt c 0x20 || c == 0x7F
 -- a reading that is empty, begins with a semicolon, or holds a control character
 abbrev pub is_bad_reading : List ℕ → Bool
 is_bad_reading reading = not (begins_well reading) || list_any is_control reading
-
--- the most bytes of a reading
-abbrev pub reading_limit : Part → ℕ
-reading_limit Nasi = 254
-reading_limit Ari = 255
 
 -- a reading behind whose first character no letter stands at its end, as the okuri-ari part asks
 abbrev pub lacks_letter : Part → List ℕ → Bool

@@ -1,8 +1,8 @@
 -- The row that the items of a line make.
-use Rattle.std.specs.Prelude.{ℕ, ◌+◌, Bool, ◌||◌, nat_le, List, [], ◌∷◌, map}
+use Rattle.std.specs.Prelude.{not, ℕ, ◌+◌, Bool, ◌||◌, nat_le, List, [], ◌∷◌, map}
 use Rattle.std.specs.List.{filter, flat_map, list_all, list_any}
+use Rattle.skk_text.specs.Lists.{is_empty}
 use Rattle.skk_text.specs.Text.{byte_len}
-use Rattle.skk_calls.specs.Canonical.{has_item}
 use Rattle.skk_calls.specs.Rows.{RowKey, Cand, Block, Row, same_text, is_okuri, word_limit}
 use Rattle.skk_calls.specs.Found.{first_of_each}
 use Rattle.dict_format.specs.Items.{Item}
@@ -20,7 +20,7 @@ item_fits (mark words) = list_all fits words
 
 -- the words that are not empty
 abbrev pub not_empty : List (List ℕ) → List (List ℕ)
-not_empty words = filter has_item words
+not_empty words = filter (λ word. not (is_empty word)) words
 
 -- each word once that is not empty, in the order of the first of each
 abbrev pub words_once : List (List ℕ) → List (List ℕ)
@@ -47,7 +47,7 @@ words_with okuri blocks = flat_map (λ b. b.words) (filter (λ b. same_text b.ok
 
 -- a block that has a word which is not empty
 abbrev pub has_word : Block → Bool
-has_word b = list_any has_item b.words
+has_word b = list_any (λ word. not (is_empty word)) b.words
 
 -- one block of each okurigana, in the order of the first of each, which has each word of all of them once
 abbrev pub joined_blocks : List Block → List Block
@@ -64,7 +64,7 @@ blocks_of_items items = filter (λ b. is_okuri b.okuri) (joined_blocks (filter h
 abbrev pub row_of_items : RowKey → List Item → Row
 row_of_items key items = record {
   key = key;
-  cands = first_of_each (λ cand. cand.word) [] (filter (λ cand. has_item cand.word) (flat_map cand_in items));
+  cands = first_of_each (λ cand. cand.word) [] (filter (λ cand. not (is_empty cand.word)) (flat_map cand_in items));
   blocks = blocks_of_items items;
   hides = words_once (flat_map hidden_in items);
   stamp = 0;
@@ -72,4 +72,4 @@ row_of_items key items = record {
 
 -- a row that has a candidate, a block or a hidden word
 abbrev pub says_something : Row → Bool
-says_something row = has_item row.cands || (has_item row.blocks || has_item row.hides)
+says_something row = not (is_empty row.cands) || (not (is_empty row.blocks) || not (is_empty row.hides))

@@ -1,5 +1,4 @@
 ghost use Rattle.std.specs.Prelude.{◌≡◌, ◌==◌, ◌<◌, length, position, IfSome};
-ghost use Rattle.skk_calls.specs.Canonical.{has_item};
 ghost use Rattle.std.specs.Option.{option_map};
 ghost use Rattle.dict_format.specs.Reading.{cut, without_spaces};
 
@@ -30,12 +29,4 @@ pub fn behind_spaces(text: &[char]) -> &[char]
         rest = behind;
     }
     rest
-}
-
-// Whether there is an item.
-#[tactic(auto, using(crate::proofs::Cutting::has_some_not_empty))]
-pub fn has_some<T>(items: &[T]) -> bool
-    ensures { result ≡ has_item items.now }
-{
-    !items.is_empty()
 }

@@ -10,12 +10,9 @@ ghost use Rattle.dict_format.specs.Views.{item_said, Gives};
 use crate::cut::place_of;
 use crate::reason::{LineFault, LineReason};
 use crate::words::{marked_words, plain, word_of};
-use skk_calls::Part;
+use skk_calls::{Part, WORD_LIMIT};
 use skk_text::Memory;
 use std::alloc::Global;
-
-/// The most bytes of a word with its note.
-const WORD_LIMIT: usize = 4_095;
 
 // An item of a line.
 #[derive(Debug, Drop)]

@@ -31,8 +31,8 @@ pub use file::{BadLine, BadLines, FileFault, Listed};
 pub use file_printing::print_file;
 pub use file_reading::{FILE_LIMIT, read_file};
 pub use laws::{
-    files_list_one_thing, good_rows_are_read_again, lines_spell_one_row, lines_spell_rows_or_have_reasons,
-    printed_files_are_read_again, printing_order_moves_rows,
+    files_list_one_thing, good_rows_are_read_again, lines_spell_one_row,
+    lines_spell_rows_or_have_reasons, printed_files_are_read_again, printing_order_moves_rows,
 };
 pub use line::read_line;
 pub use printing::{print_item, print_line};

@@ -1,7 +1,8 @@
 ghost use Rattle.std.specs.Prelude.{◌≡◌, ◌&&◌, not, length, map, true, ℕ, nat_lt, IfOk, IsErrOf, Ok, Err};
+ghost use Rattle.skk_text.specs.Lists.{is_empty};
 ghost use Rattle.skk_text.specs.Results.{AnswersUnless};
 ghost use Rattle.skk_text.specs.Text.{byte_len};
-ghost use Rattle.skk_calls.specs.Canonical.{has_item, line_limit};
+ghost use Rattle.skk_calls.specs.Canonical.{line_limit};
 ghost use Rattle.std.specs.List.{list_any, list_all};
 ghost use Rattle.std.specs.Str.{chars};
 ghost use Rattle.skk_calls.specs.Rows.{Row, begins_well, is_row};
@@ -9,21 +10,18 @@ ghost use Rattle.dict_format.specs.declared.reason.LineReason.{LineReason};
 ghost use Rattle.dict_format.specs.declared.reason.LineReason.TheVariants as reasons;
 ghost use Rattle.dict_format.specs.Lines.{lacks, SpellsRow};
 ghost use Rattle.dict_format.specs.Reading.{and_then, taken, cut, is_slash, is_space, or_reason, texts_at, key_at, row_reading, line_reading, some_row_of};
-ghost use Rattle.dict_format.specs.Reasons.{is_control, is_bad_reading, reading_limit, IsReason};
+ghost use Rattle.dict_format.specs.Reasons.{is_control, is_bad_reading, IsReason};
 ghost use Rattle.dict_format.specs.RowOfItems.{row_of_items, says_something};
 ghost use Rattle.dict_format.specs.Views.{item_said, Gives};
 
-use crate::cut::{behind_spaces, cut_at, has_some};
+use crate::cut::{behind_spaces, cut_at};
 use crate::items::{Item, items_of};
 use crate::reason::{LineFault, LineReason};
 use crate::row::row_of;
 use crate::words::plain;
-use skk_calls::{Part, Row, RowKey};
+use skk_calls::{LINE_LIMIT, Part, Row, RowKey, may_begin_reading};
 use skk_text::{Memory, Text};
 use std::alloc::Global;
-
-/// The most bytes of a line.
-const LINE_LIMIT: usize = 65_535;
 
 /// Reads a line of a part of a dictionary: the row that it spells, of stamp 0, or the first reason that fits it.
 /// Takes time in the length of the line.
@@ -102,7 +100,7 @@ fn some_row(alloc: Global, key: RowKey, items: Vec<Item>) -> Result<Row, LineFau
 fn says_something(row: &Row) -> bool
     ensures { result ≡ says_something row.now }
 {
-    row.cands().len() > 0 || row.blocks().len() > 0 || row.hides().len() > 0
+    !row.cands().is_empty() || !row.blocks().is_empty() || !row.hides().is_empty()
 }
 
 // The key of a reading, which holds no space.
@@ -115,7 +113,7 @@ fn key_of(alloc: Global, part: Part, reading: &[char]) -> Result<RowKey, LineFau
         return Err(LineFault::Reason(LineReason::BadReading));
     }
     let text = Text::of(plain(alloc, reading)?);
-    if text.byte_len() > reading_limit(part) {
+    if text.byte_len() > part.reading_limit() {
         return Err(LineFault::Reason(LineReason::LongReading));
     }
     match RowKey::new(part, text) {
@@ -131,11 +129,14 @@ fn is_bad_reading(reading: &[char]) -> bool
     !begins_well(reading) || holds_control(reading)
 }
 
-// Whether a text begins, and with something else than `;`.
+// Whether a text begins as a reading does.
 fn begins_well(text: &[char]) -> bool
     ensures { result ≡ begins_well text.now }
 {
-    !matches!(text, [] | [';', ..])
+    match text {
+        [] => false,
+        [first, ..] => may_begin_reading(*first),
+    }
 }
 
 // Whether a text holds a control character.
@@ -143,16 +144,6 @@ fn holds_control(text: &[char]) -> bool
     ensures { result ≡ list_any is_control text.now }
 {
     text.iter().any(|c| *c < ' ' || *c == '\u{7F}')
-}
-
-// The most bytes of a reading.
-fn reading_limit(part: Part) -> usize
-    ensures { result ≡ reading_limit part }
-{
-    match part {
-        Part::Nasi => 254,
-        Part::Ari => 255,
-    }
 }
 
 // The texts between the slashes of a body that begins and ends with one.
@@ -185,8 +176,9 @@ fn all_texts(alloc: Global, text: &[char]) -> Result<(Vec<&[char]>, &[char]), Me
 }
 
 // Whether there are texts, and nothing stands behind the last slash.
+#[tactic(auto, using(crate::proofs::Cutting::empty_by_length))]
 fn ends_body(texts: &[&[char]], rest: &[char]) -> bool
-    ensures { result ≡ (has_item texts.now && not (has_item rest.now)) }
+    ensures { result ≡ (not (is_empty texts.now) && is_empty rest.now) }
 {
-    has_some(texts) && !has_some(rest)
+    !texts.is_empty() && rest.is_empty()
 }

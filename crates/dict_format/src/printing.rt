@@ -66,7 +66,7 @@ fn push_item(line: &mut Text, cand: &Cand) -> Result<(), Memory>
 fn push_note(line: &mut Text, note: &Text) -> Result<(), Memory>
     ensures { OnOk result (line.new ≡ line.old ++ written_note note.now) }
 {
-    if note.byte_len() == 0 {
+    if note.is_empty() {
         return Ok(());
     }
     line.push(';')?;
@@ -161,7 +161,7 @@ fn push_character(line: &mut Text, c: char) -> Result<(), Memory>
 fn push_mark(line: &mut Text, hides: &Texts) -> Result<(), Memory>
     ensures { OnOk result (line.new ≡ line.old ++ flat_map with_slash (mark_items hides.now)) }
 {
-    if hides.len() == 0 {
+    if hides.is_empty() {
         return Ok(());
     }
     line.push_str("(skk-ignore-dic-word")?;

@@ -1,6 +1,6 @@
-ghost use Rattle.std.specs.Prelude.{◌≡◌, ◌++◌, ◌∷◌, List, [], ℕ, map, true, IfOk, OnOk};
+ghost use Rattle.std.specs.Prelude.{◌≡◌, ◌++◌, ◌∷◌, not, List, [], ℕ, map, true, IfOk, OnOk};
 ghost use Rattle.std.specs.List.{filter, list_all, list_any};
-ghost use Rattle.skk_calls.specs.Canonical.{has_item};
+ghost use Rattle.skk_text.specs.Lists.{is_empty};
 ghost use Rattle.skk_calls.specs.Rows.{Cand, Block, is_block, is_row};
 ghost use Rattle.word_sets.specs.Strings.{as_cand, characters};
 ghost use Rattle.dict_format.specs.Items.{Item as said_item};
@@ -78,7 +78,7 @@ fn add_item(alloc: Global, parts: &mut Parts, item: Item) -> Result<(), Memory>
 fn add_cand(cands: &mut FirstCands, word: String, note: String) -> Result<(), Memory>
     ensures { OnOk result ((before : List Cand) → cands.old ≡ cands_once before → cands.new ≡ cands_once (before ++ as_cand (word, note) ∷ [])) }
 {
-    if is_some(&word) {
+    if !word.is_empty() {
         cands.insert(word, note)?;
     }
     Ok(())
@@ -98,7 +98,7 @@ fn add_words(known: &mut WordSet, words: Vec<String>) -> Result<(), Memory>
 fn add_word(known: &mut WordSet, word: String) -> Result<(), Memory>
     ensures { OnOk result ((before : List (List ℕ)) → known.old ≡ words_once before → known.new ≡ words_once (before ++ characters word ∷ [])) }
 {
-    if is_some(&word) {
+    if !word.is_empty() {
         known.insert(word)?;
     }
     Ok(())
@@ -130,17 +130,15 @@ fn add_block(
 }
 
 // Whether there is a word that is not empty.
+#[tactic(auto, using(crate::proofs::Strings::empty_string))]
 fn has_word(words: &[String]) -> bool
-    ensures { result ≡ list_any (λ word. has_item (characters word)) words.now }
+    ensures { result ≡ list_any (λ word. not (is_empty (characters word))) words.now }
 {
-    words.iter().any(is_some)
-}
-
-// Whether a word is not empty.
-fn is_some(word: &String) -> bool
-    ensures { result ≡ has_item (characters word.now) }
-{
-    !word.is_empty()
+    words.iter().any(
+        |word| -> bool
+            ensures { result ≡ not (is_empty (characters word.now)) }
+        { !word.is_empty() },
+    )
 }
 
 // The blocks of the okurigana that are valid, with their words.

@@ -1,7 +1,7 @@
 use crate::{
     FileFault, LineFault, LineReason, files_list_one_thing, lines_spell_one_row,
-    lines_spell_rows_or_have_reasons, print_file, print_item, print_line, printing_order_moves_rows,
-    read_file, read_line,
+    lines_spell_rows_or_have_reasons, print_file, print_item, print_line,
+    printing_order_moves_rows, read_file, read_line,
 };
 use skk_calls::{Cand, Part};
 use skk_text::{Memory, Text, TextFault};
@@ -13,7 +13,13 @@ fn text(alloc: Global, content: &str) -> Result<Text, AllocError> {
 }
 
 // A text that is `start`, `unit` so many times, and then `end`.
-fn long_text(alloc: Global, start: &str, unit: &str, count: usize, end: &str) -> Result<Text, Memory> {
+fn long_text(
+    alloc: Global,
+    start: &str,
+    unit: &str,
+    count: usize,
+    end: &str,
+) -> Result<Text, Memory> {
     let mut text = Text::new(alloc);
     text.push_str(start)?;
     for _ in 0..count {
@@ -302,7 +308,10 @@ fn files_are_read_and_printed(rt: HostRuntime) -> Result<(), Fail> {
         }
     }
     let fault = read_file(alloc, b";; okuri-nasi entries.\n\xA4\xA2").err();
-    assert_eq!(rt; fault, Some(FileFault::NoText(TextFault::NotUtf8 { at: 23 })));
+    assert_eq!(rt;
+        fault,
+        Some(FileFault::NoText(TextFault::NotUtf8 { at: 23 }))
+    );
     files_list_one_thing();
     printing_order_moves_rows();
     Ok(())

@@ -1,10 +1,9 @@
-ghost use Rattle.std.specs.Prelude.{◌≡◌, ◌&&◌, ◌∷◌, ◌++◌, [], map, IfOk, OnOk};
-ghost use Rattle.skk_calls.specs.Canonical.{has_item};
+ghost use Rattle.std.specs.Prelude.{◌≡◌, ◌&&◌, ◌∷◌, ◌++◌, not, [], map, IfOk, OnOk};
 ghost use Rattle.std.specs.Option.{option_map};
+ghost use Rattle.skk_text.specs.Lists.{is_empty};
 ghost use Rattle.dict_format.specs.Reading.{taken, behind, if_closed, then_at, is_octal, octal_of, octal_at, escape_at, piece_at, behind_quote, closes_form, string_at, marked_at, strings_at, marked, quoted_word, said};
 ghost use Rattle.word_sets.specs.Strings.{characters};
 
-use crate::cut::has_some;
 use skk_text::Memory;
 use std::alloc::Global;
 
@@ -91,10 +90,11 @@ fn strings(alloc: Global, text: &[char]) -> Result<Option<Vec<String>>, Memory>
 }
 
 // Whether there are words, and a mark is closed behind them.
+#[tactic(auto, using(crate::proofs::Cutting::empty_by_length))]
 fn ends_mark(words: &[String], rest: &[char]) -> bool
-    ensures { result ≡ (has_item words.now && closes_form rest.now) }
+    ensures { result ≡ (not (is_empty words.now) && closes_form rest.now) }
 {
-    has_some(words) && closes_form(rest)
+    !words.is_empty() && closes_form(rest)
 }
 
 // The words of strings, each behind a space, and what stands behind the last of them.

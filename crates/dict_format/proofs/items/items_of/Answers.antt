@@ -1,6 +1,6 @@
 use Rattle.std.proofs.Common.{◌≡◌, ◌≤◌, ◌∙◌, ℕ, Bool, true, false, if◌then◌else◌, List, Bor, Ok, Err, length, sym, ap, map, drop, arith, refl}
+use Rattle.skk_text.specs.Lists.{is_empty}
 use Rattle.skk_calls.specs.declared.part.Part.{Part}
-use Rattle.skk_calls.specs.Canonical.{has_item}
 use Rattle.std.specs.List.{list_all}
 use Rattle.std.proofs.lemmas.List.{length-map}
 use Rattle.std.proofs.lemmas.List.Folds.{list_all-map}
@@ -9,15 +9,15 @@ use Rattle.dict_format.specs.declared.reason.LineReason.TheVariants.{LongCandida
 use Rattle.dict_format.specs.Reading.{fit_items_at, item_at, items_at, taken}
 use Rattle.dict_format.specs.RowOfItems.{item_fits}
 use Rattle.dict_format.specs.Views.{item_said}
-use Rattle.dict_format.proofs.Cutting.{has_some-drop, has_none-drop}
+use Rattle.dict_format.proofs.Cutting.{is_empty-drop_before, is_empty-drop_behind}
 use Rattle.dict_format.proofs.items.items_of.Goals as goal
 
 pub returns-then-taken-texts : goal.returns-then-taken-texts
 unfolding fit_items_at items_at
 returns-then-taken-texts c =
     let texts = map (λ text. text.now) c.args.texts.now in
-    let left : has_item (drop c.in_ok-items.taken texts) ≡ true =
-    has_some-drop texts c.in_ok-items.taken (omega (arith, c.if-taken-texts.true, length-map c.args.texts.now (λ text. text.now))) in
+    let left : is_empty (drop c.in_ok-items.taken texts) ≡ false =
+    is_empty-drop_before texts c.in_ok-items.taken (omega (arith, c.if-taken-texts.true, length-map c.args.texts.now (λ text. text.now))) in
     rw (c.in_ok-items.ensures.items, left) refl
 
 -- where each text was taken, the items are those of the texts if they fit
@@ -26,7 +26,7 @@ all_taken : (part : Part) (slices : List (Bor (List ℕ))) (items : List Item) (
 unfolding fit_items_at items_at
 all_taken part slices items count fit at past is =
     let texts = map (λ text. text.now) slices in
-    let left : has_item (drop count texts) ≡ false = has_none-drop texts count (omega (arith, past, length-map slices (λ text. text.now))) in
+    let left : is_empty (drop count texts) ≡ true = is_empty-drop_behind texts count (omega (arith, past, length-map slices (λ text. text.now))) in
     rw (at, left, list_all-map item_fits item_said items, is) refl
 
 pub returns-then-not-are_fit : goal.returns-then-not-are_fit

@@ -1,9 +1,9 @@
 use Rattle.std.proofs.Common.{◌≡◌, ◌∙◌, sym, ap, subst, List, ℕ, false, nat_lt, refl, arith}
 use Rattle.std.proofs.lemmas.Bool.{not-false, le-ltb}
 use Rattle.skk_text.specs.Text.{byte_len}
-use Rattle.skk_calls.specs.Rows.{is_row_key}
+use Rattle.skk_calls.specs.Rows.{is_row_key, reading_limit}
 use Rattle.dict_format.specs.Reading.{key_at}
-use Rattle.dict_format.specs.Reasons.{is_bad_reading, reading_limit, lacks_letter}
+use Rattle.dict_format.specs.Reasons.{is_bad_reading, lacks_letter}
 use Rattle.dict_format.proofs.KeyReading.{is_key-from}
 use Rattle.dict_format.proofs.line.key_of.Goals as goal
 

@@ -1,8 +1,8 @@
-use Rattle.std.proofs.Common.{◌≡◌, ◌++◌, ◌∷◌, [], ◌∙◌, Bool, sym, ap, subst, map, true, false, List, if◌then◌else◌, arith}
+use Rattle.std.proofs.Common.{◌≡◌, ◌++◌, ◌∷◌, not, [], ◌∙◌, Bool, sym, ap, subst, map, true, false, List, if◌then◌else◌, arith}
 use Rattle.std.specs.List.{list_any}
 use Rattle.std.proofs.lemmas.Bool.{not-true, not-false}
 use Rattle.std.proofs.lemmas.List.{append-nil}
-use Rattle.skk_calls.specs.Canonical.{has_item}
+use Rattle.skk_text.specs.Lists.{is_empty}
 use Rattle.skk_calls.specs.Rows.{Block, has_text}
 use Rattle.word_sets.specs.Strings.{characters}
 use Rattle.dict_format.specs.Building.{JoinsBlocks}
@@ -18,7 +18,7 @@ kept : (c : After-has_word) (b : Bool) (before : List Block) → c.has_word.resu
 kept c b before e =
     let block : Block = record { okuri = characters c.args.okuri; words = map characters c.args.more.items } in
     ap (λ some_word. before ++ (if some_word then block ∷ [] else []))
-    (has_word-is c.args.okuri c.args.more.items c.has_word.result (c.has_word.ensures ∙ ap (list_any (λ word. has_item (characters word))) c.deref.ensures.value) ∙ e)
+    (has_word-is c.args.okuri c.args.more.items c.has_word.result (c.has_word.ensures ∙ ap (list_any (λ word. not (is_empty (characters word)))) c.deref.ensures.value) ∙ e)
 
 pub returns-then-not-has_word : goal.returns-then-not-has_word
 returns-then-not-has_word c before joins =

@@ -3,14 +3,15 @@ use Rattle.skk_calls.specs.Rows.{Cand}
 use Rattle.word_sets.specs.Firsts.{with_new}
 use Rattle.word_sets.specs.Strings.{as_cand}
 use Rattle.dict_format.proofs.OnceMore.{once-some, once-none}
+use Rattle.dict_format.proofs.Strings.{empty_string}
 use Rattle.dict_format.proofs.row.add_cand.Goals as goal
 
 pub returns-in_ok-insert : goal.returns-in_ok-insert
 returns-in_ok-insert c before so_far =
     let cand = as_cand (c.args.word, c.args.note) in
     c.in_ok-insert.ensures.ok ∙ ap (λ cands. with_new (λ (one : Cand). one.word) cands cand) so_far
-    ∙ sym (once-some (λ (one : Cand). one.word) before cand (sym c.is_some.ensures ∙ c.if-is_some.true))
+    ∙ sym (once-some (λ (one : Cand). one.word) before cand (sym (empty_string c.args.word) ∙ sym c.is_empty.ensures ∙ c.if-not-is_empty.true))
 
-pub returns-else-is_some : goal.returns-else-is_some
-returns-else-is_some c before so_far =
-    so_far ∙ sym (once-none (λ (one : Cand). one.word) before (as_cand (c.args.word, c.args.note)) (sym c.is_some.ensures ∙ c.if-is_some.false))
+pub returns-else-not-is_empty : goal.returns-else-not-is_empty
+returns-else-not-is_empty c before so_far =
+    so_far ∙ sym (once-none (λ (one : Cand). one.word) before (as_cand (c.args.word, c.args.note)) (sym (empty_string c.args.word) ∙ sym c.is_empty.ensures ∙ c.if-not-is_empty.false))
