@@ -22,7 +22,8 @@ cand_word cand e =
     by (length cand.word) (byte_len cand.word) (byte_len cand.note) parts.0
     (and_parts (is_note cand.note) (nat_le (byte_len cand.word + byte_len cand.note) word_limit) parts.1).1
   where
-    by : (l w n : ℕ) → nat_le 1 l ≡ true → nat_le (w + n) word_limit ≡ true → (nat_le 1 l && nat_le w word_limit) ≡ true
+    by : (l w n : ℕ) → nat_le 1 l ≡ true → nat_le (w + n) word_limit ≡ true
+        → (nat_le 1 l && nat_le w word_limit) ≡ true
     by l w n has_item short = grind (arith, nat_tests)
 
 -- a list with an item at its front has one
@@ -44,8 +45,8 @@ chosen_is_block okuri cand words okuri_is cand_is all differ =
     })
 
 -- a block without a word is one where words are left
-pub left_is_block : (word : List ℕ) (block : Block) → is_block block ≡ true → is_empty (without_text word block.words) ≡ false
-    → is_block (block_without word block) ≡ true
+pub left_is_block : (word : List ℕ) (block : Block) → is_block block ≡ true
+    → is_empty (without_text word block.words) ≡ false → is_block (block_without word block) ≡ true
 left_is_block word block is some =
     let parts = block_parts block is in
     block_from_parts (block_without word block)

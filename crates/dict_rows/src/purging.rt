@@ -93,7 +93,8 @@ fn blocks_without(alloc: Global, blocks: &[Block], word: &Text) -> Result<Blocks
 // A copy of a block without a word, unless no word is left.
 fn block_without(alloc: Global, block: &Block, word: &Text) -> Result<Option<Block>, Memory>
     ensures { IfOk result (λ left. left
-        ≡ (if is_empty (without_text word.now block.now.words) then None else Some (block_without word.now block.now))) }
+        ≡ (if is_empty (without_text word.now block.now.words) then None
+        else Some (block_without word.now block.now))) }
 {
     let words = texts_without(alloc, block.words().as_slice(), word)?;
     if words.is_empty() {

@@ -14,7 +14,7 @@ use crate::index::Index;
 use crate::kept_row::KeptRow;
 use crate::plan::Plan;
 use dict_rows::{learn_row, line_length, purge_row};
-use skk_calls::{Cand, Learned, Okuri, Reply, Row, RowKey};
+use skk_calls::{Cand, LINE_LIMIT, Learned, Okuri, Reply, Row, RowKey};
 use skk_text::{Copies, Memory, Text};
 use std::alloc::Global;
 
@@ -35,7 +35,7 @@ pub fn plan_learn(
         return Ok(Plan::Still(Reply::StampsEnd));
     };
     let row = learn_row(alloc, index.row(book, key), key, okuri, cand, stamp)?;
-    let reply = learned(index, alloc, book, key, stamp)?;
+    let reply = learning_reply(index, alloc, book, key, stamp)?;
     plan_row(index, alloc, book, stamp, key, row, reply)
 }
 
@@ -75,7 +75,7 @@ pub fn plan_unlearn(index: &mut Index, alloc: Global, learned: &Learned) -> Resu
     if !is_stamped(learned.stamp(), row) {
         return Ok(Plan::Still(Reply::Overtaken(stamp_of(row))));
     }
-    let before = copied(alloc, learned.before())?;
+    let before = copy_of(alloc, learned.before())?;
     let count = index.count(book);
     make_move(index, alloc, book, count, key, before, Reply::Restored)
 }
@@ -123,7 +123,7 @@ fn plan_row(
     ensures room { IfOk result (λ plan. HasRoom index.new plan) }
 {
     let length = line_length(&row);
-    if length > LINE_LIMIT {
+    if length > LINE_LIMIT as u64 {
         return Ok(Plan::Still(Reply::TooBig(length)));
     }
     make_move(index, alloc, book, count, key, Some(row), reply)
@@ -166,7 +166,7 @@ fn keep(alloc: Global, row: Option<Row>) -> Result<Option<KeptRow>, Memory>
 }
 
 // The reply that a candidate was learnt with this stamp.
-fn learned(
+fn learning_reply(
     index: &Index,
     alloc: Global,
     book: u16,
@@ -177,13 +177,13 @@ fn learned(
     requires later { count_of index.now.state book < stamp }
     ensures { IfOk result (λ reply. reply ≡ learned_reply (record { book = book; key = key.now; stamp = stamp; before = row_at index.now.state book key.now })) }
 {
-    let before = copied(alloc, index.row(book, key))?;
+    let before = copy_of(alloc, index.row(book, key))?;
     let key = key.copy(alloc)?;
     Ok(Reply::Learned(Learned::new(book, key, stamp, before)))
 }
 
-// A row, copied, where there is one.
-fn copied(alloc: Global, row: Option<&Row>) -> Result<Option<Row>, Memory>
+// The copy of a row, where there is one.
+fn copy_of(alloc: Global, row: Option<&Row>) -> Result<Option<Row>, Memory>
     ensures { IfOk result (λ copy. copy ≡ option_copied row.entry) }
 {
     match row {
@@ -211,6 +211,3 @@ fn stamp_of(row: Option<&Row>) -> u64
         None => 0,
     }
 }
-
-// The most bytes of a line.
-const LINE_LIMIT: u64 = 65_535;

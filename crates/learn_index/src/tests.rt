@@ -1,7 +1,7 @@
-ghost use Rattle.std.specs.Prelude.{◌≡◌, ◌||◌, true, false, IfOk};
+ghost use Rattle.std.specs.Prelude.{◌≡◌, ◌||◌, true, false, IfOk, not};
 ghost use Rattle.std.specs.Bool.{OnTrue};
 ghost use Rattle.skk_calls.specs.declared.part.Part.TheVariants.{Ari};
-ghost use Rattle.skk_calls.specs.Canonical.{has_item};
+ghost use Rattle.skk_text.specs.Lists.{is_empty};
 ghost use Rattle.skk_calls.specs.Dictionary.{is_fit};
 ghost use Rattle.skk_calls.specs.Rows.{is_word};
 ghost use Rattle.skk_calls.specs.States.{fits_count, has_stamp};
@@ -235,7 +235,7 @@ impl Desk {
         requires fit { is_fit call ≡ true }
     {
         let reply = self.reply(alloc, call)?;
-        let told = told(alloc, &reply)?;
+        let told = reply_text(alloc, &reply)?;
         if let Some(learned) = learned_of(reply) {
             self.learnings.push(learned)?;
         }
@@ -285,14 +285,14 @@ impl Desk {
         let key = key(alloc, line.reading)?;
         let learned = Learned::new(line.number, key, line.word.parse()?, None);
         self.learnings.push(learned)?;
-        done(alloc)
+        done_text(alloc)
     }
 
     // Takes back what was learnt, by its place among what is kept.
     fn unlearn(&mut self, alloc: Global, place: u16) -> Result<String, Fail> {
         let place = usize::from(place);
         if place >= self.learnings.len() {
-            return done(alloc);
+            return done_text(alloc);
         }
         let learned = self.learnings.remove(place);
         self.ask(alloc, Call::Unlearn { learned })
@@ -312,7 +312,7 @@ impl Desk {
         let mut books = Books::new(alloc);
         books.push(self.index.book(alloc, number)?)?;
         self.system = System::of_books(alloc, books)?;
-        done(alloc)
+        done_text(alloc)
     }
 
     // Puts a row with a block alone into a book, with its count.
@@ -321,7 +321,7 @@ impl Desk {
         let block = one_block(alloc, line)?;
         let key = key(alloc, line.reading)?;
         if key.part() != Part::Ari {
-            return done(alloc);
+            return done_text(alloc);
         }
         let row = block_row(alloc, key, block, count)?;
         put_into(&mut self.index, alloc, line.number, count, row)
@@ -342,7 +342,7 @@ impl Desk {
         if self.index.count(line.number) <= count {
             self.index.drop_row(alloc, line.number, count, &key)?;
         }
-        done(alloc)
+        done_text(alloc)
     }
 
     fn set_count(&mut self, alloc: Global, line: &Line) -> Result<String, Fail> {
@@ -350,13 +350,13 @@ impl Desk {
         if self.index.count(line.number) <= count {
             self.index.set_count(alloc, line.number, count)?;
         }
-        done(alloc)
+        done_text(alloc)
     }
 
     // Goes on with what was rebuilt.
     fn swap(&mut self, alloc: Global) -> Result<String, Fail> {
         swap(&mut self.index, &mut self.rebuilt);
-        done(alloc)
+        done_text(alloc)
     }
 
     // Tells of a row, the readings of a book, a count, or how many rows there are.
@@ -364,9 +364,9 @@ impl Desk {
         match line.command {
             "row" => {
                 let key = key(alloc, line.reading)?;
-                told_row(alloc, self.index.row(line.number, &key))
+                row_text(alloc, self.index.row(line.number, &key))
             }
-            "book" => told_readings(alloc, &self.index.book(alloc, line.number)?),
+            "book" => readings_text(alloc, &self.index.book(alloc, line.number)?),
             "count" => Ok(format!(in alloc; "{}", self.index.count(line.number))?),
             _ => Ok(format!(in alloc; "{}", self.index.rows())?),
         }
@@ -374,7 +374,7 @@ impl Desk {
 }
 
 // What a command tells that tells nothing.
-fn done(alloc: Global) -> Result<String, Fail> {
+fn done_text(alloc: Global) -> Result<String, Fail> {
     Ok(String::from_str(alloc, "done")?)
 }
 
@@ -387,9 +387,9 @@ fn learned_of(reply: Reply) -> Option<Learned> {
 }
 
 // A reply.
-fn told(alloc: Global, reply: &Reply) -> Result<String, Fail> {
+fn reply_text(alloc: Global, reply: &Reply) -> Result<String, Fail> {
     let told = match reply {
-        Reply::Found(cands) => return told_words(alloc, cands),
+        Reply::Found(cands) => return words_text(alloc, cands),
         Reply::Learned(learned) => {
             let before = learned.before().map_or(0, |row| row.stamp());
             format!(in alloc; "learned {} after {before}", learned.stamp())?
@@ -443,20 +443,20 @@ fn word(alloc: Global, content: &str) -> Result<Text, Fail>
 }
 
 // The words of candidates.
-fn told_words(alloc: Global, cands: &Cands) -> Result<String, Fail> {
+fn words_text(alloc: Global, cands: &Cands) -> Result<String, Fail> {
     let mut told = String::new(alloc);
     add_words(&mut told, cands)?;
-    trimmed(alloc, &told)
+    trim(alloc, &told)
 }
 
 // The readings of a book.
-fn told_readings(alloc: Global, book: &Book) -> Result<String, Fail> {
+fn readings_text(alloc: Global, book: &Book) -> Result<String, Fail> {
     let mut told = String::new(alloc);
     for row in book.rows().as_slice() {
         told.push(' ')?;
         told.push_str(row.key().reading().as_str())?;
     }
-    trimmed(alloc, &told)
+    trim(alloc, &told)
 }
 
 // The words of candidates, each with a space before it.
@@ -478,7 +478,7 @@ fn add_texts(told: &mut String, texts: &Texts) -> Result<(), AllocError> {
 }
 
 // A row: its stamp, its words, its blocks, and what it hides.
-fn told_row(alloc: Global, row: Option<&Row>) -> Result<String, Fail> {
+fn row_text(alloc: Global, row: Option<&Row>) -> Result<String, Fail> {
     let Some(row) = row else {
         return Ok(String::from_str(alloc, "none")?);
     };
@@ -502,7 +502,7 @@ fn add_blocks(told: &mut String, blocks: &Blocks) -> Result<(), AllocError> {
 }
 
 // A text without the spaces around it.
-fn trimmed(alloc: Global, told: &str) -> Result<String, Fail> {
+fn trim(alloc: Global, told: &str) -> Result<String, Fail> {
     Ok(String::from_str(alloc, told.trim())?)
 }
 
@@ -538,7 +538,7 @@ fn put_into(
         return Err("does not fit".into());
     }
     index.put(alloc, number, count, row)?;
-    done(alloc)
+    done_text(alloc)
 }
 
 // Whether a row that hides no words may stand in a book of this count.
@@ -560,7 +560,7 @@ fn has_stamp(row: &Row, count: u64) -> bool
 
 // Whether a row has a candidate or a block.
 fn has_words(row: &Row) -> bool
-    ensures { result ≡ (has_item row.now.cands || has_item row.now.blocks) }
+    ensures { result ≡ (not (is_empty row.now.cands) || not (is_empty row.now.blocks)) }
 {
-    row.cands().len() > 0 || row.blocks().len() > 0
+    !row.cands().is_empty() || !row.blocks().is_empty()
 }

@@ -1,4 +1,4 @@
-use Rattle.std.proofs.Common.{◌≡◌, ◌≤◌, ◌||◌, ◌&&◌, ℕ, Bool, true, false, refl, min, nat_le, length, ap, sym, subst, ◌∙◌, arith}
+use Rattle.std.proofs.Common.{◌≡◌, ◌≤◌, ◌||◌, ◌&&◌, ℕ, Bool, true, false, refl, min, nat_le, length, ap, sym, subst, ◌∙◌, arith, not}
 use Rattle.std.specs.List.{list_all}
 use Rattle.std.proofs.lemmas.Bool.{and_from, OnTrue_from}
 use Rattle.std.proofs.lemmas.Bool.Decides.{nat_tests}
@@ -6,19 +6,22 @@ use Rattle.std.proofs.lemmas.List.{nil_from_length}
 use Rattle.skk_text.specs.Counts.{last_count}
 use Rattle.skk_text.specs.PairsLaws.{list_all-weaker}
 use Rattle.skk_text.specs.Text.{byte_len}
-use Rattle.skk_calls.specs.Canonical.{canonical, has_item, is_good, line_limit}
+use Rattle.skk_calls.specs.Canonical.{canonical, is_good, line_limit}
+use Rattle.skk_text.specs.Lists.{is_empty}
 use Rattle.skk_calls.specs.Dictionary.{line_length}
 use Rattle.skk_calls.specs.RowLaws.{block_parts, row_parts}
 use Rattle.skk_calls.specs.Rows.{Row, is_block, is_row, is_word}
 use Rattle.skk_calls.specs.States.{fits_count, has_stamp}
 use Rattle.learn_index.proofs.tests.fits_count.Goals as goal
 
-fits : (row : Row) (count : ℕ) → is_row row ≡ true → length row.hides ≤ 0 → line_length row ≤ 65535 → (has_item row.cands || has_item row.blocks) ≡ true → has_stamp count row ≡ true → fits_count count row ≡ true
+fits : (row : Row) (count : ℕ) → is_row row ≡ true → length row.hides ≤ 0 → line_length row ≤ 65535
+    → (not (is_empty row.cands) || not (is_empty row.blocks)) ≡ true → has_stamp count row ≡ true
+    → fits_count count row ≡ true
 fits row count valid none short says stamped =
     and_from (is_row row) (is_good row && has_stamp count row) valid
     (and_from (is_good row) (has_stamp count row)
-    (and_from (has_item row.cands || (has_item row.blocks || has_item row.hides)) (list_all is_word row.hides && (list_all (λ block. list_all is_word block.words) row.blocks && nat_le (byte_len (canonical row)) line_limit))
-    (some (has_item row.cands) (has_item row.blocks) (has_item row.hides) says)
+    (and_from (not (is_empty row.cands) || (not (is_empty row.blocks) || not (is_empty row.hides))) (list_all is_word row.hides && (list_all (λ block. list_all is_word block.words) row.blocks && nat_le (byte_len (canonical row)) line_limit))
+    (some (not (is_empty row.cands)) (not (is_empty row.blocks)) (not (is_empty row.hides)) says)
     (and_from (list_all is_word row.hides) (list_all (λ block. list_all is_word block.words) row.blocks && nat_le (byte_len (canonical row)) line_limit)
     (ap (list_all is_word) (nil_from_length row.hides (omega (arith, none))))
     (and_from (list_all (λ block. list_all is_word block.words) row.blocks) (nat_le (byte_len (canonical row)) line_limit)

@@ -3,7 +3,7 @@ use Rattle.skk_calls.specs.Learning.{is_row_before}
 use Rattle.skk_calls.specs.Rows.{RowKey}
 use Rattle.skk_calls.specs.States.{row_at}
 use Rattle.learn_index.proofs.Planned.{before_valid}
-use Rattle.learn_index.proofs.planning.learned.Goals as goal
+use Rattle.learn_index.proofs.planning.learning_reply.Goals as goal
 
 pub new-requires : goal.new-requires
 new-requires c =
