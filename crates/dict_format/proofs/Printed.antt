@@ -4,8 +4,6 @@ use Rattle.std.specs.List.{flat_map, slice_get}
 use Rattle.std.proofs.lemmas.Grind.{flat_map-append}
 use Rattle.std.proofs.lemmas.List.{append-nil, take_more}
 use Rattle.std.proofs.lemmas.Option.{slice_get_within, get_or_from_slice_get}
-use Rattle.std.proofs.lemmas.Str.{length-le-encodes}
-use Rattle.skk_text.specs.Text.{byte_len}
 use Rattle.skk_text.specs.Lists.{is_empty}
 use Rattle.skk_calls.specs.Canonical.{with_slash, quoted, mark_items, written_note, items, item, written_block}
 use Rattle.skk_calls.specs.Rows.{Row}
