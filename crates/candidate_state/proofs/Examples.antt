@@ -66,7 +66,7 @@ view_places = refl
 -- places among the candidates and behind them, inside a page, and questions at a single candidate and on a page
 pickings : map is_picking
     (at 0 0 ∷ at 1 0 ∷ at 1 1 ∷ at 4 3 ∷ at 4 4 ∷ at 5 4 ∷ at 12 5 ∷ at 11 11 ∷ at 12 11
-        ∷ asking_at 1 0 ∷ asking_at 4 3 ∷ asking_at 5 4 ∷ asking_at 12 11 ∷ [])
+    ∷ asking_at 1 0 ∷ asking_at 4 3 ∷ asking_at 5 4 ∷ asking_at 12 11 ∷ [])
     ≡ false ∷ true ∷ false ∷ true ∷ false ∷ true ∷ false ∷ false ∷ true ∷ true ∷ true ∷ false ∷ false ∷ []
 pickings = refl
 

@@ -2,6 +2,7 @@
 use Rattle.std.proofs.Common.{◌≡◌, ℕ, ◌^◌, ◌-◌, true, false, Option, None, Some, Result, Ok, Err, List, [], ◌∷◌, refl, map, codes, arith, lit≤, lit<}
 use Rattle.skk_text.specs.Counts.{one_more}
 use Rattle.skk_outside.specs.Memory.{CallCount, no_call_yet, after_success, after_failure, with_fault, bytes_of_pieces, first_nonempty_piece, without_first_bytes, names_differ, file_named}
+use Rattle.skk_outside.specs.Moved.{moved_source, moved_sink, moved_shelf}
 use Rattle.skk_outside.specs.Pieces.{pieces_left}
 use Rattle.skk_outside.specs.Shelves.{StandsAt, EndsBy, ReadsFrom}
 use Rattle.skk_outside.specs.Written.{IsPrefix}
@@ -10,11 +11,14 @@ use Rattle.skk_outside.specs.Written.{IsPrefix}
 counts : map one_more (0 ∷ 1 ∷ (2 ^ 64 - 2) ∷ (2 ^ 64 - 1) ∷ []) ≡ 1 ∷ 2 ∷ 0xFFFF_FFFF_FFFF_FFFF ∷ 0xFFFF_FFFF_FFFF_FFFF ∷ []
 counts = refl
 
--- how many calls there were, and how many of them failed
-abbrev shown : CallCount → List ℕ
-shown count = count.calls ∷ count.faults ∷ count.fails
+-- how many calls there were, how many of them failed, and which are to fail
+abbrev numbers : CallCount → List ℕ
+numbers count = count.calls ∷ count.faults ∷ count.fails
 
-calls : map shown (no_call_yet (7 ∷ []) ∷ after_success (no_call_yet []) ∷ after_failure (no_call_yet []) ∷ with_fault (no_call_yet []) ∷ after_failure (after_success (no_call_yet (1 ∷ 2 ∷ []))) ∷ [])
+calls :
+    map numbers (
+    no_call_yet (7 ∷ []) ∷ after_success (no_call_yet []) ∷ after_failure (no_call_yet [])
+    ∷ with_fault (no_call_yet []) ∷ after_failure (after_success (no_call_yet (1 ∷ 2 ∷ []))) ∷ [])
     ≡ (0 ∷ 0 ∷ 7 ∷ []) ∷ (1 ∷ 0 ∷ []) ∷ (1 ∷ 1 ∷ []) ∷ (0 ∷ 1 ∷ []) ∷ (2 ∷ 1 ∷ 1 ∷ 2 ∷ []) ∷ []
 calls = refl
 
@@ -80,3 +84,16 @@ reads = (
   λ is. let first = is.0 in cc,
   λ is. omega (arith, is.1 refl (lit< tt)),
 )
+
+-- things whose states are numbers, which hold their own number and have one fault less: before and after
+source_moved : moved_source (λ s. Some (s ∷ [])) (λ s. s - 1) 7 9
+    ≡ record { left = Some (7 ∷ []); left' = Some (9 ∷ []); faults = 6; faults' = 8 }
+source_moved = refl
+
+sink_moved : moved_sink (λ s. Some (s ∷ [])) (λ s. s - 1) 7 9
+    ≡ record { written = Some (7 ∷ []); written' = Some (9 ∷ []); faults = 6; faults' = 8 }
+sink_moved = refl
+
+shelf_moved : moved_shelf (λ s name. Some (s ∷ name)) (λ s. s - 1) 7 9
+    ≡ record { file = λ name. Some (7 ∷ name); faults = 6; faults' = 8 }
+shelf_moved = refl
