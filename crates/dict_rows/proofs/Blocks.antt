@@ -4,7 +4,6 @@ use Rattle.std.specs.List.{list_all, list_any}
 use Rattle.std.specs.Option.{unwrap_or}
 use Rattle.std.proofs.lemmas.Bool.{and_from, and_parts}
 use Rattle.std.proofs.lemmas.Bool.Decides.{nat_tests}
-use Rattle.std.proofs.lemmas.Str.{length-le-encodes}
 use Rattle.skk_text.specs.PairsLaws.{list_all-filter, all_pairs-filter}
 use Rattle.skk_text.specs.Text.{byte_len}
 use Rattle.skk_text.specs.Lists.{is_empty}

@@ -71,10 +71,6 @@ canonical row = row.key.reading ++ 0x20 ∷ 0x2F ∷ flat_map with_slash (items 
 abbrev pub line_limit : ℕ
 line_limit = 65535
 
--- a list has an item
-abbrev pub has_item : {X : Type 0} → List X → Bool
-has_item xs = not (is_empty xs)
-
 -- a row can be written on a line: it says something, its words are words, and its line is not too long
 abbrev pub is_good : Row → Bool
 is_good row =
