@@ -10,12 +10,14 @@ use Rattle.skk_calls.specs.declared.part.Part.TheVariants.{Nasi, Ari}
 use Rattle.romaji_rules.specs.declared.rule.Rule.{Rule}
 use Rattle.romaji_rules.specs.Fitting.{is_rule_set}
 use Rattle.romaji_rules.specs.Standard.{rule, doubled}
+use Rattle.romaji_rules.specs.Typed.{extends_pending}
 use Rattle.reading_state.specs.declared.reading_do.AfterConfirm.TheVariants.{Nothing, ToAscii, ToWide, OpenReading, Newline}
 use Rattle.reading_state.specs.declared.reading_do.ReadingThen.{ReadingThen}
 use Rattle.reading_state.specs.declared.reading_do.ReadingThen.TheVariants.{Stay, Convert, AskCompletions, Drop, Confirm}
 use Rattle.reading_state.specs.Keys.{key_of, okuri_of}
-use Rattle.reading_state.specs.Puts.{Begun, Reading, new_reading, new_abbrev, is_open, may_complete, later_notice}
-use Rattle.reading_state.specs.Reading.{ReadingStep, reading_step, step_to, completed}
+use Rattle.reading_state.specs.Puts.{Begun, Reading, new_reading, new_abbrev, suffix_reading, is_open, may_complete}
+use Rattle.reading_state.specs.Puts.{later_notice}
+use Rattle.reading_state.specs.Reading.{ReadingStep, reading_step, step_to, completed, is_alone, is_doubled}
 
 -- vowels, rows of k and t, n, doubled letters, and rules with outputs that are refused here or there
 abbrev rules : List Rule
@@ -54,13 +56,16 @@ abbrev chars : String → List Key
 chars text = map Char (codes text)
 
 -- the step that the last of some keys makes
-abbrev last_step : ReadingStep → List Key → ReadingStep
-last_step step [] = step
-last_step step (key ∷ keys) = last_step (reading_step rules step.reading key) keys
+abbrev last_step : List Rule → ReadingStep → List Key → ReadingStep
+last_step set step [] = step
+last_step set step (key ∷ keys) = last_step set (reading_step set step.reading key) keys
 
--- what a reading is behind keys, and what the last of them gives
+-- what a reading is behind keys, and what the last of them gives, by a table of rules
+abbrev pressed_by : List Rule → Reading → List Key → ReadingStep
+pressed_by set reading keys = last_step set (step_to reading notices.Empty Stay) keys
+
 abbrev pressed : Reading → List Key → ReadingStep
-pressed reading keys = last_step (step_to reading notices.Empty Stay) keys
+pressed = pressed_by rules
 
 -- the last of the keys gives no notice
 abbrev quiet : Reading → ReadingThen → ReadingStep
@@ -146,6 +151,77 @@ okurigana : Types (
 unfolding lib.Utf8.encode
 okurigana = refl
 
+-- the consonants but `n` stand doubled before an okurigana, and no vowel does
+doubled_letters : map is_doubled (codes "abcdefghijklmnopqrstuvwxyz")
+    ≡ false ∷ true ∷ true ∷ true ∷ false ∷ true ∷ true ∷ true ∷ false ∷ true ∷ true ∷ true ∷ true
+    ∷ false ∷ false ∷ true ∷ true ∷ true ∷ true ∷ true ∷ false ∷ true ∷ true ∷ true ∷ true ∷ true ∷ []
+doubled_letters = refl
+
+-- a letter is alone where nothing else is pending, before it or behind it
+letters_alone : map (λ pending. is_alone (code "k") (codes pending)) ("" ∷ "k" ∷ "t" ∷ "kk" ∷ "ky" ∷ "yk" ∷ "kkk" ∷ [])
+    ≡ false ∷ true ∷ false ∷ false ∷ false ∷ false ∷ false ∷ []
+letters_alone = refl
+
+-- か with a letter pending, and the upper-case one, which doubles it: っ begins the okurigana, and the letter is pending
+abbrev doubles : String → String → Reading × List Key × ReadingStep
+doubles letter upper =
+    (opened (codes "か") None letter, chars upper, quiet (opened (codes "か") (okuri letter (codes "っ")) letter) Stay)
+
+-- each consonant that is pending is doubled by its upper-case letter, but for `n`, and for `l` and `q`, whose upper-case
+-- letters are keys of their own
+doubled_consonants : Makes (
+    doubles "b" "B" ∷ doubles "c" "C" ∷ doubles "d" "D" ∷ doubles "f" "F" ∷ doubles "g" "G" ∷ doubles "h" "H"
+    ∷ doubles "j" "J" ∷ doubles "k" "K" ∷ doubles "m" "M" ∷ doubles "p" "P" ∷ doubles "r" "R" ∷ doubles "s" "S"
+    ∷ doubles "t" "T" ∷ doubles "v" "V" ∷ doubles "w" "W" ∷ doubles "x" "X" ∷ doubles "y" "Y" ∷ doubles "z" "Z"
+    ∷ (opened (codes "か") None "n", chars "N", quiet (opened (codes "かん") (okuri "n" []) "n") Stay)
+    ∷ (opened (codes "か") None "l", chars "L", quiet (plain (codes "か")) (Confirm false ToWide))
+    ∷ (opened (codes "か") None "q", chars "Q", quiet (plain (codes "か")) (Confirm false OpenReading))
+    ∷ [])
+unfolding lib.Utf8.encode
+doubled_consonants = refl
+
+-- a vowel that is pending is flushed, as are two letters, and a letter behind an empty reading
+not_doubled : Makes (
+    (opened (codes "か") None "a", chars "A", quiet (begun (codes "かあ") "a" (codes "あ")) Convert)
+    ∷ (opened (codes "か") None "i", chars "I", quiet (begun (codes "かい") "i" (codes "い")) Convert)
+    ∷ (opened (codes "か") None "u", chars "U", quiet (begun (codes "かう") "u" (codes "う")) Convert)
+    ∷ (opened (codes "か") None "o", chars "O", quiet (begun (codes "かお") "o" (codes "お")) Convert)
+    ∷ (opened (codes "か") None "e", chars "E", step_to (begun (codes "か") "e" []) notices.Reading Stay)
+    ∷ (opened (codes "か") None "ky", chars "K", quiet (opened (codes "か") (okuri "k" []) "k") Stay)
+    ∷ (opened (codes "か") None "yk", chars "K", quiet (opened (codes "か") (okuri "k" []) "k") Stay)
+    ∷ (opened (codes "か") None "tt", chars "T", quiet (opened (codes "かっ") (okuri "t" []) "t") Stay)
+    ∷ (opened [] None "z", chars "Z", quiet (opened [] None "z") Stay)
+    ∷ [])
+unfolding lib.Utf8.encode
+not_doubled = refl
+
+-- か, and an upper-case letter whose lower-case one begins an input: it waits in the okurigana
+abbrev waits : String → String → Reading × List Key × ReadingStep
+waits letter upper = (plain (codes "か"), chars upper, quiet (opened (codes "か") (okuri letter []) letter) Stay)
+
+-- か, and one whose lower-case letter is an input: its kana is the okurigana, which is whole
+abbrev completes : String → String → String → Reading × List Key × ReadingStep
+completes letter upper kana = (plain (codes "か"), chars upper, quiet (begun (codes "か") letter (codes kana)) Convert)
+
+-- か, and one whose lower-case letter is no kana: it is refused in the okurigana that it begins
+abbrev refuses : String → String → Reading × List Key × ReadingStep
+refuses letter upper = (plain (codes "か"), chars upper, step_to (begun (codes "か") letter []) notices.Reading Stay)
+
+-- each letter from `A` to `Z` but `L` and `Q` begins an okurigana behind a reading, and no character beside them does
+upper_case_letters : Makes (
+    completes "a" "A" "あ" ∷ refuses "b" "B" ∷ refuses "c" "C" ∷ refuses "d" "D" ∷ refuses "e" "E" ∷ refuses "f" "F"
+    ∷ waits "g" "G" ∷ refuses "h" "H" ∷ completes "i" "I" "い" ∷ refuses "j" "J" ∷ waits "k" "K" ∷ refuses "m" "M"
+    ∷ waits "n" "N" ∷ completes "o" "O" "お" ∷ refuses "p" "P" ∷ refuses "r" "R" ∷ refuses "s" "S" ∷ waits "t" "T"
+    ∷ completes "u" "U" "う" ∷ refuses "v" "V" ∷ refuses "w" "W" ∷ waits "x" "X" ∷ refuses "y" "Y" ∷ waits "z" "Z"
+    ∷ (plain (codes "か"), chars "L", quiet (plain (codes "か")) (Confirm false ToWide))
+    ∷ (plain (codes "か"), chars "Q", quiet (plain (codes "か")) (Confirm false OpenReading))
+    ∷ (plain (codes "か"), chars "@", quiet (plain (codes "か@")) Stay)
+    ∷ (plain (codes "か"), chars "[", quiet (plain (codes "か[")) Stay)
+    ∷ (plain (codes "か"), chars "`", quiet (plain (codes "か`")) Stay)
+    ∷ [])
+unfolding lib.Utf8.encode
+upper_case_letters = refl
+
 -- behind an empty reading an upper-case letter is read as the lower-case one, and in an okurigana it goes on
 upper_case : Types (
     ("A", quiet (plain (codes "あ")) Stay) ∷ ("K", quiet (opened [] None "k") Stay) ∷ ("kK", quiet (opened [] None "k") Stay)
@@ -154,6 +230,59 @@ upper_case : Types (
     ∷ [])
 unfolding lib.Utf8.encode
 upper_case = refl
+
+-- inputs that begin with a key of the reading state, or go on with one, and a vowel that waits for more
+abbrev odd_rules : List Rule
+odd_rules =
+    rule (codes "a") (codes "あ") ∷ rule (codes "ka") (codes "か") ∷ rule (codes "e") (codes "え")
+    ∷ rule (codes "ea") (codes "えあ") ∷ rule (codes "qa") (codes "くぁ") ∷ rule (codes "la") (codes "ら")
+    ∷ rule (codes "/a") (codes "さ") ∷ rule (codes ">>") (codes "》") ∷ rule (codes "zq") (codes "？")
+    ∷ rule (codes "z>") (codes "≫") ∷ []
+
+odd_rule_set : is_rule_set odd_rules ≡ true
+odd_rule_set = refl
+
+-- the keys make of a new reading what a table says, by these rules
+abbrev TypesOddly : List (String × ReadingStep) → Type 0
+TypesOddly table =
+    map (λ line. pressed_by odd_rules new_reading (chars line.0)) table ≡ map (λ line. line.1) table
+
+-- nothing goes on with nothing: `q` and `l` confirm, and `>` ends a prefix. Where something is pending that they go on
+-- with, the rules read them, as they do a key that is none of the reading state's
+with_nothing_pending : TypesOddly (
+    ("q", quiet (plain []) (Confirm true Nothing)) ∷ ("aq", quiet (plain (codes "あ")) (Confirm true Nothing))
+    ∷ ("al", quiet (plain (codes "あ")) (Confirm false ToAscii)) ∷ ("zq", quiet (plain (codes "？")) Stay)
+    ∷ ("azq", quiet (plain (codes "あ？")) Stay) ∷ ("/", quiet (opened [] None "/") Stay)
+    ∷ ("/a", quiet (plain (codes "さ")) Stay) ∷ (">", quiet (opened [] None ">") Stay)
+    ∷ (">>", quiet (plain (codes "》")) Stay) ∷ (">a", quiet (plain (codes "あ")) Stay)
+    ∷ ("a>", quiet (plain (codes "あ>")) Convert) ∷ ("z>", quiet (plain (codes "≫")) Stay)
+    ∷ ("az>", quiet (plain (codes "あ≫")) Stay) ∷ ("KaeE", quiet (opened (codes "かえ") (okuri "e" []) "e") Stay)
+    ∷ [])
+unfolding lib.Utf8.encode
+with_nothing_pending = refl
+
+nothing_goes_on : map (λ c. extends_pending odd_rules [] c) (codes "akqlz/>") ≡ replicate 7 false
+nothing_goes_on = refl
+
+-- a mark `>` stays where more is typed behind it
+behind_marks : Types (
+    (">a", quiet (plain (codes ">あ")) Stay) ∷ (">a>", quiet (plain (codes ">あ>")) Convert)
+    ∷ (">ka ", quiet (plain (codes ">か")) Convert) ∷ (">a>i", quiet (plain (codes ">あ>い")) Stay)
+    ∷ (">;", quiet (plain (codes ">;")) Stay) ∷ ("a>n>", quiet (plain (codes "あ>ん>")) Convert)
+    ∷ (">KaK", quiet (opened (codes ">") (okuri "k" (codes "か")) "k") Stay)
+    ∷ [])
+unfolding lib.Utf8.encode
+behind_marks = refl
+
+-- so it does in a reading that was opened for a suffix
+suffixes : Makes (
+    (suffix_reading, chars "ka", quiet (plain (codes ">か")) Stay)
+    ∷ (suffix_reading, chars " ", quiet (plain (codes ">")) Convert)
+    ∷ (suffix_reading, chars ">", quiet (plain (codes ">>")) Convert) ∷ (suffix_reading, Bs ∷ [], quiet (plain []) Stay)
+    ∷ (suffix_reading, chars "kaKu", quiet (begun (codes ">か") "k" (codes "く")) Convert)
+    ∷ [])
+unfolding lib.Utf8.encode
+suffixes = refl
 
 -- Limits, and characters that are refused
 
@@ -198,6 +327,33 @@ two_notices : Makes (
     ∷ [])
 unfolding lib.Utf8.encode
 two_notices = refl
+
+-- か with the okurigana っ, and with one that is full
+abbrev sokuon : Reading
+sokuon = begun (codes "か") "t" (codes "っ")
+
+abbrev full_okuri : Reading
+full_okuri = begun (codes "か") "k" (long_okuri 20)
+
+-- what a flush tells stays where the rest of the key tells nothing: it converts or confirms the reading, begins an
+-- okurigana or gives one up, or asks for completions
+flushed_notices : Makes (
+    (plain (long 252), chars "nK", step_to (opened (long 252) (okuri "k" []) "k") notices.Limit Stay)
+    ∷ (plain (long 252), chars "nl", step_to (plain (long 252)) notices.Limit (Confirm false ToAscii))
+    ∷ (plain (long 252), chars "nL", step_to (plain (long 252)) notices.Limit (Confirm false ToWide))
+    ∷ (plain (long 252), chars "nQ", step_to (plain (long 252)) notices.Limit (Confirm false OpenReading))
+    ∷ (plain (long 252), chars "n" ++ Ret ∷ [], step_to (plain (long 252)) notices.Limit (Confirm false Newline))
+    ∷ (plain (long 252), chars "n" ++ Tab ∷ [], step_to (plain (long 252)) notices.Limit AskCompletions)
+    ∷ (plain [], chars "x" ++ Tab ∷ [], step_to (plain []) notices.Reading AskCompletions)
+    ∷ (plain [], chars "xQ", step_to (plain []) notices.Reading (Confirm false OpenReading))
+    ∷ (plain [], chars "xq", step_to (plain []) notices.Reading (Confirm true Nothing))
+    ∷ (plain (codes "か"), chars "X ", step_to (plain (codes "か")) notices.Reading Stay)
+    ∷ (sokuon, chars "x ", step_to sokuon notices.Reading Convert)
+    ∷ (sokuon, chars "xq", step_to sokuon notices.Reading (Confirm true Nothing))
+    ∷ (full_okuri, chars "n ", step_to full_okuri notices.Limit Convert)
+    ∷ [])
+unfolding lib.Utf8.encode
+flushed_notices = refl
 
 notices_in_turn : map (λ (pair : Notice × Notice). later_notice pair.0 pair.1)
     ((notices.Limit, notices.Empty) ∷ (notices.Limit, notices.Reading) ∷ (notices.Empty, notices.Limit) ∷ (notices.Empty, notices.Empty) ∷ [])
@@ -285,6 +441,42 @@ completions_given_up : Makes (
     ∷ [])
 unfolding lib.Utf8.encode
 completions_given_up = refl
+
+-- an abbreviation stays one where it is completed: its characters are put as themselves behind the completion
+abbrev words : List (List ℕ)
+words = codes "skk" ∷ codes "sky" ∷ []
+
+abbrev abbreviated_at : ℕ → String → Reading
+abbreviated_at place text =
+    record (abbreviated (codes text)) { completions = Some (record { readings = words; place = place }) }
+
+completed_abbreviations :
+    (completed (abbreviated (codes "sk")) words ≡ record { reading = abbreviated_at 0 "skk"; notice = notices.Empty })
+    × (completed (abbreviated (codes "sk")) []
+    ≡ record { reading = abbreviated (codes "sk"); notice = notices.NoCompletion })
+completed_abbreviations = (refl, refl)
+
+-- what is kept of a reading that is completed: its okurigana and what is pending, and no completions of before
+completed_readings : map (λ (reading : Reading). (completed reading (codes "かき" ∷ [])).reading)
+    (opened (codes "か") (okuri "k" (codes "く")) "n" ∷ completed_at 2 "かき" ∷ [])
+    ≡ map (λ (reading : Reading). record reading { completions = Some (record { readings = codes "かき" ∷ []; place = 0 }) })
+    (opened (codes "かき") (okuri "k" (codes "く")) "n" ∷ plain (codes "かき") ∷ [])
+completed_readings = refl
+
+in_completed_abbreviations : Makes (
+    (abbreviated_at 0 "skk", Tab ∷ [], quiet (abbreviated_at 1 "sky") Stay)
+    ∷ (abbreviated_at 1 "sky", Tab ∷ [], step_to (abbreviated_at 1 "sky") notices.NoMore Stay)
+    ∷ (abbreviated_at 1 "sky", chars ",", quiet (abbreviated_at 0 "skk") Stay)
+    ∷ (abbreviated_at 0 "skk", chars ",", step_to (abbreviated_at 0 "skk") notices.NoMore Stay)
+    ∷ (abbreviated_at 0 "skk", chars "a.K", quiet (abbreviated (codes "skka.K")) Stay)
+    ∷ (abbreviated_at 0 "skk", chars "q", quiet (abbreviated (codes "skkq")) Stay)
+    ∷ (abbreviated_at 0 "skk", chars ">", quiet (abbreviated (codes "skk>")) Stay)
+    ∷ (abbreviated_at 1 "sky", chars " ", quiet (abbreviated (codes "sky")) Convert)
+    ∷ (abbreviated_at 1 "sky", Cj ∷ [], quiet (abbreviated (codes "sky")) (Confirm false Nothing))
+    ∷ (abbreviated_at 1 "sky", Bs ∷ [], quiet (abbreviated (codes "sk")) Stay)
+    ∷ [])
+unfolding lib.Utf8.encode
+in_completed_abbreviations = refl
 
 -- completions that are kept are valid readings, and the place is that of one of them
 kept_completions : map may_complete (

@@ -2,13 +2,14 @@
 use Rattle.std.proofs.Common.{◌≡◌, ◌∙◌, ℕ, true, false, ◌&&◌, not, List, [], ◌∷◌, ◌++◌, Option, None, Some, Result, Ok, Err, sym, ap, refl}
 use Rattle.std.specs.Result.{IsOk, IsErr}
 use Rattle.std.proofs.lemmas.Bool.{and_parts, and_from, not-true}
+use Rattle.skk_text.specs.Lists.{is_empty}
 use Rattle.skk_text.specs.Text.{without_last}
 use Rattle.skk_text.specs.declared.notice.Notice.{Notice}
 use Rattle.skk_calls.specs.Rows.{is_letter}
 use Rattle.romaji_rules.specs.declared.out.Out.{Out}
 use Rattle.romaji_rules.specs.declared.rule.Rule.{Rule}
 use Rattle.romaji_rules.specs.Typed.{fed}
-use Rattle.reading_state.specs.Puts.{Begun, Reading, Put, is_nil, may_read, may_end, fits_reading, later_notice, refusal, unless_refused}
+use Rattle.reading_state.specs.Puts.{Begun, Reading, Put, may_read, may_end, fits_reading, later_notice, refusal, unless_refused}
 use Rattle.reading_state.specs.Reading.{flush, begin_okuri, ends_prefix, prefix_step}
 use Rattle.reading_state.specs.declared.reading_do.ReadingThen.TheVariants.{Convert}
 use Rattle.reading_state.proofs.Texts.{may_end-without_last}
@@ -18,14 +19,14 @@ pub record Kept (text : List ℕ) (begun : Begun) : Type 0 where
   pub may : may_read text ≡ true
   pub letter : is_letter (begun.letter ∷ []) ≡ true
   pub kana : may_end begun.text ≡ true
-  pub some : is_nil text ≡ false
+  pub some : is_empty text ≡ false
 
 pub kept : (text : List ℕ) (okuri : Option Begun) (begun : Begun) → (may_read text && fits_reading text okuri) ≡ true → okuri ≡ Some begun → Kept text begun
 kept text okuri begun is e =
     let parts = and_parts (may_read text) (fits_reading text okuri) is in
     let fits = and_parts (is_letter (begun.letter ∷ [])) _ (ap (fits_reading text) (sym e) ∙ parts.1) in
     let rest = and_parts (may_end begun.text) _ fits.1 in
-    record { may = parts.0; letter = fits.0; kana = rest.0; some = not-true (is_nil text) rest.1 }
+    record { may = parts.0; letter = fits.0; kana = rest.0; some = not-true (is_empty text) rest.1 }
 
 -- an okurigana without its last kana may be begun too
 pub kept-shortened : (text : List ℕ) (okuri : Option Begun) (begun : Begun) → (may_read text && fits_reading text okuri) ≡ true → okuri ≡ Some begun
@@ -35,7 +36,7 @@ kept-shortened text okuri begun is e =
     and_from _ _ k.may (and_from _ _ k.letter (and_from _ _ (may_end-without_last begun.text k.kana) (ap not k.some)))
 
 -- an okurigana that stands behind a reading may stand behind another that is not empty
-pub refitted : (old new : List ℕ) (okuri : Option Begun) → may_read new ≡ true → is_nil new ≡ false
+pub refitted : (old new : List ℕ) (okuri : Option Begun) → may_read new ≡ true → is_empty new ≡ false
     → (may_read old && fits_reading old okuri) ≡ true → (may_read new && fits_reading new okuri) ≡ true
 refitted old new None may some is = and_from _ _ may refl
 refitted old new (Some begun) may some is =
@@ -48,7 +49,8 @@ ok_unless (Ok value) none = refl
 ok_unless (Err fault) none = absurd (none refl)
 
 -- `>` ends a prefix behind a flush that leaves a reading
-ends : (okuri : Option Begun) (flush : Put) → okuri ≡ None → is_nil flush.reading.text ≡ false → ends_prefix okuri flush ≡ true
+ends : (okuri : Option Begun) (flush : Put) → okuri ≡ None → is_empty flush.reading.text ≡ false
+    → ends_prefix okuri flush ≡ true
 ends None flush e some = ap not some
 ends (Some begun) flush e some = cc
 
@@ -63,7 +65,8 @@ module _ (rules : List Rule) (reading seen : Reading) (view : seen ≡ reading) 
   flushed_seen = flushed ∙ ap (λ r. flushed_to r added notice) (sym view)
 
   -- `>` ends a prefix behind a flush that leaves a reading, and is put
-  pub prefix_ended : (whole after pending : List ℕ) (last : Notice) → seen.okuri ≡ None → is_nil (seen.text ++ added) ≡ false
+  pub prefix_ended : (whole after pending : List ℕ) (last : Notice) → seen.okuri ≡ None
+      → is_empty (seen.text ++ added) ≡ false
       → last ≡ later_notice notice (refusal 254 may_read (seen.text ++ added) (0x3E ∷ []))
       → seen.text ++ whole ≡ unless_refused (refusal 254 may_read (seen.text ++ added) (0x3E ∷ [])) (seen.text ++ added) (0x3E ∷ [])
       → after ≡ seen.text ++ whole → pending ≡ []
@@ -71,12 +74,13 @@ module _ (rules : List Rule) (reading seen : Reading) (view : seen ≡ reading) 
       × (prefix_step (flush rules reading)
       ≡ record { reading = record { text = after; is_abbrev = seen.is_abbrev; okuri = seen.okuri; pending = pending; completions = seen.completions }; done = record { notice = last; then = Convert } })
   prefix_ended whole after pending last none some is_last is_whole is_after nothing = (
-    ends reading.okuri (flush rules reading) (ap (λ (r : Reading). r.okuri) (sym view) ∙ none) (ap (λ (put : Put). is_nil put.reading.text) flushed_seen ∙ some),
+    ends reading.okuri (flush rules reading) (ap (λ (r : Reading). r.okuri) (sym view) ∙ none) (ap (λ (put : Put). is_empty put.reading.text) flushed_seen ∙ some),
     ap prefix_step flushed_seen ∙ rw (is_last, is_after, is_whole, none, nothing) refl,
   )
 
   -- an okurigana begins behind a flush that leaves a reading, and its letter is read
-  pub okuri_begun : (c : ℕ) (before empty after pending kana : List ℕ) (out : Out) (second last : Notice) → is_nil (seen.text ++ added) ≡ false
+  pub okuri_begun : (c : ℕ) (before empty after pending kana : List ℕ) (out : Out) (second last : Notice)
+      → is_empty (seen.text ++ added) ≡ false
       → before ≡ [] → fed rules before c ≡ record { pending = pending; out = out }
       → empty ≡ [] → second ≡ refusal 60 may_end empty out.hira → empty ++ kana ≡ unless_refused second empty out.hira
       → after ≡ seen.text ++ added → last ≡ later_notice notice second

@@ -1,5 +1,5 @@
 -- Texts that may stand in an open reading: what is behind them, and what is before.
-use Rattle.std.proofs.Common.{◌≡◌, zero, suc, Some, slice_get, ◌≤◌, ◌<◌, ◌==◌, ℕ, ◌+◌, ◌-◌, Bool, true, false, ◌&&◌, ◌||◌, not, nat_le, nat_lt, List, [], ◌∷◌, ◌++◌, ◌∙◌, sym, ap, subst, refl, length, take, drop, length-append, append_assoc, arith}
+use Rattle.std.proofs.Common.{◌≡◌, zero, suc, Some, slice_get, ◌≤◌, ◌<◌, ℕ, ◌+◌, ◌-◌, Bool, true, false, ◌&&◌, ◌||◌, not, nat_le, nat_lt, List, [], ◌∷◌, ◌++◌, ◌∙◌, sym, ap, subst, refl, length, take, drop, length-append, append_assoc, arith}
 use Rattle.std.specs.List.{list_all}
 use Rattle.std.specs.Option.{option_map_or}
 use Rattle.std.proofs.lemmas.Bool.{and_parts, and_from, le-leb, leb-true, lt-ltb, le-ltb, ne_eqb}
@@ -7,23 +7,19 @@ use Rattle.std.proofs.lemmas.List.{take-append-drop}
 use Rattle.std.proofs.lemmas.List.Folds.{list_all-append}
 use Rattle.std.proofs.Math.Seq.{drop-append_seam}
 use Rattle.std.proofs.lemmas.Str.{encode_ascii, length-le-encodes}
+use Rattle.skk_text.specs.Lists.{is_empty}
 use Rattle.skk_text.specs.Text.{byte_len, without_last, last_chars}
 use Rattle.skk_text.specs.TextLaws.{byte_len-append}
 use Rattle.skk_calls.specs.Dictionary.{is_plain_reading}
 use Rattle.skk_calls.specs.Rows.{begins_well, is_reading_char, is_okuri_char, is_letter, is_row_key}
 use Rattle.skk_calls.specs.declared.part.Part.TheVariants.{Ari}
 use Rattle.skk_text.specs.declared.notice.Notice.TheVariants as notices
-use Rattle.reading_state.specs.Puts.{is_nil, may_read, may_end, refusal}
-
--- a text is empty where it has no bytes
-pub byte_len-empty : (text : List ℕ) → (byte_len text == 0) ≡ is_nil text
-byte_len-empty [] = refl
-byte_len-empty (c ∷ text) = ne_eqb (byte_len (c ∷ text)) 0 (λ e. omega (arith, length-le-encodes (c ∷ text)))
+use Rattle.reading_state.specs.Puts.{may_read, may_end, refusal}
 
 -- a text with a piece behind it is empty where both are
-pub is_nil_append : (text piece : List ℕ) → is_nil (text ++ piece) ≡ (is_nil text && is_nil piece)
-is_nil_append [] piece = refl
-is_nil_append (c ∷ text) piece = refl
+pub is_empty_append : (text piece : List ℕ) → is_empty (text ++ piece) ≡ (is_empty text && is_empty piece)
+is_empty_append [] piece = refl
+is_empty_append (c ∷ text) piece = refl
 
 -- a text with a character has a byte
 some_bytes : (c : ℕ) (text : List ℕ) → nat_le 1 (byte_len (c ∷ text)) ≡ true
@@ -51,7 +47,8 @@ turned false false = refl
 
 -- what a reading with a piece behind it asks of the piece
 pub may_read-behind : (text piece : List ℕ) → may_read text ≡ true → byte_len text + byte_len piece ≤ 254
-    → may_read (text ++ piece) ≡ (list_all is_reading_char piece && (not (is_nil text) || (is_nil piece || begins_well piece)))
+    → may_read (text ++ piece)
+    ≡ (list_all is_reading_char piece && (not (is_empty text) || (is_empty piece || begins_well piece)))
 may_read-behind [] [] may fits = refl
 may_read-behind [] (c ∷ piece) may fits =
     rw (le-leb (byte_len (c ∷ piece)) 254 (omega arith)) (turned (begins_well (c ∷ piece)) (list_all is_reading_char (c ∷ piece)))
@@ -124,7 +121,8 @@ last_chars-behind text c =
     ap (λ n. drop n (text ++ c ∷ [])) place ∙ drop-append_seam text (c ∷ [])
 
 -- a reading with a letter behind it is valid with okurigana
-pub with_letter_valid : (text : List ℕ) (letter : ℕ) → may_read text ≡ true → is_letter (letter ∷ []) ≡ true → is_nil text ≡ false
+pub with_letter_valid : (text : List ℕ) (letter : ℕ) → may_read text ≡ true → is_letter (letter ∷ []) ≡ true
+    → is_empty text ≡ false
     → is_row_key (record { part = Ari; reading = text ++ letter ∷ [] }) ≡ true
 with_letter_valid [] letter may is some = cc
 with_letter_valid (t ∷ text) letter may is some =
@@ -156,11 +154,12 @@ unfolding lib.Utf8.encode
 mark_may_read = refl
 
 -- a reading with `>` behind it may be one, where it is not too long
-pub mark_read : (text : List ℕ) → may_read text ≡ true → is_nil text ≡ false → byte_len text < 254 → may_read (text ++ 0x3E ∷ []) ≡ true
+pub mark_read : (text : List ℕ) → may_read text ≡ true → is_empty text ≡ false → byte_len text < 254
+    → may_read (text ++ 0x3E ∷ []) ≡ true
 mark_read text may some fits = rw (may_read-behind text (0x3E ∷ []) may (omega (arith, mark_bytes)), some) refl
 
 -- `>` is put where it fits, and passes the limit where it does not
-pub mark_put : (text : List ℕ) → may_read text ≡ true → is_nil text ≡ false → byte_len text < 254
+pub mark_put : (text : List ℕ) → may_read text ≡ true → is_empty text ≡ false → byte_len text < 254
     → refusal 254 may_read text (0x3E ∷ []) ≡ notices.Empty
 mark_put text may some fits =
     rw (le-ltb 254 (byte_len text + byte_len (0x3E ∷ [])) (omega (arith, mark_bytes)), mark_read text may some fits) refl
@@ -174,7 +173,7 @@ plain_read [] plain = refl
 plain_read (c ∷ text) plain = plain
 
 -- a valid reading is not empty
-pub plain_some : (text : List ℕ) → is_plain_reading text ≡ true → is_nil text ≡ false
+pub plain_some : (text : List ℕ) → is_plain_reading text ≡ true → is_empty text ≡ false
 plain_some [] plain = cc
 plain_some (c ∷ text) plain = refl
 
@@ -189,6 +188,6 @@ pub ruleset marks = (mark_read, mark_put, mark_refused, may_read-short, byte_len
 
 pub ruleset shortened = (may_read-without_last, may_end-without_last)
 
-pub ruleset may_reads = (byte_len-empty, may_read-short, may_end-short, may_read-behind, may_end-behind)
+pub ruleset may_reads = (may_read-short, may_end-short, may_read-behind, may_end-behind)
 
 pub ruleset completions_read = (plain_read, plain_some, completion_read)

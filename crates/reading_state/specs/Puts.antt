@@ -2,11 +2,13 @@
 use Rattle.std.specs.Prelude.{ℕ, ◌+◌, Bool, true, false, ◌&&◌, ◌||◌, not, nat_lt, if◌then◌else◌, Option, None, Some, List, [], ◌∷◌, ◌++◌, length}
 use Rattle.std.specs.List.{list_all}
 use Rattle.skk_text.specs.Characters.{code}
+use Rattle.skk_text.specs.Lists.{is_empty}
 use Rattle.skk_text.specs.Text.{byte_len}
 use Rattle.skk_text.specs.declared.notice.Notice.{Notice}
 use Rattle.skk_text.specs.declared.notice.Notice.TheVariants as notices
 use Rattle.skk_calls.specs.Dictionary.{is_plain_reading}
-use Rattle.skk_calls.specs.Rows.{is_letter, is_okuri}
+use Rattle.skk_calls.specs.Rows.{is_letter, is_okuri, okuri_limit, reading_limit}
+use Rattle.skk_calls.specs.declared.part.Part.TheVariants.{Nasi}
 
 -- an okurigana that was begun: the letter behind the reading in its key, and its kana so far
 pub record Begun : Type 0 where
@@ -27,11 +29,6 @@ pub record Reading : Type 0 where
   pub pending : List ℕ
   pub completions : Option Completions
 
--- whether a list is empty
-abbrev pub is_nil : List ℕ → Bool
-is_nil [] = true
-is_nil (c ∷ text) = false
-
 -- a reading that was just opened
 abbrev pub new_reading : Reading
 new_reading = record { text = []; is_abbrev = false; okuri = None; pending = []; completions = None }
@@ -46,16 +43,16 @@ suffix_reading = record new_reading { text = code ">" ∷ [] }
 
 -- a text may stand in an open reading: it is empty, or a valid reading without okurigana
 abbrev pub may_read : List ℕ → Bool
-may_read text = is_nil text || is_plain_reading text
+may_read text = is_empty text || is_plain_reading text
 
 -- a text may stand in an okurigana that was begun: it is empty, or a valid okurigana
 abbrev pub may_end : List ℕ → Bool
-may_end text = is_nil text || is_okuri text
+may_end text = is_empty text || is_okuri text
 
 -- an okurigana that was begun has a letter from `a` to `z`, a text that may stand in it, and a reading before it
 abbrev pub fits_reading : List ℕ → Option Begun → Bool
 fits_reading text None = true
-fits_reading text (Some begun) = is_letter (begun.letter ∷ []) && (may_end begun.text && not (is_nil text))
+fits_reading text (Some begun) = is_letter (begun.letter ∷ []) && (may_end begun.text && not (is_empty text))
 
 -- a reading is one that may be open: its text and its okurigana may stand there
 abbrev pub is_open : Reading → Bool
@@ -75,14 +72,6 @@ abbrev pub later_notice : Notice → Notice → Notice
 later_notice first notices.Empty = first
 later_notice first second = second
 
--- the most bytes of a reading
-abbrev pub reading_limit : ℕ
-reading_limit = 254
-
--- the most bytes of an okurigana
-abbrev pub okuri_limit : ℕ
-okuri_limit = 60
-
 -- why a piece is not put at the end of a text: it would pass its limit, or would not be one that may stand there; nothing
 -- where it is put
 abbrev pub refusal : ℕ → (List ℕ → Bool) → List ℕ → List ℕ → Notice
@@ -100,7 +89,7 @@ unless_refused notice text piece = text
 -- reading
 abbrev pub put_into : Reading → Option Begun → List ℕ → Put
 put_into reading None piece =
-    let notice = refusal reading_limit may_read reading.text piece in
+    let notice = refusal (reading_limit Nasi) may_read reading.text piece in
     record { reading = record reading { text = unless_refused notice reading.text piece }; notice = notice }
 put_into reading (Some begun) piece =
     let notice = refusal okuri_limit may_end begun.text piece in

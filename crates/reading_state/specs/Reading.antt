@@ -3,6 +3,7 @@ use Rattle.std.specs.Prelude.{ℕ, suc, ◌-◌, Bool, true, false, ◌&&◌, �
 use Rattle.std.specs.Char.{to_ascii_lowercase}
 use Rattle.std.specs.Option.{option_map_or}
 use Rattle.skk_text.specs.Characters.{code}
+use Rattle.skk_text.specs.Lists.{is_empty}
 use Rattle.skk_text.specs.Text.{without_last}
 use Rattle.skk_text.specs.declared.key.Key.{Key}
 use Rattle.skk_text.specs.declared.key.Key.TheVariants.{Char, Cj, Cg, Bs, Ret, Tab, Undo}
@@ -10,7 +11,7 @@ use Rattle.skk_text.specs.declared.notice.Notice.{Notice}
 use Rattle.skk_text.specs.declared.notice.Notice.TheVariants as notices
 use Rattle.romaji_rules.specs.declared.rule.Rule.{Rule}
 use Rattle.romaji_rules.specs.Typed.{fed, flushed, extends_pending}
-use Rattle.reading_state.specs.Puts.{Begun, Completions, Reading, Put, put, is_nil, later_notice}
+use Rattle.reading_state.specs.Puts.{Begun, Completions, Reading, Put, put, later_notice}
 use Rattle.reading_state.specs.declared.reading_do.AfterConfirm.{AfterConfirm}
 use Rattle.reading_state.specs.declared.reading_do.AfterConfirm.TheVariants.{Nothing, ToAscii, ToWide, OpenReading, Newline}
 use Rattle.reading_state.specs.declared.reading_do.ReadingDo.{ReadingDo}
@@ -43,16 +44,16 @@ feed rules reading c =
 -- whether an okurigana was begun, and has no kana yet
 abbrev pub is_empty_okuri : Option Begun → Bool
 is_empty_okuri None = false
-is_empty_okuri (Some begun) = is_nil begun.text
+is_empty_okuri (Some begun) = is_empty begun.text
 
 -- whether an okurigana was begun, and has a kana
 abbrev pub is_filled_okuri : Option Begun → Bool
 is_filled_okuri None = false
-is_filled_okuri (Some begun) = not (is_nil begun.text)
+is_filled_okuri (Some begun) = not (is_empty begun.text)
 
 -- whether an okurigana is whole: it has a kana, and nothing is pending
 abbrev pub is_whole : Reading → Bool
-is_whole reading = is_filled_okuri reading.okuri && is_nil reading.pending
+is_whole reading = is_filled_okuri reading.okuri && is_empty reading.pending
 
 -- the step of a character that was put: where an okurigana is whole behind it, the conversion starts
 abbrev pub typed_step : Put → ReadingStep
@@ -61,7 +62,7 @@ typed_step put = step_to put.reading put.notice (if is_whole put.reading then Co
 -- the step of the space behind its flush: it closes an empty reading, gives up an okurigana that has no kana, or converts
 abbrev pub space_step : Put → ReadingStep
 space_step put =
-    if is_nil put.reading.text then step_to put.reading put.notice Drop
+    if is_empty put.reading.text then step_to put.reading put.notice Drop
     else if is_empty_okuri put.reading.okuri then step_to (record put.reading { okuri = None }) put.notice Stay
     else step_to put.reading put.notice Convert
 
@@ -77,7 +78,7 @@ put_after first second = record { reading = second.reading; notice = later_notic
 
 -- whether `>` ends a prefix: no okurigana was begun, and behind the flush the reading is not empty
 abbrev pub ends_prefix : Option Begun → Put → Bool
-ends_prefix None flush = not (is_nil flush.reading.text)
+ends_prefix None flush = not (is_empty flush.reading.text)
 ends_prefix (Some begun) flush = false
 
 -- the step of `>` at the end of a prefix, behind its flush: it is put, and converted with
@@ -94,7 +95,7 @@ is_doubled c =
 -- whether a letter alone is pending
 abbrev pub is_alone : ℕ → List ℕ → Bool
 is_alone c [] = false
-is_alone c (b ∷ pending) = b == c && is_nil pending
+is_alone c (b ∷ pending) = b == c && is_empty pending
 
 -- a reading with an okurigana begun: its letter, and its first kana
 abbrev pub with_okuri : Reading → ℕ → List ℕ → Reading
@@ -103,14 +104,14 @@ with_okuri reading letter text = record reading { okuri = Some (record { letter 
 -- what a letter puts that begins an okurigana, behind its flush: behind an empty reading it is read as a character
 abbrev pub begin_okuri : List Rule → Put → ℕ → Put
 begin_okuri rules flush c =
-    if is_nil flush.reading.text then put_after flush (feed rules flush.reading c)
+    if is_empty flush.reading.text then put_after flush (feed rules flush.reading c)
     else put_after flush (feed rules (with_okuri flush.reading c []) c)
 
 -- what the lower-case letter of an upper-case one puts: it goes on with an okurigana that was begun; begins one with っ
 -- where it stands alone behind a reading already, and is doubled; or else begins one behind what is flushed
 abbrev pub put_upper : List Rule → Reading → Option Begun → ℕ → Put
 put_upper rules reading None c =
-    if is_alone c reading.pending && is_doubled c && not (is_nil reading.text)
+    if is_alone c reading.pending && is_doubled c && not (is_empty reading.text)
     then record { reading = with_okuri reading c (code "っ" ∷ []); notice = notices.Empty }
     else begin_okuri rules (flush rules reading) c
 put_upper rules reading (Some begun) c = feed rules reading c
@@ -134,7 +135,7 @@ char_step rules reading c =
 -- an okurigana is given up where it has no kana and nothing is pending
 abbrev pub without_empty_okuri : Reading → Reading
 without_empty_okuri reading =
-    if is_empty_okuri reading.okuri && is_nil reading.pending then record reading { okuri = None } else reading
+    if is_empty_okuri reading.okuri && is_empty reading.pending then record reading { okuri = None } else reading
 
 -- an okurigana without its last kana
 abbrev pub okuri_without_last : Option Begun → Option Begun
@@ -145,11 +146,11 @@ okuri_without_last (Some begun) = Some (record { letter = begun.letter; text = w
 -- character; where there is none of these it closes the reading
 abbrev pub delete_step : Reading → ReadingStep
 delete_step reading =
-    if not (is_nil reading.pending)
+    if not (is_empty reading.pending)
     then step_to (without_empty_okuri (with_pending reading (without_last reading.pending))) notices.Empty Stay
     else if is_filled_okuri reading.okuri
     then step_to (without_empty_okuri (record reading { okuri = okuri_without_last reading.okuri })) notices.Empty Stay
-    else if not (is_nil reading.text)
+    else if not (is_empty reading.text)
     then step_to (record reading { text = without_last reading.text; okuri = None }) notices.Empty Stay
     else step_to reading notices.Empty Drop
 
@@ -172,15 +173,15 @@ key_step rules reading Undo = step_to reading notices.NoUndo Stay
 abbrev pub without_completions : Reading → Reading
 without_completions reading = record reading { completions = None }
 
--- a reading that shows the completion of a place
-abbrev pub showing : Reading → Completions → ℕ → List ℕ → Reading
-showing reading kept place text =
-    record reading { text = text; completions = Some (record { readings = kept.readings; place = place }) }
+-- a reading that shows a text, which completes it, and keeps the readings among which that has a place
+abbrev pub showing : Reading → List (List ℕ) → ℕ → List ℕ → Reading
+showing reading readings place text =
+    record reading { text = text; completions = Some (record { readings = readings; place = place }) }
 
 -- the step to the completion of a place: behind the last one there is no more, and the reading stays
 abbrev pub completion_step : Reading → Completions → ℕ → ReadingStep
 completion_step reading kept place =
-    option_map_or (λ text. step_to (showing reading kept place text) notices.Empty Stay)
+    option_map_or (λ text. step_to (showing reading kept.readings place text) notices.Empty Stay)
     (slice_get kept.readings place)
     (step_to reading notices.NoMore Stay)
 
@@ -224,5 +225,4 @@ reading_step rules reading key = step_with rules reading reading.completions key
 -- what readings that complete a reading make of it: the first of them replaces it and all are kept, or there are none
 abbrev pub completed : Reading → List (List ℕ) → Put
 completed reading [] = record { reading = reading; notice = notices.NoCompletion }
-completed reading (first ∷ rest) =
-    record { reading = showing reading (record { readings = first ∷ rest; place = 0 }) 0 first; notice = notices.Empty }
+completed reading (first ∷ rest) = record { reading = showing reading (first ∷ rest) 0 first; notice = notices.Empty }

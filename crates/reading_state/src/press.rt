@@ -100,10 +100,10 @@ fn press_char(
 {
     if reading.is_abbrev() && c != b' ' {
         let notice = reading.put_itself(alloc, c)?;
-        return Ok(typed(reading, notice));
+        return Ok(put_effect(reading, notice));
     }
     match reading.extend(alloc, rules, c)? {
-        Some(notice) => Ok(typed(reading, notice)),
+        Some(notice) => Ok(put_effect(reading, notice)),
         None => press_anew(alloc, reading, rules, c),
     }
 }
@@ -130,11 +130,11 @@ fn press_anew(
         b'>' => press_greater(alloc, reading, rules),
         b'A'..=b'Z' => {
             let notice = reading.put_upper(alloc, rules, c.to_ascii_lowercase())?;
-            Ok(typed(reading, notice))
+            Ok(put_effect(reading, notice))
         }
         _ => {
             let notice = reading.feed_anew(alloc, rules, c)?;
-            Ok(typed(reading, notice))
+            Ok(put_effect(reading, notice))
         }
     }
 }
@@ -160,7 +160,7 @@ fn press_greater(alloc: Global, reading: &mut Reading, rules: &Rules) -> Result<
         return Ok(ReadingDo::new(notice, ReadingThen::Convert));
     }
     let notice = reading.feed_anew(alloc, rules, b'>')?;
-    Ok(typed(reading, notice))
+    Ok(put_effect(reading, notice))
 }
 
 // Flushes and confirms the reading, in the other kana or in the frame's.
@@ -191,7 +191,7 @@ fn ask_completions(alloc: Global, reading: &mut Reading, rules: &Rules) -> Resul
 }
 
 // What is done behind a character that was put: where an okurigana is whole, the conversion starts.
-fn typed(reading: &Reading, notice: Notice) -> ReadingDo
+fn put_effect(reading: &Reading, notice: Notice) -> ReadingDo
     ensures step { typed_step (record { reading = reading.now; notice = notice }) ≡ record { reading = reading.now; done = result } }
     ensures convertible { result.then ≡ ReadingThen.Convert → reading.now.text ≢ [] }
 {

@@ -49,7 +49,7 @@ fn word_of(then: ReadingThen) -> &'static str {
 }
 
 // A reading and what is done with it, as the cases have it.
-fn shown(alloc: Global, reading: &Reading, done: ReadingDo) -> Result<String, AllocError> {
+fn case_text(alloc: Global, reading: &Reading, done: ReadingDo) -> Result<String, AllocError> {
     let text = reading.text().as_str();
     let pending = reading.pending().as_str();
     let then = word_of(done.then);
@@ -92,7 +92,7 @@ fn keys_make_a_reading(rt: HostRuntime) -> Result<(), Fail> {
         let mut reading = Reading::new(alloc);
         let done = press_keys(alloc, &mut reading, &rules, keys)?;
         assert_eq!(rt;
-            shown(alloc, &reading, done)?.as_str(),
+            case_text(alloc, &reading, done)?.as_str(),
             wanted,
             "typed {keys}"
         );
@@ -143,7 +143,7 @@ fn completions_are_gone_over(rt: HostRuntime) -> Result<(), Fail> {
         );
         let done = press_keys(alloc, &mut reading, &rules, keys)?;
         assert_eq!(rt;
-            shown(alloc, &reading, done)?.as_str(),
+            case_text(alloc, &reading, done)?.as_str(),
             wanted,
             "typed {keys}"
         );
@@ -157,7 +157,7 @@ fn completions_are_gone_over(rt: HostRuntime) -> Result<(), Fail> {
 }
 
 // The reading after keys.
-fn typed(alloc: Global, reading: Reading, keys: &str) -> Result<Reading, Fail> {
+fn reading_after(alloc: Global, reading: Reading, keys: &str) -> Result<Reading, Fail> {
     let rules = Rules::standard(alloc)?;
     let mut reading = reading;
     press_keys(alloc, &mut reading, &rules, keys)?;
@@ -186,7 +186,7 @@ fn okuri_of(alloc: Global, reading: &Reading) -> Result<String, Fail> {
 #[test]
 fn readings_are_converted_by_their_keys(rt: HostRuntime) -> Result<(), Fail> {
     let alloc = rt.alloc();
-    let reading = typed(alloc, Reading::new(alloc), "ugoKu")?;
+    let reading = reading_after(alloc, Reading::new(alloc), "ugoKu")?;
     assert!(rt; reading.text().byte_len() > 0);
     assert_eq!(rt; key_of(alloc, &reading)?.as_str(), "Ari うごk");
     assert_eq!(rt; okuri_of(alloc, &reading)?.as_str(), "く");
@@ -197,7 +197,7 @@ fn readings_are_converted_by_their_keys(rt: HostRuntime) -> Result<(), Fail> {
 #[test]
 fn abbreviations_are_converted_by_themselves(rt: HostRuntime) -> Result<(), Fail> {
     let alloc = rt.alloc();
-    let reading = typed(alloc, Reading::abbrev(alloc), "Vim9_")?;
+    let reading = reading_after(alloc, Reading::abbrev(alloc), "Vim9_")?;
     assert!(rt; reading.text().byte_len() > 0);
     assert_eq!(rt; key_of(alloc, &reading)?.as_str(), "Nasi Vim9");
     assert_eq!(rt; okuri_of(alloc, &reading)?.as_str(), "-");

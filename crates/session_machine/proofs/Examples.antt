@@ -1,10 +1,11 @@
 -- Sessions and keys, as the definitions compute them.
-use Rattle.std.proofs.Common.{◌≡◌, refl, ℕ, Bool, true, false, map, Option, Some, None, option_map, List, [], ◌∷◌, ◌++◌, codes}
+use Rattle.std.proofs.Common.{◌≡◌, refl, arith, ℕ, Bool, true, false, map, Option, Some, None, option_map, List, [], ◌∷◌, ◌++◌, codes, replicate}
 use lib.Utf8.{encode}
 use Rattle.skk_text.specs.declared.key.Key.{Key}
 use Rattle.skk_text.specs.declared.key.Key.TheVariants.{Char, Cj, Cg, Bs, Ret, Tab, Undo}
 use Rattle.skk_text.specs.declared.mode.Mode.{Mode}
 use Rattle.skk_text.specs.declared.mode.Mode.TheVariants.{Hira, Kata, Ascii, Wide}
+use Rattle.skk_text.specs.Text.{byte_len}
 use Rattle.skk_text.specs.declared.notice.Notice.TheVariants as notices
 use Rattle.romaji_rules.specs.declared.rule.Rule.{Rule}
 use Rattle.skk_calls.specs.declared.answer.Answer.{Answer}
@@ -20,12 +21,13 @@ use Rattle.candidate_state.specs.Shown.{Shown}
 use Rattle.session_machine.specs.Answered.{reply_notice, answer_notice, learnt_by, says_purged}
 use Rattle.session_machine.specs.declared.frame.Choice.{Choice}
 use Rattle.session_machine.specs.declared.frame.Conversion.{Conversion}
+use Rattle.session_machine.specs.declared.frame.Frame.{Frame}
 use Rattle.session_machine.specs.declared.frame.State.{State}
 use Rattle.session_machine.specs.declared.frame.State.TheVariants as states
 use Rattle.session_machine.specs.declared.session_notice.SessionNotice.{SessionNotice}
 use Rattle.session_machine.specs.declared.session_notice.SessionNotice.TheVariants as told
-use Rattle.session_machine.specs.Pressed.{pressed, all_pressed, reading_inserted, choice_inserted, after_learning}
-use Rattle.session_machine.specs.Session.{Session, is_session, text_limit, new_session, text_of, choice_within, choice_at, without_chars, has_room}
+use Rattle.session_machine.specs.Pressed.{pressed, all_pressed, reading_piece, choice_piece, after_learning}
+use Rattle.session_machine.specs.Session.{Session, FrameFits, frames_of, is_session, text_limit, new_session, text_of, choice_within, choice_at, without_chars, has_room}
 
 -- a table of two inputs, あ and ん
 abbrev rules : List Rule
@@ -90,14 +92,38 @@ new : (new_session 3 3 ≡ record { typist = 3; book = 3; frame = record { text 
 new = refl
 
 -- a session learns in the shared book or in its typist's
-books : (is_session (new_session 3 0) ≡ true) × (is_session (new_session 3 3) ≡ true) × (is_session (new_session 3 2) ≡ false)
-books = (refl, refl, refl)
+books : map (λ (l : ℕ × ℕ). is_session (new_session l.0 l.1)) ((3, 0) ∷ (3, 3) ∷ (3, 2) ∷ (3, 1) ∷ (0, 0) ∷ (0, 1) ∷ [])
+    ≡ true ∷ true ∷ false ∷ false ∷ true ∷ false ∷ []
+books = refl
 
 limit : text_limit ≡ 1048576
 limit = refl
 
-outermost : text_of (record (at (codes "内") Hira plain none) { outer = record { text = codes "外"; mode = Kata; state = plain; last_choice = None } ∷ record { text = codes "中"; mode = Kata; state = plain; last_choice = None } ∷ [] }) ≡ codes "外"
+-- a text has at most so many bytes, and room for a piece up to there
+within_limit : (frame : Frame) → byte_len frame.text ≡ 1048576 → FrameFits frame
+within_limit frame full = omega (arith, full)
+
+past_the_limit : (frame : Frame) → byte_len frame.text ≡ 1048577 → FrameFits frame → ⊥
+past_the_limit frame full fits = omega (arith, full, fits)
+
+room_to_limit : (text : List ℕ) → byte_len text ≡ 1048573
+    → map (λ piece. has_room (at text Hira plain none) piece) (codes "abc" ∷ codes "あ" ∷ codes "abcd" ∷ codes "あa" ∷ [] ∷ [])
+    ≡ true ∷ true ∷ false ∷ false ∷ true ∷ []
+unfolding encode
+room_to_limit text full = rw full refl
+
+-- frames that stand in one another, the innermost last, and the text of the outermost
+abbrev inner_frame : List ℕ → Frame
+inner_frame text = record { text = text; mode = Kata; state = plain; last_choice = None }
+
+abbrev nested : Session
+nested = record (at (codes "内") Hira plain none) { outer = inner_frame (codes "外") ∷ inner_frame (codes "中") ∷ [] }
+
+outermost : text_of nested ≡ codes "外"
 outermost = refl
+
+in_order : map (λ (frame : Frame). frame.text) (frames_of nested) ≡ codes "外" ∷ codes "中" ∷ codes "内" ∷ []
+in_order = refl
 
 -- in the plain state
 typed : after (at (codes "x") Kata plain (told.Refused refusals.Memory)) (Char 97) [] ≡ Some (Some (at (codes "xア") Kata plain none))
@@ -173,7 +199,7 @@ ended : after (at [] Hira (unfinished (codes "あ")) none) Ret [] ≡ Some (Some
 unfolding encode
 ended = refl
 
-with_okuri : reading_inserted Kata (record (reading (codes "おお") []) { okuri = Some (record { letter = 107; text = codes "く" }) }) false ≡ codes "オオク"
+with_okuri : reading_piece Kata (with_begun (codes "おお") 107 (codes "く")) false ≡ codes "オオク"
 unfolding encode
 with_okuri = refl
 
@@ -249,6 +275,106 @@ answered_otherwise : after (at [] Hira (unfinished (codes "あ")) none) (Char 32
 unfolding encode
 answered_otherwise = refl
 
+-- Two things in one key
+
+-- the session of typist 3 with the notice of the limit
+abbrev past_limit : List ℕ → Mode → State → Session
+past_limit text mode state = at text mode state (told.Step notices.Limit)
+
+-- where a flush does not fit, what the key does else is done, and the limit is told
+flush_past_limit : (text : List ℕ) → has_room (at text Hira plain none) (codes "ん") ≡ false
+    → map (pressed rules (at text Hira (states.Plain (codes "n")) none))
+    (Char 81 ∷ Char 47 ∷ Char 65 ∷ Char 113 ∷ Char 108 ∷ Char 76 ∷ Cj ∷ [])
+    ≡ map (λ (left : Mode × State). ends (Some (past_limit text left.0 left.1)))
+    ((Hira, unfinished []) ∷ (Hira, abbreviation []) ∷ (Hira, unfinished (codes "あ")) ∷ (Kata, plain) ∷ (Ascii, plain)
+    ∷ (Wide, plain) ∷ (Hira, plain) ∷ [])
+unfolding encode
+flush_past_limit text full = rw full refl
+
+-- a line feed may fit where the flush before it does not, and the limit is told then too; or the flush alone may fit
+newline_past_limit : (text : List ℕ) → has_room (at text Hira plain none) (codes "ん") ≡ false
+    → has_room (at text Hira plain none) (10 ∷ []) ≡ true
+    → pressed rules (at text Hira (states.Plain (codes "n")) none) Ret
+    ≡ ends (Some (past_limit (text ++ 10 ∷ []) Hira plain))
+unfolding encode
+newline_past_limit text full room = rw (full, room) refl
+
+flush_up_to_limit : (text : List ℕ) → has_room (at text Hira plain none) (codes "ん") ≡ true
+    → has_room (at (text ++ codes "ん") Hira plain none) (10 ∷ []) ≡ false
+    → pressed rules (at text Hira (states.Plain (codes "n")) none) Ret
+    ≡ ends (Some (past_limit (text ++ codes "ん") Hira plain))
+unfolding encode
+flush_up_to_limit text room full = rw (room, full) refl
+
+-- a reading of 252 bytes, with `n` pending, whose kana does not fit behind it
+abbrev full : List ℕ
+full = replicate 252 97
+
+abbrev flushing : Session
+flushing = at (codes "x") Hira (states.Reading (reading full (codes "n"))) none
+
+-- a reading that is confirmed tells what its flush told, whatever comes behind it
+confirmed_with_notice : map (λ key. after flushing key []) (Cj ∷ Ret ∷ Char 108 ∷ Char 76 ∷ Char 81 ∷ [])
+    ≡ Some (Some (past_limit (codes "x" ++ full) Hira plain))
+    ∷ Some (Some (past_limit (codes "x" ++ full ++ 10 ∷ []) Hira plain))
+    ∷ Some (Some (past_limit (codes "x" ++ full) Ascii plain))
+    ∷ Some (Some (past_limit (codes "x" ++ full) Wide plain))
+    ∷ Some (Some (past_limit (codes "x" ++ full) Hira (unfinished []))) ∷ []
+unfolding encode
+confirmed_with_notice = refl
+
+-- so does one that is converted, unless its look-up is refused
+converted_past_limit : map (λ answer. after flushing (Char 32) (answer ∷ [])) (Done replies.Purged ∷ Refused refusals.Disk ∷ [])
+    ≡ Some (Some (past_limit (codes "x") Hira (unfinished full)))
+    ∷ Some (Some (at (codes "x") Hira (unfinished full) (told.Refused refusals.Disk))) ∷ []
+unfolding encode
+converted_past_limit = refl
+
+-- candidates that are found leave the notice of their key
+found_with_notice : after flushing (Char 32) (Done (replies.Found (cand (codes "亜") [] ∷ [])) ∷ [])
+    ≡ Some (Some (past_limit (codes "x") Hira (states.Picking (record {
+      reading = reading full [];
+      picking = record { shown = shown full (cand (codes "亜") []) ∷ []; place = 0; question = false };
+    }))))
+unfolding encode
+found_with_notice = refl
+
+-- a table with an output that no reading begins with
+abbrev with_semicolon : List Rule
+with_semicolon =
+    record { input = codes "x"; next = []; out = record { hira = codes ";"; kata = codes ";" } }
+    ∷ record { input = codes "xa"; next = []; out = record { hira = codes "ぁ"; kata = codes "ァ" } } ∷ rules
+
+-- the space that closes a reading, or gives an okurigana up, tells what its flush told
+closed_with_notice :
+    map (λ reading. end_of (pressed with_semicolon (at (codes "y") Hira (states.Reading reading) none) (Char 32)) [])
+    (reading [] (codes "x") ∷ record (with_begun (codes "あ") 120 []) { pending = codes "x" } ∷ [])
+    ≡ Some (Some (at (codes "y") Hira plain (told.Step notices.Reading)))
+    ∷ Some (Some (at (codes "y") Hira (unfinished (codes "あ")) (told.Step notices.Reading))) ∷ []
+unfolding encode
+closed_with_notice = refl
+
+-- a reading that does not fit stays open, and what comes behind it is not done
+not_confirmed : (text : List ℕ) → has_room (at text Hira plain none) (codes "あ") ≡ false
+    → map (pressed rules (at text Hira (unfinished (codes "あ")) none)) (Cj ∷ Ret ∷ Char 108 ∷ Char 81 ∷ [])
+    ≡ replicate 4 (ends (Some (past_limit text Hira (unfinished (codes "あ")))))
+unfolding encode
+not_confirmed text full = rw full refl
+
+-- the flush of the key stands all the same
+flushed_not_confirmed : (text : List ℕ) → has_room (at text Hira plain none) (codes "あん") ≡ false
+    → map (pressed rules (at text Hira (states.Reading (reading (codes "あ") (codes "n"))) none)) (Cj ∷ Ret ∷ Char 108 ∷ Char 81 ∷ [])
+    ≡ replicate 4 (ends (Some (past_limit text Hira (unfinished (codes "あん")))))
+unfolding encode
+flushed_not_confirmed text full = rw full refl
+
+-- a reading that fits, and a line feed behind it that does not
+confirmed_up_to_limit : (text : List ℕ) → has_room (at text Hira plain none) (codes "あ") ≡ true
+    → has_room (at (text ++ codes "あ") Hira plain none) (10 ∷ []) ≡ false
+    → pressed rules (at text Hira (unfinished (codes "あ")) none) Ret ≡ ends (Some (past_limit (text ++ codes "あ") Hira plain))
+unfolding encode
+confirmed_up_to_limit text room full = rw (room, full) refl
+
 -- in the candidate state
 gone_on : after (at (codes "x") Hira (picking 0) none) (Char 32) [] ≡ Some (Some (at (codes "x") Hira (picking 1) none))
 unfolding encode
@@ -302,7 +428,8 @@ numbered key text = record { key = key; cand = cand (codes "#1り") (codes "注"
 abbrev sent : Shown
 sent = numbered (record { part = Ari; reading = codes "おくr" }) (codes "５り")
 
-inserted : map (λ (l : Mode × Reading). choice_inserted l.0 l.1 sent) ((Hira, begun (codes "り")) ∷ (Kata, begun (codes "り")) ∷ (Kata, begun []) ∷ (Kata, reading (codes "おく") []) ∷ [])
+inserted : map (λ (l : Mode × Reading). choice_piece l.0 l.1 sent)
+    ((Hira, begun (codes "り")) ∷ (Kata, begun (codes "り")) ∷ (Kata, begun []) ∷ (Kata, reading (codes "おく") []) ∷ [])
     ≡ codes "５りり" ∷ codes "５りリ" ∷ codes "５り" ∷ codes "５り" ∷ []
 inserted = refl
 
@@ -362,6 +489,28 @@ not_learnt : map (λ answer. after (at (codes "x") Kata (picking 1) none) Cj (an
 unfolding encode
 not_learnt = refl
 
+-- what comes behind a choice leaves what its learning was answered, unless it tells something itself
+behind_not_learnt :
+    map (λ key. after (at (codes "x") Hira (picking 1) none) key (Done (replies.TooBig 9) ∷ []))
+    (Ret ∷ Bs ∷ Char 97 ∷ Char 81 ∷ Char 62 ∷ Char 113 ∷ [])
+    ≡ Some (Some (chosen (codes "x阿" ++ 10 ∷ []) Hira plain (told.TooBig 9) (choice 1 4 Hira 1 None)))
+    ∷ Some (Some (at (codes "x") Hira plain (told.TooBig 9)))
+    ∷ Some (Some (chosen (codes "x阿あ") Hira plain (told.TooBig 9) (choice 1 4 Hira 1 None)))
+    ∷ Some (Some (chosen (codes "x阿") Hira (unfinished []) (told.TooBig 9) (choice 1 4 Hira 1 None)))
+    ∷ Some (Some (chosen (codes "x阿") Hira (unfinished (codes ">")) (told.TooBig 9) (choice 1 4 Hira 1 None)))
+    ∷ Some (Some (chosen (codes "x阿") Kata plain (told.TooBig 9) (choice 1 4 Hira 1 None))) ∷ []
+unfolding encode
+behind_not_learnt = refl
+
+-- a choice that fits, with what does not fit behind it: the limit is told in place of the answer
+choice_up_to_limit : (text : List ℕ) → has_room (at text Hira plain none) (codes "亜") ≡ true
+    → has_room (at (text ++ codes "亜") Hira plain none) (10 ∷ []) ≡ false
+    → end_of (pressed rules (at text Hira (picking 0) none) Ret) (Refused refusals.Disk ∷ [])
+    ≡ (let whole = text ++ codes "亜" in
+    Some (Some (chosen whole Hira plain (told.Step notices.Limit) (choice 1 (byte_len whole) Hira 0 None))))
+unfolding encode
+choice_up_to_limit text room full = rw (room, full) refl
+
 -- pages: a letter chooses its candidate, and no key is read behind it
 abbrev pages : State
 pages = states.Picking (record {
@@ -391,7 +540,8 @@ asks_once = (refl, refl, refl)
 
 -- a choice that does not fit asks nothing, and the candidates stay
 no_room : (text : List ℕ) → has_room (at text Hira plain none) (codes "亜") ≡ false
-    → pressed rules (at text Hira (picking 0) none) (Char 97) ≡ ends (Some (at text Hira (picking 0) (told.Step notices.Limit)))
+    → map (pressed rules (at text Hira (picking 0) none)) (Char 97 ∷ Cj ∷ Ret ∷ Bs ∷ Char 62 ∷ Char 81 ∷ [])
+    ≡ replicate 6 (ends (Some (past_limit text Hira (picking 0))))
 unfolding encode
 no_room text full = rw full refl
 

@@ -1,7 +1,10 @@
 -- How parts of what is shown are printed.
-use Rattle.std.proofs.Common.{◌≡◌, ◌<◌, ◌≤◌, ◌+◌, ◌%◌, ◌^◌, ◌∙◌, sym, ap, ℕ, true, false, Some, List, ◌++◌, ◌∷◌, [], length, drop, get_or, refl, arith, append_assoc, inl, inr}
+use Rattle.std.proofs.Common.{◌≡◌, ◌<◌, ◌≤◌, ◌+◌, ◌%◌, ◌^◌, ◌∙◌, sym, ap, ℕ, true, false, Some, Result, Ok, Err, List, ◌++◌, ◌∷◌, [], length, drop, get_or, refl, arith, append_assoc, inl, inr}
+use Rattle.std.proofs.Transfers.{starts_with_of_append, starts_with_of_eq, starts_with_trans}
 use Rattle.std.specs.Fmt.{decimal}
+use Rattle.std.specs.Io.{StartsWith}
 use Rattle.std.specs.List.{slice_get}
+use Rattle.std.specs.Result.{OnErr, OnOk}
 use Rattle.std.specs.Str.{chars}
 use Rattle.std.proofs.lemmas.Bool.{cases_Bool}
 use Rattle.std.proofs.lemmas.Bool.Decides.{nat_tests}
@@ -10,9 +13,9 @@ use Rattle.std.proofs.lemmas.List.{drop_more, drop_all}
 use Rattle.std.proofs.lemmas.List.Concat.{flat_map-append}
 use Rattle.std.proofs.lemmas.List.Folds.{list_any_at}
 use Rattle.std.proofs.lemmas.Option.{slice_get_within, get_or_from_slice_get}
-use Rattle.std.proofs.lemmas.Str.{chars-IsAscii, length-le-encodes}
+use Rattle.std.proofs.lemmas.Str.{chars-IsAscii}
 use Rattle.skk_text.specs.Characters.{code}
-use Rattle.skk_text.specs.Text.{byte_len}
+use Rattle.skk_text.specs.Lists.{is_empty}
 use Rattle.candidate_state.specs.Shown.{Shown}
 use Rattle.session_machine.specs.Display.{escaped, has_escape, printed_form, first_text, first_note, lettered, page_letters}
 use Rattle.session_machine.proofs.Escapes.{plain}
@@ -49,10 +52,10 @@ pub first_note-at : (shown : List Shown) (place : ℕ) (cand : Shown) → slice_
 first_note-at shown place cand found =
     ap first_note (drop_more shown place cand (slice_get_within shown place cand found)) ∙ ap (λ s. s.cand.note) (get_or_from_slice_get shown place cand cand found)
 
--- a text of no bytes is empty
-pub note-none : (note : List ℕ) → byte_len note ≡ 0 → note ≡ []
-note-none [] e = refl
-note-none (c ∷ note) e = absurd (omega (arith, e, length-le-encodes (c ∷ note)))
+-- a text without a character is empty
+pub empty-none : (text : List ℕ) → is_empty text ≡ true → text ≡ []
+empty-none [] e = refl
+empty-none (c ∷ text) e = cc
 
 -- the letters of a page are printed as they are
 letter-plain : (count : ℕ) → count < 7 → has_escape (get_or page_letters count 0) ≡ false
@@ -99,3 +102,11 @@ pub ruleset numbers = decimal-printed
 pub ruleset first_shown = (first_text-at, first_note-at)
 
 pub ruleset ascii = chars-IsAscii
+
+-- a page begins with what it was, whether a text was put behind it or memory was out
+pub kept-put : {T E : Type 0} (result : Result T E) (page added after : List ℕ)
+    → OnOk result (after ≡ page ++ added) → OnErr result (after ≡ page) → StartsWith after page
+kept-put (Ok value) page added after ok err = starts_with_of_append after page added ok
+kept-put (Err fault) page added after ok err = starts_with_of_eq after page err
+
+pub ruleset kept = (starts_with_trans, starts_with_of_append, starts_with_of_eq, kept-put)

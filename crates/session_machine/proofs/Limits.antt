@@ -1,8 +1,8 @@
--- No text passes its limit.
+-- No text of a session's frames passes its limit.
 use Rattle.std.proofs.Common.{◌≡◌, ◌≤◌, ◌+◌, ◌-◌, ◌==◌, ◌∙◌, sym, ap, ℕ, slice_get, Bool, true, false, Option, Some, None, List, [], ◌∷◌, length, drop, leb-true, subst, arith, refl, if◌then◌else◌}
 use Rattle.std.specs.Prelude.{⊤}
 use Rattle.std.proofs.lemmas.List.{take-append-drop}
-use Rattle.std.specs.List.{list_any}
+use Rattle.std.specs.List.{All, list_any}
 use Rattle.std.specs.Option.{option_map_or}
 use Rattle.skk_text.specs.TextLaws.{byte_len-append}
 use Rattle.skk_text.specs.Text.{byte_len, without_last}
@@ -37,12 +37,12 @@ use Rattle.session_machine.specs.declared.frame.Conversion.{Conversion}
 use Rattle.session_machine.specs.declared.frame.State.{State}
 use Rattle.session_machine.specs.declared.frame.State.TheVariants as states
 use Rattle.session_machine.specs.Answered.{says_purged}
-use Rattle.session_machine.specs.Pressed.{Meaning, not_built, picked, looked_up, converted, reading_inserted, after_confirmed, confirmed, reading_effect, reading_pressed, before_choice, unlearnt, undone, plain_effect, plain_pressed, of_candidate, choice_inserted, after_learning, choice_effect, choosing, after_purge, purging, picking_effect, picking_pressed, state_pressed, pressed, all_pressed, is_digit, with_plain}
-use Rattle.session_machine.specs.Session.{Session, text_limit, choice_at, without_chars, has_room, with_piece, with_insertion, noting, before_key, with_state}
+use Rattle.session_machine.specs.Pressed.{Meaning, not_built, pick, looked_up, converted, reading_piece, after_confirmed, confirmed, reading_effect, reading_pressed, before_choice, unlearnt, undone, plain_effect, plain_pressed, of_candidate, choice_piece, after_learning, choice_effect, choosing, after_purge, purging, picking_effect, picking_pressed, state_pressed, pressed, all_pressed, is_digit, with_plain}
+use Rattle.session_machine.specs.Session.{Session, FrameFits, text_limit, choice_at, without_chars, has_room, with_piece, with_insertion, noting, before_key, with_state}
 
--- the text of the frame is within its limit
+-- the text of each frame is within its limit: of the one that keys go to, and of those outside it
 abbrev pub Fits : Session → Type 0
-Fits session = byte_len session.frame.text ≤ text_limit
+Fits session = FrameFits session.frame × All FrameFits session.outer
 
 -- each session that a meaning may come to fits, whatever it is answered
 abbrev pub AllFit : Meaning → Type 0
@@ -78,15 +78,17 @@ noted-fits : (session : Session) (notice : Notice) → Fits session → Fits (no
 noted-fits session notices.Empty fits = fits
 noted-fits session notice fits = fits
 
-piece-fits : (session : Session) (piece : List ℕ) → has_room session piece ≡ true → Fits (with_piece session piece)
-piece-fits session piece room =
-    omega (arith, byte_len-append session.frame.text piece, leb-true (byte_len session.frame.text + byte_len piece) text_limit room)
+piece-fits : (session : Session) (piece : List ℕ) → Fits session → has_room session piece ≡ true
+    → Fits (with_piece session piece)
+piece-fits session piece fits room =
+    let text = session.frame.text in
+    (omega (arith, byte_len-append text piece, leb-true (byte_len text + byte_len piece) text_limit room), fits.1)
 
 inserted-fits : (session : Session) (piece : List ℕ) → Fits session → Fits (with_insertion session piece)
 inserted-fits session piece fits = by (has_room session piece) refl
   where
     by : (room : Bool) → has_room session piece ≡ room → Fits (if room then with_piece session piece else noting session notices.Limit)
-    by true e = piece-fits session piece e
+    by true e = piece-fits session piece fits e
     by false e = fits
 
 after-fits : (session : Session) (after : AfterConfirm) → Fits session → Fits (after_confirmed session after)
@@ -97,24 +99,26 @@ after-fits session behind.OpenReading fits = fits
 after-fits session behind.Newline fits = inserted-fits session (10 ∷ []) fits
 
 confirmed-fits : (session : Session) (reading : Reading) (other : Bool) (after : AfterConfirm) → Fits session → Fits (confirmed session reading other after)
-confirmed-fits session reading other after fits = by (has_room session (reading_inserted session.frame.mode reading other)) refl
+confirmed-fits session reading other after fits = by (has_room session (reading_piece session.frame.mode reading other)) refl
   where
-    by : (room : Bool) → has_room session (reading_inserted session.frame.mode reading other) ≡ room
-        → Fits (if room then after_confirmed (with_piece session (reading_inserted session.frame.mode reading other)) after else noting (with_state session (states.Reading reading)) notices.Limit)
+    by : (room : Bool) → has_room session (reading_piece session.frame.mode reading other) ≡ room
+        → Fits (if room then after_confirmed (with_piece session (reading_piece session.frame.mode reading other)) after
+        else noting (with_state session (states.Reading reading)) notices.Limit)
     by true e =
-        let piece = reading_inserted session.frame.mode reading other in
-        after-fits (with_piece session piece) after (piece-fits session piece e)
+        let piece = reading_piece session.frame.mode reading other in
+        after-fits (with_piece session piece) after (piece-fits session piece fits e)
     by false e = fits
 
-picked-fit : (session : Session) (reading : Reading) (shown : List Shown) → Fits session → AllFit (picked session reading shown)
-picked-fit session reading shown fits = by (length shown == 0) refl
+pick-fit : (session : Session) (reading : Reading) (shown : List Shown) → Fits session
+    → AllFit (pick session reading shown)
+pick-fit session reading shown fits = by (length shown == 0) refl
   where
-    by : (none : Bool) → (length shown == 0) ≡ none → AllFit (picked session reading shown)
+    by : (none : Bool) → (length shown == 0) ≡ none → AllFit (pick session reading shown)
     by true e = rw e tt
     by false e = rw e fits
 
 looked-fit : (session : Session) (reading : Reading) (answer : Answer) → Fits session → AllFit (looked_up session reading answer)
-looked-fit session reading (Done (replies.Found found)) fits = picked-fit session reading (shown_plain (key_of reading) found) fits
+looked-fit session reading (Done (replies.Found found)) fits = pick-fit session reading (shown_plain (key_of reading) found) fits
 looked-fit session reading (Done reply) fits = fits
 looked-fit session reading (Refused refusal) fits = fits
 
@@ -142,7 +146,7 @@ undone-fit session None fits = fits
 undone-fit session (Some choice) fits = by choice.learned
   where
     shorter_text : Fits (before_choice session choice)
-    shorter_text = omega (arith, fits, shorter_by choice.inserted session.frame.text)
+    shorter_text = (omega (arith, fits.0, shorter_by choice.inserted session.frame.text), fits.1)
 
     by : (learned : Option Learned) → AllFit (unlearnt (before_choice session choice) learned)
     by None = shorter_text
@@ -150,7 +154,7 @@ undone-fit session (Some choice) fits = by choice.learned
 
 plain-effect-fit : (rules : List Rule) (session : Session) (effect : PlainThen) → Fits session → AllFit (plain_effect rules session effect)
 plain-effect-fit rules session plain.Stay fits = fits
-plain-effect-fit rules session plain.DeleteLast fits = omega (arith, fits, shorter session.frame.text)
+plain-effect-fit rules session plain.DeleteLast fits = (omega (arith, fits.0, shorter session.frame.text), fits.1)
 plain-effect-fit rules session plain.Newline fits = inserted-fits session (10 ∷ []) fits
 plain-effect-fit rules session (plain.OpenReading None) fits = fits
 plain-effect-fit rules session (plain.OpenReading (Some letter)) fits = reading-fit rules session new_reading (Char letter) fits
@@ -166,19 +170,20 @@ plain-fit rules session pending key fits =
 
 choice-effect-fit : (rules : List Rule) (session : Session) (effect : AfterChoose) → Fits session → AllFit (choice_effect rules session effect)
 choice-effect-fit rules session choices.Nothing fits = fits
-choice-effect-fit rules session choices.Delete fits = omega (arith, fits, shorter session.frame.text)
+choice-effect-fit rules session choices.Delete fits = (omega (arith, fits.0, shorter session.frame.text), fits.1)
 choice-effect-fit rules session choices.Newline fits = inserted-fits session (10 ∷ []) fits
 choice-effect-fit rules session choices.OpenSuffix fits = fits
 choice-effect-fit rules session (choices.Read key) fits = plain-fit rules session [] key fits
 
 choosing-fit : (rules : List Rule) (session : Session) (conversion : Conversion) (effect : AfterChoose) (shown : Shown) → Fits session
     → AllFit (choosing rules session conversion effect shown)
-choosing-fit rules session conversion effect shown fits = by (has_room session (choice_inserted session.frame.mode conversion.reading shown)) refl
+choosing-fit rules session conversion effect shown fits = by (has_room session (choice_piece session.frame.mode conversion.reading shown)) refl
   where
-    by : (room : Bool) → has_room session (choice_inserted session.frame.mode conversion.reading shown) ≡ room → AllFit (choosing rules session conversion effect shown)
+    by : (room : Bool) → has_room session (choice_piece session.frame.mode conversion.reading shown) ≡ room
+        → AllFit (choosing rules session conversion effect shown)
     by true e =
-        let piece = choice_inserted session.frame.mode conversion.reading shown in
-        rw e (λ answer. choice-effect-fit rules (after_learning (with_piece session piece) conversion piece answer) effect (piece-fits session piece e))
+        let piece = choice_piece session.frame.mode conversion.reading shown in
+        rw e (λ answer. choice-effect-fit rules (after_learning (with_piece session piece) conversion piece answer) effect (piece-fits session piece fits e))
     by false e = rw e fits
 
 purging-fit : (session : Session) (conversion : Conversion) (shown : Shown) → Fits session → AllFit (purging session conversion shown)

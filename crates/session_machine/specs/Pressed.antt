@@ -63,14 +63,14 @@ is_digit c = nat_le (code "0") c && nat_le c (code "9")
 
 -- what candidates come to that were found for a reading: the first of them is shown; where there are none a registration
 -- would open, which is not built
-abbrev pub picked : Session → Reading → List Shown → Meaning
-picked session reading shown =
+abbrev pub pick : Session → Reading → List Shown → Meaning
+pick session reading shown =
     if length shown == 0 then not_built
     else becomes (with_state session (states.Picking (record { reading = reading; picking = new_picking shown })))
 
 -- what the answer to a reading's look-up comes to: its candidates are shown; where it was refused the reading stays open
 abbrev pub looked_up : Session → Reading → Answer → Meaning
-looked_up session reading (Done (Found found)) = picked session reading (shown_plain (key_of reading) found)
+looked_up session reading (Done (Found found)) = pick session reading (shown_plain (key_of reading) found)
 looked_up session reading (Done reply) = becomes (with_state session (states.Reading reading))
 looked_up session reading (Refused refusal) =
     becomes (record (with_state session (states.Reading reading)) { notice = told.Refused refusal })
@@ -87,8 +87,8 @@ kana_begun None = []
 kana_begun (Some begun) = begun.text
 
 -- a reading with its okurigana as it is inserted: in the kana of a mode, or in the other
-abbrev pub reading_inserted : Mode → Reading → Bool → List ℕ
-reading_inserted mode reading other =
+abbrev pub reading_piece : Mode → Reading → Bool → List ℕ
+reading_piece mode reading other =
     in_kana_of (if other then other_kana mode else mode) (reading.text ++ kana_begun reading.okuri)
 
 -- a session after a reading was inserted, and after what comes behind that
@@ -102,7 +102,7 @@ after_confirmed session behind.Newline = with_insertion session (line_feed ∷ [
 -- a session after a reading is confirmed, which stays open where it does not fit
 abbrev pub confirmed : Session → Reading → Bool → AfterConfirm → Session
 confirmed session reading other behind =
-    let piece = reading_inserted session.frame.mode reading other in
+    let piece = reading_piece session.frame.mode reading other in
     if has_room session piece then after_confirmed (with_piece session piece) behind
     else noting (with_state session (states.Reading reading)) notices.Limit
 
@@ -173,8 +173,8 @@ abbrev pub of_candidate : Conversion → ℕ → (Shown → Meaning) → Meaning
 of_candidate conversion place meaning = option_map_or meaning (slice_get conversion.picking.shown place) not_built
 
 -- what is inserted for a candidate: its text as it is shown, and the okurigana in the kana of a mode
-abbrev pub choice_inserted : Mode → Reading → Shown → List ℕ
-choice_inserted mode reading shown = shown.text ++ in_kana_of mode (kana_begun reading.okuri)
+abbrev pub choice_piece : Mode → Reading → Shown → List ℕ
+choice_piece mode reading shown = shown.text ++ in_kana_of mode (kana_begun reading.okuri)
 
 -- a session into which a piece was inserted for a candidate, after its learning was answered
 abbrev pub after_learning : Session → Conversion → List ℕ → Answer → Session
@@ -204,7 +204,7 @@ learning rules session conversion piece behind shown =
 -- what the choice of a candidate comes to: it is inserted and learnt. Where it does not fit the candidates stay
 abbrev pub choosing : List Rule → Session → Conversion → AfterChoose → Shown → Meaning
 choosing rules session conversion behind shown =
-    let piece = choice_inserted session.frame.mode conversion.reading shown in
+    let piece = choice_piece session.frame.mode conversion.reading shown in
     if has_room session piece then learning rules session conversion piece behind shown
     else becomes (noting (with_state session (states.Picking conversion)) notices.Limit)
 

@@ -1,5 +1,5 @@
 -- A session: a typist's frames, and the changes that keys make of them.
-use Rattle.std.specs.Prelude.{ℕ, ◌+◌, Bool, ◌||◌, ◌==◌, nat_le, nat_lt, if◌then◌else◌, Option, None, Some, List, [], ◌∷◌, ◌++◌, ◌-◌, length, take}
+use Rattle.std.specs.Prelude.{ℕ, ◌+◌, Bool, ◌||◌, ◌==◌, nat_le, nat_lt, if◌then◌else◌, Option, None, Some, List, [], ◌∷◌, ◌++◌, ◌-◌, ◌≤◌, length, take}
 use Rattle.skk_text.specs.Text.{byte_len, without_last}
 use Rattle.skk_text.specs.declared.mode.Mode.{Mode}
 use Rattle.skk_text.specs.declared.mode.Mode.TheVariants.{Hira}
@@ -28,6 +28,14 @@ is_session session = session.book == 0 || session.book == session.typist
 -- the most bytes of a frame's text
 abbrev pub text_limit : ℕ
 text_limit = 1048576
+
+-- a frame's text is within its limit
+abbrev pub FrameFits : Frame → Type 0
+FrameFits frame = byte_len frame.text ≤ text_limit
+
+-- the frames of a session, each inside the one before it
+abbrev pub frames_of : Session → List Frame
+frames_of session = session.outer ++ session.frame ∷ []
 
 -- a new frame: hiragana mode, an empty text, nothing pending, and nothing chosen
 abbrev pub new_frame : Frame

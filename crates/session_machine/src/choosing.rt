@@ -2,7 +2,7 @@ ghost use Rattle.std.specs.Prelude.{◌≡◌, ◌<◌, length, IfOk, OnOk};
 ghost use Rattle.std.specs.Str.{chars};
 ghost use Rattle.skk_calls.specs.declared.call.Call.TheVariants.{Learn};
 ghost use Rattle.reading_state.specs.Keys.{okuri_of};
-ghost use Rattle.session_machine.specs.Pressed.{after_learning, choice_effect, choice_inserted, choosing, learning, of_candidate};
+ghost use Rattle.session_machine.specs.Pressed.{after_learning, choice_effect, choice_piece, choosing, learning, of_candidate};
 ghost use Rattle.session_machine.specs.Said.{Says, after};
 ghost use Rattle.session_machine.specs.Session.{with_piece};
 
@@ -35,7 +35,7 @@ pub(crate) fn choose<C: Caller>(
     ensures number { C.number caller.new ≡ C.number caller.old }
 {
     let shown = conversion.picking.shown_list().at(place);
-    let piece = choice_inserted(alloc, session.frame.mode, &conversion.reading, shown)?;
+    let piece = choice_piece(alloc, session.frame.mode, &conversion.reading, shown)?;
     if !session.has_room(piece.as_str()) {
         session.put_state(State::Picking(conversion));
         session.note(Notice::Limit);
@@ -47,13 +47,14 @@ pub(crate) fn choose<C: Caller>(
 }
 
 // What is inserted for a candidate that was found for a reading.
-fn choice_inserted(
+fn choice_piece(
     alloc: Global,
     mode: Mode,
     reading: &Reading,
     shown: Shown<'_>,
 ) -> Result<Text, Memory>
-    ensures { IfOk result (λ piece. piece ≡ choice_inserted mode reading.now (record { key = shown.entry.key.now; cand = shown.entry.cand.now; text = shown.entry.text.now })) }
+    ensures { IfOk result (λ piece. piece
+        ≡ choice_piece mode reading.now (record { key = shown.entry.key.now; cand = shown.entry.cand.now; text = shown.entry.text.now })) }
 {
     let mut piece = shown.text.copy(alloc)?;
     if let Some(kana) = reading.begun_text() {

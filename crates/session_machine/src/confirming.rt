@@ -1,5 +1,5 @@
 ghost use Rattle.std.specs.Prelude.{◌≡◌, IfOk, OnOk};
-ghost use Rattle.session_machine.specs.Pressed.{after_confirmed, confirmed, reading_inserted};
+ghost use Rattle.session_machine.specs.Pressed.{after_confirmed, confirmed, reading_piece};
 
 use crate::frame::State;
 use crate::kana::{in_kana_of, whole_reading};
@@ -19,7 +19,7 @@ pub(crate) fn confirm(
 ) -> Result<(), Memory>
     ensures { OnOk result (session.new ≡ confirmed session.old reading other (then)) }
 {
-    let piece = reading_inserted(alloc, session.frame.mode, &reading, other)?;
+    let piece = reading_piece(alloc, session.frame.mode, &reading, other)?;
     if !session.has_room(piece.as_str()) {
         session.put_state(State::Reading(reading));
         session.note(Notice::Limit);
@@ -30,13 +30,8 @@ pub(crate) fn confirm(
 }
 
 // A reading with its okurigana as it is inserted.
-fn reading_inserted(
-    alloc: Global,
-    mode: Mode,
-    reading: &Reading,
-    other: bool,
-) -> Result<Text, Memory>
-    ensures { IfOk result (λ piece. piece ≡ reading_inserted mode reading.now other) }
+fn reading_piece(alloc: Global, mode: Mode, reading: &Reading, other: bool) -> Result<Text, Memory>
+    ensures { IfOk result (λ piece. piece ≡ reading_piece mode reading.now other) }
 {
     let mode = if other { mode.other_kana() } else { mode };
     in_kana_of(alloc, mode, whole_reading(alloc, reading)?)

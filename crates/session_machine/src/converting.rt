@@ -3,7 +3,7 @@ ghost use Rattle.std.specs.List.{list_any};
 ghost use Rattle.std.specs.Str.{chars};
 ghost use Rattle.skk_calls.specs.declared.call.Call.TheVariants.{Lookup};
 ghost use Rattle.reading_state.specs.Keys.{key_of, okuri_of};
-ghost use Rattle.session_machine.specs.Pressed.{converted, looked_up, picked, is_digit};
+ghost use Rattle.session_machine.specs.Pressed.{converted, looked_up, pick, is_digit};
 ghost use Rattle.session_machine.specs.Said.{Becomes, Says, after};
 
 use crate::frame::{Conversion, State};
@@ -71,7 +71,7 @@ fn take_answer(
 
 // Shows the first of the candidates of a reading.
 fn pick(session: &mut Session, reading: Reading, shown: ShownList) -> Result<(), PressFault>
-    ensures { Becomes (picked session.old reading shown) (after result session.new) }
+    ensures { Becomes (pick session.old reading shown) (after result session.new) }
 {
     if shown.len() == 0 {
         return Err(PressFault::NotBuilt);

@@ -1,4 +1,5 @@
 ghost use Rattle.std.specs.Prelude.{◌≡◌, ◌<◌, ◌≤◌, ◌++◌, ℕ, true, false, OnOk, IsNone, IfSome, length, slice_index};
+ghost use Rattle.std.specs.Io.{StartsWith};
 ghost use Rattle.std.specs.List.{flat_map};
 ghost use Rattle.std.specs.Str.{chars};
 ghost use Rattle.session_machine.specs.Display.{escaped, has_escape, printed_form};
@@ -6,8 +7,10 @@ ghost use Rattle.session_machine.specs.Display.{escaped, has_escape, printed_for
 use skk_text::{Memory, Text};
 
 // Adds a text as it is printed. A run of characters that need no escape is added whole.
+#[tactic(auto, using(crate::proofs::Forms::kept))]
 pub(crate) fn push_printed(page: &mut Text, text: &str) -> Result<(), Memory>
-    ensures { OnOk result (page.new ≡ page.old ++ printed_form (chars text.now)) }
+    ensures ok { OnOk result (page.new ≡ page.old ++ printed_form (chars text.now)) }
+    ensures kept { StartsWith page.new page.old }
 {
     let mut rest = text;
     while let Some((run, escape, behind)) = next_escape(rest) {

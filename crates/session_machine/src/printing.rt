@@ -1,5 +1,8 @@
+#![tactic(auto, using(crate::proofs::Forms::kept))]
+
 ghost use Rattle.std.specs.Prelude.{◌≡◌, ◌+◌, ◌-◌, ◌<◌, [], ◌∷◌, ◌++◌, OnOk, drop, length};
 ghost use Rattle.std.specs.Fmt.{decimal};
+ghost use Rattle.std.specs.Io.{StartsWith};
 ghost use Rattle.std.specs.Str.{chars};
 ghost use Rattle.skk_text.specs.Characters.{code};
 ghost use Rattle.skk_text.specs.Modes.{in_kana_of};
@@ -29,7 +32,8 @@ const LETTERS: [char; 7] = ['A', 'S', 'D', 'F', 'J', 'K', 'L'];
 
 // Adds the line of a session behind a page.
 pub(crate) fn push_line(alloc: Global, page: &mut Text, session: &Session) -> Result<(), Memory>
-    ensures { OnOk result (page.new ≡ page.old ++ line session.now) }
+    ensures ok { OnOk result (page.new ≡ page.old ++ line session.now) }
+    ensures kept { StartsWith page.new page.old }
 {
     page.push_str(indicator(session.frame.mode))?;
     page.push('\t')?;
@@ -41,7 +45,8 @@ pub(crate) fn push_line(alloc: Global, page: &mut Text, session: &Session) -> Re
 
 // Adds the display of a session.
 pub(crate) fn push_display(alloc: Global, page: &mut Text, session: &Session) -> Result<(), Memory>
-    ensures { OnOk result (page.new ≡ page.old ++ display session.now) }
+    ensures ok { OnOk result (page.new ≡ page.old ++ display session.now) }
+    ensures kept { StartsWith page.new page.old }
 {
     let frame = &session.frame;
     push_printed(page, frame.text.last(SHOWN))?;
@@ -50,7 +55,8 @@ pub(crate) fn push_display(alloc: Global, page: &mut Text, session: &Session) ->
 
 // Adds what is shown of a state.
 fn push_state(alloc: Global, page: &mut Text, mode: Mode, state: &State) -> Result<(), Memory>
-    ensures { OnOk result (page.new ≡ page.old ++ printed_form (state_shown mode state.now)) }
+    ensures ok { OnOk result (page.new ≡ page.old ++ printed_form (state_shown mode state.now)) }
+    ensures kept { StartsWith page.new page.old }
 {
     match state {
         State::Plain(pending) => push_pending(page, pending),
@@ -61,7 +67,8 @@ fn push_state(alloc: Global, page: &mut Text, mode: Mode, state: &State) -> Resu
 
 // Adds an open reading.
 fn push_reading(alloc: Global, page: &mut Text, mode: Mode, reading: &Reading) -> Result<(), Memory>
-    ensures { OnOk result (page.new ≡ page.old ++ printed_form (reading_shown mode reading.now)) }
+    ensures ok { OnOk result (page.new ≡ page.old ++ printed_form (reading_shown mode reading.now)) }
+    ensures kept { StartsWith page.new page.old }
 {
     page.push('▽')?;
     push_kana(alloc, page, mode, reading.text())?;
@@ -70,16 +77,18 @@ fn push_reading(alloc: Global, page: &mut Text, mode: Mode, reading: &Reading) -
 }
 
 // Adds the letters that wait for more.
-#[tactic(auto, using(crate::proofs::Forms::ascii))]
+#[tactic(auto, using(crate::proofs::Forms::kept, crate::proofs::Forms::ascii))]
 fn push_pending(page: &mut Text, pending: &Pending) -> Result<(), Memory>
-    ensures { OnOk result (page.new ≡ page.old ++ printed_form pending.now) }
+    ensures ok { OnOk result (page.new ≡ page.old ++ printed_form pending.now) }
+    ensures kept { StartsWith page.new page.old }
 {
     push_printed(page, pending.as_str())
 }
 
 // Adds the okurigana of a reading behind a star, where one was begun.
 fn push_okuri(alloc: Global, page: &mut Text, mode: Mode, reading: &Reading) -> Result<(), Memory>
-    ensures { OnOk result (page.new ≡ page.old ++ printed_form (okuri_shown mode reading.now.okuri)) }
+    ensures ok { OnOk result (page.new ≡ page.old ++ printed_form (okuri_shown mode reading.now.okuri)) }
+    ensures kept { StartsWith page.new page.old }
 {
     match reading.begun_text() {
         Some(okuri) => {
@@ -92,7 +101,8 @@ fn push_okuri(alloc: Global, page: &mut Text, mode: Mode, reading: &Reading) -> 
 
 // Adds the kana of an okurigana, where one was begun.
 fn push_begun(alloc: Global, page: &mut Text, mode: Mode, reading: &Reading) -> Result<(), Memory>
-    ensures { OnOk result (page.new ≡ page.old ++ printed_form (in_kana_of mode (kana_begun reading.now.okuri))) }
+    ensures ok { OnOk result (page.new ≡ page.old ++ printed_form (in_kana_of mode (kana_begun reading.now.okuri))) }
+    ensures kept { StartsWith page.new page.old }
 {
     match reading.begun_text() {
         Some(okuri) => push_kana(alloc, page, mode, okuri),
@@ -102,7 +112,8 @@ fn push_begun(alloc: Global, page: &mut Text, mode: Mode, reading: &Reading) -> 
 
 // Adds a text in the kana of a mode.
 fn push_kana(alloc: Global, page: &mut Text, mode: Mode, text: &Text) -> Result<(), Memory>
-    ensures { OnOk result (page.new ≡ page.old ++ printed_form (in_kana_of mode text.now)) }
+    ensures ok { OnOk result (page.new ≡ page.old ++ printed_form (in_kana_of mode text.now)) }
+    ensures kept { StartsWith page.new page.old }
 {
     match mode {
         Mode::Kata => push_printed(page, to_katakana(alloc, text)?.as_str()),
@@ -117,7 +128,8 @@ fn push_picking(
     mode: Mode,
     conversion: &Conversion,
 ) -> Result<(), Memory>
-    ensures { OnOk result (page.new ≡ page.old ++ printed_form (picking_shown mode conversion.now)) }
+    ensures ok { OnOk result (page.new ≡ page.old ++ printed_form (picking_shown mode conversion.now)) }
+    ensures kept { StartsWith page.new page.old }
 {
     if conversion.picking.is_single() {
         push_single(alloc, page, mode, conversion)
@@ -133,17 +145,18 @@ fn push_single(
     mode: Mode,
     conversion: &Conversion,
 ) -> Result<(), Memory>
-    ensures { OnOk result (page.new ≡ page.old ++ printed_form (single_shown mode conversion.now)) }
+    ensures ok { OnOk result (page.new ≡ page.old ++ printed_form (single_shown mode conversion.now)) }
+    ensures kept { StartsWith page.new page.old }
 {
     page.push('▼')?;
-    push_printed(page, picked(&conversion.picking).text.as_str())?;
+    push_printed(page, picked_cand(&conversion.picking).text.as_str())?;
     push_begun(alloc, page, mode, &conversion.reading)?;
     push_question(page, conversion.picking.is_asked())
 }
 
 // The candidate that is picked.
 #[tactic(auto, using(crate::proofs::Forms::first_shown))]
-fn picked(picking: &Picking) -> Shown<'_>
+fn picked_cand(picking: &Picking) -> Shown<'_>
     ensures text { first_text (drop picking.now.place picking.now.shown) ≡ result.text.now }
     ensures note { first_note (drop picking.now.place picking.now.shown) ≡ result.cand.now.note }
 {
@@ -151,9 +164,10 @@ fn picked(picking: &Picking) -> Shown<'_>
 }
 
 // Adds the question of a purge, where it is asked.
-#[tactic(auto, using(crate::proofs::Words::words))]
+#[tactic(auto, using(crate::proofs::Forms::kept, crate::proofs::Words::words))]
 fn push_question(page: &mut Text, asked: bool) -> Result<(), Memory>
-    ensures { OnOk result (page.new ≡ page.old ++ printed_form (question_shown asked)) }
+    ensures ok { OnOk result (page.new ≡ page.old ++ printed_form (question_shown asked)) }
+    ensures kept { StartsWith page.new page.old }
 {
     if asked {
         page.push_str("[削除 Y/N]")
@@ -164,7 +178,8 @@ fn push_question(page: &mut Text, asked: bool) -> Result<(), Memory>
 
 // Adds a page of candidates.
 fn push_page(page: &mut Text, picking: &Picking) -> Result<(), Memory>
-    ensures { OnOk result (page.new ≡ page.old ++ printed_form (page_shown picking.now)) }
+    ensures ok { OnOk result (page.new ≡ page.old ++ printed_form (page_shown picking.now)) }
+    ensures kept { StartsWith page.new page.old }
 {
     page.push_str("▼[")?;
     push_lettered(page, picking.shown_list(), picking.place())?;
@@ -175,7 +190,9 @@ fn push_page(page: &mut Text, picking: &Picking) -> Result<(), Memory>
 
 // Adds how many candidates come behind a page.
 fn push_count_behind(page: &mut Text, picking: &Picking) -> Result<(), Memory>
-    ensures { OnOk result (page.new ≡ page.old ++ printed_form (decimal (length picking.now.shown - (picking.now.place + page_size)))) }
+    ensures ok { OnOk result (page.new
+        ≡ page.old ++ printed_form (decimal (length picking.now.shown - (picking.now.place + page_size)))) }
+    ensures kept { StartsWith page.new page.old }
 {
     let count = (picking.shown_list().len() - picking.place()).saturating_sub(LETTERS.len());
     push_number(page, count as u64)
@@ -184,7 +201,8 @@ fn push_count_behind(page: &mut Text, picking: &Picking) -> Result<(), Memory>
 // Adds the candidates from a place on behind their letters, as far as there are both.
 fn push_lettered(page: &mut Text, shown: &ShownList, first: usize) -> Result<(), Memory>
     requires { first < length shown.now }
-    ensures { OnOk result (page.new ≡ page.old ++ printed_form (lettered page_letters (drop first shown.now))) }
+    ensures ok { OnOk result (page.new ≡ page.old ++ printed_form (lettered page_letters (drop first shown.now))) }
+    ensures kept { StartsWith page.new page.old }
 {
     for (count, letter) in LETTERS.iter().enumerate() {
         if count >= shown.len() - first {
@@ -197,7 +215,8 @@ fn push_lettered(page: &mut Text, shown: &ShownList, first: usize) -> Result<(),
 
 // Adds the text of a candidate behind its letter.
 fn push_behind_letter(page: &mut Text, letter: char, text: &Text) -> Result<(), Memory>
-    ensures { OnOk result (page.new ≡ page.old ++ letter ∷ code ":" ∷ printed_form text.now ++ code " " ∷ []) }
+    ensures ok { OnOk result (page.new ≡ page.old ++ letter ∷ code ":" ∷ printed_form text.now ++ code " " ∷ []) }
+    ensures kept { StartsWith page.new page.old }
 {
     page.push(letter)?;
     page.push(':')?;
@@ -206,9 +225,10 @@ fn push_behind_letter(page: &mut Text, letter: char, text: &Text) -> Result<(), 
 }
 
 // Adds the notice of a session.
-#[tactic(auto, using(crate::proofs::Words::words))]
+#[tactic(auto, using(crate::proofs::Forms::kept, crate::proofs::Words::words))]
 pub(crate) fn push_notice(page: &mut Text, session: &Session) -> Result<(), Memory>
-    ensures { OnOk result (page.new ≡ page.old ++ notice session.now) }
+    ensures ok { OnOk result (page.new ≡ page.old ++ notice session.now) }
+    ensures kept { StartsWith page.new page.old }
 {
     match session.notice {
         SessionNotice::Step(Notice::Empty) => push_state_note(page, &session.frame.state),
@@ -226,7 +246,8 @@ pub(crate) fn push_notice(page: &mut Text, session: &Session) -> Result<(), Memo
 // Adds a word that ends in a space, and a number behind it.
 fn push_numbered(page: &mut Text, word: &str, number: u64) -> Result<(), Memory>
     requires { printed_form (chars word.now) ≡ chars word.now }
-    ensures { OnOk result (page.new ≡ page.old ++ printed_form (chars word.now ++ decimal number)) }
+    ensures ok { OnOk result (page.new ≡ page.old ++ printed_form (chars word.now ++ decimal number)) }
+    ensures kept { StartsWith page.new page.old }
 {
     page.push_str(word)?;
     push_number(page, number)
@@ -234,12 +255,13 @@ fn push_numbered(page: &mut Text, word: &str, number: u64) -> Result<(), Memory>
 
 // Adds the note of a state: that of a single candidate.
 fn push_state_note(page: &mut Text, state: &State) -> Result<(), Memory>
-    ensures { OnOk result (page.new ≡ page.old ++ printed_form (state_note state.now)) }
+    ensures ok { OnOk result (page.new ≡ page.old ++ printed_form (state_note state.now)) }
+    ensures kept { StartsWith page.new page.old }
 {
     match state {
         State::Picking(conversion) if conversion.picking.is_single() => push_note(
             page,
-            picked(&conversion.picking).cand.note(),
+            picked_cand(&conversion.picking).cand.note(),
         ),
         State::Plain(_) | State::Reading(_) | State::Picking(_) => Ok(()),
     }
@@ -247,9 +269,10 @@ fn push_state_note(page: &mut Text, state: &State) -> Result<(), Memory>
 
 // Adds a note behind a semicolon, where there is one.
 fn push_note(page: &mut Text, note: &Text) -> Result<(), Memory>
-    ensures { OnOk result (page.new ≡ page.old ++ printed_form (note_text note.now)) }
+    ensures ok { OnOk result (page.new ≡ page.old ++ printed_form (note_text note.now)) }
+    ensures kept { StartsWith page.new page.old }
 {
-    if note.byte_len() == 0 {
+    if note.is_empty() {
         return Ok(());
     }
     page.push(';')?;
@@ -257,9 +280,10 @@ fn push_note(page: &mut Text, note: &Text) -> Result<(), Memory>
 }
 
 // Adds the text of a refusal.
-#[tactic(auto, using(crate::proofs::Words::words))]
+#[tactic(auto, using(crate::proofs::Forms::kept, crate::proofs::Words::words))]
 fn push_refusal(page: &mut Text, refusal: Refusal) -> Result<(), Memory>
-    ensures { OnOk result (page.new ≡ page.old ++ printed_form (refusal_text refusal)) }
+    ensures ok { OnOk result (page.new ≡ page.old ++ printed_form (refusal_text refusal)) }
+    ensures kept { StartsWith page.new page.old }
 {
     match refusal {
         Refusal::Memory => page.push_str("refused memory"),
@@ -270,7 +294,9 @@ fn push_refusal(page: &mut Text, refusal: Refusal) -> Result<(), Memory>
 
 // Adds the text of a refusal because of a full journal.
 fn push_full(page: &mut Text, end: u64, need: u64, limit: u64) -> Result<(), Memory>
-    ensures { OnOk result (page.new ≡ page.old ++ printed_form (refusal_text (refusals.JournalFull end need limit))) }
+    ensures ok { OnOk result (page.new
+        ≡ page.old ++ printed_form (refusal_text (refusals.JournalFull end need limit))) }
+    ensures kept { StartsWith page.new page.old }
 {
     page.push_str("refused full ")?;
     push_number(page, end)?;
@@ -281,9 +307,10 @@ fn push_full(page: &mut Text, end: u64, need: u64, limit: u64) -> Result<(), Mem
 }
 
 // Adds a number in decimal.
-#[tactic(auto, using(crate::proofs::Forms::numbers))]
+#[tactic(auto, using(crate::proofs::Forms::kept, crate::proofs::Forms::numbers))]
 fn push_number(page: &mut Text, number: u64) -> Result<(), Memory>
-    ensures { OnOk result (page.new ≡ page.old ++ printed_form (decimal number)) }
+    ensures ok { OnOk result (page.new ≡ page.old ++ printed_form (decimal number)) }
+    ensures kept { StartsWith page.new page.old }
 {
     page.push_str(Buffer::new().format(number))
 }

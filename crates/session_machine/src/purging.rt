@@ -23,7 +23,10 @@ pub(crate) fn purge<C: Caller>(
     ensures said { Says (of_candidate conversion conversion.picking.place (purging session.old conversion)) (after result session.new) (C.said caller.old) (C.said caller.new) }
     ensures number { C.number caller.new ≡ C.number caller.old }
 {
-    let shown = conversion.picking.shown_list().at(conversion.picking.place());
+    let shown = conversion
+        .picking
+        .shown_list()
+        .at(conversion.picking.place());
     let call = purging(alloc, session.book, shown)?;
     let answer = caller.call(alloc, &call);
     take_purge(session, conversion, &answer);

@@ -67,6 +67,7 @@ impl Model for Session {
 
 impl Session {
     ghost use Rattle.std.specs.Prelude.{◌≡◌, ◌⊎◌, ◌++◌, IfOk, OnOk};
+    ghost use Rattle.std.specs.Io.{StartsWith};
     ghost use Rattle.session_machine.specs.Display.{display, notice, line, text_printed};
     ghost use Rattle.session_machine.specs.Pressed.{pressed, all_pressed};
     ghost use Rattle.session_machine.specs.Said.{Says};
@@ -137,7 +138,7 @@ impl Session {
     pub fn text(&self) -> &Text
         ensures { result.now ≡ text_of self.now }
     {
-        if self.outer.len() == 0 {
+        if self.outer.is_empty() {
             return &self.frame.text;
         }
         &self.outer.at(0).text
@@ -166,14 +167,16 @@ impl Session {
     /// Adds the session's line behind a page: the indicator of the mode, the display and the notice, with a TAB between
     /// two, and LF. Takes time in what is shown.
     pub fn push_line(&self, alloc: Global, page: &mut Text) -> Result<(), Memory>
-        ensures { OnOk result (page.new ≡ page.old ++ line self.now) }
+        ensures ok { OnOk result (page.new ≡ page.old ++ line self.now) }
+        ensures kept { StartsWith page.new page.old }
     {
         push_line(alloc, page, self)
     }
 
     /// Adds the typist's whole text behind a page, as it is printed.
     pub fn push_text(&self, page: &mut Text) -> Result<(), Memory>
-        ensures { OnOk result (page.new ≡ page.old ++ text_printed self.now) }
+        ensures ok { OnOk result (page.new ≡ page.old ++ text_printed self.now) }
+        ensures kept { StartsWith page.new page.old }
     {
         push_printed(page, self.text().as_str())
     }

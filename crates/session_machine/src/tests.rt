@@ -86,21 +86,21 @@ fn answer_by(alloc: Global, word: &str, call: &Call) -> Answer
     ensures { may_answer call.now result ≡ true }
 {
     match call {
-        Call::Lookup { .. } => found_by(alloc, word),
+        Call::Lookup { .. } => lookup_answer(alloc, word),
         Call::Complete { .. } => Answer::Refused(Refusal::Memory),
-        Call::Learn { book, key, .. } => learned_by(alloc, word, *book, key),
-        Call::Purge { .. } => purged_by(word),
-        Call::Unlearn { .. } => taken_back_by(word),
+        Call::Learn { book, key, .. } => learning_answer(alloc, word, *book, key),
+        Call::Purge { .. } => purge_answer(word),
+        Call::Unlearn { .. } => unlearning_answer(word),
     }
 }
 
 // What a look-up is answered.
-fn found_by(alloc: Global, word: &str) -> Answer
+fn lookup_answer(alloc: Global, word: &str) -> Answer
     ensures { (who : ℕ) (key : RowKey) (okuri : Option (List ℕ)) → may_answer (calls.Lookup who key okuri) result ≡ true }
 {
     let found = match word.parse() {
-        Ok(count) => found(alloc, count),
-        Err(_) => found_long(alloc, word),
+        Ok(count) => first_cands(alloc, count),
+        Err(_) => long_cands(alloc, word),
     };
     match found {
         Ok(cands) => Answer::Done(Reply::Found(cands)),
@@ -109,11 +109,11 @@ fn found_by(alloc: Global, word: &str) -> Answer
 }
 
 // What a learning is answered.
-fn learned_by(alloc: Global, word: &str, book: u16, key: &RowKey) -> Answer
+fn learning_answer(alloc: Global, word: &str, book: u16, key: &RowKey) -> Answer
     ensures { (book : ℕ) (key : RowKey) (okuri : Option (List ℕ)) (cand : Cand) → may_answer (calls.Learn book key okuri cand) result ≡ true }
 {
     if word != "learned" {
-        return not_done_by(word);
+        return other_answer(word);
     }
     match key.copy(alloc) {
         Ok(key) => Answer::Done(Reply::Learned(Learned::new(book, key, 1, None))),
@@ -122,18 +122,18 @@ fn learned_by(alloc: Global, word: &str, book: u16, key: &RowKey) -> Answer
 }
 
 // What a purge is answered.
-fn purged_by(word: &str) -> Answer
+fn purge_answer(word: &str) -> Answer
     ensures { (book : ℕ) (key : RowKey) (text : List ℕ) → may_answer (calls.Purge book key text) result ≡ true }
 {
     match word {
         "purged" => Answer::Done(Reply::Purged),
         "unchanged" => Answer::Done(Reply::Unchanged),
-        _ => not_done_by(word),
+        _ => other_answer(word),
     }
 }
 
 // What a taking back is answered.
-fn taken_back_by(word: &str) -> Answer
+fn unlearning_answer(word: &str) -> Answer
     ensures { (learned : Learned) → may_answer (calls.Unlearn learned) result ≡ true }
 {
     match word {
@@ -144,7 +144,7 @@ fn taken_back_by(word: &str) -> Answer
 }
 
 // What a learning or a purge is answered that is not done.
-fn not_done_by(word: &str) -> Answer
+fn other_answer(word: &str) -> Answer
     ensures learning { (book : ℕ) (key : RowKey) (okuri : Option (List ℕ)) (cand : Cand) → may_answer (calls.Learn book key okuri cand) result ≡ true }
     ensures purge { (book : ℕ) (key : RowKey) (text : List ℕ) → may_answer (calls.Purge book key text) result ≡ true }
 {
@@ -169,7 +169,7 @@ fn refusal_by(word: &str) -> Refusal {
 }
 
 // The first so many candidates.
-fn found(alloc: Global, count: usize) -> Result<Cands, Memory> {
+fn first_cands(alloc: Global, count: usize) -> Result<Cands, Memory> {
     let mut cands = Cands::new(alloc);
     for (word, note) in FOUND.iter().take(count) {
         let word = Text::of(String::from_str(alloc, word)?);
@@ -188,7 +188,7 @@ const LONG: usize = 2_048;
 const MANY: usize = 512;
 
 // A long candidate, where that is asked for.
-fn found_long(alloc: Global, word: &str) -> Result<Cands, Memory> {
+fn long_cands(alloc: Global, word: &str) -> Result<Cands, Memory> {
     if word != "long" {
         return Err(Memory);
     }
@@ -201,7 +201,11 @@ fn found_long(alloc: Global, word: &str) -> Result<Cands, Memory> {
 }
 
 // The session after the keys, where `_` is the space. It begins in hiragana mode, and its calls are answered by these words.
-fn typed(alloc: Global, keys: &str, words: &str) -> Result<Result<Session, PressFault>, Fail> {
+fn session_after(
+    alloc: Global,
+    keys: &str,
+    words: &str,
+) -> Result<Result<Session, PressFault>, Fail> {
     let rules = Rules::standard(alloc)?;
     let keys = read_keys(alloc, keys.replace(alloc, "_", " ")?.as_bytes())?;
     let trace = Trace::new(alloc, &Silence)?;
@@ -331,7 +335,7 @@ Ka______ 11=~
 ";
 
 // What a case has of a session.
-fn shown(alloc: Global, ended: Result<Session, PressFault>) -> Result<String, Fail> {
+fn case_text(alloc: Global, ended: Result<Session, PressFault>) -> Result<String, Fail> {
     let Ok(session) = ended else {
         return Ok(String::from_str(alloc, "~")?);
     };
@@ -348,23 +352,23 @@ fn sessions_are_shown(rt: HostRuntime) -> Result<(), Fail> {
     for case in CASES.lines().skip(1) {
         let (typing, wanted) = case.split_once('=').ok_or("no `=`")?;
         let (keys, words) = typing.split_once(' ').ok_or("no space")?;
-        let ended = typed(alloc, keys, words)?;
-        assert_eq!(rt; shown(alloc, ended)?.as_str(), wanted, "typed {typing}");
+        let ended = session_after(alloc, keys, words)?;
+        assert_eq!(rt; case_text(alloc, ended)?.as_str(), wanted, "typed {typing}");
     }
     Ok(())
 }
 
 // The session after the choices of so many long candidates, one after another.
-fn typed_long(alloc: Global, count: usize) -> Result<Result<Session, PressFault>, Fail> {
+fn session_after_long(alloc: Global, count: usize) -> Result<Result<Session, PressFault>, Fail> {
     let keys = "Ka_<cj>".repeat(alloc, count)?;
     let words = "long learned ".repeat(alloc, count)?;
-    typed(alloc, keys.as_str(), words.as_str())
+    session_after(alloc, keys.as_str(), words.as_str())
 }
 
 #[test]
 fn choices_fit_up_to_the_limit(rt: HostRuntime) -> Result<(), Fail> {
     let alloc = rt.alloc();
-    let session = typed_long(alloc, MANY + 1)??;
+    let session = session_after_long(alloc, MANY + 1)??;
     assert_eq!(rt; session.text().byte_len(), MANY * LONG);
     assert_eq!(rt; session.notice(alloc)?.as_str(), "limit");
     Ok(())
@@ -373,7 +377,7 @@ fn choices_fit_up_to_the_limit(rt: HostRuntime) -> Result<(), Fail> {
 #[test]
 fn sessions_have_a_mode_and_a_text(rt: HostRuntime) -> Result<(), Fail> {
     let alloc = rt.alloc();
-    let session = typed(alloc, "KanaL<tab>Ka", "")??;
+    let session = session_after(alloc, "KanaL<tab>Ka", "")??;
     assert_eq!(rt; session.mode(), Mode::Wide);
     assert_eq!(rt; session.text().as_str(), "かなＫａ");
     let mut page = Text::new(alloc);

@@ -1,7 +1,8 @@
 ghost use Rattle.std.specs.Prelude.{◌≡◌, ◌≢◌, ◌<◌, suc, [], true, false, Some, length, is_some, slice_get, IfOk, IfSome, OnErr};
 ghost use Rattle.std.specs.List.{list_all};
+ghost use Rattle.skk_text.specs.Lists.{is_empty};
 ghost use Rattle.skk_calls.specs.Dictionary.{is_plain_reading};
-ghost use Rattle.reading_state.specs.Puts.{is_nil, may_read};
+ghost use Rattle.reading_state.specs.Puts.{may_read};
 ghost use Rattle.reading_state.specs.Reading.{completed, completion_step, next_step, previous_step, without_completions};
 
 use super::Reading;
@@ -45,7 +46,7 @@ impl Completions {
         requires { place < length self.now.readings }
         ensures same { IfOk result (λ text. slice_get self.now.readings place ≡ Some text) }
         ensures may { IfOk result (λ text. may_read text ≡ true) }
-        ensures some { IfOk result (λ text. is_nil text ≡ false) }
+        ensures some { IfOk result (λ text. is_empty text ≡ false) }
     {
         self.readings.at(place).copy(alloc)
     }
@@ -80,7 +81,7 @@ impl Reading {
         ensures ok { IfOk result (λ notice. completed self.old readings ≡ record { reading = self.new; notice = notice }) }
         ensures err { OnErr result (self.new ≡ self.old) }
     {
-        if readings.len() == 0 {
+        if readings.is_empty() {
             return Ok(Notice::NoCompletion);
         }
         let kept = Completions::new(readings);

@@ -2,7 +2,6 @@ ghost use Rattle.std.specs.Prelude.{◌≡◌};
 ghost use Rattle.reading_state.specs.Reading.{delete_step, okuri_without_last, without_empty_okuri, space_step};
 
 use super::Reading;
-use super::puts::is_empty;
 use crate::reading_do::{ReadingDo, ReadingThen};
 use skk_text::Notice;
 
@@ -21,7 +20,7 @@ impl Reading {
             self.delete_kana();
             return ReadingDo::new(Notice::Empty, ReadingThen::Stay);
         }
-        if is_empty(&self.text) {
+        if self.text.is_empty() {
             return ReadingDo::new(Notice::Empty, ReadingThen::Drop);
         }
         self.text.delete_last();
@@ -53,7 +52,7 @@ impl Reading {
     pub(crate) fn close_or_convert(&mut self, notice: Notice) -> ReadingDo
         ensures { space_step (record { reading = self.old; notice = notice }) ≡ record { reading = self.new; done = result } }
     {
-        if is_empty(&self.text) {
+        if self.text.is_empty() {
             return ReadingDo::new(notice, ReadingThen::Drop);
         }
         if self.lacks_kana() {

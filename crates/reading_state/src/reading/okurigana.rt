@@ -1,9 +1,10 @@
 ghost use Rattle.std.specs.Prelude.{◌≡◌, ◌≢◌, ◌≤◌, ◌&&◌, not, true, [], None, Some, IsTrue, IfOk, OnErr};
-ghost use Rattle.reading_state.specs.Puts.{is_nil, may_end, later_notice};
+ghost use Rattle.skk_text.specs.Lists.{is_empty};
+ghost use Rattle.reading_state.specs.Puts.{may_end, later_notice};
 ghost use Rattle.reading_state.specs.Keys.{kana_of};
 ghost use Rattle.reading_state.specs.Reading.{put_upper, begin_okuri, flush, is_whole, is_alone, is_doubled, is_empty_okuri, is_filled_okuri};
 
-use super::puts::{accepted_by_okuri, both_empty, is_empty};
+use super::puts::{accepted_by_okuri, both_empty};
 use super::{Begun, Reading};
 use romaji_rules::{Pending, Rules};
 use skk_calls::Okuri;
@@ -16,7 +17,7 @@ impl Begun {
         requires { may_end self.now.text ≡ true }
         ensures { IfOk result (λ okuri. okuri ≡ kana_of (Some self.now)) }
     {
-        if is_empty(&self.text) {
+        if self.text.is_empty() {
             return Ok(None);
         }
         Ok(Some(Okuri::new(self.text.copy(alloc)?).unwrap()))
@@ -37,7 +38,7 @@ impl Reading {
         ensures { result ≡ is_filled_okuri self.now.okuri }
     {
         match &self.okuri {
-            Some(begun) => !is_empty(&begun.text),
+            Some(begun) => !begun.text.is_empty(),
             None => false,
         }
     }
@@ -47,7 +48,7 @@ impl Reading {
         ensures { result ≡ is_empty_okuri self.now.okuri }
     {
         match &self.okuri {
-            Some(begun) => is_empty(&begun.text),
+            Some(begun) => begun.text.is_empty(),
             None => false,
         }
     }
@@ -79,10 +80,10 @@ impl Reading {
 
     // Whether a letter stands alone behind a reading already, and is a consonant that is doubled there.
     fn is_doubled_by(&self, letter: u8) -> bool
-        ensures { result ≡ (is_alone letter self.now.pending && is_doubled letter && not (is_nil self.now.text)) }
+        ensures { result ≡ (is_alone letter self.now.pending && is_doubled letter && not (is_empty self.now.text)) }
     {
         let is_consonant = !matches!(letter, b'a' | b'i' | b'u' | b'e' | b'o' | b'n');
-        is_consonant && self.pending.as_slice() == [letter].as_slice() && !is_empty(&self.text)
+        is_consonant && self.pending.as_slice() == [letter].as_slice() && !self.text.is_empty()
     }
 
     // Begins an okurigana behind what is flushed, and reads its letter; behind an empty reading it reads the letter alone.

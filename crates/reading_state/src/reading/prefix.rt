@@ -1,11 +1,15 @@
 ghost use Rattle.std.specs.Prelude.{◌≡◌, ◌≢◌, ◌++◌, ◌∷◌, [], true, false, IfOk, IfSome, IsSome, IsNone, OnErr};
-ghost use Rattle.reading_state.specs.Puts.{is_nil, may_read, reading_limit, refusal, unless_refused, later_notice};
+ghost use Rattle.skk_text.specs.Lists.{is_empty};
+ghost use Rattle.skk_calls.specs.Rows.{reading_limit};
+ghost use Rattle.skk_calls.specs.declared.part.Part.TheVariants.{Nasi};
+ghost use Rattle.reading_state.specs.Puts.{may_read, refusal, unless_refused, later_notice};
 ghost use Rattle.reading_state.specs.Reading.{flush, ends_prefix, prefix_step};
 ghost use Rattle.reading_state.specs.declared.reading_do.ReadingThen.TheVariants.{Convert};
 
 use super::Reading;
-use super::puts::{Accepted, READING_LIMIT, both_empty};
+use super::puts::{Accepted, both_empty};
 use romaji_rules::{Pending, Rules};
+use skk_calls::READING_LIMIT;
 use skk_text::{Memory, Notice, Text};
 use std::alloc::Global;
 
@@ -40,10 +44,10 @@ impl Reading {
 #[tactic(auto, using(crate::proofs::Texts::marks))]
 fn with_mark(text: &Text, piece: Accepted) -> Result<Accepted, Memory>
     requires may { may_read (text.now ++ piece.text) ≡ true }
-    requires some { is_nil (text.now ++ piece.text) ≡ false }
-    ensures notice { IfOk result (λ added. added.notice ≡ later_notice piece.notice (refusal reading_limit may_read (text.now ++ piece.text) (0x3E ∷ []))) }
+    requires some { is_empty (text.now ++ piece.text) ≡ false }
+    ensures notice { IfOk result (λ added. added.notice ≡ later_notice piece.notice (refusal (reading_limit Nasi) may_read (text.now ++ piece.text) (0x3E ∷ []))) }
     ensures text { IfOk result (λ added. text.now ++ added.text
-        ≡ unless_refused (refusal reading_limit may_read (text.now ++ piece.text) (0x3E ∷ [])) (text.now ++ piece.text) (0x3E ∷ [])) }
+        ≡ unless_refused (refusal (reading_limit Nasi) may_read (text.now ++ piece.text) (0x3E ∷ [])) (text.now ++ piece.text) (0x3E ∷ [])) }
     ensures may { IfOk result (λ added. may_read (text.now ++ added.text) ≡ true) }
 {
     let mut added = piece.text;

@@ -1,22 +1,17 @@
 ghost use Rattle.std.specs.Prelude.{◌≡◌, ◌≤◌, ◌+◌, ◌++◌, ◌∷◌, ◌||◌, [], true, false, None, is_some, IfOk, IfSome, IsNone, OnErr};
-ghost use Rattle.std.specs.List.{list_all};
-ghost use Rattle.std.specs.Str.{chars};
+ghost use Rattle.skk_text.specs.Lists.{is_empty};
 ghost use Rattle.skk_text.specs.Text.{byte_len};
-ghost use Rattle.skk_calls.specs.Rows.{begins_well, is_reading_char, is_okuri_char};
+ghost use Rattle.skk_calls.specs.Rows.{begins_well, okuri_limit, reading_limit};
+ghost use Rattle.skk_calls.specs.declared.part.Part.TheVariants.{Nasi};
 ghost use Rattle.romaji_rules.specs.Typed.{flushed, extends_pending};
-ghost use Rattle.reading_state.specs.Puts.{is_nil, may_read, may_end, reading_limit, okuri_limit, refusal, unless_refused, put};
+ghost use Rattle.reading_state.specs.Puts.{may_read, may_end, refusal, unless_refused, put};
 ghost use Rattle.reading_state.specs.Reading.{with_pending, flush, feed};
 
 use super::Reading;
 use romaji_rules::{Pending, Rules};
+use skk_calls::{OKURI_LIMIT, READING_LIMIT, are_okuri_chars, are_reading_chars, begins_well};
 use skk_text::{Memory, Notice, Text};
 use std::alloc::Global;
-
-// The most bytes of a reading.
-pub(super) const READING_LIMIT: usize = 254;
-
-// The most bytes of an okurigana.
-const OKURI_LIMIT: usize = 60;
 
 // What of a piece is put at the end of a text: all of it, or nothing and the notice of that.
 #[derive(Drop)]
@@ -77,12 +72,12 @@ impl Reading {
         ensures ok { IfOk result (λ notice. flush rules.now self.old ≡ record { reading = self.new; notice = notice }) }
         ensures err { OnErr result (self.new ≡ self.old) }
     {
-        let flushed = self.flushed(alloc, rules)?;
+        let flushed = self.pending_kana(alloc, rules)?;
         self.put(alloc, flushed, Pending::new())
     }
 
     // The hiragana of what is pending.
-    pub(super) fn flushed(&self, alloc: Global, rules: &Rules) -> Result<Text, Memory>
+    pub(super) fn pending_kana(&self, alloc: Global, rules: &Rules) -> Result<Text, Memory>
         ensures { IfOk result (λ text. text ≡ (flushed rules.now self.now.pending).hira) }
     {
         let mut pending = Pending::of(self.pending.as_slice());
@@ -99,7 +94,7 @@ impl Reading {
         }) }
         ensures may { IfOk result (λ accepted. may_read (self.now.text ++ accepted.text) ≡ true) }
     {
-        let flushed = self.flushed(alloc, rules)?;
+        let flushed = self.pending_kana(alloc, rules)?;
         Ok(accepted_by_reading(alloc, &self.text, flushed))
     }
 
@@ -174,7 +169,7 @@ fn push_accepted(text: &mut Text, accepted: &Accepted) -> Result<Notice, Memory>
 #[tactic(auto, using(crate::proofs::Texts::may_reads))]
 fn accepted_by_reading(alloc: Global, text: &Text, piece: Text) -> Accepted
     requires { may_read text.now ≡ true }
-    ensures notice { result.notice ≡ refusal reading_limit may_read text.now piece }
+    ensures notice { result.notice ≡ refusal (reading_limit Nasi) may_read text.now piece }
     ensures text { text.now ++ result.text ≡ unless_refused result.notice text.now piece }
     ensures may { may_read (text.now ++ result.text) ≡ true }
 {
@@ -204,31 +199,22 @@ pub(super) fn accepted_by_okuri(alloc: Global, text: &Text, piece: Text) -> Acce
     Accepted::all(piece)
 }
 
-// Whether a text is empty.
-#[tactic(auto, using(crate::proofs::Texts::may_reads))]
-pub(super) fn is_empty(text: &Text) -> bool
-    ensures { result ≡ is_nil text.now }
-{
-    text.byte_len() == 0
-}
-
 // Whether a text with a piece behind it is empty.
-#[tactic(auto, using(crate::proofs::Texts::is_nil_append))]
+#[tactic(auto, using(crate::proofs::Texts::is_empty_append))]
 pub(super) fn both_empty(text: &Text, piece: &Text) -> bool
-    ensures { result ≡ is_nil (text.now ++ piece.now) }
+    ensures { result ≡ is_empty (text.now ++ piece.now) }
 {
-    is_empty(text) && is_empty(piece)
+    text.is_empty() && piece.is_empty()
 }
 
 // Whether a reading with a piece behind it may be one, where it is not too long.
 #[tactic(auto, using(crate::proofs::Texts::may_reads))]
 fn may_read_behind(text: &Text, piece: &Text) -> bool
     requires may { may_read text.now ≡ true }
-    requires fits { byte_len text.now + byte_len piece.now ≤ reading_limit }
+    requires fits { byte_len text.now + byte_len piece.now ≤ reading_limit Nasi }
     ensures { result ≡ may_read (text.now ++ piece.now) }
 {
-    let piece = piece.as_str();
-    are_reading_chars(piece) && (!is_empty(text) || may_begin(piece))
+    are_reading_chars(piece.as_str()) && (!text.is_empty() || may_begin(piece))
 }
 
 // Whether an okurigana with a piece behind it may be one, where it is not too long.
@@ -241,27 +227,9 @@ fn may_end_behind(text: &Text, piece: &Text) -> bool
     are_okuri_chars(piece.as_str())
 }
 
-// Whether a text is empty, or begins with something else than `;`.
-fn may_begin(text: &str) -> bool
-    ensures { result ≡ (is_nil (chars text.now) || begins_well (chars text.now)) }
+// Whether a text is empty, or begins as a reading does.
+fn may_begin(text: &Text) -> bool
+    ensures { result ≡ (is_empty text.now || begins_well text.now) }
 {
-    match text.chars().next() {
-        Some(c) => c != ';',
-        None => true,
-    }
-}
-
-// Whether each character may stand in a reading.
-fn are_reading_chars(text: &str) -> bool
-    ensures { result ≡ list_all is_reading_char (chars text.now) }
-{
-    text.chars().all(|c| c > ' ' && c != '\u{7F}')
-}
-
-// Whether each character may stand in an okurigana.
-fn are_okuri_chars(text: &str) -> bool
-    ensures { result ≡ list_all is_okuri_char (chars text.now) }
-{
-    text.chars()
-        .all(|c| matches!(c, 'ぁ'..='ゖ' | 'ゝ' | 'ゞ' | 'ー'))
+    text.is_empty() || begins_well(text.as_str())
 }
