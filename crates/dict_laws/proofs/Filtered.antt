@@ -26,11 +26,13 @@ module _ {X : Type 0} (p : X → Bool) where
       by false e rest = rw (so x e) rest
 
 -- what is made of each element that is kept is what is kept of what is made of each
-pub map_filter : {X Y : Type 0} (f : X → Y) (q : Y → Bool) (xs : List X) → map f (filter (λ x. q (f x)) xs) ≡ filter q (map f xs)
+pub map_filter : {X Y : Type 0} (f : X → Y) (q : Y → Bool) (xs : List X)
+    → map f (filter (λ x. q (f x)) xs) ≡ filter q (map f xs)
 map_filter f q [] = refl
 map_filter {X} {Y} f q (x ∷ xs) = by (q (f x)) (map_filter f q xs)
   where
     by : (b : Bool) → map f (filter (λ y. q (f y)) xs) ≡ filter q (map f xs)
-        → map f (cond b (x ∷ filter (λ y. q (f y)) xs) (filter (λ y. q (f y)) xs)) ≡ cond b (f x ∷ filter q (map f xs)) (filter q (map f xs))
+        → map f (cond b (x ∷ filter (λ y. q (f y)) xs) (filter (λ y. q (f y)) xs))
+        ≡ cond b (f x ∷ filter q (map f xs)) (filter q (map f xs))
     by true rest = ap (λ (ys : List Y). f x ∷ ys) rest
     by false rest = rest

@@ -1,5 +1,6 @@
 -- Whatever call is made, a valid state stays valid.
-use Rattle.std.proofs.Common.{◌≡◌, ℕ, ◌+◌, ◌<◌, Bool, true, false, cond, ◌&&◌, ◌==◌, nat_le, nat_lt, min, None, Some, Option, List, refl, ◌∙◌, ap, subst, arith}
+use Rattle.std.proofs.Common.{◌≡◌, ℕ, ◌+◌, ◌<◌, Bool, true, false, cond, ◌&&◌, ◌==◌, nat_le, nat_lt, min, None, Some}
+use Rattle.std.proofs.Common.{Option, List, refl, ◌∙◌, ap, subst, arith}
 use Rattle.std.proofs.lemmas.Bool.Decides.{Decides-eqb, nat_tests}
 use Rattle.std.proofs.lemmas.Bool.{and_from, and_parts}
 use Rattle.skk_text.specs.Text.{byte_len}
@@ -10,7 +11,8 @@ use Rattle.skk_calls.specs.declared.call.Call.{Call}
 use Rattle.skk_calls.specs.declared.call.Call.TheVariants.{Lookup, Complete, Learn, Purge, Unlearn}
 use Rattle.skk_calls.specs.Canonical.{canonical, is_good, line_limit}
 use Rattle.skk_text.specs.Counts.{last_count}
-use Rattle.skk_calls.specs.Dictionary.{change_reply, after, moves, state_moved, is_change, is_stamped, stamp_of, line_length, is_call, is_fit, is_okuri_or_none, is_row_or_none}
+use Rattle.skk_calls.specs.Dictionary.{change_reply, after, moves, state_moved, is_change, is_stamped, stamp_of}
+use Rattle.skk_calls.specs.Dictionary.{line_length, is_call, is_fit, is_okuri_or_none, is_row_or_none}
 use Rattle.skk_calls.specs.Learning.{learnt, purged, purge_changes, is_row_before, is_valid_learned, row_or_empty}
 use Rattle.skk_calls.specs.Rows.{RowKey, Cand, Row, Learned, same_key, is_row_key, is_cand, is_word, is_row}
 use Rattle.skk_calls.specs.States.{State, row_at, rows_of, count_of, state_with, has_stamp, is_valid}
@@ -58,8 +60,8 @@ some_count : (stamp count : ℕ) → (nat_le 1 stamp && nat_le stamp count) ≡ 
 some_count stamp count e = grind (arith, nat_tests)
 
 -- an earlier stamp is one too
-earlier_stamp : (earlier stamp count : ℕ) → (nat_le 1 earlier && nat_lt earlier stamp) ≡ true → nat_le stamp count ≡ true
-    → (nat_le 1 earlier && nat_le earlier count) ≡ true
+earlier_stamp : (earlier stamp count : ℕ) → (nat_le 1 earlier && nat_lt earlier stamp) ≡ true
+    → nat_le stamp count ≡ true → (nat_le 1 earlier && nat_le earlier count) ≡ true
 earlier_stamp earlier stamp count e h = grind (arith, nat_tests)
 
 -- the stamp of a row that is found is one of its book
@@ -68,7 +70,8 @@ stamp_within : (stamp count : ℕ) (found : Option Row) → fits_after count fou
 stamp_within stamp count None fits e = cc
 stamp_within stamp count (Some row) fits e =
     subst (λ (s : ℕ). (nat_le 1 s && nat_le s count) ≡ true) ((Decides-eqb row.stamp stamp).0 e)
-    (and_parts (is_good row) (has_stamp count row) (and_parts (is_row row) (is_good row && has_stamp count row) fits).1).1
+    (and_parts (is_good row) (has_stamp count row)
+    (and_parts (is_row row) (is_good row && has_stamp count row) fits).1).1
 
 -- the row before a learning may stand in its book
 before_fits : (key : RowKey) (stamp count : ℕ) (before : Option Row) → is_row_before key stamp before ≡ true
@@ -78,30 +81,36 @@ before_fits key stamp count None e row_is later = refl
 before_fits key stamp count (Some row) e row_is later =
     let rest : (is_good row && (nat_le 1 row.stamp && nat_lt row.stamp stamp)) ≡ true =
     (and_parts (same_key row.key key) (is_good row && (nat_le 1 row.stamp && nat_lt row.stamp stamp)) e).1 in
-    and_from (is_row row) (is_good row && has_stamp count row) row_is (and_from (is_good row) (has_stamp count row) (and_parts (is_good row) (nat_le 1 row.stamp && nat_lt row.stamp stamp) rest).0 (earlier_stamp row.stamp stamp count (and_parts (is_good row) (nat_le 1 row.stamp && nat_lt row.stamp stamp) rest).1 later))
+    and_from (is_row row) (is_good row && has_stamp count row) row_is (and_from (is_good row) (has_stamp count row)
+    (and_parts (is_good row) (nat_le 1 row.stamp && nat_lt row.stamp stamp) rest).0 (earlier_stamp row.stamp stamp count
+    (and_parts (is_good row) (nat_le 1 row.stamp && nat_lt row.stamp stamp) rest).1 later))
 
 module _ (state : State) (valid : is_valid state ≡ true) where
   -- what is known of the row of a key in a valid state
-  before_in : (book : ℕ) (key : RowKey) → is_row_key key ≡ true → BeforeParts key (row_or_empty key (row_at state book key))
+  before_in : (book : ℕ) (key : RowKey) → is_row_key key ≡ true
+      → BeforeParts key (row_or_empty key (row_at state book key))
   before_in book key is =
       before_parts (count_of state book) key (row_at state book key) is
       (row_in_has_key key (rows_of state book)) (fits_row_at state book valid key)
 
   -- a valid state with a row of the next stamp is valid
-  next_valid : (book : ℕ) (key : RowKey) (row : Row) → same_key row.key key ≡ true → is_row row ≡ true → is_good row ≡ true
-      → row.stamp ≡ count_of state book + 1
+  next_valid : (book : ℕ) (key : RowKey) (row : Row) → same_key row.key key ≡ true → is_row row ≡ true
+      → is_good row ≡ true → row.stamp ≡ count_of state book + 1
       → is_valid (state_with state book (count_of state book + 1) key (Some row)) ≡ true
   next_valid book key row has is good stamp =
       is_valid_changed state book (count_of state book + 1) key (Some row) valid (next_count (count_of state book))
       (later_count (count_of state book)) has
-      (and_from (is_row row) (is_good row && has_stamp (count_of state book + 1) row) is (and_from (is_good row) (has_stamp (count_of state book + 1) row) good (rw stamp (next_stamp (count_of state book)))))
+      (and_from (is_row row) (is_good row && has_stamp (count_of state book + 1) row) is (and_from (is_good row)
+      (has_stamp (count_of state book + 1) row) good (rw stamp (next_stamp (count_of state book)))))
 
   -- learning keeps it valid
-  learn_keeps : (book : ℕ) (key : RowKey) (okuri : Option (List ℕ)) (cand : Cand) → is_call (Learn book key okuri cand) ≡ true
+  learn_keeps : (book : ℕ) (key : RowKey) (okuri : Option (List ℕ)) (cand : Cand)
+      → is_call (Learn book key okuri cand) ≡ true
       → moves state (Learn book key okuri cand) ≡ true → is_valid (state_moved state (Learn book key okuri cand)) ≡ true
   learn_keeps book key okuri cand call e =
       let is : is_row_key key ≡ true = (and_parts (is_row_key key) (is_okuri_or_none okuri && is_cand cand) call).0 in
-      let rest : (is_okuri_or_none okuri && is_cand cand) ≡ true = (and_parts (is_row_key key) (is_okuri_or_none okuri && is_cand cand) call).1 in
+      let rest : (is_okuri_or_none okuri && is_cand cand) ≡ true =
+      (and_parts (is_row_key key) (is_okuri_or_none okuri && is_cand cand) call).1 in
       let okuri_is : is_okuri_or_none okuri ≡ true = (and_parts (is_okuri_or_none okuri) (is_cand cand) rest).0 in
       let cand_is : is_cand cand ≡ true = (and_parts (is_okuri_or_none okuri) (is_cand cand) rest).1 in
       let stamp : ℕ = count_of state book + 1 in
@@ -126,7 +135,8 @@ module _ (state : State) (valid : is_valid state ≡ true) where
       row : Row
       row = purged (row_at state book key) key word (count_of state book + 1)
 
-      by : (b : Bool) → is_change (cond b (change_reply (count_of state book) row replies.Purged) replies.Unchanged) ≡ true
+      by : (b : Bool)
+          → is_change (cond b (change_reply (count_of state book) row replies.Purged) replies.Unchanged) ≡ true
           → is_change (change_reply (count_of state book) row replies.Purged) ≡ true
       by true told = told
       by false told = cc
@@ -164,7 +174,8 @@ module _ (state : State) (valid : is_valid state ≡ true) where
           (fits_row_at state learned.book valid learned.key) (by (is_stamped learned.stamp found) e)
 
 -- a state is valid after a call where it is where the call moves it
-by_move : (state : State) (call : Call) → is_valid state ≡ true → (moves state call ≡ true → is_valid (state_moved state call) ≡ true)
+by_move : (state : State) (call : Call) → is_valid state ≡ true
+    → (moves state call ≡ true → is_valid (state_moved state call) ≡ true)
     → is_valid (after state call) ≡ true
 by_move state call valid so = by (moves state call) refl
   where
@@ -181,4 +192,5 @@ keeps_valid state (Learn book key okuri cand) valid is fits =
     by_move state (Learn book key okuri cand) valid (learn_keeps state valid book key okuri cand is)
 keeps_valid state (Purge book key word) valid is fits =
     by_move state (Purge book key word) valid (purge_keeps state valid book key word is fits)
-keeps_valid state (Unlearn learned) valid is fits = by_move state (Unlearn learned) valid (unlearn_keeps state valid learned is)
+keeps_valid state (Unlearn learned) valid is fits =
+    by_move state (Unlearn learned) valid (unlearn_keeps state valid learned is)

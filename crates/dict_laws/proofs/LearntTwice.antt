@@ -5,12 +5,14 @@ use Rattle.skk_calls.specs.declared.part.Part.{Part}
 use Rattle.skk_calls.specs.declared.part.Part.TheVariants.{Nasi, Ari}
 use Rattle.skk_text.specs.Lists.{is_empty}
 use Rattle.skk_calls.specs.Found.{note_of}
-use Rattle.skk_calls.specs.Learning.{without_text, without_word, learnt_note, learnt_cands, blocks_with_word, learnt_blocks, learnt, row_or_empty}
+use Rattle.skk_calls.specs.Learning.{without_text, without_word, learnt_note, learnt_cands, blocks_with_word}
+use Rattle.skk_calls.specs.Learning.{learnt_blocks, learnt, row_or_empty}
 use Rattle.skk_calls.specs.Rows.{RowKey, Cand, Block, Row, same_text}
 use Rattle.dict_laws.proofs.Texts.{without_twice, without_word_twice}
 
 -- the note of a candidate that stands at the front already
-pub note_learnt_again : (cands : List Cand) (cand : Cand) → learnt_note (learnt_cands cands cand) cand ≡ learnt_note cands cand
+pub note_learnt_again : (cands : List Cand) (cand : Cand)
+    → learnt_note (learnt_cands cands cand) cand ≡ learnt_note cands cand
 note_learnt_again cands cand = rw (same_itself cand.word) (by (is_empty cand.note))
   where
     by : (b : Bool)
@@ -19,7 +21,8 @@ note_learnt_again cands cand = rw (same_itself cand.word) (by (is_empty cand.not
     by false = refl
 
 -- the candidates after a candidate is learnt again
-pub cands_learnt_again : (cands : List Cand) (cand : Cand) → learnt_cands (learnt_cands cands cand) cand ≡ learnt_cands cands cand
+pub cands_learnt_again : (cands : List Cand) (cand : Cand)
+    → learnt_cands (learnt_cands cands cand) cand ≡ learnt_cands cands cand
 cands_learnt_again cands cand =
     let note : learnt_note (learnt_cands cands cand) cand ≡ learnt_note cands cand = note_learnt_again cands cand in
     let rest : without_word cand.word (learnt_cands cands cand) ≡ without_word cand.word cands =
@@ -31,7 +34,8 @@ cands_learnt_again cands cand =
 pub block_learnt_again : (okuri word : List ℕ) (blocks : List Block)
     → blocks_with_word okuri word (blocks_with_word okuri word blocks) ≡ blocks_with_word okuri word blocks
 block_learnt_again okuri word [] = rw (same_itself okuri, same_itself word)
-block_learnt_again okuri word (block ∷ blocks) = by (same_text block.okuri okuri) refl (block_learnt_again okuri word blocks)
+block_learnt_again okuri word (block ∷ blocks) =
+    by (same_text block.okuri okuri) refl (block_learnt_again okuri word blocks)
   where
     chosen : Block → Block
     chosen b = record { okuri = b.okuri; words = word ∷ without_text word b.words }
@@ -42,7 +46,8 @@ block_learnt_again okuri word (block ∷ blocks) = by (same_text block.okuri oku
         ≡ cond b (chosen block ∷ blocks) (block ∷ blocks_with_word okuri word blocks)
     by true e rest =
         rw (e, same_itself word)
-        (ap (λ (ws : List (List ℕ)). record { okuri = block.okuri; words = word ∷ ws } ∷ blocks) (without_twice word block.words))
+        (ap (λ (ws : List (List ℕ)). record { okuri = block.okuri; words = word ∷ ws } ∷ blocks)
+        (without_twice word block.words))
     by false e rest = rw e (ap (λ bs. block ∷ bs) rest)
 
 -- the blocks after a candidate is learnt again

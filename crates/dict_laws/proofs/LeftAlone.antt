@@ -54,14 +54,17 @@ moved_leaves state (Lookup who key okuri) book other typed e = refl
 moved_leaves state (Complete who prefix) book other typed e = refl
 moved_leaves state (Learn number key okuri cand) book other typed e =
     let stamp = count_of state number + 1 in
-    other_row state number stamp key (Some (learnt (row_at state number key) key okuri cand stamp)) book other (same_key_itself key) e
+    other_row state number stamp key (Some (learnt (row_at state number key) key okuri cand stamp)) book other
+    (same_key_itself key) e
 moved_leaves state (Purge number key word) book other typed e =
     let stamp = count_of state number + 1 in
-    other_row state number stamp key (Some (purged (row_at state number key) key word stamp)) book other (same_key_itself key) e
+    other_row state number stamp key (Some (purged (row_at state number key) key word stamp)) book other
+    (same_key_itself key) e
 moved_leaves state (Unlearn learned) book other typed e =
     other_row state learned.book (count_of state learned.book) learned.key (unlearnt learned) book other
     (before_has_key learned.key learned.stamp learned.before
-    (and_parts (is_valid_learned learned) (is_row_or_none learned.before) (and_parts (is_row_key learned.key) (is_valid_learned learned && is_row_or_none learned.before) typed).1).0)
+    (and_parts (is_valid_learned learned) (is_row_or_none learned.before)
+    (and_parts (is_row_key learned.key) (is_valid_learned learned && is_row_or_none learned.before) typed).1).0)
     e
 
 -- so does every call
@@ -70,7 +73,8 @@ pub leaves_alone : (state : State) (call : Call) (book : ℕ) (other : RowKey) �
 leaves_alone state call book other typed e = by (moves state call) refl
   where
     by : (b : Bool) → moves state call ≡ b → row_at (after state call) book other ≡ row_at state book other
-    by true f = ap (λ (s : State). row_at s book other) (after_moved state call f) ∙ moved_leaves state call book other typed e
+    by true f =
+        ap (λ (s : State). row_at s book other) (after_moved state call f) ∙ moved_leaves state call book other typed e
     by false f = ap (λ (s : State). row_at s book other) (after_unmoved state call f)
 
 -- a call that is made leaves the count of a book of which it speaks no row
@@ -85,7 +89,8 @@ moved_counts state (Purge number key word) book silent =
     let stamp = count_of state number + 1 in
     other_count state number stamp key (Some (purged (row_at state number key) key word stamp)) book (silent key)
 moved_counts state (Unlearn learned) book silent =
-    other_count state learned.book (count_of state learned.book) learned.key (unlearnt learned) book (silent learned.key)
+    other_count state learned.book (count_of state learned.book) learned.key (unlearnt learned) book
+    (silent learned.key)
 
 -- so does every call
 pub leaves_count : (state : State) (call : Call) (book : ℕ) → ((key : RowKey) → speaks_of call book key ≡ false)

@@ -1,5 +1,6 @@
 -- How many bytes a line of plain words has, and which word is too long to stand beside fifteen others.
-use Rattle.std.proofs.Common.{◌≡◌, ◌∙◌, ap, ℕ, ◌+◌, ◌*◌, ◌==◌, Bool, true, false, not, ◌&&◌, ◌||◌, List, [], ◌∷◌, ◌++◌, codes, length, map, None, Some, refl, arith}
+use Rattle.std.proofs.Common.{◌≡◌, ◌∙◌, ap, ℕ, ◌+◌, ◌*◌, ◌==◌, Bool, true, false, not, ◌&&◌, ◌||◌, List, [], ◌∷◌, ◌++◌}
+use Rattle.std.proofs.Common.{codes, length, map, None, Some, refl, arith}
 use Rattle.std.specs.List.{flat_map, list_all, list_any, sum_by}
 use Rattle.std.proofs.lemmas.Bool.{and_parts, and_from, not-true, eqb-true, both_ways}
 use Rattle.std.proofs.lemmas.List.{append-nil}
@@ -67,7 +68,13 @@ length_of_items (cand ∷ cands) all =
     let parts = and_parts (is_plain cand) (list_all is_plain cands) all in
     let text = flat_map with_slash (map item cands) in
     rw (plain_item cand parts.0, sum_by-cons slashed cand.word (words_of cands))
-    (omega (arith, byte_len-append (with_slash cand.word) text, byte_len-append cand.word (0x2F ∷ []), length_of_slash, length_of_items cands parts.1))
+    (omega (
+      arith,
+      byte_len-append (with_slash cand.word) text,
+      byte_len-append cand.word (0x2F ∷ []),
+      length_of_slash,
+      length_of_items cands parts.1,
+    ))
 
 -- without blocks and hidden words a row has the items of its candidates
 plain_items : (row : Row) → row.blocks ≡ [] → row.hides ≡ [] → items row ≡ map item row.cands
@@ -77,17 +84,26 @@ plain_items row no_blocks no_hides = rw (no_blocks, no_hides) (simp append-nil)
 pub line_of_plain_words : (row : Row) → row.blocks ≡ [] → row.hides ≡ [] → list_all is_plain row.cands ≡ true
     → byte_len (canonical row) ≡ byte_len row.key.reading + 2 + sum_by slashed (words_of row.cands)
 line_of_plain_words row no_blocks no_hides all =
-    ap (λ texts. byte_len (row.key.reading ++ 0x20 ∷ 0x2F ∷ flat_map with_slash texts)) (plain_items row no_blocks no_hides)
+    ap (λ texts. byte_len (row.key.reading ++ 0x20 ∷ 0x2F ∷ flat_map with_slash texts))
+    (plain_items row no_blocks no_hides)
     ∙ parts (flat_map with_slash (map item row.cands)) (length_of_items row.cands all)
   where
     parts : (text : List ℕ) → byte_len text ≡ sum_by slashed (words_of row.cands)
-        → byte_len (row.key.reading ++ 0x20 ∷ 0x2F ∷ text) ≡ byte_len row.key.reading + 2 + sum_by slashed (words_of row.cands)
-    parts text e = omega (arith, byte_len-append row.key.reading (0x20 ∷ 0x2F ∷ text), byte_len-append (0x20 ∷ 0x2F ∷ []) text, length_of_start, e)
+        → byte_len (row.key.reading ++ 0x20 ∷ 0x2F ∷ text)
+        ≡ byte_len row.key.reading + 2 + sum_by slashed (words_of row.cands)
+    parts text e = omega (
+      arith,
+      byte_len-append row.key.reading (0x20 ∷ 0x2F ∷ text),
+      byte_len-append (0x20 ∷ 0x2F ∷ []) text,
+      length_of_start,
+      e,
+    )
 
 -- A new word
 
 -- candidates without a word that they do not have are all of them
-without_new : (texts : List (List ℕ)) (word : List ℕ) → has_text texts word ≡ false → without_word word (map plain texts) ≡ map plain texts
+without_new : (texts : List (List ℕ)) (word : List ℕ) → has_text texts word ≡ false
+    → without_word word (map plain texts) ≡ map plain texts
 without_new texts word new =
     filter_all (λ cand. not (same_text cand.word word)) (map plain texts)
     (list_all-map (λ cand. not (same_text cand.word word)) plain texts ∙ same_none texts word new)
@@ -97,7 +113,8 @@ no_note : (texts : List (List ℕ)) (word : List ℕ) → note_of (map plain tex
 no_note [] word = refl
 no_note (text ∷ texts) word = by (same_text text word) refl (no_note texts word)
   where
-    by : (b : Bool) → same_text text word ≡ b → note_of (map plain texts) word ≡ [] → note_of (map plain (text ∷ texts)) word ≡ []
+    by : (b : Bool) → same_text text word ≡ b → note_of (map plain texts) word ≡ []
+        → note_of (map plain (text ∷ texts)) word ≡ []
     by true e rest = rw e refl
     by false e rest = rw e rest
 
@@ -132,7 +149,8 @@ long_are_plain (text ∷ texts) all =
     (and_parts (byte_len text == 4095) (needs_no_quotes text) parts.0).1 (long_are_plain texts parts.1)
 
 -- each has 4,096 bytes with its slash
-length_of_long : (texts : List (List ℕ)) → list_all is_long texts ≡ true → sum_by slashed (words_of (map plain texts)) ≡ length texts * 4096
+length_of_long : (texts : List (List ℕ)) → list_all is_long texts ≡ true
+    → sum_by slashed (words_of (map plain texts)) ≡ length texts * 4096
 length_of_long [] all = refl
 length_of_long (text ∷ texts) all =
     let parts = and_parts (is_long text) (list_all is_long texts) all in
@@ -161,7 +179,14 @@ module _ (files : List (List Row)) (texts : List (List ℕ)) (word : List ℕ)
 
   -- its line has 61,444 bytes beside those of the word
   length_spelled_out : byte_len (canonical spelled_out) ≡ byte_len word + 61444
-  length_spelled_out = omega (arith, line_of_plain_words spelled_out refl refl all_plain, sum_by-cons slashed word (words_of (map plain texts)), length_of_long texts long, length_of_a, fifteen)
+  length_spelled_out = omega (
+    arith,
+    line_of_plain_words spelled_out refl refl all_plain,
+    sum_by-cons slashed word (words_of (map plain texts)),
+    length_of_long texts long,
+    length_of_a,
+    fifteen,
+  )
 
   -- so has the line of the learnt row
   length_with_word : byte_len (canonical row_with_word) ≡ byte_len word + 61444

@@ -6,13 +6,15 @@ use Rattle.skk_calls.specs.declared.answer.Answer.TheVariants.{Done, Refused}
 use Rattle.skk_calls.specs.declared.call.Call.{Call}
 use Rattle.skk_calls.specs.declared.call.Call.TheVariants.{Lookup, Complete, Learn, Purge, Unlearn}
 use Rattle.skk_calls.specs.Dictionary.{answer, is_change, moves, after}
-use Rattle.skk_calls.specs.Histories.{Entry, Opening, LacksRoom, IsLegalAnswer, IsLegal, tells_change, after_answer, after_entry, state_after, end_after, room, changes, after_calls, need, needs}
+use Rattle.skk_calls.specs.Histories.{Entry, Opening, LacksRoom, IsLegalAnswer, IsLegal, tells_change, after_answer}
+use Rattle.skk_calls.specs.Histories.{after_entry, state_after, end_after, room, changes, after_calls, need, needs}
 use Rattle.skk_calls.specs.Rows.{Row}
 use Rattle.skk_calls.specs.States.{State}
 use Rattle.dict_laws.proofs.TakenBack.{after_unmoved}
 
 -- no system file has a say in whether a call changes the state
-files_have_no_say : (files : List (List Row)) (state : State) (call : Call) → is_change (answer files state call) ≡ moves state call
+files_have_no_say : (files : List (List Row)) (state : State) (call : Call)
+    → is_change (answer files state call) ≡ moves state call
 files_have_no_say files state (Lookup who key okuri) = refl
 files_have_no_say files state (Complete who prefix) = refl
 files_have_no_say files state (Learn book key okuri cand) = refl
@@ -20,7 +22,8 @@ files_have_no_say files state (Purge book key word) = refl
 files_have_no_say files state (Unlearn learned) = refl
 
 -- a call with a legal answer makes another state exactly where the answer tells of a change
-state_as_told : (opening : Opening) (state : State) (end : ℕ) (call : Call) (told : Answer) → IsLegalAnswer LacksRoom opening state end call told
+state_as_told : (opening : Opening) (state : State) (end : ℕ) (call : Call) (told : Answer)
+    → IsLegalAnswer LacksRoom opening state end call told
     → after_answer state call told ≡ cond (tells_change told) (after state call) state
 state_as_told opening state end call (Refused refusal) legal = refl
 state_as_told opening state end call (Done reply) legal = by (is_change reply) refl
@@ -52,20 +55,30 @@ by_changes opening [] legal = (refl, omega arith)
 by_changes opening (entry ∷ history) legal =
     by (tells_change entry.answer)
     (state_as_told opening opening.state opening.end entry.call entry.answer (legal [] entry history refl))
-    (by_changes (moved_on opening (after_entry opening.state entry) (end_after opening.state opening.end entry)) history (legal_rest opening entry history legal))
+    (by_changes (moved_on opening (after_entry opening.state entry) (end_after opening.state opening.end entry)) history
+    (legal_rest opening entry history legal))
   where
     by : (b : Bool) → after_entry opening.state entry ≡ cond b (after opening.state entry.call) opening.state
-        → (state_after (after_entry opening.state entry) history ≡ after_calls (after_entry opening.state entry) (changes history))
-        × (room (after_entry opening.state entry) (cond b (opening.end + need opening.state entry.call) opening.end) history
-        ≡ cond b (opening.end + need opening.state entry.call) opening.end + needs (after_entry opening.state entry) (changes history))
         → (state_after (after_entry opening.state entry) history
-        ≡ after_calls opening.state (map (λ (e : Entry). e.call) (cond b (entry ∷ filter (λ (e : Entry). tells_change e.answer) history) (filter (λ (e : Entry). tells_change e.answer) history))))
-        × (room (after_entry opening.state entry) (cond b (opening.end + need opening.state entry.call) opening.end) history
-        ≡ opening.end + needs opening.state (map (λ (e : Entry). e.call) (cond b (entry ∷ filter (λ (e : Entry). tells_change e.answer) history) (filter (λ (e : Entry). tells_change e.answer) history))))
+        ≡ after_calls (after_entry opening.state entry) (changes history))
+        × (room (after_entry opening.state entry)
+        (cond b (opening.end + need opening.state entry.call) opening.end) history
+        ≡ cond b (opening.end + need opening.state entry.call) opening.end + needs (after_entry opening.state entry)
+        (changes history))
+        → (state_after (after_entry opening.state entry) history
+        ≡ after_calls opening.state
+        (map (λ (e : Entry). e.call) (cond b (entry ∷ filter (λ (e : Entry). tells_change e.answer) history)
+        (filter (λ (e : Entry). tells_change e.answer) history))))
+        × (room (after_entry opening.state entry)
+        (cond b (opening.end + need opening.state entry.call) opening.end) history
+        ≡ opening.end + needs opening.state
+        (map (λ (e : Entry). e.call) (cond b (entry ∷ filter (λ (e : Entry). tells_change e.answer) history)
+        (filter (λ (e : Entry). tells_change e.answer) history))))
     by true same rest = (
       rest.0 ∙ ap (λ (s : State). after_calls s (changes history)) same,
       rest.1 ∙ ap (λ (s : State). opening.end + need opening.state entry.call + needs s (changes history)) same
-          ∙ three opening.end (need opening.state entry.call) (needs (after opening.state entry.call) (changes history)),
+          ∙ three opening.end (need opening.state entry.call)
+          (needs (after opening.state entry.call) (changes history)),
     )
     by false same rest = (
       rest.0 ∙ ap (λ (s : State). after_calls s (changes history)) same,

@@ -1,16 +1,19 @@
 -- The rows and the books that a change of one row leaves as they were.
-use Rattle.std.proofs.Common.{◌≡◌, ℕ, Bool, true, false, cond, not, ◌==◌, nat_lt, None, Some, Option, List, [], ◌∷◌, find, ◌∙◌, ap}
+use Rattle.std.proofs.Common.{◌≡◌, ℕ, Bool, true, false, cond, not, ◌==◌, nat_lt, None, Some, Option, List, [], ◌∷◌}
+use Rattle.std.proofs.Common.{find, ◌∙◌, ap}
 use Rattle.std.proofs.lemmas.Bool.{eqb-true, not-false}
 use Rattle.skk_calls.specs.declared.book.NumberedBook.{NumberedBook}
 use Rattle.skk_calls.specs.KeyLaws.{same_key_equal}
 use Rattle.skk_calls.specs.Orders.{insert_by, key_less}
 use Rattle.skk_calls.specs.Rows.{RowKey, Row, same_key}
-use Rattle.skk_calls.specs.States.{State, row_in, book_at, book_rows, rows_of, row_at, without_row, with_row, without_book, state_with}
+use Rattle.skk_calls.specs.States.{State, row_in, book_at, book_rows, rows_of, row_at, without_row, with_row}
+use Rattle.skk_calls.specs.States.{without_book, state_with}
 use Rattle.dict_laws.specs.ChangedStates.{has_key, changed_book, book_at_changed}
 use Rattle.dict_laws.proofs.Filtered.{find-filter}
 
 -- by a test that an item does not pass, the same is found where it is put at its place among others
-find-insert_by_other : {X : Type 0} (before : X → X → Bool) (p : X → Bool) (x : X) (xs : List X) → p x ≡ false → find p (insert_by before x xs) ≡ find p xs
+find-insert_by_other : {X : Type 0} (before : X → X → Bool) (p : X → Bool) (x : X) (xs : List X) → p x ≡ false
+    → find p (insert_by before x xs) ≡ find p xs
 find-insert_by_other before p x [] e = rw e
 find-insert_by_other {X} before p x (y ∷ ys) e = by (before x y) (find-insert_by_other before p x ys e)
   where
@@ -36,8 +39,8 @@ row_in_other : (key other : RowKey) (row : Option Row) (rows : List Row) → sam
     → has_key key row ≡ true → row_in other (with_row key row rows) ≡ row_in other rows
 row_in_other key other None rows e has = row_in_without key other rows e
 row_in_other key other (Some row) rows e has =
-    find-insert_by_other (λ (r s : Row). key_less r.key s.key) (λ (r : Row). same_key r.key other) row (without_row key rows)
-    (other_key key other e row has)
+    find-insert_by_other (λ (r s : Row). key_less r.key s.key) (λ (r : Row). same_key r.key other) row
+    (without_row key rows) (other_key key other e row has)
     ∙ row_in_without key other rows e
 
 module _ (state : State) (number count : ℕ) (key : RowKey) (row : Option Row) where
@@ -54,7 +57,8 @@ module _ (state : State) (number count : ℕ) (key : RowKey) (row : Option Row) 
   book_at_other other e =
       find-insert_by_other (λ (b c : NumberedBook). nat_lt b.number c.number) (λ (b : NumberedBook). b.number == other)
       (changed_book state number count key row) (without_book number state.books) e
-      ∙ find-filter (λ (b : NumberedBook). b.number == other) (λ (b : NumberedBook). not (b.number == number)) left_out state.books
+      ∙ find-filter (λ (b : NumberedBook). b.number == other) (λ (b : NumberedBook). not (b.number == number))
+      left_out state.books
     where
       left_out : (b : NumberedBook) → not (b.number == number) ≡ false → (b.number == other) ≡ false
       left_out b out = ap (λ (n : ℕ). n == other) (eqb-true b.number number (not-false (b.number == number) out)) ∙ e

@@ -1,5 +1,6 @@
 -- The row after a word is purged is a row, and a good one where its line is not too long.
-use Rattle.std.proofs.Common.{◌≡◌, ℕ, Bool, true, false, cond, not, nat_le, Option, List, [], ◌∷◌, ◌++◌, length, refl, sym, subst, arith}
+use Rattle.std.proofs.Common.{◌≡◌, ℕ, Bool, true, false, cond, not, nat_le, Option, List, [], ◌∷◌, ◌++◌, length, refl}
+use Rattle.std.proofs.Common.{sym, subst, arith}
 use Rattle.std.proofs.lemmas.Bool.Decides.{nat_tests}
 use Rattle.std.specs.List.{list_all}
 use Rattle.std.proofs.lemmas.Bool.{and_from, and_parts, or_from, or_parts}
@@ -9,8 +10,10 @@ use Rattle.skk_calls.specs.declared.part.Part.{Part}
 use Rattle.skk_calls.specs.declared.part.Part.TheVariants.{Nasi, Ari}
 use Rattle.skk_calls.specs.Canonical.{canonical, is_good, line_limit}
 use Rattle.skk_text.specs.Lists.{is_empty}
-use Rattle.skk_calls.specs.Learning.{without_text, without_word, block_without, blocks_without, hides_with, purged, row_or_empty}
-use Rattle.skk_calls.specs.Rows.{RowKey, Cand, Block, Row, same_text, has_text, texts_differ, is_row_key, is_word, is_cand, is_block, fits_blocks, words_of, okuri_of, is_row}
+use Rattle.skk_calls.specs.Learning.{without_text, without_word, block_without, blocks_without, hides_with, purged}
+use Rattle.skk_calls.specs.Learning.{row_or_empty}
+use Rattle.skk_calls.specs.Rows.{RowKey, Cand, Block, Row, same_text, has_text, texts_differ, is_row_key, is_word}
+use Rattle.skk_calls.specs.Rows.{is_cand, is_block, fits_blocks, words_of, okuri_of, is_row}
 use Rattle.dict_laws.proofs.Filtered.{or_last}
 use Rattle.skk_calls.specs.RowLaws.{RowParts, row_from_parts, block_from_parts, block_parts}
 use Rattle.dict_laws.proofs.RowParts.{BeforeParts, good_from_parts}
@@ -41,14 +44,17 @@ module _ (word : List ℕ) where
       → list_all is_block (blocks_without word blocks) ≡ true
   blocks_without_all [] all = refl
   blocks_without_all (block ∷ blocks) all =
-      by (not (is_empty (without_text word block.words))) refl (blocks_without_all blocks (and_parts (is_block block) (list_all is_block blocks) all).1)
+      by (not (is_empty (without_text word block.words))) refl
+      (blocks_without_all blocks (and_parts (is_block block) (list_all is_block blocks) all).1)
     where
       by : (b : Bool) → not (is_empty (without_text word block.words)) ≡ b
           → list_all is_block (blocks_without word blocks) ≡ true
-          → list_all is_block (cond b (block_without word block ∷ blocks_without word blocks) (blocks_without word blocks)) ≡ true
+          → list_all is_block
+          (cond b (block_without word block ∷ blocks_without word blocks) (blocks_without word blocks)) ≡ true
       by true more rest =
           let parts = block_parts block (and_parts (is_block block) (list_all is_block blocks) all).0 in
-          and_from (is_block (block_without word block)) (list_all is_block (blocks_without word blocks)) (block_from_parts (block_without word block) (record {
+          and_from (is_block (block_without word block)) (list_all is_block (blocks_without word blocks))
+          (block_from_parts (block_without word block) (record {
             okuri = parts.okuri;
             has_item = some_length (without_text word block.words) more;
             words = list_all-filter is_word (λ other. not (same_text other word)) block.words parts.words;
@@ -61,10 +67,13 @@ module _ (word : List ℕ) where
       → has_text (okuri_of (blocks_without word blocks)) text ≡ false
   has_okuri_left [] text e = refl
   has_okuri_left (block ∷ blocks) text e =
-      by (not (is_empty (without_text word block.words))) (has_okuri_left blocks text (or_parts (same_text text block.okuri) (has_text (okuri_of blocks) text) e).1)
+      by (not (is_empty (without_text word block.words)))
+      (has_okuri_left blocks text (or_parts (same_text text block.okuri) (has_text (okuri_of blocks) text) e).1)
     where
       by : (b : Bool) → has_text (okuri_of (blocks_without word blocks)) text ≡ false
-          → has_text (okuri_of (cond b (block_without word block ∷ blocks_without word blocks) (blocks_without word blocks))) text ≡ false
+          → has_text
+          (okuri_of (cond b (block_without word block ∷ blocks_without word blocks) (blocks_without word blocks))) text
+          ≡ false
       by true rest =
           or_from (same_text text block.okuri) (has_text (okuri_of (blocks_without word blocks)) text)
           (or_parts (same_text text block.okuri) (has_text (okuri_of blocks) text) e).0 rest
@@ -78,14 +87,18 @@ module _ (word : List ℕ) where
       by (not (is_empty (without_text word block.words))) (differ_parts block.okuri (okuri_of blocks) e).0
       (blocks_without_differ blocks (differ_parts block.okuri (okuri_of blocks) e).1)
     where
-      by : (b : Bool) → has_text (okuri_of blocks) block.okuri ≡ false → texts_differ (okuri_of (blocks_without word blocks)) ≡ true
-          → texts_differ (okuri_of (cond b (block_without word block ∷ blocks_without word blocks) (blocks_without word blocks))) ≡ true
+      by : (b : Bool) → has_text (okuri_of blocks) block.okuri ≡ false
+          → texts_differ (okuri_of (blocks_without word blocks)) ≡ true
+          → texts_differ
+          (okuri_of (cond b (block_without word block ∷ blocks_without word blocks) (blocks_without word blocks)))
+          ≡ true
       by true none rest =
           differ_from block.okuri (okuri_of (blocks_without word blocks)) (has_okuri_left blocks block.okuri none) rest
       by false none rest = rest
 
   -- the words that are hidden with one more differ
-  pub hidden_too_differ : (hides : List (List ℕ)) → texts_differ hides ≡ true → texts_differ (hides_with word hides) ≡ true
+  pub hidden_too_differ : (hides : List (List ℕ)) → texts_differ hides ≡ true
+      → texts_differ (hides_with word hides) ≡ true
   hidden_too_differ hides e = by (has_text hides word) refl
     where
       by : (b : Bool) → has_text hides word ≡ b → texts_differ (cond b hides (hides ++ word ∷ [])) ≡ true
@@ -106,7 +119,9 @@ module _ (word : List ℕ) where
       → list_all is_word (hides ++ word ∷ []) ≡ true
   words_end [] e all = and_from (is_word word) true e refl
   words_end (text ∷ texts) e all =
-      and_from (is_word text) (list_all is_word (texts ++ word ∷ [])) (and_parts (is_word text) (list_all is_word texts) all).0 (words_end texts e (and_parts (is_word text) (list_all is_word texts) all).1)
+      and_from (is_word text) (list_all is_word (texts ++ word ∷ []))
+      (and_parts (is_word text) (list_all is_word texts) all).0
+      (words_end texts e (and_parts (is_word text) (list_all is_word texts) all).1)
 
   -- and they are words
   pub hidden_too_words : (hides : List (List ℕ)) → is_word word ≡ true → list_all is_word hides ≡ true
@@ -140,11 +155,14 @@ module _ (before : Option Row) (key : RowKey) (word : List ℕ) (stamp : ℕ) (i
   purged_is_row = row_from_parts (purged before key word stamp) purged_parts
 
   -- and a good one where it is short
-  pub purged_is_good : is_word word ≡ true → nat_le (byte_len (canonical (purged before key word stamp))) line_limit ≡ true
+  pub purged_is_good : is_word word ≡ true
+      → nat_le (byte_len (canonical (purged before key word stamp))) line_limit ≡ true
       → is_good (purged before key word stamp) ≡ true
   purged_is_good fits short =
       good_from_parts (purged before key word stamp) purged_parts
       (hidden_too_words word (row_or_empty key before).hides fits was.hidden)
-      (or_last (not (is_empty (without_word word (row_or_empty key before).cands))) (not (is_empty (blocks_without word (row_or_empty key before).blocks)))
-      (not (is_empty (hides_with word (row_or_empty key before).hides))) (hidden_too_some word (row_or_empty key before).hides))
+      (or_last (not (is_empty (without_word word (row_or_empty key before).cands)))
+      (not (is_empty (blocks_without word (row_or_empty key before).blocks)))
+      (not (is_empty (hides_with word (row_or_empty key before).hides)))
+      (hidden_too_some word (row_or_empty key before).hides))
       short

@@ -7,7 +7,8 @@ use Rattle.skk_calls.specs.declared.call.Call.{Call}
 use Rattle.skk_calls.specs.declared.call.Call.TheVariants.{Learn, Unlearn}
 use Rattle.skk_calls.specs.Canonical.{line_limit}
 use Rattle.skk_text.specs.Counts.{last_count}
-use Rattle.skk_calls.specs.Dictionary.{change_reply, answer, after, moves, state_moved, is_change, is_stamped, line_length}
+use Rattle.skk_calls.specs.Dictionary.{change_reply, answer, after, moves, state_moved, is_change, is_stamped}
+use Rattle.skk_calls.specs.Dictionary.{line_length}
 use Rattle.skk_calls.specs.Learning.{learnt}
 use Rattle.skk_calls.specs.Rows.{RowKey, Cand, Row, Learned}
 use Rattle.skk_calls.specs.States.{State, row_at, rows_of, count_of}
@@ -22,14 +23,15 @@ change_told : (count : ℕ) (row : Row) (reply : Reply) (learned : Learned)
     → change_reply count row reply ≡ replies.Learned learned → reply ≡ replies.Learned learned
 change_told count row reply learned e = by (count == last_count) (nat_lt line_limit (line_length row)) e
   where
-    by : (b c : Bool) → cond b replies.StampsEnd (cond c (replies.TooBig (line_length row)) reply) ≡ replies.Learned learned
+    by : (b c : Bool)
+        → cond b replies.StampsEnd (cond c (replies.TooBig (line_length row)) reply) ≡ replies.Learned learned
         → reply ≡ replies.Learned learned
     by true c told = cc
     by false true told = cc
     by false false told = told
 
-module _ (files : List (List Row)) (state : State) (book : ℕ) (key : RowKey) (okuri : Option (List ℕ)) (cand : Cand) (learned : Learned)
-    (told : answer files state (Learn book key okuri cand) ≡ replies.Learned learned) where
+module _ (files : List (List Row)) (state : State) (book : ℕ) (key : RowKey) (okuri : Option (List ℕ)) (cand : Cand)
+    (learned : Learned) (told : answer files state (Learn book key okuri cand) ≡ replies.Learned learned) where
   -- what is told of a learning
   told_learned : Learned
   told_learned = record { book = book; key = key; stamp = count_of state book + 1; before = row_at state book key }
@@ -38,7 +40,8 @@ module _ (files : List (List Row)) (state : State) (book : ℕ) (key : RowKey) (
   learned_is : learned ≡ told_learned
   unfolding told_learned
   learned_is =
-      let reply = change_told (count_of state book) (learnt (row_at state book key) key okuri cand (count_of state book + 1))
+      let reply =
+      change_told (count_of state book) (learnt (row_at state book key) key okuri cand (count_of state book + 1))
       (replies.Learned told_learned) learned told in
       cc
 
@@ -72,7 +75,8 @@ module _ (files : List (List Row)) (state : State) (book : ℕ) (key : RowKey) (
     unfolding told_learned
     row_taken_back =
         ap (λ (s : State). row_at s book key) restored
-        ∙ rw learned_is (row_at_changed later book (count_of later book) key (row_at state book key) (row_in_has_key key (rows_of state book)))
+        ∙ rw learned_is (row_at_changed later book (count_of later book) key (row_at state book key)
+        (row_in_has_key key (rows_of state book)))
 
     -- and the count of the book stays
     pub count_taken_back : count_of (after later (Unlearn learned)) book ≡ count_of later book

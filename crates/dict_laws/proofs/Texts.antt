@@ -19,7 +19,8 @@ same_none texts text none =
     (λ other e. ap not (same_other other text) ∙ e) texts (none_same texts text none)
 
 -- to leave out a text twice is to leave it out once
-pub without_twice : (text : List ℕ) (texts : List (List ℕ)) → without_text text (without_text text texts) ≡ without_text text texts
+pub without_twice : (text : List ℕ) (texts : List (List ℕ))
+    → without_text text (without_text text texts) ≡ without_text text texts
 without_twice text texts = filter_twice (λ other. not (same_text other text)) texts
 
 -- to leave out a word twice is to leave it out once
@@ -28,7 +29,8 @@ pub without_word_twice : (word : List ℕ) (cands : List Cand)
 without_word_twice word cands = filter_twice (λ cand. not (same_text cand.word word)) cands
 
 -- texts that differ still do where some are left out
-pub differ_filter : (q : List ℕ → Bool) (texts : List (List ℕ)) → texts_differ texts ≡ true → texts_differ (filter q texts) ≡ true
+pub differ_filter : (q : List ℕ → Bool) (texts : List (List ℕ)) → texts_differ texts ≡ true
+    → texts_differ (filter q texts) ≡ true
 differ_filter q texts e = all_pairs-filter (λ text other. not (same_text text other)) q texts e
 
 -- texts without one of them have it not
@@ -46,7 +48,8 @@ not_first : (text : List ℕ) (texts : List (List ℕ)) (other : List ℕ) → n
     → not (same_text text other) ≡ true
 not_first text texts other h =
     not_from_false (same_text text other)
-    (same_other text other ∙ (or_parts (same_text other text) (has_text texts other) (not-true (has_text (text ∷ texts) other) h)).0)
+    (same_other text other
+    ∙ (or_parts (same_text other text) (has_text texts other) (not-true (has_text (text ∷ texts) other) h)).0)
 
 not_in_rest : (text : List ℕ) (texts : List (List ℕ)) (other : List ℕ) → not (has_text (text ∷ texts) other) ≡ true
     → not (has_text texts other) ≡ true
@@ -60,13 +63,16 @@ pub differ-append : (texts others : List (List ℕ)) → texts_differ texts ≡ 
 differ-append [] others e f apart = f
 differ-append (text ∷ texts) others e f apart =
     let parts = differ_parts text texts e in
-    let unlike = list_all-weaker (λ other. not (has_text (text ∷ texts) other)) (λ other. not (same_text text other)) (not_first text texts) others apart in
-    let rest = list_all-weaker (λ other. not (has_text (text ∷ texts) other)) (λ other. not (has_text texts other)) (not_in_rest text texts) others apart in
+    let unlike = list_all-weaker (λ other. not (has_text (text ∷ texts) other)) (λ other. not (same_text text other))
+    (not_first text texts) others apart in
+    let rest = list_all-weaker (λ other. not (has_text (text ∷ texts) other)) (λ other. not (has_text texts other))
+    (not_in_rest text texts) others apart in
     differ_from text (texts ++ others)
     (list_any-append (same_text text) texts others
     ∙ or_from (has_text texts text) (has_text others text) parts.0 (has_none others text unlike))
     (differ-append texts others parts.1 f rest)
 
 -- the words of candidates without a word are their words without it
-pub words_without : (word : List ℕ) (cands : List Cand) → words_of (without_word word cands) ≡ without_text word (words_of cands)
+pub words_without : (word : List ℕ) (cands : List Cand)
+    → words_of (without_word word cands) ≡ without_text word (words_of cands)
 words_without word cands = map_filter (λ (cand : Cand). cand.word) (λ other. not (same_text other word)) cands

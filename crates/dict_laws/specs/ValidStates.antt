@@ -1,5 +1,6 @@
 -- What the books of a valid state keep, and that it stays valid where a row that may stand in a book changes there.
-use Rattle.std.proofs.Common.{◌≡◌, ℕ, Bool, true, false, not, ◌&&◌, ◌||◌, ◌==◌, nat_lt, nat_le, None, Some, Option, List, refl, sym, subst, arith}
+use Rattle.std.proofs.Common.{◌≡◌, ℕ, Bool, true, not, ◌&&◌, ◌||◌, ◌==◌, nat_lt, nat_le, None, Some, Option}
+use Rattle.std.proofs.Common.{List, refl, sym, subst, arith}
 use Rattle.std.proofs.lemmas.Bool.Decides.{nat_tests}
 use Rattle.std.specs.List.{list_all}
 use Rattle.std.proofs.lemmas.Bool.{and_from, and_parts, not-true}
@@ -12,7 +13,9 @@ use Rattle.skk_calls.specs.Canonical.{is_good}
 use Rattle.skk_calls.specs.OrderLaws.{insert_ascends, key_order, keys_apart, list_all-insert_by, order_read}
 use Rattle.skk_calls.specs.Orders.{key_less}
 use Rattle.skk_calls.specs.Rows.{RowKey, Row, same_key, is_row}
-use Rattle.skk_calls.specs.States.{State, book_at, book_rows, book_count, rows_of, row_at, count_of, without_row, with_row, without_book, with_book, state_with, rows_ascend, has_stamp, fits_count, is_book, books_ascend, is_valid}
+use Rattle.skk_calls.specs.States.{State, book_at, book_rows, book_count, rows_of, row_at, count_of, without_row}
+use Rattle.skk_calls.specs.States.{with_row, without_book, with_book, state_with, rows_ascend, has_stamp, fits_count}
+use Rattle.skk_calls.specs.States.{is_book, books_ascend, is_valid}
 use Rattle.dict_laws.specs.ChangedStates.{has_key, changed_book}
 
 -- Rows
@@ -23,10 +26,11 @@ rows_ascend_with_row : (key : RowKey) (row : Option Row) (rows : List Row) → h
 rows_ascend_with_row key None rows has ascend =
     all_pairs-filter (λ (r other : Row). key_less r.key other.key) (λ (r : Row). not (same_key r.key key)) rows ascend
 rows_ascend_with_row key (Some row) rows has ascend =
-    insert_ascends (λ (r other : Row). key_less r.key other.key) (order_read (λ (r : Row). r.key) key_less key_order) row (without_row key rows)
-    (list_all-weaker (λ (other : Row). not (same_key other.key row.key))
+    insert_ascends (λ (r other : Row). key_less r.key other.key) (order_read (λ (r : Row). r.key) key_less key_order)
+    row (without_row key rows) (list_all-weaker (λ (other : Row). not (same_key other.key row.key))
     (λ (other : Row). key_less row.key other.key || key_less other.key row.key)
-    (λ other e. keys_apart row.key other.key (same_key_other other.key row.key (not-true (same_key other.key row.key) e))) (without_row key rows)
+    (λ other e. keys_apart row.key other.key
+    (same_key_other other.key row.key (not-true (same_key other.key row.key) e))) (without_row key rows)
     (subst (λ (k : RowKey). list_all (λ (other : Row). not (same_key other.key k)) (without_row key rows) ≡ true)
     (sym (same_key_equal row.key key has)) (list_all_kept (λ (other : Row). not (same_key other.key key)) rows)))
     (all_pairs-filter (λ (r other : Row). key_less r.key other.key) (λ (r : Row). not (same_key r.key key)) rows ascend)
@@ -53,7 +57,8 @@ fits_later count later e row fits =
 -- rows that may stand in a book, with a row of a key that may stand in it
 fits_with_row : (count : ℕ) (key : RowKey) (row : Option Row) (rows : List Row) → fits_after count row ≡ true
     → list_all (fits_count count) rows ≡ true → list_all (fits_count count) (with_row key row rows) ≡ true
-fits_with_row count key None rows new all = list_all-filter (fits_count count) (λ (r : Row). not (same_key r.key key)) rows all
+fits_with_row count key None rows new all =
+    list_all-filter (fits_count count) (λ (r : Row). not (same_key r.key key)) rows all
 fits_with_row count key (Some row) rows new all =
     list_all-insert_by (λ (r other : Row). key_less r.key other.key) (fits_count count) row (without_row key rows) new
     (list_all-filter (fits_count count) (λ (r : Row). not (same_key r.key key)) rows all)
@@ -69,7 +74,8 @@ pub record BookParts (book : NumberedBook) : Type 0 where
 -- a book has its parts
 book_parts : (book : NumberedBook) → is_book book ≡ true → BookParts book
 book_parts book e =
-    let parts = and_parts (nat_le 1 book.count) (rows_ascend book.rows && list_all (fits_count book.count) book.rows) e in
+    let parts =
+    and_parts (nat_le 1 book.count) (rows_ascend book.rows && list_all (fits_count book.count) book.rows) e in
     let rest = and_parts (rows_ascend book.rows) (list_all (fits_count book.count) book.rows) parts.1 in
     record { count = parts.0; ascend = rest.0; fit = rest.1 }
 
@@ -88,7 +94,8 @@ module _ (state : State) (number : ℕ) (valid : is_valid state ≡ true) where
   pub rows_of_ascend : rows_ascend (rows_of state number) ≡ true
   rows_of_ascend = by (book_at state number) parts_at
     where
-      by : (book : Option NumberedBook) → ((b : NumberedBook) → book ≡ Some b → BookParts b) → rows_ascend (book_rows book) ≡ true
+      by : (book : Option NumberedBook) → ((b : NumberedBook) → book ≡ Some b → BookParts b)
+          → rows_ascend (book_rows book) ≡ true
       by None parts = refl
       by (Some book) parts = (parts book refl).ascend
 
@@ -108,8 +115,8 @@ module _ (state : State) (number : ℕ) (valid : is_valid state ≡ true) where
       by : (found : Option Row) → row_at state number key ≡ found → fits_after (count_of state number) found ≡ true
       by None found = refl
       by (Some row) found =
-          list_all_found (fits_count (count_of state number)) (λ (r : Row). same_key r.key key) (rows_of state number) row
-          rows_of_fit found
+          list_all_found (fits_count (count_of state number)) (λ (r : Row). same_key r.key key)
+          (rows_of state number) row rows_of_fit found
 
 -- of two numbers that differ one is less
 numbers_apart : (a b : ℕ) → not (b == a) ≡ true → (nat_lt a b || nat_lt b a) ≡ true
@@ -119,7 +126,8 @@ numbers_apart a b other = grind (arith, nat_tests)
 pub books_ascend_with_book : (book : NumberedBook) (books : List NumberedBook) → books_ascend books ≡ true
     → books_ascend (with_book book books) ≡ true
 books_ascend_with_book book books ascend =
-    insert_ascends (λ (b other : NumberedBook). nat_lt b.number other.number) (IsStrictWeakOrder-by_number (λ (b : NumberedBook). b.number)) book (without_book book.number books)
+    insert_ascends (λ (b other : NumberedBook). nat_lt b.number other.number)
+    (IsStrictWeakOrder-by_number (λ (b : NumberedBook). b.number)) book (without_book book.number books)
     (list_all-weaker (λ (other : NumberedBook). not (other.number == book.number))
     (λ (other : NumberedBook). nat_lt book.number other.number || nat_lt other.number book.number)
     (λ (other : NumberedBook). numbers_apart book.number other.number) (without_book book.number books)
@@ -134,12 +142,14 @@ module _ (state : State) (number count : ℕ) (key : RowKey) (row : Option Row) 
   changed_is_book : is_book (changed_book state number count key row) ≡ true
   changed_is_book =
       let rows = rows_of state number in
-      and_from (nat_le 1 count) (rows_ascend (with_row key row rows) && list_all (fits_count count) (with_row key row rows))
+      and_from (nat_le 1 count)
+      (rows_ascend (with_row key row rows) && list_all (fits_count count) (with_row key row rows))
       changes
       (and_from (rows_ascend (with_row key row rows)) (list_all (fits_count count) (with_row key row rows))
       (rows_ascend_with_row key row rows has (rows_of_ascend state number valid))
       (fits_with_row count key row rows fits
-      (list_all-weaker (fits_count (count_of state number)) (fits_count count) (fits_later (count_of state number) count later)
+      (list_all-weaker (fits_count (count_of state number)) (fits_count count)
+      (fits_later (count_of state number) count later)
       rows (rows_of_fit state number valid))))
 
   -- a valid state stays valid

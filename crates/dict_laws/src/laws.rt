@@ -1,47 +1,57 @@
-ghost use Rattle.std.specs.Prelude.{◌≡◌, ◌≢◌, ◌≤◌, ◌+◌, ℕ, List, [], ◌∷◌, ◌++◌, Option, Some, None, length, not, true, false};
+ghost use Rattle.std.specs.Prelude.{◌≡◌, ◌≢◌, ◌≤◌, ◌+◌, ℕ, List, [], ◌∷◌, ◌++◌, Option, Some, None, length, not, true};
+ghost use Rattle.std.specs.Prelude.{false};
 ghost use Rattle.std.specs.List.{list_all};
 ghost use Rattle.std.specs.Option.{IfSome};
 ghost use Rattle.skk_calls.specs.declared.call.Call.{Call};
 ghost use Rattle.skk_calls.specs.declared.call.Call.TheVariants.{Lookup, Complete, Learn, Unlearn};
 ghost use Rattle.skk_calls.specs.declared.answer.Reply.TheVariants.{Learned as learned_reply, Restored};
 ghost use Rattle.skk_calls.specs.Completions.{completions, completion_limit, goes_on_from};
-ghost use Rattle.skk_calls.specs.Dictionary.{answer, after, is_call, is_fit, is_okuri_or_none, is_row_or_none, is_stamped, speaks_of};
+ghost use Rattle.skk_calls.specs.Dictionary.{answer, after, is_call, is_fit, is_okuri_or_none, is_row_or_none};
+ghost use Rattle.skk_calls.specs.Dictionary.{is_stamped, speaks_of};
 ghost use Rattle.skk_calls.specs.Found.{found, merged, ordered};
 ghost use Rattle.skk_calls.specs.Histories.{Opening, Entry, IsLegal, room, state_after, changes, after_calls, needs};
 ghost use Rattle.skk_calls.specs.Learning.{learnt, purged, purge_changes};
 ghost use Rattle.skk_calls.specs.Orders.{text_less};
-ghost use Rattle.skk_calls.specs.Rows.{RowKey, Cand, Row, Learned, has_text, texts_differ, words_of, is_row_key, is_cand, is_row};
+ghost use Rattle.skk_calls.specs.Rows.{RowKey, Cand, Row, Learned, has_text, texts_differ, words_of, is_row_key};
+ghost use Rattle.skk_calls.specs.Rows.{is_cand, is_row};
 ghost use Rattle.skk_calls.specs.States.{State, rows_of, row_at, count_of, is_valid};
 ghost use Rattle.skk_calls.specs.Tallies.{empty_tally, tally_with, tally_of};
 ghost use Rattle.skk_calls.specs.Walks.{texts_ascend, next_above, is_least_above};
 
 /// Whatever call is made, a valid state stays valid.
 pub fn changes_keep_states_valid()
-    ensures { (state : State) (call : Call) → is_valid state ≡ true → is_call call ≡ true → is_fit call ≡ true → is_valid (after state call) ≡ true }
+    ensures { (state : State) (call : Call) → is_valid state ≡ true → is_call call ≡ true → is_fit call ≡ true
+        → is_valid (after state call) ≡ true }
 {}
 
 /// A call changes one row of one book at most: every other row is as it was, and so is the count of every other book.
 pub fn changes_leave_other_rows()
     ensures count { (state : State) (call : Call) (book : ℕ) → ((key : RowKey) → speaks_of call book key ≡ false) →
         count_of (after state call) book ≡ count_of state book }
-    ensures row { (state : State) (call : Call) (book : ℕ) (key : RowKey) → is_call call ≡ true → speaks_of call book key ≡ false →
+    ensures row { (state : State) (call : Call) (book : ℕ) (key : RowKey) → is_call call ≡ true
+        → speaks_of call book key ≡ false →
         row_at (after state call) book key ≡ row_at state book key }
 {}
 
 /// What was learnt is restored when it is taken back in any state in which the row still has the stamp of the learning,
 /// as it has at once. The row, its blocks and its stamp are then as before the learning, and the book's count stays.
 pub fn unlearning_gives_the_row_back()
-    ensures at_once { (files : List (List Row)) (state : State) (book : ℕ) (key : RowKey) (okuri : Option (List ℕ)) (cand : Cand) (learned : Learned) →
+    ensures at_once { (files : List (List Row)) (state : State) (book : ℕ) (key : RowKey) (okuri : Option (List ℕ))
+        (cand : Cand) (learned : Learned) →
         answer files state (Learn book key okuri cand) ≡ learned_reply learned →
         is_stamped learned.stamp (row_at (after state (Learn book key okuri cand)) book key) ≡ true }
-    ensures reply { (files : List (List Row)) (state : State) (book : ℕ) (key : RowKey) (okuri : Option (List ℕ)) (cand : Cand) (learned : Learned) →
+    ensures reply { (files : List (List Row)) (state : State) (book : ℕ) (key : RowKey) (okuri : Option (List ℕ))
+        (cand : Cand) (learned : Learned) →
         answer files state (Learn book key okuri cand) ≡ learned_reply learned →
-        (later : State) → is_stamped learned.stamp (row_at later book key) ≡ true → answer files later (Unlearn learned) ≡ Restored }
-    ensures row { (files : List (List Row)) (state : State) (book : ℕ) (key : RowKey) (okuri : Option (List ℕ)) (cand : Cand) (learned : Learned) →
+        (later : State) → is_stamped learned.stamp (row_at later book key) ≡ true
+        → answer files later (Unlearn learned) ≡ Restored }
+    ensures row { (files : List (List Row)) (state : State) (book : ℕ) (key : RowKey) (okuri : Option (List ℕ))
+        (cand : Cand) (learned : Learned) →
         answer files state (Learn book key okuri cand) ≡ learned_reply learned →
         (later : State) → is_stamped learned.stamp (row_at later book key) ≡ true →
         row_at (after later (Unlearn learned)) book key ≡ row_at state book key }
-    ensures count { (files : List (List Row)) (state : State) (book : ℕ) (key : RowKey) (okuri : Option (List ℕ)) (cand : Cand) (learned : Learned) →
+    ensures count { (files : List (List Row)) (state : State) (book : ℕ) (key : RowKey) (okuri : Option (List ℕ))
+        (cand : Cand) (learned : Learned) →
         answer files state (Learn book key okuri cand) ≡ learned_reply learned →
         (later : State) → is_stamped learned.stamp (row_at later book key) ≡ true →
         count_of (after later (Unlearn learned)) book ≡ count_of later book }
@@ -65,8 +75,10 @@ pub fn changed_rows_are_rows()
 
 /// A purge is told to change something exactly where it makes another row.
 pub fn purges_are_told_to_change_what_they_change()
-    ensures leaves { (row : Row) (word : List ℕ) → is_row row ≡ true → purge_changes (Some row) row.key word ≡ false → purged (Some row) row.key word row.stamp ≡ row }
-    ensures alters { (row : Row) (word : List ℕ) → purge_changes (Some row) row.key word ≡ true → purged (Some row) row.key word row.stamp ≢ row }
+    ensures leaves { (row : Row) (word : List ℕ) → is_row row ≡ true → purge_changes (Some row) row.key word ≡ false
+        → purged (Some row) row.key word row.stamp ≡ row }
+    ensures alters { (row : Row) (word : List ℕ) → purge_changes (Some row) row.key word ≡ true
+        → purged (Some row) row.key word row.stamp ≢ row }
 {}
 
 /// A row hides no word of its own: of the first layer every candidate is found, in its order.
@@ -95,22 +107,28 @@ pub fn found_words_differ()
 
 /// Completions are at most 256 readings, all different, and each goes on from the prefix.
 pub fn completions_go_on_and_differ()
-    ensures few { (files : List (List Row)) (state : State) (who : ℕ) (prefix : List ℕ) → length (completions files state who prefix) ≤ completion_limit }
-    ensures differ { (files : List (List Row)) (state : State) (who : ℕ) (prefix : List ℕ) → texts_differ (completions files state who prefix) ≡ true }
-    ensures go_on { (files : List (List Row)) (state : State) (who : ℕ) (prefix : List ℕ) → list_all (goes_on_from prefix) (completions files state who prefix) ≡ true }
+    ensures few { (files : List (List Row)) (state : State) (who : ℕ) (prefix : List ℕ)
+        → length (completions files state who prefix) ≤ completion_limit }
+    ensures differ { (files : List (List Row)) (state : State) (who : ℕ) (prefix : List ℕ)
+        → texts_differ (completions files state who prefix) ≡ true }
+    ensures go_on { (files : List (List Row)) (state : State) (who : ℕ) (prefix : List ℕ)
+        → list_all (goes_on_from prefix) (completions files state who prefix) ≡ true }
 {}
 
 /// The next reading of a file is one of its readings, is greater, and is the least that is so; where there is none, no
 /// reading is greater.
 pub fn the_next_reading_is_the_least_above()
-    ensures some { (texts : List (List ℕ)) (low next : List ℕ) → texts_ascend texts ≡ true → next_above texts low ≡ Some next →
+    ensures some { (texts : List (List ℕ)) (low next : List ℕ) → texts_ascend texts ≡ true
+        → next_above texts low ≡ Some next →
         (has_text texts next ≡ true) × (text_less low next ≡ true) × (list_all (is_least_above low next) texts ≡ true) }
-    ensures none { (texts : List (List ℕ)) (low : List ℕ) → next_above texts low ≡ None → list_all (λ text. not (text_less low text)) texts ≡ true }
+    ensures none { (texts : List (List ℕ)) (low : List ℕ) → next_above texts low ≡ None
+        → list_all (λ text. not (text_less low text)) texts ≡ true }
 {}
 
 /// A prefix of a legal history is legal.
 pub fn prefixes_of_legal_histories_are_legal()
-    ensures { (opening : Opening) (prefix rest : List Entry) → IsLegal opening (prefix ++ rest) → IsLegal opening prefix }
+    ensures { (opening : Opening) (prefix rest : List Entry) → IsLegal opening (prefix ++ rest)
+        → IsLegal opening prefix }
 {}
 
 /// The changes of a legal history make its state, and the end of the learned file is the opened one and what each of
@@ -126,5 +144,6 @@ pub fn changes_make_state_and_room()
 pub fn counting_comes_to_the_tally()
     ensures none { (state : State) → record (tally_of state []) { rows = 0 } ≡ empty_tally }
     ensures more { (state : State) (history : List Entry) (entry : Entry) →
-        tally_with (tally_of state history) entry.answer ≡ record (tally_of state (history ++ entry ∷ [])) { rows = (tally_of state history).rows } }
+        tally_with (tally_of state history) entry.answer
+        ≡ record (tally_of state (history ++ entry ∷ [])) { rows = (tally_of state history).rows } }
 {}

@@ -9,11 +9,13 @@ use Rattle.skk_calls.specs.declared.answer.Reply.TheVariants as replies
 use Rattle.skk_calls.specs.declared.call.Call.{Call}
 use Rattle.skk_calls.specs.declared.call.Call.TheVariants.{Lookup, Complete, Learn, Purge, Unlearn}
 use Rattle.skk_calls.specs.Canonical.{canonical}
-use Rattle.skk_calls.specs.Dictionary.{answer, after, moves, speaks_of, is_fit, is_call, may_answer, change_reply, line_length}
+use Rattle.skk_calls.specs.Dictionary.{answer, after, moves, speaks_of, is_fit, is_call, may_answer, change_reply}
+use Rattle.skk_calls.specs.Dictionary.{line_length}
 use Rattle.skk_calls.specs.Learning.{learnt, purged}
 use Rattle.skk_calls.specs.Rows.{Row, Learned}
 use Rattle.skk_calls.specs.States.{State, empty_state, is_valid}
-use Rattle.skk_calls.proofs.Samples.{Gives, Gives2, plain, noted, nasi, block, row, book, books, files, kanji_key, ook_key, a, b}
+use Rattle.skk_calls.proofs.Samples.{Gives, Gives2, plain, noted, nasi, block, row, book, books, files, kanji_key}
+use Rattle.skk_calls.proofs.Samples.{ook_key, a, b}
 
 -- A word is learnt and taken back
 
@@ -84,8 +86,11 @@ unfolding lib.Utf8.encode
 states_after = refl
 
 -- what a call makes of another book, and under another key, with an okurigana
-states_after_more : Gives (after first_state) (
-    (Learn 0 ook_key (Some (codes "く")) (noted a b), books (book 0 1 (row ook_key (noted a b ∷ []) (block (codes "く") (a ∷ []) ∷ []) [] 1 ∷ []) ∷ book 1 1 (first_row ∷ []) ∷ []))
+states_after_more : Gives (after first_state) ((
+  Learn 0 ook_key (Some (codes "く")) (noted a b),
+  books (book 0 1 (row ook_key (noted a b ∷ []) (block (codes "く") (a ∷ []) ∷ []) [] 1 ∷ [])
+      ∷ book 1 1 (first_row ∷ []) ∷ []),
+)
     ∷ (Purge 2 ook_key a, books (book 1 1 (first_row ∷ []) ∷ book 2 1 (row ook_key [] [] (a ∷ []) 1 ∷ []) ∷ []))
     ∷ (Purge 1 ook_key a, books (book 1 2 (first_row ∷ row ook_key [] [] (a ∷ []) 2 ∷ []) ∷ []))
     ∷ [])
@@ -93,14 +98,19 @@ unfolding lib.Utf8.encode
 states_after_more = refl
 
 -- these states are valid
-states_are_valid : Gives is_valid ((first_state, true) ∷ (second_state, true) ∷ (restored_state, true) ∷ (purged_state, true) ∷ [])
+states_are_valid : Gives is_valid
+    ((first_state, true) ∷ (second_state, true) ∷ (restored_state, true) ∷ (purged_state, true) ∷ [])
 unfolding lib.Utf8.encode
 states_are_valid = refl
 
 -- a look-up and a completion are answered for their own typist, key, okurigana and prefix
-lookups : Gives (answer files (books (book 1 1 (row ook_key (plain (codes "覆") ∷ []) [] [] 1 ∷ row (nasi (codes "かい")) (plain a ∷ []) [] [] 1 ∷ []) ∷ []))) (
+lookups : Gives (answer files (books (book 1 1
+    (row ook_key (plain (codes "覆") ∷ []) [] [] 1 ∷ row (nasi (codes "かい")) (plain a ∷ []) [] [] 1 ∷ []) ∷ []))) (
     (Lookup 1 ook_key None, replies.Found (plain (codes "覆") ∷ plain (codes "大") ∷ plain (codes "多") ∷ []))
-    ∷ (Lookup 1 ook_key (Some (codes "く")), replies.Found (plain (codes "覆") ∷ plain (codes "多") ∷ plain (codes "大") ∷ []))
+    ∷ (
+      Lookup 1 ook_key (Some (codes "く")),
+      replies.Found (plain (codes "覆") ∷ plain (codes "多") ∷ plain (codes "大") ∷ []),
+    )
     ∷ (Lookup 0 ook_key (Some (codes "く")), replies.Found (plain (codes "多") ∷ plain (codes "大") ∷ []))
     ∷ (Lookup 1 (nasi b) None, replies.Found [])
     ∷ (Complete 1 (codes "か"), replies.Readings (codes "かい" ∷ codes "かんじ" ∷ []))
@@ -113,7 +123,8 @@ lookups = refl
 -- Two typists on the shared book
 
 -- the first learnt 感じ, and the second 幹事 after that, so that the first can't take it back
-shared_book : answer files (after (after empty_state (Learn 0 kanji_key None (plain (codes "感じ")))) (Learn 0 kanji_key None (plain (codes "幹事"))))
+shared_book : answer files (after (after empty_state (Learn 0 kanji_key None (plain (codes "感じ"))))
+    (Learn 0 kanji_key None (plain (codes "幹事"))))
     (Unlearn (record { book = 0; key = kanji_key; stamp = 1; before = None }))
     ≡ replies.Overtaken 2
 unfolding lib.Utf8.encode
@@ -126,8 +137,11 @@ abbrev counted_state : ℕ → State
 counted_state count = books (book 1 count [] ∷ [])
 
 -- a book with the last count learns and purges nothing more
-last_counts : Gives2 (λ count call. answer files (counted_state count) call) (
-    (18446744073709551614, learn_kanji, replies.Learned (record { book = 1; key = kanji_key; stamp = 18446744073709551615; before = None }))
+last_counts : Gives2 (λ count call. answer files (counted_state count) call) ((
+  18446744073709551614,
+  learn_kanji,
+  replies.Learned (record { book = 1; key = kanji_key; stamp = 18446744073709551615; before = None }),
+)
     ∷ (18446744073709551615, learn_kanji, replies.StampsEnd)
     ∷ (18446744073709551614, purge_kanji, replies.Purged)
     ∷ (18446744073709551615, purge_kanji, replies.StampsEnd)
@@ -136,7 +150,9 @@ unfolding lib.Utf8.encode
 last_counts = refl
 
 -- a purge that would change nothing is told so also at the last count
-unchanged_at_last_count : answer files (books (book 1 18446744073709551615 (row kanji_key [] [] (codes "漢字" ∷ []) 2 ∷ []) ∷ [])) purge_kanji ≡ replies.Unchanged
+unchanged_at_last_count : answer files
+    (books (book 1 18446744073709551615 (row kanji_key [] [] (codes "漢字" ∷ []) 2 ∷ []) ∷ [])) purge_kanji
+    ≡ replies.Unchanged
 unchanged_at_last_count = refl
 
 -- a line may have 65,535 bytes and no more, and the end of the stamps is told first
@@ -174,7 +190,8 @@ module _ (long : List ℕ) where
 
 -- a call speaks of the row of its key in its book, where it may change one
 rows_spoken_of : Gives (λ call. speaks_of call 1 (nasi a)) (
-    (Learn 1 (nasi a) None (plain a), true) ∷ (Learn 2 (nasi a) None (plain a), false) ∷ (Learn 1 (nasi b) None (plain a), false)
+    (Learn 1 (nasi a) None (plain a), true) ∷ (Learn 2 (nasi a) None (plain a), false)
+    ∷ (Learn 1 (nasi b) None (plain a), false)
     ∷ (Purge 1 (nasi a) a, true) ∷ (Purge 2 (nasi a) a, false) ∷ (Purge 1 (nasi b) a, false)
     ∷ (Unlearn (record { book = 1; key = nasi a; stamp = 1; before = None }), true)
     ∷ (Unlearn (record { book = 2; key = nasi a; stamp = 1; before = None }), false)
@@ -184,21 +201,35 @@ rows_spoken_of : Gives (λ call. speaks_of call 1 (nasi a)) (
 rows_spoken_of = refl
 
 -- the word of a purge is a word
-fit_calls : Gives is_fit ((Purge 1 (nasi a) [], false) ∷ (Purge 1 (nasi a) a, true) ∷ (Learn 1 (nasi a) None (plain []), true) ∷ (Lookup 1 (nasi []) None, true) ∷ (Complete 1 [], true) ∷ (Unlearn second, true) ∷ [])
+fit_calls : Gives is_fit ((Purge 1 (nasi a) [], false) ∷ (Purge 1 (nasi a) a, true) ∷ (
+  Learn 1 (nasi a) None (plain []),
+  true,
+) ∷ (Lookup 1 (nasi []) None, true) ∷ (Complete 1 [], true) ∷ (Unlearn second, true) ∷ [])
 unfolding lib.Utf8.encode
 fit_calls = refl
 
 -- the parts of a call are valid, and so is what was learnt
 valid_calls : Gives is_call (
-    (Lookup 1 (nasi a) None, true) ∷ (Lookup 1 (nasi []) None, false) ∷ (Lookup 1 (nasi a) (Some (codes "く")), true) ∷ (Lookup 1 (nasi a) (Some a), false)
+    (Lookup 1 (nasi a) None, true) ∷ (Lookup 1 (nasi []) None, false) ∷ (Lookup 1 (nasi a) (Some (codes "く")), true)
+    ∷ (Lookup 1 (nasi a) (Some a), false)
     ∷ (Complete 1 [], true)
-    ∷ (Learn 1 (nasi a) None (plain a), true) ∷ (Learn 1 (nasi []) None (plain a), false) ∷ (Learn 1 (nasi a) (Some a) (plain a), false) ∷ (Learn 1 (nasi a) None (plain []), false)
+    ∷ (Learn 1 (nasi a) None (plain a), true) ∷ (Learn 1 (nasi []) None (plain a), false)
+    ∷ (Learn 1 (nasi a) (Some a) (plain a), false) ∷ (Learn 1 (nasi a) None (plain []), false)
     ∷ (Purge 1 (nasi a) [], true) ∷ (Purge 1 (nasi []) a, false)
     ∷ (Unlearn (record { book = 1; key = nasi a; stamp = 2; before = None }), true)
     ∷ (Unlearn (record { book = 1; key = nasi []; stamp = 2; before = None }), false)
-    ∷ (Unlearn (record { book = 1; key = nasi a; stamp = 2; before = Some (row (nasi a) (plain a ∷ []) [] [] 1) }), true)
-    ∷ (Unlearn (record { book = 1; key = nasi a; stamp = 2; before = Some (row (nasi a) (plain a ∷ []) [] [] 2) }), false)
-    ∷ (Unlearn (record { book = 1; key = nasi a; stamp = 2; before = Some (row (nasi a) (plain [] ∷ []) [] [] 1) }), false)
+    ∷ (
+      Unlearn (record { book = 1; key = nasi a; stamp = 2; before = Some (row (nasi a) (plain a ∷ []) [] [] 1) }),
+      true,
+    )
+    ∷ (
+      Unlearn (record { book = 1; key = nasi a; stamp = 2; before = Some (row (nasi a) (plain a ∷ []) [] [] 2) }),
+      false,
+    )
+    ∷ (
+      Unlearn (record { book = 1; key = nasi a; stamp = 2; before = Some (row (nasi a) (plain [] ∷ []) [] [] 1) }),
+      false,
+    )
     ∷ [])
 unfolding lib.Utf8.encode
 valid_calls = refl
@@ -207,7 +238,8 @@ valid_calls = refl
 
 -- one call of each kind
 abbrev calls : List Call
-calls = Lookup 1 (nasi a) None ∷ Complete 1 a ∷ Learn 1 (nasi a) None (plain a) ∷ Purge 1 (nasi a) a ∷ Unlearn second ∷ []
+calls =
+    Lookup 1 (nasi a) None ∷ Complete 1 a ∷ Learn 1 (nasi a) None (plain a) ∷ Purge 1 (nasi a) a ∷ Unlearn second ∷ []
 
 -- which of these calls may be answered so
 abbrev answered_by : Answer → List Bool
@@ -235,7 +267,8 @@ possible_answers = refl
 
 -- which calls change a state
 moving_calls : Gives2 moves (
-    (first_state, Lookup 1 kanji_key None, false) ∷ (first_state, Complete 1 a, false) ∷ (first_state, learn_kanji, true) ∷ (first_state, purge_kanji, true)
+    (first_state, Lookup 1 kanji_key None, false) ∷ (first_state, Complete 1 a, false)
+    ∷ (first_state, learn_kanji, true) ∷ (first_state, purge_kanji, true)
     ∷ (purged_state, purge_kanji, false) ∷ (first_state, Unlearn first, true) ∷ (first_state, Unlearn second, false)
     ∷ (counted_state 18446744073709551615, learn_kanji, false)
     ∷ [])

@@ -6,7 +6,8 @@ use Rattle.skk_calls.specs.Found.{ordered, merged, first_of_each, layers, found}
 use Rattle.skk_calls.specs.States.{State, empty_state}
 use Rattle.skk_calls.specs.Rows.{Row, words_of}
 use Rattle.skk_calls.specs.Walks.{texts_ascend, all_ascend, next_above, is_least_above}
-use Rattle.skk_calls.proofs.Samples.{Gives, Gives2, plain, noted, nasi, ari, block, row, book, books, plain_row, kanji, ook, files, kanji_key, ook_key, a, b, c}
+use Rattle.skk_calls.proofs.Samples.{Gives, Gives2, plain, noted, nasi, ari, block, row, book, books, plain_row, kanji}
+use Rattle.skk_calls.proofs.Samples.{ook, files, kanji_key, ook_key, a, b, c}
 
 -- Blocks
 
@@ -18,7 +19,8 @@ words_ordered : Gives (λ okuri. words_of (ordered ook okuri)) (
 words_ordered = refl
 
 -- a word of a block has the note of the candidate of this word, and none where there is no such candidate
-notes_of_block : ordered (row ook_key (noted a (codes "x") ∷ noted b (codes "y") ∷ noted c (codes "z") ∷ []) (block (codes "く") (b ∷ codes "d" ∷ a ∷ []) ∷ []) [] 1) (Some (codes "く"))
+notes_of_block : ordered (row ook_key (noted a (codes "x") ∷ noted b (codes "y") ∷ noted c (codes "z") ∷ [])
+    (block (codes "く") (b ∷ codes "d" ∷ a ∷ []) ∷ []) [] 1) (Some (codes "く"))
     ≡ noted b (codes "y") ∷ plain (codes "d") ∷ noted a (codes "x") ∷ noted c (codes "z") ∷ []
 notes_of_block = refl
 
@@ -28,10 +30,14 @@ notes_of_block = refl
 layers_merged : Gives (λ rows. merged rows None) (
     ([], [])
     ∷ (
-      row (nasi a) (plain a ∷ []) [] (b ∷ []) 1 ∷ row (nasi a) (plain b ∷ plain c ∷ []) [] (a ∷ []) 1 ∷ row (nasi a) (plain b ∷ noted c a ∷ plain a ∷ noted (codes "d") a ∷ []) [] [] 1 ∷ [],
+      row (nasi a) (plain a ∷ []) [] (b ∷ []) 1 ∷ row (nasi a) (plain b ∷ plain c ∷ []) [] (a ∷ []) 1
+          ∷ row (nasi a) (plain b ∷ noted c a ∷ plain a ∷ noted (codes "d") a ∷ []) [] [] 1 ∷ [],
       plain a ∷ plain c ∷ noted (codes "d") a ∷ [],
     )
-    ∷ (row (nasi a) (noted a b ∷ plain b ∷ []) [] (a ∷ []) 1 ∷ row (nasi a) (plain a ∷ plain c ∷ []) [] [] 1 ∷ [], noted a b ∷ plain b ∷ plain c ∷ [])
+    ∷ (
+      row (nasi a) (noted a b ∷ plain b ∷ []) [] (a ∷ []) 1 ∷ row (nasi a) (plain a ∷ plain c ∷ []) [] [] 1 ∷ [],
+      noted a b ∷ plain b ∷ plain c ∷ [],
+    )
     ∷ (row (nasi a) [] [] (a ∷ b ∷ []) 1 ∷ row (nasi a) (plain a ∷ plain b ∷ plain c ∷ []) [] [] 1 ∷ [], plain c ∷ [])
     ∷ (row kanji_key [] [] (codes "漢字" ∷ []) 0 ∷ kanji ∷ [], noted (codes "幹事") (codes "宴会の") ∷ plain (codes "感じ") ∷ [])
     ∷ [])
@@ -43,8 +49,10 @@ layers_merged = refl
 abbrev two_books : State
 two_books =
     books (
-    book 0 2 (row (nasi a) (plain (codes "shared") ∷ []) [] [] 1 ∷ row (nasi b) (plain (codes "other") ∷ []) [] [] 2 ∷ [])
-    ∷ book 1 2 (row (nasi a) (plain (codes "own") ∷ []) [] [] 1 ∷ row (nasi b) (plain (codes "other") ∷ []) [] [] 2 ∷ [])
+    book 0 2
+    (row (nasi a) (plain (codes "shared") ∷ []) [] [] 1 ∷ row (nasi b) (plain (codes "other") ∷ []) [] [] 2 ∷ [])
+    ∷ book 1 2
+    (row (nasi a) (plain (codes "own") ∷ []) [] [] 1 ∷ row (nasi b) (plain (codes "other") ∷ []) [] [] 2 ∷ [])
     ∷ []
     )
 
@@ -85,7 +93,8 @@ abbrev reading_books : State
 reading_books =
     books (
     book 0 4 (stamped (codes "ab") 4 ∷ stamped (codes "ac") 4 ∷ stamped (codes "ad") 1 ∷ [])
-    ∷ book 1 6 (stamped (codes "a") 6 ∷ stamped (codes "ac") 2 ∷ stamped (codes "ae") 3 ∷ row (nasi (codes "ax")) [] [] (a ∷ []) 4 ∷ row (ari (codes "ay")) (plain a ∷ []) [] [] 5 ∷ [])
+    ∷ book 1 6 (stamped (codes "a") 6 ∷ stamped (codes "ac") 2 ∷ stamped (codes "ae") 3
+    ∷ row (nasi (codes "ax")) [] [] (a ∷ []) 4 ∷ row (ari (codes "ay")) (plain a ∷ []) [] [] 5 ∷ [])
     ∷ []
     )
 
@@ -106,15 +115,18 @@ completed_by = refl
 
 -- a reading goes on from a prefix where it begins with it and is longer
 completed : Gives (completions files empty_state 1) (
-    (codes "か", codes "かんじ" ∷ []) ∷ (codes "かん", codes "かんじ" ∷ []) ∷ (codes "かんじ", []) ∷ (codes "かんじさ", []) ∷ (codes "ぬ", []) ∷ (codes "おお", [])
+    (codes "か", codes "かんじ" ∷ []) ∷ (codes "かん", codes "かんじ" ∷ []) ∷ (codes "かんじ", []) ∷ (codes "かんじさ", [])
+    ∷ (codes "ぬ", []) ∷ (codes "おお", [])
     ∷ [])
 unfolding lib.Utf8.encode
 completed = refl
 
 -- where there are 256 readings or more, 256 of them are given
 completions_end : (all : List (List Row)) (state : State) (who : ℕ) (prefix : List ℕ)
-    → 256 ≤ length (first_of_each (λ reading. reading) [] (all_readings all state who prefix)) → length (completions all state who prefix) ≡ 256
-completions_end all state who prefix enough = length-take-le 256 (first_of_each (λ reading. reading) [] (all_readings all state who prefix)) enough
+    → 256 ≤ length (first_of_each (λ reading. reading) [] (all_readings all state who prefix))
+    → length (completions all state who prefix) ≡ 256
+completions_end all state who prefix enough =
+    length-take-le 256 (first_of_each (λ reading. reading) [] (all_readings all state who prefix)) enough
 
 -- Walks
 
@@ -125,16 +137,19 @@ texts_ascending : Gives texts_ascend (
 unfolding lib.Utf8.encode
 texts_ascending = refl
 
-files_ascending : Gives all_ascend (([], true) ∷ ((b ∷ []) ∷ (a ∷ []) ∷ [], true) ∷ ((a ∷ []) ∷ (b ∷ a ∷ []) ∷ [], false) ∷ [])
+files_ascending : Gives all_ascend
+    (([], true) ∷ ((b ∷ []) ∷ (a ∷ []) ∷ [], true) ∷ ((a ∷ []) ∷ (b ∷ a ∷ []) ∷ [], false) ∷ [])
 unfolding lib.Utf8.encode
 files_ascending = refl
 
 -- the next reading above another
-next_readings : Gives (next_above (a ∷ b ∷ c ∷ [])) (([], Some a) ∷ (a, Some b) ∷ (codes "aa", Some b) ∷ (b, Some c) ∷ (c, None) ∷ [])
+next_readings : Gives (next_above (a ∷ b ∷ c ∷ []))
+    (([], Some a) ∷ (a, Some b) ∷ (codes "aa", Some b) ∷ (b, Some c) ∷ (c, None) ∷ [])
 unfolding lib.Utf8.encode
 next_readings = refl
 
 -- what stands in no way of the next reading: a text that is not above the low one, and one that is not below the next
-least_readings : Gives (is_least_above a c) ((a, true) ∷ (codes "A", true) ∷ (b, false) ∷ (c, true) ∷ (codes "d", true) ∷ [])
+least_readings : Gives (is_least_above a c)
+    ((a, true) ∷ (codes "A", true) ∷ (b, false) ∷ (c, true) ∷ (codes "d", true) ∷ [])
 unfolding lib.Utf8.encode
 least_readings = refl

@@ -12,8 +12,10 @@ use Rattle.skk_calls.specs.declared.chronicle.Noted.{Noted}
 use Rattle.skk_calls.specs.declared.chronicle.Noted.TheVariants.{Opened, Entered}
 use Rattle.skk_calls.specs.Chronicles.{is_chronicle, is_chronicle_or_none, noted, opening_of, history_of}
 use Rattle.skk_calls.specs.Dictionary.{answer}
-use Rattle.skk_calls.specs.Histories.{Entry, Opening, LacksRoom, IsLegalAnswer, IsLegal, after_entry, state_after, end_after, room, changes, after_calls, need, needs, dialog, in_doubt, states_left}
-use Rattle.skk_calls.specs.Openings.{fresh_opening, said_in, are_of_one, is_reply, are_served, is_reply_or_memory, is_without_disk}
+use Rattle.skk_calls.specs.Histories.{Entry, Opening, LacksRoom, IsLegalAnswer, IsLegal, after_entry, state_after}
+use Rattle.skk_calls.specs.Histories.{end_after, room, changes, after_calls, need, needs, dialog, in_doubt, states_left}
+use Rattle.skk_calls.specs.Openings.{fresh_opening, said_in, are_of_one, is_reply, are_served, is_reply_or_memory}
+use Rattle.skk_calls.specs.Openings.{is_without_disk}
 use Rattle.skk_calls.specs.Rows.{Row, Learned}
 use Rattle.skk_calls.specs.States.{State, empty_state}
 use Rattle.skk_calls.specs.Tallies.{Tally, empty_tally, tally_with, tally_of}
@@ -37,8 +39,10 @@ first = record { book = 1; key = kanji_key; stamp = 1; before = None }
 needs_of_calls : Gives2 need (
     (empty_state, learn_kanji, 43) ∷ (empty_state, learn_katsushika, 49)
     ∷ (first_state, Learn 1 kanji_key None (plain a), 45) ∷ (first_state, Learn 2 kanji_key None (plain a), 38)
-    ∷ (first_state, Purge 1 kanji_key (codes "漢字"), 67) ∷ (first_state, Purge 2 kanji_key a, 62) ∷ (first_state, Purge 1 kanji_key a, 69)
-    ∷ (first_state, Unlearn first, 26) ∷ (first_state, Unlearn (record { book = 1; key = kanji_key; stamp = 2; before = Some first_row }), 43)
+    ∷ (first_state, Purge 1 kanji_key (codes "漢字"), 67) ∷ (first_state, Purge 2 kanji_key a, 62)
+    ∷ (first_state, Purge 1 kanji_key a, 69)
+    ∷ (first_state, Unlearn first, 26)
+    ∷ (first_state, Unlearn (record { book = 1; key = kanji_key; stamp = 2; before = Some first_row }), 43)
     ∷ (first_state, Lookup 1 kanji_key None, 0) ∷ (first_state, Complete 1 a, 0)
     ∷ [])
 unfolding lib.Utf8.encode
@@ -55,7 +59,11 @@ learned_first = record { number = 1; call = learn_kanji; answer = learned_kanji 
 
 -- the other learning as an entry of caller 2
 abbrev learned_second : Entry
-learned_second = record { number = 2; call = learn_katsushika; answer = Done (replies.Learned (record { book = 1; key = nasi (codes "125"); stamp = 2; before = None })) }
+learned_second = record {
+  number = 2;
+  call = learn_katsushika;
+  answer = Done (replies.Learned (record { book = 1; key = nasi (codes "125"); stamp = 2; before = None }));
+}
 
 -- both rows
 abbrev second_state : State
@@ -92,7 +100,8 @@ history = looked_up ∷ failed ∷ learned_first ∷ failed ∷ []
 
 -- the state after a history
 states_after : Gives (state_after empty_state) (
-    ([], empty_state) ∷ (history, first_state) ∷ (learned_first ∷ learned_second ∷ [], second_state) ∷ (lacked ∷ full ∷ failed ∷ [], empty_state)
+    ([], empty_state) ∷ (history, first_state) ∷ (learned_first ∷ learned_second ∷ [], second_state)
+    ∷ (lacked ∷ full ∷ failed ∷ [], empty_state)
     ∷ (learned_first ∷ took_back ∷ [], books (book 1 1 [] ∷ []))
     ∷ [])
 unfolding lib.Utf8.encode
@@ -100,22 +109,28 @@ states_after = refl
 
 -- the end of the learned file after a history, where it was 18 before
 rooms_after : Gives (room empty_state 18) (
-    ([], 18) ∷ (history, 61) ∷ (learned_first ∷ learned_second ∷ [], 110) ∷ (learned_first ∷ took_back ∷ [], 87) ∷ (looked_up ∷ lacked ∷ full ∷ failed ∷ [], 18)
+    ([], 18) ∷ (history, 61) ∷ (learned_first ∷ learned_second ∷ [], 110) ∷ (learned_first ∷ took_back ∷ [], 87)
+    ∷ (looked_up ∷ lacked ∷ full ∷ failed ∷ [], 18)
     ∷ [])
 unfolding lib.Utf8.encode
 rooms_after = refl
 
 -- the calls that changed something, the state that they make, and the bytes that they need, each at its own state
 calls_that_changed : Gives changes (
-    ([], []) ∷ (history, learn_kanji ∷ []) ∷ (learned_first ∷ looked_up ∷ learned_second ∷ took_back ∷ full ∷ [], learn_kanji ∷ learn_katsushika ∷ Unlearn first ∷ [])
+    ([], []) ∷ (history, learn_kanji ∷ []) ∷ (
+      learned_first ∷ looked_up ∷ learned_second ∷ took_back ∷ full ∷ [],
+      learn_kanji ∷ learn_katsushika ∷ Unlearn first ∷ [],
+    )
     ∷ [])
 calls_that_changed = refl
 
-states_of_calls : Gives (after_calls empty_state) (([], empty_state) ∷ (learn_kanji ∷ learn_katsushika ∷ [], second_state) ∷ [])
+states_of_calls : Gives (after_calls empty_state)
+    (([], empty_state) ∷ (learn_kanji ∷ learn_katsushika ∷ [], second_state) ∷ [])
 unfolding lib.Utf8.encode
 states_of_calls = refl
 
-needs_together : Gives (needs empty_state) (([], 0) ∷ (learn_kanji ∷ Learn 1 kanji_key None (plain a) ∷ [], 88) ∷ (learn_kanji ∷ Unlearn first ∷ [], 69) ∷ [])
+needs_together : Gives (needs empty_state)
+    (([], 0) ∷ (learn_kanji ∷ Learn 1 kanji_key None (plain a) ∷ [], 88) ∷ (learn_kanji ∷ Unlearn first ∷ [], 69) ∷ [])
 unfolding lib.Utf8.encode
 needs_together = refl
 
@@ -129,16 +144,22 @@ dialogs = refl
 
 -- a change that a disk failed is in doubt, until another change is done; a look-up and other refusals end no doubt
 doubts : Gives (in_doubt []) (
-    ([], []) ∷ (looked_up ∷ failed ∷ [], learn_katsushika ∷ []) ∷ (failed ∷ looked_up ∷ lacked ∷ full ∷ [], learn_katsushika ∷ [])
-    ∷ (record { number = 1; call = learn_kanji; answer = Refused Disk } ∷ failed ∷ [], learn_kanji ∷ learn_katsushika ∷ [])
+    ([], []) ∷ (looked_up ∷ failed ∷ [], learn_katsushika ∷ [])
+    ∷ (failed ∷ looked_up ∷ lacked ∷ full ∷ [], learn_katsushika ∷ [])
+    ∷ (
+      record { number = 1; call = learn_kanji; answer = Refused Disk } ∷ failed ∷ [],
+      learn_kanji ∷ learn_katsushika ∷ [],
+    )
     ∷ (looked_up ∷ failed ∷ learned_first ∷ [], []) ∷ (failed ∷ took_back ∷ [], [])
     ∷ (history, learn_katsushika ∷ []) ∷ (lacked ∷ full ∷ [], [])
     ∷ [])
 doubts = refl
 
--- without doubt a stop leaves the state after the history, and with changes in doubt it may leave each of them done, too
+-- without doubt a stop leaves the state after the history,
+-- and with changes in doubt it may leave each of them done, too
 states_after_stop : Gives (states_left empty_state) (
-    ([], empty_state ∷ []) ∷ (looked_up ∷ failed ∷ learned_first ∷ [], first_state ∷ []) ∷ (history, first_state ∷ second_state ∷ [])
+    ([], empty_state ∷ []) ∷ (looked_up ∷ failed ∷ learned_first ∷ [], first_state ∷ [])
+    ∷ (history, first_state ∷ second_state ∷ [])
     ∷ (
       record { number = 1; call = learn_kanji; answer = Refused Disk } ∷ failed ∷ [],
       empty_state ∷ first_state ∷ books (book 1 1 (record katsushika_row { stamp = 1 } ∷ []) ∷ []) ∷ [],
@@ -151,8 +172,14 @@ states_after_stop = refl
 tallies : Gives (tally_of empty_state) (
     ([], record { learned = 0; restored = 0; rows = 0; memory = false; disk = false; full = false })
     ∷ (history, record { learned = 1; restored = 0; rows = 1; memory = false; disk = true; full = false })
-    ∷ (learned_first ∷ learned_second ∷ took_back ∷ lacked ∷ [], record { learned = 2; restored = 1; rows = 1; memory = true; disk = false; full = false })
-    ∷ (looked_up ∷ full ∷ learned_first ∷ [], record { learned = 1; restored = 0; rows = 1; memory = false; disk = false; full = true })
+    ∷ (
+      learned_first ∷ learned_second ∷ took_back ∷ lacked ∷ [],
+      record { learned = 2; restored = 1; rows = 1; memory = true; disk = false; full = false },
+    )
+    ∷ (
+      looked_up ∷ full ∷ learned_first ∷ [],
+      record { learned = 1; restored = 0; rows = 1; memory = false; disk = false; full = true },
+    )
     ∷ [])
 unfolding lib.Utf8.encode
 tallies = refl
@@ -163,17 +190,20 @@ empty_tallied = refl
 
 -- a tally to which one more answer is counted, of which the learnings have ended
 abbrev tally_so_far : Tally
-tally_so_far = record { learned = 18446744073709551615; restored = 3; rows = 7; memory = false; disk = false; full = false }
+tally_so_far =
+    record { learned = 18446744073709551615; restored = 3; rows = 7; memory = false; disk = false; full = false }
 
 answers_counted : Gives (tally_with tally_so_far) (
-    (learned_kanji, tally_so_far) ∷ (Done replies.Restored, record tally_so_far { restored = 4 }) ∷ (Done replies.Purged, tally_so_far)
+    (learned_kanji, tally_so_far) ∷ (Done replies.Restored, record tally_so_far { restored = 4 })
+    ∷ (Done replies.Purged, tally_so_far)
     ∷ (Refused Memory, record tally_so_far { memory = true }) ∷ (Refused Disk, record tally_so_far { disk = true })
     ∷ (Refused (JournalFull 61 49 64), record tally_so_far { full = true })
     ∷ [])
 answers_counted = refl
 
 -- the rows of all books are counted
-rows_counted : (tally_of (books (book 0 2 (first_row ∷ katsushika_row ∷ []) ∷ book 1 1 (first_row ∷ []) ∷ [])) []).rows ≡ 3
+rows_counted : (tally_of (books (book 0 2 (first_row ∷ katsushika_row ∷ []) ∷ book 1 1 (first_row ∷ []) ∷ [])) []).rows
+    ≡ 3
 rows_counted = refl
 
 -- Legal answers
@@ -186,11 +216,13 @@ abbrev opening : Opening
 opening = opening_of_limit 64
 
 -- 49 bytes behind the first 18 pass 66 bytes, but not 67
-full_is_legal : IsLegalAnswer LacksRoom (opening_of_limit 66) empty_state 18 learn_katsushika (Refused (JournalFull 18 49 66))
+full_is_legal : IsLegalAnswer LacksRoom (opening_of_limit 66) empty_state 18 learn_katsushika
+    (Refused (JournalFull 18 49 66))
 unfolding lib.Utf8.encode
 full_is_legal = (refl, (refl, refl, refl, omega arith))
 
-room_for_all : IsLegalAnswer LacksRoom (opening_of_limit 67) empty_state 18 learn_katsushika (Refused (JournalFull 18 49 67)) → ⊥
+room_for_all : IsLegalAnswer LacksRoom (opening_of_limit 67) empty_state 18 learn_katsushika
+    (Refused (JournalFull 18 49 67)) → ⊥
 unfolding lib.Utf8.encode
 room_for_all h = omega (arith, h.1.3)
 
@@ -205,7 +237,8 @@ other_need h = let e : 48 ≡ 49 = h.1.1 in omega (arith, e)
 other_limit : IsLegalAnswer LacksRoom opening empty_state 18 learn_katsushika (Refused (JournalFull 18 49 65)) → ⊥
 other_limit h = let e : 65 ≡ 64 = h.1.2 in omega (arith, e)
 
-no_change : IsLegalAnswer LacksRoom (opening_of_limit 17) empty_state 18 lookup_kanji (Refused (JournalFull 18 0 17)) → ⊥
+no_change : IsLegalAnswer LacksRoom (opening_of_limit 17) empty_state 18 lookup_kanji (Refused (JournalFull 18 0 17))
+    → ⊥
 no_change h = false≢true h.0
 
 -- the disk may fail a change alone
@@ -233,7 +266,8 @@ other_reply h = cc
 abbrev IsLegalFrom : Opening → State → ℕ → List Entry → Type 0
 IsLegalFrom over state end [] = Unit {0}
 IsLegalFrom over state end (entry ∷ rest) =
-    IsLegalAnswer LacksRoom over state end entry.call entry.answer × IsLegalFrom over (after_entry state entry) (end_after state end entry) rest
+    IsLegalAnswer LacksRoom over state end entry.call entry.answer
+    × IsLegalFrom over (after_entry state entry) (end_after state end entry) rest
 
 -- a history that is legal answer by answer is legal
 legal_by_answers : (over : Opening) (state : State) (end : ℕ) (whole : List Entry) → IsLegalFrom over state end whole
@@ -247,13 +281,18 @@ legal_by_answers over state end (first_entry ∷ whole) legal [] entry rest e =
 legal_by_answers over state end (first_entry ∷ whole) legal (p ∷ prefix) entry rest e =
     let same : first_entry ≡ p = cc in
     let behind : whole ≡ prefix ++ entry ∷ rest = cc in
-    subst (λ (x : Entry). IsLegalAnswer LacksRoom over (state_after (after_entry state x) prefix) (room (after_entry state x) (end_after state end x) prefix) entry.call entry.answer)
-    same (legal_by_answers over (after_entry state first_entry) (end_after state end first_entry) whole legal.1 prefix entry rest behind)
+    subst (λ (x : Entry). IsLegalAnswer LacksRoom over (state_after (after_entry state x) prefix)
+    (room (after_entry state x) (end_after state end x) prefix) entry.call entry.answer)
+    same (legal_by_answers over (after_entry state first_entry) (end_after state end first_entry) whole legal.1 prefix
+    entry rest behind)
 
 -- a learning, and behind it another for which the file is full: it ends at 61 by then
 legal_history : IsLegal opening (learned_first ∷ full ∷ [])
 unfolding lib.Utf8.encode
-legal_history = legal_by_answers opening empty_state 18 (learned_first ∷ full ∷ []) (refl, ((refl, (refl, refl, refl, omega arith)), tt))
+legal_history = legal_by_answers opening empty_state 18 (learned_first ∷ full ∷ []) (
+  refl,
+  ((refl, (refl, refl, refl, omega arith)), tt),
+)
 
 -- two learnings, where the stamp of the second is the next one
 legal_learnings : IsLegal opening (learned_first ∷ learned_second ∷ [])
@@ -276,7 +315,8 @@ not_full_first legal = let told : 61 ≡ 18 = (legal [] full [] refl).1.0 in ome
 -- nor is the first legal twice: a history is judged at the state of its place
 not_legal_twice : IsLegal opening (learned_first ∷ learned_first ∷ []) → ⊥
 unfolding lib.Utf8.encode
-not_legal_twice legal = let told : 1 ≡ 2 = ap stamp_told (legal (learned_first ∷ []) learned_first [] refl) in omega (arith, told)
+not_legal_twice legal =
+    let told : 1 ≡ 2 = ap stamp_told (legal (learned_first ∷ []) learned_first [] refl) in omega (arith, told)
 
 -- Chronicles
 
@@ -293,7 +333,8 @@ noted_failure = Entered 2 learn_katsushika (Refused Disk) 6 2
 -- an opening stands first and nowhere else
 chronicles : Gives is_chronicle (
     ([], false) ∷ (noted_opening ∷ [], true) ∷ (noted_opening ∷ noted_look_up ∷ noted_failure ∷ [], true)
-    ∷ (noted_look_up ∷ [], false) ∷ (noted_look_up ∷ noted_opening ∷ [], false) ∷ (noted_opening ∷ noted_opening ∷ [], false) ∷ (noted_opening ∷ noted_look_up ∷ noted_opening ∷ [], false)
+    ∷ (noted_look_up ∷ [], false) ∷ (noted_look_up ∷ noted_opening ∷ [], false)
+    ∷ (noted_opening ∷ noted_opening ∷ [], false) ∷ (noted_opening ∷ noted_look_up ∷ noted_opening ∷ [], false)
     ∷ [])
 chronicles = refl
 
@@ -313,7 +354,8 @@ openings : Gives opening_of (
     ∷ [])
 openings = refl
 
-histories : Gives history_of (([], []) ∷ (noted_opening ∷ noted_look_up ∷ noted_failure ∷ [], looked_up ∷ failed ∷ []) ∷ [])
+histories : Gives history_of
+    (([], []) ∷ (noted_opening ∷ noted_look_up ∷ noted_failure ∷ [], looked_up ∷ failed ∷ []) ∷ [])
 histories = refl
 
 -- an answer is a reply, or a refusal
@@ -332,7 +374,8 @@ replies_or_memory = refl
 -- a refusal in a chronicle is seen behind its opening and behind other entries
 served : Gives are_served (
     (noted_opening ∷ [], true) ∷ (noted_opening ∷ noted_look_up ∷ [], true)
-    ∷ (noted_opening ∷ noted_look_up ∷ noted_failure ∷ [], false) ∷ (noted_opening ∷ noted_failure ∷ noted_look_up ∷ [], false)
+    ∷ (noted_opening ∷ noted_look_up ∷ noted_failure ∷ [], false)
+    ∷ (noted_opening ∷ noted_failure ∷ noted_look_up ∷ [], false)
     ∷ [])
 served = refl
 
@@ -354,8 +397,8 @@ said : Gives2 said_in (
     ∷ [])
 said = refl
 
--- without a disk nothing is refused but for want of memory, and neither the time nor the count of faults moves: the entries
--- of time 3 and no fault alone are so
+-- without a disk nothing is refused but for want of memory, and neither the time nor the count of faults moves: the
+-- entries of time 3 and no fault alone are so
 without_disk : Gives (is_without_disk (opening_of_limit 64)) (
     (noted_opening ∷ [], true) ∷ (noted_opening ∷ noted_of 0 ∷ [], true)
     ∷ (noted_opening ∷ Entered 0 lookup_kanji (Refused Memory) 3 0 ∷ [], true)

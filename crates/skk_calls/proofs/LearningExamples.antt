@@ -2,7 +2,8 @@
 use Rattle.std.proofs.Common.{◌≡◌, true, false, Option, [], ◌∷◌, codes, refl, Some, None}
 use Rattle.skk_calls.specs.Learning.{learnt, purged, purge_changes, unlearnt, is_valid_learned}
 use Rattle.skk_calls.specs.Rows.{Row, Learned}
-use Rattle.skk_calls.proofs.Samples.{Gives, plain, noted, nasi, ari, block, row, kanji, ook, kanji_key, ook_key, a, b, c}
+use Rattle.skk_calls.proofs.Samples.{Gives, plain, noted, nasi, ari, block, row, kanji, ook, kanji_key, ook_key, a, b}
+use Rattle.skk_calls.proofs.Samples.{c}
 
 -- Learning
 
@@ -19,21 +20,26 @@ learnt_first : learnt None kanji_key None (plain (codes "漢字")) 1 ≡ row kan
 learnt_first = refl
 
 -- the word is hidden no more, and the row has the key and the stamp of the learning
-learnt_hidden : learnt (Some (row kanji_key (plain a ∷ []) [] (b ∷ a ∷ c ∷ []) 1)) kanji_key None (plain a) 7 ≡ row kanji_key (plain a ∷ []) [] (b ∷ c ∷ []) 7
+learnt_hidden : learnt (Some (row kanji_key (plain a ∷ []) [] (b ∷ a ∷ c ∷ []) 1)) kanji_key None (plain a) 7
+    ≡ row kanji_key (plain a ∷ []) [] (b ∷ c ∷ []) 7
 learnt_hidden = refl
 
--- with an okurigana the word goes to the front of its block, which keeps its place, and a new block stands last; without
--- one the blocks stay
+-- with an okurigana the word goes to the front of its block, which keeps its place, and a new block stands last;
+-- without one the blocks stay
 blocks_after : Gives (λ okuri. (learnt (Some ook) ook_key okuri (plain (codes "大")) 1).blocks) (
     (None, block (codes "く") (codes "多" ∷ []) ∷ block (codes "き") (codes "大" ∷ []) ∷ [])
     ∷ (Some (codes "く"), block (codes "く") (codes "大" ∷ codes "多" ∷ []) ∷ block (codes "き") (codes "大" ∷ []) ∷ [])
     ∷ (Some (codes "き"), block (codes "く") (codes "多" ∷ []) ∷ block (codes "き") (codes "大" ∷ []) ∷ [])
-    ∷ (Some (codes "け"), block (codes "く") (codes "多" ∷ []) ∷ block (codes "き") (codes "大" ∷ []) ∷ block (codes "け") (codes "大" ∷ []) ∷ [])
+    ∷ (
+      Some (codes "け"),
+      block (codes "く") (codes "多" ∷ []) ∷ block (codes "き") (codes "大" ∷ []) ∷ block (codes "け") (codes "大" ∷ []) ∷ [],
+    )
     ∷ [])
 blocks_after = refl
 
 -- in a block the word stands once
-word_in_block : (learnt (Some (row ook_key [] (block (codes "く") (a ∷ b ∷ c ∷ []) ∷ []) [] 1)) ook_key (Some (codes "く")) (plain b) 2).blocks ≡ block (codes "く") (b ∷ a ∷ c ∷ []) ∷ []
+word_in_block : (learnt (Some (row ook_key [] (block (codes "く") (a ∷ b ∷ c ∷ []) ∷ []) [] 1)) ook_key
+    (Some (codes "く")) (plain b) 2).blocks ≡ block (codes "く") (b ∷ a ∷ c ∷ []) ∷ []
 word_in_block = refl
 
 -- at a key without okurigana an okurigana counts as none
@@ -48,7 +54,8 @@ purged_word : purged (Some kanji) kanji_key (codes "漢字") 1
 purged_word = refl
 
 -- it leaves each block, a block goes with its last word, and the word is hidden behind the others
-purged_block : purged (Some (row ook_key (plain a ∷ plain b ∷ []) (block (codes "く") (a ∷ []) ∷ block (codes "き") (b ∷ a ∷ []) ∷ []) (c ∷ []) 1)) ook_key a 2
+purged_block : purged (Some (row ook_key (plain a ∷ plain b ∷ [])
+    (block (codes "く") (a ∷ []) ∷ block (codes "き") (b ∷ a ∷ []) ∷ []) (c ∷ []) 1)) ook_key a 2
     ≡ row ook_key (plain b ∷ []) (block (codes "き") (b ∷ []) ∷ []) (c ∷ a ∷ []) 2
 purged_block = refl
 
@@ -62,8 +69,10 @@ purged_none = refl
 
 -- a purge changes something where the word is a candidate's, or a block's, or is not hidden
 changing_purges : Gives (λ before. purge_changes before ook_key a) (
-    (None, true) ∷ (Some (row ook_key [] [] [] 1), true) ∷ (Some (row ook_key [] [] (a ∷ []) 1), false) ∷ (Some (row ook_key [] [] (b ∷ []) 1), true)
-    ∷ (Some (row ook_key (plain b ∷ plain a ∷ []) [] (a ∷ []) 1), true) ∷ (Some (row ook_key (plain b ∷ []) [] (a ∷ []) 1), false)
+    (None, true) ∷ (Some (row ook_key [] [] [] 1), true) ∷ (Some (row ook_key [] [] (a ∷ []) 1), false)
+    ∷ (Some (row ook_key [] [] (b ∷ []) 1), true)
+    ∷ (Some (row ook_key (plain b ∷ plain a ∷ []) [] (a ∷ []) 1), true)
+    ∷ (Some (row ook_key (plain b ∷ []) [] (a ∷ []) 1), false)
     ∷ (Some (row ook_key [] (block (codes "く") (b ∷ []) ∷ block (codes "き") (b ∷ a ∷ []) ∷ []) (a ∷ []) 1), true)
     ∷ (Some (row ook_key [] (block (codes "く") (b ∷ []) ∷ []) (a ∷ []) 1), false)
     ∷ [])
@@ -77,7 +86,8 @@ learned_over before = record { book = 1; key = nasi a; stamp = 2; before = befor
 
 -- the row before is good, of the same key, and has an earlier stamp
 valid_learned : Gives (λ before. is_valid_learned (learned_over before)) (
-    (None, true) ∷ (Some (row (nasi a) (plain a ∷ []) [] [] 1), true) ∷ (Some (row (nasi a) (plain a ∷ []) [] [] 0), false)
+    (None, true) ∷ (Some (row (nasi a) (plain a ∷ []) [] [] 1), true)
+    ∷ (Some (row (nasi a) (plain a ∷ []) [] [] 0), false)
     ∷ (Some (row (nasi a) (plain a ∷ []) [] [] 2), false) ∷ (Some (row (nasi a) (plain a ∷ []) [] [] 3), false)
     ∷ (Some (row (nasi b) (plain a ∷ []) [] [] 1), false) ∷ (Some (row (ari a) (plain a ∷ []) [] [] 1), false)
     ∷ (Some (row (nasi a) [] [] [] 1), false)

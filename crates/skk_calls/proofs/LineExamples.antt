@@ -7,9 +7,10 @@ use Rattle.skk_calls.proofs.Samples.{Gives, plain, noted, block, row, plain_row,
 -- a word is quoted where it holds one of six characters, each of which is escaped, and where it begins like a form
 words_written : Gives (λ word. item (plain word)) (
     (codes "漢字", codes "漢字") ∷ (codes "and/or;x", codes "(concat \"and\\057or\\073x\")")
-    ∷ (codes "/", codes "(concat \"\\057\")") ∷ (codes ";", codes "(concat \"\\073\")") ∷ (codes "\"", codes "(concat \"\\\"\")")
-    ∷ (codes "\\", codes "(concat \"\\\\\")") ∷ (13 ∷ [], codes "(concat \"\\r\")") ∷ (10 ∷ [], codes "(concat \"\\n\")")
-    ∷ (codes "a\"b\\c" ++ 13 ∷ 10 ∷ [], codes "(concat \"a\\\"b\\\\c\\r\\n\")")
+    ∷ (codes "/", codes "(concat \"\\057\")") ∷ (codes ";", codes "(concat \"\\073\")")
+    ∷ (codes "\"", codes "(concat \"\\\"\")")
+    ∷ (codes "\\", codes "(concat \"\\\\\")") ∷ (13 ∷ [], codes "(concat \"\\r\")")
+    ∷ (10 ∷ [], codes "(concat \"\\n\")") ∷ (codes "a\"b\\c" ++ 13 ∷ 10 ∷ [], codes "(concat \"a\\\"b\\\\c\\r\\n\")")
     ∷ (codes ".0:<!#]^[", codes ".0:<!#]^[") ∷ (9 ∷ 11 ∷ 12 ∷ 14 ∷ [], 9 ∷ 11 ∷ 12 ∷ 14 ∷ [])
     ∷ (codes "[x", codes "(concat \"[x\")") ∷ (codes "]", codes "(concat \"]\")")
     ∷ (codes "(concat ", codes "(concat \"(concat \")") ∷ (codes "(concat", codes "(concat")
@@ -28,7 +29,8 @@ notes_written = refl
 
 -- a block has its okurigana and its words, each with a slash
 blocks_written : Gives written_block (
-    (block (codes "く") (codes "多" ∷ []), codes "[く/多/]") ∷ (block (codes "く") (codes "[" ∷ a ∷ []), codes "[く/(concat \"[\")/a/]")
+    (block (codes "く") (codes "多" ∷ []), codes "[く/多/]")
+    ∷ (block (codes "く") (codes "[" ∷ a ∷ []), codes "[く/(concat \"[\")/a/]")
     ∷ [])
 blocks_written = refl
 
@@ -44,7 +46,10 @@ lines : Gives canonical (
     (plain_row (codes "かんじ") (plain (codes "漢字") ∷ []), codes "かんじ /漢字/")
     ∷ (row kanji_key [] [] (codes "漢字" ∷ []) 0, codes "かんじ /(skk-ignore-dic-word \"漢字\")/")
     ∷ (ook, codes "おおk /大/多/[く/多/]/[き/大/]/")
-    ∷ (row ook_key (plain a ∷ noted b a ∷ []) (block (codes "く") (b ∷ []) ∷ []) (a ∷ []) 7, codes "おおk /a/b;a/[く/b/]/(skk-ignore-dic-word \"a\")/")
+    ∷ (
+      row ook_key (plain a ∷ noted b a ∷ []) (block (codes "く") (b ∷ []) ∷ []) (a ∷ []) 7,
+      codes "おおk /a/b;a/[く/b/]/(skk-ignore-dic-word \"a\")/",
+    )
     ∷ [])
 lines = refl
 
@@ -64,8 +69,10 @@ unfolding lib.Utf8.encode
 good_rows = refl
 
 -- a good row's line has at most 65,535 bytes
-longest_line : (word : List ℕ) → byte_len (canonical (plain_row a (plain word ∷ []))) ≡ 65535 → is_good (plain_row a (plain word ∷ [])) ≡ true
+longest_line : (word : List ℕ) → byte_len (canonical (plain_row a (plain word ∷ []))) ≡ 65535
+    → is_good (plain_row a (plain word ∷ [])) ≡ true
 longest_line word e = rw e
 
-too_long_line : (word : List ℕ) → byte_len (canonical (plain_row a (plain word ∷ []))) ≡ 65536 → is_good (plain_row a (plain word ∷ [])) ≡ false
+too_long_line : (word : List ℕ) → byte_len (canonical (plain_row a (plain word ∷ []))) ≡ 65536
+    → is_good (plain_row a (plain word ∷ [])) ≡ false
 too_long_line word e = rw e

@@ -24,4 +24,5 @@ pub is_gt-slice_cmp-texts : (text other : List ℕ)
     → is_gt (slice_cmp nat_cmp (encode_utf8_all text) (encode_utf8_all other)) ≡ text_less other text
 is_gt-slice_cmp-texts text other =
     let order = slice_cmp nat_cmp (encode_utf8_all text) (encode_utf8_all other) in
-    sym (ap is_lt (nat_list_cmp_total.antisymm (encode_utf8_all other) (encode_utf8_all text)) ∙ is_lt-ordering_reverse order)
+    sym (ap is_lt (nat_list_cmp_total.antisymm (encode_utf8_all other) (encode_utf8_all text))
+    ∙ is_lt-ordering_reverse order)

@@ -33,8 +33,8 @@ ascending_readings prefix rows = sort_by text_less (map reading_of (filter (comp
 abbrev pub completion_limit : ℕ
 completion_limit = 256
 
--- the readings that complete a prefix in the typist's book, in the shared book where that is another, and in each system
--- file in order
+-- the readings that complete a prefix in the typist's book, in the shared book where that is another, and in each
+-- system file in order
 abbrev pub all_readings : List (List Row) → State → ℕ → List ℕ → List (List ℕ)
 all_readings files state who prefix =
     newest_readings prefix (rows_of state who)

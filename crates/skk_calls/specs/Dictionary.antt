@@ -1,5 +1,6 @@
 -- The dictionary of one thread: what each call is answered, and the state after it.
-use Rattle.std.specs.Prelude.{ℕ, ◌+◌, Bool, true, false, ◌&&◌, ◌==◌, nat_lt, min, if◌then◌else◌, Option, None, Some, List, []}
+use Rattle.std.specs.Prelude.{ℕ, ◌+◌, Bool, true, false, ◌&&◌, ◌==◌, nat_lt, min, if◌then◌else◌, Option, None, Some}
+use Rattle.std.specs.Prelude.{List, []}
 use Rattle.std.specs.List.{list_all}
 use Rattle.skk_text.specs.Counts.{last_count}
 use Rattle.skk_text.specs.Text.{byte_len}

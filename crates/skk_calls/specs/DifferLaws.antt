@@ -24,7 +24,8 @@ pub has_none : (texts : List (List ℕ)) (text : List ℕ) → list_all (λ othe
 has_none [] text none = refl
 has_none (other ∷ texts) text none =
     let parts = and_parts (not (same_text text other)) (list_all (λ o. not (same_text text o)) texts) none in
-    or_from (same_text text other) (has_text texts text) (not-true (same_text text other) parts.0) (has_none texts text parts.1)
+    or_from (same_text text other) (has_text texts text) (not-true (same_text text other) parts.0)
+    (has_none texts text parts.1)
 
 -- of texts that differ the others have not the first, and differ
 pub differ_parts : (text : List ℕ) (texts : List (List ℕ)) → texts_differ (text ∷ texts) ≡ true
@@ -37,14 +38,18 @@ differ_parts text texts e =
 pub differ_from : (text : List ℕ) (texts : List (List ℕ)) → has_text texts text ≡ false → texts_differ texts ≡ true
     → texts_differ (text ∷ texts) ≡ true
 differ_from text texts none apart =
-    and_from (list_all (λ other. not (same_text text other)) texts) (texts_differ texts) (none_same texts text none) apart
+    and_from (list_all (λ other. not (same_text text other)) texts) (texts_differ texts)
+    (none_same texts text none) apart
 
 -- texts that differ still do where one is put in front of them and left out behind it
-pub differ_front : (text : List ℕ) (texts : List (List ℕ)) → texts_differ texts ≡ true → texts_differ (text ∷ without_text text texts) ≡ true
+pub differ_front : (text : List ℕ) (texts : List (List ℕ)) → texts_differ texts ≡ true
+    → texts_differ (text ∷ without_text text texts) ≡ true
 differ_front text texts differ =
-    and_from (list_all (λ other. not (same_text text other)) (without_text text texts)) (texts_differ (without_text text texts))
+    and_from (list_all (λ other. not (same_text text other)) (without_text text texts))
+    (texts_differ (without_text text texts))
     (list_all-weaker (λ other. not (same_text other text)) (λ other. not (same_text text other))
-    (λ other e. ap not (same_other text other) ∙ e) (without_text text texts) (list_all_kept (λ other. not (same_text other text)) texts))
+    (λ other e. ap not (same_other text other) ∙ e) (without_text text texts)
+    (list_all_kept (λ other. not (same_text other text)) texts))
     (all_pairs-filter (λ one other. not (same_text one other)) (λ other. not (same_text other text)) texts differ)
 
 -- texts that differ still do with a new one behind them
@@ -56,5 +61,6 @@ differ_end (text ∷ texts) last differ new =
     let others = or_parts (same_text last text) (has_text texts last) new in
     differ_from text (texts ++ last ∷ [])
     (list_any-append (same_text text) texts (last ∷ [])
-    ∙ or_from (has_text texts text) (same_text text last || false) parts.0 (or_from (same_text text last) false (same_other text last ∙ others.0) refl))
+    ∙ or_from (has_text texts text) (same_text text last || false) parts.0
+    (or_from (same_text text last) false (same_other text last ∙ others.0) refl))
     (differ_end texts last parts.1 others.1)

@@ -1,5 +1,6 @@
 -- Histories: which calls were answered how, in one order.
-use Rattle.std.specs.Prelude.{◌≡◌, ⊤, ℕ, ◌+◌, ◌<◌, Bool, true, false, ◌==◌, if◌then◌else◌, Option, None, Some, List, [], ◌∷◌, ◌++◌, map}
+use Rattle.std.specs.Prelude.{◌≡◌, ⊤, ℕ, ◌+◌, ◌<◌, Bool, true, false, ◌==◌, if◌then◌else◌, Option, None, Some, List, []}
+use Rattle.std.specs.Prelude.{◌∷◌, ◌++◌, map}
 use Rattle.std.specs.List.{filter, filter_map}
 use Rattle.skk_text.specs.Text.{byte_len}
 use Rattle.skk_calls.specs.declared.answer.Answer.{Answer}
@@ -83,7 +84,8 @@ part_bytes = 1
 -- the bytes that the record of a row needs
 abbrev pub put_need : Row → ℕ
 put_need row =
-    gate_bytes + length_bytes + kind_bytes + book_bytes + count_bytes + stamp_bytes + part_bytes + byte_len (canonical row)
+    gate_bytes + length_bytes + kind_bytes + book_bytes + count_bytes + stamp_bytes + part_bytes
+    + byte_len (canonical row)
 
 -- the bytes that the record of a row that is taken out needs
 abbrev pub drop_need : RowKey → ℕ
@@ -99,7 +101,8 @@ restored_need key (Some row) = put_need row
 abbrev pub need : State → Call → ℕ
 need state (Lookup who key okuri) = 0
 need state (Complete who prefix) = 0
-need state (Learn book key okuri cand) = put_need (learnt (row_at state book key) key okuri cand (count_of state book + 1))
+need state (Learn book key okuri cand) =
+    put_need (learnt (row_at state book key) key okuri cand (count_of state book + 1))
 need state (Purge book key word) = put_need (purged (row_at state book key) key word (count_of state book + 1))
 need state (Unlearn learned) = restored_need learned.key (unlearnt learned)
 
@@ -136,7 +139,8 @@ LacksRoom opening state end call told =
 
 -- an answer is the dictionary's at this state and end, or a refusal with its cause: out of memory, a disk that failed a
 -- change, or a learned file that was full for a change, as `Full` says of what is told
-abbrev pub IsLegalAnswer : (Opening → State → ℕ → Call → FullFile → Type 0) → Opening → State → ℕ → Call → Answer → Type 0
+abbrev pub IsLegalAnswer : (Opening → State → ℕ → Call → FullFile → Type 0) → Opening → State → ℕ → Call
+    → Answer → Type 0
 IsLegalAnswer Full opening state end call (Done reply) = reply ≡ answer opening.files state call
 IsLegalAnswer Full opening state end call (Refused refusals.Memory) = ⊤
 IsLegalAnswer Full opening state end call (Refused refusals.Disk) = moves state call ≡ true

@@ -70,7 +70,8 @@ Begins interaction (pair ∷ dialog) = AsksFirst interaction pair (λ behind. Be
 -- an interaction asks a dialog and prints a text, and then goes on as another
 pub data Leads {S : Type 0} : Interaction S → Dialog → List ℕ → Interaction S → Type 0 where
   here : (interaction : Interaction S) → Leads interaction [] [] interaction
-  asking : (call : Call) (next : Answer → Interaction S) (answer : Answer) (dialog : Dialog) (text : List ℕ) (behind : Interaction S)
+  asking : (call : Call) (next : Answer → Interaction S) (answer : Answer) (dialog : Dialog) (text : List ℕ)
+      (behind : Interaction S)
       → Leads (next answer) dialog text behind → Leads (asks call next) ((call, answer) ∷ dialog) text behind
   printing : (first : List ℕ) (rest : Interaction S) (dialog : Dialog) (text : List ℕ) (behind : Interaction S)
       → Leads rest dialog text behind → Leads (prints first rest) dialog (first ++ text) behind
@@ -92,5 +93,6 @@ IsAnsweredAlone files state (pair ∷ dialog) =
 -- the text that is printed where the dictionary of one thread answers, from a state on
 abbrev pub printed_alone : {S : Type 0} → List (List Row) → State → Interaction S → List ℕ
 printed_alone files state (ends value) = []
-printed_alone files state (asks call next) = printed_alone files (after state call) (next (Done (answer files state call)))
+printed_alone files state (asks call next) =
+    printed_alone files (after state call) (next (Done (answer files state call)))
 printed_alone files state (prints text rest) = text ++ printed_alone files state rest

@@ -24,10 +24,13 @@ same_other text other =
     (Decides-like (same_text other text) sym sym (bytes_eq-Decides other text))
 
 -- texts are the same where their bytes are
-pub same_encoded : (text other : List ℕ) → bytes_eq (encode_utf8_all text) (encode_utf8_all other) ≡ same_text text other
+pub same_encoded : (text other : List ℕ)
+    → bytes_eq (encode_utf8_all text) (encode_utf8_all other) ≡ same_text text other
 same_encoded text other =
-    same_from_decides (bytes_eq (encode_utf8_all text) (encode_utf8_all other)) (same_text text other) (bytes_eq-Decides (encode_utf8_all text) (encode_utf8_all other))
-    (Decides-like (same_text text other) (λ e. ap encode_utf8_all e) (λ e. encodes_same text other e) (bytes_eq-Decides text other))
+    same_from_decides (bytes_eq (encode_utf8_all text) (encode_utf8_all other)) (same_text text other)
+    (bytes_eq-Decides (encode_utf8_all text) (encode_utf8_all other))
+    (Decides-like (same_text text other) (λ e. ap encode_utf8_all e) (λ e. encodes_same text other e)
+    (bytes_eq-Decides text other))
 
 -- a part is the same as itself
 pub same_part_itself : (part : Part) → same_part part part ≡ true
@@ -44,7 +47,8 @@ same_part_equal Ari Nasi e = cc
 -- a key is the same as itself
 pub same_key_itself : (key : RowKey) → same_key key key ≡ true
 same_key_itself key =
-    and_from (same_part key.part key.part) (same_text key.reading key.reading) (same_part_itself key.part) (same_itself key.reading)
+    and_from (same_part key.part key.part) (same_text key.reading key.reading) (same_part_itself key.part)
+    (same_itself key.reading)
 
 -- the key of a part and a reading
 abbrev key_of : Part → List ℕ → RowKey
@@ -54,9 +58,11 @@ key_of part reading = record { part = part; reading = reading }
 pub same_key_equal : (key other : RowKey) → same_key key other ≡ true → key ≡ other
 same_key_equal key other e =
     let part : key.part ≡ other.part =
-    same_part_equal key.part other.part (and_parts (same_part key.part other.part) (same_text key.reading other.reading) e).0 in
+    same_part_equal key.part other.part
+    (and_parts (same_part key.part other.part) (same_text key.reading other.reading) e).0 in
     let reading : key.reading ≡ other.reading =
-    same_equal key.reading other.reading (and_parts (same_part key.part other.part) (same_text key.reading other.reading) e).1 in
+    same_equal key.reading other.reading
+    (and_parts (same_part key.part other.part) (same_text key.reading other.reading) e).1 in
     ap (λ (p : Part). key_of p key.reading) part ∙ ap (key_of other.part) reading
 
 -- keys that differ differ in either order
@@ -65,6 +71,7 @@ same_key_other key other e = by (same_key other key) refl
   where
     by : (b : Bool) → same_key other key ≡ b → b ≡ false
     by true found =
-        let equal : same_key key other ≡ true = ap (same_key key) (same_key_equal other key found) ∙ same_key_itself key in
+        let equal : same_key key other ≡ true =
+        ap (same_key key) (same_key_equal other key found) ∙ same_key_itself key in
         cc
     by false found = refl

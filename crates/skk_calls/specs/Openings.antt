@@ -45,11 +45,13 @@ is_reply_or_memory (Refused refusal) = false
 
 -- what was noted has this time and this count of faults of the disk
 abbrev pub is_noted_at : ℕ → ℕ → Noted → Bool
-is_noted_at time faults (Opened files state end limit noted_time noted_faults) = noted_time == time && noted_faults == faults
-is_noted_at time faults (Entered number call answer noted_time noted_faults) = noted_time == time && noted_faults == faults
+is_noted_at time faults (Opened files state end limit noted_time noted_faults) =
+    noted_time == time && noted_faults == faults
+is_noted_at time faults (Entered number call answer noted_time noted_faults) =
+    noted_time == time && noted_faults == faults
 
--- no disk took part in a chronicle: each answer is a reply or a refusal for want of memory, and its time and its count of
--- faults stand still from the opening on
+-- no disk took part in a chronicle: each answer is a reply or a refusal for want of memory, and its time and its count
+-- of faults stand still from the opening on
 abbrev pub is_without_disk : Opening → List Noted → Bool
 is_without_disk opening chronicle =
     list_all (λ entry. is_reply_or_memory entry.answer) (history_of chronicle)

@@ -1,5 +1,6 @@
 -- The row of a key, among rows of which no two have one key, and among rows in order.
-use Rattle.std.proofs.Common.{◌≡◌, Bool, true, false, cond, not, ◌&&◌, ◌||◌, Option, None, Some, List, [], ◌∷◌, find, refl, sym, ap, ◌∙◌}
+use Rattle.std.proofs.Common.{◌≡◌, Bool, true, false, cond, not, ◌&&◌, ◌||◌, Option, None, Some, List, [], ◌∷◌, find}
+use Rattle.std.proofs.Common.{refl, sym, ap, ◌∙◌}
 use Rattle.std.specs.List.{list_all}
 use Rattle.std.specs.Option.{option_and_then}
 use Rattle.std.proofs.lemmas.Bool.{and_parts, not-true, not_from_false}
@@ -20,7 +21,8 @@ less_differs key other less = by (same_key key other) refl
   where
     by : (b : Bool) → same_key key other ≡ b → b ≡ false
     by true e =
-        let not_less : key_less key other ≡ false = ap (key_less key) (sym (same_key_equal key other e)) ∙ not_itself key_less key_order key in
+        let not_less : key_less key other ≡ false =
+        ap (key_less key) (sym (same_key_equal key other e)) ∙ not_itself key_less key_order key in
         cc
     by false e = refl
 
@@ -30,7 +32,8 @@ greater_differs key other less = by (same_key other key) refl
   where
     by : (b : Bool) → same_key other key ≡ b → b ≡ false
     by true e =
-        let not_less : key_less key other ≡ false = ap (key_less key) (same_key_equal other key e) ∙ not_itself key_less key_order key in
+        let not_less : key_less key other ≡ false =
+        ap (key_less key) (same_key_equal other key e) ∙ not_itself key_less key_order key in
         cc
     by false e = refl
 
@@ -48,13 +51,15 @@ not_both p x y = not (p x && p y)
 
 module _ {X : Type 0} (p : X → Bool) (less : X → X → Bool) where
   -- of items of which at most one passes, the same is found where one is put among others
-  insert_finds : (x : X) (ys : List X) → list_all (not_both p x) ys ≡ true → find p (insert_by less x ys) ≡ find p (x ∷ ys)
+  insert_finds : (x : X) (ys : List X) → list_all (not_both p x) ys ≡ true
+      → find p (insert_by less x ys) ≡ find p (x ∷ ys)
   insert_finds x [] none = refl
   insert_finds x (y ∷ ys) none =
       let parts = and_parts (not_both p x y) (list_all (not_both p x) ys) none in
       by (less x y) (insert_finds x ys parts.1) parts.0
     where
-      swapped : (a b : Bool) → not (a && b) ≡ true → cond b (Some y) (cond a (Some x) (find p ys)) ≡ cond a (Some x) (cond b (Some y) (find p ys))
+      swapped : (a b : Bool) → not (a && b) ≡ true
+          → cond b (Some y) (cond a (Some x) (find p ys)) ≡ cond a (Some x) (cond b (Some y) (find p ys))
       swapped true true e = cc
       swapped true false e = refl
       swapped false b e = refl
@@ -73,18 +78,22 @@ module _ {X : Type 0} (p : X → Bool) (less : X → X → Bool) where
       ∙ ap (λ found. cond (p x) (Some x) found) (sort_finds xs parts.1)
 
 -- the row of a key is the same among rows in order
-pub row_in_order : (key : RowKey) (rows : List Row) → keys_differ rows ≡ true → row_in key (sort_by row_less rows) ≡ row_in key rows
+pub row_in_order : (key : RowKey) (rows : List Row) → keys_differ rows ≡ true
+    → row_in key (sort_by row_less rows) ≡ row_in key rows
 row_in_order key rows differ =
     sort_finds (λ row. same_key row.key key) row_less rows
-    (pairs_weaker (λ row other. not (same_key row.key other.key)) (not_both (λ row. same_key row.key key)) one rows differ)
+    (pairs_weaker (λ row other. not (same_key row.key other.key)) (not_both (λ row. same_key row.key key))
+    one rows differ)
   where
-    one : (row other : Row) → not (same_key row.key other.key) ≡ true → not (same_key row.key key && same_key other.key key) ≡ true
+    one : (row other : Row) → not (same_key row.key other.key) ≡ true
+        → not (same_key row.key key && same_key other.key key) ≡ true
     one row other e = by (same_key row.key key) (same_key other.key key) refl refl
       where
         by : (a b : Bool) → same_key row.key key ≡ a → same_key other.key key ≡ b → not (a && b) ≡ true
         by true true f g =
             let same : same_key row.key other.key ≡ true =
-            ap (same_key row.key) (same_key_equal other.key key g ∙ sym (same_key_equal row.key key f)) ∙ same_key_itself row.key in
+            ap (same_key row.key) (same_key_equal other.key key g ∙ sym (same_key_equal row.key key f))
+            ∙ same_key_itself row.key in
             let different = not-true (same_key row.key other.key) e in
             cc
         by true false f g = refl
@@ -103,11 +112,13 @@ row_not_less key (row ∷ rows) pairs =
     by (key_less row.key key) refl parts.0 (row_not_less key rows parts.1)
   where
     -- behind a greater key none is the same
-    none_behind : key_less key row.key ≡ true → list_all (row_less row) rows ≡ true → find (λ other. same_key other.key key) rows ≡ None
+    none_behind : key_less key row.key ≡ true → list_all (row_less row) rows ≡ true
+        → find (λ other. same_key other.key key) rows ≡ None
     none_behind greater above =
         find_none (λ other. same_key other.key key) rows
         (list_all-weaker (row_less row) (λ other. not (same_key other.key key))
-        (λ other e. not_from_false (same_key other.key key) (greater_differs key other.key (less_trans key_less key_order key row.key other.key greater e))) rows above)
+        (λ other e. not_from_false (same_key other.key key)
+        (greater_differs key other.key (less_trans key_less key_order key row.key other.key greater e))) rows above)
 
     last : (b : Bool) → same_key row.key key ≡ b → key_less row.key key ≡ false → list_all (row_less row) rows ≡ true
         → cond b (Some row) (find (λ other. same_key other.key key) rows) ≡ cond b (Some row) None
@@ -119,6 +130,7 @@ row_not_less key (row ∷ rows) pairs =
 
     by : (b : Bool) → key_less row.key key ≡ b → list_all (row_less row) rows ≡ true
         → row_in key rows ≡ option_and_then (if_same key) (find (λ other. not (key_less other.key key)) rows)
-        → cond (same_key row.key key) (Some row) (row_in key rows) ≡ option_and_then (if_same key) (cond (not b) (Some row) (find (λ other. not (key_less other.key key)) rows))
+        → cond (same_key row.key key) (Some row) (row_in key rows)
+        ≡ option_and_then (if_same key) (cond (not b) (Some row) (find (λ other. not (key_less other.key key)) rows))
     by true less above rest = rw (less_differs row.key key less) rest
     by false not_less above rest = last (same_key row.key key) refl not_less above

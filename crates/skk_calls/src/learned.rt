@@ -21,7 +21,8 @@ impl Model for Learned {
 
     ghost view = { λ l. record { book = l.book; key = l.key; stamp = l.stamp; before = l.before } };
 
-    ghost invariant = { λ l. is_valid_learned (record { book = l.book; key = l.key; stamp = l.stamp; before = l.before }) ≡ true };
+    ghost invariant = { λ l.
+        is_valid_learned (record { book = l.book; key = l.key; stamp = l.stamp; before = l.before }) ≡ true };
 }
 
 impl Learned {

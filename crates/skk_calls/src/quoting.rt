@@ -5,8 +5,8 @@ ghost use Rattle.skk_calls.specs.Canonical.{begins_form, is_special};
 
 use skk_text::Text;
 
-/// Whether a word could not be read as it is on a line of a dictionary, so that it is written there as a string. Takes no
-/// memory, and time in the word's length.
+/// Whether a word could not be read as it is on a line of a dictionary, so that it is written there as a string. Takes
+/// no memory, and time in the word's length.
 pub fn needs_quotes(word: &Text) -> bool
     ensures { result ≡ (list_any is_special word.now || begins_form word.now) }
 {

@@ -87,7 +87,8 @@ impl Model for Row {
 
     ghost view = { λ r. record { key = r.key; cands = r.cands; blocks = r.blocks; hides = r.hides; stamp = r.stamp } };
 
-    ghost invariant = { λ r. is_row (record { key = r.key; cands = r.cands; blocks = r.blocks; hides = r.hides; stamp = r.stamp }) ≡ true };
+    ghost invariant = { λ r.
+        is_row (record { key = r.key; cands = r.cands; blocks = r.blocks; hides = r.hides; stamp = r.stamp }) ≡ true };
 }
 
 impl Row {

@@ -4,7 +4,8 @@ ghost use Rattle.std.specs.Ordering.{is_lt, is_eq, is_gt};
 ghost use Rattle.std.specs.Str.{chars};
 ghost use Rattle.skk_text.specs.Text.{last_chars};
 ghost use Rattle.skk_calls.specs.Orders.{text_less};
-ghost use Rattle.skk_calls.specs.Rows.{is_row_key, same_text, begins_well, may_begin_reading, is_reading_char, is_letter, fits_part};
+ghost use Rattle.skk_calls.specs.Rows.{is_row_key, same_text, begins_well, may_begin_reading, is_reading_char};
+ghost use Rattle.skk_calls.specs.Rows.{is_letter, fits_part};
 
 use crate::part::Part;
 use skk_text::{Copies, Memory, Text};

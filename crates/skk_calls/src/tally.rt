@@ -17,9 +17,23 @@ impl Model for Tally {
 
     ghost Value = { Tally };
 
-    ghost view = { λ t. record { learned = t.learned; restored = t.restored; rows = t.rows; memory = t.memory; disk = t.disk; full = t.full } };
+    ghost view = { λ t. record {
+      learned = t.learned;
+      restored = t.restored;
+      rows = t.rows;
+      memory = t.memory;
+      disk = t.disk;
+      full = t.full;
+    } };
 
-    ghost inverse = { λ t. record { learned = t.learned; restored = t.restored; rows = t.rows; memory = t.memory; disk = t.disk; full = t.full } };
+    ghost inverse = { λ t. record {
+      learned = t.learned;
+      restored = t.restored;
+      rows = t.rows;
+      memory = t.memory;
+      disk = t.disk;
+      full = t.full;
+    } };
 }
 
 impl Tally {
@@ -35,7 +49,14 @@ impl Tally {
         disk: bool,
         full: bool,
     ) -> Tally
-        ensures { result ≡ record { learned = learned; restored = restored; rows = rows; memory = memory; disk = disk; full = full } }
+        ensures { result ≡ record {
+          learned = learned;
+          restored = restored;
+          rows = rows;
+          memory = memory;
+          disk = disk;
+          full = full;
+        } }
     {
         Tally {
             learned,

@@ -141,7 +141,13 @@ fn a_candidate_is_copied(rt: HostRuntime) -> Result<(), Fail> {
 
 // The row of か that says nothing.
 fn row_without_words(alloc: Global, stamp: u64) -> Result<Row, Fail>
-    ensures { IfOk result (λ row. row ≡ record { key = record { part = Nasi; reading = 0x304B ∷ [] }; cands = []; blocks = []; hides = []; stamp = stamp }) }
+    ensures { IfOk result (λ row. row ≡ record {
+      key = record { part = Nasi; reading = 0x304B ∷ [] };
+      cands = [];
+      blocks = [];
+      hides = [];
+      stamp = stamp;
+    }) }
 {
     let key = short_key(alloc)?;
     Ok(Row::new(

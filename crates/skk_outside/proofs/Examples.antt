@@ -1,14 +1,17 @@
 -- The definitions at small examples, each worked out by hand.
-use Rattle.std.proofs.Common.{◌≡◌, ℕ, ◌^◌, ◌-◌, true, false, Option, None, Some, Result, Ok, Err, List, [], ◌∷◌, refl, map, codes, arith, lit≤, lit<}
+use Rattle.std.proofs.Common.{◌≡◌, ℕ, ◌^◌, ◌-◌, true, false, Option, None, Some, Result, Ok, Err, List, [], ◌∷◌, refl}
+use Rattle.std.proofs.Common.{map, codes, arith, lit≤, lit<}
 use Rattle.skk_text.specs.Counts.{one_more}
-use Rattle.skk_outside.specs.Memory.{CallCount, no_call_yet, after_success, after_failure, with_fault, bytes_of_pieces, first_nonempty_piece, without_first_bytes, names_differ, file_named}
+use Rattle.skk_outside.specs.Memory.{CallCount, no_call_yet, after_success, after_failure, with_fault, bytes_of_pieces}
+use Rattle.skk_outside.specs.Memory.{first_nonempty_piece, without_first_bytes, names_differ, file_named}
 use Rattle.skk_outside.specs.Moved.{moved_source, moved_sink, moved_shelf}
 use Rattle.skk_outside.specs.Pieces.{pieces_left}
 use Rattle.skk_outside.specs.Shelves.{StandsAt, EndsBy, ReadsFrom}
 use Rattle.skk_outside.specs.Written.{IsPrefix}
 
 -- a count from the first, and at its end
-counts : map one_more (0 ∷ 1 ∷ (2 ^ 64 - 2) ∷ (2 ^ 64 - 1) ∷ []) ≡ 1 ∷ 2 ∷ 0xFFFF_FFFF_FFFF_FFFF ∷ 0xFFFF_FFFF_FFFF_FFFF ∷ []
+counts : map one_more (0 ∷ 1 ∷ (2 ^ 64 - 2) ∷ (2 ^ 64 - 1) ∷ [])
+    ≡ 1 ∷ 2 ∷ 0xFFFF_FFFF_FFFF_FFFF ∷ 0xFFFF_FFFF_FFFF_FFFF ∷ []
 counts = refl
 
 -- how many calls there were, how many of them failed, and which are to fail
@@ -26,13 +29,17 @@ calls = refl
 abbrev pieces : List (List ℕ)
 pieces = codes "ab" ∷ [] ∷ codes "c" ∷ []
 
-bytes : map bytes_of_pieces ([] ∷ pieces ∷ pieces_left 0 1 pieces ∷ pieces_left 1 0 pieces ∷ pieces_left 2 1 pieces ∷ []) ≡ [] ∷ codes "abc" ∷ codes "bc" ∷ codes "c" ∷ [] ∷ []
+bytes : map bytes_of_pieces
+    ([] ∷ pieces ∷ pieces_left 0 1 pieces ∷ pieces_left 1 0 pieces ∷ pieces_left 2 1 pieces ∷ [])
+    ≡ [] ∷ codes "abc" ∷ codes "bc" ∷ codes "c" ∷ [] ∷ []
 bytes = refl
 
-first : map first_nonempty_piece ([] ∷ pieces ∷ pieces_left 1 0 pieces ∷ pieces_left 2 1 pieces ∷ []) ≡ [] ∷ codes "ab" ∷ codes "c" ∷ [] ∷ []
+first : map first_nonempty_piece ([] ∷ pieces ∷ pieces_left 1 0 pieces ∷ pieces_left 2 1 pieces ∷ [])
+    ≡ [] ∷ codes "ab" ∷ codes "c" ∷ [] ∷ []
 first = refl
 
-without : map (λ taken. without_first_bytes taken pieces) (0 ∷ 1 ∷ 2 ∷ []) ≡ pieces ∷ (codes "b" ∷ [] ∷ codes "c" ∷ []) ∷ ([] ∷ [] ∷ codes "c" ∷ []) ∷ []
+without : map (λ taken. without_first_bytes taken pieces) (0 ∷ 1 ∷ 2 ∷ [])
+    ≡ pieces ∷ (codes "b" ∷ [] ∷ codes "c" ∷ []) ∷ ([] ∷ [] ∷ codes "c" ∷ []) ∷ []
 without = refl
 
 -- a prefix stands at the head
@@ -43,14 +50,17 @@ prefix = (codes "c", refl)
 abbrev files : List (List ℕ × List ℕ)
 files = (codes "one", codes "abc") ∷ (codes "two", codes "abc") ∷ (codes "none", []) ∷ []
 
-named : map (file_named files) (codes "one" ∷ codes "two" ∷ codes "none" ∷ codes "on" ∷ codes "ones" ∷ [] ∷ []) ≡ Some (codes "abc") ∷ Some (codes "abc") ∷ Some [] ∷ None ∷ None ∷ None ∷ []
+named : map (file_named files) (codes "one" ∷ codes "two" ∷ codes "none" ∷ codes "on" ∷ codes "ones" ∷ [] ∷ [])
+    ≡ Some (codes "abc") ∷ Some (codes "abc") ∷ Some [] ∷ None ∷ None ∷ None ∷ []
 named = refl
 
 last_named : file_named ((codes "one", codes "abc") ∷ (codes "two", codes "de") ∷ []) (codes "two") ≡ Some (codes "de")
 last_named = refl
 
 -- names that differ, though their files hold the same, and names that do not, though their files differ
-differ : map names_differ ([] ∷ files ∷ ((codes "none", codes "d") ∷ files) ∷ ((codes "one", []) ∷ (codes "one", codes "a") ∷ []) ∷ []) ≡ true ∷ true ∷ false ∷ false ∷ []
+differ : map names_differ
+    ([] ∷ files ∷ ((codes "none", codes "d") ∷ files) ∷ ((codes "one", []) ∷ (codes "one", codes "a") ∷ []) ∷ [])
+    ≡ true ∷ true ∷ false ∷ false ∷ []
 differ = refl
 
 -- a file of four bytes
@@ -58,7 +68,8 @@ abbrev file : Option (List ℕ)
 file = Some (1 ∷ 2 ∷ 3 ∷ 4 ∷ [])
 
 -- bytes stand at their place alone, and whole; no bytes stand anywhere, and any in a file that is not told
-stands : StandsAt file 0 (1 ∷ 2 ∷ 3 ∷ 4 ∷ []) × StandsAt file 1 (2 ∷ 3 ∷ []) × StandsAt file 4 [] × StandsAt file 9 [] × StandsAt None 3 (7 ∷ [])
+stands : StandsAt file 0 (1 ∷ 2 ∷ 3 ∷ 4 ∷ []) × StandsAt file 1 (2 ∷ 3 ∷ []) × StandsAt file 4 [] × StandsAt file 9 []
+    × StandsAt None 3 (7 ∷ [])
     × (¬ StandsAt file 0 (2 ∷ 3 ∷ [])) × (¬ StandsAt file 2 (3 ∷ 4 ∷ 5 ∷ [])) × (¬ StandsAt file 4 (4 ∷ []))
 stands = (refl, refl, refl, refl, tt, λ is. cc, λ is. cc, λ is. cc)
 
@@ -70,9 +81,10 @@ ends = (lit≤ tt, lit≤ tt, lit≤ tt, tt, λ is. omega (arith, is))
 abbrev Reads : Option (List ℕ) → ℕ → Result ℕ ℕ → List ℕ → Type 0
 Reads told place result into = ReadsFrom told place result into
 
--- a read gives some of the bytes at its place; none at the end, or where there is no room; and it may give any where it fails, or where
--- the file is not told
-reads : Reads file 1 (Ok 2) (2 ∷ 3 ∷ 0 ∷ []) × Reads file 4 (Ok 0) (0 ∷ []) × Reads file 1 (Ok 0) [] × Reads file 1 (Err 7) (0 ∷ []) × Reads None 1 (Ok 0) (0 ∷ [])
+-- a read gives some of the bytes at its place; none at the end, or where there is no room; and it may give any where it
+-- fails, or where the file is not told
+reads : Reads file 1 (Ok 2) (2 ∷ 3 ∷ 0 ∷ []) × Reads file 4 (Ok 0) (0 ∷ []) × Reads file 1 (Ok 0) []
+    × Reads file 1 (Err 7) (0 ∷ []) × Reads None 1 (Ok 0) (0 ∷ [])
     × (¬ Reads file 1 (Ok 2) (1 ∷ 2 ∷ 0 ∷ [])) × (¬ Reads file 3 (Ok 2) (4 ∷ 0 ∷ [])) × (¬ Reads file 3 (Ok 0) (0 ∷ []))
 reads = (
   (refl, λ none room. absurd (omega (arith, none))),

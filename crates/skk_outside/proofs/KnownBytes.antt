@@ -1,5 +1,6 @@
 -- What several reads and writes together do to known bytes.
-use Rattle.std.proofs.Common.{ℕ, ◌+◌, ◌-◌, ◌≤◌, ◌∙◌, sym, subst, ap, Option, List, ◌++◌, length, take, drop, Result, OnErr, IsErr, length-append, arith}
+use Rattle.std.proofs.Common.{ℕ, ◌+◌, ◌-◌, ◌≤◌, ◌∙◌, sym, subst, ap, Option, List, ◌++◌, length, take, drop, Result}
+use Rattle.std.proofs.Common.{OnErr, IsErr, length-append, arith}
 use Rattle.std.proofs.lemmas.List.{take-append-drop, take_rest}
 use Rattle.std.proofs.lemmas.Result.{MatchResult-from_err}
 use Rattle.std.proofs.Math.Seq.{take-add}
@@ -17,12 +18,14 @@ Appends-more a b c n m bytes p q =
     (Appends-trans a b c (take n bytes) (take m (take (length bytes - n) (drop n bytes))) p q)
 
 -- a prefix of the bytes was written, and then none
-pub AppendsPrefix-kept : (a b c : Option (List ℕ)) (n : ℕ) (bytes : List ℕ) → Appends a b (take n bytes) → Keeps b c → AppendsPrefix a c bytes
+pub AppendsPrefix-kept : (a b c : Option (List ℕ)) (n : ℕ) (bytes : List ℕ) → Appends a b (take n bytes) → Keeps b c
+    → AppendsPrefix a c bytes
 AppendsPrefix-kept a b c n bytes p q =
     (take n bytes, (drop n bytes, sym (take-append-drop n bytes)), Appends-kept a b c (take n bytes) p q)
 
 -- some bytes were taken, and then some more
-pub TakesAtMost-more : (a b c : Option (List ℕ)) (bytes : List ℕ) (n m k : ℕ) → Consumes a b bytes → length bytes ≤ n → TakesAtMost b c m → n + m ≤ k → TakesAtMost a c k
+pub TakesAtMost-more : (a b c : Option (List ℕ)) (bytes : List ℕ) (n m k : ℕ) → Consumes a b bytes → length bytes ≤ n
+    → TakesAtMost b c m → n + m ≤ k → TakesAtMost a c k
 TakesAtMost-more a b c bytes n m k p few q e =
     (bytes ++ q.0, omega (arith, length-append bytes q.0), Consumes-trans a b c bytes q.0 p q.2)
 

@@ -1,5 +1,5 @@
--- Things of the outside before and after a call, each as one value: what it holds, as far as it tells that, and its count of
--- faults.
+-- Things of the outside before and after a call, each as one value: what it holds, as far as it tells that, and its
+-- count of faults.
 use Rattle.std.specs.Prelude.{ℕ, List, Option}
 
 -- bytes, as far as they are told

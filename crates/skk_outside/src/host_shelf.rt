@@ -98,10 +98,13 @@ impl<R: Files> Shelf for HostShelf<R> {
         ensures bound { ReadsAtMost result into.new }
         ensures bytes { ReadsFrom (⟦<HostShelf<R> as Shelf>⟧.file self.old name.now) from result into.new }
         ensures kept { ⟦<HostShelf<R> as Shelf>⟧.file self.new ≡ ⟦<HostShelf<R> as Shelf>⟧.file self.old }
-        ensures failed { OnErr result (Rose (⟦<HostShelf<R> as Outside>⟧.faults self.old) (⟦<HostShelf<R> as Outside>⟧.faults self.new)) }
+        ensures failed { OnErr result
+            (Rose (⟦<HostShelf<R> as Outside>⟧.faults self.old) (⟦<HostShelf<R> as Outside>⟧.faults self.new)) }
         ensures counted { ⟦<HostShelf<R> as Outside>⟧.faults self.old ≤ ⟦<HostShelf<R> as Outside>⟧.faults self.new }
-        ensures no_fault { OnOk result (⟦<HostShelf<R> as Outside>⟧.faults self.new ≡ ⟦<HostShelf<R> as Outside>⟧.faults self.old) }
-        ensures one_fault { OnErr result (⟦<HostShelf<R> as Outside>⟧.faults self.new ≡ one_more (⟦<HostShelf<R> as Outside>⟧.faults self.old)) }
+        ensures no_fault { OnOk result
+            (⟦<HostShelf<R> as Outside>⟧.faults self.new ≡ ⟦<HostShelf<R> as Outside>⟧.faults self.old) }
+        ensures one_fault { OnErr result
+            (⟦<HostShelf<R> as Outside>⟧.faults self.new ≡ one_more (⟦<HostShelf<R> as Outside>⟧.faults self.old)) }
     {
         match self.read_on(name, from, into) {
             Ok(n) => Ok(n),

@@ -1,8 +1,10 @@
-ghost use Rattle.std.specs.Prelude.{◌≡◌, ◌↔◌, ◌⊎◌, ◌≤◌, length, drop, min, find, true, option_copied, IsErr, IfOk, IfSome, OnOk, OnErr};
+ghost use Rattle.std.specs.Prelude.{◌≡◌, ◌↔◌, ◌⊎◌, ◌≤◌, length, drop, min, find, true, option_copied, IsErr, IfOk};
+ghost use Rattle.std.specs.Prelude.{IfSome, OnOk, OnErr};
 ghost use Rattle.std.specs.Io.{ReadsAtMost};
 ghost use Rattle.std.specs.Str.{bytes_eq};
 ghost use Rattle.skk_outside.specs.Faults.{Rose};
-ghost use Rattle.skk_outside.specs.Memory.{no_call_yet, after_success, after_failure, FailsNext, names_differ, file_named};
+ghost use Rattle.skk_outside.specs.Memory.{no_call_yet, after_success, after_failure, FailsNext, names_differ};
+ghost use Rattle.skk_outside.specs.Memory.{file_named};
 ghost use Rattle.skk_outside.specs.Shelves.{ReadsFrom};
 
 use crate::calls::Calls;
@@ -58,7 +60,8 @@ impl Shelf for MemShelf {
         ensures counted { self.old.count.faults ≤ self.new.count.faults }
 
         // As many bytes as there is room for, of those from the place on.
-        ensures many { IfOk result (λ n. IfSome (file_named self.old.files name.now) (λ file. n ≡ min (length into.old) (length (drop from file)))) }
+        ensures many { IfOk result (λ n. IfSome (file_named self.old.files name.now)
+            (λ file. n ≡ min (length into.old) (length (drop from file)))) }
         ensures fails { IsErr result ↔ (FailsNext self.old.count ⊎ (file_named self.old.files name.now ≡ None)) }
         ensures ok { OnOk result (self.new.count ≡ after_success self.old.count) }
         ensures err { OnErr result (self.new.count ≡ after_failure self.old.count) }

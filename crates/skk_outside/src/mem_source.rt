@@ -1,8 +1,10 @@
-ghost use Rattle.std.specs.Prelude.{◌≡◌, ◌↔◌, ◌<◌, ◌≤◌, ◌+◌, ◌^◌, [], length, drop, min, slice_index_or, Some, IsErr, IfOk, OnOk, OnErr};
+ghost use Rattle.std.specs.Prelude.{◌≡◌, ◌↔◌, ◌<◌, ◌≤◌, ◌+◌, ◌^◌, [], length, drop, min, slice_index_or, Some, IsErr};
+ghost use Rattle.std.specs.Prelude.{IfOk, OnOk, OnErr};
 ghost use Rattle.std.specs.Io.{ReadsAtMost};
 ghost use Rattle.std.specs.Io.KnownBytes.{ReadConsumes};
 ghost use Rattle.skk_outside.specs.Faults.{Rose};
-ghost use Rattle.skk_outside.specs.Memory.{no_call_yet, after_success, after_failure, FailsNext, bytes_of_pieces, first_nonempty_piece};
+ghost use Rattle.skk_outside.specs.Memory.{no_call_yet, after_success, after_failure, FailsNext, bytes_of_pieces};
+ghost use Rattle.skk_outside.specs.Memory.{first_nonempty_piece};
 ghost use Rattle.skk_outside.specs.Pieces.{pieces_left};
 
 use crate::calls::Calls;
@@ -58,7 +60,8 @@ impl Source for MemSource {
 
     fn read(&mut self, into: &mut [u8]) -> Result<usize, Failed>
         ensures bound { ReadsAtMost result into.new }
-        ensures bytes { ReadConsumes (Some (bytes_of_pieces self.old.pieces)) (Some (bytes_of_pieces self.new.pieces)) result into.new }
+        ensures bytes { ReadConsumes (Some (bytes_of_pieces self.old.pieces)) (Some (bytes_of_pieces self.new.pieces))
+            result into.new }
         ensures failed { OnErr result (Rose self.old.count.faults self.new.count.faults) }
         ensures counted { self.old.count.faults ≤ self.new.count.faults }
 
@@ -87,8 +90,10 @@ fn place_of_next_byte(pieces: &[Bytes], place: usize, taken: usize) -> (usize, u
     ensures within { result.0 ≤ length pieces.now }
     ensures byte_left { result.0 < length pieces.now → result.1 < length (slice_index_or pieces.now result.0 []) }
     ensures at_end { result.0 ≡ length pieces.now → result.1 ≡ 0 }
-    ensures bytes { bytes_of_pieces (pieces_left result.0 result.1 pieces.now) ≡ bytes_of_pieces (pieces_left place taken pieces.now) }
-    ensures first { first_nonempty_piece (pieces_left result.0 result.1 pieces.now) ≡ first_nonempty_piece (pieces_left place taken pieces.now) }
+    ensures bytes { bytes_of_pieces (pieces_left result.0 result.1 pieces.now)
+        ≡ bytes_of_pieces (pieces_left place taken pieces.now) }
+    ensures first { first_nonempty_piece (pieces_left result.0 result.1 pieces.now)
+        ≡ first_nonempty_piece (pieces_left place taken pieces.now) }
 {
     let mut taken = taken;
     for at in place..pieces.len() {

@@ -39,11 +39,16 @@ impl<R: Read> Source for ReaderSource<R> {
     /// A read that goes well leaves the count of faults, and one that fails raises it by one.
     fn read(&mut self, into: &mut [u8]) -> Result<usize, Failed>
         ensures bound { ReadsAtMost result into.new }
-        ensures bytes { ReadConsumes (⟦<ReaderSource<R> as Source>⟧.left self.old) (⟦<ReaderSource<R> as Source>⟧.left self.new) result into.new }
-        ensures failed { OnErr result (Rose (⟦<ReaderSource<R> as Outside>⟧.faults self.old) (⟦<ReaderSource<R> as Outside>⟧.faults self.new)) }
-        ensures counted { ⟦<ReaderSource<R> as Outside>⟧.faults self.old ≤ ⟦<ReaderSource<R> as Outside>⟧.faults self.new }
-        ensures no_fault { OnOk result (⟦<ReaderSource<R> as Outside>⟧.faults self.new ≡ ⟦<ReaderSource<R> as Outside>⟧.faults self.old) }
-        ensures one_fault { OnErr result (⟦<ReaderSource<R> as Outside>⟧.faults self.new ≡ one_more (⟦<ReaderSource<R> as Outside>⟧.faults self.old)) }
+        ensures bytes { ReadConsumes (⟦<ReaderSource<R> as Source>⟧.left self.old)
+            (⟦<ReaderSource<R> as Source>⟧.left self.new) result into.new }
+        ensures failed { OnErr result
+            (Rose (⟦<ReaderSource<R> as Outside>⟧.faults self.old) (⟦<ReaderSource<R> as Outside>⟧.faults self.new)) }
+        ensures counted { ⟦<ReaderSource<R> as Outside>⟧.faults self.old
+            ≤ ⟦<ReaderSource<R> as Outside>⟧.faults self.new }
+        ensures no_fault { OnOk result
+            (⟦<ReaderSource<R> as Outside>⟧.faults self.new ≡ ⟦<ReaderSource<R> as Outside>⟧.faults self.old) }
+        ensures one_fault { OnErr result (⟦<ReaderSource<R> as Outside>⟧.faults self.new
+            ≡ one_more (⟦<ReaderSource<R> as Outside>⟧.faults self.old)) }
     {
         match self.reader.read(into) {
             Ok(n) => Ok(n),

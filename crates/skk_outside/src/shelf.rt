@@ -1,4 +1,5 @@
-ghost use Rattle.std.specs.Prelude.{◌≡◌, ◌≢◌, ◌≤◌, ◌<◌, ◌^◌, ℕ, Option, List, ◌++◌, length, IfOk, OnErr, IfSome, IsErrOf};
+ghost use Rattle.std.specs.Prelude.{◌≡◌, ◌≢◌, ◌≤◌, ◌<◌, ◌^◌, ℕ, Option, List, ◌++◌, length, IfOk, OnErr, IfSome};
+ghost use Rattle.std.specs.Prelude.{IsErrOf};
 ghost use Rattle.std.specs.Io.{ReadsAtMost};
 ghost use Rattle.skk_outside.specs.Faults.{Rose};
 ghost use Rattle.skk_outside.specs.Shelves.{StandsAt, EndsBy, ReadsFrom};
@@ -35,7 +36,8 @@ pub fn read_named_file<H: Shelf>(
     requires { limit < 2 ^ 62 }
     ensures whole { IfOk result (λ bytes. IfSome (H.file shelf.old name.now) (λ file. bytes ≡ file)) }
     ensures fits { IfOk result (λ bytes. length bytes ≤ limit) }
-    ensures too_long { IsErrOf result ReadFault.TooLong → IfSome (H.file shelf.old name.now) (λ file. limit < length file) }
+    ensures too_long { IsErrOf result ReadFault.TooLong
+        → IfSome (H.file shelf.old name.now) (λ file. limit < length file) }
     ensures failed { IsErrOf result ReadFault.Failed → Rose (H.faults shelf.old) (H.faults shelf.new) }
     ensures counted { H.faults shelf.old ≤ H.faults shelf.new }
     ensures kept { H.file shelf.new ≡ H.file shelf.old }
@@ -63,7 +65,8 @@ fn read_next_piece<H: Shelf>(
 ) -> Result<usize, ReadFault>
     requires { 0 < length piece.old }
     ensures ok { IfOk result (λ n. (added : List ℕ) × (length added ≡ n) × (n ≤ length piece.old)
-        × (bytes.new.items ≡ bytes.old.items ++ added) × StandsAt (H.file shelf.old name.now) (length bytes.old.items) added) }
+        × (bytes.new.items ≡ bytes.old.items ++ added)
+        × StandsAt (H.file shelf.old name.now) (length bytes.old.items) added) }
     ensures end { IfOk result (λ n. n ≡ 0 → EndsBy (H.file shelf.old name.now) (length bytes.old.items)) }
     ensures kept { H.file shelf.new ≡ H.file shelf.old }
     ensures not_too_long { result ≢ Err ReadFault.TooLong }

@@ -41,11 +41,15 @@ impl<W: Write> Sink for WriterSink<W> {
     fn write(&mut self, from: &[u8]) -> Result<usize, Failed>
         ensures bound { WritesAtMost result from.now }
         ensures progress { 0 < length from.now → IfOk result (λ n. 1 ≤ n) }
-        ensures bytes { WriteAppends (⟦<WriterSink<W> as Sink>⟧.written self.old) (⟦<WriterSink<W> as Sink>⟧.written self.new) result from.now }
-        ensures failed { OnErr result (Rose (⟦<WriterSink<W> as Outside>⟧.faults self.old) (⟦<WriterSink<W> as Outside>⟧.faults self.new)) }
+        ensures bytes { WriteAppends (⟦<WriterSink<W> as Sink>⟧.written self.old)
+            (⟦<WriterSink<W> as Sink>⟧.written self.new) result from.now }
+        ensures failed { OnErr result
+            (Rose (⟦<WriterSink<W> as Outside>⟧.faults self.old) (⟦<WriterSink<W> as Outside>⟧.faults self.new)) }
         ensures counted { ⟦<WriterSink<W> as Outside>⟧.faults self.old ≤ ⟦<WriterSink<W> as Outside>⟧.faults self.new }
-        ensures no_fault { OnOk result (⟦<WriterSink<W> as Outside>⟧.faults self.new ≡ ⟦<WriterSink<W> as Outside>⟧.faults self.old) }
-        ensures one_fault { OnErr result (⟦<WriterSink<W> as Outside>⟧.faults self.new ≡ one_more (⟦<WriterSink<W> as Outside>⟧.faults self.old)) }
+        ensures no_fault { OnOk result
+            (⟦<WriterSink<W> as Outside>⟧.faults self.new ≡ ⟦<WriterSink<W> as Outside>⟧.faults self.old) }
+        ensures one_fault { OnErr result
+            (⟦<WriterSink<W> as Outside>⟧.faults self.new ≡ one_more (⟦<WriterSink<W> as Outside>⟧.faults self.old)) }
     {
         match self.writer.write(from) {
             Ok(n) if n > 0 || from.is_empty() => Ok(n),
@@ -55,11 +59,15 @@ impl<W: Write> Sink for WriterSink<W> {
 
     /// A flush that goes well leaves the count of faults, and one that fails raises it by one.
     fn flush(&mut self) -> Result<(), Failed>
-        ensures bytes { Keeps (⟦<WriterSink<W> as Sink>⟧.written self.old) (⟦<WriterSink<W> as Sink>⟧.written self.new) }
-        ensures failed { OnErr result (Rose (⟦<WriterSink<W> as Outside>⟧.faults self.old) (⟦<WriterSink<W> as Outside>⟧.faults self.new)) }
+        ensures bytes { Keeps (⟦<WriterSink<W> as Sink>⟧.written self.old)
+            (⟦<WriterSink<W> as Sink>⟧.written self.new) }
+        ensures failed { OnErr result
+            (Rose (⟦<WriterSink<W> as Outside>⟧.faults self.old) (⟦<WriterSink<W> as Outside>⟧.faults self.new)) }
         ensures counted { ⟦<WriterSink<W> as Outside>⟧.faults self.old ≤ ⟦<WriterSink<W> as Outside>⟧.faults self.new }
-        ensures no_fault { OnOk result (⟦<WriterSink<W> as Outside>⟧.faults self.new ≡ ⟦<WriterSink<W> as Outside>⟧.faults self.old) }
-        ensures one_fault { OnErr result (⟦<WriterSink<W> as Outside>⟧.faults self.new ≡ one_more (⟦<WriterSink<W> as Outside>⟧.faults self.old)) }
+        ensures no_fault { OnOk result
+            (⟦<WriterSink<W> as Outside>⟧.faults self.new ≡ ⟦<WriterSink<W> as Outside>⟧.faults self.old) }
+        ensures one_fault { OnErr result
+            (⟦<WriterSink<W> as Outside>⟧.faults self.new ≡ one_more (⟦<WriterSink<W> as Outside>⟧.faults self.old)) }
     {
         match self.writer.flush() {
             Ok(()) => Ok(()),

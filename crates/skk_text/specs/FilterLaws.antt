@@ -18,7 +18,8 @@ module _ {X : Type 0} (p : X → Bool) where
   list_all_kept [] = refl
   list_all_kept (x ∷ xs) = by (p x) refl (list_all_kept xs)
     where
-      by : (b : Bool) → p x ≡ b → list_all p (filter p xs) ≡ true → list_all p (cond b (x ∷ filter p xs) (filter p xs)) ≡ true
+      by : (b : Bool) → p x ≡ b → list_all p (filter p xs) ≡ true
+          → list_all p (cond b (x ∷ filter p xs) (filter p xs)) ≡ true
       by true e rest = rw e rest
       by false e rest = rest
 
@@ -39,7 +40,8 @@ module _ {X : Type 0} (p : X → Bool) where
       by false fails found rest = rest found
 
 -- what holds of each element holds of what is found
-pub list_all_found : {X : Type 0} (p q : X → Bool) (xs : List X) (x : X) → list_all p xs ≡ true → find q xs ≡ Some x → p x ≡ true
+pub list_all_found : {X : Type 0} (p q : X → Bool) (xs : List X) (x : X) → list_all p xs ≡ true
+    → find q xs ≡ Some x → p x ≡ true
 list_all_found p q [] x all e = cc
 list_all_found {X} p q (y ∷ ys) x all e =
     let parts = and_parts (p y) (list_all p ys) all in
@@ -50,7 +52,8 @@ list_all_found {X} p q (y ∷ ys) x all e =
     by false found here rest = rest found
 
 -- what is found among what is made of items is made of what is found among these
-pub find-map : {X Y : Type 0} (f : X → Y) (p : Y → Bool) (xs : List X) → find p (map f xs) ≡ option_map f (find (λ x. p (f x)) xs)
+pub find-map : {X Y : Type 0} (f : X → Y) (p : Y → Bool) (xs : List X)
+    → find p (map f xs) ≡ option_map f (find (λ x. p (f x)) xs)
 find-map f p [] = refl
 find-map {X} {Y} f p (x ∷ xs) = by (p (f x)) (find-map f p xs)
   where

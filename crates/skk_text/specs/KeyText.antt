@@ -1,5 +1,6 @@
 -- Key text: the one spelling of each key, and what is no spelling.
-use Rattle.std.specs.Prelude.{◌≡◌, ℕ, Bool, true, false, ◌&&◌, ◌==◌, nat_eq, nat_le, if◌then◌else◌, List, [], ◌∷◌, ◌++◌, codes, length}
+use Rattle.std.specs.Prelude.{◌≡◌, ℕ, Bool, true, false, ◌&&◌, ◌==◌, nat_eq, nat_le, if◌then◌else◌, List, [], ◌∷◌, ◌++◌}
+use Rattle.std.specs.Prelude.{codes, length}
 use Rattle.std.specs.List.{flat_map, list_all, list_any, starts_with}
 use Rattle.skk_text.specs.declared.key.Key.{Key}
 use Rattle.skk_text.specs.declared.key.Key.TheVariants.{Char, Cj, Cg, Bs, Ret, Tab, Undo}
@@ -42,7 +43,8 @@ names = codes "<lt>" ∷ codes "<cj>" ∷ codes "<cg>" ∷ codes "<bs>" ∷ code
 
 -- the bytes begin with a `<` (60) that begins none of the seven names
 abbrev pub BeginsBadName : List ℕ → Type 0
-BeginsBadName bytes = (rest : List ℕ) × (bytes ≡ 60 ∷ rest) × (list_any (λ name. starts_with nat_eq bytes name) names ≡ false)
+BeginsBadName bytes =
+    (rest : List ℕ) × (bytes ≡ 60 ∷ rest) × (list_any (λ name. starts_with nat_eq bytes name) names ≡ false)
 
 -- the bytes begin with a byte that is no character key
 abbrev pub BeginsNotAscii : List ℕ → Type 0

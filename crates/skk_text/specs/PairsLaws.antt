@@ -8,7 +8,8 @@ use Rattle.skk_text.specs.Pairs.{all_pairs}
 
 module _ {X : Type 0} (test : X → Bool) where
   -- what each item passes, each that a filter keeps passes
-  pub list_all-filter : (keeps : X → Bool) (xs : List X) → list_all test xs ≡ true → list_all test (filter keeps xs) ≡ true
+  pub list_all-filter : (keeps : X → Bool) (xs : List X) → list_all test xs ≡ true
+      → list_all test (filter keeps xs) ≡ true
   list_all-filter keeps [] all = refl
   list_all-filter keeps (x ∷ xs) all =
       let parts = and_parts (test x) (list_all test xs) all in
@@ -37,7 +38,8 @@ module _ {X : Type 0} (test : X → Bool) where
 
 module _ {X : Type 0} (test : X → X → Bool) where
   -- of a list of which every two items stand in a relation, so do those that a filter keeps
-  pub all_pairs-filter : (keeps : X → Bool) (xs : List X) → all_pairs test xs ≡ true → all_pairs test (filter keeps xs) ≡ true
+  pub all_pairs-filter : (keeps : X → Bool) (xs : List X) → all_pairs test xs ≡ true
+      → all_pairs test (filter keeps xs) ≡ true
   all_pairs-filter keeps [] all = refl
   all_pairs-filter keeps (x ∷ xs) all =
       let parts = and_parts (list_all (test x) xs) (all_pairs test xs) all in
@@ -54,29 +56,34 @@ module _ {X : Type 0} (test : X → X → Bool) where
   all_pairs-take (suc count) [] all = refl
   all_pairs-take (suc count) (x ∷ xs) all =
       let parts = and_parts (list_all (test x) xs) (all_pairs test xs) all in
-      and_from (list_all (test x) (take count xs)) (all_pairs test (take count xs)) (list_all-take (test x) count xs parts.0)
-      (all_pairs-take count xs parts.1)
+      and_from (list_all (test x) (take count xs)) (all_pairs test (take count xs))
+      (list_all-take (test x) count xs parts.0) (all_pairs-take count xs parts.1)
 
 -- what is made of each two items passes a test as these pass it
-pub all_pairs-map : {X Y : Type 0} (f : X → Y) (test : Y → Y → Bool) (xs : List X) → all_pairs test (map f xs) ≡ all_pairs (λ x y. test (f x) (f y)) xs
+pub all_pairs-map : {X Y : Type 0} (f : X → Y) (test : Y → Y → Bool) (xs : List X)
+    → all_pairs test (map f xs) ≡ all_pairs (λ x y. test (f x) (f y)) xs
 all_pairs-map f test [] = refl
 all_pairs-map f test (x ∷ xs) =
     ap (λ b. b && all_pairs test (map f xs)) (list_all-map (test (f x)) f xs)
     ∙ ap (λ b. list_all (λ y. test (f x) (f y)) xs && b) (all_pairs-map f test xs)
 
 -- what each two items pass, they pass of another test that is no harder
-pub pairs_weaker : {X : Type 0} (test other : X → X → Bool) → ((x y : X) → test x y ≡ true → other x y ≡ true) → (xs : List X) → all_pairs test xs ≡ true → all_pairs other xs ≡ true
+pub pairs_weaker : {X : Type 0} (test other : X → X → Bool) → ((x y : X) → test x y ≡ true → other x y ≡ true)
+    → (xs : List X) → all_pairs test xs ≡ true → all_pairs other xs ≡ true
 pairs_weaker test other so [] pairs = refl
 pairs_weaker test other so (x ∷ xs) pairs =
     let parts = and_parts (list_all (test x) xs) (all_pairs test xs) pairs in
-    and_from (list_all (other x) xs) (all_pairs other xs) (list_all-weaker (test x) (other x) (so x) xs parts.0) (pairs_weaker test other so xs parts.1)
+    and_from (list_all (other x) xs) (all_pairs other xs) (list_all-weaker (test x) (other x) (so x) xs parts.0)
+    (pairs_weaker test other so xs parts.1)
 
 -- what each two items pass, and each with each of others, which pass it too, all of them pass
-pub pairs_appended : {X : Type 0} (test : X → X → Bool) (xs ys : List X) → all_pairs test xs ≡ true → all_pairs test ys ≡ true → list_all (λ x. list_all (test x) ys) xs ≡ true
+pub pairs_appended : {X : Type 0} (test : X → X → Bool) (xs ys : List X) → all_pairs test xs ≡ true
+    → all_pairs test ys ≡ true → list_all (λ x. list_all (test x) ys) xs ≡ true
     → all_pairs test (xs ++ ys) ≡ true
 pairs_appended test [] ys first second across = second
 pairs_appended test (x ∷ xs) ys first second across =
     let parts = and_parts (list_all (test x) xs) (all_pairs test xs) first in
     let others = and_parts (list_all (test x) ys) (list_all (λ x. list_all (test x) ys) xs) across in
-    and_from (list_all (test x) (xs ++ ys)) (all_pairs test (xs ++ ys)) (list_all-append (test x) xs ys ∙ and_from (list_all (test x) xs) (list_all (test x) ys) parts.0 others.0)
+    and_from (list_all (test x) (xs ++ ys)) (all_pairs test (xs ++ ys))
+    (list_all-append (test x) xs ys ∙ and_from (list_all (test x) xs) (list_all (test x) ys) parts.0 others.0)
     (pairs_appended test xs ys parts.1 second others.1)

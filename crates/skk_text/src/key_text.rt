@@ -1,7 +1,8 @@
 ghost use Rattle.std.specs.Prelude.{◌≡◌, ◌≢◌, ◌<◌, ◌+◌, ◌++◌, ℕ, List, length, drop, nat_eq, true, false};
 ghost use Rattle.std.specs.Prelude.{IfOk, OnOk, IsErrOf, IfSome, IsNone, Ok, Err};
 ghost use Rattle.std.specs.List.{list_any, starts_with};
-ghost use Rattle.skk_text.specs.KeyText.{spell, spelled, is_keyboard_key, is_printable, names, AreKeys, BeginsBadName, BeginsNotAscii, HasBadName, HasNotAscii};
+ghost use Rattle.skk_text.specs.KeyText.{spell, spelled, is_keyboard_key, is_printable, names, AreKeys, BeginsBadName};
+ghost use Rattle.skk_text.specs.KeyText.{BeginsNotAscii, HasBadName, HasNotAscii};
 ghost use Rattle.skk_text.specs.Results.{AnswersUnless};
 ghost use Rattle.skk_text.specs.declared.key.Key.{Key};
 
@@ -39,11 +40,14 @@ impl From<Memory> for KeyFault {
 /// Reads key text. The first fault is answered.
 pub fn read_keys(alloc: Global, bytes: &[u8]) -> Result<Keys, KeyFault>
     ensures found { IfOk result (λ keys. AreKeys keys × (spelled keys ≡ bytes.now)) }
-    ensures only_keys { (keys : List Key) → AreKeys keys → spelled keys ≡ bytes.now → AnswersUnless KeyFault.Memory result (Ok keys) }
+    ensures only_keys { (keys : List Key) → AreKeys keys → spelled keys ≡ bytes.now
+        → AnswersUnless KeyFault.Memory result (Ok keys) }
     ensures bad_name { (at : ℕ) → IsErrOf result (KeyFault.BadName at) → HasBadName bytes.now at }
-    ensures only_bad_name { (at : ℕ) → HasBadName bytes.now at → AnswersUnless KeyFault.Memory result (Err (KeyFault.BadName at)) }
+    ensures only_bad_name { (at : ℕ) → HasBadName bytes.now at
+        → AnswersUnless KeyFault.Memory result (Err (KeyFault.BadName at)) }
     ensures not_ascii { (at : ℕ) → IsErrOf result (KeyFault.NotAscii at) → HasNotAscii bytes.now at }
-    ensures only_not_ascii { (at : ℕ) → HasNotAscii bytes.now at → AnswersUnless KeyFault.Memory result (Err (KeyFault.NotAscii at)) }
+    ensures only_not_ascii { (at : ℕ) → HasNotAscii bytes.now at
+        → AnswersUnless KeyFault.Memory result (Err (KeyFault.NotAscii at)) }
 {
     let mut keys = Keys::new(alloc);
     let mut at = 0;
@@ -64,8 +68,10 @@ fn key_at(bytes: &[u8], at: usize) -> Result<(Key, usize), KeyFault>
     requires { at < length bytes.now }
     ensures ok { IfOk result (λ found. (is_keyboard_key found.0 ≡ true) × (found.1 ≡ length (spell found.0))
         × (drop at bytes.now ≡ spell found.0 ++ drop (at + found.1) bytes.now)) }
-    ensures bad_name { (place : ℕ) → IsErrOf result (KeyFault.BadName place) → (place ≡ at) × BeginsBadName (drop at bytes.now) }
-    ensures not_ascii { (place : ℕ) → IsErrOf result (KeyFault.NotAscii place) → (place ≡ at) × BeginsNotAscii (drop at bytes.now) }
+    ensures bad_name { (place : ℕ) → IsErrOf result (KeyFault.BadName place)
+        → (place ≡ at) × BeginsBadName (drop at bytes.now) }
+    ensures not_ascii { (place : ℕ) → IsErrOf result (KeyFault.NotAscii place)
+        → (place ≡ at) × BeginsNotAscii (drop at bytes.now) }
     ensures no_memory { result ≢ Err KeyFault.Memory }
 {
     let byte = bytes[at];

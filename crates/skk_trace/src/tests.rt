@@ -39,7 +39,10 @@ impl<D: Disk> Shows<Event> for Answered<'_, D> {
 
 // Three answers of a disk, in order.
 fn three_answers<D: Disk>(alloc: Global, disk: &D) -> Result<Trace<Event>, AllocError>
-    ensures { IfOk result (λ trace. trace ≡ record { blocks = D.blocks disk.now; full = false } ∷ record { blocks = D.blocks disk.now; full = true } ∷ record { blocks = D.blocks disk.now; full = false } ∷ []) }
+    ensures { IfOk result (λ trace. trace ≡ record {
+      blocks = D.blocks disk.now;
+      full = false;
+    } ∷ record { blocks = D.blocks disk.now; full = true } ∷ record { blocks = D.blocks disk.now; full = false } ∷ []) }
 {
     let mut trace = Trace::new(alloc, &Answered { disk, full: false })?;
     trace.note(&Answered { disk, full: true });

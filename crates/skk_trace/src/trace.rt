@@ -22,7 +22,8 @@ impl<E> Model for Trace<E> {
 
     ghost view = { λ trace. trace.seat.me.0 };
 
-    ghost invariant = { λ trace. (trace.seat.table_id ≡ trace.table.shared.table_id) × (trace.table.shared.table_id.words ≡ 1) };
+    ghost invariant = { λ trace. (trace.seat.table_id ≡ trace.table.shared.table_id)
+        × (trace.table.shared.table_id.words ≡ 1) };
 }
 
 impl<E> Trace<E> {

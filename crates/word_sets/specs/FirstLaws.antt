@@ -1,5 +1,6 @@
 -- What holds of the first of each text, and of items that are added one by one where their texts are new.
-use Rattle.std.proofs.Common.{◌≡◌, ℕ, Bool, true, false, cond, not, ◌&&◌, ◌||◌, List, [], ◌∷◌, ◌++◌, map, refl, sym, ap, ◌∙◌, append_assoc}
+use Rattle.std.proofs.Common.{◌≡◌, ℕ, Bool, true, false, cond, not, ◌&&◌, ◌||◌, List, [], ◌∷◌, ◌++◌, map, refl, sym, ap}
+use Rattle.std.proofs.Common.{◌∙◌, append_assoc}
 use Rattle.std.specs.List.{filter, fold, list_all}
 use Rattle.std.proofs.lemmas.Bool.{and_from, and_parts, not-true}
 use Rattle.std.proofs.lemmas.List.{append-nil, map-append}
@@ -40,26 +41,32 @@ or_turned false false c = refl
 
 module _ {X : Type 0} (text_of : X → List ℕ) where
   -- the texts of items with one more at their end
-  texts_pushed : (xs : List X) (y : X) (text : List ℕ) → has_text (map text_of (xs ++ y ∷ [])) text ≡ (same_text text (text_of y) || has_text (map text_of xs) text)
+  texts_pushed : (xs : List X) (y : X) (text : List ℕ)
+      → has_text (map text_of (xs ++ y ∷ [])) text ≡ (same_text text (text_of y) || has_text (map text_of xs) text)
   texts_pushed xs y text =
       ap (λ texts. has_text texts text) (map-append text_of xs (y ∷ []))
       ∙ list_any-append (same_text text) (map text_of xs) (text_of y ∷ [])
       ∙ or_last (has_text (map text_of xs) text) (same_text text (text_of y))
 
   -- the texts with one more item are the same whether its text was new or not
-  pub with_new-texts : (xs : List X) (y : X) (text : List ℕ) → has_text (map text_of (with_new text_of xs y)) text ≡ (same_text text (text_of y) || has_text (map text_of xs) text)
+  pub with_new-texts : (xs : List X) (y : X) (text : List ℕ) → has_text (map text_of (with_new text_of xs y)) text
+      ≡ (same_text text (text_of y) || has_text (map text_of xs) text)
   with_new-texts xs y text = by (has_text (map text_of xs) (text_of y)) refl
     where
-      known : has_text (map text_of xs) (text_of y) ≡ true → (b : Bool) → same_text text (text_of y) ≡ b → has_text (map text_of xs) text ≡ (b || has_text (map text_of xs) text)
+      known : has_text (map text_of xs) (text_of y) ≡ true → (b : Bool) → same_text text (text_of y) ≡ b
+          → has_text (map text_of xs) text ≡ (b || has_text (map text_of xs) text)
       known there true e = ap (has_text (map text_of xs)) (same_equal text (text_of y) e) ∙ there
       known there false e = refl
 
-      by : (b : Bool) → has_text (map text_of xs) (text_of y) ≡ b → has_text (map text_of (cond b xs (xs ++ y ∷ []))) text ≡ (same_text text (text_of y) || has_text (map text_of xs) text)
+      by : (b : Bool) → has_text (map text_of xs) (text_of y) ≡ b
+          → has_text (map text_of (cond b xs (xs ++ y ∷ []))) text
+          ≡ (same_text text (text_of y) || has_text (map text_of xs) text)
       by true e = known e (same_text text (text_of y)) refl
       by false e = texts_pushed xs y text
 
   -- the texts of items to which others were added one by one
-  pub fold_new-texts : (xs ys : List X) (text : List ℕ) → has_text (map text_of (fold (with_new text_of) xs ys)) text ≡ (has_text (map text_of xs) text || has_text (map text_of ys) text)
+  pub fold_new-texts : (xs ys : List X) (text : List ℕ) → has_text (map text_of (fold (with_new text_of) xs ys)) text
+      ≡ (has_text (map text_of xs) text || has_text (map text_of ys) text)
   fold_new-texts xs [] text = sym (or_none (has_text (map text_of xs) text))
   fold_new-texts xs (y ∷ ys) text =
       fold_new-texts (with_new text_of xs y) ys text
@@ -67,53 +74,69 @@ module _ {X : Type 0} (text_of : X → List ℕ) where
       ∙ or_turned (same_text text (text_of y)) (has_text (map text_of xs) text) (has_text (map text_of ys) text)
 
   -- the texts differ still
-  pub with_new-differ : (xs : List X) (y : X) → texts_differ (map text_of xs) ≡ true → texts_differ (map text_of (with_new text_of xs y)) ≡ true
+  pub with_new-differ : (xs : List X) (y : X) → texts_differ (map text_of xs) ≡ true
+      → texts_differ (map text_of (with_new text_of xs y)) ≡ true
   with_new-differ xs y differ = by (has_text (map text_of xs) (text_of y)) refl
     where
-      by : (b : Bool) → has_text (map text_of xs) (text_of y) ≡ b → texts_differ (map text_of (cond b xs (xs ++ y ∷ []))) ≡ true
+      by : (b : Bool) → has_text (map text_of xs) (text_of y) ≡ b
+          → texts_differ (map text_of (cond b xs (xs ++ y ∷ []))) ≡ true
       by true e = differ
       by false e = ap texts_differ (map-append text_of xs (y ∷ [])) ∙ differ_end (map text_of xs) (text_of y) differ e
 
-  pub fold_new-differ : (xs ys : List X) → texts_differ (map text_of xs) ≡ true → texts_differ (map text_of (fold (with_new text_of) xs ys)) ≡ true
+  pub fold_new-differ : (xs ys : List X) → texts_differ (map text_of xs) ≡ true
+      → texts_differ (map text_of (fold (with_new text_of) xs ys)) ≡ true
   fold_new-differ xs [] differ = differ
   fold_new-differ xs (y ∷ ys) differ = fold_new-differ (with_new text_of xs y) ys (with_new-differ xs y differ)
 
   -- what holds of all holds of those that are added
-  pub with_new-all : (p : X → Bool) (xs : List X) (y : X) → list_all p xs ≡ true → p y ≡ true → list_all p (with_new text_of xs y) ≡ true
+  pub with_new-all : (p : X → Bool) (xs : List X) (y : X) → list_all p xs ≡ true → p y ≡ true
+      → list_all p (with_new text_of xs y) ≡ true
   with_new-all p xs y all one = by (has_text (map text_of xs) (text_of y))
     where
       by : (b : Bool) → list_all p (cond b xs (xs ++ y ∷ [])) ≡ true
       by true = all
-      by false = list_all-append p xs (y ∷ []) ∙ and_from (list_all p xs) (p y && true) all (and_from (p y) true one refl)
+      by false =
+          list_all-append p xs (y ∷ []) ∙ and_from (list_all p xs) (p y && true) all (and_from (p y) true one refl)
 
-  pub fold_new-all : (p : X → Bool) (xs ys : List X) → list_all p xs ≡ true → list_all p ys ≡ true → list_all p (fold (with_new text_of) xs ys) ≡ true
+  pub fold_new-all : (p : X → Bool) (xs ys : List X) → list_all p xs ≡ true → list_all p ys ≡ true
+      → list_all p (fold (with_new text_of) xs ys) ≡ true
   fold_new-all p xs [] all more = all
   fold_new-all p xs (y ∷ ys) all more =
       let parts = and_parts (p y) (list_all p ys) more in
       fold_new-all p (with_new text_of xs y) ys (with_new-all p xs y all parts.0) parts.1
 
   -- of items that a text differs from, the same are new where an item of that text is added
-  still_new : (xs : List X) (x : X) (ys : List X) → list_all (λ other. not (same_text (text_of x) other)) (map text_of ys) ≡ true
-      → filter (λ y. not (has_text (map text_of (xs ++ x ∷ [])) (text_of y))) ys ≡ filter (λ y. not (has_text (map text_of xs) (text_of y))) ys
+  still_new : (xs : List X) (x : X) (ys : List X)
+      → list_all (λ other. not (same_text (text_of x) other)) (map text_of ys) ≡ true
+      → filter (λ y. not (has_text (map text_of (xs ++ x ∷ [])) (text_of y))) ys
+      ≡ filter (λ y. not (has_text (map text_of xs) (text_of y))) ys
   still_new xs x [] unlike = refl
   still_new xs x (y ∷ ys) unlike =
-      let parts = and_parts (not (same_text (text_of x) (text_of y))) (list_all (λ other. not (same_text (text_of x) other)) (map text_of ys)) unlike in
-      let other : same_text (text_of y) (text_of x) ≡ false = same_other (text_of y) (text_of x) ∙ not-true (same_text (text_of x) (text_of y)) parts.0 in
+      let parts = and_parts (not (same_text (text_of x) (text_of y)))
+      (list_all (λ other. not (same_text (text_of x) other)) (map text_of ys)) unlike in
+      let other : same_text (text_of y) (text_of x) ≡ false =
+      same_other (text_of y) (text_of x) ∙ not-true (same_text (text_of x) (text_of y)) parts.0 in
       let same : has_text (map text_of (xs ++ x ∷ [])) (text_of y) ≡ has_text (map text_of xs) (text_of y) =
       texts_pushed xs x (text_of y) ∙ ap (λ b. b || has_text (map text_of xs) (text_of y)) other in
-      ap (λ b. cond (not b) (y ∷ filter (λ z. not (has_text (map text_of (xs ++ x ∷ [])) (text_of z))) ys) (filter (λ z. not (has_text (map text_of (xs ++ x ∷ [])) (text_of z))) ys)) same
+      ap (λ b. cond (not b) (y ∷ filter (λ z. not (has_text (map text_of (xs ++ x ∷ [])) (text_of z))) ys)
+      (filter (λ z. not (has_text (map text_of (xs ++ x ∷ [])) (text_of z))) ys)) same
       ∙ ap (λ zs. cond (not (has_text (map text_of xs) (text_of y))) (y ∷ zs) zs) (still_new xs x ys parts.1)
 
   -- of items whose texts differ, those come to the end whose texts are new
-  pub fold_new-apart : (xs ys : List X) → texts_differ (map text_of ys) ≡ true → fold (with_new text_of) xs ys ≡ xs ++ filter (λ y. not (has_text (map text_of xs) (text_of y))) ys
+  pub fold_new-apart : (xs ys : List X) → texts_differ (map text_of ys) ≡ true
+      → fold (with_new text_of) xs ys ≡ xs ++ filter (λ y. not (has_text (map text_of xs) (text_of y))) ys
   fold_new-apart xs [] differ = sym (append-nil xs)
   fold_new-apart xs (y ∷ ys) differ =
-      let parts = and_parts (list_all (λ other. not (same_text (text_of y) other)) (map text_of ys)) (texts_differ (map text_of ys)) differ in
+      let parts = and_parts (list_all (λ other. not (same_text (text_of y) other)) (map text_of ys))
+      (texts_differ (map text_of ys)) differ in
       by (has_text (map text_of xs) (text_of y)) parts.0 (λ zs. fold_new-apart zs ys parts.1)
     where
       by : (b : Bool) → list_all (λ other. not (same_text (text_of y) other)) (map text_of ys) ≡ true
-          → ((zs : List X) → fold (with_new text_of) zs ys ≡ zs ++ filter (λ z. not (has_text (map text_of zs) (text_of z))) ys)
-          → fold (with_new text_of) (cond b xs (xs ++ y ∷ [])) ys ≡ xs ++ cond (not b) (y ∷ filter (λ z. not (has_text (map text_of xs) (text_of z))) ys) (filter (λ z. not (has_text (map text_of xs) (text_of z))) ys)
+          → ((zs : List X)
+          → fold (with_new text_of) zs ys ≡ zs ++ filter (λ z. not (has_text (map text_of zs) (text_of z))) ys)
+          → fold (with_new text_of) (cond b xs (xs ++ y ∷ [])) ys
+          ≡ xs ++ cond (not b) (y ∷ filter (λ z. not (has_text (map text_of xs) (text_of z))) ys)
+          (filter (λ z. not (has_text (map text_of xs) (text_of z))) ys)
       by true unlike rest = rest xs
       by false unlike rest =
           rest (xs ++ y ∷ []) ∙ ap (λ zs. (xs ++ y ∷ []) ++ zs) (still_new xs y ys unlike)
@@ -130,13 +153,18 @@ module _ {X : Type 0} (text_of : X → List ℕ) where
   -- The first of each
 
   -- what is first among the texts that were not seen is added to items of these texts
-  first_unseen : (seen : List (List ℕ)) (xs ys : List X) → ((text : List ℕ) → has_text seen text ≡ has_text (map text_of xs) text) → xs ++ first_of_each text_of seen ys ≡ fold (with_new text_of) xs ys
+  first_unseen : (seen : List (List ℕ)) (xs ys : List X)
+      → ((text : List ℕ) → has_text seen text ≡ has_text (map text_of xs) text)
+      → xs ++ first_of_each text_of seen ys ≡ fold (with_new text_of) xs ys
   first_unseen seen xs [] same = append-nil xs
   first_unseen seen xs (y ∷ ys) same = by (has_text seen (text_of y)) refl (λ texts zs. first_unseen texts zs ys)
     where
       by : (b : Bool) → has_text seen (text_of y) ≡ b
-          → ((texts : List (List ℕ)) (zs : List X) → ((text : List ℕ) → has_text texts text ≡ has_text (map text_of zs) text) → zs ++ first_of_each text_of texts ys ≡ fold (with_new text_of) zs ys)
-          → xs ++ cond b (first_of_each text_of seen ys) (y ∷ first_of_each text_of (text_of y ∷ seen) ys) ≡ fold (with_new text_of) (with_new text_of xs y) ys
+          → ((texts : List (List ℕ)) (zs : List X)
+          → ((text : List ℕ) → has_text texts text ≡ has_text (map text_of zs) text)
+          → zs ++ first_of_each text_of texts ys ≡ fold (with_new text_of) zs ys)
+          → xs ++ cond b (first_of_each text_of seen ys) (y ∷ first_of_each text_of (text_of y ∷ seen) ys)
+          ≡ fold (with_new text_of) (with_new text_of xs y) ys
       by true e rest =
           let there : has_text (map text_of xs) (text_of y) ≡ true = sym (same (text_of y)) ∙ e in
           rw there (rest seen xs same)
@@ -144,7 +172,8 @@ module _ {X : Type 0} (text_of : X → List ℕ) where
           let none : has_text (map text_of xs) (text_of y) ≡ false = sym (same (text_of y)) ∙ e in
           rw none (
           sym (append_assoc xs (y ∷ []) (first_of_each text_of (text_of y ∷ seen) ys))
-          ∙ rest (text_of y ∷ seen) (xs ++ y ∷ []) (λ text. ap (λ b. same_text text (text_of y) || b) (same text) ∙ sym (texts_pushed xs y text))
+          ∙ rest (text_of y ∷ seen) (xs ++ y ∷ [])
+          (λ text. ap (λ b. same_text text (text_of y) || b) (same text) ∙ sym (texts_pushed xs y text))
           )
 
   -- the first of each are what is added one by one
@@ -152,20 +181,26 @@ module _ {X : Type 0} (text_of : X → List ℕ) where
   first_of_each-fold xs = first_unseen [] [] xs (λ text. refl)
 
   -- one more item
-  pub first_of_each-push : (xs : List X) (y : X) → first_of_each text_of [] (xs ++ y ∷ []) ≡ with_new text_of (first_of_each text_of [] xs) y
+  pub first_of_each-push : (xs : List X) (y : X)
+      → first_of_each text_of [] (xs ++ y ∷ []) ≡ with_new text_of (first_of_each text_of [] xs) y
   first_of_each-push xs y =
-      first_of_each-fold (xs ++ y ∷ []) ∙ fold-append (with_new text_of) [] xs (y ∷ []) ∙ ap (λ zs. with_new text_of zs y) (sym (first_of_each-fold xs))
+      first_of_each-fold (xs ++ y ∷ []) ∙ fold-append (with_new text_of) [] xs (y ∷ [])
+      ∙ ap (λ zs. with_new text_of zs y) (sym (first_of_each-fold xs))
 
   -- the texts of the first of each are those of all
-  pub first_of_each-texts : (xs : List X) (text : List ℕ) → has_text (map text_of (first_of_each text_of [] xs)) text ≡ has_text (map text_of xs) text
-  first_of_each-texts xs text = ap (λ zs. has_text (map text_of zs) text) (first_of_each-fold xs) ∙ fold_new-texts [] xs text
+  pub first_of_each-texts : (xs : List X) (text : List ℕ)
+      → has_text (map text_of (first_of_each text_of [] xs)) text ≡ has_text (map text_of xs) text
+  first_of_each-texts xs text =
+      ap (λ zs. has_text (map text_of zs) text) (first_of_each-fold xs) ∙ fold_new-texts [] xs text
 
   -- the texts of the first of each differ
   pub first_of_each-differ : (xs : List X) → texts_differ (map text_of (first_of_each text_of [] xs)) ≡ true
-  first_of_each-differ xs = ap (λ zs. texts_differ (map text_of zs)) (first_of_each-fold xs) ∙ fold_new-differ [] xs refl
+  first_of_each-differ xs =
+      ap (λ zs. texts_differ (map text_of zs)) (first_of_each-fold xs) ∙ fold_new-differ [] xs refl
 
   -- what holds of all holds of the first of each
-  pub first_of_each-all : (p : X → Bool) (xs : List X) → list_all p xs ≡ true → list_all p (first_of_each text_of [] xs) ≡ true
+  pub first_of_each-all : (p : X → Bool) (xs : List X) → list_all p xs ≡ true
+      → list_all p (first_of_each text_of [] xs) ≡ true
   first_of_each-all p xs all = ap (list_all p) (first_of_each-fold xs) ∙ fold_new-all p [] xs refl all
 
   -- items whose texts differ are all the first of theirs
@@ -175,13 +210,15 @@ module _ {X : Type 0} (text_of : X → List ℕ) where
 -- Texts that are added one by one
 
 -- texts differ still
-pub texts_with_new-differ : (texts : List (List ℕ)) (text : List ℕ) → texts_differ texts ≡ true → texts_differ (with_new (λ t. t) texts text) ≡ true
+pub texts_with_new-differ : (texts : List (List ℕ)) (text : List ℕ) → texts_differ texts ≡ true
+    → texts_differ (with_new (λ t. t) texts text) ≡ true
 texts_with_new-differ texts text differ =
     ap texts_differ (sym (texts_stay (with_new (λ t. t) texts text)))
     ∙ with_new-differ (λ t. t) texts text (ap texts_differ (texts_stay texts) ∙ differ)
 
 -- the texts to which others were added one by one have those of both
-pub texts_fold_new : (texts others : List (List ℕ)) (text : List ℕ) → has_text (fold (with_new (λ t. t)) texts others) text ≡ (has_text texts text || has_text others text)
+pub texts_fold_new : (texts others : List (List ℕ)) (text : List ℕ)
+    → has_text (fold (with_new (λ t. t)) texts others) text ≡ (has_text texts text || has_text others text)
 texts_fold_new texts others text =
     ap (λ ts. has_text ts text) (sym (texts_stay (fold (with_new (λ t. t)) texts others)))
     ∙ fold_new-texts (λ t. t) texts others text

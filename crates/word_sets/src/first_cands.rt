@@ -8,8 +8,8 @@ use skk_text::{Memory, Text};
 use std::alloc::Global;
 use std::marker::Model;
 
-/// Candidates in the order in which they came, the first of each word. Any texts may be inserted: whether a word and a note
-/// are a candidate is asked where all are taken out.
+/// Candidates in the order in which they came, the first of each word. Any texts may be inserted: whether a word and a
+/// note are a candidate is asked where all are taken out.
 #[derive(Drop)]
 pub struct FirstCands {
     notes: IndexMap<String, String>,
@@ -58,7 +58,8 @@ impl FirstCands {
         Ok(true)
     }
 
-    /// Adds a candidate, whose texts are moved, at the end unless its word is there, and answers whether it is a new one.
+    /// Adds a candidate, whose texts are moved, at the end unless its word is there,
+    /// and answers whether it is a new one.
     pub fn insert_cand(&mut self, cand: Cand) -> Result<bool, Memory>
         ensures ok { OnOk result (self.new ≡ with_new (λ cand. cand.word) self.old cand) }
         ensures is_new { IfOk result (λ is_new. is_new ≡ not (has_text (words_of self.old) cand.word)) }

@@ -4,7 +4,9 @@ use Rattle.dict_laws.proofs.TwoBooks.{found_alike, completions_alike}
 use Rattle.dict_laws.proofs.laws.answers_depend_on_two_books.Goals as goal
 
 pub returns-clause-lookup : goal.returns-clause-lookup
-returns-clause-lookup c files state other who own shared key okuri = ap Found (found_alike files state other who own shared key okuri)
+returns-clause-lookup c files state other who own shared key okuri =
+    ap Found (found_alike files state other who own shared key okuri)
 
 pub returns-clause-complete : goal.returns-clause-complete
-returns-clause-complete c files state other who own shared prefix = ap Readings (completions_alike files state other who own shared prefix)
+returns-clause-complete c files state other who own shared prefix =
+    ap Readings (completions_alike files state other who own shared prefix)

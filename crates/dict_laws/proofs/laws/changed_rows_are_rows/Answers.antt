@@ -1,5 +1,5 @@
--- The row after a change is a row by the parts of the row before. No part but the hidden words asks for these, so the others
--- are those of the row before without its hidden words, which need not be words here.
+-- The row after a change is a row by the parts of the row before. No part but the hidden words asks for these, so the
+-- others are those of the row before without its hidden words, which need not be words here.
 use Rattle.std.proofs.Common.{◌≡◌, ℕ, true, not, None, Some, Option, List, [], refl}
 use Rattle.std.specs.Option.{IfSome}
 use Rattle.skk_calls.specs.Dictionary.{is_okuri_or_none, is_row_or_none}
@@ -22,7 +22,15 @@ bare_parts key row same is =
     let parts = row_parts row is in
     record {
       same_text = same;
-      parts = record { key = parts.key; cands = parts.cands; words = parts.words; part = parts.part; blocks = parts.blocks; okuri = parts.okuri; hides = refl };
+      parts = record {
+        key = parts.key;
+        cands = parts.cands;
+        words = parts.words;
+        part = parts.part;
+        blocks = parts.blocks;
+        okuri = parts.okuri;
+        hides = refl;
+      };
       hidden = refl;
     }
 
@@ -35,7 +43,8 @@ returns-clause-learnt c = learnt_row
     learnt_row None key okuri cand stamp is same was okuri_is cand_is =
         learnt_is_row None key okuri cand stamp is okuri_is cand_is (before_parts 0 key None is refl refl)
     learnt_row (Some row) key okuri cand stamp is same was okuri_is cand_is =
-        let parts = learnt_parts (Some (bare row)) key okuri cand stamp is okuri_is cand_is (bare_parts key row same was) in
+        let parts =
+        learnt_parts (Some (bare row)) key okuri cand stamp is okuri_is cand_is (bare_parts key row same was) in
         row_from_parts (learnt (Some row) key okuri cand stamp)
         (record {
           key = parts.key;
@@ -53,7 +62,8 @@ returns-clause-purged c = purged_row
     purged_row : (before : Option Row) (key : RowKey) (word : List ℕ) (stamp : ℕ)
         → is_row_key key ≡ true → IfSome before (λ row. row.key ≡ key) → is_row_or_none before ≡ true
         → is_row (purged before key word stamp) ≡ true
-    purged_row None key word stamp is same was = purged_is_row None key word stamp is (before_parts 0 key None is refl refl)
+    purged_row None key word stamp is same was =
+        purged_is_row None key word stamp is (before_parts 0 key None is refl refl)
     purged_row (Some row) key word stamp is same was =
         let parts = purged_parts (Some (bare row)) key word stamp is (bare_parts key row same was) in
         row_from_parts (purged (Some row) key word stamp)

@@ -25,4 +25,5 @@ pub returns-clause-go_on : goal.returns-clause-go_on
 returns-clause-go_on c files state who prefix =
     let readings = all_readings files state who prefix in
     list_all-take (goes_on_from prefix) completion_limit (firsts readings)
-    (list_all-first_of_each (λ reading. reading) (goes_on_from prefix) [] readings (all_readings_go_on files state who prefix))
+    (list_all-first_of_each (λ reading. reading) (goes_on_from prefix) [] readings
+    (all_readings_go_on files state who prefix))

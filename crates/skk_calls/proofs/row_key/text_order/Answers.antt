@@ -13,7 +13,11 @@ ordered c =
     ∙ ap (slice_cmp nat_cmp (encode_utf8_all c.args.text.now)) c.bytes_of-2.ensures
 
 pub returns-clause-equal : goal.returns-clause-equal
-returns-clause-equal c = ap is_eq (ordered (goal.at.returns-clause-equal c).After-cmp) ∙ is_eq-slice_cmp-texts c.args.text.now c.args.other.now
+returns-clause-equal c =
+    ap is_eq (ordered (goal.at.returns-clause-equal c).After-cmp)
+    ∙ is_eq-slice_cmp-texts c.args.text.now c.args.other.now
 
 pub returns-clause-greater : goal.returns-clause-greater
-returns-clause-greater c = ap is_gt (ordered (goal.at.returns-clause-greater c).After-cmp) ∙ is_gt-slice_cmp-texts c.args.text.now c.args.other.now
+returns-clause-greater c =
+    ap is_gt (ordered (goal.at.returns-clause-greater c).After-cmp)
+    ∙ is_gt-slice_cmp-texts c.args.text.now c.args.other.now

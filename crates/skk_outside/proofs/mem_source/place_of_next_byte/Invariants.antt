@@ -7,6 +7,8 @@ use Rattle.skk_outside.proofs.mem_source.place_of_next_byte.Given as goal
 abbrev pub invariant-loop-at : goal.invariant-loop-at
 invariant-loop-at l = record {
   within : l.taken ≤ length (slice_index_or l.pieces l.at []);
-  bytes : bytes_of_pieces (pieces_left l.at l.taken l.pieces) ≡ bytes_of_pieces (pieces_left l.fn.place l.fn.taken l.pieces);
-  first : first_nonempty_piece (pieces_left l.at l.taken l.pieces) ≡ first_nonempty_piece (pieces_left l.fn.place l.fn.taken l.pieces);
+  bytes : bytes_of_pieces (pieces_left l.at l.taken l.pieces)
+      ≡ bytes_of_pieces (pieces_left l.fn.place l.fn.taken l.pieces);
+  first : first_nonempty_piece (pieces_left l.at l.taken l.pieces)
+      ≡ first_nonempty_piece (pieces_left l.fn.place l.fn.taken l.pieces);
 }

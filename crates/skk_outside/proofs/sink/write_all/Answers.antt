@@ -11,6 +11,8 @@ pub loop-preserved : goal.loop-preserved
 loop-preserved g c = record {
   within = grind arith;
   progress = grind arith;
-  written = Appends-more _ _ _ c.loop.done c.in_ok-done.field-0 c.args.bytes.now c.loop.invariant.written c.in_ok-done.ensures.bytes;
+  written =
+      Appends-more _ _ _ c.loop.done c.in_ok-done.field-0 c.args.bytes.now c.loop.invariant.written
+      c.in_ok-done.ensures.bytes;
   counted = omega (arith, c.loop.invariant.counted, c.in_ok-done.ensures.counted);
 }

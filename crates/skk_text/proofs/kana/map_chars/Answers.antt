@@ -10,6 +10,7 @@ returns g c =
     let text = c.as_str.result.now in
     c.loop-c.invariant
     ∙ ap (map g.M.CharMap.mapped) (Chars-Drains (chars text) c.loop-c.yielded c.into_iter-c-iterator.result
-    (encodes-chars text c.as_str.utf8 ∙ sym (ap chars_rest c.into_iter-c-iterator.ensures.into_iter_gives ∙ c.chars-c-items.ensures.rest))
+    (encodes-chars text c.as_str.utf8
+    ∙ sym (ap chars_rest c.into_iter-c-iterator.ensures.into_iter_gives ∙ c.chars-c-items.ensures.rest))
     (c.next.new.self, (c.loop-c.c-iterator, c.loop-c.yielded_by, c.in-None.ensures.steps)))
     ∙ ap (map g.M.CharMap.mapped) c.as_str.ensures.characters

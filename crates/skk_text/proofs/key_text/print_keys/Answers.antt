@@ -6,4 +6,5 @@ use Rattle.skk_text.proofs.key_text.print_keys.Goals as goal
 pub loop-place-preserved : goal.loop-place-preserved
 loop-place-preserved c =
     c.in_ok-push_key.ensures
-    ∙ (ap (λ bs. bs ++ spell c.at.result.now) c.loop-place.invariant ∙ sym (spelled_more c.args.keys.now c.loop-place.place c.at.result.now c.at.ensures))
+    ∙ (ap (λ bs. bs ++ spell c.at.result.now) c.loop-place.invariant
+    ∙ sym (spelled_more c.args.keys.now c.loop-place.place c.at.result.now c.at.ensures))

@@ -12,5 +12,7 @@ returns-in-Some c =
 
 pub returns-in-None : goal.returns-in-None
 returns-in-None c =
-    let text : c.args.text.now ≡ [] = nil_from_length c.args.text.now (ap length (sym c.chars-characters.ensures.rest) ∙ c.in-None.ensures.steps.0) in
-    ap chars text ∙ chars-nil ∙ sym (ap (λ bs. take (length (chars bs) - 1) (chars bs)) text ∙ ap (λ cs. take (length cs - 1) cs) chars-nil)
+    let text : c.args.text.now ≡ [] =
+    nil_from_length c.args.text.now (ap length (sym c.chars-characters.ensures.rest) ∙ c.in-None.ensures.steps.0) in
+    ap chars text ∙ chars-nil
+    ∙ sym (ap (λ bs. take (length (chars bs) - 1) (chars bs)) text ∙ ap (λ cs. take (length cs - 1) cs) chars-nil)

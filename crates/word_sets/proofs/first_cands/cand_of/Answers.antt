@@ -5,5 +5,7 @@ use Rattle.word_sets.proofs.first_cands.cand_of.Goals as goal
 
 pub unreachable-requires : goal.unreachable-requires
 unreachable-requires c =
-    let valid : is_cand (record { word = c.of.result; note = c.of-2.result }) ≡ true = rw (c.of.ensures, c.of-2.ensures) c.requires in
-    no_fault Cand c.of.result c.of-2.result c.in-Err.field-0 valid c.in-Err.ensures.empty c.in-Err.ensures.bad_note c.in-Err.ensures.too_long
+    let valid : is_cand (record { word = c.of.result; note = c.of-2.result }) ≡ true =
+    rw (c.of.ensures, c.of-2.ensures) c.requires in
+    no_fault Cand c.of.result c.of-2.result c.in-Err.field-0 valid c.in-Err.ensures.empty c.in-Err.ensures.bad_note
+    c.in-Err.ensures.too_long

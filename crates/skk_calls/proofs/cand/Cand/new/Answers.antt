@@ -16,7 +16,9 @@ returns-then-byte_len-eq0-clause-too_long c bytes = (λ e. cc, λ h. absurd (h.0
 
 pub returns-in-Some-clause-bad_note : goal.returns-in-Some-clause-bad_note
 returns-in-Some-clause-bad_note c at =
-    let here : IsBadNote c.args.note c.in-Some.at = subst (λ note. IsBadNote note c.in-Some.at) c.as_str.ensures.characters c.in-Some.ensures in (
-      λ e. let same_text : c.in-Some.at ≡ at = cc in ((λ empty. omega (arith, ap byte_len empty)), subst (IsBadNote c.args.note) same_text here),
+    let here : IsBadNote c.args.note c.in-Some.at =
+    subst (λ note. IsBadNote note c.in-Some.at) c.as_str.ensures.characters c.in-Some.ensures in (
+      λ e. let same_text : c.in-Some.at ≡ at = cc in
+          ((λ empty. omega (arith, ap byte_len empty)), subst (IsBadNote c.args.note) same_text here),
       λ h. ap (λ place. Err (BadNote place)) (fault-one_place c.args.note c.in-Some.at at here h.1),
     )

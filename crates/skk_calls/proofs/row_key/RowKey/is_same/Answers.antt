@@ -10,7 +10,9 @@ returns-then-eq c =
     let other = c.args.other.now in
     let part : same_part key.part other.part ≡ true = search rules in
     c.eq-then-eq.ensures
-    ∙ ap (λ bytes. bytes_eq bytes c.bytes_of-then-eq.result.now) (c.bytes_of.ensures ∙ ap encode_utf8_all c.reading.ensures.value)
-    ∙ ap (bytes_eq (encode_utf8_all key.reading)) (c.bytes_of-then-eq.ensures ∙ ap encode_utf8_all c.reading-then-eq.ensures.value)
+    ∙ ap (λ bytes. bytes_eq bytes c.bytes_of-then-eq.result.now)
+    (c.bytes_of.ensures ∙ ap encode_utf8_all c.reading.ensures.value)
+    ∙ ap (bytes_eq (encode_utf8_all key.reading))
+    (c.bytes_of-then-eq.ensures ∙ ap encode_utf8_all c.reading-then-eq.ensures.value)
     ∙ same_encoded key.reading other.reading
     ∙ ap (λ b. b && same_text key.reading other.reading) (sym part)

@@ -9,19 +9,28 @@ returns-clause-bytes c =
     let same = c.as_slice-pieces.ensures.value in
     let slice = c.as_slice-pieces.result.now in
     let within : c.place_of_next_byte.result.0 < length slice = omega arith in
-    let left : bytes_of_pieces (pieces_left c.place_of_next_byte.result.0 c.place_of_next_byte.result.1 slice) ≡ bytes_of_pieces c.args.self.now.pieces =
-    c.place_of_next_byte.ensures.bytes ∙ ap (λ pieces. bytes_of_pieces (pieces_left c.self.inside.place c.self.inside.taken pieces)) same ∙ ap (λ s. bytes_of_pieces s.pieces) c.self.view_is in
+    let left : bytes_of_pieces (pieces_left c.place_of_next_byte.result.0 c.place_of_next_byte.result.1 slice)
+    ≡ bytes_of_pieces c.args.self.now.pieces =
+    c.place_of_next_byte.ensures.bytes
+    ∙ ap (λ pieces. bytes_of_pieces (pieces_left c.self.inside.place c.self.inside.taken pieces)) same
+    ∙ ap (λ s. bytes_of_pieces s.pieces) c.self.view_is in
     rw (← same)
-    (bytes_of_pieces-read c.place_of_next_byte.result.0 c.place_of_next_byte.result.1 c.copy_what_fits-n.result slice (bytes_of_pieces c.args.self.now.pieces) c.rest_of_piece.result.now c.args.into.now c.copy_what_fits-n.new.into
-    within (c.place_of_next_byte.ensures.byte_left within) left c.rest_of_piece.ensures.rest c.copy_what_fits-n.ensures.count c.copy_what_fits-n.ensures.room c.copy_what_fits-n.ensures.bytes)
+    (bytes_of_pieces-read c.place_of_next_byte.result.0 c.place_of_next_byte.result.1 c.copy_what_fits-n.result slice
+    (bytes_of_pieces c.args.self.now.pieces) c.rest_of_piece.result.now c.args.into.now c.copy_what_fits-n.new.into
+    within (c.place_of_next_byte.ensures.byte_left within) left c.rest_of_piece.ensures.rest
+    c.copy_what_fits-n.ensures.count c.copy_what_fits-n.ensures.room c.copy_what_fits-n.ensures.bytes)
 
 pub returns-clause-piece : goal.returns-clause-piece
 returns-clause-piece c =
     let same = c.as_slice-pieces.ensures.value in
     let slice = c.as_slice-pieces.result.now in
     let within : c.place_of_next_byte.result.0 < length slice = omega arith in
-    let first : first_nonempty_piece (pieces_left c.place_of_next_byte.result.0 c.place_of_next_byte.result.1 slice) ≡ first_nonempty_piece c.args.self.now.pieces =
-    c.place_of_next_byte.ensures.first ∙ ap (λ pieces. first_nonempty_piece (pieces_left c.self.inside.place c.self.inside.taken pieces)) same ∙ ap (λ s. first_nonempty_piece s.pieces) c.self.view_is in
+    let first : first_nonempty_piece (pieces_left c.place_of_next_byte.result.0 c.place_of_next_byte.result.1 slice)
+    ≡ first_nonempty_piece c.args.self.now.pieces =
+    c.place_of_next_byte.ensures.first
+    ∙ ap (λ pieces. first_nonempty_piece (pieces_left c.self.inside.place c.self.inside.taken pieces)) same
+    ∙ ap (λ s. first_nonempty_piece s.pieces) c.self.view_is in
     c.copy_what_fits-n.ensures.count
     ∙ ap (λ bytes. min (length c.args.into.now) (length bytes))
-    (c.rest_of_piece.ensures.rest ∙ sym (first_nonempty_piece-here c.place_of_next_byte.result.0 c.place_of_next_byte.result.1 slice within (c.place_of_next_byte.ensures.byte_left within)) ∙ first)
+    (c.rest_of_piece.ensures.rest ∙ sym (first_nonempty_piece-here c.place_of_next_byte.result.0
+    c.place_of_next_byte.result.1 slice within (c.place_of_next_byte.ensures.byte_left within)) ∙ first)

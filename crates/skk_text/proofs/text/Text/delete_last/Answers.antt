@@ -5,5 +5,6 @@ use Rattle.skk_text.proofs.text.Text.delete_last.Goals as goal
 
 pub returns : goal.returns
 returns c =
-    chars-popped c.self.inside.text c.pop.new.self c.pop.result c.pop.ensures.bytes c.pop.ensures.none c.pop.ensures.bound
+    chars-popped c.self.inside.text c.pop.new.self c.pop.result c.pop.ensures.bytes c.pop.ensures.none
+    c.pop.ensures.bound
     ∙ ap without_last c.self.view_is

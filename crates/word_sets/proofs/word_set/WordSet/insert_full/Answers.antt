@@ -21,7 +21,8 @@ returns-clause-ok c =
 pub returns-clause-is_new : goal.returns-clause-is_new
 returns-clause-is_new c =
     c.in_ok-place.ensures.added
-    ∙ ap not (has_string c.self.inside.words.keys c.args.word ∙ ap (λ texts. has_text texts (characters c.args.word)) c.self.view_is)
+    ∙ ap not (has_string c.self.inside.words.keys c.args.word
+    ∙ ap (λ texts. has_text texts (characters c.args.word)) c.self.view_is)
 
 pub returns-clause-place : goal.returns-clause-place
 returns-clause-place c =
