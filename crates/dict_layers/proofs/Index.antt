@@ -30,7 +30,8 @@ twice true = refl
 twice false = refl
 
 -- a text that is not greater than another has no lesser one that is
-still_low : (low : List ℕ) (row other : Row) → text_less (reading_of row) (reading_of other) ≡ true → not (text_less low (reading_of other)) ≡ true → not (text_less low (reading_of row)) ≡ true
+still_low : (low : List ℕ) (row other : Row) → text_less (reading_of row) (reading_of other) ≡ true
+    → not (text_less low (reading_of other)) ≡ true → not (text_less low (reading_of row)) ≡ true
 still_low low row other e f = by (text_less low (reading_of row)) refl
   where
     by : (b : Bool) → text_less low (reading_of row) ≡ b → not b ≡ true
@@ -48,9 +49,11 @@ module _ (rows : List Row) (differ : keys_differ rows ≡ true) where
   pub walked_apart : all_pairs (apart row_less) (filter is_walked rows) ≡ true
   walked_apart = all_pairs-filter (apart row_less) is_walked rows (rows_apart rows differ)
 
-  readings_ascend : all_pairs (λ row other. text_less (reading_of row) (reading_of other)) (sort_by row_less (filter is_walked rows)) ≡ true
+  readings_ascend : all_pairs (λ row other. text_less (reading_of row) (reading_of other))
+      (sort_by row_less (filter is_walked rows)) ≡ true
   readings_ascend =
-      sym (all_pairs-map reading_of text_less (sort_by row_less (filter is_walked rows))) ∙ ap texts_ascend (sym (walked_in_order rows differ)) ∙ walked_ascend rows
+      sym (all_pairs-map reading_of text_less (sort_by row_less (filter is_walked rows)))
+      ∙ ap texts_ascend (sym (walked_in_order rows differ)) ∙ walked_ascend rows
 
   module _ (places : List ℕ) where
     module _ (here : HasAt rows places (sort_by row_less rows)) (key : RowKey) where
@@ -58,27 +61,38 @@ module _ (rows : List Row) (differ : keys_differ rows ≡ true) where
       pub keys_parted : IsPartitionedBy (λ place. passes (λ row. key_less row.key key) (slice_get rows place)) places
       keys_parted =
           partitioned (slice_get rows) (λ row. key_less row.key key) row_less
-          (λ row other e f. less_trans key_less key_order row.key other.key key e f) places (sort_by row_less rows) here.items_are rows_ascend
+          (λ row other e f. less_trans key_less key_order row.key other.key key e f) places (sort_by row_less rows)
+          here.items_are rows_ascend
 
       -- and there the row of the key stands, if there is one
-      pub key_found : (i : ℕ) → IsPartitionPoint (λ place. passes (λ row. key_less row.key key) (slice_get rows place) ≡ true) (λ place. passes (λ row. key_less row.key key) (slice_get rows place) ≡ false) places i
+      pub key_found : (i : ℕ) → IsPartitionPoint (λ place. passes (λ row. key_less row.key key) (slice_get rows place)
+          ≡ true) (λ place. passes (λ row. key_less row.key key) (slice_get rows place) ≡ false) places i
           → row_in key rows ≡ option_and_then (if_same key) (option_and_then (slice_get rows) (slice_get places i))
       key_found i point =
           sym (row_in_order key rows differ) ∙ row_not_less key (sort_by row_less rows) rows_ascend
           ∙ ap (option_and_then (if_same key))
-          (sym (found_at (slice_get rows) (λ row. not (key_less row.key key)) (λ row. key_less row.key key) (λ row. refl) places (sort_by row_less rows) i here.items_are point))
+          (sym (found_at (slice_get rows) (λ row. not (key_less row.key key)) (λ row. key_less row.key key)
+          (λ row. refl) places (sort_by row_less rows) i here.items_are point))
 
     module _ (here : HasAt rows places (sort_by row_less (filter is_walked rows))) (low : List ℕ) where
       -- the places are parted at a reading
-      pub readings_parted : IsPartitionedBy (λ place. passes (λ row. not (text_less low row.key.reading)) (slice_get rows place)) places
+      pub readings_parted : IsPartitionedBy
+          (λ place. passes (λ row. not (text_less low row.key.reading)) (slice_get rows place)) places
       readings_parted =
-          partitioned (slice_get rows) (λ row. not (text_less low row.key.reading)) (λ row other. text_less (reading_of row) (reading_of other)) (still_low low)
+          partitioned (slice_get rows) (λ row. not (text_less low row.key.reading))
+          (λ row other. text_less (reading_of row) (reading_of other)) (still_low low)
           places (sort_by row_less (filter is_walked rows)) here.items_are readings_ascend
 
       -- and there the next one stands, if there is one
-      pub reading_found : (i : ℕ) → IsPartitionPoint (λ place. passes (λ row. not (text_less low row.key.reading)) (slice_get rows place) ≡ true) (λ place. passes (λ row. not (text_less low row.key.reading)) (slice_get rows place) ≡ false) places i
-          → next_above (walked_readings rows) low ≡ option_map reading_of (option_and_then (slice_get rows) (slice_get places i))
+      pub reading_found : (i : ℕ)
+          → IsPartitionPoint (λ place. passes (λ row. not (text_less low row.key.reading)) (slice_get rows place)
+          ≡ true) (λ place. passes (λ row. not (text_less low row.key.reading)) (slice_get rows place) ≡ false) places i
+          → next_above (walked_readings rows) low
+          ≡ option_map reading_of (option_and_then (slice_get rows) (slice_get places i))
       reading_found i point =
-          ap (find (text_less low)) (walked_in_order rows differ) ∙ find-map reading_of (text_less low) (sort_by row_less (filter is_walked rows))
+          ap (find (text_less low)) (walked_in_order rows differ)
+          ∙ find-map reading_of (text_less low) (sort_by row_less (filter is_walked rows))
           ∙ ap (option_map reading_of)
-          (sym (found_at (slice_get rows) (λ row. text_less low row.key.reading) (λ row. not (text_less low row.key.reading)) (λ row. twice (text_less low row.key.reading)) places (sort_by row_less (filter is_walked rows)) i here.items_are point))
+          (sym (found_at (slice_get rows) (λ row. text_less low row.key.reading)
+          (λ row. not (text_less low row.key.reading)) (λ row. twice (text_less low row.key.reading)) places
+          (sort_by row_less (filter is_walked rows)) i here.items_are point))

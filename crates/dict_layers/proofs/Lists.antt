@@ -8,18 +8,22 @@ use Rattle.skk_text.specs.Pairs.{all_pairs}
 pub filter_same : {X : Type 0} (p q : X → Bool) → ((x : X) → p x ≡ q x) → (xs : List X) → filter p xs ≡ filter q xs
 filter_same p q same [] = refl
 filter_same p q same (x ∷ xs) =
-    ap (λ b. cond b (x ∷ filter p xs) (filter p xs)) (same x) ∙ ap (λ ys. cond (q x) (x ∷ ys) ys) (filter_same p q same xs)
+    ap (λ b. cond b (x ∷ filter p xs) (filter p xs)) (same x)
+    ∙ ap (λ ys. cond (q x) (x ∷ ys) ys) (filter_same p q same xs)
 
 -- what each two items pass that pass a test
-pub pairs_within : {X : Type 0} (p : X → Bool) (test other : X → X → Bool) → ((x y : X) → p x ≡ true → p y ≡ true → test x y ≡ true → other x y ≡ true)
+pub pairs_within : {X : Type 0} (p : X → Bool) (test other : X → X → Bool)
+    → ((x y : X) → p x ≡ true → p y ≡ true → test x y ≡ true → other x y ≡ true)
     → (xs : List X) → list_all p xs ≡ true → all_pairs test xs ≡ true → all_pairs other xs ≡ true
 pairs_within p test other so [] all pairs = refl
 pairs_within {X} p test other so (x ∷ xs) all pairs =
     let here = and_parts (p x) (list_all p xs) all in
     let parts = and_parts (list_all (test x) xs) (all_pairs test xs) pairs in
-    and_from (list_all (other x) xs) (all_pairs other xs) (each xs here.0 here.1 parts.0) (pairs_within p test other so xs here.1 parts.1)
+    and_from (list_all (other x) xs) (all_pairs other xs) (each xs here.0 here.1 parts.0)
+    (pairs_within p test other so xs here.1 parts.1)
   where
-    each : (ys : List X) → p x ≡ true → list_all p ys ≡ true → list_all (test x) ys ≡ true → list_all (other x) ys ≡ true
+    each : (ys : List X) → p x ≡ true → list_all p ys ≡ true → list_all (test x) ys ≡ true
+        → list_all (other x) ys ≡ true
     each [] one rest above = refl
     each (y ∷ ys) one rest above =
         let others = and_parts (p y) (list_all p ys) rest in

@@ -4,7 +4,8 @@ use Rattle.std.specs.List.{AllZip}
 
 module _ {A B : Type 0} (R : A → B → Type 0) where
   -- one more item of each
-  pub zipped_push : (xs : List A) (ys : List B) (x : A) (y : B) → AllZip R xs ys → R x y → AllZip R (xs ++ x ∷ []) (ys ++ y ∷ [])
+  pub zipped_push : (xs : List A) (ys : List B) (x : A) (y : B) → AllZip R xs ys → R x y
+      → AllZip R (xs ++ x ∷ []) (ys ++ y ∷ [])
   zipped_push [] [] x y all here = (here, tt)
   zipped_push [] (z ∷ ys) x y all here = absurd all
   zipped_push (w ∷ xs) [] x y all here = absurd all
@@ -18,7 +19,8 @@ module _ {A B : Type 0} (R : A → B → Type 0) where
   zipped_length (x ∷ xs) (y ∷ ys) all = ap suc (zipped_length xs ys all.1)
 
   -- the items at a place
-  pub zipped_at : (xs : List A) (ys : List B) (i : ℕ) (x : A) (y : B) → AllZip R xs ys → i < length xs → R (get_or xs i x) (get_or ys i y)
+  pub zipped_at : (xs : List A) (ys : List B) (i : ℕ) (x : A) (y : B) → AllZip R xs ys → i < length xs
+      → R (get_or xs i x) (get_or ys i y)
   zipped_at [] ys i x y all low = absurd (omega (arith, low))
   zipped_at (w ∷ xs) [] i x y all low = absurd all
   zipped_at (w ∷ xs) (z ∷ ys) zero x y all low = all.0

@@ -15,7 +15,8 @@ is_walked row = same_part row.key.part Nasi && not (is_empty row.cands)
 
 -- the readings of a file that a walk goes over, each once, ascending by their bytes
 abbrev pub walked_readings : List Row → List (List ℕ)
-walked_readings rows = sort_by text_less (first_of_each (λ reading. reading) [] (map reading_of (filter is_walked rows)))
+walked_readings rows =
+    sort_by text_less (first_of_each (λ reading. reading) [] (map reading_of (filter is_walked rows)))
 
 -- places of a file's rows: those of all rows, in order by their keys, and of the rows that a walk comes by, likewise
 pub record IsIndex (rows : List Row) (by_key readings : List ℕ) : Type 0 where

@@ -25,10 +25,12 @@ walked_ascend rows =
     let readings = map reading_of (filter is_walked rows) in
     let firsts = first_of_each (λ reading. reading) [] readings in
     sort_ascends text_less text_order firsts
-    (texts_all_apart firsts (ap texts_differ (sym (texts_stay firsts)) ∙ first_of_each-differ (λ reading. reading) readings))
+    (texts_all_apart firsts
+    (ap texts_differ (sym (texts_stay firsts)) ∙ first_of_each-differ (λ reading. reading) readings))
 
 -- in each file
 pub all_walked_ascend : (files : List (List Row)) → all_ascend (map walked_readings files) ≡ true
 all_walked_ascend [] = refl
 all_walked_ascend (rows ∷ files) =
-    and_from (texts_ascend (walked_readings rows)) (all_ascend (map walked_readings files)) (walked_ascend rows) (all_walked_ascend files)
+    and_from (texts_ascend (walked_readings rows)) (all_ascend (map walked_readings files)) (walked_ascend rows)
+    (all_walked_ascend files)

@@ -107,7 +107,8 @@ fn is_walked(row: &Row) -> bool
 
 // Places in order by the keys of the rows there.
 fn in_order(rows: &[Row], places: Vec<usize>) -> Vec<usize>
-    ensures { (kept : List row_value) → HasAt rows.now places.items kept → all_pairs (apart row_less) kept ≡ true → HasAt rows.now result.items (sort_by row_less kept) }
+    ensures { (kept : List row_value) → HasAt rows.now places.items kept → all_pairs (apart row_less) kept ≡ true
+        → HasAt rows.now result.items (sort_by row_less kept) }
 {
     let mut places = places;
     places.sort_unstable_by(|place, other| order_at(rows, *place, *other));

@@ -12,8 +12,8 @@ use skk_text::{Copies, Memory, Text};
 use std::alloc::Global;
 use word_sets::{FirstCands, WordSet};
 
-/// The candidates of layers, the upper ones first: of each layer those of the okurigana first, without the words that layers
-/// above it hide, and the first of each word. Takes time in the length of the layers.
+/// The candidates of layers, the upper ones first: of each layer those of the okurigana first, without the words that
+/// layers above it hide, and the first of each word. Takes time in the length of the layers.
 pub fn merge(alloc: Global, layers: &RowList, okuri: Option<&Okuri>) -> Result<Cands, Memory>
     ensures { IfOk result (λ cands. cands ≡ merged (map (λ row. row.now) layers.now) (option_copied okuri.entry)) }
 {
@@ -33,7 +33,8 @@ fn add_layer(
     row: &Row,
     okuri: Option<&Okuri>,
 ) -> Result<(), Memory>
-    ensures shown { OnOk result (found.new ≡ fold (with_new (λ cand. cand.word)) found.old (without_hidden hidden.old (ordered row.now (option_copied okuri.entry)))) }
+    ensures shown { OnOk result (found.new ≡ fold (with_new (λ cand. cand.word)) found.old
+        (without_hidden hidden.old (ordered row.now (option_copied okuri.entry)))) }
     ensures hides { OnOk result (hidden.new ≡ fold (with_new (λ text. text)) hidden.old row.now.hides) }
     ensures valid { OnOk result (is_row row.now ≡ true) }
 {
@@ -44,7 +45,8 @@ fn add_layer(
 
 // Adds candidates, which are moved, but for those whose words are hidden.
 fn add_shown(found: &mut FirstCands, hidden: &WordSet, cands: Cands) -> Result<(), Memory>
-    ensures { OnOk result (found.new ≡ fold (with_new (λ cand. cand.word)) found.old (without_hidden hidden.now cands)) }
+    ensures { OnOk result
+        (found.new ≡ fold (with_new (λ cand. cand.word)) found.old (without_hidden hidden.now cands)) }
 {
     for cand in cands.into_vec() {
         if !hidden.contains(cand.word().as_str()) {

@@ -11,8 +11,8 @@ use skk_text::{Copies, Memory, Text};
 use std::alloc::Global;
 use word_sets::FirstCands;
 
-/// The candidates of a row, where the words of the block of an okurigana stand first, each with its note. Takes time in the
-/// length of the row.
+/// The candidates of a row, where the words of the block of an okurigana stand first, each with its note. Takes time in
+/// the length of the row.
 pub fn cands_in_order(alloc: Global, row: &Row, okuri: Option<&Okuri>) -> Result<Cands, Memory>
     ensures { IfOk result (λ cands. cands ≡ ordered row.now (option_copied okuri.entry)) }
 {

@@ -37,7 +37,8 @@ impl System {
     ghost use Rattle.skk_calls.specs.States.{row_in};
     ghost use Rattle.dict_layers.specs.Files.{is_file};
 
-    /// The system files with these rows, which are moved. Takes time in the number of rows, and with one logarithm in it.
+    /// The system files with these rows, which are moved. Takes time in the number of rows,
+    /// and with one logarithm in it.
     pub fn of_books(alloc: Global, books: Books) -> Result<System, Memory>
         ensures { IfOk result (λ system. system ≡ books) }
     {
@@ -56,8 +57,8 @@ impl System {
         self.books.len()
     }
 
-    /// The rows of a key, in the order of the files that have one. Takes time in the number of files, and in each with a
-    /// logarithm in the number of rows.
+    /// The rows of a key, in the order of the files that have one. Takes time in the number of files, and in each with
+    /// a logarithm in the number of rows.
     pub fn find(&self, alloc: Global, key: &RowKey) -> Result<RowList<'_>, Memory>
         ensures { IfOk result (λ rows. map (λ row. row.now) rows ≡ filter_map (row_in key.now) self.now) }
     {

@@ -1,7 +1,8 @@
 ghost use Rattle.std.specs.Prelude.{◌≡◌, ◌&&◌, not, IfOk};
 ghost use Rattle.std.specs.List.{list_all};
 ghost use Rattle.std.specs.Str.{chars};
-ghost use Rattle.skk_calls.specs.Rows.{same_text, same_key, texts_differ, words_of, okuri_of, keys_differ, fits_blocks, is_cand, is_block, is_row};
+ghost use Rattle.skk_calls.specs.Rows.{same_text, same_key, texts_differ, words_of, okuri_of, keys_differ, fits_blocks};
+ghost use Rattle.skk_calls.specs.Rows.{is_cand, is_block, is_row};
 
 use crate::{RowList, System, cands_in_order, merge, walks_go_over_completions};
 use skk_calls::{Block, Blocks, Book, Books, Cand, Cands, Okuri, Part, Row, RowKey, Rows, Walk};
@@ -121,7 +122,8 @@ fn is_block(block: &Block) -> bool
 
 // Whether these are the parts of a row.
 fn is_row(key: &RowKey, cands: &Cands, blocks: &Blocks, hides: &Texts) -> bool
-    ensures { result ≡ is_row (record { key = key.now; cands = cands.now; blocks = blocks.now; hides = hides.now; stamp = 0 }) }
+    ensures { result
+        ≡ is_row (record { key = key.now; cands = cands.now; blocks = blocks.now; hides = hides.now; stamp = 0 }) }
 {
     let _reading = key.reading();
     are_cands(cands.as_slice())
@@ -144,7 +146,8 @@ fn are_valid_cands(cands: &[Cand]) -> bool
 
 // Whether these are the blocks of a row.
 fn are_blocks(part: Part, blocks: &[Block]) -> bool
-    ensures { result ≡ (fits_blocks part blocks.now && list_all is_block blocks.now && texts_differ (okuri_of blocks.now)) }
+    ensures { result
+        ≡ (fits_blocks part blocks.now && list_all is_block blocks.now && texts_differ (okuri_of blocks.now)) }
 {
     fits_blocks(part, blocks) && are_valid_blocks(blocks) && okuris_differ(blocks)
 }

@@ -1,5 +1,6 @@
 -- How many bytes texts have that stand one after another.
-use Rattle.std.proofs.Common.{◌≡◌, ◌∙◌, ◌<◌, ◌+◌, ◌-◌, ◌^◌, ℕ, List, [], ◌∷◌, ◌++◌, codes, length, min, take, get_or, refl, sym, ap, arith}
+use Rattle.std.proofs.Common.{◌≡◌, ◌∙◌, ◌<◌, ◌+◌, ◌-◌, ◌^◌, ℕ, List, [], ◌∷◌, ◌++◌, codes, length, min, take, get_or}
+use Rattle.std.proofs.Common.{refl, sym, ap, arith}
 use Rattle.std.specs.List.{flat_map}
 use Rattle.std.proofs.lemmas.Grind.{flat_map-append}
 use Rattle.std.proofs.lemmas.List.{append-nil, take_more}
@@ -64,9 +65,11 @@ pub quotes_first : (text : List ℕ) → byte_len (codes "\"\"" ++ text) ≡ byt
 quotes_first text = omega (arith, byte_len-append (0x22 ∷ []) (0x22 ∷ text), byte_len-append (0x22 ∷ []) text, quote)
 
 -- one more piece
-pub piece_more : {X : Type 0} (f : X → List ℕ) (xs : List X) (x : X) → byte_len (flat_map f (xs ++ x ∷ [])) ≡ byte_len (flat_map f xs) + byte_len (f x)
+pub piece_more : {X : Type 0} (f : X → List ℕ) (xs : List X) (x : X)
+    → byte_len (flat_map f (xs ++ x ∷ [])) ≡ byte_len (flat_map f xs) + byte_len (f x)
 piece_more f xs x =
-    ap byte_len (flat_map-append f xs (x ∷ []) ∙ ap (λ text. flat_map f xs ++ text) (append-nil (f x))) ∙ byte_len-append (flat_map f xs) (f x)
+    ap byte_len (flat_map-append f xs (x ∷ []) ∙ ap (λ text. flat_map f xs ++ text) (append-nil (f x)))
+    ∙ byte_len-append (flat_map f xs) (f x)
 
 -- one more item of which a byte more is written than is counted first
 pub item_more : {X : Type 0} (f : X → List ℕ) (xs : List X) (i : ℕ) (x : X) (text : List ℕ) (bytes item one sum new : ℕ)
@@ -75,5 +78,6 @@ pub item_more : {X : Type 0} (f : X → List ℕ) (xs : List X) (i : ℕ) (x : X
     → new ≡ told_len (flat_map f (take (i + 1) xs))
 item_more f xs i x text bytes item one sum new low at longer so_far counted is_one first last =
     let next : byte_len (flat_map f (take (i + 1) xs)) ≡ byte_len (flat_map f (take i xs)) + byte_len (f x) =
-    ap (λ ys. byte_len (flat_map f ys)) (take_more xs i x low ∙ ap (λ y. take i xs ++ y ∷ []) (sym at)) ∙ piece_more f (take i xs) x in
+    ap (λ ys. byte_len (flat_map f ys)) (take_more xs i x low ∙ ap (λ y. take i xs ++ y ∷ []) (sym at))
+    ∙ piece_more f (take i xs) x in
     omega arith

@@ -11,8 +11,8 @@ use skk_calls::{Cand, Cands, Okuri, Row, RowKey};
 use skk_text::{Copies, Memory, Text};
 use std::alloc::Global;
 
-/// The row of a key after a candidate is learnt: its row before, if there is one, with the candidate at the front, and with
-/// an okurigana also at the front of its block. Takes time in what the row holds.
+/// The row of a key after a candidate is learnt: its row before, if there is one, with the candidate at the front, and
+/// with an okurigana also at the front of its block. Takes time in what the row holds.
 pub fn learn_row(
     alloc: Global,
     row: Option<&Row>,
@@ -22,7 +22,8 @@ pub fn learn_row(
     stamp: u64,
 ) -> Result<Row, Memory>
     requires { IfSome (option_copied row) (λ before. before.key ≡ key.now) }
-    ensures { IfOk result (λ after. after ≡ learnt (option_copied row.entry) key.now (option_copied okuri.entry) cand.now stamp) }
+    ensures { IfOk result (λ after. after
+        ≡ learnt (option_copied row.entry) key.now (option_copied okuri.entry) cand.now stamp) }
 {
     changed_rows_are_rows();
     let word = cand.word();

@@ -10,7 +10,8 @@ use skk_calls::{Block, Blocks, Cand, Okuri, Part};
 use skk_text::{Copies, Memory, Text, Texts, copies_of};
 use std::alloc::Global;
 
-/// The blocks of a key of this part after a candidate is learnt. Those of a key with okurigana change where one was chosen.
+/// The blocks of a key of this part after a candidate is learnt.
+/// Those of a key with okurigana change where one was chosen.
 pub fn learnt_blocks(
     alloc: Global,
     blocks: &[Block],
@@ -18,7 +19,8 @@ pub fn learnt_blocks(
     okuri: Option<&Okuri>,
     cand: &Cand,
 ) -> Result<Blocks, Memory>
-    ensures value { IfOk result (λ after. after ≡ learnt_blocks part (option_copied okuri.entry) cand.now.word blocks.now) }
+    ensures value { IfOk result (λ after. after
+        ≡ learnt_blocks part (option_copied okuri.entry) cand.now.word blocks.now) }
     ensures valid { is_okuri_or_none (option_copied okuri.entry) ≡ true }
 {
     let Some(okuri) = okuri else {
@@ -32,7 +34,8 @@ pub fn learnt_blocks(
     }
 }
 
-// The blocks with a candidate's word at the front of that of an okurigana, which is added at the end where there is none.
+// The blocks with a candidate's word at the front of that of an okurigana,
+// which is added at the end where there is none.
 fn blocks_with_word(
     alloc: Global,
     blocks: &[Block],
@@ -64,7 +67,8 @@ fn is_for(block: &Block, okuri: &Okuri) -> bool
 // A copy of a block, which has a candidate's word at its front where it is to learn it.
 fn copied_block(alloc: Global, block: &Block, learns: bool, cand: &Cand) -> Result<Block, Memory>
     ensures { IfOk result (λ copy. copy ≡ (if learns
-        then record { okuri = block.now.okuri; words = cand.now.word ∷ without_text cand.now.word block.now.words } else block.now)) }
+        then record { okuri = block.now.okuri; words = cand.now.word ∷ without_text cand.now.word block.now.words }
+        else block.now)) }
 {
     if learns {
         chosen_block(alloc, block.okuri(), block.words().as_slice(), cand)
@@ -77,7 +81,8 @@ fn copied_block(alloc: Global, block: &Block, learns: bool, cand: &Cand) -> Resu
 fn chosen_block(alloc: Global, okuri: &Okuri, words: &[Text], cand: &Cand) -> Result<Block, Memory>
     requires words { list_all is_word words.now ≡ true }
     requires differ { texts_differ words.now ≡ true }
-    ensures { IfOk result (λ block. block ≡ record { okuri = okuri.now; words = cand.now.word ∷ without_text cand.now.word words.now }) }
+    ensures { IfOk result (λ block. block
+        ≡ record { okuri = okuri.now; words = cand.now.word ∷ without_text cand.now.word words.now }) }
 {
     // The accessor says what the type of the okurigana keeps, which the new block has to keep.
     let _ = okuri.text();

@@ -1,15 +1,16 @@
 ghost use Rattle.std.specs.Prelude.{◌≡◌, ◌∷◌, length};
 ghost use Rattle.std.specs.List.{flat_map};
 ghost use Rattle.skk_text.specs.Text.{byte_len};
-ghost use Rattle.skk_calls.specs.Canonical.{char_in_string, item, mark_items, quoted, with_slash, written_block, written_note, written_word};
+ghost use Rattle.skk_calls.specs.Canonical.{char_in_string, item, mark_items, quoted, with_slash, written_block};
+ghost use Rattle.skk_calls.specs.Canonical.{written_note, written_word};
 ghost use Rattle.skk_calls.specs.Dictionary.{line_length};
 ghost use Rattle.dict_rows.specs.Lengths.{told_len};
 
 use skk_calls::{Block, Cand, Row, needs_quotes};
 use skk_text::Text;
 
-/// How many bytes a row's line has, or 2^64 - 1 where it has more. Takes no memory, and time in what the row holds: the line
-/// is not printed.
+/// How many bytes a row's line has, or 2^64 - 1 where it has more. Takes no memory, and time in what the row holds: the
+/// line is not printed.
 pub fn line_length(row: &Row) -> u64
     ensures { result ≡ line_length row.now }
 {

@@ -1,5 +1,5 @@
-//! One row of a learned dictionary after a change: what it is after a candidate is learnt and after a word is purged, and how
-//! long its line is.
+//! One row of a learned dictionary after a change: what it is after a candidate is learnt and after a word is purged,
+//! and how long its line is.
 //!
 //! It stands on `skk_text`, `skk_calls` and `dict_laws`. The rows that it is proved to give are defined in `skk_calls`
 //! (`learnt`, `purged`), and so is the line whose length it gives.

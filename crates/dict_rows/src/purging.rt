@@ -2,7 +2,8 @@ ghost use Rattle.std.specs.Prelude.{◌≡◌, ◌||◌, true, not, IfOk, Some, 
 ghost use Rattle.std.specs.List.{list_any};
 ghost use Rattle.std.specs.Option.{option_copied, IfSome};
 ghost use Rattle.skk_text.specs.Lists.{is_empty};
-ghost use Rattle.skk_calls.specs.Learning.{purged, purge_changes, block_without, blocks_without, hides_with, without_text};
+ghost use Rattle.skk_calls.specs.Learning.{purged, purge_changes, block_without, blocks_without, hides_with};
+ghost use Rattle.skk_calls.specs.Learning.{without_text};
 ghost use Rattle.skk_calls.specs.Rows.{RowKey as key_value, has_text, is_word, words_of};
 
 use crate::copying::{cands_without, has_text, is_same, texts_without};

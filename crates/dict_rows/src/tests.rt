@@ -7,8 +7,9 @@ use skk_text::{Text, Texts};
 use std::alloc::{AllocError, Global};
 use std::test::Fail;
 
-// A key; what is learnt, behind a `+`, with its note behind a `|` and its okurigana behind a `*`, and what is purged, behind
-// a `-`, with the stamps 1, 2 and so on; and behind the `=` the candidates, the blocks, the hidden words, and the stamp.
+// A key; what is learnt, behind a `+`, with its note behind a `|` and its okurigana behind a `*`, and what is purged,
+// behind a `-`, with the stamps 1, 2 and so on; and behind the `=` the candidates, the blocks, the hidden words,
+// and the stamp.
 const CHANGES: &str = "
 かんじ +漢字 = 漢字|&&&1
 かんじ -漢字 -漢字 = &&漢字&1

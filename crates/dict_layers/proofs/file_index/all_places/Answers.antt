@@ -7,5 +7,7 @@ pub loop-place-preserved : goal.loop-place-preserved
 loop-place-preserved c =
     let rows = c.args.rows.now in
     let place = c.loop-place.place in
-    ap (map (slice_get rows)) c.in_ok-push.ensures.items ∙ map-append (slice_get rows) c.loop-place.places.items (place ∷ [])
-    ∙ ap (λ found. found ++ slice_get rows place ∷ []) c.loop-place.invariant ∙ sym (place_more rows place c.loop-place-test.true)
+    ap (map (slice_get rows)) c.in_ok-push.ensures.items
+    ∙ map-append (slice_get rows) c.loop-place.places.items (place ∷ [])
+    ∙ ap (λ found. found ++ slice_get rows place ∷ []) c.loop-place.invariant
+    ∙ sym (place_more rows place c.loop-place-test.true)

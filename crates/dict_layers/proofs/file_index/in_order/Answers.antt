@@ -12,7 +12,10 @@ pub returns : goal.returns
 returns c kept here others =
     let read = slice_get c.args.rows.now in
     let sorted = c.sort_unstable_by.ensures.sorted (λ (place other : ℕ). option_less row_less (read place) (read other))
-    (order_read read (option_less row_less) (option_order row_less row_order)) (always_returns_same _ _ _ (λ a r q k. search rules)) in
+    (order_read read (option_less row_less) (option_order row_less row_order))
+    (always_returns_same _ _ _ (λ a r q k. search rules)) in
     record {
-      items_are = sorted_places row_less row_order read c.args.places.items c.sort_unstable_by.new.self.items kept here.items_are others c.sort_unstable_by.ensures.permutation sorted;
+      items_are =
+          sorted_places row_less row_order read c.args.places.items c.sort_unstable_by.new.self.items kept
+          here.items_are others c.sort_unstable_by.ensures.permutation sorted;
     }

@@ -15,12 +15,14 @@ loop-place-preserved c =
     let rows = c.args.rows.now in
     let place = c.loop-place.place in
     let row = c.index-rows-place.result in
-    let here : slice_get rows place ≡ Some row = slice_get-get_or rows place row c.loop-place-test.true ∙ ap (λ r. Some r) (sym c.index-rows-place.is) in
+    let here : slice_get rows place ≡ Some row =
+    slice_get-get_or rows place row c.loop-place-test.true ∙ ap (λ r. Some r) (sym c.index-rows-place.is) in
     record {
       places = elim c.if-is_walked.branch [
         | then-is_walked+in_ok-push w ↦
             ap (λ places. map (slice_get rows) places.items) w.places-is
-            ∙ ap (map (slice_get rows)) w.in_ok-push.ensures.items ∙ map-append (slice_get rows) c.loop-place.places.items (place ∷ [])
+            ∙ ap (map (slice_get rows)) w.in_ok-push.ensures.items
+            ∙ map-append (slice_get rows) c.loop-place.places.items (place ∷ [])
             ∙ ap (λ found. found ++ slice_get rows place ∷ []) c.loop-place.invariant.places
             ∙ sym (kept_more is_walked rows place row here (sym c.is_walked.ensures.value ∙ w.if-is_walked.true))
         | else-is_walked w ↦

@@ -18,13 +18,14 @@ loop-row-init c =
     }
 
 -- the layer and those behind it
-layers_left : (refs items : List (Bor DeclaredRow)) (i : ℕ) (row : Bor DeclaredRow) → items ≡ refs → i < length items → row ≡ get_or items i row
-    → drop i (map (λ r. r.now) refs) ≡ row.now ∷ drop (i + 1) (map (λ r. r.now) refs)
+layers_left : (refs items : List (Bor DeclaredRow)) (i : ℕ) (row : Bor DeclaredRow) → items ≡ refs → i < length items
+    → row ≡ get_or items i row → drop i (map (λ r. r.now) refs) ≡ row.now ∷ drop (i + 1) (map (λ r. r.now) refs)
 layers_left refs items i row same low here =
     let within : i < length refs = omega (arith, low, ap length same) in
     drop_more (map (λ r. r.now) refs) i row.now (omega (arith, within, length-map refs (λ r. r.now)))
     ∙ ap (λ r. r ∷ drop (i + 1) (map (λ r. r.now) refs))
-    (get_or-map (λ r. r.now) refs i row row.now within ∙ ap (λ rs. (get_or rs i row).now) (sym same) ∙ ap (λ r. r.now) (sym here))
+    (get_or-map (λ r. r.now) refs i row row.now within ∙ ap (λ rs. (get_or rs i row).now) (sym same)
+    ∙ ap (λ r. r.now) (sym here))
 
 pub loop-row-preserved : goal.loop-row-preserved
 loop-row-preserved c =
@@ -34,11 +35,15 @@ loop-row-preserved c =
     let hidden = c.loop-row.hidden in
     let i = c.loop-row.row-index in
     let row = c.row-item.result.now in
-    let left = layers_left c.args.layers.now c.as_slice-row-items.result.now i c.row-item.result c.as_slice-row-items.ensures c.loop-row-test.true c.row-item.is in
+    let left = layers_left c.args.layers.now c.as_slice-row-items.result.now i c.row-item.result
+    c.as_slice-row-items.ensures c.loop-row-test.true c.row-item.is in
     record {
       all =
-          layer_added found c.add_layer.new.found hidden c.add_layer.new.hidden row (drop (i + 1) layers) okuri c.in_ok-add_layer.ensures.shown c.in_ok-add_layer.ensures.hides
-          ∙ ap (λ rows. fold (with_new (λ (cand : Cand). cand.word)) found (cands_of_layers hidden rows okuri)) (sym left) ∙ c.loop-row.invariant.all;
+          layer_added found c.add_layer.new.found hidden c.add_layer.new.hidden row (drop (i + 1) layers) okuri
+          c.in_ok-add_layer.ensures.shown c.in_ok-add_layer.ensures.hides
+          ∙ ap (λ rows. fold (with_new (λ (cand : Cand). cand.word)) found (cands_of_layers hidden rows okuri))
+          (sym left) ∙ c.loop-row.invariant.all;
       valid =
-          layer_valid found c.add_layer.new.found hidden row okuri c.in_ok-add_layer.ensures.shown c.in_ok-add_layer.ensures.valid c.loop-row.invariant.valid;
+          layer_valid found c.add_layer.new.found hidden row okuri c.in_ok-add_layer.ensures.shown
+          c.in_ok-add_layer.ensures.valid c.loop-row.invariant.valid;
     }

@@ -10,7 +10,8 @@ use Rattle.dict_layers.proofs.merging.merge.Given as goal
 abbrev pub invariant-loop-row : goal.invariant-loop-row
 invariant-loop-row l = record {
   all :
-      fold (with_new (λ cand. cand.word)) l.found (cands_of_layers l.hidden (drop l.row-index (map (λ row. row.now) l.layers)) (option_copied l.okuri))
+      fold (with_new (λ cand. cand.word)) l.found
+      (cands_of_layers l.hidden (drop l.row-index (map (λ row. row.now) l.layers)) (option_copied l.okuri))
       ≡ merged (map (λ row. row.now) l.layers) (option_copied l.okuri);
   valid : list_all is_cand l.found ≡ true;
 }

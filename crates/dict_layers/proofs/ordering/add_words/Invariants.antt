@@ -6,4 +6,5 @@ use Rattle.dict_layers.proofs.ordering.add_words.Given as goal
 
 -- the words so far were added
 abbrev pub invariant-loop-word : goal.invariant-loop-word
-invariant-loop-word l = l.found ≡ fold (with_new (λ cand. cand.word)) l.fn.found (with_notes l.notes (take l.word-index l.words))
+invariant-loop-word l =
+    l.found ≡ fold (with_new (λ cand. cand.word)) l.fn.found (with_notes l.notes (take l.word-index l.words))

@@ -12,5 +12,6 @@ returns c =
     let kept = row_parts row c.cands.ensures.valid in
     let same : c.add_copies.new.found ≡ row.cands =
     cands_added row.cands c.new-found.result c.add_copies.new.found kept.words c.new-found.ensures
-    (c.in_ok-add_copies.ensures ∙ ap (fold (with_new (λ (cand : Cand). cand.word)) c.new-found.result) (c.as_slice.ensures ∙ c.cands.ensures.value)) in
+    (c.in_ok-add_copies.ensures ∙ ap (fold (with_new (λ (cand : Cand). cand.word)) c.new-found.result)
+    (c.as_slice.ensures ∙ c.cands.ensures.value)) in
     record { value = same; valid = ap (list_all is_cand) same ∙ kept.cands }

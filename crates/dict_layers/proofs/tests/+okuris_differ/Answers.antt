@@ -7,10 +7,12 @@ pub returns-then-is_new_okuri : goal.returns-then-is_new_okuri
 returns-then-is_new_okuri t c =
     let parts : c.args.blocks.now ≡ c.in-Some.block.now ∷ c.in-Some.rest.now = search rules in
     c.okuris_differ.ensures
-    ∙ sym (differ_first (λ (block : Block). block.okuri) c.args.blocks.now c.in-Some.rest.now c.in-Some.block.now true parts (sym c.is_new_okuri.ensures ∙ c.if-is_new_okuri.true))
+    ∙ sym (differ_first (λ (block : Block). block.okuri) c.args.blocks.now c.in-Some.rest.now c.in-Some.block.now true
+    parts (sym c.is_new_okuri.ensures ∙ c.if-is_new_okuri.true))
 
 pub returns-else-is_new_okuri : goal.returns-else-is_new_okuri
 returns-else-is_new_okuri t c =
     let parts : c.args.blocks.now ≡ c.in-Some.block.now ∷ c.in-Some.rest.now = search rules in
     c.if-is_new_okuri.false
-    ∙ sym (differ_first (λ (block : Block). block.okuri) c.args.blocks.now c.in-Some.rest.now c.in-Some.block.now false parts (sym c.is_new_okuri.ensures ∙ c.if-is_new_okuri.false))
+    ∙ sym (differ_first (λ (block : Block). block.okuri) c.args.blocks.now c.in-Some.rest.now c.in-Some.block.now false
+    parts (sym c.is_new_okuri.ensures ∙ c.if-is_new_okuri.false))

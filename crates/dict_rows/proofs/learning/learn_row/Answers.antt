@@ -12,8 +12,13 @@ new-requires c =
     let key = c.args.key.now in
     let cand = c.args.cand.now in
     ap is_row
-    (sym (learnt_parts before key okuri cand c.args.stamp c.in_ok-copy.field-0 c.in_ok-cands.cands c.in_ok-blocks.blocks c.in_ok-hides.hides c.in_ok-copy.ensures
+    (sym (learnt_parts before key okuri cand c.args.stamp c.in_ok-copy.field-0 c.in_ok-cands.cands c.in_ok-blocks.blocks
+    c.in_ok-hides.hides c.in_ok-copy.ensures
     (c.in_ok-cands.ensures ∙ ap (λ cands. learnt_cands cands cand) (c.cands_of.ensures.value key))
-    (c.in_ok-blocks.ensures.value ∙ ap (λ part. learnt_blocks part okuri cand.word c.blocks_of.result.now) c.part.ensures.value ∙ ap (learnt_blocks key.part okuri cand.word) (c.blocks_of.ensures.value key))
-    (c.in_ok-hides.ensures ∙ ap (λ word. without_text word c.hides_of.result.now) c.word-word.ensures.value ∙ ap (without_text cand.word) (c.hides_of.ensures.value key))))
-    ∙ c.changed_rows_are_rows.ensures.learnt before key okuri cand c.args.stamp c.part.ensures.valid c.requires c.cands_of.ensures.valid c.in_ok-blocks.ensures.valid c.word-word.ensures.valid
+    (c.in_ok-blocks.ensures.value
+    ∙ ap (λ part. learnt_blocks part okuri cand.word c.blocks_of.result.now) c.part.ensures.value
+    ∙ ap (learnt_blocks key.part okuri cand.word) (c.blocks_of.ensures.value key))
+    (c.in_ok-hides.ensures ∙ ap (λ word. without_text word c.hides_of.result.now) c.word-word.ensures.value
+    ∙ ap (without_text cand.word) (c.hides_of.ensures.value key))))
+    ∙ c.changed_rows_are_rows.ensures.learnt before key okuri cand c.args.stamp c.part.ensures.valid c.requires
+    c.cands_of.ensures.valid c.in_ok-blocks.ensures.valid c.word-word.ensures.valid

@@ -9,5 +9,7 @@ new-requires c =
     let words = c.args.words.now in
     ap is_block
     (ap (λ okuri. record { okuri = okuri; words = c.in_ok-chosen.chosen }) c.in_ok-copy.ensures
-    ∙ ap (λ texts. record { okuri = c.args.okuri.now; words = texts }) (c.in_ok-chosen.ensures ∙ ap (λ word. word ∷ without_text word words) c.word.ensures.value))
-    ∙ chosen_is_block c.args.okuri.now c.args.cand.now words c.text.ensures.valid c.word.ensures.valid c.requires.words c.requires.differ
+    ∙ ap (λ texts. record { okuri = c.args.okuri.now; words = texts })
+    (c.in_ok-chosen.ensures ∙ ap (λ word. word ∷ without_text word words) c.word.ensures.value))
+    ∙ chosen_is_block c.args.okuri.now c.args.cand.now words c.text.ensures.valid c.word.ensures.valid c.requires.words
+    c.requires.differ

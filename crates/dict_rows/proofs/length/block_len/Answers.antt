@@ -16,5 +16,6 @@ returns c =
       c.saturating_add.ensures,
       c.saturating_add-2.ensures,
       ap byte_len (c.text.ensures.value ∙ c.okuri.ensures.value),
-      ap (λ words. byte_len (flat_map (λ word. with_slash (written_word word)) words)) (c.as_slice.ensures ∙ c.words.ensures.value),
+      ap (λ words. byte_len (flat_map (λ word. with_slash (written_word word)) words))
+          (c.as_slice.ensures ∙ c.words.ensures.value),
     )

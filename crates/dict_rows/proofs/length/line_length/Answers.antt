@@ -20,7 +20,9 @@ returns c =
       c.saturating_add-3.ensures,
       c.saturating_add-4.ensures,
       ap byte_len (c.reading.ensures.value ∙ ap (λ key. key.reading) c.key.ensures.value),
-      ap (λ cands. byte_len (flat_map (λ cand. with_slash (item cand)) cands)) (c.as_slice.ensures ∙ c.cands.ensures.value),
-      ap (λ blocks. byte_len (flat_map (λ block. with_slash (written_block block)) blocks)) (c.as_slice-2.ensures ∙ c.blocks-2.ensures.value),
+      ap (λ cands. byte_len (flat_map (λ cand. with_slash (item cand)) cands))
+          (c.as_slice.ensures ∙ c.cands.ensures.value),
+      ap (λ blocks. byte_len (flat_map (λ block. with_slash (written_block block)) blocks))
+          (c.as_slice-2.ensures ∙ c.blocks-2.ensures.value),
       ap (λ hides. byte_len (flat_map with_slash (mark_items hides))) (c.as_slice-3.ensures ∙ c.hides.ensures.value),
     )

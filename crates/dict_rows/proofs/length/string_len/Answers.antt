@@ -28,7 +28,14 @@ returns c =
     let text = c.as_str.result.now in
     let all : c.loop-c.yielded ≡ c.args.text.now =
     Chars-Drains (chars text) c.loop-c.yielded c.into_iter-c-iterator.result
-    (encodes-chars text c.as_str.utf8 ∙ sym (ap chars_rest c.into_iter-c-iterator.ensures.into_iter_gives ∙ c.chars-c-items.ensures.rest))
+    (encodes-chars text c.as_str.utf8
+    ∙ sym (ap chars_rest c.into_iter-c-iterator.ensures.into_iter_gives ∙ c.chars-c-items.ensures.rest))
     (c.next.new.self, (c.loop-c.c-iterator, c.loop-c.yielded_by, c.in-None.ensures.steps))
     ∙ c.as_str.ensures.characters in
-    omega (arith, quotes_first (flat_map char_in_string c.loop-c.yielded), quotes c.args.text.now, ap (λ cs. byte_len (flat_map char_in_string cs)) all, c.loop-c.invariant)
+    omega (
+      arith,
+      quotes_first (flat_map char_in_string c.loop-c.yielded),
+      quotes c.args.text.now,
+      ap (λ cs. byte_len (flat_map char_in_string cs)) all,
+      c.loop-c.invariant,
+    )

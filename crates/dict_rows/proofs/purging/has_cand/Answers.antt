@@ -9,5 +9,6 @@ use borrow.Author.Tests.{tests}
 pub returns : goal.returns
 returns c =
     let same = λ (cand : Cand). same_text c.args.word.now cand.word in
-    any_from_yields_List same _ _ c.any.result c.any.ensures.ran (YieldsList-from_slice c.args.cands.now cc) (λ x b q k. search (rules, tests))
+    any_from_yields_List same _ _ c.any.result c.any.ensures.ran (YieldsList-from_slice c.args.cands.now cc)
+    (λ x b q k. search (rules, tests))
     ∙ word_among (same_text c.args.word.now) c.args.cands.now

@@ -9,5 +9,6 @@ returns-clause-index c =
     let rows = c.args.rows.now in
     record {
       keys_in_order = c.in_order.ensures rows c.in_ok-all.ensures (rows_apart rows c.requires);
-      readings_in_order = c.in_order-2.ensures (filter is_walked rows) c.in_ok-walked.ensures.places (walked_apart rows c.requires);
+      readings_in_order =
+          c.in_order-2.ensures (filter is_walked rows) c.in_ok-walked.ensures.places (walked_apart rows c.requires);
     }

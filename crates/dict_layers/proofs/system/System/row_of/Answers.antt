@@ -16,11 +16,13 @@ row_of-requires-clause-index c =
     let books = c.self.inside.books in
     let low : c.args.file < length books = omega (arith, ap length c.self.view_is, c.requires) in
     rw (c.as_slice-rows.ensures, c.rows.ensures.value)
-    (index_fits books c.self.inside.indexes.items c.self.invariant.0 c.args.file low c.at.result.now c.index.result.now c.at.ensures c.index.ensures)
+    (index_fits books c.self.inside.indexes.items c.self.invariant.0 c.args.file low c.at.result.now c.index.result.now
+    c.at.ensures c.index.ensures)
 
 pub returns : goal.returns
 returns c =
     c.row_of.ensures
     ∙ ap (row_in c.args.key.now)
-    (c.as_slice-rows.ensures ∙ c.rows.ensures.value ∙ sym (get_or_from_slice_get c.self.inside.books c.args.file c.at.result.now [] c.at.ensures)
+    (c.as_slice-rows.ensures ∙ c.rows.ensures.value
+    ∙ sym (get_or_from_slice_get c.self.inside.books c.args.file c.at.result.now [] c.at.ensures)
     ∙ ap (λ books. get_or books c.args.file []) c.self.view_is)

@@ -11,24 +11,30 @@ pub index-requires : goal.index-requires
 index-requires c =
     let books = c.self.inside.books in
     let indexes = c.self.inside.indexes in
-    let low : c.args.file < length books = omega (arith, ap length c.self.view_is, c.requires, length-map c.args.self.now walked_readings) in
+    let low : c.args.file < length books =
+    omega (arith, ap length c.self.view_is, c.requires, length-map c.args.self.now walked_readings) in
     omega (arith, index_there books indexes.items c.self.invariant.0 c.args.file low, indexes.ok.0)
 
 pub reading_above-requires-clause-index : goal.reading_above-requires-clause-index
 reading_above-requires-clause-index c =
     let books = c.self.inside.books in
-    let low : c.args.file < length books = omega (arith, ap length c.self.view_is, c.requires, length-map c.args.self.now walked_readings) in
+    let low : c.args.file < length books =
+    omega (arith, ap length c.self.view_is, c.requires, length-map c.args.self.now walked_readings) in
     rw (c.as_slice-rows.ensures, c.rows.ensures.value)
-    (index_fits books c.self.inside.indexes.items c.self.invariant.0 c.args.file low c.at.result.now c.index.result.now c.at.ensures c.index.ensures)
+    (index_fits books c.self.inside.indexes.items c.self.invariant.0 c.args.file low c.at.result.now c.index.result.now
+    c.at.ensures c.index.ensures)
 
 -- the readings of the file
-walked : (c : After-reading_above) → walked_readings c.as_slice-rows.result.now ≡ get_or (map walked_readings c.args.self.now) c.args.file []
+walked : (c : After-reading_above)
+    → walked_readings c.as_slice-rows.result.now ≡ get_or (map walked_readings c.args.self.now) c.args.file []
 walked c =
     let files = c.args.self.now in
     ap walked_readings
-    (c.as_slice-rows.ensures ∙ c.rows.ensures.value ∙ sym (get_or_from_slice_get c.self.inside.books c.args.file c.at.result.now [] c.at.ensures)
+    (c.as_slice-rows.ensures ∙ c.rows.ensures.value
+    ∙ sym (get_or_from_slice_get c.self.inside.books c.args.file c.at.result.now [] c.at.ensures)
     ∙ ap (λ books. get_or books c.args.file []) c.self.view_is)
-    ∙ sym (get_or-map walked_readings files c.args.file [] [] (omega (arith, c.requires, length-map files walked_readings)))
+    ∙ sym
+    (get_or-map walked_readings files c.args.file [] [] (omega (arith, c.requires, length-map files walked_readings)))
 
 pub returns-in_ok-copy-in-Some : goal.returns-in_ok-copy-in-Some
 returns-in_ok-copy-in-Some c =
@@ -36,4 +42,6 @@ returns-in_ok-copy-in-Some c =
     ∙ ap (λ texts. next_above texts c.args.low.now) (walked (goal.at.returns-in_ok-copy-in-Some c).After-reading_above)
 
 pub returns-in-None : goal.returns-in-None
-returns-in-None c = c.in-None.ensures ∙ ap (λ texts. next_above texts c.args.low.now) (walked (goal.at.returns-in-None c).After-reading_above)
+returns-in-None c =
+    c.in-None.ensures
+    ∙ ap (λ texts. next_above texts c.args.low.now) (walked (goal.at.returns-in-None c).After-reading_above)
