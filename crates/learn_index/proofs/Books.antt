@@ -1,5 +1,6 @@
 -- The books that an index keeps, and the state of those that have changed.
-use Rattle.std.proofs.Common.{◌≡◌, ◌==◌, ℕ, ◌+◌, ◌*◌, ◌^◌, ◌≤◌, Bool, true, false, cond, not, ◌||◌, nat_lt, nat_le, Option, None, Some, List, [], ◌∷◌, length, find, refl, sym, ap, ◌∙◌, arith}
+use Rattle.std.proofs.Common.{◌≡◌, ◌==◌, ℕ, ◌+◌, ◌*◌, ◌^◌, ◌≤◌, Bool, true, false, cond, not, ◌||◌, nat_lt, nat_le}
+use Rattle.std.proofs.Common.{Option, None, Some, List, [], ◌∷◌, length, find, refl, sym, ap, ◌∙◌, arith}
 use Rattle.std.specs.Cmp.{IsStrictWeakOrder}
 use Rattle.std.specs.List.{filter, list_all, sum_by}
 use Rattle.std.proofs.lemmas.Bool.{and_from, and_parts, ltb-true, not_from_false}
@@ -16,7 +17,8 @@ use Rattle.skk_calls.specs.OrderLaws.{insert_first, less_trans, list_all-insert_
 use Rattle.skk_calls.specs.Orders.{insert_by, key_less}
 use Rattle.skk_calls.specs.Rows.{Row, same_key, keys_differ}
 use Rattle.skk_calls.specs.RowsInOrder.{less_differs}
-use Rattle.skk_calls.specs.States.{State, book_rows, book_count, rows_of, count_of, without_book, with_book, rows_ascend, books_ascend, is_valid}
+use Rattle.skk_calls.specs.States.{State, book_rows, book_count, rows_of, count_of, without_book, with_book}
+use Rattle.skk_calls.specs.States.{rows_ascend, books_ascend, is_valid}
 use Rattle.skk_calls.specs.Tallies.{count_rows}
 use Rattle.dict_laws.specs.ValidStates.{books_ascend_with_book, rows_of_ascend}
 use Rattle.learn_index.specs.Kept.{has_changed, changed, has_count, is_held, IsKept}
@@ -43,21 +45,26 @@ filter_swap p q (x ∷ xs) = by (p x) (q x) refl refl (filter_swap p q xs)
     by false false e f rest = rest
 
 -- an item that passes, put among others that are filtered
-filter_put : (p : NumberedBook → Bool) (x : NumberedBook) (xs : List NumberedBook) → p x ≡ true → all_pairs by_number xs ≡ true → filter p (insert_by by_number x xs) ≡ insert_by by_number x (filter p xs)
+filter_put : (p : NumberedBook → Bool) (x : NumberedBook) (xs : List NumberedBook) → p x ≡ true
+    → all_pairs by_number xs ≡ true → filter p (insert_by by_number x xs) ≡ insert_by by_number x (filter p xs)
 filter_put p x [] e pairs = rw e refl
 filter_put p x (y ∷ ys) e pairs =
     let parts = and_parts (list_all (by_number y) ys) (all_pairs by_number ys) pairs in
     by (by_number x y) refl parts.0 (filter_put p x ys e parts.1)
   where
-    behind : (b : Bool) → by_number x y ≡ false → filter p (insert_by by_number x ys) ≡ insert_by by_number x (filter p ys)
-        → cond b (y ∷ filter p (insert_by by_number x ys)) (filter p (insert_by by_number x ys)) ≡ insert_by by_number x (cond b (y ∷ filter p ys) (filter p ys))
+    behind : (b : Bool) → by_number x y ≡ false
+        → filter p (insert_by by_number x ys) ≡ insert_by by_number x (filter p ys)
+        → cond b (y ∷ filter p (insert_by by_number x ys)) (filter p (insert_by by_number x ys))
+        ≡ insert_by by_number x (cond b (y ∷ filter p ys) (filter p ys))
     behind true f rest = rw f (ap (λ zs. y ∷ zs) rest)
     behind false f rest = rest
 
-    by : (b : Bool) → by_number x y ≡ b → list_all (by_number y) ys ≡ true → filter p (insert_by by_number x ys) ≡ insert_by by_number x (filter p ys)
+    by : (b : Bool) → by_number x y ≡ b → list_all (by_number y) ys ≡ true
+        → filter p (insert_by by_number x ys) ≡ insert_by by_number x (filter p ys)
         → filter p (cond b (x ∷ y ∷ ys) (y ∷ insert_by by_number x ys)) ≡ insert_by by_number x (filter p (y ∷ ys))
     by true f above rest =
-        let all : list_all (by_number x) (y ∷ ys) ≡ true = and_from (by_number x y) (list_all (by_number x) ys) f (list_all-weaker (by_number y) (by_number x) (λ z g. less_trans by_number number_order x y z f g) ys above) in
+        let all : list_all (by_number x) (y ∷ ys) ≡ true = and_from (by_number x y) (list_all (by_number x) ys) f
+        (list_all-weaker (by_number y) (by_number x) (λ z g. less_trans by_number number_order x y z f g) ys above) in
         ap (λ b. cond b (x ∷ filter p (y ∷ ys)) (filter p (y ∷ ys))) e
         ∙ sym (insert_first by_number x (filter p (y ∷ ys)) (list_all-filter (by_number x) p (y ∷ ys) all))
     by false f above rest = behind (p y) f rest
@@ -66,7 +73,8 @@ filter_put p x (y ∷ ys) e pairs =
 
 -- a book that has not changed has no rows
 no_rows : (book : NumberedBook) → has_changed book ≡ false → has_count book ≡ true → book.rows ≡ []
-no_rows book e counts = nil_from_length book.rows (short (length book.rows) (ap (λ b. b || nat_lt (length book.rows) 1) (sym e) ∙ counts))
+no_rows book e counts =
+    nil_from_length book.rows (short (length book.rows) (ap (λ b. b || nat_lt (length book.rows) 1) (sym e) ∙ counts))
   where
     short : (n : ℕ) → nat_lt n 1 ≡ true → n ≡ 0
     short n f = grind (arith, nat_tests)
@@ -78,10 +86,13 @@ no_count book e = none book.count e
     none : (n : ℕ) → nat_lt 0 n ≡ false → n ≡ 0
     none n f = grind (arith, nat_tests)
 
-module _ {A : Type 0} (read : Option NumberedBook → A) (nothing : (book : NumberedBook) → has_changed book ≡ false → has_count book ≡ true → read (Some book) ≡ read None) (number : ℕ) where
+module _ {A : Type 0} (read : Option NumberedBook → A)
+    (nothing : (book : NumberedBook) → has_changed book ≡ false → has_count book ≡ true → read (Some book) ≡ read None)
+    (number : ℕ) where
   -- what is read of the book of a number is the same among those that have changed
   read_changed : (books : List NumberedBook) → books_ascend books ≡ true → list_all has_count books ≡ true
-      → read (find (λ book. book.number == number) (filter has_changed books)) ≡ read (find (λ book. book.number == number) books)
+      → read (find (λ book. book.number == number) (filter has_changed books))
+      ≡ read (find (λ book. book.number == number) books)
   read_changed [] pairs counts = refl
   read_changed (y ∷ ys) pairs counts =
       let parts = and_parts (list_all (by_number y) ys) (all_pairs by_number ys) pairs in
@@ -89,20 +100,27 @@ module _ {A : Type 0} (read : Option NumberedBook → A) (nothing : (book : Numb
       by (has_changed y) (y.number == number) refl refl parts.0 more.0 (read_changed ys parts.1 more.1)
     where
       -- no other book has the number
-      none_behind : (y.number == number) ≡ true → list_all (by_number y) ys ≡ true → find (λ book. book.number == number) (filter has_changed ys) ≡ None
+      none_behind : (y.number == number) ≡ true → list_all (by_number y) ys ≡ true
+          → find (λ book. book.number == number) (filter has_changed ys) ≡ None
       none_behind e above =
           find_none (λ book. book.number == number) (filter has_changed ys)
           (list_all-filter (λ (book : NumberedBook). not (book.number == number)) has_changed ys
-          (list_all-weaker (by_number y) (λ book. not (book.number == number)) (λ book f. greater y.number number book.number e f) ys above))
+          (list_all-weaker (by_number y) (λ book. not (book.number == number))
+          (λ book f. greater y.number number book.number e f) ys above))
         where
           greater : (a b c : ℕ) → (a == b) ≡ true → nat_lt a c ≡ true → not (c == b) ≡ true
           greater a b c f g = grind (arith, nat_tests)
 
-      by : (b d : Bool) → has_changed y ≡ b → (y.number == number) ≡ d → list_all (by_number y) ys ≡ true → has_count y ≡ true
-          → read (find (λ book. book.number == number) (filter has_changed ys)) ≡ read (find (λ book. book.number == number) ys)
-          → read (find (λ book. book.number == number) (cond b (y ∷ filter has_changed ys) (filter has_changed ys))) ≡ read (cond d (Some y) (find (λ book. book.number == number) ys))
-      by true true e f above here rest = ap (λ b. read (cond b (Some y) (find (λ book. book.number == number) (filter has_changed ys)))) f
-      by true false e f above here rest = ap (λ b. read (cond b (Some y) (find (λ book. book.number == number) (filter has_changed ys)))) f ∙ rest
+      by : (b d : Bool) → has_changed y ≡ b → (y.number == number) ≡ d → list_all (by_number y) ys ≡ true
+          → has_count y ≡ true
+          → read (find (λ book. book.number == number) (filter has_changed ys))
+          ≡ read (find (λ book. book.number == number) ys)
+          → read (find (λ book. book.number == number) (cond b (y ∷ filter has_changed ys) (filter has_changed ys)))
+          ≡ read (cond d (Some y) (find (λ book. book.number == number) ys))
+      by true true e f above here rest =
+          ap (λ b. read (cond b (Some y) (find (λ book. book.number == number) (filter has_changed ys)))) f
+      by true false e f above here rest =
+          ap (λ b. read (cond b (Some y) (find (λ book. book.number == number) (filter has_changed ys)))) f ∙ rest
       by false true e f above here rest = ap read (none_behind f above) ∙ sym (nothing y e here)
       by false false e f above here rest = rest
 
@@ -113,7 +131,8 @@ module _ (all : State) (rows : ℕ) (keeps : IsKept all rows) where
 
   -- and so is its count
   pub count_changed : (number : ℕ) → count_of (changed all) number ≡ count_of all number
-  count_changed number = read_changed book_count (λ book e counts. no_count book e) number all.books keeps.ascend keeps.counts
+  count_changed number =
+      read_changed book_count (λ book e counts. no_count book e) number all.books keeps.ascend keeps.counts
 
   -- the rows of a book ascend
   pub rows_in_order : (number : ℕ) → rows_ascend (rows_of all number) ≡ true
@@ -123,50 +142,65 @@ module _ (all : State) (rows : ℕ) (keeps : IsKept all rows) where
   pub all_counted : count_rows (changed all) ≡ rows
   all_counted = by all.books keeps.counts ∙ sym keeps.counted
     where
-      by : (books : List NumberedBook) → list_all has_count books ≡ true → sum_by (λ book. length book.rows) (filter has_changed books) ≡ sum_by (λ book. length book.rows) books
+      by : (books : List NumberedBook) → list_all has_count books ≡ true
+          → sum_by (λ book. length book.rows) (filter has_changed books) ≡ sum_by (λ book. length book.rows) books
       by [] counts = refl
       by (y ∷ ys) counts =
           let parts = and_parts (has_count y) (list_all has_count ys) counts in
           either (has_changed y) refl parts.0 (by ys parts.1)
         where
-          either : (b : Bool) → has_changed y ≡ b → has_count y ≡ true → sum_by (λ book. length book.rows) (filter has_changed ys) ≡ sum_by (λ book. length book.rows) ys
-              → sum_by (λ book. length book.rows) (cond b (y ∷ filter has_changed ys) (filter has_changed ys)) ≡ sum_by (λ book. length book.rows) (y ∷ ys)
+          either : (b : Bool) → has_changed y ≡ b → has_count y ≡ true
+              → sum_by (λ book. length book.rows) (filter has_changed ys) ≡ sum_by (λ book. length book.rows) ys
+              → sum_by (λ book. length book.rows) (cond b (y ∷ filter has_changed ys) (filter has_changed ys))
+              ≡ sum_by (λ book. length book.rows) (y ∷ ys)
           either true e here rest =
-              sum_by-cons (λ (book : NumberedBook). length book.rows) y (filter has_changed ys) ∙ ap (λ n. length y.rows + n) rest ∙ sym (sum_by-cons (λ (book : NumberedBook). length book.rows) y ys)
+              sum_by-cons (λ (book : NumberedBook). length book.rows) y (filter has_changed ys)
+              ∙ ap (λ n. length y.rows + n) rest ∙ sym (sum_by-cons (λ (book : NumberedBook). length book.rows) y ys)
           either false e here rest =
               let none : length y.rows ≡ 0 = ap length (no_rows y e here) in
               let more = sum_by-cons (λ (book : NumberedBook). length book.rows) y ys in
               omega (arith, none, rest, more)
 
   -- a book that has changed comes in its place
-  pub book_changed : (book : NumberedBook) → has_changed book ≡ true → with_book book (changed all).books ≡ filter has_changed (with_book book all.books)
+  pub book_changed : (book : NumberedBook) → has_changed book ≡ true
+      → with_book book (changed all).books ≡ filter has_changed (with_book book all.books)
   book_changed book e =
       ap (insert_by by_number book) (filter_swap (λ other. not (other.number == book.number)) has_changed all.books)
-      ∙ sym (filter_put has_changed book (without_book book.number all.books) e (all_pairs-filter by_number (λ other. not (other.number == book.number)) all.books keeps.ascend))
+      ∙ sym (filter_put has_changed book (without_book book.number all.books) e
+      (all_pairs-filter by_number (λ other. not (other.number == book.number)) all.books keeps.ascend))
 
   -- what is kept with one book more, or in the place of that of its number
-  pub kept_with : (book : NumberedBook) (count : ℕ) → has_count book ≡ true → is_held book ≡ true → is_valid (changed (record { books = with_book book all.books })) ≡ true
-      → count ≡ count_rows (record { books = with_book book all.books }) → IsKept (record { books = with_book book all.books }) count
+  pub kept_with : (book : NumberedBook) (count : ℕ) → has_count book ≡ true → is_held book ≡ true
+      → is_valid (changed (record { books = with_book book all.books })) ≡ true
+      → count ≡ count_rows (record { books = with_book book all.books })
+      → IsKept (record { books = with_book book all.books }) count
   kept_with book count counts held valid counted = record {
     ascend = books_ascend_with_book book all.books keeps.ascend;
     valid = valid;
-    counts = list_all-insert_by by_number has_count book (without_book book.number all.books) counts (list_all-filter has_count (λ other. not (other.number == book.number)) all.books keeps.counts);
-    held = list_all-insert_by by_number is_held book (without_book book.number all.books) held (list_all-filter is_held (λ other. not (other.number == book.number)) all.books keeps.held);
+    counts =
+        list_all-insert_by by_number has_count book (without_book book.number all.books) counts
+        (list_all-filter has_count (λ other. not (other.number == book.number)) all.books keeps.counts);
+    held =
+        list_all-insert_by by_number is_held book (without_book book.number all.books) held
+        (list_all-filter is_held (λ other. not (other.number == book.number)) all.books keeps.held);
     counted = counted;
   }
 
 -- How many rows there may be
 
 -- numbers of 16 bits that ascend are few
-few : (low : ℕ) (books : List NumberedBook) → books_ascend books ≡ true → list_all is_held books ≡ true → list_all (λ book. nat_le low book.number) books ≡ true → low ≤ 65536 → length books + low ≤ 65536
+few : (low : ℕ) (books : List NumberedBook) → books_ascend books ≡ true → list_all is_held books ≡ true
+    → list_all (λ book. nat_le low book.number) books ≡ true → low ≤ 65536 → length books + low ≤ 65536
 few low [] pairs held above e = omega (arith, e)
 few low (y ∷ ys) pairs held above e =
     let parts = and_parts (list_all (by_number y) ys) (all_pairs by_number ys) pairs in
     let here = and_parts (is_held y) (list_all is_held ys) held in
-    let number = ltb-true y.number (2 ^ 16) (and_parts (nat_lt y.number (2 ^ 16)) (nat_lt (length y.rows) (2 ^ 64)) here.0).0 in
+    let number =
+    ltb-true y.number (2 ^ 16) (and_parts (nat_lt y.number (2 ^ 16)) (nat_lt (length y.rows) (2 ^ 64)) here.0).0 in
     let at_least = and_parts (nat_le low y.number) (list_all (λ book. nat_le low book.number) ys) above in
     let rest =
-    few (y.number + 1) ys parts.1 here.1 (list_all-weaker (by_number y) (λ book. nat_le (y.number + 1) book.number) (λ book f. next y.number book.number f) ys parts.0) (omega (arith, number)) in
+    few (y.number + 1) ys parts.1 here.1 (list_all-weaker (by_number y) (λ book. nat_le (y.number + 1) book.number)
+    (λ book f. next y.number book.number f) ys parts.0) (omega (arith, number)) in
     omega (arith, rest, leb_low at_least.0)
   where
     next : (a b : ℕ) → nat_lt a b ≡ true → nat_le (a + 1) b ≡ true
@@ -179,8 +213,11 @@ few low (y ∷ ys) pairs held above e =
 pub rows_counted : (all : State) (rows : ℕ) → IsKept all rows → rows ≤ 65536 * 18446744073709551616
 rows_counted all rows keeps =
     let books = all.books in
-    let short = few 0 books keeps.ascend keeps.held (list_all-weaker is_held (λ book. nat_le 0 book.number) (λ book e. from_zero book.number) books keeps.held) (omega arith) in
-    let each = All-weaker (λ book. is_held book ≡ true) (λ book. length book.rows ≤ 18446744073709551616) (λ book e. few_rows book e) books (AllPass-from_list_all is_held books keeps.held) in
+    let short = few 0 books keeps.ascend keeps.held
+    (list_all-weaker is_held (λ book. nat_le 0 book.number) (λ book e. from_zero book.number) books keeps.held)
+    (omega arith) in
+    let each = All-weaker (λ book. is_held book ≡ true) (λ book. length book.rows ≤ 18446744073709551616)
+    (λ book e. few_rows book e) books (AllPass-from_list_all is_held books keeps.held) in
     let sum = sum_by-le (λ (book : NumberedBook). length book.rows) 18446744073709551616 books each in
     omega (arith, keeps.counted, sum, short)
   where
@@ -189,7 +226,8 @@ rows_counted all rows keeps =
 
     few_rows : (book : NumberedBook) → is_held book ≡ true → length book.rows ≤ 18446744073709551616
     few_rows book e =
-        let low = ltb-true (length book.rows) (2 ^ 64) (and_parts (nat_lt book.number (2 ^ 16)) (nat_lt (length book.rows) (2 ^ 64)) e).1 in
+        let low = ltb-true (length book.rows) (2 ^ 64)
+        (and_parts (nat_lt book.number (2 ^ 16)) (nat_lt (length book.rows) (2 ^ 64)) e).1 in
         omega (arith, low)
 
 -- the keys of rows that ascend differ

@@ -1,5 +1,7 @@
 -- A book in memory that changes in its place.
-use Rattle.std.proofs.Common.{◌≡◌, ◌==◌, ℕ, zero, suc, ◌+◌, ◌^◌, ◌<◌, ◌≤◌, Bool, true, false, cond, ◌||◌, nat_lt, Option, None, Some, List, [], ◌∷◌, length, get_or, set, map, find, slice_get, refl, sym, ap, ◌∙◌, subst, arith}
+use Rattle.std.proofs.Common.{◌≡◌, ◌==◌, ℕ, zero, suc, ◌+◌, ◌^◌, ◌<◌, ◌≤◌, Bool, true, false, cond, ◌||◌, nat_lt}
+use Rattle.std.proofs.Common.{Option, None, Some, List, [], ◌∷◌, length, get_or, set, map, find, slice_get, refl, sym}
+use Rattle.std.proofs.Common.{ap, ◌∙◌, subst, arith}
 use Rattle.std.specs.List.{filter, insert, sum_by}
 use Rattle.std.specs.List.Sorted.{IsPartitionPoint}
 use Rattle.std.specs.Option.{is_some, option_and_then, option_map}
@@ -35,7 +37,8 @@ place_within p [] i e = cc
 place_within p (x ∷ xs) zero e = omega arith
 place_within p (x ∷ xs) (suc i) e = let rest = place_within p xs i e in omega (arith, rest)
 
-item_at : {X : Type 0} (p : X → Bool) (xs : List X) (i : ℕ) (x : X) → passes p (slice_get xs i) ≡ true → x ≡ get_or xs i x → (slice_get xs i ≡ Some x) × (p x ≡ true)
+item_at : {X : Type 0} (p : X → Bool) (xs : List X) (i : ℕ) (x : X) → passes p (slice_get xs i) ≡ true
+    → x ≡ get_or xs i x → (slice_get xs i ≡ Some x) × (p x ≡ true)
 item_at p [] i x e read = cc
 item_at p (y ∷ ys) zero x e read = (ap (λ z. Some z) (sym read), ap p read ∙ e)
 item_at p (y ∷ ys) (suc i) x e read = item_at p ys i x e read
@@ -49,45 +52,56 @@ room_there index number room = by (find (λ s. s.number == number) index.spare) 
     by (Some s) e = refl
 
 -- what is read of items among which one is put
-map_insert : {X Y : Type 0} (f : X → Y) (xs : List X) (i : ℕ) (x : X) → map f (insert xs i x) ≡ insert (map f xs) i (f x)
+map_insert : {X Y : Type 0} (f : X → Y) (xs : List X) (i : ℕ) (x : X)
+    → map f (insert xs i x) ≡ insert (map f xs) i (f x)
 map_insert f xs zero x = refl
 map_insert f [] (suc i) x = refl
 map_insert f (y ∷ ys) (suc i) x = ap (λ zs. f y ∷ zs) (map_insert f ys i x)
 
 -- a filter leaves out an item that is put among others
-filter_insert : {X : Type 0} (p : X → Bool) (xs : List X) (i : ℕ) (x : X) → p x ≡ false → filter p (insert xs i x) ≡ filter p xs
+filter_insert : {X : Type 0} (p : X → Bool) (xs : List X) (i : ℕ) (x : X) → p x ≡ false
+    → filter p (insert xs i x) ≡ filter p xs
 filter_insert p xs zero x e = ap (λ b. cond b (x ∷ filter p xs) (filter p xs)) e
 filter_insert p [] (suc i) x e = ap (λ b. cond b (x ∷ []) []) e
 filter_insert p (y ∷ ys) (suc i) x e = ap (λ zs. cond (p y) (y ∷ zs) zs) (filter_insert p ys i x e)
 
 -- an item that is put among others is found, if none is found before
-inserted_found : {X : Type 0} (p : X → Bool) (xs : List X) (i : ℕ) (x : X) → p x ≡ true → is_some (find p (insert xs i x)) ≡ true
+inserted_found : {X : Type 0} (p : X → Bool) (xs : List X) (i : ℕ) (x : X) → p x ≡ true
+    → is_some (find p (insert xs i x)) ≡ true
 inserted_found p xs zero x e = ap (λ b. is_some (cond b (Some x) (find p xs))) e
 inserted_found p [] (suc i) x e = ap (λ b. is_some (cond b (Some x) None)) e
 inserted_found p (y ∷ ys) (suc i) x e = by (p y) (inserted_found p ys i x e)
   where
-    by : (b : Bool) → is_some (find p (insert ys i x)) ≡ true → is_some (cond b (Some y) (find p (insert ys i x))) ≡ true
+    by : (b : Bool) → is_some (find p (insert ys i x)) ≡ true
+        → is_some (cond b (Some y) (find p (insert ys i x))) ≡ true
     by true rest = refl
     by false rest = rest
 
 -- books in memory ascend by their numbers
-pub numbers_ascend : (items : List LearnedBook) → books_ascend (kept items).books ≡ true → all_pairs (λ (book other : LearnedBook). nat_lt book.number other.number) items ≡ true
-numbers_ascend items ascend = sym (all_pairs-map numbered (λ (book other : NumberedBook). nat_lt book.number other.number) items) ∙ ascend
+pub numbers_ascend : (items : List LearnedBook) → books_ascend (kept items).books ≡ true
+    → all_pairs (λ (book other : LearnedBook). nat_lt book.number other.number) items ≡ true
+numbers_ascend items ascend =
+    sym (all_pairs-map numbered (λ (book other : NumberedBook). nat_lt book.number other.number) items) ∙ ascend
 
 module _ (items : List LearnedBook) (number place : ℕ) (ascend : books_ascend (kept items).books ≡ true)
-    (point : IsPartitionPoint (λ (book : LearnedBook). nat_lt book.number number ≡ true) (λ (book : LearnedBook). nat_lt book.number number ≡ false) items place) where
+    (point : IsPartitionPoint (λ (book : LearnedBook). nat_lt book.number number ≡ true)
+    (λ (book : LearnedBook). nat_lt book.number number ≡ false) items place) where
   -- the book of the number is the one at the place
-  pub found : find (λ (book : LearnedBook). book.number == number) items ≡ option_and_then (λ (book : LearnedBook). cond (book.number == number) (Some book) None) (slice_get items place)
+  pub found : find (λ (book : LearnedBook). book.number == number) items
+      ≡ option_and_then (λ (book : LearnedBook). cond (book.number == number) (Some book) None) (slice_get items place)
   found =
-      found_at (λ (book : LearnedBook). book.number) nat_lt (λ a b. a == b) number_keys number items place (numbers_ascend items ascend) point
+      found_at (λ (book : LearnedBook). book.number) nat_lt (λ a b. a == b) number_keys number items place
+      (numbers_ascend items ascend) point
 
   -- a book that is there stands at the place
-  pub stands : (state : State) → keeps_book (record { state = state; spare = map spare items }) number ≡ true → passes (λ (book : LearnedBook). book.number == number) (slice_get items place) ≡ true
+  pub stands : (state : State) → keeps_book (record { state = state; spare = map spare items }) number ≡ true
+      → passes (λ (book : LearnedBook). book.number == number) (slice_get items place) ≡ true
   stands state there =
       by (slice_get items place)
       (ap is_some (ap (option_map spare) (sym found) ∙ sym (find-map spare (λ s. s.number == number) items)) ∙ there)
     where
-      by : (item : Option LearnedBook) → is_some (option_map spare (option_and_then (λ (book : LearnedBook). cond (book.number == number) (Some book) None) item)) ≡ true
+      by : (item : Option LearnedBook) → is_some (option_map spare
+          (option_and_then (λ (book : LearnedBook). cond (book.number == number) (Some book) None) item)) ≡ true
           → passes (λ (book : LearnedBook). book.number == number) item ≡ true
       by None e = cc
       by (Some book) e = either (book.number == number) e
@@ -97,34 +111,44 @@ module _ (items : List LearnedBook) (number place : ℕ) (ascend : books_ascend 
           either false f = cc
 
   -- and is the one that is read there
-  pub stands_at : (state : State) (book : LearnedBook) → keeps_book (record { state = state; spare = map spare items }) number ≡ true → book ≡ get_or items place book → IsAt items number place book
+  pub stands_at : (state : State) (book : LearnedBook)
+      → keeps_book (record { state = state; spare = map spare items }) number ≡ true → book ≡ get_or items place book
+      → IsAt items number place book
   stands_at state book there read =
       let both = item_at (λ (b : LearnedBook). b.number == number) items place book (stands state there) read in
       record { here = both.0; has = both.1 }
 
   -- a book that stands at the place is there
-  pub there_by : (state : State) → passes (λ (book : LearnedBook). book.number == number) (slice_get items place) ≡ true → keeps_book (record { state = state; spare = map spare items }) number ≡ true
+  pub there_by : (state : State) → passes (λ (book : LearnedBook). book.number == number) (slice_get items place) ≡ true
+      → keeps_book (record { state = state; spare = map spare items }) number ≡ true
   there_by state there =
-      ap is_some (find-map spare (λ s. s.number == number) items ∙ ap (option_map spare) found) ∙ by (slice_get items place) there
+      ap is_some (find-map spare (λ s. s.number == number) items ∙ ap (option_map spare) found)
+      ∙ by (slice_get items place) there
     where
       by : (item : Option LearnedBook) → passes (λ (book : LearnedBook). book.number == number) item ≡ true
-          → is_some (option_map spare (option_and_then (λ (book : LearnedBook). cond (book.number == number) (Some book) None) item)) ≡ true
+          → is_some (option_map spare
+          (option_and_then (λ (book : LearnedBook). cond (book.number == number) (Some book) None) item)) ≡ true
       by None e = cc
       by (Some book) e = ap (λ b. is_some (option_map spare (cond b (Some book) None))) e
 
   -- a book that has not changed, put where its number is not there
-  module _ (rows : ℕ) (keeps : IsKept (kept items) rows) (new : LearnedBook) (same : new.number ≡ number) (unchanged : new.count ≡ 0) (empty : new.rows.items ≡ [])
-      (within : place ≤ length items) (missing : passes (λ (book : LearnedBook). book.number == number) (slice_get items place) ≡ false) where
+  module _ (rows : ℕ) (keeps : IsKept (kept items) rows) (new : LearnedBook) (same : new.number ≡ number)
+      (unchanged : new.count ≡ 0) (empty : new.rows.items ≡ [])
+      (within : place ≤ length items)
+      (missing : passes (λ (book : LearnedBook). book.number == number) (slice_get items place) ≡ false) where
     kept_insert : kept (insert items place new) ≡ record { books = with_book (numbered new) (kept items).books }
     kept_insert =
         let low = place_read numbered (λ (b : NumberedBook). nat_lt b.number number) items place within point in
         ap (λ (books : List NumberedBook). record { books = books })
         (map_insert numbered items place new
-        ∙ sym (put_insert (λ (b : NumberedBook). b.number) nat_lt (λ a b. a == b) number_keys (numbered new) (map numbered items) place (omega (arith, within, length-map items numbered)) ascend
-        (subst (λ (n : ℕ). IsPartitionPoint (λ (b : NumberedBook). nat_lt b.number n ≡ true) (λ (b : NumberedBook). nat_lt b.number n ≡ false) (map numbered items) place) (sym same) low)
+        ∙ sym (put_insert (λ (b : NumberedBook). b.number) nat_lt (λ a b. a == b) number_keys (numbered new)
+        (map numbered items) place (omega (arith, within, length-map items numbered)) ascend
+        (subst (λ (n : ℕ). IsPartitionPoint (λ (b : NumberedBook). nat_lt b.number n ≡ true)
+        (λ (b : NumberedBook). nat_lt b.number n ≡ false) (map numbered items) place) (sym same) low)
         (passed items place missing)))
       where
-        passed : (xs : List LearnedBook) (i : ℕ) → passes (λ (book : LearnedBook). book.number == number) (slice_get xs i) ≡ false
+        passed : (xs : List LearnedBook) (i : ℕ)
+            → passes (λ (book : LearnedBook). book.number == number) (slice_get xs i) ≡ false
             → passes (λ (b : NumberedBook). b.number == new.number) (slice_get (map numbered xs) i) ≡ false
         passed [] i e = refl
         passed (x ∷ xs) zero e = ap (λ n. x.number == n) same ∙ e
@@ -133,8 +157,10 @@ module _ (items : List LearnedBook) (number place : ℕ) (ascend : books_ascend 
     -- leaves the state
     pub state_insert : changed (kept (insert items place new)) ≡ changed (kept items)
     state_insert =
-        ap (λ (books : List NumberedBook). record { books = filter has_changed books }) (map_insert numbered items place new)
-        ∙ ap (λ (books : List NumberedBook). record { books = books }) (filter_insert has_changed (map numbered items) place (numbered new) (ap (λ n. nat_lt 0 n) unchanged))
+        ap (λ (books : List NumberedBook). record { books = filter has_changed books })
+        (map_insert numbered items place new)
+        ∙ ap (λ (books : List NumberedBook). record { books = books })
+        (filter_insert has_changed (map numbered items) place (numbered new) (ap (λ n. nat_lt 0 n) unchanged))
 
     -- and what is kept
     pub kept_new : number < 2 ^ 16 → IsKept (kept (insert items place new)) rows
@@ -143,41 +169,55 @@ module _ (items : List LearnedBook) (number place : ℕ) (ascend : books_ascend 
         let sum = sum_by-insert (λ (b : NumberedBook). length b.rows) (map numbered items) place (numbered new) in
         let moved = ap (sum_by (λ (b : NumberedBook). length b.rows)) (map_insert numbered items place new) in
         subst (λ (all : State). IsKept all rows) (sym kept_insert)
-        (kept_with (kept items) rows keeps (numbered new) rows (ap (λ n. nat_lt 0 new.count || nat_lt n 1) none ∙ or_right (nat_lt 0 new.count) true refl)
-        (and_from (nat_lt new.number (2 ^ 16)) (nat_lt (length new.rows.items) (2 ^ 64)) (lt-ltb new.number (2 ^ 16) (subst (λ n. n < 2 ^ 16) (sym same) small)) (ap (λ n. nat_lt n (2 ^ 64)) none))
-        (ap is_valid (ap changed (sym kept_insert) ∙ state_insert) ∙ keeps.valid) (equal none sum moved ∙ ap count_rows kept_insert))
+        (kept_with (kept items) rows keeps (numbered new) rows
+        (ap (λ n. nat_lt 0 new.count || nat_lt n 1) none ∙ or_right (nat_lt 0 new.count) true refl)
+        (and_from (nat_lt new.number (2 ^ 16)) (nat_lt (length new.rows.items) (2 ^ 64))
+        (lt-ltb new.number (2 ^ 16) (subst (λ n. n < 2 ^ 16) (sym same) small)) (ap (λ n. nat_lt n (2 ^ 64)) none))
+        (ap is_valid (ap changed (sym kept_insert) ∙ state_insert) ∙ keeps.valid)
+        (equal none sum moved ∙ ap count_rows kept_insert))
       where
-        equal : length new.rows.items ≡ 0 → sum_by (λ (b : NumberedBook). length b.rows) (insert (map numbered items) place (numbered new)) ≡ sum_by (λ (b : NumberedBook). length b.rows) (map numbered items) + length new.rows.items
-            → sum_by (λ (b : NumberedBook). length b.rows) (map numbered (insert items place new)) ≡ sum_by (λ (b : NumberedBook). length b.rows) (insert (map numbered items) place (numbered new))
+        equal : length new.rows.items ≡ 0
+            → sum_by (λ (b : NumberedBook). length b.rows) (insert (map numbered items) place (numbered new))
+            ≡ sum_by (λ (b : NumberedBook). length b.rows) (map numbered items) + length new.rows.items
+            → sum_by (λ (b : NumberedBook). length b.rows) (map numbered (insert items place new))
+            ≡ sum_by (λ (b : NumberedBook). length b.rows) (insert (map numbered items) place (numbered new))
             → rows ≡ count_rows (kept (insert items place new))
         equal none sum moved = omega (arith, keeps.counted, none, sum, moved)
 
     -- and the book is there
-    pub new_there : (state : State) → keeps_book (record { state = state; spare = map spare (insert items place new) }) number ≡ true
+    pub new_there : (state : State)
+        → keeps_book (record { state = state; spare = map spare (insert items place new) }) number ≡ true
     new_there state =
         ap (λ spares. is_some (find (λ s. s.number == number) spares)) (map_insert spare items place new)
         ∙ inserted_found (λ s. s.number == number) (map spare items) place (spare new) (eq-eqb new.number number same)
 
   module _ (book : LearnedBook) (at : IsAt items number place book) where
     found_here : find (λ (b : LearnedBook). b.number == number) items ≡ Some book
-    found_here = found ∙ ap (option_and_then (λ (b : LearnedBook). cond (b.number == number) (Some b) None)) at.here ∙ ap (λ b. cond b (Some book) None) at.has
+    found_here =
+        found ∙ ap (option_and_then (λ (b : LearnedBook). cond (b.number == number) (Some b) None)) at.here
+        ∙ ap (λ b. cond b (Some book) None) at.has
 
     -- its rows
     pub rows_here : rows_of (kept items) number ≡ book.rows.items
-    rows_here = ap book_rows (find-map numbered (λ (b : NumberedBook). b.number == number) items ∙ ap (option_map numbered) found_here)
+    rows_here =
+        ap book_rows (find-map numbered (λ (b : NumberedBook). b.number == number) items
+        ∙ ap (option_map numbered) found_here)
 
     -- and its room
-    pub room_here : (state : State) → 0 < spare_of (record { state = state; spare = map spare items }) number → vec_len book.rows < vec_capacity book.rows
+    pub room_here : (state : State) → 0 < spare_of (record { state = state; spare = map spare items }) number
+        → vec_len book.rows < vec_capacity book.rows
     room_here state room =
         let same = ap changes_of (find-map spare (λ s. s.number == number) items ∙ ap (option_map spare) found_here) in
         omega (arith, room, same)
 
     -- what a book with more room leaves as it was
-    module _ (after : LearnedBook) (number_same : after.number ≡ book.number) (count_same : after.count ≡ book.count) (rows_same : after.rows.items ≡ book.rows.items) where
+    module _ (after : LearnedBook) (number_same : after.number ≡ book.number) (count_same : after.count ≡ book.count)
+        (rows_same : after.rows.items ≡ book.rows.items) where
       pub kept_grown : kept (set items place after) ≡ kept items
       kept_grown =
           ap (λ (books : List NumberedBook). record { books = books })
-          (map-set numbered items place after ∙ ap (set (map numbered items) place) same_numbered ∙ set_same items place at.here)
+          (map-set numbered items place after ∙ ap (set (map numbered items) place) same_numbered
+          ∙ set_same items place at.here)
         where
           same_numbered : numbered after ≡ numbered book
           same_numbered =
@@ -185,17 +225,23 @@ module _ (items : List LearnedBook) (number place : ℕ) (ascend : books_ascend 
               ∙ ap (λ (n : ℕ). record { number = book.number; count = n; rows = after.rows.items }) count_same
               ∙ ap (λ (rows : List Row). record { number = book.number; count = book.count; rows = rows }) rows_same
 
-          set_same : (xs : List LearnedBook) (i : ℕ) → slice_get xs i ≡ Some book → set (map numbered xs) i (numbered book) ≡ map numbered xs
+          set_same : (xs : List LearnedBook) (i : ℕ) → slice_get xs i ≡ Some book
+              → set (map numbered xs) i (numbered book) ≡ map numbered xs
           set_same [] i e = cc
-          set_same (x ∷ xs) zero e = let one : x ≡ book = cc in ap (λ (b : LearnedBook). numbered b ∷ map numbered xs) (sym one)
+          set_same (x ∷ xs) zero e =
+              let one : x ≡ book = cc in ap (λ (b : LearnedBook). numbered b ∷ map numbered xs) (sym one)
           set_same (x ∷ xs) (suc i) e = ap (λ bs. numbered x ∷ bs) (set_same xs i e)
 
       -- and the room that it has
-      pub room_grown : (state : State) → vec_len after.rows < vec_capacity after.rows → 0 < spare_of (record { state = state; spare = map spare (set items place after) }) number
+      pub room_grown : (state : State) → vec_len after.rows < vec_capacity after.rows
+          → 0 < spare_of (record { state = state; spare = map spare (set items place after) }) number
       room_grown state room =
-          let within = place_within (λ (b : LearnedBook). b.number == number) items place (ap (passes (λ (b : LearnedBook). b.number == number)) at.here ∙ at.has) in
-          let there = found_put (λ (b : LearnedBook). b.number) nat_lt (λ a b. a == b) number_keys number after items place point within (ap (λ n. n == number) number_same ∙ at.has) in
-          let same = ap changes_of (find-map spare (λ s. s.number == number) (set items place after) ∙ ap (option_map spare) there) in
+          let within = place_within (λ (b : LearnedBook). b.number == number) items place
+          (ap (passes (λ (b : LearnedBook). b.number == number)) at.here ∙ at.has) in
+          let there = found_put (λ (b : LearnedBook). b.number) nat_lt (λ a b. a == b) number_keys number after items
+          place point within (ap (λ n. n == number) number_same ∙ at.has) in
+          let same = ap changes_of
+          (find-map spare (λ s. s.number == number) (set items place after) ∙ ap (option_map spare) there) in
           omega (arith, room, same)
 
     module _ (rows : ℕ) (keeps : IsKept (kept items) rows) where
@@ -208,10 +254,12 @@ module _ (items : List LearnedBook) (number place : ℕ) (ascend : books_ascend 
           counted_nothing : length book.rows.items ≤ count_rows (kept items)
           counted_nothing = of_book items place at.here
             where
-              of_book : (xs : List LearnedBook) (i : ℕ) → slice_get xs i ≡ Some book → length book.rows.items ≤ count_rows (kept xs)
+              of_book : (xs : List LearnedBook) (i : ℕ) → slice_get xs i ≡ Some book
+                  → length book.rows.items ≤ count_rows (kept xs)
               of_book [] i e = cc
               of_book (x ∷ xs) zero e =
-                  let one : length x.rows.items ≡ length book.rows.items = ap (λ (b : LearnedBook). length b.rows.items) (the_one e) in
+                  let one : length x.rows.items ≡ length book.rows.items =
+                  ap (λ (b : LearnedBook). length b.rows.items) (the_one e) in
                   let sum = sum_by-cons (λ (b : NumberedBook). length b.rows) (numbered x) (map numbered xs) in
                   omega (arith, one, sum)
                 where
@@ -226,15 +274,20 @@ module _ (items : List LearnedBook) (number place : ℕ) (ascend : books_ascend 
         -- the books with another in its place
         pub kept_set : kept (set items place after) ≡ record { books = with_book (numbered after) (kept items).books }
         kept_set =
-            let within = place_within (λ (b : LearnedBook). b.number == number) items place (ap (passes (λ (b : LearnedBook). b.number == number)) at.here ∙ at.has) in
-            let low = place_read numbered (λ (b : NumberedBook). nat_lt b.number number) items place (omega (arith, within)) point in
+            let within = place_within (λ (b : LearnedBook). b.number == number) items place
+            (ap (passes (λ (b : LearnedBook). b.number == number)) at.here ∙ at.has) in
+            let low = place_read numbered (λ (b : NumberedBook). nat_lt b.number number) items place
+            (omega (arith, within)) point in
             ap (λ (books : List NumberedBook). record { books = books })
             (map-set numbered items place after
-            ∙ sym (put_set (λ (b : NumberedBook). b.number) nat_lt (λ a b. a == b) number_keys (numbered after) (map numbered items) place ascend
-            (subst (λ (n : ℕ). IsPartitionPoint (λ (b : NumberedBook). nat_lt b.number n ≡ true) (λ (b : NumberedBook). nat_lt b.number n ≡ false) (map numbered items) place) (sym same) low)
+            ∙ sym (put_set (λ (b : NumberedBook). b.number) nat_lt (λ a b. a == b) number_keys (numbered after)
+            (map numbered items) place ascend
+            (subst (λ (n : ℕ). IsPartitionPoint (λ (b : NumberedBook). nat_lt b.number n ≡ true)
+            (λ (b : NumberedBook). nat_lt b.number n ≡ false) (map numbered items) place) (sym same) low)
             (passed items place at.here)))
           where
-            passed : (xs : List LearnedBook) (i : ℕ) → slice_get xs i ≡ Some book → passes (λ (b : NumberedBook). b.number == after.number) (slice_get (map numbered xs) i) ≡ true
+            passed : (xs : List LearnedBook) (i : ℕ) → slice_get xs i ≡ Some book
+                → passes (λ (b : NumberedBook). b.number == after.number) (slice_get (map numbered xs) i) ≡ true
             passed [] i e = cc
             passed (x ∷ xs) zero e =
                 let one : x ≡ book = cc in
@@ -242,11 +295,15 @@ module _ (items : List LearnedBook) (number place : ℕ) (ascend : books_ascend 
             passed (x ∷ xs) (suc i) e = passed xs i e
 
         -- how many rows there are then
-        pub counted_set : count_rows (kept (set items place after)) + length book.rows.items ≡ count_rows (kept items) + length after.rows.items
+        pub counted_set : count_rows (kept (set items place after)) + length book.rows.items
+            ≡ count_rows (kept items) + length after.rows.items
         counted_set =
-            let within = place_within (λ (b : LearnedBook). b.number == number) items place (ap (passes (λ (b : LearnedBook). b.number == number)) at.here ∙ at.has) in
-            let sum = sum_by-set (λ (b : NumberedBook). length b.rows) (map numbered items) place (numbered after) (numbered book) (omega (arith, within, length-map items numbered)) in
-            let read = get_or-map numbered items place book (numbered book) within ∙ ap numbered (get_or_from_slice_get items place book book at.here) in
+            let within = place_within (λ (b : LearnedBook). b.number == number) items place
+            (ap (passes (λ (b : LearnedBook). b.number == number)) at.here ∙ at.has) in
+            let sum = sum_by-set (λ (b : NumberedBook). length b.rows) (map numbered items) place (numbered after)
+            (numbered book) (omega (arith, within, length-map items numbered)) in
+            let read = get_or-map numbered items place book (numbered book) within
+            ∙ ap numbered (get_or_from_slice_get items place book book at.here) in
             let count = ap (λ (b : NumberedBook). length b.rows) read in
             let moved = ap (sum_by (λ (b : NumberedBook). length b.rows)) (map-set numbered items place after) in
             omega (arith, sum, count, moved)
@@ -254,41 +311,65 @@ module _ (items : List LearnedBook) (number place : ℕ) (ascend : books_ascend 
         module _ (changes : has_changed (numbered after) ≡ true) where
           -- the state with the book changed
           state_set : (left : List Row) → after.rows.items ≡ left
-              → changed (kept (set items place after)) ≡ record { books = with_book (record { number = number; count = after.count; rows = left }) (changed (kept items)).books }
+              → changed (kept (set items place after)) ≡ record {
+                books =
+                    with_book (record { number = number; count = after.count; rows = left })
+                    (changed (kept items)).books;
+              }
           state_set left e =
-              ap changed kept_set ∙ ap (λ (books : List NumberedBook). record { books = books }) (sym (book_changed (kept items) rows keeps (numbered after) changes))
+              ap changed kept_set ∙ ap (λ (books : List NumberedBook). record { books = books })
+              (sym (book_changed (kept items) rows keeps (numbered after) changes))
               ∙ ap (λ n. with_left n after.rows.items) same ∙ ap (with_left number) e
             where
               with_left : ℕ → List Row → State
-              with_left n rows = record { books = with_book (record { number = n; count = after.count; rows = rows }) (changed (kept items)).books }
+              with_left n rows = record {
+                books =
+                    with_book (record { number = n; count = after.count; rows = rows }) (changed (kept items)).books;
+              }
 
           -- where a row of it changes
           pub state_row : (key : RowKey) (row : Option Row) → after.rows.items ≡ with_row key row book.rows.items
               → changed (kept (set items place after)) ≡ state_with (changed (kept items)) number after.count key row
           state_row key row e =
-              state_set (with_row key row (rows_of (changed (kept items)) number)) (e ∙ ap (with_row key row) (sym (rows_changed (kept items) rows keeps number ∙ rows_here)))
+              state_set (with_row key row (rows_of (changed (kept items)) number))
+              (e ∙ ap (with_row key row) (sym (rows_changed (kept items) rows keeps number ∙ rows_here)))
 
           -- and where its count alone does
-          pub state_count : after.rows.items ≡ book.rows.items → changed (kept (set items place after)) ≡ state_counted (changed (kept items)) number after.count
+          pub state_count : after.rows.items ≡ book.rows.items
+              → changed (kept (set items place after)) ≡ state_counted (changed (kept items)) number after.count
           state_count e =
-              state_set (rows_of (changed (kept items)) number) (e ∙ sym (rows_changed (kept items) rows keeps number ∙ rows_here))
+              state_set (rows_of (changed (kept items)) number)
+              (e ∙ sym (rows_changed (kept items) rows keeps number ∙ rows_here))
               ∙ sym (ap (λ b. cond b (changed (kept items)) counted) (some after.count changes))
             where
               counted : State
-              counted = record { books = with_book (record { number = number; count = after.count; rows = rows_of (changed (kept items)) number }) (changed (kept items)).books }
+              counted = record {
+                books = with_book (record {
+                  number = number;
+                  count = after.count;
+                  rows = rows_of (changed (kept items)) number;
+                }) (changed (kept items)).books;
+              }
 
               some : (n : ℕ) → nat_lt 0 n ≡ true → (n == 0) ≡ false
               some n f = grind (arith, nat_tests)
 
           -- what is kept then
-          pub kept_after : (count : ℕ) → number < 2 ^ 16 → length after.rows.items < 2 ^ 64 → count + length book.rows.items ≡ rows + length after.rows.items
+          pub kept_after : (count : ℕ) → number < 2 ^ 16 → length after.rows.items < 2 ^ 64
+              → count + length book.rows.items ≡ rows + length after.rows.items
               → is_valid (changed (kept (set items place after))) ≡ true → IsKept (kept (set items place after)) count
           kept_after count small short counted valid =
               let sum = counted_set in
               subst (λ (all : State). IsKept all count) (sym kept_set)
-              (kept_with (kept items) rows keeps (numbered after) count (ap (λ b. b || nat_lt (length after.rows.items) 1) changes)
-              (and_from (nat_lt after.number (2 ^ 16)) (nat_lt (length after.rows.items) (2 ^ 64)) (lt-ltb after.number (2 ^ 16) (subst (λ n. n < 2 ^ 16) (sym same) small)) (lt-ltb (length after.rows.items) (2 ^ 64) short))
-              (ap (λ (all : State). is_valid (changed all)) (sym kept_set) ∙ valid) (equal sum ∙ ap count_rows kept_set))
+              (kept_with (kept items) rows keeps (numbered after) count
+              (ap (λ b. b || nat_lt (length after.rows.items) 1) changes)
+              (and_from (nat_lt after.number (2 ^ 16)) (nat_lt (length after.rows.items) (2 ^ 64))
+              (lt-ltb after.number (2 ^ 16) (subst (λ n. n < 2 ^ 16) (sym same) small))
+              (lt-ltb (length after.rows.items) (2 ^ 64) short))
+              (ap (λ (all : State). is_valid (changed all)) (sym kept_set) ∙ valid)
+              (equal sum ∙ ap count_rows kept_set))
             where
-              equal : count_rows (kept (set items place after)) + length book.rows.items ≡ count_rows (kept items) + length after.rows.items → count ≡ count_rows (kept (set items place after))
+              equal : count_rows (kept (set items place after)) + length book.rows.items
+                  ≡ count_rows (kept items) + length after.rows.items
+                  → count ≡ count_rows (kept (set items place after))
               equal sum = omega (arith, keeps.counted, counted, sum)

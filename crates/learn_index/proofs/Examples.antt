@@ -21,8 +21,10 @@ row reading stamp = record { key = key reading; cands = []; blocks = []; hides =
 -- a call of each kind
 abbrev calls : List Call
 calls =
-    Lookup 1 (key (codes "a")) None ∷ Complete 1 (codes "a") ∷ Learn 1 (key (codes "a")) None (record { word = codes "b"; note = [] })
-    ∷ Purge 1 (key (codes "a")) (codes "b") ∷ Unlearn (record { book = 1; key = key (codes "a"); stamp = 2; before = None }) ∷ []
+    Lookup 1 (key (codes "a")) None ∷ Complete 1 (codes "a")
+    ∷ Learn 1 (key (codes "a")) None (record { word = codes "b"; note = [] })
+    ∷ Purge 1 (key (codes "a")) (codes "b")
+    ∷ Unlearn (record { book = 1; key = key (codes "a"); stamp = 2; before = None }) ∷ []
 
 lookups : map is_lookup calls ≡ true ∷ false ∷ false ∷ false ∷ false ∷ []
 lookups = refl
@@ -33,7 +35,12 @@ questions = refl
 -- an index over no changed book that has room for two changes of book 0, and for none of book 7
 abbrev roomy : Index
 roomy =
-    record { state = record { books = [] }; spare = record { number = 0; changes = 2 } ∷ record { number = 7; changes = 0 } ∷ record { number = 9; changes = 5 } ∷ [] }
+    record {
+      state = record { books = [] };
+      spare =
+          record { number = 0; changes = 2 } ∷ record { number = 7; changes = 0 }
+          ∷ record { number = 9; changes = 5 } ∷ [];
+    }
 
 room_of_books : map (spare_of roomy) (0 ∷ 7 ∷ 8 ∷ 9 ∷ []) ≡ 2 ∷ 0 ∷ 0 ∷ 5 ∷ []
 room_of_books = refl
@@ -46,14 +53,17 @@ abbrev book : ℕ → ℕ → List Row → NumberedBook
 book number count rows = record { number = number; count = count; rows = rows }
 
 -- the books of a state are those that have changed; one that has not has no row
-changed_books : changed (record { books = book 0 0 [] ∷ book 1 1 [] ∷ book 2 0 [] ∷ book 3 2 (row (codes "a") 2 ∷ []) ∷ [] })
+changed_books : changed
+    (record { books = book 0 0 [] ∷ book 1 1 [] ∷ book 2 0 [] ∷ book 3 2 (row (codes "a") 2 ∷ []) ∷ [] })
     ≡ record { books = book 1 1 [] ∷ book 3 2 (row (codes "a") 2 ∷ []) ∷ [] }
 changed_books = refl
 
 books_changed : map has_changed (book 0 0 [] ∷ book 0 1 [] ∷ book 1 0 [] ∷ []) ≡ false ∷ true ∷ false ∷ []
 books_changed = refl
 
-counts_of_books : map has_count (book 0 0 [] ∷ book 0 1 [] ∷ book 0 1 (row (codes "a") 1 ∷ []) ∷ book 0 0 (row (codes "a") 1 ∷ []) ∷ []) ≡ true ∷ true ∷ true ∷ false ∷ []
+counts_of_books : map has_count
+    (book 0 0 [] ∷ book 0 1 [] ∷ book 0 1 (row (codes "a") 1 ∷ []) ∷ book 0 0 (row (codes "a") 1 ∷ []) ∷ [])
+    ≡ true ∷ true ∷ true ∷ false ∷ []
 counts_of_books = refl
 
 numbers_held : map is_held (book 0 0 [] ∷ book 65535 0 [] ∷ book 65536 0 [] ∷ []) ≡ true ∷ true ∷ false ∷ []
@@ -61,22 +71,37 @@ numbers_held = refl
 
 -- book 1 has changed twice, and book 3 five times
 abbrev two_books : State
-two_books = record { books = book 1 2 (row (codes "b") 2 ∷ []) ∷ book 3 5 (row (codes "a") 4 ∷ row (codes "c") 5 ∷ []) ∷ [] }
+two_books =
+    record { books = book 1 2 (row (codes "b") 2 ∷ []) ∷ book 3 5 (row (codes "a") 4 ∷ row (codes "c") 5 ∷ []) ∷ [] }
 
 -- a count keeps the rows of its book, and 0 leaves no book
-states_counted : map (λ (line : ℕ × ℕ). state_counted two_books line.0 line.1) ((1, 9) ∷ (2, 1) ∷ (0, 1) ∷ (4, 1) ∷ (2, 0) ∷ []) ≡
+states_counted : map (λ (line : ℕ × ℕ). state_counted two_books line.0 line.1)
+    ((1, 9) ∷ (2, 1) ∷ (0, 1) ∷ (4, 1) ∷ (2, 0) ∷ []) ≡
     record { books = book 1 9 (row (codes "b") 2 ∷ []) ∷ book 3 5 (row (codes "a") 4 ∷ row (codes "c") 5 ∷ []) ∷ [] }
-    ∷ record { books = book 1 2 (row (codes "b") 2 ∷ []) ∷ book 2 1 [] ∷ book 3 5 (row (codes "a") 4 ∷ row (codes "c") 5 ∷ []) ∷ [] }
-    ∷ record { books = book 0 1 [] ∷ book 1 2 (row (codes "b") 2 ∷ []) ∷ book 3 5 (row (codes "a") 4 ∷ row (codes "c") 5 ∷ []) ∷ [] }
-    ∷ record { books = book 1 2 (row (codes "b") 2 ∷ []) ∷ book 3 5 (row (codes "a") 4 ∷ row (codes "c") 5 ∷ []) ∷ book 4 1 [] ∷ [] }
+    ∷ record {
+      books =
+          book 1 2 (row (codes "b") 2 ∷ []) ∷ book 2 1 [] ∷ book 3 5 (row (codes "a") 4 ∷ row (codes "c") 5 ∷ []) ∷ [];
+    }
+    ∷ record {
+      books =
+          book 0 1 [] ∷ book 1 2 (row (codes "b") 2 ∷ []) ∷ book 3 5 (row (codes "a") 4 ∷ row (codes "c") 5 ∷ []) ∷ [];
+    }
+    ∷ record {
+      books =
+          book 1 2 (row (codes "b") 2 ∷ []) ∷ book 3 5 (row (codes "a") 4 ∷ row (codes "c") 5 ∷ []) ∷ book 4 1 [] ∷ [];
+    }
     ∷ two_books ∷ []
 states_counted = refl
 
 -- a row that is taken out leaves the others and the count, also where there was none; 0 leaves no book
-states_without : map (λ (line : ℕ × ℕ × List ℕ). state_without two_books line.0 line.1 (key line.2)) ((3, 6, codes "a") ∷ (3, 6, codes "b") ∷ (2, 1, codes "a") ∷ (2, 0, codes "a") ∷ []) ≡
+states_without : map (λ (line : ℕ × ℕ × List ℕ). state_without two_books line.0 line.1 (key line.2))
+    ((3, 6, codes "a") ∷ (3, 6, codes "b") ∷ (2, 1, codes "a") ∷ (2, 0, codes "a") ∷ []) ≡
     record { books = book 1 2 (row (codes "b") 2 ∷ []) ∷ book 3 6 (row (codes "c") 5 ∷ []) ∷ [] }
     ∷ record { books = book 1 2 (row (codes "b") 2 ∷ []) ∷ book 3 6 (row (codes "a") 4 ∷ row (codes "c") 5 ∷ []) ∷ [] }
-    ∷ record { books = book 1 2 (row (codes "b") 2 ∷ []) ∷ book 2 1 [] ∷ book 3 5 (row (codes "a") 4 ∷ row (codes "c") 5 ∷ []) ∷ [] }
+    ∷ record {
+      books =
+          book 1 2 (row (codes "b") 2 ∷ []) ∷ book 2 1 [] ∷ book 3 5 (row (codes "a") 4 ∷ row (codes "c") 5 ∷ []) ∷ [];
+    }
     ∷ two_books ∷ []
 unfolding lib.Utf8.encode
 states_without = refl

@@ -1,5 +1,6 @@
 -- The book of a number that an index finds, and what the index stands for once that book changes in its place.
-use Rattle.std.proofs.Common.{◌≡◌, ◌==◌, ℕ, ◌+◌, ◌^◌, ◌<◌, ◌≤◌, true, false, nat_lt, Option, List, length, get_or, set, map, sym, ap, ◌∙◌, subst, arith}
+use Rattle.std.proofs.Common.{◌≡◌, ◌==◌, ℕ, ◌+◌, ◌^◌, ◌<◌, ◌≤◌, true, false, nat_lt, Option, List, length, get_or, set}
+use Rattle.std.proofs.Common.{map, sym, ap, ◌∙◌, subst, arith}
 use Rattle.std.proofs.lemmas.Bool.{eqb-true, lt-ltb}
 use Rattle.std.specs.List.Sorted.{IsPartitionPoint}
 use Rattle.std.specs.Vec.{vec_len, vec_capacity}
@@ -10,21 +11,25 @@ use Rattle.learn_index.specs.Index.{Index, spare_of}
 use Rattle.learn_index.specs.Kept.{kept, changed, spare, keeps_book, IsKept}
 use Rattle.learn_index.specs.Records.{state_counted}
 use Rattle.learn_index.proofs.Books.{rows_in_order}
-use Rattle.learn_index.proofs.Changes.{IsAt, kept_after, kept_grown, place_within, room_grown, room_here, rows_below, rows_here, stands, stands_at, state_count, state_row}
+use Rattle.learn_index.proofs.Changes.{IsAt, kept_after, kept_grown, place_within, room_grown, room_here, rows_below}
+use Rattle.learn_index.proofs.Changes.{rows_here, stands, stands_at, state_count, state_row}
 
 -- an index keeps these books and counts this many rows, it has the book of a number, and this is its place
 pub record HasPlace (items : List LearnedBook) (rows : ℕ) (index : Index) (number place : ℕ) : Type 0 where
   pub keeps : IsKept (kept items) rows
   pub seen : record { state = changed (kept items); spare = map spare items } ≡ index
   pub there : keeps_book index number ≡ true
-  pub point : IsPartitionPoint (λ (book : LearnedBook). nat_lt book.number number ≡ true) (λ (book : LearnedBook). nat_lt book.number number ≡ false) items place
+  pub point : IsPartitionPoint (λ (book : LearnedBook). nat_lt book.number number ≡ true)
+      (λ (book : LearnedBook). nat_lt book.number number ≡ false) items place
 
 -- and this is the book
-pub record HasBook (items : List LearnedBook) (rows : ℕ) (index : Index) (number place : ℕ) (book : LearnedBook) : Type 0 where
+pub record HasBook (items : List LearnedBook) (rows : ℕ) (index : Index) (number place : ℕ)
+    (book : LearnedBook) : Type 0 where
   pub found : HasPlace items rows index number place
   pub at : IsAt items number place book
 
-module _ {items : List LearnedBook} {rows : ℕ} {index : Index} {number place : ℕ} (found : HasPlace items rows index number place) where
+module _ {items : List LearnedBook} {rows : ℕ} {index : Index} {number place : ℕ}
+    (found : HasPlace items rows index number place) where
   has_book : keeps_book (record { state = changed (kept items); spare = map spare items }) number ≡ true
   has_book = ap (λ (i : Index). keeps_book i number) found.seen ∙ found.there
 
@@ -36,9 +41,13 @@ module _ {items : List LearnedBook} {rows : ℕ} {index : Index} {number place :
 
   -- the book that is read there is that of the number
   pub book_read : {book : LearnedBook} → book ≡ get_or items place book → HasBook items rows index number place book
-  book_read {book} read = record { found = found; at = stands_at items number place found.keeps.ascend found.point (changed (kept items)) book has_book read }
+  book_read {book} read = record {
+    found = found;
+    at = stands_at items number place found.keeps.ascend found.point (changed (kept items)) book has_book read;
+  }
 
-module _ {items : List LearnedBook} {rows : ℕ} {index : Index} {number place : ℕ} {book : LearnedBook} (has : HasBook items rows index number place book) where
+module _ {items : List LearnedBook} {rows : ℕ} {index : Index} {number place : ℕ} {book : LearnedBook}
+    (has : HasBook items rows index number place book) where
   -- the state of the books is that of the index
   state_seen : changed (kept items) ≡ index.state
   state_seen = ap (λ (i : Index). i.state) has.found.seen
@@ -46,16 +55,22 @@ module _ {items : List LearnedBook} {rows : ℕ} {index : Index} {number place :
   -- the rows of the book ascend
   pub rows_ascend_there : rows_ascend book.rows.items ≡ true
   rows_ascend_there =
-      ap rows_ascend (sym (rows_here items number place has.found.keeps.ascend has.found.point book has.at)) ∙ rows_in_order (kept items) rows has.found.keeps number
+      ap rows_ascend (sym (rows_here items number place has.found.keeps.ascend has.found.point book has.at))
+      ∙ rows_in_order (kept items) rows has.found.keeps number
 
   -- and are among those that are counted
   pub rows_among : vec_len book.rows ≤ rows
-  rows_among = omega (arith, rows_below items number place has.found.keeps.ascend has.found.point book has.at rows has.found.keeps, book.rows.ok)
+  rows_among = omega (
+    arith,
+    rows_below items number place has.found.keeps.ascend has.found.point book has.at rows has.found.keeps,
+    book.rows.ok,
+  )
 
   -- it has the room that the index has for it
   pub room_seen : 0 < spare_of index number → vec_len book.rows < vec_capacity book.rows
   room_seen room =
-      room_here items number place has.found.keeps.ascend has.found.point book has.at (changed (kept items)) (subst (λ (i : Index). 0 < spare_of i number) (sym has.found.seen) room)
+      room_here items number place has.found.keeps.ascend has.found.point book has.at (changed (kept items))
+      (subst (λ (i : Index). 0 < spare_of i number) (sym has.found.seen) room)
 
   module _ (after : LearnedBook) (same : after.number ≡ book.number) (counts : 0 < after.count) where
     number_same : after.number ≡ number
@@ -65,26 +80,33 @@ module _ {items : List LearnedBook} {rows : ℕ} {index : Index} {number place :
     pub row_changed : (key : RowKey) (row : Option Row) → after.rows.items ≡ with_row key row book.rows.items
         → changed (kept (set items place after)) ≡ state_with index.state number after.count key row
     row_changed key row rows_are =
-        state_row items number place has.found.keeps.ascend has.found.point book has.at rows has.found.keeps after number_same (lt-ltb 0 after.count counts) key row rows_are
+        state_row items number place has.found.keeps.ascend has.found.point book has.at rows has.found.keeps after
+        number_same (lt-ltb 0 after.count counts) key row rows_are
         ∙ ap (λ s. state_with s number after.count key row) state_seen
 
     -- the state where its count alone does
-    pub count_changed : after.rows.items ≡ book.rows.items → changed (kept (set items place after)) ≡ state_counted index.state number after.count
+    pub count_changed : after.rows.items ≡ book.rows.items
+        → changed (kept (set items place after)) ≡ state_counted index.state number after.count
     count_changed rows_are =
-        state_count items number place has.found.keeps.ascend has.found.point book has.at rows has.found.keeps after number_same (lt-ltb 0 after.count counts) rows_are
+        state_count items number place has.found.keeps.ascend has.found.point book has.at rows has.found.keeps after
+        number_same (lt-ltb 0 after.count counts) rows_are
         ∙ ap (λ s. state_counted s number after.count) state_seen
 
     -- what is kept then, where the rows of the book are counted anew
     pub kept_changed : {count : ℕ} → number < 2 ^ 16 → count + vec_len book.rows ≡ rows + vec_len after.rows
         → is_valid (changed (kept (set items place after))) ≡ true → IsKept (kept (set items place after)) count
     kept_changed {count} small counted valid =
-        kept_after items number place has.found.keeps.ascend has.found.point book has.at rows has.found.keeps after number_same (lt-ltb 0 after.count counts) count small
+        kept_after items number place has.found.keeps.ascend has.found.point book has.at rows has.found.keeps after
+        number_same (lt-ltb 0 after.count counts) count small
         (omega (arith, after.rows.ok)) (omega (arith, counted, book.rows.ok, after.rows.ok)) valid
 
-  module _ (after : LearnedBook) (number_same : after.number ≡ book.number) (count_same : after.count ≡ book.count) (rows_same : after.rows.items ≡ book.rows.items) where
+  module _ (after : LearnedBook) (number_same : after.number ≡ book.number) (count_same : after.count ≡ book.count)
+      (rows_same : after.rows.items ≡ book.rows.items) where
     -- the books where that book only gets room are as they were
     books_same : kept (set items place after) ≡ kept items
-    books_same = kept_grown items number place has.found.keeps.ascend has.found.point book has.at after number_same count_same rows_same
+    books_same =
+        kept_grown items number place has.found.keeps.ascend has.found.point book has.at after number_same
+        count_same rows_same
 
     -- so they are kept
     pub kept_same : IsKept (kept (set items place after)) rows
@@ -95,5 +117,8 @@ module _ {items : List LearnedBook} {rows : ℕ} {index : Index} {number place :
     state_same = ap changed books_same ∙ state_seen
 
     -- and there is room
-    pub room_more : (state : State) → vec_len after.rows < vec_capacity after.rows → 0 < spare_of (record { state = state; spare = map spare (set items place after) }) number
-    room_more = room_grown items number place has.found.keeps.ascend has.found.point book has.at after number_same count_same rows_same
+    pub room_more : (state : State) → vec_len after.rows < vec_capacity after.rows
+        → 0 < spare_of (record { state = state; spare = map spare (set items place after) }) number
+    room_more =
+        room_grown items number place has.found.keeps.ascend has.found.point book has.at after number_same
+        count_same rows_same

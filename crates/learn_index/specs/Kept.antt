@@ -41,7 +41,8 @@ has_count book = has_changed book || nat_lt (length book.rows) 1
 abbrev pub is_held : NumberedBook → Bool
 is_held book = nat_lt book.number (2 ^ 16) && nat_lt (length book.rows) (2 ^ 64)
 
--- what an index keeps: books that ascend, of which those that have changed are a valid state, and the number of their rows
+-- what an index keeps: books that ascend, of which those that have changed are a valid state,
+-- and the number of their rows
 pub record IsKept (all : State) (rows : ℕ) : Type 0 where
   pub ascend : books_ascend all.books ≡ true
   pub valid : is_valid (changed all) ≡ true

@@ -25,7 +25,8 @@ IsPlanned state call (Move book count key row reply) =
 -- a plan was made for some call that may be made
 abbrev pub IsMade : State → Plan → Type 0
 IsMade state plan =
-    (call : Call) × (is_call call ≡ true) × (is_fit call ≡ true) × (is_question call ≡ false) × IsPlanned state call plan
+    (call : Call) × (is_call call ≡ true) × (is_fit call ≡ true) × (is_question call ≡ false)
+    × IsPlanned state call plan
 
 -- the book of a plan has room for it
 abbrev pub HasRoom : Index → Plan → Type 0

@@ -8,7 +8,9 @@ abbrev pub state_counted : State → ℕ → ℕ → State
 state_counted state number count =
     if count == 0
     then state
-    else record { books = with_book (record { number = number; count = count; rows = rows_of state number }) state.books }
+    else record {
+      books = with_book (record { number = number; count = count; rows = rows_of state number }) state.books;
+    }
 
 -- the state where the book of a number has this count, and no row of a key
 abbrev pub state_without : State → ℕ → ℕ → RowKey → State

@@ -13,8 +13,8 @@ use skk_calls::{Row, RowKey, Rows};
 use skk_text::{Copies, Memory};
 use std::alloc::Global;
 
-/// A book in memory: its number, its count of changes, and its rows ascending by their keys. One whose count is 0 has no
-/// rows: it only keeps room for its first change.
+/// A book in memory: its number, its count of changes, and its rows ascending by their keys. One whose count is 0 has
+/// no rows: it only keeps room for its first change.
 #[derive(Drop)]
 pub struct LearnedBook {
     pub number: u16,
@@ -45,8 +45,8 @@ impl LearnedBook {
         where_same(self.row_at(place), key)
     }
 
-    /// Gives the key of a row this row. Takes a logarithm in the number of rows to find its place, moves the rows behind it
-    /// where the key had none, and takes no memory.
+    /// Gives the key of a row this row. Takes a logarithm in the number of rows to find its place, moves the rows
+    /// behind it where the key had none, and takes no memory.
     pub fn set_row(&mut self, row: KeptRow)
         requires ascend { rows_ascend self.old.rows.items ≡ true }
         requires room { vec_len self.old.rows < vec_capacity self.old.rows }
@@ -91,7 +91,8 @@ impl LearnedBook {
     fn place_of(&self, key: &RowKey) -> usize
         requires { rows_ascend self.now.rows.items ≡ true }
         ensures bound { result ≤ length self.now.rows.items }
-        ensures point { IsPartitionPoint (λ row. key_less row.key key.now ≡ true) (λ row. key_less row.key key.now ≡ false) self.now.rows.items result }
+        ensures point { IsPartitionPoint (λ row. key_less row.key key.now ≡ true)
+            (λ row. key_less row.key key.now ≡ false) self.now.rows.items result }
     {
         self.rows
             .partition_point(|kept| kept.row().key().order(key).is_lt())

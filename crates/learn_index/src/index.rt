@@ -57,8 +57,8 @@ impl Index {
         }
     }
 
-    /// What a look-up is answered over these system files. Takes a logarithm in the rows of a book and of a file, and time in
-    /// the candidates that it gives.
+    /// What a look-up is answered over these system files. Takes a logarithm in the rows of a book and of a file, and
+    /// time in the candidates that it gives.
     pub fn answer(&self, alloc: Global, system: &System, call: &Call) -> Result<Reply, Memory>
         requires { is_lookup call.now ≡ true }
         ensures { IfOk result (λ reply. reply ≡ answer system.now self.now.state call.now) }
@@ -72,8 +72,8 @@ impl Index {
         }
     }
 
-    /// Plans a change, and takes all memory that it needs. The state stays as it was. Takes a logarithm in the rows of the
-    /// book, time in the row, and, where the book's room grows, time in the number of its rows.
+    /// Plans a change, and takes all memory that it needs. The state stays as it was. Takes a logarithm in the rows of
+    /// the book, time in the row, and, where the book's room grows, time in the number of its rows.
     pub fn plan(&mut self, alloc: Global, call: &Call) -> Result<Plan, Memory>
         requires change { is_question call.now ≡ false }
         requires fit { is_fit call.now ≡ true }
@@ -106,13 +106,15 @@ impl Index {
         }
     }
 
-    /// Does what was planned, on the state that it was planned on. Takes no memory, a logarithm in the rows of the book, and
-    /// where a row is new or goes, the time to move a pointer for each row behind it.
+    /// Does what was planned, on the state that it was planned on. Takes no memory, a logarithm in the rows of the
+    /// book, and where a row is new or goes, the time to move a pointer for each row behind it.
     pub fn apply(&mut self, plan: Plan) -> Reply
         requires made { IsMade self.old.state plan }
         requires room { HasRoom self.old plan }
-        ensures reply { (files : List (List row_value)) (call : Call) → is_question call ≡ false → IsPlanned self.old.state call plan → result ≡ answer files self.old.state call }
-        ensures state { (call : Call) → is_call call ≡ true → IsPlanned self.old.state call plan → self.new.state ≡ after self.old.state call }
+        ensures reply { (files : List (List row_value)) (call : Call) → is_question call ≡ false
+            → IsPlanned self.old.state call plan → result ≡ answer files self.old.state call }
+        ensures state { (call : Call) → is_call call ≡ true → IsPlanned self.old.state call plan
+            → self.new.state ≡ after self.old.state call }
     {
         changes_keep_states_valid();
         // A field that is read tells that the state is valid.
@@ -224,8 +226,8 @@ impl Index {
         }
     }
 
-    // Makes room for one change of a book. The state stays as it was. Takes a logarithm in the number of books, and time in
-    // the book's rows where its room grows.
+    // Makes room for one change of a book. The state stays as it was. Takes a logarithm in the number of books, and
+    // time in the book's rows where its room grows.
     pub(crate) fn make_room(&mut self, alloc: Global, number: u16) -> Result<(), Memory>
         ensures state { self.new.state ≡ self.old.state }
         ensures room { OnOk result (0 < spare_of self.new number) }

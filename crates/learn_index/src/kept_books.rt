@@ -1,4 +1,5 @@
-ghost use Rattle.std.specs.Prelude.{◌≡◌, ◌==◌, ◌<◌, ◌≤◌, true, false, if◌then◌else◌, Some, None, [], length, map, find, nat_lt, slice_get, IfOk};
+ghost use Rattle.std.specs.Prelude.{◌≡◌, ◌==◌, ◌<◌, ◌≤◌, true, false, if◌then◌else◌, Some, None, [], length, map, find};
+ghost use Rattle.std.specs.Prelude.{nat_lt, slice_get, IfOk};
 ghost use Rattle.std.specs.List.Sorted.{IsPartitionPoint};
 ghost use Rattle.std.specs.Option.{option_and_then, option_copied, option_map};
 ghost use Rattle.skk_calls.specs.States.{books_ascend, book_at};
@@ -7,11 +8,13 @@ ghost use Rattle.learn_index.specs.Kept.{kept, numbered};
 
 use crate::book::LearnedBook;
 
-/// The place before which every book has a lesser number, and from which none has. Takes a logarithm in the number of books.
+/// The place before which every book has a lesser number, and from which none has.
+/// Takes a logarithm in the number of books.
 pub fn place_of(books: &[LearnedBook], number: u16) -> usize
     requires { books_ascend (kept books.now).books ≡ true }
     ensures bound { result ≤ length books.now }
-    ensures point { IsPartitionPoint (λ book. nat_lt book.number number ≡ true) (λ book. nat_lt book.number number ≡ false) books.now result }
+    ensures point { IsPartitionPoint (λ book. nat_lt book.number number ≡ true)
+        (λ book. nat_lt book.number number ≡ false) books.now result }
 {
     books.partition_point(|book| book.number < number)
 }
@@ -36,7 +39,8 @@ pub fn has_number_at(books: &[LearnedBook], place: usize, number: u16) -> bool
 
 // The book at a place, where it has this number.
 fn where_numbered(books: &[LearnedBook], place: usize, number: u16) -> Option<&LearnedBook>
-    ensures { option_copied result ≡ option_and_then (λ book. if book.number == number then Some book else None) (slice_get books.now place) }
+    ensures { option_copied result
+        ≡ option_and_then (λ book. if book.number == number then Some book else None) (slice_get books.now place) }
 {
     match books.get(place) {
         Some(book) if book.number == number => Some(book),

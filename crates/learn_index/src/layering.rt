@@ -9,7 +9,8 @@ use skk_calls::{Row, RowKey};
 use skk_text::{Memory, Sequence};
 use std::alloc::Global;
 
-/// The rows of a key for a typist: in the typist's book, in the shared book where that is another, and in each system file.
+/// The rows of a key for a typist: in the typist's book, in the shared book where that is another,
+/// and in each system file.
 pub fn layers<'a>(
     index: &'a Index,
     alloc: Global,
@@ -28,7 +29,8 @@ pub fn layers<'a>(
 
 // The row of a key in the shared book, where that is not the typist's.
 fn shared_row<'a>(index: &'a Index, who: u16, key: &RowKey) -> Option<&'a Row>
-    ensures { optional_row (option_copied result) ≡ (if who == 0 then [] else optional_row (row_at index.now.state 0 key.now)) }
+    ensures { optional_row (option_copied result)
+        ≡ (if who == 0 then [] else optional_row (row_at index.now.state 0 key.now)) }
 {
     if who == SHARED {
         None
@@ -39,7 +41,8 @@ fn shared_row<'a>(index: &'a Index, who: u16, key: &RowKey) -> Option<&'a Row>
 
 // Adds a row, where there is one.
 fn add_row<'a>(rows: &mut RowList<'a>, row: Option<&'a Row>) -> Result<(), Memory>
-    ensures { OnOk result (map (λ row. row.now) rows.new ≡ map (λ row. row.now) rows.old ++ optional_row (option_copied row.entry)) }
+    ensures { OnOk result
+        (map (λ row. row.now) rows.new ≡ map (λ row. row.now) rows.old ++ optional_row (option_copied row.entry)) }
 {
     if let Some(row) = row {
         rows.push(row)?;
@@ -49,7 +52,8 @@ fn add_row<'a>(rows: &mut RowList<'a>, row: Option<&'a Row>) -> Result<(), Memor
 
 // Adds rows.
 fn add_rows<'a>(rows: &mut RowList<'a>, more: RowList<'a>) -> Result<(), Memory>
-    ensures { OnOk result (map (λ row. row.now) rows.new ≡ map (λ row. row.now) rows.old ++ map (λ row. row.now) more.entry) }
+    ensures { OnOk result
+        (map (λ row. row.now) rows.new ≡ map (λ row. row.now) rows.old ++ map (λ row. row.now) more.entry) }
 {
     for row in more.into_vec() {
         rows.push(row)?;

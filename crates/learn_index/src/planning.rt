@@ -28,7 +28,8 @@ pub fn plan_learn(
     cand: &Cand,
 ) -> Result<Plan, Memory>
     ensures state { index.new.state ≡ index.old.state }
-    ensures planned { IfOk result (λ plan. IsPlanned index.old.state (Learn book key.now (option_copied okuri.entry) cand.now) plan) }
+    ensures planned { IfOk result
+        (λ plan. IsPlanned index.old.state (Learn book key.now (option_copied okuri.entry) cand.now) plan) }
     ensures room { IfOk result (λ plan. HasRoom index.new plan) }
 {
     let Some(stamp) = index.count(book).checked_add(1) else {
@@ -119,7 +120,9 @@ fn plan_row(
     reply: Reply,
 ) -> Result<Plan, Memory>
     ensures state { index.new.state ≡ index.old.state }
-    ensures plan { IfOk result (λ plan. plan ≡ (if nat_lt line_limit (line_length row) then Still (TooBig (line_length row)) else Move book count key.now (Some row) reply)) }
+    ensures plan { IfOk result (λ plan. plan ≡ (if nat_lt line_limit (line_length row)
+        then Still (TooBig (line_length row))
+        else Move book count key.now (Some row) reply)) }
     ensures room { IfOk result (λ plan. HasRoom index.new plan) }
 {
     let length = line_length(&row);
@@ -175,7 +178,8 @@ fn learning_reply(
 ) -> Result<Reply, Memory>
     requires valid { is_valid index.now.state ≡ true }
     requires later { count_of index.now.state book < stamp }
-    ensures { IfOk result (λ reply. reply ≡ learned_reply (record { book = book; key = key.now; stamp = stamp; before = row_at index.now.state book key.now })) }
+    ensures { IfOk result (λ reply. reply ≡ learned_reply
+        (record { book = book; key = key.now; stamp = stamp; before = row_at index.now.state book key.now })) }
 {
     let before = copy_of(alloc, index.row(book, key))?;
     let key = key.copy(alloc)?;

@@ -76,8 +76,8 @@ row 1 か = none
 count 1 = 18446744073709551615
 ";
 
-// A row whose line has exactly 65,535 bytes: the reading and ` /` have 3, each of 15 words 4,096 with its slash, and the last
-// 4,092.
+// A row whose line has exactly 65,535 bytes: the reading and ` /` have 3, each of 15 words 4,096 with its slash, and
+// the last 4,092.
 const LONG: &str = "
 learn 1 a a~4095 = learned 1 after 0
 learn 1 a b~4095 = learned 2 after 1

@@ -10,5 +10,6 @@ pub returns : goal.returns
 returns c =
     let books = c.args.books.now in
     let number = c.args.number in
-    ap (option_map numbered) (c.where_numbered.ensures ∙ sym (found books number c.place_of.result c.requires c.place_of.ensures.point))
+    ap (option_map numbered)
+    (c.where_numbered.ensures ∙ sym (found books number c.place_of.result c.requires c.place_of.ensures.point))
     ∙ sym (find-map numbered (λ (book : NumberedBook). book.number == number) books)

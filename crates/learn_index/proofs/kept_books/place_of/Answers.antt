@@ -9,5 +9,7 @@ pub returns-clause-point : goal.returns-clause-point
 returns-clause-point c =
     let books = c.args.books.now in
     let number = c.args.number in
-    IsPartitionPoint-from_clause (λ (book : LearnedBook). nat_lt book.number number) books c.partition_point.result c.partition_point.ensures.partitioned
-    (parted (λ (book : LearnedBook). book.number) nat_lt (λ a b. a == b) number_keys number books (numbers_ascend books c.requires)) (λ a r f k. search rules)
+    IsPartitionPoint-from_clause (λ (book : LearnedBook). nat_lt book.number number) books c.partition_point.result
+    c.partition_point.ensures.partitioned
+    (parted (λ (book : LearnedBook). book.number) nat_lt (λ a b. a == b) number_keys number books
+    (numbers_ascend books c.requires)) (λ a r f k. search rules)

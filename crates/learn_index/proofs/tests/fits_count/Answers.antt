@@ -1,4 +1,5 @@
-use Rattle.std.proofs.Common.{◌≡◌, ◌≤◌, ◌||◌, ◌&&◌, ℕ, Bool, true, false, refl, min, nat_le, length, ap, sym, subst, ◌∙◌, arith, not}
+use Rattle.std.proofs.Common.{◌≡◌, ◌≤◌, ◌||◌, ◌&&◌, ℕ, Bool, true, false, refl, min, nat_le, length, ap, sym, subst}
+use Rattle.std.proofs.Common.{◌∙◌, arith, not}
 use Rattle.std.specs.List.{list_all}
 use Rattle.std.proofs.lemmas.Bool.{and_from, OnTrue_from}
 use Rattle.std.proofs.lemmas.Bool.Decides.{nat_tests}
@@ -20,12 +21,17 @@ fits : (row : Row) (count : ℕ) → is_row row ≡ true → length row.hides �
 fits row count valid none short says stamped =
     and_from (is_row row) (is_good row && has_stamp count row) valid
     (and_from (is_good row) (has_stamp count row)
-    (and_from (not (is_empty row.cands) || (not (is_empty row.blocks) || not (is_empty row.hides))) (list_all is_word row.hides && (list_all (λ block. list_all is_word block.words) row.blocks && nat_le (byte_len (canonical row)) line_limit))
+    (and_from (not (is_empty row.cands) || (not (is_empty row.blocks) || not (is_empty row.hides)))
+    (list_all is_word row.hides
+    && (list_all (λ block. list_all is_word block.words) row.blocks && nat_le (byte_len (canonical row)) line_limit))
     (some (not (is_empty row.cands)) (not (is_empty row.blocks)) (not (is_empty row.hides)) says)
-    (and_from (list_all is_word row.hides) (list_all (λ block. list_all is_word block.words) row.blocks && nat_le (byte_len (canonical row)) line_limit)
+    (and_from (list_all is_word row.hides)
+    (list_all (λ block. list_all is_word block.words) row.blocks && nat_le (byte_len (canonical row)) line_limit)
     (ap (list_all is_word) (nil_from_length row.hides (omega (arith, none))))
-    (and_from (list_all (λ block. list_all is_word block.words) row.blocks) (nat_le (byte_len (canonical row)) line_limit)
-    (list_all-weaker is_block (λ block. list_all is_word block.words) (λ block e. (block_parts block e).words) row.blocks (row_parts row valid).blocks)
+    (and_from (list_all (λ block. list_all is_word block.words) row.blocks)
+    (nat_le (byte_len (canonical row)) line_limit)
+    (list_all-weaker is_block (λ block. list_all is_word block.words) (λ block e. (block_parts block e).words)
+    row.blocks (row_parts row valid).blocks)
     (low (byte_len (canonical row)) short))))
     stamped)
   where
@@ -40,5 +46,7 @@ fits row count valid none short says stamped =
 pub returns : goal.returns
 returns c =
     OnTrue_from c.has_stamp.result (fits_count c.args.count c.args.row.now ≡ true)
-    (λ e. fits c.args.row.now c.args.count c.hides.ensures.valid (omega (arith, c.if-len-gt0.false, c.len.ensures, ap length c.hides.ensures.value)) (subst (λ n. n ≤ 65535) c.line_length.ensures c.if-line_length-gt65535.false)
+    (λ e. fits c.args.row.now c.args.count c.hides.ensures.valid
+    (omega (arith, c.if-len-gt0.false, c.len.ensures, ap length c.hides.ensures.value))
+    (subst (λ n. n ≤ 65535) c.line_length.ensures c.if-line_length-gt65535.false)
     (sym c.has_words.ensures ∙ c.if-not-has_words.false) (sym c.has_stamp.ensures ∙ e))

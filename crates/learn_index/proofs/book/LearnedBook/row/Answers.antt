@@ -10,4 +10,5 @@ pub returns : goal.returns
 returns c =
     let key = c.args.key.now in
     c.where_same.ensures ∙ ap (option_and_then (if_same key)) c.row_at.ensures
-    ∙ sym (found_at (λ (row : Row). row.key) key_less same_key row_keys key c.args.self.now.rows.items c.place_of-place.result c.requires c.place_of-place.ensures.point)
+    ∙ sym (found_at (λ (row : Row). row.key) key_less same_key row_keys key c.args.self.now.rows.items
+    c.place_of-place.result c.requires c.place_of-place.ensures.point)

@@ -10,7 +10,8 @@ returns-then-has_key_at-clause-rows c =
     let own : c.key-key.result.now ≡ row.key = c.key-key.ensures.value ∙ ap (λ (r : Row). r.key) c.row.ensures.value in
     let point = rw own at c.place_of-place.ensures.point in
     let there = rw own at (sym c.has_key_at.ensures ∙ c.if-has_key_at.true) in
-    sym (put_set (λ (r : Row). r.key) key_less same_key row_keys row c.args.self.now.rows.items c.place_of-place.result c.requires.ascend point there)
+    sym (put_set (λ (r : Row). r.key) key_less same_key row_keys row c.args.self.now.rows.items c.place_of-place.result
+    c.requires.ascend point there)
 
 pub returns-else-has_key_at-clause-rows : goal.returns-else-has_key_at-clause-rows
 returns-else-has_key_at-clause-rows c =
@@ -21,4 +22,5 @@ returns-else-has_key_at-clause-rows c =
     let there = rw own at (sym c.has_key_at.ensures ∙ c.if-has_key_at.false) in
     let fits = c.insert-fits.ensures.succeeds c.requires.room in
     rw (c.insert-fits.ensures.items, fits)
-    (sym (put_insert (λ (r : Row). r.key) key_less same_key row_keys row rows c.place_of-place.result c.place_of-place.ensures.bound c.requires.ascend point there))
+    (sym (put_insert (λ (r : Row). r.key) key_less same_key row_keys row rows c.place_of-place.result
+    c.place_of-place.ensures.bound c.requires.ascend point there))

@@ -8,5 +8,7 @@ use Rattle.learn_index.proofs.index.Index.drop_row.Goals as goal
 pub remove_row-requires-clause-valid : goal.remove_row-requires-clause-valid
 remove_row-requires-clause-valid c =
     let before = ap (λ (index : Index). is_valid index.state) (sym c.self.view_is) ∙ c.self.invariant.valid in
-    ap (λ state. is_valid (state_with state c.args.book c.args.count c.args.key.now None)) c.in_ok-make_book.ensures.state
-    ∙ drop_valid c.args.self.now.state c.args.book c.args.count c.args.key.now before (omega (arith, c.if-count-gt0.true)) (le-leb (count_of c.args.self.now.state c.args.book) c.args.count c.requires)
+    ap (λ state. is_valid (state_with state c.args.book c.args.count c.args.key.now None))
+    c.in_ok-make_book.ensures.state
+    ∙ drop_valid c.args.self.now.state c.args.book c.args.count c.args.key.now before
+    (omega (arith, c.if-count-gt0.true)) (le-leb (count_of c.args.self.now.state c.args.book) c.args.count c.requires)

@@ -5,7 +5,8 @@ use Rattle.learn_index.proofs.index.Index.give_count.Goals as goal
 use Rattle.learn_index.proofs.index.Index.give_count.Goals.{After-place_of-place, After-index_mut}
 
 -- the book of the number is there
-found : (c : After-place_of-place) → HasPlace c.self.inside.books.items c.self.inside.rows c.args.self.now c.args.number c.place_of-place.result
+found : (c : After-place_of-place)
+    → HasPlace c.self.inside.books.items c.self.inside.rows c.args.self.now c.args.number c.place_of-place.result
 found c = record {
   keeps = c.self.invariant;
   seen = c.self.view_is;
@@ -14,19 +15,22 @@ found c = record {
 }
 
 -- and is the one that changes
-has : (c : After-index_mut) → HasBook c.self.inside.books.items c.self.inside.rows c.args.self.now c.args.number c.place_of-place.result c.index_mut.result.now
+has : (c : After-index_mut) → HasBook c.self.inside.books.items c.self.inside.rows c.args.self.now c.args.number
+    c.place_of-place.result c.index_mut.result.now
 has c = book_read (found (goal.at.After-index_mut c).After-place_of-place) c.index_mut.ensures.value
 
 pub index_mut-requires : goal.index_mut-requires
-index_mut-requires c = omega (arith, place_inside (found (goal.at.index_mut-requires c).After-place_of-place), c.self.inside.books.ok)
+index_mut-requires c =
+    omega (arith, place_inside (found (goal.at.index_mut-requires c).After-place_of-place), c.self.inside.books.ok)
 
 pub returns : goal.returns
 returns c =
     count_changed (has (goal.at.returns c).After-index_mut)
-    (record { number = c.index_mut.result.now.number; count = c.args.count; rows = c.index_mut.result.now.rows }) refl c.requires.count refl
+    (record { number = c.index_mut.result.now.number; count = c.args.count; rows = c.index_mut.result.now.rows }) refl
+    c.requires.count refl
 
 pub invariant_of-self : goal.invariant_of-self
 invariant_of-self c =
     kept_changed (has (goal.at.invariant_of-self c).After-index_mut)
-    (record { number = c.index_mut.result.now.number; count = c.args.count; rows = c.index_mut.result.now.rows }) refl c.requires.count
-    c.ranges.number.fits refl (ap is_valid (returns c) ∙ c.requires.valid)
+    (record { number = c.index_mut.result.now.number; count = c.args.count; rows = c.index_mut.result.now.rows }) refl
+    c.requires.count c.ranges.number.fits refl (ap is_valid (returns c) ∙ c.requires.valid)

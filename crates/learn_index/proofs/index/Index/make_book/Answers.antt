@@ -13,9 +13,12 @@ within : (c : In_ok-insert) → c.place_of-place.result ≤ length c.self.inside
 within c = omega (arith, c.place_of-place.ensures.bound, ap length c.deref.ensures.value)
 
 -- no book of the number stands there
-missing : (c : In_ok-insert) → passes (λ (book : LearnedBook). book.number == c.args.number) (slice_get c.self.inside.books.items c.place_of-place.result) ≡ false
+missing : (c : In_ok-insert) → passes (λ (book : LearnedBook). book.number == c.args.number)
+    (slice_get c.self.inside.books.items c.place_of-place.result) ≡ false
 missing c =
-    ap (λ books. passes (λ (book : LearnedBook). book.number == c.args.number) (slice_get books c.place_of-place.result)) (sym c.deref-2.ensures.value)
+    ap
+    (λ books. passes (λ (book : LearnedBook). book.number == c.args.number) (slice_get books c.place_of-place.result))
+    (sym c.deref-2.ensures.value)
     ∙ sym c.has_number_at.ensures ∙ c.if-not-has_number_at.true
 
 pub invariant_of-self : goal.invariant_of-self
@@ -23,7 +26,8 @@ invariant_of-self c =
     let items = c.self.inside.books.items in
     let point = rw c.deref.ensures.value at c.place_of-place.ensures.point in
     subst (λ items. IsKept (kept items) c.self.inside.rows) (sym c.in_ok-insert.ensures.items)
-    (kept_new items c.args.number c.place_of-place.result c.self.invariant.ascend point c.self.inside.rows c.self.invariant c.new.result c.new.ensures.number c.new.ensures.count c.new.ensures.rows
+    (kept_new items c.args.number c.place_of-place.result c.self.invariant.ascend point c.self.inside.rows
+    c.self.invariant c.new.result c.new.ensures.number c.new.ensures.count c.new.ensures.rows
     (within c) (missing c) (omega (arith, c.ranges.number.fits)))
 
 pub returns-in_ok-insert-clause-state : goal.returns-in_ok-insert-clause-state
@@ -31,7 +35,8 @@ returns-in_ok-insert-clause-state c =
     let items = c.self.inside.books.items in
     let point = rw c.deref.ensures.value at c.place_of-place.ensures.point in
     ap (λ items. changed (kept items)) c.in_ok-insert.ensures.items
-    ∙ state_insert items c.args.number c.place_of-place.result c.self.invariant.ascend point c.self.inside.rows c.self.invariant c.new.result c.new.ensures.number c.new.ensures.count c.new.ensures.rows
+    ∙ state_insert items c.args.number c.place_of-place.result c.self.invariant.ascend point c.self.inside.rows
+    c.self.invariant c.new.result c.new.ensures.number c.new.ensures.count c.new.ensures.rows
     (within c) (missing c)
     ∙ ap (λ (index : Index). index.state) c.self.view_is
 
@@ -40,7 +45,8 @@ returns-in_ok-insert-clause-there c =
     let items = c.self.inside.books.items in
     let point = rw c.deref.ensures.value at c.place_of-place.ensures.point in
     rw c.in_ok-insert.ensures.items
-    (new_there items c.args.number c.place_of-place.result c.self.invariant.ascend point c.self.inside.rows c.self.invariant c.new.result c.new.ensures.number c.new.ensures.count c.new.ensures.rows
+    (new_there items c.args.number c.place_of-place.result c.self.invariant.ascend point c.self.inside.rows
+    c.self.invariant c.new.result c.new.ensures.number c.new.ensures.count c.new.ensures.rows
     (within c) (missing c) (changed (kept (insert items c.place_of-place.result c.new.result))))
 
 pub returns-else-not-has_number_at-clause-there : goal.returns-else-not-has_number_at-clause-there
@@ -49,5 +55,7 @@ returns-else-not-has_number_at-clause-there c =
     let point = rw c.deref.ensures.value at c.place_of-place.ensures.point in
     ap (λ (index : Index). keeps_book index c.args.number) (sym c.self.view_is)
     ∙ there_by items c.args.number c.place_of-place.result c.self.invariant.ascend point (changed (kept items))
-    (ap (λ books. passes (λ (book : LearnedBook). book.number == c.args.number) (slice_get books c.place_of-place.result)) (sym c.deref-2.ensures.value)
+    (ap
+    (λ books. passes (λ (book : LearnedBook). book.number == c.args.number) (slice_get books c.place_of-place.result))
+    (sym c.deref-2.ensures.value)
     ∙ sym c.has_number_at.ensures ∙ c.if-not-has_number_at.false)

@@ -13,24 +13,39 @@ pub returns-in-Learn-clause-made : goal.returns-in-Learn-clause-made
 returns-in-Learn-clause-made c =
     let call : Call = Learn c.in-Learn.book c.in-Learn.key (option_copied c.as_ref-okuri.result) c.in-Learn.cand in
     IfOk-weaker c.plan_learn.result (IsPlanned c.args.self.now.state call) (IsMade c.plan_learn.new.index.state)
-    (λ (plan : Plan) planned. (call, c.learning_is_call.ensures c.in-Learn.book, refl, refl, subst (λ (state : State). IsPlanned state call plan) (sym c.plan_learn.ensures.state) planned)) c.plan_learn.ensures.planned
+    (λ (plan : Plan) planned. (
+      call,
+      c.learning_is_call.ensures c.in-Learn.book,
+      refl,
+      refl,
+      subst (λ (state : State). IsPlanned state call plan) (sym c.plan_learn.ensures.state) planned,
+    )) c.plan_learn.ensures.planned
 
 pub returns-in-Purge-clause-made : goal.returns-in-Purge-clause-made
 returns-in-Purge-clause-made c =
     let call : Call = Purge c.in-Purge.book c.in-Purge.key c.in-Purge.word in
     IfOk-weaker c.plan_purge.result (IsPlanned c.args.self.now.state call) (IsMade c.plan_purge.new.index.state)
-    (λ (plan : Plan) planned. (call, c.purge_is_call.ensures c.in-Purge.book c.in-Purge.word, ap is_fit (sym c.in-Purge.is) ∙ c.requires.fit, refl, subst (λ (state : State). IsPlanned state call plan) (sym c.plan_purge.ensures.state) planned)) c.plan_purge.ensures.planned
+    (λ (plan : Plan) planned. (
+      call,
+      c.purge_is_call.ensures c.in-Purge.book c.in-Purge.word,
+      ap is_fit (sym c.in-Purge.is) ∙ c.requires.fit,
+      refl,
+      subst (λ (state : State). IsPlanned state call plan) (sym c.plan_purge.ensures.state) planned,
+    )) c.plan_purge.ensures.planned
 
 pub returns-in-Learn-clause-valid : goal.returns-in-Learn-clause-valid
 returns-in-Learn-clause-valid c =
     let call : Call = Learn c.in-Learn.book c.in-Learn.key (option_copied c.as_ref-okuri.result) c.in-Learn.cand in
-    IfOk-weaker c.plan_learn.result (IsPlanned c.args.self.now.state call) (λ (plan : Plan). is_call c.args.call.now ≡ true)
+    IfOk-weaker c.plan_learn.result (IsPlanned c.args.self.now.state call) (λ (plan : Plan). is_call c.args.call.now
+    ≡ true)
     (λ (plan : Plan) planned. ap is_call c.in-Learn.is
-    ∙ subst (λ (okuri : Option (List ℕ)). is_call (Learn c.in-Learn.book c.in-Learn.key okuri c.in-Learn.cand) ≡ true) c.as_ref-okuri.ensures.value
-    (c.learning_is_call.ensures c.in-Learn.book)) c.plan_learn.ensures.planned
+    ∙ subst (λ (okuri : Option (List ℕ)). is_call (Learn c.in-Learn.book c.in-Learn.key okuri c.in-Learn.cand) ≡ true)
+    c.as_ref-okuri.ensures.value (c.learning_is_call.ensures c.in-Learn.book)) c.plan_learn.ensures.planned
 
 pub returns-in-Purge-clause-valid : goal.returns-in-Purge-clause-valid
 returns-in-Purge-clause-valid c =
     let call : Call = Purge c.in-Purge.book c.in-Purge.key c.in-Purge.word in
-    IfOk-weaker c.plan_purge.result (IsPlanned c.args.self.now.state call) (λ (plan : Plan). is_call c.args.call.now ≡ true)
-    (λ (plan : Plan) planned. ap is_call c.in-Purge.is ∙ c.purge_is_call.ensures c.in-Purge.book c.in-Purge.word) c.plan_purge.ensures.planned
+    IfOk-weaker c.plan_purge.result (IsPlanned c.args.self.now.state call) (λ (plan : Plan). is_call c.args.call.now
+    ≡ true)
+    (λ (plan : Plan) planned. ap is_call c.in-Purge.is ∙ c.purge_is_call.ensures c.in-Purge.book c.in-Purge.word)
+    c.plan_purge.ensures.planned

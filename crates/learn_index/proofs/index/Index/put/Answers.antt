@@ -8,9 +8,13 @@ use Rattle.learn_index.proofs.index.Index.put.Goals as goal
 pub set_row-requires-clause-valid : goal.set_row-requires-clause-valid
 set_row-requires-clause-valid c =
     let before = ap (λ (index : Index). is_valid index.state) (sym c.self.view_is) ∙ c.self.invariant.valid in
-    ap (λ state. is_valid (state_with state c.args.book c.args.count c.in_ok-row.row.key (Some c.in_ok-row.row))) c.in_ok-make_room.ensures.state
-    ∙ put_valid c.args.self.now.state c.args.book c.args.count c.in_ok-row.row before (le-leb (count_of c.args.self.now.state c.args.book) c.args.count c.requires.count)
+    ap (λ state. is_valid (state_with state c.args.book c.args.count c.in_ok-row.row.key (Some c.in_ok-row.row)))
+    c.in_ok-make_room.ensures.state
+    ∙ put_valid c.args.self.now.state c.args.book c.args.count c.in_ok-row.row before
+    (le-leb (count_of c.args.self.now.state c.args.book) c.args.count c.requires.count)
     (ap (fits_count c.args.count) c.in_ok-row.ensures ∙ c.requires.row)
 
 pub set_row-requires-clause-count : goal.set_row-requires-clause-count
-set_row-requires-clause-count c = some_count c.make_room.new.self.state c.args.book c.args.count c.in_ok-row.row.key (Some c.in_ok-row.row) (set_row-requires-clause-valid c)
+set_row-requires-clause-count c =
+    some_count c.make_room.new.self.state c.args.book c.args.count c.in_ok-row.row.key (Some c.in_ok-row.row)
+    (set_row-requires-clause-valid c)

@@ -2,12 +2,14 @@ use Rattle.std.proofs.Common.{◌∙◌, None, ap, arith}
 use Rattle.skk_calls.specs.States.{is_valid}
 use Rattle.learn_index.specs.Kept.{kept}
 use Rattle.learn_index.proofs.Books.{rows_counted}
-use Rattle.learn_index.proofs.FoundBook.{HasBook, HasPlace, book_read, kept_changed, place_inside, row_changed, rows_among, rows_ascend_there}
+use Rattle.learn_index.proofs.FoundBook.{HasBook, HasPlace, book_read, kept_changed, place_inside, row_changed}
+use Rattle.learn_index.proofs.FoundBook.{rows_among, rows_ascend_there}
 use Rattle.learn_index.proofs.index.Index.remove_row.Goals as goal
 use Rattle.learn_index.proofs.index.Index.remove_row.Goals.{After-place_of-place, After-index_mut-book}
 
 -- the book of the number is there
-found : (c : After-place_of-place) → HasPlace c.self.inside.books.items c.self.inside.rows c.args.self.now c.args.number c.place_of-place.result
+found : (c : After-place_of-place)
+    → HasPlace c.self.inside.books.items c.self.inside.rows c.args.self.now c.args.number c.place_of-place.result
 found c = record {
   keeps = c.self.invariant;
   seen = c.self.view_is;
@@ -16,11 +18,13 @@ found c = record {
 }
 
 -- and is the one that changes
-has : (c : After-index_mut-book) → HasBook c.self.inside.books.items c.self.inside.rows c.args.self.now c.args.number c.place_of-place.result c.index_mut-book.result.now
+has : (c : After-index_mut-book) → HasBook c.self.inside.books.items c.self.inside.rows c.args.self.now c.args.number
+    c.place_of-place.result c.index_mut-book.result.now
 has c = book_read (found (goal.at.After-index_mut-book c).After-place_of-place) c.index_mut-book.ensures.value
 
 pub index_mut-book-requires : goal.index_mut-book-requires
-index_mut-book-requires c = omega (arith, place_inside (found (goal.at.index_mut-book-requires c).After-place_of-place), c.self.inside.books.ok)
+index_mut-book-requires c =
+    omega (arith, place_inside (found (goal.at.index_mut-book-requires c).After-place_of-place), c.self.inside.books.ok)
 
 pub remove_row-requires : goal.remove_row-requires
 remove_row-requires c = rows_ascend_there (has (goal.at.remove_row-requires c).After-index_mut-book)
@@ -29,17 +33,20 @@ pub overflow_sub-self : goal.overflow_sub-self
 overflow_sub-self c = omega (arith, rows_among (has (goal.at.overflow_sub-self c).After-index_mut-book), c.len.ensures)
 
 pub overflow_add-self : goal.overflow_add-self
-overflow_add-self c = omega (arith, rows_counted (kept c.self.inside.books.items) c.self.inside.rows c.self.invariant, c.len-2.type_inv)
+overflow_add-self c =
+    omega (arith, rows_counted (kept c.self.inside.books.items) c.self.inside.rows c.self.invariant, c.len-2.type_inv)
 
 pub returns : goal.returns
 returns c =
     row_changed (has (goal.at.returns c).After-index_mut-book)
-    (record { number = c.remove_row.new.self.number; count = c.args.count; rows = c.remove_row.new.self.rows }) c.remove_row.ensures.number c.requires.count
-    c.args.key.now None c.remove_row.ensures.rows
+    (record { number = c.remove_row.new.self.number; count = c.args.count; rows = c.remove_row.new.self.rows })
+    c.remove_row.ensures.number c.requires.count c.args.key.now None c.remove_row.ensures.rows
 
 pub invariant_of-self : goal.invariant_of-self
 invariant_of-self c =
     kept_changed (has (goal.at.invariant_of-self c).After-index_mut-book)
-    (record { number = c.remove_row.new.self.number; count = c.args.count; rows = c.remove_row.new.self.rows }) c.remove_row.ensures.number c.requires.count
-    c.ranges.number.fits (omega (arith, rows_among (has (goal.at.invariant_of-self c).After-index_mut-book), c.len.ensures, c.len-2.ensures))
+    (record { number = c.remove_row.new.self.number; count = c.args.count; rows = c.remove_row.new.self.rows })
+    c.remove_row.ensures.number c.requires.count
+    c.ranges.number.fits
+    (omega (arith, rows_among (has (goal.at.invariant_of-self c).After-index_mut-book), c.len.ensures, c.len-2.ensures))
     (ap is_valid (returns c) ∙ c.requires.valid)

@@ -10,4 +10,5 @@ pub give_count-requires-clause-valid : goal.give_count-requires-clause-valid
 give_count-requires-clause-valid c =
     let before = ap (λ (index : Index). is_valid index.state) (sym c.self.view_is) ∙ c.self.invariant.valid in
     ap (λ state. is_valid (state_counted state c.args.book c.args.count)) c.in_ok-make_book.ensures.state
-    ∙ count_valid c.args.self.now.state c.args.book c.args.count before (omega (arith, c.if-count-gt0.true)) (le-leb (count_of c.args.self.now.state c.args.book) c.args.count c.requires)
+    ∙ count_valid c.args.self.now.state c.args.book c.args.count before (omega (arith, c.if-count-gt0.true))
+    (le-leb (count_of c.args.self.now.state c.args.book) c.args.count c.requires)

@@ -3,12 +3,14 @@ use Rattle.skk_calls.specs.States.{is_valid}
 use Rattle.learn_index.specs.Kept.{kept}
 use Rattle.learn_index.proofs.Books.{rows_counted}
 use Rattle.learn_index.proofs.Changes.{room_there}
-use Rattle.learn_index.proofs.FoundBook.{HasBook, HasPlace, book_read, kept_changed, place_inside, room_seen, row_changed, rows_among, rows_ascend_there}
+use Rattle.learn_index.proofs.FoundBook.{HasBook, HasPlace, book_read, kept_changed, place_inside, room_seen}
+use Rattle.learn_index.proofs.FoundBook.{row_changed, rows_among, rows_ascend_there}
 use Rattle.learn_index.proofs.index.Index.set_row.Goals as goal
 use Rattle.learn_index.proofs.index.Index.set_row.Goals.{After-place_of-place, After-index_mut-book}
 
 -- the book of the number is there
-found : (c : After-place_of-place) → HasPlace c.self.inside.books.items c.self.inside.rows c.args.self.now c.args.number c.place_of-place.result
+found : (c : After-place_of-place)
+    → HasPlace c.self.inside.books.items c.self.inside.rows c.args.self.now c.args.number c.place_of-place.result
 found c = record {
   keeps = c.self.invariant;
   seen = c.self.view_is;
@@ -17,33 +19,40 @@ found c = record {
 }
 
 -- and is the one that changes
-has : (c : After-index_mut-book) → HasBook c.self.inside.books.items c.self.inside.rows c.args.self.now c.args.number c.place_of-place.result c.index_mut-book.result.now
+has : (c : After-index_mut-book) → HasBook c.self.inside.books.items c.self.inside.rows c.args.self.now c.args.number
+    c.place_of-place.result c.index_mut-book.result.now
 has c = book_read (found (goal.at.After-index_mut-book c).After-place_of-place) c.index_mut-book.ensures.value
 
 pub index_mut-book-requires : goal.index_mut-book-requires
-index_mut-book-requires c = omega (arith, place_inside (found (goal.at.index_mut-book-requires c).After-place_of-place), c.self.inside.books.ok)
+index_mut-book-requires c =
+    omega (arith, place_inside (found (goal.at.index_mut-book-requires c).After-place_of-place), c.self.inside.books.ok)
 
 pub set_row-requires-clause-ascend : goal.set_row-requires-clause-ascend
-set_row-requires-clause-ascend c = rows_ascend_there (has (goal.at.set_row-requires-clause-ascend c).After-index_mut-book)
+set_row-requires-clause-ascend c =
+    rows_ascend_there (has (goal.at.set_row-requires-clause-ascend c).After-index_mut-book)
 
 pub set_row-requires-clause-room : goal.set_row-requires-clause-room
-set_row-requires-clause-room c = room_seen (has (goal.at.set_row-requires-clause-room c).After-index_mut-book) c.requires.room
+set_row-requires-clause-room c =
+    room_seen (has (goal.at.set_row-requires-clause-room c).After-index_mut-book) c.requires.room
 
 pub overflow_sub-self : goal.overflow_sub-self
 overflow_sub-self c = omega (arith, rows_among (has (goal.at.overflow_sub-self c).After-index_mut-book), c.len.ensures)
 
 pub overflow_add-self : goal.overflow_add-self
-overflow_add-self c = omega (arith, rows_counted (kept c.self.inside.books.items) c.self.inside.rows c.self.invariant, c.len-2.type_inv)
+overflow_add-self c =
+    omega (arith, rows_counted (kept c.self.inside.books.items) c.self.inside.rows c.self.invariant, c.len-2.type_inv)
 
 pub returns : goal.returns
 returns c =
     row_changed (has (goal.at.returns c).After-index_mut-book)
-    (record { number = c.set_row.new.self.number; count = c.args.count; rows = c.set_row.new.self.rows }) c.set_row.ensures.number c.requires.count
-    c.args.row.key (Some c.args.row) c.set_row.ensures.rows
+    (record { number = c.set_row.new.self.number; count = c.args.count; rows = c.set_row.new.self.rows })
+    c.set_row.ensures.number c.requires.count c.args.row.key (Some c.args.row) c.set_row.ensures.rows
 
 pub invariant_of-self : goal.invariant_of-self
 invariant_of-self c =
     kept_changed (has (goal.at.invariant_of-self c).After-index_mut-book)
-    (record { number = c.set_row.new.self.number; count = c.args.count; rows = c.set_row.new.self.rows }) c.set_row.ensures.number c.requires.count
-    c.ranges.number.fits (omega (arith, rows_among (has (goal.at.invariant_of-self c).After-index_mut-book), c.len.ensures, c.len-2.ensures))
+    (record { number = c.set_row.new.self.number; count = c.args.count; rows = c.set_row.new.self.rows })
+    c.set_row.ensures.number c.requires.count
+    c.ranges.number.fits
+    (omega (arith, rows_among (has (goal.at.invariant_of-self c).After-index_mut-book), c.len.ensures, c.len-2.ensures))
     (ap is_valid (returns c) ∙ c.requires.valid)
