@@ -1,5 +1,6 @@
 -- Blocks are joined by their okurigana.
-use Rattle.std.proofs.Common.{◌≡◌, not, ℕ, ◌+◌, suc, Bool, true, false, ◌||◌, if◌then◌else◌, String, List, [], ◌∷◌, ◌++◌, map, get_or, length, ◌<◌, refl, sym, ap, ◌∙◌, arith}
+use Rattle.std.proofs.Common.{◌≡◌, not, ℕ, ◌+◌, suc, Bool, true, false, ◌||◌, if◌then◌else◌, String, List, [], ◌∷◌}
+use Rattle.std.proofs.Common.{◌++◌, map, get_or, length, ◌<◌, refl, sym, ap, ◌∙◌, arith}
 use Rattle.std.specs.declared.alloc.Global.{Global}
 use Rattle.std.specs.List.{list_any, filter, flat_map, position_or_len}
 use Rattle.std.proofs.Math.ListN.{set}
@@ -20,7 +21,8 @@ use Rattle.dict_format.specs.RowOfItems.{words_once, words_with, joined_blocks, 
 
 -- Values beside texts
 
-module _ {V : Type 0} (text : List ℕ) (old new : List ℕ → V) (others : (other : List ℕ) → same_text text other ≡ false → new other ≡ old other) where
+module _ {V : Type 0} (text : List ℕ) (old new : List ℕ → V)
+    (others : (other : List ℕ) → same_text text other ≡ false → new other ≡ old other) where
   -- where the text doesn't stand nothing changes
   map_others : (texts : List (List ℕ)) → has_text texts text ≡ false → map new texts ≡ map old texts
   map_others [] none = refl
@@ -29,47 +31,59 @@ module _ {V : Type 0} (text : List ℕ) (old new : List ℕ → V) (others : (ot
       ap (λ v. v ∷ map new texts) (others other parts.0) ∙ ap (λ vs. old other ∷ vs) (map_others texts parts.1)
 
   -- where it stands its value alone is set
-  set_there : (texts : List (List ℕ)) → texts_differ texts ≡ true → has_text texts text ≡ true → set (map old texts) (position_or_len (same_text text) texts) (new text) ≡ map new texts
+  set_there : (texts : List (List ℕ)) → texts_differ texts ≡ true → has_text texts text ≡ true
+      → set (map old texts) (position_or_len (same_text text) texts) (new text) ≡ map new texts
   set_there [] all there = absurd (both_ways false refl there)
   set_there (other ∷ texts) all there =
       let parts = differ_parts other texts all in
       by (same_text text other) refl parts.0 (λ h. set_there texts parts.1 h) there
     where
-      by : (b : Bool) → same_text text other ≡ b → has_text texts other ≡ false → (has_text texts text ≡ true → set (map old texts) (position_or_len (same_text text) texts) (new text) ≡ map new texts)
+      by : (b : Bool) → same_text text other ≡ b → has_text texts other ≡ false → (has_text texts text ≡ true
+          → set (map old texts) (position_or_len (same_text text) texts) (new text) ≡ map new texts)
           → (same_text text other || has_text texts text) ≡ true
-          → set (map old (other ∷ texts)) (position_or_len (same_text text) (other ∷ texts)) (new text) ≡ map new (other ∷ texts)
+          → set (map old (other ∷ texts)) (position_or_len (same_text text) (other ∷ texts)) (new text)
+          ≡ map new (other ∷ texts)
       by true e none later h =
           let is = same_equal text other e in
           let none_here : has_text texts text ≡ false = ap (has_text texts) is ∙ none in
           rw e (ap (λ v. v ∷ map old texts) (ap new is) ∙ ap (λ vs. new other ∷ vs) (sym (map_others texts none_here)))
       by false e none later h =
           let there_later : has_text texts text ≡ true = rw e at h in
-          let next : 1 + position_or_len (same_text text) texts ≡ suc (position_or_len (same_text text) texts) = omega arith in
-          rw (e, next) (ap (λ v. v ∷ set (map old texts) (position_or_len (same_text text) texts) (new text)) (sym (others other e)) ∙ ap (λ vs. new other ∷ vs) (later there_later))
+          let next : 1 + position_or_len (same_text text) texts
+          ≡ suc (position_or_len (same_text text) texts) = omega arith in
+          rw (e, next)
+          (ap (λ v. v ∷ set (map old texts) (position_or_len (same_text text) texts) (new text)) (sym (others other e))
+          ∙ ap (λ vs. new other ∷ vs) (later there_later))
 
 -- Words of blocks
 
 -- the words with an okurigana, with one more block
-pub words_with-push : (okuri : List ℕ) (blocks : List Block) (block : Block) → words_with okuri (blocks ++ block ∷ []) ≡ (if same_text block.okuri okuri then words_with okuri blocks ++ block.words else words_with okuri blocks)
+pub words_with-push : (okuri : List ℕ) (blocks : List Block) (block : Block) → words_with okuri (blocks ++ block ∷ [])
+    ≡ (if same_text block.okuri okuri then words_with okuri blocks ++ block.words else words_with okuri blocks)
 words_with-push okuri blocks block =
     ap (flat_map (λ b. b.words)) (filter-append (λ b. same_text b.okuri okuri) blocks (block ∷ []))
-    ∙ flat_map-append (λ b. b.words) (filter (λ b. same_text b.okuri okuri) blocks) (filter (λ b. same_text b.okuri okuri) (block ∷ []))
+    ∙ flat_map-append (λ b. b.words) (filter (λ b. same_text b.okuri okuri) blocks)
+    (filter (λ b. same_text b.okuri okuri) (block ∷ []))
     ∙ by (same_text block.okuri okuri)
   where
-    by : (b : Bool) → words_with okuri blocks ++ flat_map (λ b. b.words) (if b then block ∷ [] else []) ≡ (if b then words_with okuri blocks ++ block.words else words_with okuri blocks)
+    by : (b : Bool) → words_with okuri blocks ++ flat_map (λ b. b.words) (if b then block ∷ [] else [])
+        ≡ (if b then words_with okuri blocks ++ block.words else words_with okuri blocks)
     by true = ap (λ ws. words_with okuri blocks ++ ws) (append-nil block.words)
     by false = append-nil (words_with okuri blocks)
 
-words_with-same : (okuri : List ℕ) (blocks : List Block) (block : Block) → block.okuri ≡ okuri → words_with okuri (blocks ++ block ∷ []) ≡ words_with okuri blocks ++ block.words
+words_with-same : (okuri : List ℕ) (blocks : List Block) (block : Block) → block.okuri ≡ okuri
+    → words_with okuri (blocks ++ block ∷ []) ≡ words_with okuri blocks ++ block.words
 words_with-same okuri blocks block e =
     let here : same_text block.okuri okuri ≡ true = ap (λ o. same_text o okuri) e ∙ same_itself okuri in
     words_with-push okuri blocks block ∙ (rw here refl)
 
-words_with-other : (okuri : List ℕ) (blocks : List Block) (block : Block) → same_text block.okuri okuri ≡ false → words_with okuri (blocks ++ block ∷ []) ≡ words_with okuri blocks
+words_with-other : (okuri : List ℕ) (blocks : List Block) (block : Block) → same_text block.okuri okuri ≡ false
+    → words_with okuri (blocks ++ block ∷ []) ≡ words_with okuri blocks
 words_with-other okuri blocks block e = words_with-push okuri blocks block ∙ (rw e refl)
 
 -- no block has an okurigana that is none of theirs
-pub words_with-none : (okuri : List ℕ) (blocks : List Block) → has_text (map (λ b. b.okuri) blocks) okuri ≡ false → words_with okuri blocks ≡ []
+pub words_with-none : (okuri : List ℕ) (blocks : List Block) → has_text (map (λ b. b.okuri) blocks) okuri ≡ false
+    → words_with okuri blocks ≡ []
 words_with-none okuri [] none = refl
 words_with-none okuri (block ∷ blocks) none =
     let parts = or_parts (same_text okuri block.okuri) (has_text (map (λ b. b.okuri) blocks) okuri) none in
@@ -82,35 +96,47 @@ words_with-none okuri (block ∷ blocks) none =
 abbrev pub okuris_of : List Block → List (List ℕ)
 okuris_of blocks = map (λ b. b.okuri) (first_of_each (λ b. b.okuri) [] blocks)
 
-okuris_of-push : (blocks : List Block) (block : Block) → okuris_of (blocks ++ block ∷ []) ≡ with_new (λ text. text) (okuris_of blocks) block.okuri
+okuris_of-push : (blocks : List Block) (block : Block)
+    → okuris_of (blocks ++ block ∷ []) ≡ with_new (λ text. text) (okuris_of blocks) block.okuri
 okuris_of-push blocks block =
-    ap (map (λ b. b.okuri)) (first_of_each-push (λ (b : Block). b.okuri) blocks block) ∙ by (has_text (okuris_of blocks) block.okuri)
-    ∙ ap (λ texts. if has_text texts block.okuri then okuris_of blocks else okuris_of blocks ++ block.okuri ∷ []) (sym (texts_stay (okuris_of blocks)))
+    ap (map (λ b. b.okuri)) (first_of_each-push (λ (b : Block). b.okuri) blocks block)
+    ∙ by (has_text (okuris_of blocks) block.okuri)
+    ∙ ap (λ texts. if has_text texts block.okuri then okuris_of blocks else okuris_of blocks ++ block.okuri ∷ [])
+    (sym (texts_stay (okuris_of blocks)))
   where
-    by : (b : Bool) → map (λ (c : Block). c.okuri) (if b then first_of_each (λ c. c.okuri) [] blocks else first_of_each (λ c. c.okuri) [] blocks ++ block ∷ [])
+    by : (b : Bool) → map (λ (c : Block). c.okuri)
+        (if b then first_of_each (λ c. c.okuri) [] blocks else first_of_each (λ c. c.okuri) [] blocks ++ block ∷ [])
         ≡ (if b then okuris_of blocks else okuris_of blocks ++ block.okuri ∷ [])
     by true = refl
     by false = map-append (λ (c : Block). c.okuri) (first_of_each (λ c. c.okuri) [] blocks) (block ∷ [])
 
 -- the value of a text that stands there, and of one that is new
-there_value : {V : Type 0} (old : List ℕ → V) (text : List ℕ) (texts : List (List ℕ)) (d : V) → has_text texts text ≡ true → get_or (map old texts) (position_or_len (same_text text) texts) d ≡ old text
+there_value : {V : Type 0} (old : List ℕ → V) (text : List ℕ) (texts : List (List ℕ)) (d : V)
+    → has_text texts text ≡ true → get_or (map old texts) (position_or_len (same_text text) texts) d ≡ old text
 there_value old text [] d there = absurd (both_ways false refl there)
-there_value old text (other ∷ texts) d there = by (same_text text other) refl (λ h. there_value old text texts d h) there
+there_value old text (other ∷ texts) d there =
+    by (same_text text other) refl (λ h. there_value old text texts d h) there
   where
-    by : (b : Bool) → same_text text other ≡ b → (has_text texts text ≡ true → get_or (map old texts) (position_or_len (same_text text) texts) d ≡ old text) → (same_text text other || has_text texts text) ≡ true
+    by : (b : Bool) → same_text text other ≡ b
+        → (has_text texts text ≡ true → get_or (map old texts) (position_or_len (same_text text) texts) d ≡ old text)
+        → (same_text text other || has_text texts text) ≡ true
         → get_or (map old (other ∷ texts)) (position_or_len (same_text text) (other ∷ texts)) d ≡ old text
     by true e later h = rw e (ap old (sym (same_equal text other e)))
     by false e later h =
         let there_later : has_text texts text ≡ true = rw e at h in
-        let next : 1 + position_or_len (same_text text) texts ≡ suc (position_or_len (same_text text) texts) = omega arith in
+        let next : 1 + position_or_len (same_text text) texts
+        ≡ suc (position_or_len (same_text text) texts) = omega arith in
         rw (e, next) (later there_later)
 
 -- the place of a text that stands there
-there_within : (text : List ℕ) (texts : List (List ℕ)) → has_text texts text ≡ true → position_or_len (same_text text) texts < length texts
+there_within : (text : List ℕ) (texts : List (List ℕ)) → has_text texts text ≡ true
+    → position_or_len (same_text text) texts < length texts
 there_within text [] there = absurd (both_ways false refl there)
 there_within text (other ∷ texts) there = by (same_text text other) refl (λ h. there_within text texts h) there
   where
-    by : (b : Bool) → same_text text other ≡ b → (has_text texts text ≡ true → position_or_len (same_text text) texts < length texts) → (same_text text other || has_text texts text) ≡ true
+    by : (b : Bool) → same_text text other ≡ b
+        → (has_text texts text ≡ true → position_or_len (same_text text) texts < length texts)
+        → (same_text text other || has_text texts text) ≡ true
         → position_or_len (same_text text) (other ∷ texts) < length (other ∷ texts)
     by true e later h = rw e (omega arith)
     by false e later h =
@@ -121,8 +147,8 @@ there_within text (other ∷ texts) there = by (same_text text other) refl (λ h
 -- One more block
 
 -- what stands before a block is added: the okurigana and their words
-module _ (okuris more_okuris : List (List ℕ)) (groups : List (List (List ℕ))) (okuri : List ℕ) (more : List (List ℕ)) (before : List Block)
-    (added : more_okuris ≡ with_new (λ text. text) okuris okuri)
+module _ (okuris more_okuris : List (List ℕ)) (groups : List (List (List ℕ))) (okuri : List ℕ) (more : List (List ℕ))
+    (before : List Block) (added : more_okuris ≡ with_new (λ text. text) okuris okuri)
     (joins : JoinsBlocks okuris groups before) where
   -- the blocks with the one more
   abbrev longer : List Block
@@ -143,37 +169,51 @@ module _ (okuris more_okuris : List (List ℕ)) (groups : List (List (List ℕ))
   here = ap words_once (words_with-same okuri before (record { okuri = okuri; words = more }) refl)
 
   more_okuris_are : more_okuris ≡ okuris_of longer
-  more_okuris_are = added ∙ ap (λ texts. with_new (λ text. text) texts okuri) joins.okuris_are ∙ sym (okuris_of-push before (record { okuri = okuri; words = more }))
+  more_okuris_are =
+      added ∙ ap (λ texts. with_new (λ text. text) texts okuri) joins.okuris_are
+      ∙ sym (okuris_of-push before (record { okuri = okuri; words = more }))
 
   by_there : (b : Bool) → has_text okuris okuri ≡ b → more_okuris ≡ (if b then okuris else okuris ++ okuri ∷ [])
-  by_there b e = added ∙ ap (λ c. if c then okuris else okuris ++ okuri ∷ []) (ap (λ texts. has_text texts okuri) (texts_stay okuris) ∙ e)
+  by_there b e =
+      added ∙ ap (λ c. if c then okuris else okuris ++ okuri ∷ [])
+      (ap (λ texts. has_text texts okuri) (texts_stay okuris) ∙ e)
 
   -- a new okurigana has the block's words alone
-  pub joins_new : has_text okuris okuri ≡ false → (first : List (List ℕ)) → first ≡ words_once more → JoinsBlocks more_okuris (groups ++ first ∷ []) longer
+  pub joins_new : has_text okuris okuri ≡ false → (first : List (List ℕ)) → first ≡ words_once more
+      → JoinsBlocks more_okuris (groups ++ first ∷ []) longer
   joins_new none first words =
       let no_words : words_with okuri before ≡ [] =
-      words_with-none okuri before (sym (first_of_each-texts (λ (b : Block). b.okuri) before okuri) ∙ ap (λ texts. has_text texts okuri) (sym joins.okuris_are) ∙ none) in
+      words_with-none okuri before (sym (first_of_each-texts (λ (b : Block). b.okuri) before okuri)
+      ∙ ap (λ texts. has_text texts okuri) (sym joins.okuris_are) ∙ none) in
       let value : first ≡ new_words okuri = words ∙ ap (λ ws. words_once (ws ++ more)) (sym no_words) ∙ sym here in
       record {
         okuris_are = more_okuris_are;
         words_are =
-            ap (λ gs. gs ++ first ∷ []) (joins.words_are ∙ sym (map_others okuri old_words new_words others okuris none))
+            ap (λ gs. gs ++ first ∷ [])
+            (joins.words_are ∙ sym (map_others okuri old_words new_words others okuris none))
             ∙ ap (λ ws. map new_words okuris ++ ws ∷ []) value
             ∙ sym (map-append new_words okuris (okuri ∷ []))
             ∙ ap (map new_words) (sym (by_there false none));
       }
 
-  module _ (place : ℕ) (place_is : place ≡ position_or_len (same_text okuri) okuris) (there : has_text okuris okuri ≡ true) where
+  module _ (place : ℕ) (place_is : place ≡ position_or_len (same_text okuri) okuris)
+      (there : has_text okuris okuri ≡ true) where
     -- one that is there has its place
     pub known_place : place < length groups
-    known_place = omega (arith, place_is, there_within okuri okuris there, ap length joins.words_are ∙ length-map okuris old_words)
+    known_place = omega (
+      arith,
+      place_is,
+      there_within okuri okuris there,
+      ap length joins.words_are ∙ length-map okuris old_words,
+    )
 
     -- and has the block's words too
     pub joins_known : (known new : List (List ℕ)) → known ≡ get_or groups place known
         → ((words : List (List ℕ)) → known ≡ words_once words → new ≡ words_once (words ++ more))
         → JoinsBlocks more_okuris (set groups place new) longer
     joins_known known new is adds =
-        let all : texts_differ okuris ≡ true = ap texts_differ joins.okuris_are ∙ first_of_each-differ (λ (b : Block). b.okuri) before in
+        let all : texts_differ okuris ≡ true =
+        ap texts_differ joins.okuris_are ∙ first_of_each-differ (λ (b : Block). b.okuri) before in
         let value : known ≡ old_words okuri =
         is ∙ ap (λ gs. get_or gs place known) joins.words_are
         ∙ ap (λ n. get_or (map old_words okuris) n known) place_is ∙ there_value old_words okuri okuris known there in
@@ -191,20 +231,25 @@ module _ (okuris more_okuris : List (List ℕ)) (groups : List (List (List ℕ))
 -- The blocks that are made
 
 -- the words beside okurigana make the blocks of those that are valid
-pub made_blocks-is : (words_of : List ℕ → List (List ℕ)) (firsts : List Block) → made_blocks (map (λ b. b.okuri) firsts) (map words_of (map (λ b. b.okuri) firsts))
-    ≡ filter (λ b. is_okuri b.okuri) (map (λ first. record { okuri = first.okuri; words = words_of first.okuri }) firsts)
+pub made_blocks-is : (words_of : List ℕ → List (List ℕ)) (firsts : List Block)
+    → made_blocks (map (λ b. b.okuri) firsts) (map words_of (map (λ b. b.okuri) firsts))
+    ≡ filter (λ b. is_okuri b.okuri)
+    (map (λ first. record { okuri = first.okuri; words = words_of first.okuri }) firsts)
 made_blocks-is words_of [] = refl
 made_blocks-is words_of (first ∷ firsts) = by (is_okuri first.okuri) refl (made_blocks-is words_of firsts)
   where
     by : (b : Bool) → is_okuri first.okuri ≡ b
-        → made_blocks (map (λ b. b.okuri) firsts) (map words_of (map (λ b. b.okuri) firsts)) ≡ filter (λ b. is_okuri b.okuri) (map (λ f. record { okuri = f.okuri; words = words_of f.okuri }) firsts)
+        → made_blocks (map (λ b. b.okuri) firsts) (map words_of (map (λ b. b.okuri) firsts))
+        ≡ filter (λ b. is_okuri b.okuri) (map (λ f. record { okuri = f.okuri; words = words_of f.okuri }) firsts)
         → made_blocks (map (λ b. b.okuri) (first ∷ firsts)) (map words_of (map (λ b. b.okuri) (first ∷ firsts)))
-        ≡ filter (λ b. is_okuri b.okuri) (map (λ f. record { okuri = f.okuri; words = words_of f.okuri }) (first ∷ firsts))
+        ≡ filter (λ b. is_okuri b.okuri)
+        (map (λ f. record { okuri = f.okuri; words = words_of f.okuri }) (first ∷ firsts))
     by true e later = rw e (ap (λ bs. record { okuri = first.okuri; words = words_of first.okuri } ∷ bs) later)
     by false e later = rw e later
 
 -- so okurigana with their words make the joined blocks
-pub joined-made : (okuris : List (List ℕ)) (groups : List (List (List ℕ))) (blocks : List Block) → JoinsBlocks okuris groups blocks
+pub joined-made : (okuris : List (List ℕ)) (groups : List (List (List ℕ))) (blocks : List Block)
+    → JoinsBlocks okuris groups blocks
     → made_blocks okuris groups ≡ filter (λ b. is_okuri b.okuri) (joined_blocks blocks)
 joined-made okuris groups blocks joins =
     let words_of : List ℕ → List (List ℕ) = λ okuri. words_once (words_with okuri blocks) in
@@ -213,11 +258,13 @@ joined-made okuris groups blocks joins =
     ∙ made_blocks-is words_of (first_of_each (λ b. b.okuri) [] blocks)
 
 -- a block has a word where its strings have one
-pub has_word-is : (okuri : String Global) (words : List (String Global)) (result : Bool) → result ≡ list_any (λ word. not (is_empty (characters word))) words
+pub has_word-is : (okuri : String Global) (words : List (String Global)) (result : Bool)
+    → result ≡ list_any (λ word. not (is_empty (characters word))) words
     → has_word (record { okuri = characters okuri; words = map characters words }) ≡ result
 has_word-is okuri words result e = of words ∙ sym e
   where
-    of : (strings : List (String Global)) → list_any (λ word. not (is_empty word)) (map characters strings) ≡ list_any (λ word. not (is_empty (characters word))) strings
+    of : (strings : List (String Global)) → list_any (λ word. not (is_empty word)) (map characters strings)
+        ≡ list_any (λ word. not (is_empty (characters word))) strings
     of [] = refl
     of (string ∷ strings) = ap (λ b. not (is_empty (characters string)) || b) (of strings)
 
@@ -226,7 +273,8 @@ pub made_blocks-cons : (okuri : List ℕ) (words : List (List ℕ)) (okuris : Li
     → made_blocks (okuri ∷ okuris) (words ∷ more) ≡ made_blocks (okuri ∷ []) (words ∷ []) ++ made_blocks okuris more
 made_blocks-cons okuri words okuris more = by (is_okuri okuri) refl
   where
-    by : (b : Bool) → is_okuri okuri ≡ b → made_blocks (okuri ∷ okuris) (words ∷ more) ≡ made_blocks (okuri ∷ []) (words ∷ []) ++ made_blocks okuris more
+    by : (b : Bool) → is_okuri okuri ≡ b
+        → made_blocks (okuri ∷ okuris) (words ∷ more) ≡ made_blocks (okuri ∷ []) (words ∷ []) ++ made_blocks okuris more
     by true e = rw e refl
     by false e = rw e refl
 

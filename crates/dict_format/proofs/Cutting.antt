@@ -1,9 +1,11 @@
 -- A list cut at the first item that passes a test.
-use Rattle.std.proofs.Common.{◌≡◌, ◌<◌, ◌≤◌, ℕ, ◌+◌, zero, suc, Bool, true, false, not, map, ◌==◌, cond, nat_lt, Option, None, Some, List, [], ◌∷◌, ◌++◌, length, take, drop, refl, sym, ap, ◌∙◌, arith}
+use Rattle.std.proofs.Common.{◌≡◌, ◌<◌, ◌≤◌, ℕ, ◌+◌, zero, suc, Bool, true, false, not, map, ◌==◌, cond, nat_lt, Option}
+use Rattle.std.proofs.Common.{None, Some, List, [], ◌∷◌, ◌++◌, length, take, drop, refl, sym, ap, ◌∙◌, arith}
 use Rattle.std.specs.List.{list_all, position, position_or_len, prefix_len}
 use Rattle.std.proofs.lemmas.List.{length-map, take-map}
 use Rattle.std.specs.Option.{option_map}
-use Rattle.std.proofs.lemmas.Bool.{and_from, and_parts, both_ways, not-true, not_from_false, ltb-true, ltb-false, lt-ltb, le-ltb, ne_eqb}
+use Rattle.std.proofs.lemmas.Bool.{and_from, and_parts, both_ways, not-true, not_from_false, ltb-true, ltb-false}
+use Rattle.std.proofs.lemmas.Bool.{lt-ltb, le-ltb, ne_eqb}
 use Rattle.std.proofs.lemmas.Option.{some_pair_parts}
 use Rattle.skk_text.specs.Lists.{is_empty}
 use Rattle.dict_format.specs.Reading.{cut}
@@ -14,7 +16,8 @@ module _ {X : Type 0} (test : X → Bool) where
   fails x = not (test x)
 
   -- where an item passes behind one that doesn't
-  position_later : (b : Bool) (n m : ℕ) → b ≡ false → n < m → cond (nat_lt (cond (not b) (1 + n) 0) (suc m)) (Some (cond (not b) (1 + n) 0)) None ≡ Some (suc n)
+  position_later : (b : Bool) (n m : ℕ) → b ≡ false → n < m
+      → cond (nat_lt (cond (not b) (1 + n) 0) (suc m)) (Some (cond (not b) (1 + n) 0)) None ≡ Some (suc n)
   position_later true n m e lt = absurd (both_ways true e refl)
   position_later false n m e lt =
       let more : 1 + n ≡ suc n = omega arith in
@@ -22,7 +25,8 @@ module _ {X : Type 0} (test : X → Bool) where
       rw (more, within) refl
 
   -- where none passes
-  position_none : (b : Bool) (n m : ℕ) → b ≡ false → nat_lt n m ≡ false → cond (nat_lt (cond (not b) (1 + n) 0) (suc m)) (Some (cond (not b) (1 + n) 0)) None ≡ None
+  position_none : (b : Bool) (n m : ℕ) → b ≡ false → nat_lt n m ≡ false
+      → cond (nat_lt (cond (not b) (1 + n) 0) (suc m)) (Some (cond (not b) (1 + n) 0)) None ≡ None
   position_none true n m e ge = absurd (both_ways true e refl)
   position_none false n m e ge =
       let past : nat_lt (1 + n) (suc m) ≡ false = le-ltb (1 + n) (suc m) (omega (arith, ltb-false n m ge)) in
@@ -36,7 +40,8 @@ module _ {X : Type 0} (test : X → Bool) where
       by : (b within : Bool) → test x ≡ b → nat_lt (position_or_len test xs) (length xs) ≡ within
           → cut test xs ≡ option_map (λ at. (take at xs, drop (at + 1) xs)) (position test xs)
           → cut test (x ∷ xs) ≡ option_map (λ at. (take at (x ∷ xs), drop (at + 1) (x ∷ xs))) (position test (x ∷ xs))
-      by true within e f rest = let first : nat_lt 0 (suc (length xs)) ≡ true = lt-ltb 0 (suc (length xs)) (omega arith) in rw (e, first) refl
+      by true within e f rest =
+          let first : nat_lt 0 (suc (length xs)) ≡ true = lt-ltb 0 (suc (length xs)) (omega arith) in rw (e, first) refl
       by false true e f rest =
           let at = position_or_len test xs in
           let later = position_later (test x) at (length xs) e (ltb-true at (length xs) f) in
@@ -71,7 +76,8 @@ module _ {X : Type 0} (test : X → Bool) where
             passes = f;
             none_before = rw (← first) refl;
           }
-      by false None f g rest e = let none : ◌≡◌ {A = Option (List X × List X)} None (Some (before, after)) = rw (f, g) at e in cc
+      by false None f g rest e =
+          let none : ◌≡◌ {A = Option (List X × List X)} None (Some (before, after)) = rw (f, g) at e in cc
       by false (Some (b, a)) f g rest e =
           let same = some_pair_parts (x ∷ b) before a after (rw (f, g) at e) in
           let first = same.0 in
@@ -81,7 +87,8 @@ module _ {X : Type 0} (test : X → Bool) where
             item = is.item;
             list_is = rw (← first, ← last) (ap (λ ys. x ∷ ys) is.list_is);
             passes = is.passes;
-            none_before = rw (← first) (and_from (fails x) (list_all fails b) (not_from_false (test x) f) is.none_before);
+            none_before =
+                rw (← first) (and_from (fails x) (list_all fails b) (not_from_false (test x) f) is.none_before);
           }
 
   -- where none is cut off, no item passes
@@ -89,14 +96,16 @@ module _ {X : Type 0} (test : X → Bool) where
   cut-none [] e = refl
   cut-none (x ∷ xs) e = by (test x) (cut test xs) refl refl (cut-none xs) e
     where
-      by : (b : Bool) (o : Option (List X × List X)) → test x ≡ b → cut test xs ≡ o → (cut test xs ≡ None → list_all fails xs ≡ true)
-          → cut test (x ∷ xs) ≡ None → list_all fails (x ∷ xs) ≡ true
+      by : (b : Bool) (o : Option (List X × List X)) → test x ≡ b → cut test xs ≡ o
+          → (cut test xs ≡ None → list_all fails xs ≡ true) → cut test (x ∷ xs) ≡ None → list_all fails (x ∷ xs) ≡ true
       by true o f g rest e = let some : ◌≡◌ {A = Option (List X × List X)} (Some ([], xs)) None = rw f at e in cc
       by false None f g rest e = and_from (fails x) (list_all fails xs) (not_from_false (test x) f) (rest g)
-      by false (Some parts) f g rest e = let some : ◌≡◌ {A = Option (List X × List X)} (Some (x ∷ parts.0, parts.1)) None = rw (f, g) at e in cc
+      by false (Some parts) f g rest e =
+          let some : ◌≡◌ {A = Option (List X × List X)} (Some (x ∷ parts.0, parts.1)) None = rw (f, g) at e in cc
 
   -- a list is cut before the first item that passes
-  pub cut-at : (before : List X) (x : X) (after : List X) → list_all fails before ≡ true → test x ≡ true → cut test (before ++ x ∷ after) ≡ Some (before, after)
+  pub cut-at : (before : List X) (x : X) (after : List X) → list_all fails before ≡ true → test x ≡ true
+      → cut test (before ++ x ∷ after) ≡ Some (before, after)
   cut-at [] x after none passes = rw passes refl
   cut-at (y ∷ before) x after none passes =
       let parts = and_parts (fails y) (list_all fails before) none in
@@ -130,13 +139,16 @@ module _ {X Y : Type 0} (f : X → Y) (test : Y → Bool) where
   position-map xs = rw (prefixes xs, length-map xs f) refl
 
   -- and a list of images is cut where the items are
-  pub cut-map : (xs : List X) → cut test (map f xs) ≡ option_map {T = ℕ} {U = List Y × List Y} (λ at. (map f (take at xs), drop (at + 1) (map f xs))) (position (λ x. test (f x)) xs)
+  pub cut-map : (xs : List X) → cut test (map f xs) ≡ option_map {T = ℕ} {U = List Y × List Y}
+      (λ at. (map f (take at xs), drop (at + 1) (map f xs))) (position (λ x. test (f x)) xs)
   cut-map xs =
       cut-position test (map f xs)
-      ∙ ap (option_map {T = ℕ} {U = List Y × List Y} (λ at. (take at (map f xs), drop (at + 1) (map f xs)))) (position-map xs)
+      ∙ ap (option_map {T = ℕ} {U = List Y × List Y} (λ at. (take at (map f xs), drop (at + 1) (map f xs))))
+      (position-map xs)
       ∙ by (position (λ x. test (f x)) xs)
     where
-      by : (o : Option ℕ) → option_map {T = ℕ} {U = List Y × List Y} (λ at. (take at (map f xs), drop (at + 1) (map f xs))) o
+      by : (o : Option ℕ)
+          → option_map {T = ℕ} {U = List Y × List Y} (λ at. (take at (map f xs), drop (at + 1) (map f xs))) o
           ≡ option_map {T = ℕ} {U = List Y × List Y} (λ at. (map f (take at xs), drop (at + 1) (map f xs))) o
       by None = refl
       by (Some at) = ap (λ (ys : List Y). Some (ys, drop (at + 1) (map f xs))) (take-map f at xs)

@@ -14,7 +14,8 @@ abbrev sample_key : RowKey
 sample_key = record { part = Ari; reading = codes "おくr" }
 
 -- the first of two candidates of a word stays with its note, and an empty word goes
-cands_once : row_of_items sample_key (candidate (codes "送") (codes "a") ∷ candidate [] (codes "b") ∷ candidate (codes "贈") [] ∷ candidate (codes "送") (codes "c") ∷ [])
+cands_once : row_of_items sample_key (candidate (codes "送") (codes "a") ∷ candidate [] (codes "b")
+    ∷ candidate (codes "贈") [] ∷ candidate (codes "送") (codes "c") ∷ [])
     ≡ record {
       key = sample_key;
       cands = record { word = codes "送"; note = codes "a" } ∷ record { word = codes "贈"; note = [] } ∷ [];
@@ -25,13 +26,17 @@ cands_once : row_of_items sample_key (candidate (codes "送") (codes "a") ∷ ca
 unfolding lib.Utf8.encode
 cands_once = refl
 
--- blocks of an okurigana are joined where the first of them stands that has a word; a block without a word, and one whose
--- okurigana is none, go
-blocks_joined : row_of_items sample_key (block (codes "り") ([] ∷ []) ∷ block (codes "る") (codes "送" ∷ []) ∷ block (codes "り") (codes "贈" ∷ []) ∷ block [] (codes "遅" ∷ []) ∷ block (codes "る") (codes "贈" ∷ [] ∷ codes "送" ∷ []) ∷ [])
+-- blocks of an okurigana are joined where the first of them stands that has a word; a block without a word, and one
+-- whose okurigana is none, go
+blocks_joined : row_of_items sample_key
+    (block (codes "り") ([] ∷ []) ∷ block (codes "る") (codes "送" ∷ []) ∷ block (codes "り") (codes "贈" ∷ [])
+    ∷ block [] (codes "遅" ∷ []) ∷ block (codes "る") (codes "贈" ∷ [] ∷ codes "送" ∷ []) ∷ [])
     ≡ record {
       key = sample_key;
       cands = [];
-      blocks = record { okuri = codes "る"; words = codes "送" ∷ codes "贈" ∷ [] } ∷ record { okuri = codes "り"; words = codes "贈" ∷ [] } ∷ [];
+      blocks =
+          record { okuri = codes "る"; words = codes "送" ∷ codes "贈" ∷ [] }
+          ∷ record { okuri = codes "り"; words = codes "贈" ∷ [] } ∷ [];
       hides = [];
       stamp = 0;
     }
@@ -39,7 +44,8 @@ unfolding lib.Utf8.encode
 blocks_joined = refl
 
 -- the words of all marks are hidden, each once, in their order
-marks_joined : row_of_items sample_key (mark (codes "送" ∷ [] ∷ codes "贈" ∷ []) ∷ candidate (codes "送") [] ∷ mark (codes "贈" ∷ codes "遅" ∷ []) ∷ [])
+marks_joined : row_of_items sample_key
+    (mark (codes "送" ∷ [] ∷ codes "贈" ∷ []) ∷ candidate (codes "送") [] ∷ mark (codes "贈" ∷ codes "遅" ∷ []) ∷ [])
     ≡ record {
       key = sample_key;
       cands = record { word = codes "送"; note = [] } ∷ [];
@@ -63,7 +69,8 @@ mark_says : says_something (row_of_items sample_key (mark (codes "送" ∷ []) �
 unfolding lib.Utf8.encode
 mark_says = refl
 
-nothing_said : says_something (row_of_items sample_key (candidate [] (codes "a") ∷ block (codes "り") [] ∷ mark [] ∷ [])) ≡ false
+nothing_said : says_something (row_of_items sample_key (candidate [] (codes "a") ∷ block (codes "り") [] ∷ mark [] ∷ []))
+    ≡ false
 unfolding lib.Utf8.encode
 nothing_said = refl
 

@@ -37,7 +37,10 @@ okur = record (ari (codes "おくr")) {
 printed_files : Gives printed_file (
     ([], codes ";; okuri-ari entries.\n;; okuri-nasi entries.\n")
     ∷ (nasi (codes "かん") ∷ [], codes ";; okuri-ari entries.\n;; okuri-nasi entries.\nかん /漢/\n")
-    ∷ (okur ∷ [], codes ";; okuri-ari entries.\nおくr /送;荷物を/[り/送/贈/]/(skk-ignore-dic-word \"遅\")/\n;; okuri-nasi entries.\n")
+    ∷ (
+      okur ∷ [],
+      codes ";; okuri-ari entries.\nおくr /送;荷物を/[り/送/贈/]/(skk-ignore-dic-word \"遅\")/\n;; okuri-nasi entries.\n",
+    )
     ∷ (
       nasi (codes "かん") ∷ okur ∷ [],
       codes ";; okuri-ari entries.\nおくr /送;荷物を/[り/送/贈/]/(skk-ignore-dic-word \"遅\")/\n;; okuri-nasi entries.\nかん /漢/\n",
@@ -52,24 +55,40 @@ printed_files = refl
 
 -- with okurigana a reading stands behind those that go on from it, and without it in front of them, in whatever order
 -- the rows came
-prefixes : Gives in_printing_order (
-    (ari (codes "かk") ∷ ari (codes "かkk") ∷ ari (codes "かkkk") ∷ [], ari (codes "かkkk") ∷ ari (codes "かkk") ∷ ari (codes "かk") ∷ [])
-    ∷ (ari (codes "かkkk") ∷ ari (codes "かkk") ∷ ari (codes "かk") ∷ [], ari (codes "かkkk") ∷ ari (codes "かkk") ∷ ari (codes "かk") ∷ [])
-    ∷ (ari (codes "かkk") ∷ ari (codes "かk") ∷ ari (codes "かkkk") ∷ [], ari (codes "かkkk") ∷ ari (codes "かkk") ∷ ari (codes "かk") ∷ [])
-    ∷ (nasi (codes "かん") ∷ nasi (codes "かんじ") ∷ nasi (codes "か") ∷ [], nasi (codes "か") ∷ nasi (codes "かん") ∷ nasi (codes "かんじ") ∷ [])
-    ∷ (nasi (codes "かんじ") ∷ nasi (codes "かん") ∷ nasi (codes "か") ∷ [], nasi (codes "か") ∷ nasi (codes "かん") ∷ nasi (codes "かんじ") ∷ [])
+prefixes : Gives in_printing_order ((
+  ari (codes "かk") ∷ ari (codes "かkk") ∷ ari (codes "かkkk") ∷ [],
+  ari (codes "かkkk") ∷ ari (codes "かkk") ∷ ari (codes "かk") ∷ [],
+)
+    ∷ (
+      ari (codes "かkkk") ∷ ari (codes "かkk") ∷ ari (codes "かk") ∷ [],
+      ari (codes "かkkk") ∷ ari (codes "かkk") ∷ ari (codes "かk") ∷ [],
+    )
+    ∷ (
+      ari (codes "かkk") ∷ ari (codes "かk") ∷ ari (codes "かkkk") ∷ [],
+      ari (codes "かkkk") ∷ ari (codes "かkk") ∷ ari (codes "かk") ∷ [],
+    )
+    ∷ (
+      nasi (codes "かん") ∷ nasi (codes "かんじ") ∷ nasi (codes "か") ∷ [],
+      nasi (codes "か") ∷ nasi (codes "かん") ∷ nasi (codes "かんじ") ∷ [],
+    )
+    ∷ (
+      nasi (codes "かんじ") ∷ nasi (codes "かん") ∷ nasi (codes "か") ∷ [],
+      nasi (codes "か") ∷ nasi (codes "かん") ∷ nasi (codes "かんじ") ∷ [],
+    )
     ∷ [])
 unfolding lib.Utf8.encode
 prefixes = refl
 
--- the first byte that differs decides, and not the length: a shorter reading with a greater byte is greater. A character
--- of four bytes is greater than each of three, and these than those of one
+-- the first byte that differs decides, and not the length: a shorter reading with a greater byte is greater. A
+-- character of four bytes is greater than each of three, and these than those of one
 by_bytes : Gives in_printing_order (
     (nasi (codes "い") ∷ nasi (codes "ああ") ∷ [], nasi (codes "ああ") ∷ nasi (codes "い") ∷ [])
     ∷ (ari (codes "ああk") ∷ ari (codes "いk") ∷ [], ari (codes "いk") ∷ ari (codes "ああk") ∷ [])
     ∷ (
-      nasi (codes "𠮷") ∷ nasi (codes "ｱ") ∷ nasi (codes "あ") ∷ nasi (codes "é") ∷ nasi (codes "z") ∷ nasi (codes "Z") ∷ [],
-      nasi (codes "Z") ∷ nasi (codes "z") ∷ nasi (codes "é") ∷ nasi (codes "あ") ∷ nasi (codes "ｱ") ∷ nasi (codes "𠮷") ∷ [],
+      nasi (codes "𠮷") ∷ nasi (codes "ｱ") ∷ nasi (codes "あ") ∷ nasi (codes "é") ∷ nasi (codes "z")
+          ∷ nasi (codes "Z") ∷ [],
+      nasi (codes "Z") ∷ nasi (codes "z") ∷ nasi (codes "é") ∷ nasi (codes "あ") ∷ nasi (codes "ｱ")
+          ∷ nasi (codes "𠮷") ∷ [],
     )
     ∷ (
       ari (codes "zk") ∷ ari (codes "𠮷k") ∷ ari (codes "あk") ∷ ari (codes "ｱk") ∷ [],

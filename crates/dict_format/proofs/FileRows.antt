@@ -19,19 +19,26 @@ or_false true = refl
 or_false false = refl
 
 -- a key that no row has differs from that of each
-key-apart : (rows : List Row) (key : RowKey) → has_key rows key ≡ false → list_all (λ row. not (same_key row.key key)) rows ≡ true
+key-apart : (rows : List Row) (key : RowKey) → has_key rows key ≡ false
+    → list_all (λ row. not (same_key row.key key)) rows ≡ true
 key-apart [] key none = refl
 key-apart (row ∷ rows) key none =
     let parts = or_parts (same_key row.key key) (has_key rows key) none in
     and_from (not (same_key row.key key)) _ (not_from_false (same_key row.key key) parts.0) (key-apart rows key parts.1)
 
 -- a row more
-key-more : (rows : List Row) (row : Row) (key : RowKey) → has_key (rows ++ row ∷ []) key ≡ (has_key rows key || same_key row.key key)
-key-more rows row key = list_any-append (λ other. same_key other.key key) rows (row ∷ []) ∙ ap (λ b. has_key rows key || b) (or_false (same_key row.key key))
+key-more : (rows : List Row) (row : Row) (key : RowKey)
+    → has_key (rows ++ row ∷ []) key ≡ (has_key rows key || same_key row.key key)
+key-more rows row key =
+    list_any-append (λ other. same_key other.key key) rows (row ∷ [])
+    ∙ ap (λ b. has_key rows key || b) (or_false (same_key row.key key))
 
 -- a reading more, where it was not among them
-text-added : (texts : List (List ℕ)) (text other : List ℕ) → has_text (with_new (λ t. t) texts text) other ≡ (has_text texts other || same_text text other)
-text-added texts text other = texts_fold_new texts (text ∷ []) other ∙ ap (λ b. has_text texts other || b) (or_false (same_text other text) ∙ same_other other text)
+text-added : (texts : List (List ℕ)) (text other : List ℕ)
+    → has_text (with_new (λ t. t) texts text) other ≡ (has_text texts other || same_text text other)
+text-added texts text other =
+    texts_fold_new texts (text ∷ []) other
+    ∙ ap (λ b. has_text texts other || b) (or_false (same_text other text) ∙ same_other other text)
 
 -- the part beside a part
 abbrev pub other_part : Part → Part
@@ -39,50 +46,68 @@ other_part Nasi = Ari
 other_part Ari = Nasi
 
 -- what is known behind a reading that was added to those of a part
-pub knows-added : (part : Part) (before after : Readings) (key : RowKey) (reading : List ℕ) → key.part ≡ part → reading ≡ key.reading
-    → known_in after part ≡ with_new (λ text. text) (known_in before part) reading → known_in after (other_part part) ≡ known_in before (other_part part)
+pub knows-added : (part : Part) (before after : Readings) (key : RowKey) (reading : List ℕ) → key.part ≡ part
+    → reading ≡ key.reading
+    → known_in after part ≡ with_new (λ text. text) (known_in before part) reading
+    → known_in after (other_part part) ≡ known_in before (other_part part)
     → (other : RowKey) → knows after other ≡ (knows before other || same_key key other)
 knows-added part before after key reading is same added kept other =
-    by part other.part added kept ∙ ap (λ b. knows before other || b) (ap (λ p. same_part p other.part && same_text reading other.reading) (sym is) ∙ ap (λ t. same_part key.part other.part && same_text t other.reading) same)
+    by part other.part added kept
+    ∙ ap (λ b. knows before other || b) (ap (λ p. same_part p other.part && same_text reading other.reading) (sym is)
+    ∙ ap (λ t. same_part key.part other.part && same_text t other.reading) same)
   where
     more : (p : Part) → known_in after p ≡ with_new (λ text. text) (known_in before p) reading
-        → has_text (known_in after p) other.reading ≡ (has_text (known_in before p) other.reading || same_text reading other.reading)
-    more p added = ap (λ texts. has_text texts other.reading) added ∙ text-added (known_in before p) reading other.reading
+        → has_text (known_in after p) other.reading
+        ≡ (has_text (known_in before p) other.reading || same_text reading other.reading)
+    more p added =
+        ap (λ texts. has_text texts other.reading) added ∙ text-added (known_in before p) reading other.reading
 
-    still : (p : Part) → known_in after p ≡ known_in before p → has_text (known_in after p) other.reading ≡ (has_text (known_in before p) other.reading || false)
-    still p kept = ap (λ texts. has_text texts other.reading) kept ∙ sym (or_false (has_text (known_in before p) other.reading))
+    still : (p : Part) → known_in after p ≡ known_in before p
+        → has_text (known_in after p) other.reading ≡ (has_text (known_in before p) other.reading || false)
+    still p kept =
+        ap (λ texts. has_text texts other.reading) kept ∙ sym (or_false (has_text (known_in before p) other.reading))
 
-    by : (p q : Part) → known_in after p ≡ with_new (λ text. text) (known_in before p) reading → known_in after (other_part p) ≡ known_in before (other_part p)
-        → has_text (known_in after q) other.reading ≡ (has_text (known_in before q) other.reading || (same_part p q && same_text reading other.reading))
+    by : (p q : Part) → known_in after p ≡ with_new (λ text. text) (known_in before p) reading
+        → known_in after (other_part p) ≡ known_in before (other_part p)
+        → has_text (known_in after q) other.reading
+        ≡ (has_text (known_in before q) other.reading || (same_part p q && same_text reading other.reading))
     by Nasi Nasi added kept = more Nasi added
     by Ari Ari added kept = more Ari added
     by Nasi Ari added kept = still Ari kept
     by Ari Nasi added kept = still Nasi kept
 
 -- what is known behind the key of a line: it was a new one where no row has it
-module _ (rows : List Row) (before after : Readings) (key : RowKey) (is_new : Bool) (knew : KnowsKeys rows before) (tells : is_new ≡ not (knows before key))
+module _ (rows : List Row) (before after : Readings) (key : RowKey) (is_new : Bool) (knew : KnowsKeys rows before)
+    (tells : is_new ≡ not (knows before key))
     (added : (other : RowKey) → knows after other ≡ (knows before other || same_key key other)) where
   -- a new one comes with its row
   pub knows-new : (row : Row) → row.key ≡ key → is_new ≡ true → KnowsKeys (rows ++ row ∷ []) after
   knows-new row is new =
-      let none : has_key rows row.key ≡ false = ap (has_key rows) is ∙ sym (knew.known key) ∙ not-true (knows before key) (sym tells ∙ new) in
+      let none : has_key rows row.key ≡ false =
+      ap (has_key rows) is ∙ sym (knew.known key) ∙ not-true (knows before key) (sym tells ∙ new) in
       record {
         differ =
             pairs_appended (λ one other. not (same_key one.key other.key)) rows (row ∷ []) knew.differ refl
-            (list_all-weaker (λ one. not (same_key one.key row.key)) (λ one. list_all (λ other. not (same_key one.key other.key)) (row ∷ []))
+            (list_all-weaker (λ one. not (same_key one.key row.key))
+            (λ one. list_all (λ other. not (same_key one.key other.key)) (row ∷ []))
             (λ one e. and_from (not (same_key one.key row.key)) true e refl) rows (key-apart rows row.key none));
-        known = λ other. added other ∙ ap (λ b. b || same_key key other) (knew.known other) ∙ ap (λ k. has_key rows other || same_key k other) (sym is) ∙ sym (key-more rows row other);
+        known =
+            λ other. added other ∙ ap (λ b. b || same_key key other) (knew.known other)
+            ∙ ap (λ k. has_key rows other || same_key k other) (sym is) ∙ sym (key-more rows row other);
       }
 
   -- any other changes nothing
   pub knows-again : is_new ≡ false → KnowsKeys rows after
   knows-again old = record {
     differ = knew.differ;
-    known = λ other. added other ∙ ap (λ b. b || same_key key other) (knew.known other) ∙ by other (same_key key other) refl;
+    known =
+        λ other. added other ∙ ap (λ b. b || same_key key other) (knew.known other)
+        ∙ by other (same_key key other) refl;
   }
     where
       by : (other : RowKey) (b : Bool) → same_key key other ≡ b → (has_key rows other || b) ≡ has_key rows other
       by other true e =
-          let there : has_key rows other ≡ true = ap (has_key rows) (sym (same_key_equal key other e)) ∙ sym (knew.known key) ∙ not-false (knows before key) (sym tells ∙ old) in
+          let there : has_key rows other ≡ true = ap (has_key rows) (sym (same_key_equal key other e))
+          ∙ sym (knew.known key) ∙ not-false (knows before key) (sym tells ∙ old) in
           rw there refl
       by other false e = or_false (has_key rows other)

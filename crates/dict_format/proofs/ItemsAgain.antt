@@ -1,5 +1,6 @@
 -- The items of a canonical line spell what they were made of.
-use Rattle.std.proofs.Common.{◌≡◌, ◌≢◌, ℕ, Bool, true, false, not, ◌&&◌, ◌||◌, ◌==◌, nat_eq, nat_le, if◌then◌else◌, ◌⊎◌, inl, inr, List, [], ◌∷◌, ◌++◌, codes, map, length, refl, sym, ap, ◌∙◌, subst, arith}
+use Rattle.std.proofs.Common.{◌≡◌, ◌≢◌, ℕ, Bool, true, false, not, ◌&&◌, ◌||◌, ◌==◌, nat_eq, nat_le, if◌then◌else◌, ◌⊎◌}
+use Rattle.std.proofs.Common.{inl, inr, List, [], ◌∷◌, ◌++◌, codes, map, length, refl, sym, ap, ◌∙◌, subst, arith}
 use Rattle.std.specs.List.{flat_map, list_all, list_any, AllByRecursion, starts_with}
 use Rattle.std.proofs.lemmas.Bool.{and_parts, and_from, or_parts, both_ways, not_from_false, ne_eqb}
 use Rattle.std.proofs.lemmas.List.{append-nil}
@@ -12,7 +13,8 @@ use Rattle.dict_format.specs.Items.Item.{candidate, block, mark}
 use Rattle.dict_format.specs.Items.SpellsItem.{marks, says, blocks}
 use Rattle.dict_format.specs.Lines.{lacks}
 use Rattle.dict_format.specs.Words.{SpellsWord, SaysWord, MarksWords}
-use Rattle.dict_format.proofs.WordsAgain.{string_again, written_plain, written_says, item_word, item_note, begins_with, begins_so}
+use Rattle.dict_format.proofs.WordsAgain.{string_again, written_plain, written_says, item_word, item_note, begins_with}
+use Rattle.dict_format.proofs.WordsAgain.{begins_so}
 
 -- How written words begin
 
@@ -29,9 +31,16 @@ written_begins [] e = absurd (both_ways (nat_le 1 0) refl e)
 written_begins (c ∷ word) e = by (list_any is_special (c ∷ word)) (begins_form (c ∷ word)) refl
   where
     quoted_word : Begins (codes "(concat " ++ quoted (c ∷ word) ++ codes ")")
-    quoted_word = record { first = 0x28; rest = codes "concat " ++ quoted (c ∷ word) ++ codes ")"; text_is = refl; not_open = refl; not_close = refl }
+    quoted_word = record {
+      first = 0x28;
+      rest = codes "concat " ++ quoted (c ∷ word) ++ codes ")";
+      text_is = refl;
+      not_open = refl;
+      not_close = refl;
+    }
 
-    by : (a b : Bool) → begins_form (c ∷ word) ≡ b → Begins (if a || b then codes "(concat " ++ quoted (c ∷ word) ++ codes ")" else c ∷ word)
+    by : (a b : Bool) → begins_form (c ∷ word) ≡ b
+        → Begins (if a || b then codes "(concat " ++ quoted (c ∷ word) ++ codes ")" else c ∷ word)
     by true b f = quoted_word
     by false true f = quoted_word
     by false false f =
@@ -41,8 +50,12 @@ written_begins (c ∷ word) e = by (list_any is_special (c ∷ word)) (begins_fo
           first = c;
           rest = word;
           text_is = refl;
-          not_open = ne_eqb c 0x5B (λ is. both_ways (starts_with nat_eq (c ∷ word) (codes "[")) open_parts.0 (begins_so (c ∷ word) (codes "[") word (ap (λ n. n ∷ word) is)));
-          not_close = ne_eqb c 0x5D (λ is. both_ways (starts_with nat_eq (c ∷ word) (codes "]")) close_parts.0 (begins_so (c ∷ word) (codes "]") word (ap (λ n. n ∷ word) is)));
+          not_open =
+              ne_eqb c 0x5B (λ is. both_ways (starts_with nat_eq (c ∷ word) (codes "[")) open_parts.0
+              (begins_so (c ∷ word) (codes "[") word (ap (λ n. n ∷ word) is)));
+          not_close =
+              ne_eqb c 0x5D (λ is. both_ways (starts_with nat_eq (c ∷ word) (codes "]")) close_parts.0
+              (begins_so (c ∷ word) (codes "]") word (ap (λ n. n ∷ word) is)));
         }
 
 -- so it opens no block, whatever stands behind it
@@ -57,13 +70,16 @@ closes_none text begins = ap closes_block begins.text_is ∙ rw begins.not_close
 -- What is no mark
 
 -- a mark begins with its name, a space and a double quote
-begins_marked : (text : List ℕ) (words : List (List ℕ)) → MarksWords text words → (more : List ℕ) × (text ≡ codes "(skk-ignore-dic-word " ++ 0x22 ∷ more)
+begins_marked : (text : List ℕ) (words : List (List ℕ)) → MarksWords text words
+    → (more : List ℕ) × (text ≡ codes "(skk-ignore-dic-word " ++ 0x22 ∷ more)
 begins_marked text words is = by is.strings is.some_string is.text_is
   where
-    by : (strings : List (List ℕ × List ℕ)) → strings ≢ [] → text ≡ codes "(skk-ignore-dic-word" ++ flat_map (λ s. codes " \"" ++ s.0 ++ codes "\"") strings ++ codes ")"
+    by : (strings : List (List ℕ × List ℕ)) → strings ≢ []
+        → text ≡ codes "(skk-ignore-dic-word" ++ flat_map (λ s. codes " \"" ++ s.0 ++ codes "\"") strings ++ codes ")"
         → (more : List ℕ) × (text ≡ codes "(skk-ignore-dic-word " ++ 0x22 ∷ more)
     by [] some e = absurd (some refl)
-    by (s ∷ strings) some e = (((s.0 ++ codes "\"") ++ flat_map (λ t. codes " \"" ++ t.0 ++ codes "\"") strings) ++ codes ")", e)
+    by (s ∷ strings) some e =
+        (((s.0 ++ codes "\"") ++ flat_map (λ t. codes " \"" ++ t.0 ++ codes "\"") strings) ++ codes ")", e)
 
 -- a word without special characters lacks double quotes
 lacks_quote : (word : List ℕ) → list_any is_special word ≡ false → lacks 0x22 word ≡ true
@@ -85,30 +101,39 @@ no_mark : (word note : List ℕ) (words : List (List ℕ)) → MarksWords (writt
 no_mark word note words = by (list_any is_special word) (begins_form word) refl refl
   where
     quoted_word : MarksWords ((codes "(concat " ++ quoted word ++ codes ")") ++ written_note note) words → ⊥
-    quoted_word is = let e = (begins_marked _ words is).1 in let wrong : ◌≡◌ {A = ℕ} 0x63 0x73 = cc in absurd (omega (arith, wrong))
+    quoted_word is =
+        let e = (begins_marked _ words is).1 in let wrong : ◌≡◌ {A = ℕ} 0x63 0x73 = cc in absurd (omega (arith, wrong))
 
-    by : (a b : Bool) → list_any is_special word ≡ a → begins_form word ≡ b → MarksWords ((if a || b then codes "(concat " ++ quoted word ++ codes ")" else word) ++ written_note note) words → ⊥
+    by : (a b : Bool) → list_any is_special word ≡ a → begins_form word ≡ b → MarksWords
+        ((if a || b then codes "(concat " ++ quoted word ++ codes ")" else word) ++ written_note note) words → ⊥
     by true b f g is = quoted_word is
     by false true f g is = quoted_word is
     by false false f g is =
         let found = begins_marked (word ++ written_note note) words is in
-        let begins = begins_with word (written_note note) (codes "(skk-ignore-dic-word ") found.0 (lacks_quote word f) (note_shape note) refl found.1 in
+        let begins = begins_with word (written_note note) (codes "(skk-ignore-dic-word ") found.0 (lacks_quote word f)
+        (note_shape note) refl found.1 in
         let a = or_parts (starts_with nat_eq word (codes "[")) _ g in
         let b = or_parts (starts_with nat_eq word (codes "]")) _ a.1 in
         let c = or_parts (starts_with nat_eq word (codes "(concat ")) _ b.1 in
-        both_ways (starts_with nat_eq word (codes "(skk-ignore-dic-word ")) c.1 (begins_so word (codes "(skk-ignore-dic-word ") begins.0 begins.1)
+        both_ways (starts_with nat_eq word (codes "(skk-ignore-dic-word ")) c.1
+        (begins_so word (codes "(skk-ignore-dic-word ") begins.0 begins.1)
 
 -- Items
 
 -- a candidate
-pub cand_again : (part : Part) (cand : Cand) → is_cand cand ≡ true → SpellsItem part (item cand ∷ []) (candidate cand.word cand.note)
+pub cand_again : (part : Part) (cand : Cand) → is_cand cand ≡ true
+    → SpellsItem part (item cand ∷ []) (candidate cand.word cand.note)
 cand_again part cand valid =
     let parts = and_parts (nat_le 1 (length cand.word)) (is_note cand.note && nat_le _ _) valid in
     let noted = and_parts (is_note cand.note) _ parts.1 in
     let text = item cand in
-    let word : SaysWord (before_note (item cand)) cand.word = subst (λ t. SaysWord t cand.word) (sym (item_word (written_word cand.word) cand.note (written_plain cand.word))) (written_says cand.word) in
-    subst (λ n. SpellsItem part (item cand ∷ []) (candidate cand.word n)) (item_note (written_word cand.word) cand.note (written_plain cand.word) noted.0)
-    (says part (item cand) cand.word (opens_none part (written_word cand.word) (written_note cand.note) (written_begins cand.word parts.0)) (no_mark cand.word cand.note) word)
+    let word : SaysWord (before_note (item cand)) cand.word = subst (λ t. SaysWord t cand.word)
+    (sym (item_word (written_word cand.word) cand.note (written_plain cand.word))) (written_says cand.word) in
+    subst (λ n. SpellsItem part (item cand ∷ []) (candidate cand.word n))
+    (item_note (written_word cand.word) cand.note (written_plain cand.word) noted.0)
+    (says part (item cand) cand.word
+    (opens_none part (written_word cand.word) (written_note cand.note) (written_begins cand.word parts.0))
+    (no_mark cand.word cand.note) word)
 
 -- the texts of a block
 abbrev pub block_texts : Block → List (List ℕ)
@@ -128,25 +153,34 @@ unfolding written_pairs
 pairs_words [] = refl
 pairs_words (w ∷ words) = ap (λ ts. w ∷ ts) (pairs_words words)
 
-pairs_say : (words : List (List ℕ)) → AllByRecursion (λ pair. SaysWord (before_note pair.0) pair.1) (written_pairs words)
+pairs_say : (words : List (List ℕ))
+    → AllByRecursion (λ pair. SaysWord (before_note pair.0) pair.1) (written_pairs words)
 unfolding written_pairs
 pairs_say [] = tt
-pairs_say (w ∷ words) =
-    (subst (λ t. SaysWord t w) (sym (ap before_note (sym (append-nil (written_word w))) ∙ item_word (written_word w) [] (written_plain w))) (written_says w), pairs_say words)
+pairs_say (w ∷ words) = (
+  subst (λ t. SaysWord t w)
+      (sym (ap before_note (sym (append-nil (written_word w))) ∙ item_word (written_word w) [] (written_plain w)))
+      (written_says w),
+  pairs_say words,
+)
 
-pairs_open : (words : List (List ℕ)) → list_all is_word words ≡ true → list_all (λ pair. not (closes_block pair.0)) (written_pairs words) ≡ true
+pairs_open : (words : List (List ℕ)) → list_all is_word words ≡ true
+    → list_all (λ pair. not (closes_block pair.0)) (written_pairs words) ≡ true
 unfolding written_pairs
 pairs_open [] all = refl
 pairs_open (w ∷ words) all =
     let parts = and_parts (is_word w) (list_all is_word words) all in
     let word = and_parts (nat_le 1 (length w)) _ parts.0 in
-    and_from (not (closes_block (written_word w))) _ (not_from_false (closes_block (written_word w)) (closes_none (written_word w) (written_begins w word.0))) (pairs_open words parts.1)
+    and_from (not (closes_block (written_word w))) _
+    (not_from_false (closes_block (written_word w)) (closes_none (written_word w) (written_begins w word.0)))
+    (pairs_open words parts.1)
 
 -- a block
 pub block_again : (b : Block) → list_all is_word b.words ≡ true → SpellsItem Ari (block_texts b) (block b.okuri b.words)
 block_again b all =
     subst (λ ws. SpellsItem Ari (block_texts b) (block b.okuri ws)) (pairs_words b.words)
-    (subst (λ ts. SpellsItem Ari ((0x5B ∷ b.okuri) ∷ ts ++ codes "]" ∷ []) (block b.okuri (map (λ pair. pair.1) (written_pairs b.words)))) (pairs_texts b.words)
+    (subst (λ ts. SpellsItem Ari ((0x5B ∷ b.okuri) ∷ ts ++ codes "]" ∷ [])
+    (block b.okuri (map (λ pair. pair.1) (written_pairs b.words)))) (pairs_texts b.words)
     (blocks b.okuri (written_pairs b.words) (pairs_open b.words all) (pairs_say b.words)))
 
 -- a mark
@@ -156,7 +190,8 @@ mark_text words = codes "(skk-ignore-dic-word" ++ flat_map (λ w. 0x20 ∷ quote
 string_pairs : List (List ℕ) → List (List ℕ × List ℕ)
 string_pairs words = map (λ w. (flat_map char_in_string w, w)) words
 
-pub mark_again : (part : Part) (w : List ℕ) (words : List (List ℕ)) → SpellsItem part (mark_text (w ∷ words) ∷ []) (mark (w ∷ words))
+pub mark_again : (part : Part) (w : List ℕ) (words : List (List ℕ))
+    → SpellsItem part (mark_text (w ∷ words) ∷ []) (mark (w ∷ words))
 unfolding string_pairs
 mark_again part w words =
     marks part (mark_text (w ∷ words)) (w ∷ words) (by part)
@@ -176,7 +211,8 @@ mark_again part w words =
     each [] = tt
     each (v ∷ ws) = (string_again v, each ws)
 
-    texts : (ws : List (List ℕ)) → flat_map (λ v. 0x20 ∷ quoted v) ws ≡ flat_map (λ (s : List ℕ × List ℕ). codes " \"" ++ s.0 ++ codes "\"") (string_pairs ws)
+    texts : (ws : List (List ℕ)) → flat_map (λ v. 0x20 ∷ quoted v) ws
+        ≡ flat_map (λ (s : List ℕ × List ℕ). codes " \"" ++ s.0 ++ codes "\"") (string_pairs ws)
     texts [] = refl
     texts (v ∷ ws) = ap (λ ys. (0x20 ∷ quoted v) ++ ys) (texts ws)
 

@@ -1,5 +1,6 @@
 -- The bytes of a line that is printed.
-use Rattle.std.proofs.Common.{◌≡◌, ◌⊎◌, inl, inr, ℕ, ◌+◌, ◌/◌, ◌%◌, ◌≤◌, ◌<◌, ◌==◌, ◌&&◌, Bool, true, false, cond, not, if◌then◌else◌, List, [], ◌∷◌, ◌++◌, encode_utf8_all, refl, ap, ◌∙◌, arith}
+use Rattle.std.proofs.Common.{◌≡◌, ◌⊎◌, inl, inr, ℕ, ◌+◌, ◌/◌, ◌%◌, ◌≤◌, ◌<◌, ◌==◌, ◌&&◌, Bool, true, false, cond, not}
+use Rattle.std.proofs.Common.{if◌then◌else◌, List, [], ◌∷◌, ◌++◌, encode_utf8_all, refl, ap, ◌∙◌, arith}
 use lib.Utf8.{encode}
 use Rattle.std.specs.List.{list_all, AllByRecursion}
 use Rattle.std.proofs.lemmas.Bool.{and_parts, and_from, both_ways, not-true}
@@ -18,37 +19,54 @@ use Rattle.dict_format.specs.PrintedFiles.{part_line}
 
 -- a byte from 128 on is no ASCII character
 above_ascii : (code : ℕ) → code < 128 → (byte : ℕ) → 128 ≤ byte → not (byte == code) ≡ true
-above_ascii code low byte high = elim (eqb_tells byte code) [ inl same ↦ absurd (omega (arith, same.1)) | inr other ↦ ap not other.0 ]
+above_ascii code low byte high =
+    elim (eqb_tells byte code) [ inl same ↦ absurd (omega (arith, same.1)) | inr other ↦ ap not other.0 ]
 
 -- bytes are those of a character: itself, or bytes from 128 on
 abbrev AreOf : ℕ → List ℕ → Type 0
-AreOf c bytes = (bytes ≡ c ∷ []) ⊎ ((first : ℕ) × (rest : List ℕ) × (bytes ≡ first ∷ rest) × AllByRecursion (λ byte. 128 ≤ byte) (first ∷ rest))
+AreOf c bytes =
+    (bytes ≡ c ∷ [])
+    ⊎ ((first : ℕ) × (rest : List ℕ) × (bytes ≡ first ∷ rest) × AllByRecursion (λ byte. 128 ≤ byte) (first ∷ rest))
 
 bytes_are : (c : ℕ) → AreOf c (encode c)
 unfolding encode
 bytes_are c = by _ _ _
   where
     by : (one two three : Bool) → AreOf c (cond one (c ∷ []) (cond two ((192 + c / 64) ∷ (128 + c % 64) ∷ [])
-        (cond three ((224 + c / 4096) ∷ (128 + c / 64 % 64) ∷ (128 + c % 64) ∷ []) ((240 + c / 262144) ∷ (128 + c / 4096 % 64) ∷ (128 + c / 64 % 64) ∷ (128 + c % 64) ∷ []))))
+        (cond three ((224 + c / 4096) ∷ (128 + c / 64 % 64) ∷ (128 + c % 64) ∷ [])
+        ((240 + c / 262144) ∷ (128 + c / 4096 % 64) ∷ (128 + c / 64 % 64) ∷ (128 + c % 64) ∷ []))))
     by true two three = inl refl
     by false true three = inr (192 + c / 64, (128 + c % 64) ∷ [], refl, (omega arith, (omega arith, tt)))
-    by false false true = inr (224 + c / 4096, (128 + c / 64 % 64) ∷ (128 + c % 64) ∷ [], refl, (omega arith, (omega arith, (omega arith, tt))))
+    by false false true = inr (
+      224 + c / 4096,
+      (128 + c / 64 % 64) ∷ (128 + c % 64) ∷ [],
+      refl,
+      (omega arith, (omega arith, (omega arith, tt))),
+    )
     by false false false =
-        inr (240 + c / 262144, (128 + c / 4096 % 64) ∷ (128 + c / 64 % 64) ∷ (128 + c % 64) ∷ [], refl, (omega arith, (omega arith, (omega arith, (omega arith, tt)))))
+        inr (
+          240 + c / 262144,
+          (128 + c / 4096 % 64) ∷ (128 + c / 64 % 64) ∷ (128 + c % 64) ∷ [],
+          refl,
+          (omega arith, (omega arith, (omega arith, (omega arith, tt)))),
+        )
 
 -- Texts
 
 -- the bytes of a text that lacks an ASCII character lack it
-pub bytes_lack : (code : ℕ) → code < 128 → (text : List ℕ) → lacks code text ≡ true → lacks code (encode_utf8_all text) ≡ true
+pub bytes_lack : (code : ℕ) → code < 128 → (text : List ℕ) → lacks code text ≡ true
+    → lacks code (encode_utf8_all text) ≡ true
 bytes_lack code low [] none = refl
 bytes_lack code low (c ∷ text) none =
     let parts = and_parts (not (c == code)) (lacks code text) none in
     list_all-append (λ d. not (d == code)) (encode c) (encode_utf8_all text)
-    ∙ and_from (lacks code (encode c)) (lacks code (encode_utf8_all text)) (by (bytes_are c) parts.0) (bytes_lack code low text parts.1)
+    ∙ and_from (lacks code (encode c)) (lacks code (encode_utf8_all text)) (by (bytes_are c) parts.0)
+    (bytes_lack code low text parts.1)
   where
     all_above : (bytes : List ℕ) → AllByRecursion (λ byte. 128 ≤ byte) bytes → lacks code bytes ≡ true
     all_above [] all = refl
-    all_above (byte ∷ bytes) all = and_from (not (byte == code)) (lacks code bytes) (above_ascii code low byte all.0) (all_above bytes all.1)
+    all_above (byte ∷ bytes) all =
+        and_from (not (byte == code)) (lacks code bytes) (above_ascii code low byte all.0) (all_above bytes all.1)
 
     by : AreOf c (encode c) → not (c == code) ≡ true → lacks code (encode c) ≡ true
     by (inl itself) other = ap (lacks code) itself ∙ and_from (not (c == code)) true other refl
@@ -61,7 +79,8 @@ bytes_begin (c ∷ text) begins = by (bytes_are c)
   where
     by : AreOf c (encode c) → begins_well (encode c ++ encode_utf8_all text) ≡ true
     by (inl itself) = ap (λ bytes. begins_well (bytes ++ encode_utf8_all text)) itself ∙ begins
-    by (inr (first, rest, are, all)) = ap (λ bytes. begins_well (bytes ++ encode_utf8_all text)) are ∙ above_ascii 0x3B (omega arith) first all.0
+    by (inr (first, rest, are, all)) =
+        ap (λ bytes. begins_well (bytes ++ encode_utf8_all text)) are ∙ above_ascii 0x3B (omega arith) first all.0
 
 -- an ASCII character behind a text
 pub bytes_slash : (text : List ℕ) → encode_utf8_all (text ++ 0x2F ∷ []) ≡ encode_utf8_all text ++ 0x2F ∷ []
@@ -101,5 +120,6 @@ trimmed_slash front = ap without_blanks (no_return front) ∙ no_blanks front
     no_blanks : (xs : List ℕ) → without_blanks (xs ++ 0x2F ∷ []) ≡ xs ++ 0x2F ∷ []
     no_blanks [] = refl
     no_blanks (c ∷ xs) =
-        ap (λ b. if b then [] else c ∷ without_blanks (xs ++ 0x2F ∷ [])) (list_all-append is_blank (c ∷ xs) (0x2F ∷ []) ∙ and_false (list_all is_blank (c ∷ xs)))
+        ap (λ b. if b then [] else c ∷ without_blanks (xs ++ 0x2F ∷ []))
+        (list_all-append is_blank (c ∷ xs) (0x2F ∷ []) ∙ and_false (list_all is_blank (c ∷ xs)))
         ∙ ap (λ ys. c ∷ ys) (no_blanks xs)

@@ -1,5 +1,7 @@
 -- The first piece of a string: the character that it spells is read, and only that.
-use Rattle.std.proofs.Common.{◌≡◌, ◌<◌, ℕ, ◌+◌, ◌-◌, ◌*◌, Bool, true, false, ◌==◌, ◌&&◌, ◌||◌, nat_le, cond, ◌⊎◌, inl, inr, Option, None, Some, zero, suc, List, [], ◌∷◌, ◌++◌, length, refl, sym, ap, ◌∙◌, subst, arith, length-append}
+use Rattle.std.proofs.Common.{◌≡◌, ◌<◌, ℕ, ◌+◌, ◌-◌, ◌*◌, Bool, true, false, ◌==◌, ◌&&◌, ◌||◌, nat_le, cond, ◌⊎◌, inl}
+use Rattle.std.proofs.Common.{inr, Option, None, Some, zero, suc, List, [], ◌∷◌, ◌++◌, length, refl, sym, ap, ◌∙◌}
+use Rattle.std.proofs.Common.{subst, arith, length-append}
 use Rattle.std.specs.Option.{option_map}
 use Rattle.std.proofs.lemmas.Bool.{and_parts, or_cases, eqb-true, eqb-false, ne_eqb, leb-true, le-leb}
 use Rattle.std.proofs.lemmas.Option.{some_pair_parts, none-some, same_Some}
@@ -20,7 +22,8 @@ PieceOf text c rest = (piece : List ℕ) × SpellsCharacter piece c × (text ≡
 -- three octal digits
 octal-sound : (a b c d : ℕ) (rest : List ℕ) → octal_of a b c ≡ Some d → PieceOf (0x5C ∷ a ∷ b ∷ c ∷ rest) d rest
 octal-sound a b c d rest e =
-    elim (chosen ((a == 0x30 || a == 0x31) && (is_octal b && is_octal c)) (Some ((a - 0x30) * 64 + (b - 0x30) * 8 + (c - 0x30))) None (Some d) e) [
+    elim (chosen ((a == 0x30 || a == 0x31) && (is_octal b && is_octal c))
+    (Some ((a - 0x30) * 64 + (b - 0x30) * 8 + (c - 0x30))) None (Some d) e) [
       | inr none ↦ absurd (none-some d none.1)
       | inl some ↦
           let tests = and_parts (a == 0x30 || a == 0x31) (is_octal b && is_octal c) some.0 in
@@ -39,9 +42,11 @@ octal-sound a b c d rest e =
           let b_is : b ≡ 0x30 + (b - 0x30) = omega arith in
           let c_is : c ≡ 0x30 + (c - 0x30) = omega arith in
           let text_is : 0x5C ∷ a ∷ b ∷ c ∷ rest ≡ 0x5C ∷ (0x30 + k) ∷ (0x30 + (b - 0x30)) ∷ (0x30 + (c - 0x30)) ∷ rest =
-          ap (λ n. 0x5C ∷ n ∷ b ∷ c ∷ rest) is ∙ ap (λ n. 0x5C ∷ (0x30 + k) ∷ n ∷ c ∷ rest) b_is ∙ ap (λ n. 0x5C ∷ (0x30 + k) ∷ (0x30 + (b - 0x30)) ∷ n ∷ rest) c_is in (
+          ap (λ n. 0x5C ∷ n ∷ b ∷ c ∷ rest) is ∙ ap (λ n. 0x5C ∷ (0x30 + k) ∷ n ∷ c ∷ rest) b_is
+          ∙ ap (λ n. 0x5C ∷ (0x30 + k) ∷ (0x30 + (b - 0x30)) ∷ n ∷ rest) c_is in (
             0x5C ∷ (0x30 + k) ∷ (0x30 + (b - 0x30)) ∷ (0x30 + (c - 0x30)) ∷ [],
-            subst (λ n. SpellsCharacter (0x5C ∷ (0x30 + k) ∷ (0x30 + (b - 0x30)) ∷ (0x30 + (c - 0x30)) ∷ []) n) same spelled,
+            subst (λ n. SpellsCharacter (0x5C ∷ (0x30 + k) ∷ (0x30 + (b - 0x30)) ∷ (0x30 + (c - 0x30)) ∷ []) n) same
+                spelled,
             text_is,
           ) in
           elim (or_cases (a == 0x30) (a == 0x31) tests.0) [
@@ -50,39 +55,51 @@ octal-sound a b c d rest e =
           ]
     ]
 
-octal_at-sound : (a : ℕ) (text : List ℕ) (d : ℕ) (rest : List ℕ) → octal_at a text ≡ Some (d, rest) → PieceOf (0x5C ∷ a ∷ text) d rest
+octal_at-sound : (a : ℕ) (text : List ℕ) (d : ℕ) (rest : List ℕ) → octal_at a text ≡ Some (d, rest)
+    → PieceOf (0x5C ∷ a ∷ text) d rest
 octal_at-sound a [] d rest e = absurd (none-some (d, rest) e)
 octal_at-sound a (b ∷ []) d rest e = absurd (none-some (d, rest) e)
 octal_at-sound a (b ∷ c ∷ text) d rest e = by (octal_of a b c) refl e
   where
-    by : (o : Option ℕ) → octal_of a b c ≡ o → option_map {T = ℕ} {U = ℕ × List ℕ} (λ n. (n, text)) o ≡ Some (d, rest) → PieceOf (0x5C ∷ a ∷ b ∷ c ∷ text) d rest
+    by : (o : Option ℕ) → octal_of a b c ≡ o → option_map {T = ℕ} {U = ℕ × List ℕ} (λ n. (n, text)) o ≡ Some (d, rest)
+        → PieceOf (0x5C ∷ a ∷ b ∷ c ∷ text) d rest
     by None f e = absurd (none-some (d, rest) e)
     by (Some n) f e =
         let same = some_pair_parts n d text rest e in
-        subst (λ after. PieceOf (0x5C ∷ a ∷ b ∷ c ∷ text) d after) same.1 (octal-sound a b c d text (f ∙ ap Some same.0))
+        subst (λ after. PieceOf (0x5C ∷ a ∷ b ∷ c ∷ text) d after) same.1
+        (octal-sound a b c d text (f ∙ ap Some same.0))
 
 -- a piece of a backslash and one more character
-two : (text : List ℕ) (escape e c d : ℕ) (rest : List ℕ) → SpellsCharacter (0x5C ∷ escape ∷ []) c → e ≡ escape → c ≡ d → text ≡ rest → PieceOf (0x5C ∷ e ∷ text) d rest
-two text escape e c d rest spelled is value after =
-    (0x5C ∷ escape ∷ [], subst (λ n. SpellsCharacter (0x5C ∷ escape ∷ []) n) value spelled, ap (λ n. 0x5C ∷ n ∷ text) is ∙ ap (λ ys. 0x5C ∷ escape ∷ ys) after)
+two : (text : List ℕ) (escape e c d : ℕ) (rest : List ℕ) → SpellsCharacter (0x5C ∷ escape ∷ []) c → e ≡ escape → c ≡ d
+    → text ≡ rest → PieceOf (0x5C ∷ e ∷ text) d rest
+two text escape e c d rest spelled is value after = (
+  0x5C ∷ escape ∷ [],
+  subst (λ n. SpellsCharacter (0x5C ∷ escape ∷ []) n) value spelled,
+  ap (λ n. 0x5C ∷ n ∷ text) is ∙ ap (λ ys. 0x5C ∷ escape ∷ ys) after,
+)
 
 -- what stands behind a backslash
-escape_at-sound : (text : List ℕ) (d : ℕ) (rest : List ℕ) → escape_at text ≡ Some (d, rest) → PieceOf (0x5C ∷ text) d rest
+escape_at-sound : (text : List ℕ) (d : ℕ) (rest : List ℕ) → escape_at text ≡ Some (d, rest)
+    → PieceOf (0x5C ∷ text) d rest
 escape_at-sound [] d rest e = absurd (none-some (d, rest) e)
 escape_at-sound (c ∷ text) d rest e =
     elim (chosen (c == 0x22 || c == 0x5C) _ _ _ e) [
       | inl some ↦
           let same = some_pair_parts c d text rest some.1 in
           elim (or_cases (c == 0x22) (c == 0x5C) some.0) [
-            | inl is ↦ let quote = eqb-true c 0x22 is in two text 0x22 c 0x22 d rest double_quote quote (sym quote ∙ same.0) same.1
-            | inr is ↦ let slash = eqb-true c 0x5C is in two text 0x5C c 0x5C d rest backslash slash (sym slash ∙ same.0) same.1
+            | inl is ↦ let quote = eqb-true c 0x22 is in
+                two text 0x22 c 0x22 d rest double_quote quote (sym quote ∙ same.0) same.1
+            | inr is ↦ let slash = eqb-true c 0x5C is in
+                two text 0x5C c 0x5C d rest backslash slash (sym slash ∙ same.0) same.1
           ]
       | inr other ↦
           elim (chosen (c == 0x6E) _ _ _ other.1) [
-            | inl some ↦ let same = some_pair_parts 10 d text rest some.1 in two text 0x6E c 10 d rest line_feed (eqb-true c 0x6E some.0) same.0 same.1
+            | inl some ↦ let same = some_pair_parts 10 d text rest some.1 in
+                two text 0x6E c 10 d rest line_feed (eqb-true c 0x6E some.0) same.0 same.1
             | inr later ↦
                 elim (chosen (c == 0x72) _ _ _ later.1) [
-                  | inl some ↦ let same = some_pair_parts 13 d text rest some.1 in two text 0x72 c 13 d rest carriage_return (eqb-true c 0x72 some.0) same.0 same.1
+                  | inl some ↦ let same = some_pair_parts 13 d text rest some.1 in
+                      two text 0x72 c 13 d rest carriage_return (eqb-true c 0x72 some.0) same.0 same.1
                   | inr digits ↦ octal_at-sound c text d rest digits.1
                 ]
           ]
@@ -103,18 +120,23 @@ piece_at-sound (c ∷ text) d rest e =
             | inr plain ↦
                 let same = some_pair_parts c d text rest plain.1 in (
                   c ∷ [],
-                  subst (λ n. SpellsCharacter (c ∷ []) n) same.0 (itself c (eqb-false c 0x22 other.0) (eqb-false c 0x5C plain.0)),
+                  subst (λ n. SpellsCharacter (c ∷ []) n) same.0
+                      (itself c (eqb-false c 0x22 other.0) (eqb-false c 0x5C plain.0)),
                   ap (λ ys. c ∷ ys) same.1,
                 )
           ]
     ]
 
 -- three digits are read as their character
-octal-complete : (a b c : ℕ) → a < 2 → b < 8 → c < 8 → octal_of (0x30 + a) (0x30 + b) (0x30 + c) ≡ Some (a * 64 + b * 8 + c)
+octal-complete : (a b c : ℕ) → a < 2 → b < 8 → c < 8
+    → octal_of (0x30 + a) (0x30 + b) (0x30 + c) ≡ Some (a * 64 + b * 8 + c)
 octal-complete a b c a_low b_low c_low =
-    let b_digit : is_octal (0x30 + b) ≡ true = rw (le-leb 0x30 (0x30 + b) (omega arith), le-leb (0x30 + b) 0x37 (omega arith)) refl in
-    let c_digit : is_octal (0x30 + c) ≡ true = rw (le-leb 0x30 (0x30 + c) (omega arith), le-leb (0x30 + c) 0x37 (omega arith)) refl in
-    let value : ((0x30 + a) - 0x30) * 64 + ((0x30 + b) - 0x30) * 8 + ((0x30 + c) - 0x30) ≡ a * 64 + b * 8 + c = omega arith in
+    let b_digit : is_octal (0x30 + b) ≡ true =
+    rw (le-leb 0x30 (0x30 + b) (omega arith), le-leb (0x30 + b) 0x37 (omega arith)) refl in
+    let c_digit : is_octal (0x30 + c) ≡ true =
+    rw (le-leb 0x30 (0x30 + c) (omega arith), le-leb (0x30 + c) 0x37 (omega arith)) refl in
+    let value : ((0x30 + a) - 0x30) * 64 + ((0x30 + b) - 0x30) * 8 + ((0x30 + c) - 0x30)
+    ≡ a * 64 + b * 8 + c = omega arith in
     rw (first a a_low, b_digit, c_digit, value) refl
   where
     first : (a : ℕ) → a < 2 → (0x30 + a == 0x30 || 0x30 + a == 0x31) ≡ true
@@ -129,7 +151,8 @@ escape-digit (suc zero) rest lt = refl
 escape-digit (suc (suc a)) rest lt = absurd (omega arith)
 
 -- each piece is read as the character that it spells
-pub piece_at-complete : (piece : List ℕ) (d : ℕ) (rest : List ℕ) → SpellsCharacter piece d → piece_at (piece ++ rest) ≡ Some (d, rest)
+pub piece_at-complete : (piece : List ℕ) (d : ℕ) (rest : List ℕ) → SpellsCharacter piece d
+    → piece_at (piece ++ rest) ≡ Some (d, rest)
 unfolding piece_at
 piece_at-complete piece d rest (itself c quote slash) = rw (ne_eqb c 0x22 quote, ne_eqb c 0x5C slash) refl
 piece_at-complete piece d rest double_quote = refl
@@ -137,7 +160,8 @@ piece_at-complete piece d rest backslash = refl
 piece_at-complete piece d rest line_feed = refl
 piece_at-complete piece d rest carriage_return = refl
 piece_at-complete piece d rest (octal a b c a_low b_low c_low) =
-    escape-digit a ((0x30 + b) ∷ (0x30 + c) ∷ rest) a_low ∙ ap (option_map (λ n. (n, rest))) (octal-complete a b c a_low b_low c_low)
+    escape-digit a ((0x30 + b) ∷ (0x30 + c) ∷ rest) a_low
+    ∙ ap (option_map (λ n. (n, rest))) (octal-complete a b c a_low b_low c_low)
 
 -- a piece has a character at least
 piece-longer : (piece : List ℕ) (d : ℕ) → SpellsCharacter piece d → 0 < length piece

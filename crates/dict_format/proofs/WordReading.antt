@@ -1,5 +1,7 @@
 -- Reading words is the relation: a string, a quoted word and a mark are read as what they say, and only as that.
-use Rattle.std.proofs.Common.{◌≡◌, ◌≢◌, ◌<◌, not, ℕ, true, false, ◌==◌, ◌&&◌, if◌then◌else◌, inl, inr, nat_eq, Option, None, Some, List, [], ◌∷◌, ◌++◌, codes, map, length, drop, refl, sym, ap, ◌∙◌, subst, arith, length-append, append_assoc, Bor, MatchOption}
+use Rattle.std.proofs.Common.{◌≡◌, ◌≢◌, ◌<◌, not, ℕ, true, false, ◌==◌, ◌&&◌, if◌then◌else◌, inl, inr, nat_eq, Option}
+use Rattle.std.proofs.Common.{None, Some, List, [], ◌∷◌, ◌++◌, codes, map, length, drop, refl, sym, ap, ◌∙◌, subst}
+use Rattle.std.proofs.Common.{arith, length-append, append_assoc, Bor, MatchOption}
 use Rattle.std.specs.List.{flat_map, AllByRecursion, starts_with}
 use Rattle.std.specs.Option.{option_map, unwrap_or}
 use Rattle.std.proofs.lemmas.Bool.{and_parts, eqb-true, both_ways}
@@ -8,7 +10,8 @@ use Rattle.std.proofs.lemmas.Option.{some_pair_parts, none-some, same_Some}
 use Rattle.std.proofs.lemmas.Slice.Eq.{starts_is}
 use Rattle.std.proofs.Math.Seq.{drop-append_seam}
 use Rattle.skk_text.specs.Lists.{is_empty}
-use Rattle.dict_format.specs.Reading.{behind, taken, piece_at, closed, behind_quote, string_at, closes_form, if_closed, then_at, quoted_word, said, marked_at, strings_at, marked}
+use Rattle.dict_format.specs.Reading.{behind, taken, piece_at, closed, behind_quote, string_at, closes_form, if_closed}
+use Rattle.dict_format.specs.Reading.{then_at, quoted_word, said, marked_at, strings_at, marked}
 use Rattle.dict_format.specs.Words.{SpellsCharacter, SpellsWord, QuotesWord, SaysWord, MarksWords}
 use Rattle.dict_format.proofs.Pieces.{chosen, pieces_shrink, piece_at-sound, piece_at-complete}
 use Rattle.dict_format.proofs.Taking.{Shrinks, IsTaken, IsTaken-taken, taken-pieces}
@@ -19,18 +22,21 @@ use Rattle.dict_format.proofs.Taking.{Shrinks, IsTaken, IsTaken-taken, taken-pie
 pub behind-sound : (prefix text rest : List ℕ) → behind prefix text ≡ Some rest → text ≡ prefix ++ rest
 behind-sound prefix text rest e =
     elim (chosen (starts_with nat_eq text prefix) _ _ _ e) [
-      | inl some ↦ (starts_is Decides-eqb text prefix (starts_with nat_eq text prefix) refl).0 some.0 ∙ ap (λ ys. prefix ++ ys) (same_Some (drop (length prefix) text) rest some.1)
+      | inl some ↦ (starts_is Decides-eqb text prefix (starts_with nat_eq text prefix) refl).0 some.0
+          ∙ ap (λ ys. prefix ++ ys) (same_Some (drop (length prefix) text) rest some.1)
       | inr none ↦ absurd (none-some rest none.1)
     ]
 
 -- and behind each beginning the text is read
 pub behind-complete : (prefix rest : List ℕ) → behind prefix (prefix ++ rest) ≡ Some rest
 behind-complete prefix rest =
-    let starts : starts_with nat_eq (prefix ++ rest) prefix ≡ true = (starts_is Decides-eqb (prefix ++ rest) prefix (starts_with nat_eq (prefix ++ rest) prefix) refl).1 rest refl in
+    let starts : starts_with nat_eq (prefix ++ rest) prefix ≡ true =
+    (starts_is Decides-eqb (prefix ++ rest) prefix (starts_with nat_eq (prefix ++ rest) prefix) refl).1 rest refl in
     rw (starts, drop-append_seam prefix rest) refl
 
 -- what a function makes of a value that is there
-pub then_at-some : {X Y : Type 0} (o : Option X) (f : X → Option Y) (y : Y) → then_at o f ≡ Some y → (x : X) × (o ≡ Some x) × (f x ≡ Some y)
+pub then_at-some : {X Y : Type 0} (o : Option X) (f : X → Option Y) (y : Y) → then_at o f ≡ Some y
+    → (x : X) × (o ≡ Some x) × (f x ≡ Some y)
 then_at-some None f y e = absurd (none-some y e)
 then_at-some (Some x) f y e = (x, refl, e)
 
@@ -64,23 +70,33 @@ string_at-sound text word rest e = by (behind_quote (taken piece_at text).1) ref
     all = IsTaken-taken piece_at pieces_shrink SpellsCharacter piece_at-sound text
 
     by : (o : Option (List ℕ)) → behind_quote (taken piece_at text).1 ≡ o
-        → option_map {T = List ℕ} {U = List ℕ × List ℕ} (λ after. ((taken piece_at text).0, after)) o ≡ Some (word, rest) → IsString text word rest
+        → option_map {T = List ℕ} {U = List ℕ × List ℕ} (λ after. ((taken piece_at text).0, after)) o
+        ≡ Some (word, rest) → IsString text word rest
     by None f e = absurd (none-some (word, rest) e)
     by (Some after) f e =
         let same = some_pair_parts (taken piece_at text).0 word after rest e in
         let string = flat_map (λ (piece : List ℕ × ℕ). piece.0) all.pieces in
         record {
           string = string;
-          spelled = record { pieces = all.pieces; spelled = all.each; string_is = refl; word_is = sym same.0 ∙ all.items_are };
-          text_is = all.list_is ∙ ap (λ ys. string ++ ys) (behind_quote-sound (taken piece_at text).1 after f ∙ ap (λ ys. 0x22 ∷ ys) same.1);
+          spelled = record {
+            pieces = all.pieces;
+            spelled = all.each;
+            string_is = refl;
+            word_is = sym same.0 ∙ all.items_are;
+          };
+          text_is =
+              all.list_is ∙ ap (λ ys. string ++ ys) (behind_quote-sound (taken piece_at text).1 after f
+              ∙ ap (λ ys. 0x22 ∷ ys) same.1);
         }
 
 -- each string is read as the word that it spells
-pub string_at-complete : (string word rest : List ℕ) → SpellsWord string word → string_at (string ++ 0x22 ∷ rest) ≡ Some (word, rest)
+pub string_at-complete : (string word rest : List ℕ) → SpellsWord string word
+    → string_at (string ++ 0x22 ∷ rest) ≡ Some (word, rest)
 unfolding string_at
 string_at-complete string word rest spells =
     ap (λ ys. closed (taken piece_at (ys ++ 0x22 ∷ rest))) spells.string_is
-    ∙ ap closed (taken-pieces piece_at pieces_shrink SpellsCharacter piece_at-complete spells.pieces (0x22 ∷ rest) spells.spelled (no_piece rest))
+    ∙ ap closed (taken-pieces piece_at pieces_shrink SpellsCharacter piece_at-complete spells.pieces (0x22 ∷ rest)
+    spells.spelled (no_piece rest))
     ∙ ap (λ ys. Some (ys, rest)) (sym spells.word_is)
 
 -- what is left of a string is shorter
@@ -101,7 +117,8 @@ closes_form-sound (c ∷ d ∷ text) e = absurd (both_ways false refl e)
 pub quoted_word-sound : (text word : List ℕ) → quoted_word text ≡ Some word → QuotesWord text word
 unfolding quoted_word
 quoted_word-sound text word e =
-    let found = then_at-some (behind (codes "(concat \"") text) (λ string. then_at (string_at string) if_closed) word e in
+    let found =
+    then_at-some (behind (codes "(concat \"") text) (λ string. then_at (string_at string) if_closed) word e in
     let read = then_at-some (string_at found.0) if_closed word found.2 in
     let is = string_at-sound found.0 read.0.0 read.0.1 read.1 in
     elim (chosen (closes_form read.0.1) _ _ _ read.2) [
@@ -111,7 +128,8 @@ quoted_word-sound text word e =
             spelled = subst (λ w. SpellsWord is.string w) (same_Some read.0.0 word some.1) is.spelled;
             text_is =
                 behind-sound (codes "(concat \"") text found.0 found.1
-                ∙ ap (λ ys. codes "(concat \"" ++ ys) (is.text_is ∙ ap (λ ys. is.string ++ 0x22 ∷ ys) (closes_form-sound read.0.1 some.0));
+                ∙ ap (λ ys. codes "(concat \"" ++ ys)
+                (is.text_is ∙ ap (λ ys. is.string ++ 0x22 ∷ ys) (closes_form-sound read.0.1 some.0));
           }
       | inr none ↦ absurd (none-some word none.1)
     ]
@@ -121,7 +139,8 @@ pub quoted_word-complete : (text word : List ℕ) → QuotesWord text word → q
 unfolding quoted_word
 quoted_word-complete text word quotes =
     ap (λ ys. then_at (behind (codes "(concat \"") ys) (λ string. then_at (string_at string) if_closed)) quotes.text_is
-    ∙ ap (λ o. then_at o (λ string. then_at (string_at string) if_closed)) (behind-complete (codes "(concat \"") (quotes.string ++ codes "\")"))
+    ∙ ap (λ o. then_at o (λ string. then_at (string_at string) if_closed))
+    (behind-complete (codes "(concat \"") (quotes.string ++ codes "\")"))
     ∙ ap (λ o. then_at o if_closed) (string_at-complete quotes.string word (codes ")") quotes.spelled)
 
 -- a text says the word that is read
@@ -151,7 +170,8 @@ pub record IsMarked (piece word : List ℕ) : Type 0 where
   pub spelled : SpellsWord string word
   pub piece_is : piece ≡ codes " \"" ++ string ++ codes "\""
 
-marked_at-sound : (text word rest : List ℕ) → marked_at text ≡ Some (word, rest) → (piece : List ℕ) × IsMarked piece word × (text ≡ piece ++ rest)
+marked_at-sound : (text word rest : List ℕ) → marked_at text ≡ Some (word, rest)
+    → (piece : List ℕ) × IsMarked piece word × (text ≡ piece ++ rest)
 unfolding marked_at
 marked_at-sound text word rest e =
     let found = then_at-some (behind (codes " \"") text) string_at (word, rest) e in
@@ -175,7 +195,11 @@ unfolding marked_at
 marks_shrink = record {
   less = λ text word rest e.
       let found = then_at-some (behind (codes " \"") text) string_at (word, rest) e in
-      omega (arith, ap length (behind-sound (codes " \"") text found.0 found.1), strings_shrink found.0 word rest found.2);
+      omega (
+        arith,
+        ap length (behind-sound (codes " \"") text found.0 found.1),
+        strings_shrink found.0 word rest found.2,
+      );
 }
 
 -- from a closing parenthesis no string is taken
@@ -193,7 +217,8 @@ spelled_strings strings = flat_map (λ string. codes " \"" ++ string.0 ++ codes 
 -- the pieces of strings
 pieces_of : (strings : Strings) → AllByRecursion (λ string. SpellsWord string.0 string.1) strings
     → (pieces : Strings) × AllByRecursion (λ piece. IsMarked piece.0 piece.1) pieces
-    × (spelled_strings strings ≡ flat_map (λ piece. piece.0) pieces) × (map (λ string. string.1) strings ≡ map (λ piece. piece.1) pieces)
+    × (spelled_strings strings ≡ flat_map (λ piece. piece.0) pieces)
+    × (map (λ string. string.1) strings ≡ map (λ piece. piece.1) pieces)
 pieces_of [] each = ([], tt, refl, refl)
 pieces_of ((string, word) ∷ strings) each =
     let more = pieces_of strings each.1 in
@@ -207,7 +232,8 @@ pieces_of ((string, word) ∷ strings) each =
 -- and the strings of pieces
 strings_of : (pieces : Strings) → AllByRecursion (λ piece. IsMarked piece.0 piece.1) pieces
     → (strings : Strings) × AllByRecursion (λ string. SpellsWord string.0 string.1) strings
-    × (spelled_strings strings ≡ flat_map (λ piece. piece.0) pieces) × (map (λ string. string.1) strings ≡ map (λ piece. piece.1) pieces)
+    × (spelled_strings strings ≡ flat_map (λ piece. piece.0) pieces)
+    × (map (λ string. string.1) strings ≡ map (λ piece. piece.1) pieces)
 strings_of [] each = ([], tt, refl, refl)
 strings_of ((piece, word) ∷ pieces) each =
     let more = strings_of pieces each.1 in
@@ -219,8 +245,10 @@ strings_of ((piece, word) ∷ pieces) each =
     )
 
 -- words that are there are those of strings that are there
-some_string : (strings : Strings) (words : List (List ℕ)) → words ≡ map (λ string. string.1) strings → not (is_empty words) ≡ true → strings ≢ []
-some_string strings words e some none = both_ways (not (is_empty words)) (ap (λ word. not (is_empty word)) (e ∙ ap (map (λ string. string.1)) none)) some
+some_string : (strings : Strings) (words : List (List ℕ)) → words ≡ map (λ string. string.1) strings
+    → not (is_empty words) ≡ true → strings ≢ []
+some_string strings words e some none =
+    both_ways (not (is_empty words)) (ap (λ word. not (is_empty word)) (e ∙ ap (map (λ string. string.1)) none)) some
 
 -- the words that are read marked are those that the text marks
 pub marked-sound : (text : List ℕ) (words : List (List ℕ)) → marked text ≡ Some words → MarksWords text words
@@ -242,7 +270,9 @@ marked-sound text words e =
             text_is =
                 behind-sound (codes "(skk-ignore-dic-word") text found.0 found.1
                 ∙ ap (λ ys. codes "(skk-ignore-dic-word" ++ ys)
-                (all.list_is ∙ ap (λ ys. flat_map (λ piece. piece.0) all.pieces ++ ys) (closes_form-sound parts.1 tests.1) ∙ ap (λ ys. ys ++ codes ")") (sym strings.2));
+                (all.list_is
+                ∙ ap (λ ys. flat_map (λ piece. piece.0) all.pieces ++ ys) (closes_form-sound parts.1 tests.1)
+                ∙ ap (λ ys. ys ++ codes ")") (sym strings.2));
             words_are = sym same ∙ words_are;
           }
       | inr none ↦ absurd (none-some words none.1)
@@ -266,12 +296,15 @@ marked-complete text words marks =
     ∙ ap (λ ys. (ys, codes ")")) (sym pieces.3) in
     ap (λ ys. then_at (behind (codes "(skk-ignore-dic-word") ys) strings_at) marks.text_is
     ∙ ap (λ o. then_at o strings_at) (behind-complete (codes "(skk-ignore-dic-word") rest)
-    ∙ ap (λ (parts : List (List ℕ) × List ℕ). if not (is_empty parts.0) && closes_form parts.1 then Some parts.0 else None) read
+    ∙ ap (λ (parts : List (List ℕ) × List ℕ). if not (is_empty parts.0) && closes_form parts.1
+    then Some parts.0
+    else None) read
     ∙ ap (λ b. if b && true then Some strings else None) (has_words marks.strings marks.some_string)
     ∙ ap Some (sym marks.words_are)
 
 -- what is told of a text without a beginning is what is read behind it
-pub behind_is : (prefix text : List ℕ) (found : Option (Bor (List ℕ))) → MatchOption found ((rest : List ℕ) → text ≢ prefix ++ rest) (λ rest. text ≡ prefix ++ rest.now)
+pub behind_is : (prefix text : List ℕ) (found : Option (Bor (List ℕ)))
+    → MatchOption found ((rest : List ℕ) → text ≢ prefix ++ rest) (λ rest. text ≡ prefix ++ rest.now)
     → option_map (λ rest. rest.now) found ≡ behind prefix text
 behind_is prefix text None none = by (behind prefix text) refl
   where

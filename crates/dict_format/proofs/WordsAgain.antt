@@ -1,7 +1,10 @@
 -- What is printed of a word says the word.
-use Rattle.std.proofs.Common.{◌≡◌, ℕ, ◌+◌, suc, Bool, true, false, not, ◌&&◌, ◌||◌, ◌==◌, nat_eq, if◌then◌else◌, ◌⊎◌, inl, inr, List, [], ◌∷◌, ◌++◌, codes, map, length, drop, refl, sym, ap, ◌∙◌, subst, arith, append_assoc, length-drop}
+use Rattle.std.proofs.Common.{◌≡◌, ℕ, ◌+◌, suc, Bool, true, false, not, ◌&&◌, ◌||◌, ◌==◌, nat_eq, if◌then◌else◌, ◌⊎◌}
+use Rattle.std.proofs.Common.{inl, inr, List, [], ◌∷◌, ◌++◌, codes, map, length, drop, refl, sym, ap, ◌∙◌, subst, arith}
+use Rattle.std.proofs.Common.{append_assoc, length-drop}
 use Rattle.std.specs.List.{flat_map, filter, list_all, list_any, AllByRecursion, starts_with, position_or_len}
-use Rattle.std.proofs.lemmas.Bool.{and_parts, and_from, or_parts, both_ways, eqb-true, eqb-false, not-true, not_from_false}
+use Rattle.std.proofs.lemmas.Bool.{and_parts, and_from, or_parts, both_ways, eqb-true, eqb-false, not-true}
+use Rattle.std.proofs.lemmas.Bool.{not_from_false}
 use Rattle.std.proofs.lemmas.Bool.Decides.{Decides-eqb}
 use Rattle.std.proofs.Math.Seq.{take-append_seam, drop-append_seam}
 use Rattle.std.proofs.lemmas.List.{append-nil, take_all, nil_from_length, drop-drop}
@@ -23,28 +26,50 @@ spells_again c = by_slash (c == 0x2F) refl
     same_as : (piece : List ℕ) (d : ℕ) → c ≡ d → SpellsCharacter piece d → SpellsCharacter piece c
     same_as piece d e s = subst (SpellsCharacter piece) (sym e) s
 
-    by_line : (c == 0x22) ≡ false → (c == 0x5C) ≡ false → (b : Bool) → (c == 10) ≡ b → SpellsCharacter (if b then codes "\\n" else c ∷ []) c
+    by_line : (c == 0x22) ≡ false → (c == 0x5C) ≡ false → (b : Bool) → (c == 10) ≡ b
+        → SpellsCharacter (if b then codes "\\n" else c ∷ []) c
     by_line quote back true e = same_as (codes "\\n") 10 (eqb-true c 10 e) line_feed
     by_line quote back false e = itself c (eqb-false c 0x22 quote) (eqb-false c 0x5C back)
 
-    by_return : (c == 0x22) ≡ false → (c == 0x5C) ≡ false → (b : Bool) → (c == 13) ≡ b → SpellsCharacter (if b then codes "\\r" else if c == 10 then codes "\\n" else c ∷ []) c
+    by_return : (c == 0x22) ≡ false → (c == 0x5C) ≡ false → (b : Bool) → (c == 13) ≡ b
+        → SpellsCharacter (if b then codes "\\r" else if c == 10 then codes "\\n" else c ∷ []) c
     by_return quote back true e = same_as (codes "\\r") 13 (eqb-true c 13 e) carriage_return
     by_return quote back false e = by_line quote back (c == 10) refl
 
-    by_back : (c == 0x22) ≡ false → (b : Bool) → (c == 0x5C) ≡ b → SpellsCharacter (if b then codes "\\\\" else if c == 13 then codes "\\r" else if c == 10 then codes "\\n" else c ∷ []) c
+    by_back : (c == 0x22) ≡ false → (b : Bool) → (c == 0x5C) ≡ b → SpellsCharacter (if b then codes "\\\\"
+        else if c == 13 then codes "\\r"
+        else if c == 10 then codes "\\n"
+        else c ∷ []) c
     by_back quote true e = same_as (codes "\\\\") 0x5C (eqb-true c 0x5C e) backslash
     by_back quote false e = by_return quote e (c == 13) refl
 
-    by_quote : (b : Bool) → (c == 0x22) ≡ b → SpellsCharacter (if b then codes "\\\"" else if c == 0x5C then codes "\\\\" else if c == 13 then codes "\\r" else if c == 10 then codes "\\n" else c ∷ []) c
+    by_quote : (b : Bool) → (c == 0x22) ≡ b → SpellsCharacter (if b then codes "\\\""
+        else if c == 0x5C then codes "\\\\"
+        else if c == 13 then codes "\\r"
+        else if c == 10 then codes "\\n"
+        else c ∷ []) c
     by_quote true e = same_as (codes "\\\"") 0x22 (eqb-true c 0x22 e) double_quote
     by_quote false e = by_back e (c == 0x5C) refl
 
-    by_semicolon : (b : Bool) → (c == 0x3B) ≡ b → SpellsCharacter (if b then codes "\\073" else if c == 0x22 then codes "\\\"" else if c == 0x5C then codes "\\\\" else if c == 13 then codes "\\r" else if c == 10 then codes "\\n" else c ∷ []) c
-    by_semicolon true e = same_as (codes "\\073") 0x3B (eqb-true c 0x3B e) (octal 0 7 3 (omega arith) (omega arith) (omega arith))
+    by_semicolon : (b : Bool) → (c == 0x3B) ≡ b → SpellsCharacter (if b then codes "\\073"
+        else if c == 0x22 then codes "\\\""
+        else if c == 0x5C then codes "\\\\"
+        else if c == 13 then codes "\\r"
+        else if c == 10 then codes "\\n"
+        else c ∷ []) c
+    by_semicolon true e =
+        same_as (codes "\\073") 0x3B (eqb-true c 0x3B e) (octal 0 7 3 (omega arith) (omega arith) (omega arith))
     by_semicolon false e = by_quote (c == 0x22) refl
 
-    by_slash : (b : Bool) → (c == 0x2F) ≡ b → SpellsCharacter (if b then codes "\\057" else if c == 0x3B then codes "\\073" else if c == 0x22 then codes "\\\"" else if c == 0x5C then codes "\\\\" else if c == 13 then codes "\\r" else if c == 10 then codes "\\n" else c ∷ []) c
-    by_slash true e = same_as (codes "\\057") 0x2F (eqb-true c 0x2F e) (octal 0 5 7 (omega arith) (omega arith) (omega arith))
+    by_slash : (b : Bool) → (c == 0x2F) ≡ b → SpellsCharacter (if b then codes "\\057"
+        else if c == 0x3B then codes "\\073"
+        else if c == 0x22 then codes "\\\""
+        else if c == 0x5C then codes "\\\\"
+        else if c == 13 then codes "\\r"
+        else if c == 10 then codes "\\n"
+        else c ∷ []) c
+    by_slash true e =
+        same_as (codes "\\057") 0x2F (eqb-true c 0x2F e) (octal 0 5 7 (omega arith) (omega arith) (omega arith))
     by_slash false e = by_semicolon (c == 0x3B) refl
 
 -- the string of a word spells it
@@ -75,7 +100,11 @@ in_string_plain : (c : ℕ) → list_all plain (char_in_string c) ≡ true
 in_string_plain c = by (c == 0x2F) (c == 0x3B) refl refl
   where
     last : (c == 0x2F) ≡ false → (c == 0x3B) ≡ false → (a b d e : Bool)
-        → list_all plain (if a then codes "\\\"" else if b then codes "\\\\" else if d then codes "\\r" else if e then codes "\\n" else c ∷ []) ≡ true
+        → list_all plain (if a then codes "\\\""
+        else if b then codes "\\\\"
+        else if d then codes "\\r"
+        else if e then codes "\\n"
+        else c ∷ []) ≡ true
     last slash semicolon true b d e = refl
     last slash semicolon false true d e = refl
     last slash semicolon false false true e = refl
@@ -90,7 +119,8 @@ in_string_plain c = by (c == 0x2F) (c == 0x3B) refl refl
 pub string_plain : (word : List ℕ) → list_all plain (flat_map char_in_string word) ≡ true
 string_plain [] = refl
 string_plain (c ∷ word) =
-    list_all-append plain (char_in_string c) (flat_map char_in_string word) ∙ and_from (list_all plain (char_in_string c)) _ (in_string_plain c) (string_plain word)
+    list_all-append plain (char_in_string c) (flat_map char_in_string word)
+    ∙ and_from (list_all plain (char_in_string c)) _ (in_string_plain c) (string_plain word)
 
 -- a plain text lacks slashes and semicolons
 pub plain_slash : (text : List ℕ) → list_all plain text ≡ true → lacks 0x2F text ≡ true
@@ -103,7 +133,8 @@ plain_semicolon : (text : List ℕ) → list_all plain text ≡ true → lacks 0
 plain_semicolon [] e = refl
 plain_semicolon (c ∷ text) e =
     let parts = and_parts (plain c) (list_all plain text) e in
-    and_from (not (c == 0x3B)) _ (and_parts (not (c == 0x2F)) (not (c == 0x3B)) parts.0).1 (plain_semicolon text parts.1)
+    and_from (not (c == 0x3B)) _ (and_parts (not (c == 0x2F)) (not (c == 0x3B)) parts.0).1
+    (plain_semicolon text parts.1)
 
 -- a word without special characters is plain
 word_plain : (word : List ℕ) → list_any is_special word ≡ false → list_all plain word ≡ true
@@ -112,19 +143,24 @@ word_plain (c ∷ word) e =
     let parts = or_parts (is_special c) (list_any is_special word) e in
     let slash = or_parts (c == 0x2F) _ parts.0 in
     let semicolon = or_parts (c == 0x3B) _ slash.1 in
-    and_from (plain c) _ (and_from (not (c == 0x2F)) _ (not_from_false (c == 0x2F) slash.0) (not_from_false (c == 0x3B) semicolon.0)) (word_plain word parts.1)
+    and_from (plain c) _
+    (and_from (not (c == 0x2F)) _ (not_from_false (c == 0x2F) slash.0) (not_from_false (c == 0x3B) semicolon.0))
+    (word_plain word parts.1)
 
 -- the quoted form of a word is plain
 quoted_plain : (word : List ℕ) → list_all plain (codes "(concat " ++ quoted word ++ codes ")") ≡ true
 quoted_plain word =
     list_all-append plain (codes "(concat " ++ quoted word) (codes ")")
-    ∙ and_from (list_all plain (codes "(concat " ++ quoted word)) true (list_all-append plain (flat_map char_in_string word) (0x22 ∷ []) ∙ and_from (list_all plain (flat_map char_in_string word)) true (string_plain word) refl) refl
+    ∙ and_from (list_all plain (codes "(concat " ++ quoted word)) true
+    (list_all-append plain (flat_map char_in_string word) (0x22 ∷ [])
+    ∙ and_from (list_all plain (flat_map char_in_string word)) true (string_plain word) refl) refl
 
 -- so is what is written of a word
 pub written_plain : (word : List ℕ) → list_all plain (written_word word) ≡ true
 written_plain word = by (list_any is_special word) (begins_form word) refl
   where
-    by : (a b : Bool) → list_any is_special word ≡ a → list_all plain (if a || b then codes "(concat " ++ quoted word ++ codes ")" else word) ≡ true
+    by : (a b : Bool) → list_any is_special word ≡ a
+        → list_all plain (if a || b then codes "(concat " ++ quoted word ++ codes ")" else word) ≡ true
     by true b e = quoted_plain word
     by false true e = quoted_plain word
     by false false e = word_plain word e
@@ -141,7 +177,8 @@ no_quote word none other quotes =
     let a = or_parts (starts_with nat_eq word (codes "[")) _ none in
     let b = or_parts (starts_with nat_eq word (codes "]")) _ a.1 in
     let c = or_parts (starts_with nat_eq word (codes "(concat ")) _ b.1 in
-    both_ways (starts_with nat_eq word (codes "(concat ")) c.0 (begins_so word (codes "(concat ") (0x22 ∷ quotes.string ++ codes "\")") quotes.text_is)
+    both_ways (starts_with nat_eq word (codes "(concat ")) c.0
+    (begins_so word (codes "(concat ") (0x22 ∷ quotes.string ++ codes "\")") quotes.text_is)
 
 -- what is written of a word says it
 pub written_says : (word : List ℕ) → SaysWord (written_word word) word
@@ -152,10 +189,13 @@ written_says word = by (list_any is_special word) (begins_form word) refl
         inl (record {
           string = flat_map char_in_string word;
           spelled = string_again word;
-          text_is = ap (λ ys. codes "(concat \"" ++ ys) (append_assoc (flat_map char_in_string word) (codes "\"") (codes ")"));
+          text_is =
+              ap (λ ys. codes "(concat \"" ++ ys)
+              (append_assoc (flat_map char_in_string word) (codes "\"") (codes ")"));
         })
 
-    by : (a b : Bool) → begins_form word ≡ b → SaysWord (if a || b then codes "(concat " ++ quoted word ++ codes ")" else word) word
+    by : (a b : Bool) → begins_form word ≡ b
+        → SaysWord (if a || b then codes "(concat " ++ quoted word ++ codes ")" else word) word
     by true b e = quoted_word
     by false true e = quoted_word
     by false false e = inr (refl, no_quote word e)
@@ -163,7 +203,8 @@ written_says word = by (list_any is_special word) (begins_form word) refl
 -- Notes
 
 -- what stands before the first semicolon, and what behind it
-find_semicolon : (text : List ℕ) (rest : List ℕ) → lacks 0x3B text ≡ true → (position_or_len is_semicolon (text ++ 0x3B ∷ rest) ≡ length text)
+find_semicolon : (text : List ℕ) (rest : List ℕ) → lacks 0x3B text ≡ true
+    → (position_or_len is_semicolon (text ++ 0x3B ∷ rest) ≡ length text)
 find_semicolon [] rest none = refl
 find_semicolon (c ∷ text) rest none =
     let parts = and_parts (not (c == 0x3B)) (lacks 0x3B text) none in
@@ -194,31 +235,42 @@ item_word text (c ∷ note) none =
     let lacking = plain_semicolon text none in
     rw (find_semicolon text (c ∷ note) lacking) (take-append_seam text (0x3B ∷ c ∷ note))
 
-pub item_note : (text note : List ℕ) → list_all plain text ≡ true → is_note note ≡ true → note_of_text (text ++ written_note note) ≡ note
+pub item_note : (text note : List ℕ) → list_all plain text ≡ true → is_note note ≡ true
+    → note_of_text (text ++ written_note note) ≡ note
 item_note text [] none good =
     let lacking = plain_semicolon text none in
-    let past : drop (length text + 1) text ≡ [] = nil_from_length (drop (length text + 1) text) (omega (arith, length-drop (length text + 1) text)) in
+    let past : drop (length text + 1) text ≡ [] =
+    nil_from_length (drop (length text + 1) text) (omega (arith, length-drop (length text + 1) text)) in
     ap note_of_text (append-nil text) ∙ (rw (no_semicolon text lacking, past) refl)
 item_note text (c ∷ note) none good =
     let lacking = plain_semicolon text none in
-    let behind : drop (length text + 1) (text ++ 0x3B ∷ c ∷ note) ≡ c ∷ note = sym (drop-drop 1 (length text) (text ++ 0x3B ∷ c ∷ note)) ∙ ap (drop 1) (drop-append_seam text (0x3B ∷ c ∷ note)) in
+    let behind : drop (length text + 1) (text ++ 0x3B ∷ c ∷ note) ≡ c ∷ note =
+    sym (drop-drop 1 (length text) (text ++ 0x3B ∷ c ∷ note)) ∙ ap (drop 1) (drop-append_seam text (0x3B ∷ c ∷ note)) in
     rw (find_semicolon text (c ∷ note) lacking, behind) (note_kept (c ∷ note) good)
 
 -- Marks
 
 -- a word without double quotes that goes on as a text does, up to a double quote, begins so
-pub begins_with : (word rest prefix more : List ℕ) → lacks 0x22 word ≡ true → (rest ≡ [] ⊎ ((tail : List ℕ) × (rest ≡ 0x3B ∷ tail))) → lacks 0x3B prefix ≡ true
+pub begins_with : (word rest prefix more : List ℕ) → lacks 0x22 word ≡ true
+    → (rest ≡ [] ⊎ ((tail : List ℕ) × (rest ≡ 0x3B ∷ tail))) → lacks 0x3B prefix ≡ true
     → word ++ rest ≡ prefix ++ 0x22 ∷ more → (back : List ℕ) × (word ≡ prefix ++ back)
-begins_with [] rest [] more quote (inl none) plain_prefix e = let wrong : ◌≡◌ {A = List ℕ} [] (0x22 ∷ more) = sym none ∙ e in cc
-begins_with [] rest [] more quote (inr (tail, note)) plain_prefix e = let wrong : ◌≡◌ {A = List ℕ} (0x3B ∷ tail) (0x22 ∷ more) = sym note ∙ e in let head : ◌≡◌ {A = ℕ} 0x3B 0x22 = cc in absurd (omega (arith, head))
-begins_with [] rest (p ∷ prefix) more quote (inl none) plain_prefix e = let wrong : ◌≡◌ {A = List ℕ} [] (p ∷ prefix ++ 0x22 ∷ more) = sym none ∙ e in cc
+begins_with [] rest [] more quote (inl none) plain_prefix e =
+    let wrong : ◌≡◌ {A = List ℕ} [] (0x22 ∷ more) = sym none ∙ e in cc
+begins_with [] rest [] more quote (inr (tail, note)) plain_prefix e =
+    let wrong : ◌≡◌ {A = List ℕ} (0x3B ∷ tail) (0x22 ∷ more) = sym note ∙ e in let head : ◌≡◌ {A = ℕ} 0x3B 0x22 = cc in
+    absurd (omega (arith, head))
+begins_with [] rest (p ∷ prefix) more quote (inl none) plain_prefix e =
+    let wrong : ◌≡◌ {A = List ℕ} [] (p ∷ prefix ++ 0x22 ∷ more) = sym none ∙ e in cc
 begins_with [] rest (p ∷ prefix) more quote (inr (tail, note)) plain_prefix e =
     let same : ◌≡◌ {A = List ℕ} (0x3B ∷ tail) (p ∷ prefix ++ 0x22 ∷ more) = sym note ∙ e in
     let head : 0x3B ≡ p = cc in
-    absurd (both_ways (p == 0x3B) (not-true (p == 0x3B) (and_parts (not (p == 0x3B)) (lacks 0x3B prefix) plain_prefix).0) (ap (λ n. n == 0x3B) (sym head)))
+    absurd
+    (both_ways (p == 0x3B) (not-true (p == 0x3B) (and_parts (not (p == 0x3B)) (lacks 0x3B prefix) plain_prefix).0)
+    (ap (λ n. n == 0x3B) (sym head)))
 begins_with (c ∷ word) rest [] more quote back plain_prefix e = (c ∷ word, refl)
 begins_with (c ∷ word) rest (p ∷ prefix) more quote back plain_prefix e =
     let head : c ≡ p = cc in
     let tail : word ++ rest ≡ prefix ++ 0x22 ∷ more = cc in
-    let found = begins_with word rest prefix more (and_parts (not (c == 0x22)) (lacks 0x22 word) quote).1 back (and_parts (not (p == 0x3B)) (lacks 0x3B prefix) plain_prefix).1 tail in
+    let found = begins_with word rest prefix more (and_parts (not (c == 0x22)) (lacks 0x22 word) quote).1 back
+    (and_parts (not (p == 0x3B)) (lacks 0x3B prefix) plain_prefix).1 tail in
     (found.0, ap (λ n. n ∷ word) head ∙ ap (λ ys. p ∷ ys) found.1)

@@ -28,4 +28,6 @@ abbrev pub made_blocks : List (List ℕ) → List (List (List ℕ)) → List Blo
 made_blocks [] words = []
 made_blocks (okuri ∷ okuris) [] = []
 made_blocks (okuri ∷ okuris) (words ∷ more) =
-    if is_okuri okuri then record { okuri = okuri; words = words } ∷ made_blocks okuris more else made_blocks okuris more
+    if is_okuri okuri
+    then record { okuri = okuri; words = words } ∷ made_blocks okuris more
+    else made_blocks okuris more

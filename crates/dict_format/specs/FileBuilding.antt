@@ -25,7 +25,8 @@ pub record KnowsKeys (rows : List Row) (readings : Readings) : Type 0 where
 
 -- what is listed with this line as a bad one more
 abbrev pub refused_with : Listed → ℕ → LineReason → Listed
-refused_with before number reason = record { book = before.book; bad = before.bad ++ record { line = number; reason = reason } ∷ [] }
+refused_with before number reason =
+    record { book = before.book; bad = before.bad ++ record { line = number; reason = reason } ∷ [] }
 
 -- what is listed with the row of this line, or with the line as a bad one where a row has its key
 abbrev pub listed_with : Listed → ℕ → Row → Listed

@@ -1,5 +1,6 @@
 -- A dictionary file: its lines, and the rows and bad lines that they come to.
-use Rattle.std.specs.Prelude.{◌≡◌, ◌⊎◌, ◌≤◌, ℕ, ◌+◌, ◌==◌, ◌||◌, nat_eq, Bool, true, false, if◌then◌else◌, List, [], ◌∷◌, ◌++◌, length, drop}
+use Rattle.std.specs.Prelude.{◌≡◌, ◌⊎◌, ◌≤◌, ℕ, ◌+◌, ◌==◌, ◌||◌, nat_eq, Bool, true, false, if◌then◌else◌, List, []}
+use Rattle.std.specs.Prelude.{◌∷◌, ◌++◌, length, drop}
 use Rattle.std.specs.List.{list_all, list_any, starts_with}
 use Rattle.std.specs.Str.{IsUtf8, chars}
 use Rattle.skk_text.specs.Lines.{lines_of}
@@ -102,7 +103,8 @@ Refuses before entry reason =
 -- an entry takes what was listed before it to this: with its row, or with its line as a bad one
 abbrev pub Takes : Listed → FileEntry → Listed → Type 0
 Takes before entry after =
-    ((row : Row) × GivesRow before.book entry row × (after ≡ record { book = before.book ++ row ∷ []; bad = before.bad }))
+    ((row : Row) × GivesRow before.book entry row
+    × (after ≡ record { book = before.book ++ row ∷ []; bad = before.bad }))
     ⊎ ((reason : LineReason) × Refuses before.book entry reason
     × (after ≡ record { book = before.book; bad = before.bad ++ record { line = entry.number; reason = reason } ∷ [] }))
 

@@ -34,8 +34,8 @@ opens_block Ari (c ∷ text) = c == 0x5B
 abbrev pub closes_block : List ℕ → Bool
 closes_block text = same_text text (codes "]")
 
--- the texts spell the item: a text alone is a mark, or else a candidate; and a block is a bracket with its okurigana, texts
--- that say its words, and the closing bracket
+-- the texts spell the item: a text alone is a mark, or else a candidate; and a block is a bracket with its okurigana,
+-- texts that say its words, and the closing bracket
 pub data SpellsItem : Part → List (List ℕ) → Item → Type 0 where
   marks : (part : Part) (text : List ℕ) (words : List (List ℕ)) → opens_block part text ≡ false
       → MarksWords text words → SpellsItem part (text ∷ []) (mark words)
@@ -44,7 +44,8 @@ pub data SpellsItem : Part → List (List ℕ) → Item → Type 0 where
       → SpellsItem part (text ∷ []) (candidate word (note_of_text text))
   blocks : (okuri : List ℕ) (words : List (List ℕ × List ℕ)) → list_all (λ text. not (closes_block text.0)) words ≡ true
       → AllByRecursion (λ text. SaysWord (before_note text.0) text.1) words
-      → SpellsItem Ari ((0x5B ∷ okuri) ∷ map (λ text. text.0) words ++ codes "]" ∷ []) (block okuri (map (λ text. text.1) words))
+      → SpellsItem Ari ((0x5B ∷ okuri) ∷ map (λ text. text.0) words ++ codes "]" ∷ [])
+      (block okuri (map (λ text. text.1) words))
 
 -- the texts spell the items, one after another
 pub record SpellsItems (part : Part) (texts : List (List ℕ)) (items : List Item) : Type 0 where

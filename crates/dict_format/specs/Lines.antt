@@ -31,8 +31,8 @@ pub record HasTexts (body : List ℕ) (texts : List (List ℕ)) : Type 0 where
   pub body_is : body ≡ 0x2F ∷ flat_map with_slash texts
   pub no_slash : list_all (lacks 0x2F) texts ≡ true
 
--- the line of a part spells the row: it is not too long, its reading is valid in the part, the texts of its body spell items
--- that are not too long, and the row of these says something
+-- the line of a part spells the row: it is not too long, its reading is valid in the part, the texts of its body spell
+-- items that are not too long, and the row of these says something
 pub record SpellsRow (part : Part) (line : List ℕ) (row : Row) : Type 0 where
   pub reading : List ℕ
   pub body : List ℕ

@@ -12,8 +12,8 @@ use Rattle.skk_calls.specs.Rows.{Row, is_row, keys_differ, same_part}
 abbrev pub is_of : Part → Row → Bool
 is_of part row = same_part row.key.part part
 
--- a row of a part is printed before another: without okurigana where its reading is less by its bytes, and with it where
--- the other's is
+-- a row of a part is printed before another: without okurigana where its reading is less by its bytes, and with it
+-- where the other's is
 abbrev pub is_printed_before : Part → Row → Row → Bool
 is_printed_before Nasi row other = text_less row.key.reading other.key.reading
 is_printed_before Ari row other = text_less other.key.reading row.key.reading
@@ -22,7 +22,8 @@ is_printed_before Ari row other = text_less other.key.reading row.key.reading
 abbrev pub part_in_order : Part → List Row → List Row
 part_in_order part rows = sort_by (is_printed_before part) (filter (is_of part) rows)
 
--- the rows in the order in which they are printed: those with okurigana, descending, and then those without it, ascending
+-- the rows in the order in which they are printed: those with okurigana, descending,
+-- and then those without it, ascending
 abbrev pub in_printing_order : List Row → List Row
 in_printing_order rows = part_in_order Ari rows ++ part_in_order Nasi rows
 

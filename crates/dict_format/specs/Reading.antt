@@ -1,5 +1,7 @@
 -- A line read from left to right, as lists: what the functions of the code that read it give.
-use Rattle.std.specs.Prelude.{ℕ, ◌+◌, ◌-◌, ◌*◌, Bool, false, ◌==◌, ◌&&◌, ◌||◌, not, nat_eq, nat_le, nat_lt, if◌then◌else◌, Option, None, Some, Result, Ok, Err, List, [], ◌∷◌, codes, map, length, drop}
+use Rattle.std.specs.Prelude.{ℕ, ◌+◌, ◌-◌, ◌*◌, Bool, false, ◌==◌, ◌&&◌, ◌||◌, not, nat_eq, nat_le, nat_lt}
+use Rattle.std.specs.Prelude.{if◌then◌else◌, Option, None, Some, Result, Ok, Err, List, [], ◌∷◌, codes, map, length}
+use Rattle.std.specs.Prelude.{drop}
 use Rattle.std.specs.Option.{option_map, unwrap_or}
 use Rattle.std.specs.List.{list_all, starts_with}
 use Rattle.skk_text.specs.Lists.{is_empty}
@@ -33,7 +35,8 @@ abbrev pub and_later : {X Y : Type 0} → Option (Y × List X) → List X → (L
 and_later None xs later = ([], xs)
 and_later (Some (y, rest)) xs later = let more = later rest in (y ∷ more.0, more.1)
 
--- what a step takes from the front of a list, time and again, at most as often as the first list has items, and what it leaves
+-- what a step takes from the front of a list, time and again, at most as often as the first list has items,
+-- and what it leaves
 abbrev pub taken_within : {X Y : Type 0} → (List X → Option (Y × List X)) → List X → List X → List Y × List X
 taken_within step [] xs = ([], xs)
 taken_within step (turn ∷ turns) xs = and_later (step xs) xs (taken_within step turns)
@@ -52,7 +55,8 @@ octal_of a b c =
     if (a == 0x30 || a == 0x31) && (is_octal b && is_octal c)
     then Some ((a - 0x30) * 64 + (b - 0x30) * 8 + (c - 0x30)) else None
 
--- the character that stands behind a backslash in three octal digits, the first of which is known, and what stands behind them
+-- the character that stands behind a backslash in three octal digits, the first of which is known,
+-- and what stands behind them
 abbrev pub octal_at : ℕ → List ℕ → Option (ℕ × List ℕ)
 octal_at a [] = None
 octal_at a (b ∷ []) = None
@@ -142,7 +146,8 @@ block_at okuri texts = option_map (λ parts. (block okuri (said_words parts.0), 
 -- the item that the first texts spell, and the texts behind
 unfoldable pub item_at : Part → List (List ℕ) → Option (Item × List (List ℕ))
 item_at part [] = None
-item_at part (text ∷ texts) = if opens_block part text then block_at (drop 1 text) texts else Some (single_item text, texts)
+item_at part (text ∷ texts) =
+    if opens_block part text then block_at (drop 1 text) texts else Some (single_item text, texts)
 
 -- the items, where no text is left
 abbrev pub if_all : {X Y : Type 0} → List X × List Y → Option (List X)

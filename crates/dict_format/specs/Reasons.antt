@@ -1,5 +1,6 @@
 -- Why a line spells no row: the first reason that fits it.
-use Rattle.std.specs.Prelude.{◌≡◌, ◌<◌, ℕ, Bool, true, false, ◌||◌, ◌==◌, ◌&&◌, not, nat_lt, nat_le, length, List, [], ◌∷◌, ◌++◌, codes, nat_eq}
+use Rattle.std.specs.Prelude.{◌≡◌, ◌<◌, ℕ, Bool, true, false, ◌||◌, ◌==◌, ◌&&◌, not, nat_lt, nat_le, length, List, []}
+use Rattle.std.specs.Prelude.{◌∷◌, ◌++◌, codes, nat_eq}
 use Rattle.std.specs.List.{list_all, list_any, AllByRecursion, starts_with, ends_with}
 use Rattle.skk_text.specs.Text.{byte_len, last_chars}
 use Rattle.skk_calls.specs.declared.part.Part.{Part}
@@ -7,7 +8,9 @@ use Rattle.skk_calls.specs.declared.part.Part.TheVariants.{Nasi, Ari}
 use Rattle.skk_calls.specs.Canonical.{line_limit}
 use Rattle.skk_calls.specs.Rows.{begins_well, is_letter, reading_limit}
 use Rattle.dict_format.specs.declared.reason.LineReason.{LineReason}
-use Rattle.dict_format.specs.declared.reason.LineReason.TheVariants.{LongLine, NoSpace, BadReading, LongReading, OkuriKey, NoSlash, Block, LongCandidate, Empty, Twice}
+use Rattle.dict_format.specs.declared.reason.LineReason.TheVariants.{LongLine, NoSpace, BadReading, LongReading}
+use Rattle.dict_format.specs.declared.reason.LineReason.TheVariants.{OkuriKey, NoSlash, Block, LongCandidate, Empty}
+use Rattle.dict_format.specs.declared.reason.LineReason.TheVariants.{Twice}
 use Rattle.dict_format.specs.Items.{Item, SpellsItems}
 use Rattle.dict_format.specs.Lines.{lacks, HasBody, HasTexts}
 use Rattle.dict_format.specs.RowOfItems.{item_fits, row_of_items, says_something}
@@ -42,14 +45,16 @@ Fits part line LongReading = ReadingIs (λ reading. nat_lt (reading_limit part) 
 Fits part line OkuriKey = ReadingIs (lacks_letter part) line
 Fits part line NoSlash = (reading : List ℕ) × (body : List ℕ) × HasBody line reading body × (is_slashed body ≡ false)
 Fits part line Block =
-    (reading : List ℕ) × (body : List ℕ) × (texts : List (List ℕ)) × (part ≡ Ari) × HasBody line reading body × HasTexts body texts
-    × ((items : List Item) → SpellsItems part texts items → ⊥)
+    (reading : List ℕ) × (body : List ℕ) × (texts : List (List ℕ)) × (part ≡ Ari) × HasBody line reading body
+    × HasTexts body texts × ((items : List Item) → SpellsItems part texts items → ⊥)
 Fits part line LongCandidate =
-    (reading : List ℕ) × (body : List ℕ) × (texts : List (List ℕ)) × (items : List Item) × HasBody line reading body × HasTexts body texts
-    × SpellsItems part texts items × (list_all item_fits items ≡ false)
+    (reading : List ℕ) × (body : List ℕ) × (texts : List (List ℕ)) × (items : List Item) × HasBody line reading body
+    × HasTexts body texts × SpellsItems part texts items × (list_all item_fits items ≡ false)
 Fits part line Empty =
-    (reading : List ℕ) × (body : List ℕ) × (texts : List (List ℕ)) × (items : List Item) × HasBody line reading body × HasTexts body texts
-    × SpellsItems part texts items × (says_something (row_of_items (record { part = part; reading = reading }) items) ≡ false)
+    (reading : List ℕ) × (body : List ℕ) × (texts : List (List ℕ)) × (items : List Item) × HasBody line reading body
+    × HasTexts body texts
+    × SpellsItems part texts items
+    × (says_something (row_of_items (record { part = part; reading = reading }) items) ≡ false)
 Fits part line Twice = ⊥
 
 -- the reasons in the order in which they are tried

@@ -59,8 +59,8 @@ joined_blocks blocks =
 abbrev pub blocks_of_items : List Item → List Block
 blocks_of_items items = filter (λ b. is_okuri b.okuri) (joined_blocks (filter has_word (flat_map block_in items)))
 
--- the row of a key and items, of stamp 0: the first candidate of each word that is not empty, the blocks, and each hidden
--- word that is not empty once
+-- the row of a key and items, of stamp 0: the first candidate of each word that is not empty, the blocks, and each
+-- hidden word that is not empty once
 abbrev pub row_of_items : RowKey → List Item → Row
 row_of_items key items = record {
   key = key;

@@ -2,8 +2,8 @@
 use Rattle.std.specs.Prelude.{◌≡◌, ◌≢◌, ◌⊎◌, ℕ, ◌+◌, ◌*◌, ◌<◌, List, [], ◌∷◌, ◌++◌, codes, map}
 use Rattle.std.specs.List.{flat_map, AllByRecursion}
 
--- the pieces of a string that spell a character: itself unless it is `"` or `\`, one of four escapes, or a backslash and
--- three octal digits of its number, which is below 128
+-- the pieces of a string that spell a character: itself unless it is `"` or `\`, one of four escapes, or a backslash
+-- and three octal digits of its number, which is below 128
 pub data SpellsCharacter : List ℕ → ℕ → Type 0 where
   itself : (c : ℕ) → c ≢ 0x22 → c ≢ 0x5C → SpellsCharacter (c ∷ []) c
   double_quote : SpellsCharacter (codes "\\\"") 0x22
@@ -35,5 +35,6 @@ pub record MarksWords (text : List ℕ) (words : List (List ℕ)) : Type 0 where
   pub strings : List (List ℕ × List ℕ)
   pub spelled : AllByRecursion (λ string. SpellsWord string.0 string.1) strings
   pub some_string : strings ≢ []
-  pub text_is : text ≡ codes "(skk-ignore-dic-word" ++ flat_map (λ string. codes " \"" ++ string.0 ++ codes "\"") strings ++ codes ")"
+  pub text_is : text
+      ≡ codes "(skk-ignore-dic-word" ++ flat_map (λ string. codes " \"" ++ string.0 ++ codes "\"") strings ++ codes ")"
   pub words_are : words ≡ map (λ string. string.1) strings

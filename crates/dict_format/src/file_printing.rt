@@ -6,7 +6,8 @@ ghost use Rattle.skk_text.specs.Text.{byte_len};
 ghost use Rattle.skk_calls.specs.Canonical.{canonical, is_good};
 ghost use Rattle.skk_calls.specs.Rows.{is_row};
 ghost use Rattle.dict_format.specs.FileLines.{Lists, file_limit};
-ghost use Rattle.dict_format.specs.PrintedFiles.{AreOfBook, in_printing_order, is_of, is_printed_before, part_in_order, part_line, with_line_end, without_stamp, printed_part, printed_file};
+ghost use Rattle.dict_format.specs.PrintedFiles.{AreOfBook, in_printing_order, is_of, is_printed_before, part_in_order};
+ghost use Rattle.dict_format.specs.PrintedFiles.{part_line, with_line_end, without_stamp, printed_part, printed_file};
 
 use crate::laws::printed_files_are_read_again;
 use crate::printing::push_line;
@@ -16,9 +17,9 @@ use std::alloc::Global;
 use std::cmp::Ordering;
 
 /// The text of a dictionary file with the rows of a book: the okuri-ari rows descending by the bytes of their readings,
-/// then the okuri-nasi rows ascending, each part behind its line. That of good rows is read again as these, in that order
-/// and with stamp 0, where it is not too long for a file. Takes time in the length of that text, and with one logarithm
-/// in the number of rows.
+/// then the okuri-nasi rows ascending, each part behind its line. That of good rows is read again as these, in that
+/// order and with stamp 0, where it is not too long for a file. Takes time in the length of that text, and with one
+/// logarithm in the number of rows.
 pub fn print_file(alloc: Global, book: &Book) -> Result<Text, Memory>
     ensures printed { IfOk result (λ text. text ≡ printed_file book.now) }
     ensures read_again { list_all is_good book.now ≡ true → IfOk result (λ text. byte_len text ≤ file_limit
@@ -105,7 +106,8 @@ fn reading_of(row: &Row) -> &[u8]
 
 // Adds the lines of rows, each with its end.
 fn push_lines(file: &mut Text, rows: &[&Row]) -> Result<(), Memory>
-    ensures { OnOk result (file.new ≡ file.old ++ flat_map with_line_end (map canonical (map (λ row. row.now) rows.now))) }
+    ensures { OnOk result
+        (file.new ≡ file.old ++ flat_map with_line_end (map canonical (map (λ row. row.now) rows.now))) }
 {
     for row in rows {
         push_line(file, row)?;

@@ -1,8 +1,10 @@
-ghost use Rattle.std.specs.Prelude.{◌≡◌, ◌<◌, ◌≤◌, ◌+◌, ◌-◌, ◌==◌, ◌||◌, not, if◌then◌else◌, Some, None, map, length, drop, position, IfOk, IfSome};
+ghost use Rattle.std.specs.Prelude.{◌≡◌, ◌<◌, ◌≤◌, ◌+◌, ◌-◌, ◌==◌, ◌||◌, not, if◌then◌else◌, Some, None, map, length};
+ghost use Rattle.std.specs.Prelude.{drop, position, IfOk, IfSome};
 ghost use Rattle.std.specs.List.{after_first, filter, list_all};
 ghost use Rattle.std.specs.Option.{option_map};
 ghost use Rattle.dict_format.specs.Items.{before_note, is_semicolon, opens_block, closes_block};
-ghost use Rattle.dict_format.specs.Reading.{taken, said_words, mark_or_candidate, single_item, block_at, item_at, items_at, fit_items_at};
+ghost use Rattle.dict_format.specs.Reading.{taken, said_words, mark_or_candidate, single_item, block_at, item_at};
+ghost use Rattle.dict_format.specs.Reading.{items_at, fit_items_at};
 ghost use Rattle.dict_format.specs.RowOfItems.{fits, item_fits};
 ghost use Rattle.word_sets.specs.Strings.{characters};
 ghost use Rattle.dict_format.specs.Views.{item_said, Gives};
@@ -42,7 +44,8 @@ pub fn items_of(alloc: Global, part: Part, texts: &[&[char]]) -> Result<Vec<Item
 
 // The items that texts spell, and how many texts these are: all of them, unless a block is not closed.
 fn all_items(alloc: Global, part: Part, texts: &[&[char]]) -> Result<(Vec<Item>, usize), Memory>
-    ensures items { IfOk result (λ parts. taken (item_at part) (map (λ text. text.now) texts.now) ≡ (map item_said parts.0.items, drop parts.1 (map (λ text. text.now) texts.now))) }
+    ensures items { IfOk result (λ parts. taken (item_at part) (map (λ text. text.now) texts.now)
+        ≡ (map item_said parts.0.items, drop parts.1 (map (λ text. text.now) texts.now))) }
     ensures within { IfOk result (λ parts. parts.1 ≤ length texts.now) }
 {
     let mut items = Vec::new(alloc);
@@ -57,7 +60,9 @@ fn all_items(alloc: Global, part: Part, texts: &[&[char]]) -> Result<(Vec<Item>,
 // The item that the first texts spell, and how many texts these are.
 #[tactic(auto, unfolding(crate::specs::Reading::item_at))]
 fn first_item(alloc: Global, part: Part, texts: &[&[char]]) -> Result<Option<(Item, usize)>, Memory>
-    ensures item { IfOk result (λ found. option_map (λ parts. (item_said parts.0, drop parts.1 (map (λ text. text.now) texts.now))) found ≡ item_at part (map (λ text. text.now) texts.now)) }
+    ensures item { IfOk result
+        (λ found. option_map (λ parts. (item_said parts.0, drop parts.1 (map (λ text. text.now) texts.now))) found
+        ≡ item_at part (map (λ text. text.now) texts.now)) }
     ensures within { IfOk result (λ found. IfSome found (λ parts. parts.1 ≤ length texts.now)) }
 {
     let [text, rest @ ..] = texts else {
@@ -71,7 +76,8 @@ fn first_item(alloc: Global, part: Part, texts: &[&[char]]) -> Result<Option<(It
 
 // What stands behind the bracket that opens a block, where a text begins with it.
 fn okuri_of(part: Part, text: &[char]) -> Option<&[char]>
-    ensures { option_map (λ okuri. okuri.now) result ≡ (if opens_block part text.now then Some (drop 1 text.now) else None) }
+    ensures { option_map (λ okuri. okuri.now) result
+        ≡ (if opens_block part text.now then Some (drop 1 text.now) else None) }
 {
     match (part, text) {
         (Part::Ari, ['[', okuri @ ..]) => Some(okuri),
@@ -86,7 +92,9 @@ fn block_behind(
     okuri: &[char],
     texts: &[&[char]],
 ) -> Result<Option<(Item, usize)>, Memory>
-    ensures item { IfOk result (λ found. option_map (λ parts. (item_said parts.0, drop (parts.1 - 1) (map (λ text. text.now) texts.now))) found ≡ block_at okuri.now (map (λ text. text.now) texts.now)) }
+    ensures item { IfOk result
+        (λ found. option_map (λ parts. (item_said parts.0, drop (parts.1 - 1) (map (λ text. text.now) texts.now))) found
+        ≡ block_at okuri.now (map (λ text. text.now) texts.now)) }
     ensures within { IfOk result (λ found. IfSome found (λ parts. (1 ≤ parts.1) × (parts.1 ≤ length texts.now + 1))) }
 {
     let Some(at) = bracket_place(texts) else {

@@ -14,27 +14,33 @@ ghost use Rattle.dict_format.specs.Reasons.{IsReason};
 
 /// Each line of a part spells a row or has a first reason why it spells none, and never both.
 pub fn lines_spell_rows_or_have_reasons()
-    ensures one { (part : Part) (line : List ℕ) → ((row : Row) × SpellsRow part line row) ⊎ ((first : LineReason) × IsReason part line first) }
-    ensures not_both { (part : Part) (line : List ℕ) (row : Row) (first : LineReason) → SpellsRow part line row → IsReason part line first → ⊥ }
+    ensures one { (part : Part) (line : List ℕ)
+        → ((row : Row) × SpellsRow part line row) ⊎ ((first : LineReason) × IsReason part line first) }
+    ensures not_both { (part : Part) (line : List ℕ) (row : Row) (first : LineReason) → SpellsRow part line row
+        → IsReason part line first → ⊥ }
 {}
 
 /// A line spells one row at most, and has one first reason at most.
 pub fn lines_spell_one_row()
-    ensures row { (part : Part) (line : List ℕ) (row other : Row) → SpellsRow part line row → SpellsRow part line other → row ≡ other }
-    ensures reason { (part : Part) (line : List ℕ) (first other : LineReason) → IsReason part line first → IsReason part line other → first ≡ other }
+    ensures row { (part : Part) (line : List ℕ) (row other : Row) → SpellsRow part line row
+        → SpellsRow part line other → row ≡ other }
+    ensures reason { (part : Part) (line : List ℕ) (first other : LineReason) → IsReason part line first
+        → IsReason part line other → first ≡ other }
 {}
 
 /// The canonical line of a good row spells that row, with stamp 0: a learned dictionary can be read again.
 pub fn good_rows_are_read_again()
-    ensures { (row : Row) → is_row row ≡ true → is_good row ≡ true → SpellsRow row.key.part (canonical row) (record row { stamp = 0 }) }
+    ensures { (row : Row) → is_row row ≡ true → is_good row ≡ true
+        → SpellsRow row.key.part (canonical row) (record row { stamp = 0 }) }
 {}
 
-/// A file that is printed has the rows of its book, all of them and no other, whose keys still differ; and rows that are
-/// in printing order stay where they are.
+/// A file that is printed has the rows of its book, all of them and no other, whose keys still differ; and rows that
+/// are in printing order stay where they are.
 pub fn printing_order_moves_rows()
     ensures same_rows { (rows : List Row) → IsPermutation rows (in_printing_order rows) }
     ensures keys { (rows : List Row) → keys_differ rows ≡ true → keys_differ (in_printing_order rows) ≡ true }
-    ensures once { (rows : List Row) → keys_differ rows ≡ true → in_printing_order (in_printing_order rows) ≡ in_printing_order rows }
+    ensures once { (rows : List Row) → keys_differ rows ≡ true
+        → in_printing_order (in_printing_order rows) ≡ in_printing_order rows }
 {}
 
 /// The file that is printed of good rows whose keys differ lists them again, in printing order and with stamp 0, and no
@@ -42,7 +48,8 @@ pub fn printing_order_moves_rows()
 pub fn printed_files_are_read_again()
     ensures { (rows : List Row) → keys_differ rows ≡ true → list_all is_row rows ≡ true → list_all is_good rows ≡ true
         → length (encode_utf8_all (printed_file rows)) ≤ file_limit → IsUtf8 (encode_utf8_all (printed_file rows))
-        → Lists (encode_utf8_all (printed_file rows)) (record { book = map without_stamp (in_printing_order rows); bad = [] }) }
+        → Lists (encode_utf8_all (printed_file rows))
+        (record { book = map without_stamp (in_printing_order rows); bad = [] }) }
 {}
 
 /// The bytes of a file list one thing at most, and those of each file that is not too long and is UTF-8 list something:

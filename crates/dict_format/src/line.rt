@@ -9,7 +9,8 @@ ghost use Rattle.skk_calls.specs.Rows.{Row, begins_well, is_row};
 ghost use Rattle.dict_format.specs.declared.reason.LineReason.{LineReason};
 ghost use Rattle.dict_format.specs.declared.reason.LineReason.TheVariants as reasons;
 ghost use Rattle.dict_format.specs.Lines.{lacks, SpellsRow};
-ghost use Rattle.dict_format.specs.Reading.{and_then, taken, cut, is_slash, is_space, or_reason, texts_at, key_at, row_reading, line_reading, some_row_of};
+ghost use Rattle.dict_format.specs.Reading.{and_then, taken, cut, is_slash, is_space, or_reason, texts_at, key_at};
+ghost use Rattle.dict_format.specs.Reading.{row_reading, line_reading, some_row_of};
 ghost use Rattle.dict_format.specs.Reasons.{is_control, is_bad_reading, IsReason};
 ghost use Rattle.dict_format.specs.RowOfItems.{row_of_items, says_something};
 ghost use Rattle.dict_format.specs.Views.{item_said, Gives};
@@ -29,7 +30,8 @@ pub fn read_line(alloc: Global, part: Part, line: &Text) -> Result<Row, LineFaul
     ensures ok { IfOk result (SpellsRow part line.now) }
     ensures only { (row : Row) → SpellsRow part line.now row → AnswersUnless LineFault.Memory result (Ok row) }
     ensures reason { (first : LineReason) → IsErrOf result (LineFault.Reason first) → IsReason part line.now first }
-    ensures only_reason { (first : LineReason) → IsReason part line.now first → AnswersUnless LineFault.Memory result (Err (LineFault.Reason first)) }
+    ensures only_reason { (first : LineReason) → IsReason part line.now first
+        → AnswersUnless LineFault.Memory result (Err (LineFault.Reason first)) }
 {
     read(alloc, part, line.as_str())
 }
@@ -62,7 +64,8 @@ fn characters_of(alloc: Global, text: &str) -> Result<Vec<char>, Memory>
 
 // Reads the characters of a line that is not too long.
 fn read_characters(alloc: Global, part: Part, line: &[char]) -> Result<Row, LineFault>
-    ensures { Gives (λ row. row) result (and_then (or_reason reasons.NoSpace (cut is_space line.now)) (row_reading part)) }
+    ensures { Gives (λ row. row) result
+        (and_then (or_reason reasons.NoSpace (cut is_space line.now)) (row_reading part)) }
 {
     match cut_at(line, ' ') {
         Some((reading, rest)) => read_parts(alloc, part, reading, rest),
@@ -149,7 +152,8 @@ fn holds_control(text: &[char]) -> bool
 // The texts between the slashes of a body that begins and ends with one.
 #[tactic(auto, unfolding(crate::specs::Reading::texts_at))]
 fn texts_between(alloc: Global, body: &[char]) -> Result<Vec<&[char]>, LineFault>
-    ensures { Gives (λ texts. map (λ text. text.now) texts.items) result (or_reason reasons.NoSlash (texts_at body.now)) }
+    ensures { Gives (λ texts. map (λ text. text.now) texts.items) result
+        (or_reason reasons.NoSlash (texts_at body.now)) }
 {
     let ['/', behind @ ..] = body else {
         return Err(LineFault::Reason(LineReason::NoSlash));
@@ -164,7 +168,8 @@ fn texts_between(alloc: Global, body: &[char]) -> Result<Vec<&[char]>, LineFault
 
 // The texts that are ended by a slash, and what stands behind the last of them.
 fn all_texts(alloc: Global, text: &[char]) -> Result<(Vec<&[char]>, &[char]), Memory>
-    ensures { IfOk result (λ parts. taken (cut is_slash) text.now ≡ (map (λ text. text.now) parts.0.items, parts.1.now)) }
+    ensures { IfOk result (λ parts. taken (cut is_slash) text.now
+        ≡ (map (λ text. text.now) parts.0.items, parts.1.now)) }
 {
     let mut texts = Vec::new(alloc);
     let mut rest = text;

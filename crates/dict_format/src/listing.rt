@@ -113,7 +113,8 @@ fn put_row(
     row: Row,
 ) -> Result<(), Memory>
     ensures keys { OnOk result (KnowsKeys rows.old readings.old → KnowsKeys rows.new readings.new) }
-    ensures listed { OnOk result (KnowsKeys rows.old readings.old → record { book = rows.new; bad = bad.new } ≡ listed_with (record { book = rows.old; bad = bad.old }) number row) }
+    ensures listed { OnOk result (KnowsKeys rows.old readings.old → record { book = rows.new; bad = bad.new }
+        ≡ listed_with (record { book = rows.old; bad = bad.old }) number row) }
 {
     if readings.add(alloc, row.key())? {
         rows.push(row)

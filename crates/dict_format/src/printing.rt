@@ -2,7 +2,8 @@ ghost use Rattle.std.specs.Prelude.{◌≡◌, ◌++◌, ◌∷◌, true, IfOk, 
 ghost use Rattle.std.specs.List.{flat_map};
 ghost use Rattle.dict_format.specs.Lines.{SpellsRow};
 ghost use Rattle.skk_calls.specs.Rows.{is_row};
-ghost use Rattle.skk_calls.specs.Canonical.{canonical, is_good, item, with_slash, char_in_string, quoted, written_word, written_note, written_block, mark_items};
+ghost use Rattle.skk_calls.specs.Canonical.{canonical, is_good, item, with_slash, char_in_string, quoted, written_word};
+ghost use Rattle.skk_calls.specs.Canonical.{written_note, written_block, mark_items};
 
 use crate::laws::good_rows_are_read_again;
 use skk_calls::{Block, Blocks, Cand, Cands, Row, needs_quotes};
@@ -13,7 +14,8 @@ use std::alloc::Global;
 /// stamp 0.
 pub fn print_line(alloc: Global, row: &Row) -> Result<Text, Memory>
     ensures canonical { IfOk result (λ line. line ≡ canonical row.now) }
-    ensures read_again { is_good row.now ≡ true → IfOk result (λ line. SpellsRow row.now.key.part line (record row.now { stamp = 0 })) }
+    ensures read_again { is_good row.now ≡ true
+        → IfOk result (λ line. SpellsRow row.now.key.part line (record row.now { stamp = 0 })) }
 {
     good_rows_are_read_again();
     let mut line = Text::new(alloc);

@@ -29,7 +29,8 @@ impl Readings {
     /// Adds that of a key, and answers whether the key is a new one.
     pub fn add(&mut self, alloc: Global, key: &RowKey) -> Result<bool, Memory>
         ensures is_new { IfOk result (λ is_new. is_new ≡ not (knows self.old key.now)) }
-        ensures known { OnOk result ((other : RowKey) → knows self.new other ≡ (knows self.old other || same_key key.now other)) }
+        ensures known { OnOk result ((other : RowKey)
+            → knows self.new other ≡ (knows self.old other || same_key key.now other)) }
     {
         match key.part() {
             Part::Nasi => {

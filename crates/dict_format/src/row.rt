@@ -14,8 +14,8 @@ use skk_text::{Memory, Text};
 use std::alloc::Global;
 use word_sets::{FirstCands, WordSet};
 
-// What items say of a key, as far as they were gone through: the words of candidates with their notes, okurigana, the words
-// of each of these, and words that are hidden.
+// What items say of a key, as far as they were gone through: the words of candidates with their notes, okurigana, the
+// words of each of these, and words that are hidden.
 #[derive(Drop)]
 pub struct Parts {
     cands: FirstCands,
@@ -59,7 +59,8 @@ fn parts_of(alloc: Global, items: Vec<Item>) -> Result<Parts, Memory>
 
 // Adds what an item says.
 fn add_item(alloc: Global, parts: &mut Parts, item: Item) -> Result<(), Memory>
-    ensures { OnOk result ((before : List said_item) → SaysItems parts.old before → SaysItems parts.new (before ++ item_said item ∷ [])) }
+    ensures { OnOk result ((before : List said_item) → SaysItems parts.old before
+        → SaysItems parts.new (before ++ item_said item ∷ [])) }
 {
     match item {
         Item::Candidate { word, note } => add_cand(&mut parts.cands, word, note),
@@ -76,7 +77,8 @@ fn add_item(alloc: Global, parts: &mut Parts, item: Item) -> Result<(), Memory>
 
 // Adds a candidate, unless its word is empty or came before.
 fn add_cand(cands: &mut FirstCands, word: String, note: String) -> Result<(), Memory>
-    ensures { OnOk result ((before : List Cand) → cands.old ≡ cands_once before → cands.new ≡ cands_once (before ++ as_cand (word, note) ∷ [])) }
+    ensures { OnOk result ((before : List Cand) → cands.old ≡ cands_once before
+        → cands.new ≡ cands_once (before ++ as_cand (word, note) ∷ [])) }
 {
     if !word.is_empty() {
         cands.insert(word, note)?;
@@ -86,7 +88,8 @@ fn add_cand(cands: &mut FirstCands, word: String, note: String) -> Result<(), Me
 
 // Adds words, but for those that are empty or came before.
 fn add_words(known: &mut WordSet, words: Vec<String>) -> Result<(), Memory>
-    ensures { OnOk result ((before : List (List ℕ)) → known.old ≡ words_once before → known.new ≡ words_once (before ++ map characters words.items)) }
+    ensures { OnOk result ((before : List (List ℕ)) → known.old ≡ words_once before
+        → known.new ≡ words_once (before ++ map characters words.items)) }
 {
     for word in words {
         add_word(known, word)?;
@@ -96,7 +99,8 @@ fn add_words(known: &mut WordSet, words: Vec<String>) -> Result<(), Memory>
 
 // Adds a word, unless it is empty or came before.
 fn add_word(known: &mut WordSet, word: String) -> Result<(), Memory>
-    ensures { OnOk result ((before : List (List ℕ)) → known.old ≡ words_once before → known.new ≡ words_once (before ++ characters word ∷ [])) }
+    ensures { OnOk result ((before : List (List ℕ)) → known.old ≡ words_once before
+        → known.new ≡ words_once (before ++ characters word ∷ [])) }
 {
     if !word.is_empty() {
         known.insert(word)?;
@@ -113,7 +117,8 @@ fn add_block(
     more: Vec<String>,
 ) -> Result<(), Memory>
     ensures { OnOk result ((before : List Block) → JoinsBlocks okuris.old words.old.items before →
-        JoinsBlocks okuris.new words.new.items (before ++ filter has_word (record { okuri = characters okuri; words = map characters more.items } ∷ []))) }
+        JoinsBlocks okuris.new words.new.items
+        (before ++ filter has_word (record { okuri = characters okuri; words = map characters more.items } ∷ []))) }
 {
     if !has_word(&more) {
         return Ok(());

@@ -290,12 +290,14 @@ fn files_are_read_and_printed(rt: HostRuntime) -> Result<(), Fail> {
         ),
         // a part that comes again, and one reading in both parts
         (
-            ";; okuri-ari entries.\nak /a/\nakk /b/\n;; okuri-nasi entries.\nak /c/\n;; okuri-ari entries.\nak /d/\nく /e\n",
+            ";; okuri-ari entries.\nak /a/\nakk /b/\n;; okuri-nasi entries.\nak /c/\n;; okuri-ari entries.\nak /d/\n\
+            く /e\n",
             ";; okuri-ari entries.\nakk /b/\nak /a/\n;; okuri-nasi entries.\nak /c/\n",
             &[(7, LineReason::Twice), (8, LineReason::OkuriKey)],
         ),
         (
-            ";; -*- mode: fundamental; coding: utf-8 -*-\n;; okuri-ari entries.\n;; okuri-nasi entries.\nあい /愛/\nか /蚊\n",
+            ";; -*- mode: fundamental; coding: utf-8 -*-\n;; okuri-ari entries.\n;; okuri-nasi entries.\nあい /愛/\n\
+            か /蚊\n",
             ";; okuri-ari entries.\n;; okuri-nasi entries.\nあい /愛/\n",
             &[(5, LineReason::NoSlash)],
         ),

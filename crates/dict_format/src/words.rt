@@ -1,7 +1,9 @@
 ghost use Rattle.std.specs.Prelude.{◌≡◌, ◌&&◌, ◌∷◌, ◌++◌, not, [], map, IfOk, OnOk};
 ghost use Rattle.std.specs.Option.{option_map};
 ghost use Rattle.skk_text.specs.Lists.{is_empty};
-ghost use Rattle.dict_format.specs.Reading.{taken, behind, if_closed, then_at, is_octal, octal_of, octal_at, escape_at, piece_at, behind_quote, closes_form, string_at, marked_at, strings_at, marked, quoted_word, said};
+ghost use Rattle.dict_format.specs.Reading.{taken, behind, if_closed, then_at, is_octal, octal_of, octal_at, escape_at};
+ghost use Rattle.dict_format.specs.Reading.{piece_at, behind_quote, closes_form, string_at, marked_at, strings_at};
+ghost use Rattle.dict_format.specs.Reading.{marked, quoted_word, said};
 ghost use Rattle.word_sets.specs.Strings.{characters};
 
 use skk_text::Memory;
@@ -113,7 +115,8 @@ fn all_strings(alloc: Global, text: &[char]) -> Result<(Vec<String>, &[char]), M
 // The word of a string behind a space, and what stands behind the string, where there is one.
 #[tactic(auto, unfolding(crate::specs::Reading::marked_at))]
 fn marked_string(alloc: Global, text: &[char]) -> Result<Option<(String, &[char])>, Memory>
-    ensures { IfOk result (λ found. option_map (λ parts. (characters parts.0, parts.1.now)) found ≡ marked_at text.now) }
+    ensures { IfOk result (λ found. option_map (λ parts. (characters parts.0, parts.1.now)) found
+        ≡ marked_at text.now) }
 {
     match text {
         [' ', '"', behind @ ..] => string(alloc, behind),
@@ -131,7 +134,8 @@ fn closes_form(text: &[char]) -> bool
 // The word of a string up to its closing double quote, and what stands behind that, where there is one.
 #[tactic(auto, unfolding(crate::specs::Reading::string_at))]
 fn string(alloc: Global, text: &[char]) -> Result<Option<(String, &[char])>, Memory>
-    ensures { IfOk result (λ found. option_map (λ parts. (characters parts.0, parts.1.now)) found ≡ string_at text.now) }
+    ensures { IfOk result (λ found. option_map (λ parts. (characters parts.0, parts.1.now)) found
+        ≡ string_at text.now) }
 {
     let mut word = String::new(alloc);
     let mut rest = text;

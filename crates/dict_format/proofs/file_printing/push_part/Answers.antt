@@ -11,7 +11,8 @@ returns-clause-printed c =
     let part = c.args.part in
     let file = c.args.file.now in
     let lines = flat_map with_line_end (map canonical (part_in_order part c.args.book.now)) in
-    let in_order : map (λ row. row.now) c.deref.result.now ≡ part_in_order part c.args.book.now = ap (map (λ row. row.now)) c.deref.ensures.value ∙ c.in_ok-rows.ensures.order in
+    let in_order : map (λ row. row.now) c.deref.result.now ≡ part_in_order part c.args.book.now =
+    ap (map (λ row. row.now)) c.deref.ensures.value ∙ c.in_ok-rows.ensures.order in
     on_ok_weaker c.push_lines.result
     (λ added.
     three_pieces file (part_line part) (10 ∷ []) lines c.push_str.new.self c.push.new.self c.push_lines.new.file

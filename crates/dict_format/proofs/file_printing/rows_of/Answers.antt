@@ -15,22 +15,33 @@ loop-row-preserved c =
     let rows = c.args.rows.now in
     let row = c.row-item.result in
     let before = take c.loop-row.row-index rows in
-    let next : take (c.loop-row.row-index + 1) rows ≡ before ++ row ∷ [] = take_more rows c.loop-row.row-index row c.loop-row-test.true ∙ ap (λ r. before ++ r ∷ []) (sym c.row-item.is) in
-    let kept : filter test (take (c.loop-row.row-index + 1) rows) ≡ filter test before ++ (if c.is_of.result then row ∷ [] else []) =
-    ap (filter test) next ∙ filter-append test before (row ∷ []) ∙ ap (λ b. filter test before ++ (if b then row ∷ [] else [])) (sym c.is_of.ensures.value) in (
+    let next : take (c.loop-row.row-index + 1) rows ≡ before ++ row ∷ [] =
+    take_more rows c.loop-row.row-index row c.loop-row-test.true ∙ ap (λ r. before ++ r ∷ []) (sym c.row-item.is) in
+    let kept : filter test (take (c.loop-row.row-index + 1) rows)
+    ≡ filter test before ++ (if c.is_of.result then row ∷ [] else []) =
+    ap (filter test) next ∙ filter-append test before (row ∷ [])
+    ∙ ap (λ b. filter test before ++ (if b then row ∷ [] else [])) (sym c.is_of.ensures.value) in (
       elim c.if-is_of.branch [
         | then-is_of+in_ok-push w ↦
-            ap (λ vec. map (λ row. row.now) vec.items) w.kept-is ∙ ap (map (λ row. row.now)) w.in_ok-push.ensures.items ∙ map-append (λ row. row.now) c.loop-row.kept.items _
-            ∙ ap (λ rs. rs ++ row ∷ []) c.loop-row.invariant.0 ∙ sym (kept ∙ ap (λ b. filter test before ++ (if b then row ∷ [] else [])) w.if-is_of.true)
+            ap (λ vec. map (λ row. row.now) vec.items) w.kept-is ∙ ap (map (λ row. row.now)) w.in_ok-push.ensures.items
+            ∙ map-append (λ row. row.now) c.loop-row.kept.items _
+            ∙ ap (λ rs. rs ++ row ∷ []) c.loop-row.invariant.0
+            ∙ sym (kept ∙ ap (λ b. filter test before ++ (if b then row ∷ [] else [])) w.if-is_of.true)
         | else-is_of w ↦
             ap (λ vec. map (λ row. row.now) vec.items) w.kept-is ∙ c.loop-row.invariant.0
-            ∙ sym (kept ∙ ap (λ b. filter test before ++ (if b then row ∷ [] else [])) w.if-is_of.false ∙ append-nil (filter test before))
+            ∙ sym (kept ∙ ap (λ b. filter test before ++ (if b then row ∷ [] else [])) w.if-is_of.false
+            ∙ append-nil (filter test before))
       ],
-      ap (list_all is_row) next ∙ list_all-append is_row before (row ∷ []) ∙ and_from (list_all is_row before) _ c.loop-row.invariant.1 (and_from (is_row row) true c.is_of.ensures.valid refl),
+      ap (list_all is_row) next ∙ list_all-append is_row before (row ∷ []) ∙ and_from (list_all is_row before) _
+          c.loop-row.invariant.1 (and_from (is_row row) true c.is_of.ensures.valid refl),
     )
 
 pub returns-clause-kept : goal.returns-clause-kept
-returns-clause-kept c = c.loop-row.invariant.0 ∙ ap (filter (is_of c.args.part)) (take_all c.loop-row.row-index c.args.rows.now c.loop-row-test.false)
+returns-clause-kept c =
+    c.loop-row.invariant.0
+    ∙ ap (filter (is_of c.args.part)) (take_all c.loop-row.row-index c.args.rows.now c.loop-row-test.false)
 
 pub returns-clause-valid : goal.returns-clause-valid
-returns-clause-valid c = sym (ap (list_all is_row) (take_all c.loop-row.row-index c.args.rows.now c.loop-row-test.false)) ∙ c.loop-row.invariant.1
+returns-clause-valid c =
+    sym (ap (list_all is_row) (take_all c.loop-row.row-index c.args.rows.now c.loop-row-test.false))
+    ∙ c.loop-row.invariant.1

@@ -15,6 +15,8 @@ loop-line-preserved c =
       search rules,
       subst (λ (p : Part). IsReadTo bytes behind (number + 1) p c.in_ok-listing.listing)
           (sym (c.part_behind-part.ensures ∙ ap (λ r. part_behind (kind_of r) part) read))
-          (line-read bytes c.loop-line.rest.now line behind number part c.loop-line.listing c.in_ok-listing.listing c.loop-line.invariant.1 c.in-Some.ensures.0 c.in-Some.ensures.1
-          (subst (λ (r : List ℕ). TakeAll c.loop-line.listing (entry_of (kind_of r) (number + 1) part r) c.in_ok-listing.listing) read c.in_ok-listing.ensures)),
+          (line-read bytes c.loop-line.rest.now line behind number part c.loop-line.listing c.in_ok-listing.listing
+          c.loop-line.invariant.1 c.in-Some.ensures.0 c.in-Some.ensures.1
+          (subst (λ (r : List ℕ). TakeAll c.loop-line.listing (entry_of (kind_of r) (number + 1) part r)
+          c.in_ok-listing.listing) read c.in_ok-listing.ensures)),
     )

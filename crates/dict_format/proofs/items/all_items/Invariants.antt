@@ -8,7 +8,8 @@ use Rattle.dict_format.proofs.items.all_items.Given as goal
 abbrev pub invariant-loop-items : goal.invariant-loop-items
 invariant-loop-items l = record {
   within : l.at ≤ length l.texts;
-  taken : HasTaken (item_at l.part) (map (λ text. text.now) l.texts) (map item_said l.items.items) (drop l.at (map (λ text. text.now) l.texts));
+  taken : HasTaken (item_at l.part) (map (λ text. text.now) l.texts) (map item_said l.items.items)
+      (drop l.at (map (λ text. text.now) l.texts));
 }
 
 abbrev pub decreases-loop-items : goal.decreases-loop-items

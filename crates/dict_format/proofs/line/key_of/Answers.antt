@@ -16,8 +16,11 @@ returns-in-Err c =
     let good : is_bad_reading reading ≡ false = sym c.is_bad_reading.ensures ∙ c.if-is_bad_reading.false in
     let bytes : c.byte_len.result ≡ byte_len reading = c.byte_len.ensures ∙ ap byte_len same in
     let short : nat_lt (reading_limit part) (byte_len reading) ≡ false =
-    le-ltb (reading_limit part) (byte_len reading) (omega (arith, bytes, c.reading_limit.ensures, c.if-byte_len-reading_limit.false)) in
+    le-ltb (reading_limit part) (byte_len reading)
+    (omega (arith, bytes, c.reading_limit.ensures, c.if-byte_len-reading_limit.false)) in
     let invalid : is_row_key (record { part = part; reading = reading }) ≡ false =
-    subst (λ (r : List ℕ). is_row_key (record { part = part; reading = r }) ≡ false) same (c.in-Err.ensures.invalid.0 refl) in
-    let letter = not-false (lacks_letter part reading) (sym (is_key-from part reading c.requires good short) ∙ invalid) in
+    subst (λ (r : List ℕ). is_row_key (record { part = part; reading = r }) ≡ false) same
+    (c.in-Err.ensures.invalid.0 refl) in
+    let letter =
+    not-false (lacks_letter part reading) (sym (is_key-from part reading c.requires good short) ∙ invalid) in
     rw (good, short, letter) refl

@@ -8,7 +8,8 @@ pub returns : goal.returns
 returns c =
     let part = c.args.part in
     let line = c.args.line.now in
-    let gives = subst (λ (text : List ℕ). Gives (λ row. row) c.read.result (line_reading part text)) c.as_str.ensures.characters c.read.ensures in
+    let gives = subst (λ (text : List ℕ). Gives (λ row. row) c.read.result (line_reading part text))
+    c.as_str.ensures.characters c.read.ensures in
     record {
       ok = answers_ok part line c.read.result gives;
       only = answers_only part line c.read.result gives;

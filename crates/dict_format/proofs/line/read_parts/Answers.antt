@@ -7,5 +7,7 @@ use Rattle.dict_format.proofs.line.read_parts.Goals as goal
 pub some_row-requires : goal.some_row-requires
 some_row-requires c =
     let items = map item_said c.in_ok-items.items.items in
-    row_read c.args.part c.args.reading.now _ _ c.in_ok-key.key items c.requires c.in_ok-key.ensures c.in_ok-texts.ensures
-    (subst (λ texts. fit_items_at c.args.part (map (λ text. text.now) texts) ≡ Ok items) c.deref.ensures.value c.in_ok-items.ensures)
+    row_read c.args.part c.args.reading.now _ _ c.in_ok-key.key items c.requires c.in_ok-key.ensures
+    c.in_ok-texts.ensures
+    (subst (λ texts. fit_items_at c.args.part (map (λ text. text.now) texts) ≡ Ok items) c.deref.ensures.value
+    c.in_ok-items.ensures)

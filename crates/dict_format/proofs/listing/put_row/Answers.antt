@@ -11,11 +11,13 @@ returns-then-branch-clause-keys c =
     on_ok_weaker c.push.result
     (λ pushed knew.
     subst (λ (rows : Sequence Row). KnowsKeys rows c.add.new.self) (sym pushed)
-    (knows-new c.args.rows.now c.args.readings.now c.add.new.self c.key.result.now c.in_ok-add.field-0 knew c.in_ok-add.ensures.is_new c.in_ok-add.ensures.known c.args.row (sym c.key.ensures.value) c.if-branch.true))
+    (knows-new c.args.rows.now c.args.readings.now c.add.new.self c.key.result.now c.in_ok-add.field-0 knew
+    c.in_ok-add.ensures.is_new c.in_ok-add.ensures.known c.args.row (sym c.key.ensures.value) c.if-branch.true))
     c.push.ensures.ok
 
 pub returns-else-branch-clause-keys : goal.returns-else-branch-clause-keys
 returns-else-branch-clause-keys c =
     on_ok_weaker c.push-else-branch.result
-    (λ pushed knew. knows-again c.args.rows.now c.args.readings.now c.add.new.self c.key.result.now c.in_ok-add.field-0 knew c.in_ok-add.ensures.is_new c.in_ok-add.ensures.known c.if-branch.false)
+    (λ pushed knew. knows-again c.args.rows.now c.args.readings.now c.add.new.self c.key.result.now c.in_ok-add.field-0
+    knew c.in_ok-add.ensures.is_new c.in_ok-add.ensures.known c.if-branch.false)
     c.push-else-branch.ensures.ok

@@ -4,7 +4,8 @@ use Rattle.dict_format.specs.Lines.{SpellsRow}
 use Rattle.dict_format.proofs.printing.print_line.Goals as goal
 
 pub returns-clause-canonical : goal.returns-clause-canonical
-returns-clause-canonical c = c.in_ok-push_line.ensures.ok ∙ ap (λ text. text ++ canonical c.args.row.now) c.new-line.ensures
+returns-clause-canonical c =
+    c.in_ok-push_line.ensures.ok ∙ ap (λ text. text ++ canonical c.args.row.now) c.new-line.ensures
 
 -- a good row is spelled by its canonical line, which the line is
 pub returns-clause-read_again : goal.returns-clause-read_again

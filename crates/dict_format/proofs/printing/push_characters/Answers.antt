@@ -14,7 +14,8 @@ loop-c-preserved c =
     let before = flat_map char_in_string c.loop-c.yielded in
     let added = char_in_string c.in-Some.c in
     c.in_ok-push_character.ensures ∙ ap (λ text. text ++ added) c.loop-c.invariant ∙ append_assoc line before added
-    ∙ ap (λ text. line ++ (before ++ text)) (sym (append-nil added)) ∙ ap (λ text. line ++ text) (sym (flat_map-append char_in_string c.loop-c.yielded (c.in-Some.c ∷ [])))
+    ∙ ap (λ text. line ++ (before ++ text)) (sym (append-nil added))
+    ∙ ap (λ text. line ++ text) (sym (flat_map-append char_in_string c.loop-c.yielded (c.in-Some.c ∷ [])))
 
 -- the loop ends where each character was taken
 pub returns : goal.returns
@@ -23,6 +24,7 @@ returns c =
     c.loop-c.invariant
     ∙ ap (λ cs. c.args.line.now ++ flat_map char_in_string cs)
     (Chars-Drains (chars text) c.loop-c.yielded c.into_iter-c-iterator.result
-    (encodes-chars text c.as_str.utf8 ∙ sym (ap chars_rest c.into_iter-c-iterator.ensures.into_iter_gives ∙ c.chars-c-items.ensures.rest))
+    (encodes-chars text c.as_str.utf8
+    ∙ sym (ap chars_rest c.into_iter-c-iterator.ensures.into_iter_gives ∙ c.chars-c-items.ensures.rest))
     (c.next.new.self, (c.loop-c.c-iterator, c.loop-c.yielded_by, c.in-None.ensures.steps))
     ∙ c.as_str.ensures.characters)

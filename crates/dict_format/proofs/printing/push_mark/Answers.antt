@@ -9,6 +9,8 @@ pub returns : goal.returns
 returns c =
     let line = c.args.line.now in
     let hides = c.args.hides.now in
-    three_pieces line (codes "(skk-ignore-dic-word") (flat_map (λ w. 0x20 ∷ quoted w) hides) (codes ")/") c.push_str.new.self c.push_strings.new.line c.push_str-2.new.self
-    (c.in_ok-push_str.ensures.ok ∙ ap (λ text. line ++ text) ignored) c.in_ok-push_strings.ensures (c.in_ok-push_str-2.ensures.ok ∙ ap (λ text. c.push_strings.new.line ++ text) closing)
+    three_pieces line (codes "(skk-ignore-dic-word") (flat_map (λ w. 0x20 ∷ quoted w) hides) (codes ")/")
+    c.push_str.new.self c.push_strings.new.line c.push_str-2.new.self
+    (c.in_ok-push_str.ensures.ok ∙ ap (λ text. line ++ text) ignored) c.in_ok-push_strings.ensures
+    (c.in_ok-push_str-2.ensures.ok ∙ ap (λ text. c.push_strings.new.line ++ text) closing)
     ∙ ap (λ text. line ++ text) (sym (mark_some hides (sym c.is_empty.ensures ∙ c.if-is_empty.false)))

@@ -9,8 +9,11 @@ pub returns : goal.returns
 returns c =
     let word = c.args.word.now in
     let line = c.args.line.now in
-    let quoted_word : (list_any is_special word || begins_form word) ≡ true = sym c.needs_quotes.ensures ∙ c.if-not-needs_quotes.false in
+    let quoted_word : (list_any is_special word || begins_form word) ≡ true =
+    sym c.needs_quotes.ensures ∙ c.if-not-needs_quotes.false in
     let written = codes "(concat " ++ quoted word ++ codes ")" in
-    three_pieces line (codes "(concat ") (quoted word) (codes ")") c.push_str-2.new.self c.push_string.new.line c.push.new.self
-    (c.in_ok-push_str-2.ensures.ok ∙ ap (λ text. line ++ text) concat) c.in_ok-push_string.ensures c.in_ok-push.ensures.ok
+    three_pieces line (codes "(concat ") (quoted word) (codes ")") c.push_str-2.new.self
+    c.push_string.new.line c.push.new.self
+    (c.in_ok-push_str-2.ensures.ok ∙ ap (λ text. line ++ text) concat) c.in_ok-push_string.ensures
+    c.in_ok-push.ensures.ok
     ∙ sym (ap (λ b. line ++ (if b then written else word)) quoted_word)

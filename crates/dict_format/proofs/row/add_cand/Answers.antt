@@ -10,8 +10,10 @@ pub returns-in_ok-insert : goal.returns-in_ok-insert
 returns-in_ok-insert c before so_far =
     let cand = as_cand (c.args.word, c.args.note) in
     c.in_ok-insert.ensures.ok ∙ ap (λ cands. with_new (λ (one : Cand). one.word) cands cand) so_far
-    ∙ sym (once-some (λ (one : Cand). one.word) before cand (sym (empty_string c.args.word) ∙ sym c.is_empty.ensures ∙ c.if-not-is_empty.true))
+    ∙ sym (once-some (λ (one : Cand). one.word) before cand
+    (sym (empty_string c.args.word) ∙ sym c.is_empty.ensures ∙ c.if-not-is_empty.true))
 
 pub returns-else-not-is_empty : goal.returns-else-not-is_empty
 returns-else-not-is_empty c before so_far =
-    so_far ∙ sym (once-none (λ (one : Cand). one.word) before (as_cand (c.args.word, c.args.note)) (sym (empty_string c.args.word) ∙ sym c.is_empty.ensures ∙ c.if-not-is_empty.false))
+    so_far ∙ sym (once-none (λ (one : Cand). one.word) before (as_cand (c.args.word, c.args.note))
+    (sym (empty_string c.args.word) ∙ sym c.is_empty.ensures ∙ c.if-not-is_empty.false))

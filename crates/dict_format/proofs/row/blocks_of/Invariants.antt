@@ -8,6 +8,7 @@ use Rattle.dict_format.proofs.row.blocks_of.Given as goal
 -- the blocks so far and those that are left, each of which is one, are all
 abbrev pub invariant-loop-okuri : goal.invariant-loop-okuri
 invariant-loop-okuri l = record {
-  all : l.blocks ++ made_blocks (into_iter_items l.okuri-iterator) (into_iter_items l.left) ≡ made_blocks l.fn.okuris l.fn.words.items;
+  all : l.blocks ++ made_blocks (into_iter_items l.okuri-iterator) (into_iter_items l.left)
+      ≡ made_blocks l.fn.okuris l.fn.words.items;
   valid : list_all is_block (made_blocks (into_iter_items l.okuri-iterator) (into_iter_items l.left)) ≡ true;
 }

@@ -10,24 +10,33 @@ use Rattle.dict_format.proofs.row.row_of.Goals.{In_ok-hides}
 
 pub into_cands-requires : goal.into_cands-requires
 into_cands-requires c =
-    ap (list_all is_cand) c.in_ok-cands.ensures.cands ∙ (row_parts (row_of_items c.args.key (map item_said c.args.items.items)) c.requires).cands
+    ap (list_all is_cand) c.in_ok-cands.ensures.cands
+    ∙ (row_parts (row_of_items c.args.key (map item_said c.args.items.items)) c.requires).cands
 
 pub blocks_of-requires : goal.blocks_of-requires
 blocks_of-requires c =
     let items = map item_said c.args.items.items in
     let parts = c.in_ok-cands.field-0 in
-    ap (list_all is_block) (joined-made parts.okuris parts.words.items (filter has_word (flat_map block_in items)) c.in_ok-cands.ensures.blocks)
+    ap (list_all is_block) (joined-made parts.okuris parts.words.items (filter has_word (flat_map block_in items))
+    c.in_ok-cands.ensures.blocks)
     ∙ (row_parts (row_of_items c.args.key items) c.requires).blocks
 
 -- the parts are those of the row
 made : (c : In_ok-hides)
-    → (let row : Row = record { key = c.args.key; cands = c.in_ok-cands-2.cands; blocks = c.in_ok-blocks.blocks; hides = c.in_ok-hides.hides; stamp = 0 } in
+    → (let row : Row = record {
+      key = c.args.key;
+      cands = c.in_ok-cands-2.cands;
+      blocks = c.in_ok-blocks.blocks;
+      hides = c.in_ok-hides.hides;
+      stamp = 0;
+    } in
     row ≡ row_of_items c.args.key (map item_said c.args.items.items))
 made c =
     let parts = c.in_ok-cands.field-0 in
     let says = c.in_ok-cands.ensures in
     let cands = c.in_ok-cands-2.ensures.value ∙ says.cands in
-    let blocks = c.in_ok-blocks.ensures ∙ joined-made parts.okuris parts.words.items (filter has_word (flat_map block_in (map item_said c.args.items.items))) says.blocks in
+    let blocks = c.in_ok-blocks.ensures ∙ joined-made parts.okuris parts.words.items
+    (filter has_word (flat_map block_in (map item_said c.args.items.items))) says.blocks in
     let hides = c.in_ok-hides.ensures.value ∙ says.hides in
     rw (cands, blocks, hides) refl
 

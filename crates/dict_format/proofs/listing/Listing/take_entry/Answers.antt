@@ -23,7 +23,8 @@ pub returns-in-Err-Reason : goal.returns-in-Err-Reason
 returns-in-Err-Reason c =
     let entry : FileEntry = record { number = c.args.number; part = c.args.part; text = chars c.args.line.now } in
     let reason = c.in-Err-Reason.reason in
-    let tells = subst (λ (fault : LineFault). TellsReason fault (line_reading entry.part entry.text)) c.in-Err-Reason.field-0-is c.in-Err-Reason.ensures in
+    let tells = subst (λ (fault : LineFault). TellsReason fault (line_reading entry.part entry.text))
+    c.in-Err-Reason.field-0-is c.in-Err-Reason.ensures in
     let first = answers_reason entry.part entry.text (Err (Reason reason)) tells reason refl in
     let next = refused_with c.args.self c.args.number reason in
     IfOk-weaker c.refuse.result (λ after. after ≡ next) (TakeAll c.args.self (entry ∷ []))
