@@ -26,6 +26,5 @@ pub mod RowsBack
 pub mod RowsRead
 pub mod Strings
 pub mod Taking
-pub mod TextFaults
 pub mod WordReading
 pub mod WordsAgain

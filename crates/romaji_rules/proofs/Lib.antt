@@ -10,4 +10,3 @@ pub mod Indexed
 pub mod ReadLines
 pub mod Rows
 pub mod Step
-pub mod TextFaults

@@ -1,5 +1,6 @@
-ghost use Rattle.std.specs.Prelude.{◌≡◌, IfOk, IfErr};
+ghost use Rattle.std.specs.Prelude.{◌≡◌, ◌↔◌, IfOk, IfErr, Err};
 ghost use Rattle.skk_text.specs.TextFiles.{IsTextWithin, IsTextFault};
+ghost use Rattle.skk_text.specs.declared.text_file.TextFault.{TextFault};
 
 use std::str;
 use thiserror::Error;
@@ -15,12 +16,13 @@ pub enum TextFault {
     NotUtf8 { at: usize },
 }
 
-/// The text of a file's bytes, where these are no more than `limit` and UTF-8. Their number is looked at first. Takes no
-/// memory, and time in the bytes.
+/// The text of a file's bytes, where these are no more than `limit` and UTF-8. Their number is looked at first. Takes
+/// no memory, and time in the bytes.
 pub fn text_within(bytes: &[u8], limit: usize) -> Result<&str, TextFault>
     ensures text { IfOk result (λ text. text.now ≡ bytes.now) }
     ensures within { IfOk result (λ _. IsTextWithin limit bytes.now) }
     ensures fault { IfErr result (IsTextFault limit bytes.now) }
+    ensures exact { (fault : TextFault) → (result ≡ Err fault) ↔ IsTextFault limit bytes.now fault }
 {
     if bytes.len() > limit {
         return Err(TextFault::TooLong { bytes: bytes.len() });

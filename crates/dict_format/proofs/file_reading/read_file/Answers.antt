@@ -1,9 +1,6 @@
-use Rattle.std.proofs.Common.{◌≡◌, ap, subst, Err}
-use Rattle.skk_text.specs.TextFiles.{IsTextFault}
-use Rattle.dict_format.specs.FileLines.{file_limit}
+use Rattle.std.proofs.Common.{◌≡◌, ap, Err}
 use Rattle.dict_format.specs.declared.file.FileFault.TheVariants.{NoText}
 use Rattle.dict_format.proofs.FileEntries.{only-listed, memory-alone}
-use Rattle.dict_format.proofs.TextFaults.{no_text_fault, one_text_fault}
 use Rattle.dict_format.proofs.file_reading.read_file.Goals as goal
 
 pub returns-in-Ok-clause-only : goal.returns-in-Ok-clause-only
@@ -12,16 +9,15 @@ returns-in-Ok-clause-only c =
     c.read_valid.ensures.ok c.read_valid.ensures.memory
 
 pub returns-in-Ok-clause-no_text : goal.returns-in-Ok-clause-no_text
-returns-in-Ok-clause-no_text c fault = (
-  λ told. absurd (memory-alone c.read_valid.result fault c.read_valid.ensures.memory told),
-  λ is. absurd (no_text_fault file_limit c.args.bytes.now fault c.in-Ok.ensures.within is),
-)
+returns-in-Ok-clause-no_text c fault =
+    let no_fault = c.in-Ok.ensures.exact fault in (
+      λ told. absurd (memory-alone c.read_valid.result fault c.read_valid.ensures.memory told),
+      λ is. let never = no_fault.1 is in cc,
+    )
 
 pub returns-in-Err-clause-no_text : goal.returns-in-Err-clause-no_text
 returns-in-Err-clause-no_text c fault =
-    let bytes = c.args.bytes.now in
-    let given = c.in-Err.fault in
-    let is_given = c.in-Err.ensures.fault in (
-      λ told. let same : given ≡ fault = cc in subst (IsTextFault file_limit bytes) same is_given,
-      λ is. ap (λ told. Err (NoText told)) (one_text_fault file_limit bytes given fault is_given is),
+    let exact = c.in-Err.ensures.exact fault in (
+      λ told. exact.0 (let same : c.in-Err.fault ≡ fault = cc in ap Err same),
+      λ is. let same : c.in-Err.fault ≡ fault = (let told = exact.1 is in cc) in ap (λ given. Err (NoText given)) same,
     )

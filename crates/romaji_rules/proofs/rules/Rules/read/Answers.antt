@@ -1,22 +1,18 @@
-use Rattle.std.proofs.Common.{◌≡◌, ap, subst, Err}
-use Rattle.skk_text.specs.TextFiles.{IsTextFault}
-use Rattle.romaji_rules.specs.RuleFiles.{file_limit}
+use Rattle.std.proofs.Common.{◌≡◌, ap, Err}
 use Rattle.romaji_rules.specs.declared.rule_fault.RuleFault.TheVariants.{NoText}
 use Rattle.romaji_rules.proofs.FileRules.{answered_for}
-use Rattle.romaji_rules.proofs.TextFaults.{no_text_fault, one_text_fault}
 use Rattle.romaji_rules.proofs.rules.Rules.read.Goals as goal
 
 pub returns-in-Ok-clause-no_text : goal.returns-in-Ok-clause-no_text
-returns-in-Ok-clause-no_text c fault = (
-  λ told. absurd (answered_for c.of_text.result c.in-Ok.text.now (NoText fault) c.of_text.ensures told),
-  λ is. absurd (no_text_fault file_limit c.args.bytes.now fault c.in-Ok.ensures.within is),
-)
+returns-in-Ok-clause-no_text c fault =
+    let no_fault = c.in-Ok.ensures.exact fault in (
+      λ told. absurd (answered_for c.of_text.result c.in-Ok.text.now (NoText fault) c.of_text.ensures told),
+      λ is. let never = no_fault.1 is in cc,
+    )
 
 pub returns-in-Err-clause-no_text : goal.returns-in-Err-clause-no_text
 returns-in-Err-clause-no_text c fault =
-    let bytes = c.args.bytes.now in
-    let given = c.in-Err.fault in
-    let is_given = c.in-Err.ensures.fault in (
-      λ told. let same : given ≡ fault = cc in subst (IsTextFault file_limit bytes) same is_given,
-      λ is. ap (λ told. Err (NoText told)) (one_text_fault file_limit bytes given fault is_given is),
+    let exact = c.in-Err.ensures.exact fault in (
+      λ told. exact.0 (let same : c.in-Err.fault ≡ fault = cc in ap Err same),
+      λ is. let same : c.in-Err.fault ≡ fault = (let told = exact.1 is in cc) in ap (λ given. Err (NoText given)) same,
     )
