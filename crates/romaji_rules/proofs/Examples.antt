@@ -16,35 +16,45 @@ rules =
     ∷ []
 
 -- the characters beside those of an input
-input_chars : map is_input_char (0x20 ∷ 0x21 ∷ 0x40 ∷ 0x41 ∷ 0x5A ∷ 0x5B ∷ 0x7E ∷ 0x7F ∷ []) ≡ false ∷ true ∷ true ∷ false ∷ false ∷ true ∷ true ∷ false ∷ []
+input_chars : map is_input_char (0x20 ∷ 0x21 ∷ 0x40 ∷ 0x41 ∷ 0x5A ∷ 0x5B ∷ 0x7E ∷ 0x7F ∷ [])
+    ≡ false ∷ true ∷ true ∷ false ∷ false ∷ true ∷ true ∷ false ∷ []
 input_chars = refl
 
 -- inputs of 0, 1, 8 and 9 characters, and with one that may not stand there
-input_texts : map is_input_text ([] ∷ codes "-" ∷ codes "abcdefgh" ∷ codes "abcdefghi" ∷ codes "A" ∷ codes "a b" ∷ []) ≡ false ∷ true ∷ true ∷ false ∷ false ∷ false ∷ []
+input_texts : map is_input_text ([] ∷ codes "-" ∷ codes "abcdefgh" ∷ codes "abcdefghi" ∷ codes "A" ∷ codes "a b" ∷ [])
+    ≡ false ∷ true ∷ true ∷ false ∷ false ∷ false ∷ []
 input_texts = refl
 
-next_texts : map (is_next_text rules) ([] ∷ codes "n" ∷ codes "k" ∷ codes "na" ∷ codes "x" ∷ []) ≡ true ∷ true ∷ true ∷ false ∷ false ∷ []
+next_texts : map (is_next_text rules) ([] ∷ codes "n" ∷ codes "k" ∷ codes "na" ∷ codes "x" ∷ [])
+    ≡ true ∷ true ∷ true ∷ false ∷ false ∷ []
 next_texts = refl
 
 -- two rules with one input, first and last or last of all
-differing : map inputs_differ ([] ∷ rules ∷ (rules ++ rule (codes "n") (codes "な") ∷ []) ∷ (rules ++ doubled 0x6B ∷ []) ∷ []) ≡ true ∷ true ∷ false ∷ false ∷ []
+differing : map inputs_differ
+    ([] ∷ rules ∷ (rules ++ rule (codes "n") (codes "な") ∷ []) ∷ (rules ++ doubled 0x6B ∷ []) ∷ [])
+    ≡ true ∷ true ∷ false ∷ false ∷ []
 differing = refl
 
 -- a rule set, and what is none by its input, its next text or two rules alone
 rule_sets : map is_rule_set
-    ([] ∷ rules ∷ (rule (codes "A") (codes "あ") ∷ rules) ∷ (record { input = codes "q"; next = codes "x"; out = nothing } ∷ rules) ∷ (rule (codes "n") (codes "ん") ∷ rules) ∷ [])
+    ([] ∷ rules ∷ (rule (codes "A") (codes "あ") ∷ rules)
+    ∷ (record { input = codes "q"; next = codes "x"; out = nothing } ∷ rules)
+    ∷ (rule (codes "n") (codes "ん") ∷ rules) ∷ [])
     ≡ true ∷ true ∷ false ∷ false ∷ false ∷ []
 rule_sets = refl
 
 -- texts that begin an input, that are one, and that are neither
-beginnings : map (begins_input rules) ([] ∷ codes "n" ∷ codes "k" ∷ codes "na" ∷ codes "x" ∷ codes "nak" ∷ []) ≡ true ∷ true ∷ true ∷ false ∷ false ∷ false ∷ []
+beginnings : map (begins_input rules) ([] ∷ codes "n" ∷ codes "k" ∷ codes "na" ∷ codes "x" ∷ codes "nak" ∷ [])
+    ≡ true ∷ true ∷ true ∷ false ∷ false ∷ false ∷ []
 beginnings = refl
 
-going_on : map (goes_on rules) (codes "n" ∷ codes "k" ∷ codes "na" ∷ codes "kk" ∷ codes "x" ∷ codes "nk" ∷ []) ≡ true ∷ true ∷ true ∷ true ∷ false ∷ false ∷ []
+going_on : map (goes_on rules) (codes "n" ∷ codes "k" ∷ codes "na" ∷ codes "kk" ∷ codes "x" ∷ codes "nk" ∷ [])
+    ≡ true ∷ true ∷ true ∷ true ∷ false ∷ false ∷ []
 going_on = refl
 
 -- what comes out of what is pending
-flushes : map (flushed rules) ([] ∷ codes "n" ∷ codes "k" ∷ []) ≡ nothing ∷ record { hira = codes "ん"; kata = codes "ン" } ∷ nothing ∷ []
+flushes : map (flushed rules) ([] ∷ codes "n" ∷ codes "k" ∷ [])
+    ≡ nothing ∷ record { hira = codes "ん"; kata = codes "ン" } ∷ nothing ∷ []
 flushes = refl
 
 -- a step as what is pending, and the two kana
@@ -62,7 +72,8 @@ after_n = refl
 
 -- characters after k: an input, the doubled letter, and ones before which k is lost
 after_k : map (λ c. shown (fed rules (codes "k") c)) (codes "aknq")
-    ≡ ([], codes "か", codes "カ") ∷ (codes "k", codes "っ", codes "ッ") ∷ (codes "n", [], []) ∷ ([], codes "q", codes "q") ∷ []
+    ≡ ([], codes "か", codes "カ") ∷ (codes "k", codes "っ", codes "ッ") ∷ (codes "n", [], [])
+    ∷ ([], codes "q", codes "q") ∷ []
 after_k = refl
 
 -- of two rules with one input the first counts
@@ -70,12 +81,15 @@ first_rule : shown (fed (rule (codes "na") (codes "に") ∷ rules) (codes "n") 
 first_rule = refl
 
 -- the rules of a line of each kind
-row_k : row "k" "か" "き" "く" "け" "こ" ≡ rule (codes "ka") (codes "か") ∷ rule (codes "ki") (codes "き") ∷ rule (codes "ku") (codes "く") ∷ rule (codes "ke") (codes "け") ∷ rule (codes "ko") (codes "こ") ∷ []
+row_k : row "k" "か" "き" "く" "け" "こ" ≡ rule (codes "ka") (codes "か") ∷ rule (codes "ki") (codes "き")
+    ∷ rule (codes "ku") (codes "く") ∷ rule (codes "ke") (codes "け") ∷ rule (codes "ko") (codes "こ") ∷ []
 row_k = refl
 
-row_ky : contracted "ky" "き" ≡ rule (codes "kya") (codes "きゃ") ∷ rule (codes "kyi") (codes "きぃ") ∷ rule (codes "kyu") (codes "きゅ") ∷ rule (codes "kye") (codes "きぇ") ∷ rule (codes "kyo") (codes "きょ") ∷ []
+row_ky : contracted "ky" "き" ≡ rule (codes "kya") (codes "きゃ") ∷ rule (codes "kyi") (codes "きぃ")
+    ∷ rule (codes "kyu") (codes "きゅ") ∷ rule (codes "kye") (codes "きぇ") ∷ rule (codes "kyo") (codes "きょ") ∷ []
 row_ky = refl
 
-single_n : single "n" "ん" ++ doubled 0x6B ∷ [] ≡ record { input = codes "n"; next = []; out = record { hira = codes "ん"; kata = codes "ン" } }
+single_n : single "n" "ん" ++ doubled 0x6B ∷ []
+    ≡ record { input = codes "n"; next = []; out = record { hira = codes "ん"; kata = codes "ン" } }
     ∷ record { input = codes "kk"; next = codes "k"; out = record { hira = codes "っ"; kata = codes "ッ" } } ∷ []
 single_n = refl

@@ -1,5 +1,7 @@
 -- What a rule set's tests tell of the texts that may be pending.
-use Rattle.std.proofs.Common.{◌≡◌, ℕ, ◌<◌, ◌≤◌, Bool, true, not, ◌&&◌, nat_le, Some, List, [], ◌∷◌, ◌++◌, refl, sym, ◌∙◌, ap, subst, inl, inr, ◌⊎◌, Contains, length, IsAscii, arith, zero, suc, length-append, lit<, leb-true}
+use Rattle.std.proofs.Common.{◌≡◌, ℕ, ◌<◌, ◌≤◌, Bool, true, not, ◌&&◌, nat_le, Some, List, [], ◌∷◌, ◌++◌, refl, sym}
+use Rattle.std.proofs.Common.{◌∙◌, ap, subst, inl, inr, ◌⊎◌, Contains, length, IsAscii, arith, zero, suc, length-append}
+use Rattle.std.proofs.Common.{lit<, leb-true}
 use Rattle.std.specs.List.{list_all}
 use Rattle.std.proofs.lemmas.List.Folds.{list_all-append}
 use Rattle.std.proofs.lemmas.Bool.{and_parts}
@@ -15,25 +17,31 @@ use Rattle.romaji_rules.proofs.Step.{Fed-computed}
 -- characters that may be typed are ASCII
 below_128 : (c : ℕ) → is_input_char c ≡ true → c < 128
 below_128 c e =
-    let in_range : (nat_le 0x21 c && nat_le c 0x7E) ≡ true = (and_parts (nat_le 0x21 c && nat_le c 0x7E) (not (nat_le 0x41 c && nat_le c 0x5A)) e).0 in
+    let in_range : (nat_le 0x21 c && nat_le c 0x7E) ≡ true =
+    (and_parts (nat_le 0x21 c && nat_le c 0x7E) (not (nat_le 0x41 c && nat_le c 0x5A)) e).0 in
     let below : c ≤ 0x7E = leb-true c 0x7E (and_parts (nat_le 0x21 c) (nat_le c 0x7E) in_range).1 in
     omega (arith, below)
 
 chars-IsAscii : (text : List ℕ) → list_all is_input_char text ≡ true → IsAscii text
 chars-IsAscii [] e i = lit< tt
 chars-IsAscii (c ∷ text) e zero = below_128 c (and_parts (is_input_char c) (list_all is_input_char text) e).0
-chars-IsAscii (c ∷ text) e (suc i) = chars-IsAscii text (and_parts (is_input_char c) (list_all is_input_char text) e).1 i
+chars-IsAscii (c ∷ text) e (suc i) =
+    chars-IsAscii text (and_parts (is_input_char c) (list_all is_input_char text) e).1 i
 
 -- an input, and what begins one
 prefix-IsAscii : (prefix whole : List ℕ) → is_input_text whole ≡ true → IsProperPrefix prefix whole → IsAscii prefix
 prefix-IsAscii prefix whole e h =
-    let all : list_all is_input_char whole ≡ true = (and_parts (nat_le 1 (length whole) && nat_le (length whole) 8) (list_all is_input_char whole) e).1 in
-    chars-IsAscii prefix (and_parts (list_all is_input_char prefix) (list_all is_input_char (h.0 ∷ h.1)) (sym (list_all-append is_input_char prefix (h.0 ∷ h.1)) ∙ ap (list_all is_input_char) (sym h.2) ∙ all)).0
+    let all : list_all is_input_char whole ≡ true =
+    (and_parts (nat_le 1 (length whole) && nat_le (length whole) 8) (list_all is_input_char whole) e).1 in
+    chars-IsAscii prefix (and_parts (list_all is_input_char prefix) (list_all is_input_char (h.0 ∷ h.1))
+    (sym (list_all-append is_input_char prefix (h.0 ∷ h.1)) ∙ ap (list_all is_input_char) (sym h.2) ∙ all)).0
 
 prefix-short : (prefix whole : List ℕ) → is_input_text whole ≡ true → IsProperPrefix prefix whole → length prefix < 8
 prefix-short prefix whole e h =
-    let sizes : (nat_le 1 (length whole) && nat_le (length whole) 8) ≡ true = (and_parts (nat_le 1 (length whole) && nat_le (length whole) 8) (list_all is_input_char whole) e).0 in
-    let size : nat_le (length whole) 8 ≡ true = (and_parts (nat_le 1 (length whole)) (nat_le (length whole) 8) sizes).1 in
+    let sizes : (nat_le 1 (length whole) && nat_le (length whole) 8) ≡ true =
+    (and_parts (nat_le 1 (length whole) && nat_le (length whole) 8) (list_all is_input_char whole) e).0 in
+    let size : nat_le (length whole) 8 ≡ true =
+    (and_parts (nat_le 1 (length whole)) (nat_le (length whole) 8) sizes).1 in
     let bound : length whole ≤ 8 = leb-true (length whole) 8 size in
     omega (arith, bound, ap length h.2, length-append prefix (h.0 ∷ h.1))
 
@@ -45,14 +53,17 @@ module _ (rules : List Rule) (fits : is_rule_set rules ≡ true) where
 
   begins-IsAscii : (text : List ℕ) → BeginsInput rules text → IsAscii text
   begins-IsAscii text h =
-      prefix-IsAscii text h.0.input (and_parts (is_input_text h.0.input) (is_next_text rules h.0.next) (rule_fits h.0 h.1)).0 h.2
+      prefix-IsAscii text h.0.input
+      (and_parts (is_input_text h.0.input) (is_next_text rules h.0.next) (rule_fits h.0 h.1)).0 h.2
 
   begins-short : (text : List ℕ) → BeginsInput rules text → length text < 8
   begins-short text h =
-      prefix-short text h.0.input (and_parts (is_input_text h.0.input) (is_next_text rules h.0.next) (rule_fits h.0 h.1)).0 h.2
+      prefix-short text h.0.input
+      (and_parts (is_input_text h.0.input) (is_next_text rules h.0.next) (rule_fits h.0 h.1)).0 h.2
 
   -- a text that begins an input is ASCII, and short enough to be pending
-  pub begins-fits : (text other : List ℕ) → begins_input rules text ≡ true → other ≡ text → IsAscii other × (length other ≤ 8)
+  pub begins-fits : (text other : List ℕ) → begins_input rules text ≡ true → other ≡ text
+      → IsAscii other × (length other ≤ 8)
   begins-fits text other e same =
       let begin : BeginsInput rules other = (begins_input-Decides rules other).0 (ap (begins_input rules) same ∙ e) in
       let short : length other < 8 = begins-short other begin in
@@ -60,23 +71,28 @@ module _ (rules : List Rule) (fits : is_rule_set rules ≡ true) where
 
   -- a rule's next text is empty or begins an input
   pub next-waits : (rule : Rule) → Contains rules rule → (rule.next ≡ []) ⊎ BeginsInput rules rule.next
-  next-waits rule h = by rule.next (and_parts (is_input_text rule.input) (is_next_text rules rule.next) (rule_fits rule h)).1
+  next-waits rule h =
+      by rule.next (and_parts (is_input_text rule.input) (is_next_text rules rule.next) (rule_fits rule h)).1
     where
       by : (next : List ℕ) → is_next_text rules next ≡ true → (next ≡ []) ⊎ BeginsInput rules next
       by [] e = inl refl
       by (c ∷ next) e = inr ((begins_input-Decides rules (c ∷ next)).0 e)
 
   -- so is that of the rule that is found, and it is ASCII, and short enough to be pending
-  pub found-waits : (text next : List ℕ) (rule : Rule) → rule_of rules text ≡ Some rule → next ≡ rule.next → (next ≡ []) ⊎ BeginsInput rules next
+  pub found-waits : (text next : List ℕ) (rule : Rule) → rule_of rules text ≡ Some rule → next ≡ rule.next
+      → (next ≡ []) ⊎ BeginsInput rules next
   found-waits text next rule e same =
-      subst (λ (n : List ℕ). (n ≡ []) ⊎ BeginsInput rules n) (sym same) (next-waits rule (rule_of-Some rules text rule e).0)
+      subst (λ (n : List ℕ). (n ≡ []) ⊎ BeginsInput rules n) (sym same)
+      (next-waits rule (rule_of-Some rules text rule e).0)
 
-  pub found-fits : (text next : List ℕ) (rule : Rule) → rule_of rules text ≡ Some rule → next ≡ rule.next → IsAscii next × (length next ≤ 8)
+  pub found-fits : (text next : List ℕ) (rule : Rule) → rule_of rules text ≡ Some rule → next ≡ rule.next
+      → IsAscii next × (length next ≤ 8)
   found-fits text next rule e same = by (found-waits text next rule e same)
     where
       by : (next ≡ []) ⊎ BeginsInput rules next → IsAscii next × (length next ≤ 8)
       by (inl none) = (subst IsAscii (sym none) (chars-IsAscii [] refl), omega (arith, ap length none))
-      by (inr begin) = let short : length next < 8 = begins-short next begin in (begins-IsAscii next begin, omega (arith, short))
+      by (inr begin) =
+          let short : length next < 8 = begins-short next begin in (begins-IsAscii next begin, omega (arith, short))
 
   rule-waits : (text next : List ℕ) (out : Out) → IsRule rules text next out → (next ≡ []) ⊎ BeginsInput rules next
   rule-waits text next out h = subst (λ (n : List ℕ). (n ≡ []) ⊎ BeginsInput rules n) h.3 (next-waits h.0 h.1)
@@ -86,15 +102,18 @@ module _ (rules : List Rule) (fits : is_rule_set rules ≡ true) where
   alone-waits c next out (inr (inl h)) = rule-waits (c ∷ []) next out h.1
   alone-waits c next out (inr (inr h)) = inl h.2
 
-  after-waits : (pending : List ℕ) (c : ℕ) (next : List ℕ) (out : Out) → FedAfter rules pending c next out → (next ≡ []) ⊎ BeginsInput rules next
+  after-waits : (pending : List ℕ) (c : ℕ) (next : List ℕ) (out : Out) → FedAfter rules pending c next out
+      → (next ≡ []) ⊎ BeginsInput rules next
   after-waits pending c next out (inl h) = inr (subst (BeginsInput rules) (sym h.1) h.0)
   after-waits pending c next out (inr (inl h)) = rule-waits (pending ++ c ∷ []) next out h.1
   after-waits pending c next out (inr (inr h)) = alone-waits c next h.2.1 h.2.3
 
   -- what is pending after a step is nothing, or begins an input
-  pub Fed-waits : (pending : List ℕ) (c : ℕ) (next : List ℕ) (out : Out) → Fed rules pending c next out → (next ≡ []) ⊎ BeginsInput rules next
+  pub Fed-waits : (pending : List ℕ) (c : ℕ) (next : List ℕ) (out : Out) → Fed rules pending c next out
+      → (next ≡ []) ⊎ BeginsInput rules next
   Fed-waits [] c next out h = alone-waits c next out h
   Fed-waits (b ∷ pending) c next out h = after-waits (b ∷ pending) c next out h
 
-  pub fed-waits : (pending : List ℕ) (c : ℕ) (next : List ℕ) (out : Out) → fed rules pending c ≡ record { pending = next; out = out } → (next ≡ []) ⊎ BeginsInput rules next
+  pub fed-waits : (pending : List ℕ) (c : ℕ) (next : List ℕ) (out : Out)
+      → fed rules pending c ≡ record { pending = next; out = out } → (next ≡ []) ⊎ BeginsInput rules next
   fed-waits pending c next out e = Fed-waits pending c next out (Fed-computed rules pending c next out e)

@@ -1,5 +1,6 @@
 -- The first element that a test finds, and what a test says of each element.
-use Rattle.std.proofs.Common.{◌≡◌, ℕ, ◌<◌, Bool, true, false, cond, ◌||◌, None, Some, List, [], ◌∷◌, refl, sym, ◌∙◌, ap, subst, inl, inr, ◌⊎◌, length, arith, find, zero, suc, slice_index_or}
+use Rattle.std.proofs.Common.{◌≡◌, ℕ, ◌<◌, Bool, true, false, cond, ◌||◌, None, Some, List, [], ◌∷◌, refl, sym, ◌∙◌, ap}
+use Rattle.std.proofs.Common.{subst, inl, inr, ◌⊎◌, length, arith, find, zero, suc, slice_index_or}
 use Rattle.std.specs.List.{list_any, list_all, Contains}
 use Rattle.std.proofs.lemmas.List.Elements.{Contains-append_right, Contains-get_or}
 use Rattle.std.proofs.lemmas.List.Folds.{list_any_at, list_all_at}
@@ -37,8 +38,10 @@ module _ {X : Type 0} (p : X → Bool) where
   find-Some [] x e = cc
   find-Some (y ∷ ys) x e = by (p y) refl e (find-Some ys x)
     where
-      by : (b : Bool) → p y ≡ b → cond b (Some y) (find p ys) ≡ Some x → (find p ys ≡ Some x → Contains ys x × (p x ≡ true)) → Contains (y ∷ ys) x × (p x ≡ true)
-      by true t found rest = let same : y ≡ x = cc in (subst (Contains (y ∷ ys)) same (Contains-head y ys), ap p (sym same) ∙ t)
+      by : (b : Bool) → p y ≡ b → cond b (Some y) (find p ys) ≡ Some x
+          → (find p ys ≡ Some x → Contains ys x × (p x ≡ true)) → Contains (y ∷ ys) x × (p x ≡ true)
+      by true t found rest =
+          let same : y ≡ x = cc in (subst (Contains (y ∷ ys)) same (Contains-head y ys), ap p (sym same) ∙ t)
       by false f found rest = let inside = rest found in (Contains-tail y ys x inside.0, inside.1)
 
   -- where nothing is found, no element passes
@@ -46,6 +49,7 @@ module _ {X : Type 0} (p : X → Bool) where
   find-None [] e = refl
   find-None (y ∷ ys) e = by (p y) e (find-None ys)
     where
-      by : (b : Bool) → cond b (Some y) (find p ys) ≡ None → (find p ys ≡ None → list_any p ys ≡ false) → (b || list_any p ys) ≡ false
+      by : (b : Bool) → cond b (Some y) (find p ys) ≡ None → (find p ys ≡ None → list_any p ys ≡ false)
+          → (b || list_any p ys) ≡ false
       by true found rest = cc
       by false found rest = rest found

@@ -15,7 +15,8 @@ module _ (rules : List Rule) where
 
   -- the text is the input of a rule with this next text and this output
   abbrev pub IsRule : List ℕ → List ℕ → Out → Type 0
-  IsRule text next out = (rule : Rule) × Contains rules rule × (rule.input ≡ text) × (rule.next ≡ next) × (rule.out ≡ out)
+  IsRule text next out =
+      (rule : Rule) × Contains rules rule × (rule.input ≡ text) × (rule.next ≡ next) × (rule.out ≡ out)
 
   -- the text is the input of some rule
   abbrev pub IsInput : List ℕ → Type 0
@@ -29,7 +30,8 @@ module _ (rules : List Rule) where
   abbrev pub Flushed : List ℕ → Out → Type 0
   Flushed pending out = ((next : List ℕ) × IsRule pending next out) ⊎ (¬ IsInput pending × (out ≡ nothing))
 
-  -- a character with nothing pending leaves this pending and this output: it begins an input, is one, or comes out as itself
+  -- a character with nothing pending leaves this pending and this output: it begins an input, is one,
+  -- or comes out as itself
   abbrev pub FedAlone : ℕ → List ℕ → Out → Type 0
   FedAlone c next out =
       (BeginsInput (c ∷ []) × (next ≡ c ∷ []) × (out ≡ nothing))
@@ -43,7 +45,8 @@ module _ (rules : List Rule) where
       let text = pending ++ c ∷ [] in
       (BeginsInput text × (next ≡ text) × (out ≡ nothing))
       ⊎ ((¬ BeginsInput text × IsRule text next out)
-      ⊎ (¬ BeginsInput text × ¬ IsInput text × ((first : Out) × (second : Out) × Flushed pending first × FedAlone c next second × (out ≡ appended first second))))
+      ⊎ (¬ BeginsInput text × ¬ IsInput text × ((first : Out) × (second : Out) × Flushed pending first
+      × FedAlone c next second × (out ≡ appended first second))))
 
   -- a character leaves this pending and this output, whether something is pending before it or nothing
   abbrev pub Fed : List ℕ → ℕ → List ℕ → Out → Type 0

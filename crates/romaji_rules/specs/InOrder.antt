@@ -24,4 +24,5 @@ pub record IsIndexed (rules : List Rule) (places : List ℕ) : Type 0 where
 -- the rules at the places before this one pass the test, and those from it on fail it
 abbrev pub IsParted : (Rule → Bool) → List Rule → List ℕ → ℕ → Type 0
 IsParted test rules places index =
-    IsPartitionPoint (λ place. passes test (slice_get rules place) ≡ true) (λ place. passes test (slice_get rules place) ≡ false) places index
+    IsPartitionPoint (λ place. passes test (slice_get rules place) ≡ true)
+    (λ place. passes test (slice_get rules place) ≡ false) places index

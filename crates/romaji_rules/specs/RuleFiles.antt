@@ -88,8 +88,8 @@ abbrev pub with_before : {X : Type 0} → List X → List X → List (List X × 
 with_before before [] = []
 with_before before (x ∷ xs) = (before, x) ∷ with_before (before ++ x ∷ []) xs
 
--- the fault of a line of this number behind these rules, by the rule that it spells: it is a bad line where it spells none
--- or as many rules stand before it as a file may have, and else it comes twice where one of them has its input
+-- the fault of a line of this number behind these rules, by the rule that it spells: it is a bad line where it spells
+-- none or as many rules stand before it as a file may have, and else it comes twice where one of them has its input
 abbrev pub fault_behind : List Rule → ℕ → Option Rule → Option RuleFault
 fault_behind before number None = Some (BadLine number)
 fault_behind before number (Some rule) =
@@ -99,7 +99,8 @@ fault_behind before number (Some rule) =
 
 -- the first fault that an entry has by itself, behind the rules of those before it
 abbrev pub first_own_fault : List (ℕ × List ℕ) → Option RuleFault
-first_own_fault entries = first_given (λ p. fault_behind (rules_of p.0) p.1.0 (rule_of_line p.1.1)) (with_before [] entries)
+first_own_fault entries =
+    first_given (λ p. fault_behind (rules_of p.0) p.1.0 (rule_of_line p.1.1)) (with_before [] entries)
 
 -- the next text of a rule is bad among all rules: it is not empty, and begins no input or stands behind an input that
 -- begins another
@@ -109,7 +110,9 @@ has_bad_next rules rule =
 
 -- the fault of the first rule whose next text is bad among all
 abbrev pub first_next_fault : List (ℕ × Rule) → Option RuleFault
-first_next_fault all = option_map (λ numbered. BadNext numbered.0) (find (λ numbered. has_bad_next (map (λ other. other.1) all) numbered.1) all)
+first_next_fault all =
+    option_map (λ numbered. BadNext numbered.0)
+    (find (λ numbered. has_bad_next (map (λ other. other.1) all) numbered.1) all)
 
 -- a fault, where there is one, and else another answer
 abbrev pub refused_or : {X : Type 0} → Option RuleFault → Result X RuleFault → Result X RuleFault
@@ -127,9 +130,10 @@ is_of_line (Twice line) = true
 is_of_line (BadNext line) = true
 is_of_line fault = false
 
--- what a file comes to that is UTF-8 and not too long: the first fault that a line has by itself, or else the first among
--- all rules, or else the rules of its lines
+-- what a file comes to that is UTF-8 and not too long: the first fault that a line has by itself, or else the first
+-- among all rules, or else the rules of its lines
 abbrev pub rules_in : List ℕ → Result (List Rule) RuleFault
 rules_in bytes =
     let entries = entries_of bytes in
-    refused_or (first_own_fault entries) (refused_or (first_next_fault (numbered_rules entries)) (Ok (rules_of entries)))
+    refused_or (first_own_fault entries)
+    (refused_or (first_next_fault (numbered_rules entries)) (Ok (rules_of entries)))

@@ -52,7 +52,8 @@ vowel_rows =
 -- the contracted row of what stands before the vowels: a kana, followed by the small ゃ, ぃ, ゅ, ぇ and ょ
 abbrev pub contracted : String → String → List Rule
 contracted before kana =
-    row_rules (codes before) (codes kana) (codes "aiueo") (codes "ゃ" ∷ codes "ぃ" ∷ codes "ゅ" ∷ codes "ぇ" ∷ codes "ょ" ∷ [])
+    row_rules (codes before) (codes kana) (codes "aiueo")
+    (codes "ゃ" ∷ codes "ぃ" ∷ codes "ゅ" ∷ codes "ぇ" ∷ codes "ょ" ∷ [])
 
 -- the rows of the table that are contracted
 abbrev pub contracted_rows : List Rule

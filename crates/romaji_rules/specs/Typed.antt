@@ -1,5 +1,6 @@
 -- What a rule set makes of the next character, as functions that compute over the rules in their order.
-use Rattle.std.specs.Prelude.{ℕ, Bool, false, ◌&&◌, ◌||◌, if◌then◌else◌, nat_eq, nat_lt, Option, None, Some, List, [], ◌∷◌, ◌++◌, length, is_some, find}
+use Rattle.std.specs.Prelude.{ℕ, Bool, false, ◌&&◌, ◌||◌, if◌then◌else◌, nat_eq, nat_lt, Option, None, Some, List, []}
+use Rattle.std.specs.Prelude.{◌∷◌, ◌++◌, length, is_some, find}
 use Rattle.std.specs.List.{list_any, starts_with}
 use Rattle.std.specs.Str.{bytes_eq}
 use Rattle.romaji_rules.specs.declared.out.Out.{Out}
@@ -12,7 +13,8 @@ rule_of rules text = find (λ rule. bytes_eq rule.input text) rules
 
 -- whether some input begins with the text and goes on
 abbrev pub begins_input : List Rule → List ℕ → Bool
-begins_input rules text = list_any (λ rule. nat_lt (length text) (length rule.input) && starts_with nat_eq rule.input text) rules
+begins_input rules text =
+    list_any (λ rule. nat_lt (length text) (length rule.input) && starts_with nat_eq rule.input text) rules
 
 -- whether the text is an input or begins one
 abbrev pub goes_on : List Rule → List ℕ → Bool

@@ -3,7 +3,8 @@ ghost use Rattle.std.specs.Option.{option_map};
 ghost use Rattle.skk_text.specs.Results.{AnswersUnless};
 ghost use Rattle.romaji_rules.specs.declared.rule.Rule.{Rule};
 ghost use Rattle.romaji_rules.specs.Fitting.{inputs_differ, is_rule_set};
-ghost use Rattle.romaji_rules.specs.RuleFiles.{entries_of, says_rule, rule_of_line, numbered_rules, fault_behind, first_own_fault, first_next_fault, rules_in};
+ghost use Rattle.romaji_rules.specs.RuleFiles.{entries_of, says_rule, rule_of_line, numbered_rules, fault_behind};
+ghost use Rattle.romaji_rules.specs.RuleFiles.{first_own_fault, first_next_fault, rules_in};
 ghost use Rattle.romaji_rules.specs.RuleLines.{AreNumbered, TakesLine};
 ghost use Rattle.romaji_rules.specs.Typed.{rule_of};
 
@@ -41,8 +42,10 @@ pub fn read_rules(alloc: Global, text: &str) -> Result<RuleList, RuleFault>
 
 // The rules of the lines of a text, of which none has a fault by itself.
 fn read_lines(alloc: Global, text: &str) -> Result<NumberedRules, RuleFault>
-    ensures ok { IfOk result (λ lines. (first_own_fault (entries_of text.now) ≡ None) × AreNumbered lines.rules lines.numbers.items (numbered_rules (entries_of text.now))) }
-    ensures err { IfErr result (λ fault. (fault ≡ RuleFault.Memory) ⊎ (first_own_fault (entries_of text.now) ≡ Some fault)) }
+    ensures ok { IfOk result (λ lines. (first_own_fault (entries_of text.now) ≡ None)
+        × AreNumbered lines.rules lines.numbers.items (numbered_rules (entries_of text.now))) }
+    ensures err { IfErr result (λ fault. (fault ≡ RuleFault.Memory)
+        ⊎ (first_own_fault (entries_of text.now) ≡ Some fault)) }
 {
     let mut lines = NumberedRules::new(alloc);
     let mut number: usize = 0;
@@ -70,7 +73,8 @@ impl NumberedRules {
     // These and the rule of one line more, where it says one.
     fn with_line(self, alloc: Global, number: usize, line: &str) -> Result<NumberedRules, RuleFault>
         ensures ok { IfOk result (TakesLine self number line.now) }
-        ensures err { IfErr result (λ fault. (fault ≡ RuleFault.Memory) ⊎ ((says_rule line.now ≡ true) × (fault_behind self.rules number (rule_of_line line.now) ≡ Some fault))) }
+        ensures err { IfErr result (λ fault. (fault ≡ RuleFault.Memory)
+            ⊎ ((says_rule line.now ≡ true) × (fault_behind self.rules number (rule_of_line line.now) ≡ Some fault))) }
     {
         if !says_rule(line) {
             return Ok(self);
@@ -96,7 +100,8 @@ impl NumberedRules {
     // The number of the first line whose next text is bad among all rules.
     fn bad_next(&self) -> Option<usize>
         ensures differ { inputs_differ self.now.rules ≡ true }
-        ensures first { (numbered : List (ℕ × Rule)) → AreNumbered self.now.rules self.now.numbers.items numbered → option_map (λ line. RuleFault.BadNext line) result ≡ first_next_fault numbered }
+        ensures first { (numbered : List (ℕ × Rule)) → AreNumbered self.now.rules self.now.numbers.items numbered
+            → option_map (λ line. RuleFault.BadNext line) result ≡ first_next_fault numbered }
     {
         let place = self.rules.bad_next()?;
         self.number_at(place)
@@ -112,8 +117,10 @@ impl NumberedRules {
 
 // The rule of a line, where it has no fault behind these rules.
 fn read_rule(alloc: Global, before: &RuleList, number: usize, line: &str) -> Result<Rule, RuleFault>
-    ensures ok { IfOk result (λ rule. (rule_of_line line.now ≡ Some rule) × (fault_behind before.now number (rule_of_line line.now) ≡ None)) }
-    ensures err { IfErr result (λ fault. (fault ≡ RuleFault.Memory) ⊎ (fault_behind before.now number (rule_of_line line.now) ≡ Some fault)) }
+    ensures ok { IfOk result (λ rule. (rule_of_line line.now ≡ Some rule)
+        × (fault_behind before.now number (rule_of_line line.now) ≡ None)) }
+    ensures err { IfErr result (λ fault. (fault ≡ RuleFault.Memory)
+        ⊎ (fault_behind before.now number (rule_of_line line.now) ≡ Some fault)) }
 {
     let Some(fields) = fields_of(line) else {
         return Err(RuleFault::BadLine { line: number });

@@ -4,7 +4,8 @@ ghost use Rattle.std.specs.Str.{chars};
 ghost use Rattle.std.specs.Option.{option_map};
 ghost use Rattle.skk_text.specs.Lines.{line_feed, lines_of};
 ghost use Rattle.romaji_rules.specs.Fitting.{is_input_char, is_input_text};
-ghost use Rattle.romaji_rules.specs.RuleFiles.{without_returns, says_rule, is_output_char, is_output, fields_fit, rule_of_line};
+ghost use Rattle.romaji_rules.specs.RuleFiles.{without_returns, says_rule, is_output_char, is_output, fields_fit};
+ghost use Rattle.romaji_rules.specs.RuleFiles.{rule_of_line};
 ghost use Rattle.romaji_rules.specs.RuleLines.{rule_said, IsOneLine};
 
 use crate::out::Out;
@@ -40,7 +41,9 @@ impl<'a> Fields<'a> {
 /// The first line and what follows it: without its LF and the CR before that, or as it stands where it lacks LF.
 /// Nothing where there is no line.
 pub fn next_line(text: &str) -> Option<(&str, &str)>
-    ensures { MatchOption result (text.now ≡ []) (λ p. (lines_of (without_returns text.now) ≡ p.0.now ∷ lines_of (without_returns p.1.now)) × (length p.1.now < length text.now)) }
+    ensures { MatchOption result (text.now ≡ [])
+        (λ p. (lines_of (without_returns text.now) ≡ p.0.now ∷ lines_of (without_returns p.1.now))
+        × (length p.1.now < length text.now)) }
 {
     if text.is_empty() {
         return None;
@@ -53,7 +56,8 @@ pub fn next_line(text: &str) -> Option<(&str, &str)>
 
 // A line without the CR with which it may end.
 fn without_return(line: &str) -> &str
-    ensures { (behind : List ℕ) → IsOneLine line.now → lines_of (without_returns (line.now ++ line_feed ∷ behind)) ≡ result.now ∷ lines_of (without_returns behind) }
+    ensures { (behind : List ℕ) → IsOneLine line.now
+        → lines_of (without_returns (line.now ++ line_feed ∷ behind)) ≡ result.now ∷ lines_of (without_returns behind) }
 {
     match line.strip_suffix('\r') {
         Some(shorter) => shorter,
@@ -78,7 +82,8 @@ pub fn fields_of(line: &str) -> Option<Fields<'_>>
 
 // The four fields of a line between TABs.
 fn four_fields(line: &str) -> Option<Fields<'_>>
-    ensures { MatchOption result (rule_of_line line.now ≡ None) (λ f. slice_split (λ c. c == 9) line.now ≡ f.input.now ∷ f.next.now ∷ f.hira.now ∷ f.kata.now ∷ []) }
+    ensures { MatchOption result (rule_of_line line.now ≡ None)
+        (λ f. slice_split (λ c. c == 9) line.now ≡ f.input.now ∷ f.next.now ∷ f.hira.now ∷ f.kata.now ∷ []) }
 {
     let (input, behind_input) = first_field(line)?;
     let (next, behind_next) = first_field(behind_input)?;
@@ -96,14 +101,16 @@ fn four_fields(line: &str) -> Option<Fields<'_>>
 
 // The first field and what stands behind the TAB that ends it; nothing where there is no TAB.
 fn first_field(text: &str) -> Option<(&str, &str)>
-    ensures { MatchOption result (slice_split (λ c. c == 9) text.now ≡ text.now ∷ []) (λ p. slice_split (λ c. c == 9) text.now ≡ p.0.now ∷ slice_split (λ c. c == 9) p.1.now) }
+    ensures { MatchOption result (slice_split (λ c. c == 9) text.now ≡ text.now ∷ [])
+        (λ p. slice_split (λ c. c == 9) text.now ≡ p.0.now ∷ slice_split (λ c. c == 9) p.1.now) }
 {
     text.split_once('\t')
 }
 
 // Whether the fields may be those of a rule.
 fn are_fit(fields: Fields<'_>) -> bool
-    ensures { result ≡ fields_fit fields.entry.input.now fields.entry.next.now fields.entry.hira.now fields.entry.kata.now }
+    ensures { result
+        ≡ fields_fit fields.entry.input.now fields.entry.next.now fields.entry.hira.now fields.entry.kata.now }
 {
     is_input(fields.input)
         && fields.next.len() <= 8

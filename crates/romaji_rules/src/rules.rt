@@ -94,7 +94,8 @@ impl Rules {
     /// pending as before. Takes time with a logarithm in the number of rules.
     pub fn feed(&self, alloc: Global, pending: &mut Pending, c: u8) -> Result<Out, Memory>
         ensures exact { IfOk result (λ out. Fed self.now pending.old c pending.new out) }
-        ensures computed { IfOk result (λ out. fed self.now pending.old c ≡ record { pending = pending.new; out = out }) }
+        ensures computed { IfOk result (λ out. fed self.now pending.old c
+            ≡ record { pending = pending.new; out = out }) }
         ensures waits { OnOk result ((pending.new ≡ []) ⊎ BeginsInput self.now pending.new) }
         ensures err { OnErr result (pending.new ≡ pending.old) }
     {
@@ -109,7 +110,8 @@ impl Rules {
     /// the number of rules.
     pub fn extend(&self, alloc: Global, pending: &mut Pending, c: u8) -> Result<Option<Out>, Memory>
         ensures exact { IfOk result (λ out. is_some out ≡ extends_pending self.now pending.old c) }
-        ensures computed { IfOk result (λ out. IfSome out (λ o. fed self.now pending.old c ≡ record { pending = pending.new; out = o })) }
+        ensures computed { IfOk result (λ out. IfSome out (λ o. fed self.now pending.old c
+            ≡ record { pending = pending.new; out = o })) }
         ensures waits { IfOk result (λ out. IsSome out → (pending.new ≡ []) ⊎ BeginsInput self.now pending.new) }
         ensures none { IfOk result (λ out. IsNone out → pending.new ≡ pending.old) }
         ensures err { OnErr result (pending.new ≡ pending.old) }
@@ -124,7 +126,8 @@ impl Rules {
     /// as before. Takes time with a logarithm in the number of rules.
     pub fn feed_anew(&self, alloc: Global, pending: &mut Pending, c: u8) -> Result<Out, Memory>
         requires { extends_pending self.now pending.old c ≡ false }
-        ensures computed { IfOk result (λ out. fed self.now pending.old c ≡ record { pending = pending.new; out = out }) }
+        ensures computed { IfOk result (λ out. fed self.now pending.old c
+            ≡ record { pending = pending.new; out = out }) }
         ensures waits { OnOk result ((pending.new ≡ []) ⊎ BeginsInput self.now pending.new) }
         ensures err { OnErr result (pending.new ≡ pending.old) }
     {
@@ -138,7 +141,8 @@ impl Rules {
     // output, and then, as after `Memory`, the same is pending as before.
     fn go_on(&self, alloc: Global, pending: &mut Pending, c: u8) -> Result<Option<Out>, Memory>
         ensures exact { IfOk result (λ out. is_some out ≡ goes_on self.now (pending.old ++ c ∷ [])) }
-        ensures computed { IfOk result (λ out. IfSome out (λ o. fed self.now pending.old c ≡ record { pending = pending.new; out = o })) }
+        ensures computed { IfOk result (λ out. IfSome out (λ o. fed self.now pending.old c
+            ≡ record { pending = pending.new; out = o })) }
         ensures waits { IfOk result (λ out. IsSome out → (pending.new ≡ []) ⊎ BeginsInput self.now pending.new) }
         ensures none { IfOk result (λ out. IsNone out → pending.new ≡ pending.old) }
         ensures err { OnErr result (pending.new ≡ pending.old) }
@@ -162,7 +166,8 @@ impl Rules {
     // the character is read alone. After `Memory` the same is pending as before.
     fn begin_anew(&self, alloc: Global, pending: &mut Pending, c: u8) -> Result<Out, Memory>
         requires { goes_on self.now (pending.old ++ c ∷ []) ≡ false }
-        ensures computed { IfOk result (λ out. fed self.now pending.old c ≡ record { pending = pending.new; out = out }) }
+        ensures computed { IfOk result (λ out. fed self.now pending.old c
+            ≡ record { pending = pending.new; out = out }) }
         ensures waits { OnOk result ((pending.new ≡ []) ⊎ BeginsInput self.now pending.new) }
         ensures err { OnErr result (pending.new ≡ pending.old) }
     {

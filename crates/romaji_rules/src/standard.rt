@@ -1,7 +1,8 @@
 ghost use Rattle.std.specs.Prelude.{◌≡◌, ◌++◌, ◌∷◌, [], ℕ, List, map, IfOk, OnOk, codes};
 ghost use Rattle.std.specs.List.{flat_map};
 ghost use Rattle.std.specs.Str.{chars};
-ghost use Rattle.romaji_rules.specs.Standard.{standard, vowel_rows, contracted_rows, single_rules, doubled_rules, row_rules, rule, doubled};
+ghost use Rattle.romaji_rules.specs.Standard.{standard, vowel_rows, contracted_rows, single_rules, doubled_rules};
+ghost use Rattle.romaji_rules.specs.Standard.{row_rules, rule, doubled};
 ghost use Rattle.romaji_rules.specs.Table.{texts, row_of, contracted_of, single_of};
 ghost use Rattle.romaji_rules.specs.Output.{of_hiragana};
 
@@ -176,7 +177,8 @@ fn add_row(
     stem: &str,
     endings: &[&str; 5],
 ) -> Result<(), Memory>
-    ensures { OnOk result (rules.new.items ≡ rules.old.items ++ row_rules before.now (chars stem.now) (codes "aiueo") (texts endings.now)) }
+    ensures { OnOk result (rules.new.items
+        ≡ rules.old.items ++ row_rules before.now (chars stem.now) (codes "aiueo") (texts endings.now)) }
 {
     for (place, ending) in endings.iter().enumerate() {
         let input = bytes_of(alloc, before.as_bytes(), &[VOWELS[place]])?;

@@ -10,5 +10,7 @@ pub returns-in-None-clause-rule_set : goal.returns-in-None-clause-rule_set
 returns-in-None-clause-rule_set c =
     let entries = entries_of c.args.text.now in
     let are = c.in_ok-lines.ensures.ok.1 in
-    let none = ap (option_map (λ line. BadNext line)) (sym c.in-None.is) ∙ c.bad_next.ensures.first (numbered_rules entries) are in
-    ap is_rule_set are.rules_are ∙ is_set entries none (ap inputs_differ (sym are.rules_are) ∙ c.bad_next.ensures.differ)
+    let none = ap (option_map (λ line. BadNext line)) (sym c.in-None.is)
+    ∙ c.bad_next.ensures.first (numbered_rules entries) are in
+    ap is_rule_set are.rules_are
+    ∙ is_set entries none (ap inputs_differ (sym are.rules_are) ∙ c.bad_next.ensures.differ)

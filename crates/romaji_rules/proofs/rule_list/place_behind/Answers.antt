@@ -9,5 +9,6 @@ pub returns : goal.returns
 returns c =
     let all = c.args.rules.now in
     let text = c.args.text.now in
-    IsPartitionPoint-from_clause (λ place. passes (λ rule. not (bytes_less text rule.input)) (slice_get all place)) c.args.places.now c.partition_point.result c.partition_point.ensures.partitioned
+    IsPartitionPoint-from_clause (λ place. passes (λ rule. not (bytes_less text rule.input)) (slice_get all place))
+    c.args.places.now c.partition_point.result c.partition_point.ensures.partitioned
     (low_parted all c.args.places.now c.requires text) (λ a r f k. search rules)

@@ -5,4 +5,6 @@ use Rattle.romaji_rules.specs.Table.{texts}
 use Rattle.romaji_rules.proofs.standard.add_row.Given as goal
 
 abbrev pub invariant-loop-place : goal.invariant-loop-place
-invariant-loop-place l = l.rules.items ≡ l.fn.rules.items ++ row_rules l.before (chars l.stem) (take l.place (codes "aiueo")) (texts (take l.place l.endings))
+invariant-loop-place l =
+    l.rules.items ≡ l.fn.rules.items
+    ++ row_rules l.before (chars l.stem) (take l.place (codes "aiueo")) (texts (take l.place l.endings))

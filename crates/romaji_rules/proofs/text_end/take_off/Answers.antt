@@ -12,5 +12,6 @@ returns c =
     c.loop.invariant
     ∙ ap (λ cs. take (length text - length cs) text)
     (Chars-Drains (chars added) c.loop.yielded c.into_iter-iterator.result
-    (encodes-chars added c.utf8.added ∙ sym (ap chars_rest c.into_iter-iterator.ensures.into_iter_gives ∙ c.chars-items.ensures.rest))
+    (encodes-chars added c.utf8.added
+    ∙ sym (ap chars_rest c.into_iter-iterator.ensures.into_iter_gives ∙ c.chars-items.ensures.rest))
     (c.next.new.self, (c.loop.iterator', c.loop.yielded_by, c.in-None.ensures.steps)))

@@ -12,4 +12,5 @@ returns-in_err-place-clause-first c numbered are =
 pub returns-clause-first : goal.returns-clause-first
 returns-clause-first c numbered are =
     ap (option_map (λ line. BadNext line)) c.number_at.ensures
-    ∙ bad_number c.args.self.now.rules c.args.self.now.numbers.items numbered are c.in_ok-place.place c.in_ok-place.ensures.place
+    ∙ bad_number c.args.self.now.rules c.args.self.now.numbers.items numbered are c.in_ok-place.place
+    c.in_ok-place.ensures.place

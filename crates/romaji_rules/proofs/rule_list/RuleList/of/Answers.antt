@@ -7,4 +7,5 @@ use Rattle.romaji_rules.proofs.rule_list.RuleList.of.Goals as goal
 pub with-requires : goal.with-requires
 with-requires c =
     none_before c.loop-rule.list c.in-Some.rule c.next.new.self.rest.items
-    (ap inputs_differ (sym (c.loop-rule.invariant ∙ ap (λ rest. c.loop-rule.list ++ rest) c.in-Some.ensures.steps.0)) ∙ c.requires)
+    (ap inputs_differ (sym (c.loop-rule.invariant ∙ ap (λ rest. c.loop-rule.list ++ rest) c.in-Some.ensures.steps.0))
+    ∙ c.requires)

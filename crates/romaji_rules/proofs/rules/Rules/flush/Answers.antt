@@ -5,4 +5,5 @@ use Rattle.romaji_rules.proofs.rules.Rules.flush.Goals as goal
 
 pub returns-clause-exact : goal.returns-clause-exact
 returns-clause-exact c =
-    subst (Flushed c.args.self.now c.args.pending.now) (sym c.in_ok-out.ensures) (flushed-exact c.args.self.now c.args.pending.now)
+    subst (Flushed c.args.self.now c.args.pending.now) (sym c.in_ok-out.ensures)
+    (flushed-exact c.args.self.now c.args.pending.now)
