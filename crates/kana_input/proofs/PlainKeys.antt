@@ -13,8 +13,18 @@ unequal : (a b : ℕ) → a ≢ b → (a == b) ≡ false
 unequal a b differ = elim (eqb_tells a b) [ inl e ↦ absurd (differ e.1) | inr e ↦ e.0 ]
 
 -- an upper-case letter but for `L` and `Q` opens a reading with its lower-case letter
-pub kana_char-upper : (rules : List Rule) (plain : Plain) (c : ℕ) → extends_pending rules plain.pending c ≡ false → 65 ≤ c → c ≤ 90 → c ≢ 76 → c ≢ 81
+pub kana_char-upper : (rules : List Rule) (plain : Plain) (c : ℕ) → extends_pending rules plain.pending c ≡ false
+    → 65 ≤ c → c ≤ 90 → c ≢ 76 → c ≢ 81
     → kana_char_step rules plain c ≡ flush_step rules plain plain.mode [] (OpenReading (Some (to_ascii_lowercase c)))
 kana_char-upper rules plain c waits from to no_l no_q =
     let upper : (nat_le 0x41 c && nat_le c 0x5A) ≡ true = grind (arith, from, to) in
-    rw (waits, unequal c 0x20 (omega arith), unequal c 0x71 (omega arith), unequal c 0x6C (omega arith), unequal c 0x4C no_l, unequal c 0x51 no_q, unequal c 0x2F (omega arith), upper) refl
+    rw (
+      waits,
+      unequal c 0x20 (omega arith),
+      unequal c 0x71 (omega arith),
+      unequal c 0x6C (omega arith),
+      unequal c 0x4C no_l,
+      unequal c 0x51 no_q,
+      unequal c 0x2F (omega arith),
+      upper,
+    ) refl

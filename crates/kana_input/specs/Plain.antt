@@ -15,7 +15,8 @@ use Rattle.romaji_rules.specs.Typed.{fed, flushed, extends_pending}
 use Rattle.kana_input.specs.declared.plain.Plain.{Plain}
 use Rattle.kana_input.specs.declared.plain.PlainDo.{PlainDo}
 use Rattle.kana_input.specs.declared.plain.PlainThen.{PlainThen}
-use Rattle.kana_input.specs.declared.plain.PlainThen.TheVariants.{Stay, DeleteLast, Newline, OpenReading, OpenAbbrev, Cancel, AskUndo}
+use Rattle.kana_input.specs.declared.plain.PlainThen.TheVariants.{Stay, DeleteLast, Newline, OpenReading, OpenAbbrev}
+use Rattle.kana_input.specs.declared.plain.PlainThen.TheVariants.{Cancel, AskUndo}
 
 -- a key's step: the plain state after it, and what it does to the frame
 pub record PlainStep : Type 0 where
@@ -54,10 +55,13 @@ feed_step rules plain c =
 -- the step that gives out what is pending, with a text behind it, goes to a mode and does more to the frame
 abbrev pub flush_step : List Rule → Plain → Mode → List ℕ → PlainThen → PlainStep
 flush_step rules plain mode behind effect =
-    record { plain = in_mode mode; done = record { insert = in_kana plain.mode (flushed rules plain.pending) ++ behind; then = effect } }
+    record {
+      plain = in_mode mode;
+      done = record { insert = in_kana plain.mode (flushed rules plain.pending) ++ behind; then = effect };
+    }
 
--- the step of a character in a kana mode, by the first case that fits: it goes on with what is pending; it is the space,
--- `q`, `l`, `L`, `Q`, `/` or another upper-case letter; or it is read by the rules
+-- the step of a character in a kana mode, by the first case that fits: it goes on with what is pending; it is the
+-- space, `q`, `l`, `L`, `Q`, `/` or another upper-case letter; or it is read by the rules
 abbrev pub kana_char_step : List Rule → Plain → ℕ → PlainStep
 kana_char_step rules plain c =
     if extends_pending rules plain.pending c then feed_step rules plain c
@@ -67,7 +71,8 @@ kana_char_step rules plain c =
     else if c == code "L" then flush_step rules plain Wide [] Stay
     else if c == code "Q" then flush_step rules plain plain.mode [] (OpenReading None)
     else if c == code "/" then flush_step rules plain plain.mode [] OpenAbbrev
-    else if nat_le (code "A") c && nat_le c (code "Z") then flush_step rules plain plain.mode [] (OpenReading (Some (to_ascii_lowercase c)))
+    else if nat_le (code "A") c && nat_le c (code "Z")
+    then flush_step rules plain plain.mode [] (OpenReading (Some (to_ascii_lowercase c)))
     else feed_step rules plain c
 
 -- the step of `C-g` in a kana mode: pending letters are dropped, and where there are none a registration is cancelled
@@ -79,7 +84,8 @@ cancel_step mode (b ∷ pending) = record { plain = in_mode mode; done = no_inse
 -- character
 abbrev pub delete_step : Mode → List ℕ → PlainStep
 delete_step mode [] = record { plain = in_mode mode; done = no_insertion DeleteLast }
-delete_step mode (b ∷ pending) = record { plain = record { mode = mode; pending = without_last (b ∷ pending) }; done = no_insertion Stay }
+delete_step mode (b ∷ pending) =
+    record { plain = record { mode = mode; pending = without_last (b ∷ pending) }; done = no_insertion Stay }
 
 -- the step of a key in a kana mode
 abbrev pub kana_step : List Rule → Plain → Key → PlainStep
@@ -100,7 +106,8 @@ char_in_mode Wide c = wide c
 
 -- the step of a key in one of the two ASCII modes
 abbrev pub ascii_step : List Rule → Plain → Key → PlainStep
-ascii_step rules plain (Char c) = record { plain = plain; done = record { insert = char_in_mode plain.mode c ∷ []; then = Stay } }
+ascii_step rules plain (Char c) =
+    record { plain = plain; done = record { insert = char_in_mode plain.mode c ∷ []; then = Stay } }
 ascii_step rules plain Cj = record { plain = record { mode = Hira; pending = plain.pending }; done = no_insertion Stay }
 ascii_step rules plain Cg = record { plain = plain; done = no_insertion Stay }
 ascii_step rules plain Bs = record { plain = plain; done = no_insertion DeleteLast }

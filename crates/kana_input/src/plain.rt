@@ -39,8 +39,8 @@ pub struct Plain {
     pub pending: Pending,
 }
 
-/// Reads a key in the plain state. After `Memory` the state is as before. Takes time in what the key does: in the number
-/// of rules, and in the text that it gives out.
+/// Reads a key in the plain state. After `Memory` the state is as before. Takes time in what the key does: in the
+/// number of rules, and in the text that it gives out.
 pub fn press_plain(
     alloc: Global,
     plain: &mut Plain,
@@ -103,7 +103,8 @@ impl Plain {
 
     // Reads a character in a kana mode. A character that goes on with what is pending does nothing else.
     fn press_kana_char(&mut self, alloc: Global, rules: &Rules, c: u8) -> Result<PlainDo, Memory>
-        ensures ok { IfOk result (λ done. kana_char_step rules.now self.old c ≡ record { plain = self.new; done = done }) }
+        ensures ok { IfOk result (λ done. kana_char_step rules.now self.old c
+            ≡ record { plain = self.new; done = done }) }
         ensures err { OnErr result (self.new ≡ self.old) }
     {
         match rules.extend(alloc, &mut self.pending, c)? {
@@ -116,7 +117,8 @@ impl Plain {
     #[tactic(auto, using(crate::proofs::Words::words))]
     fn press_anew(&mut self, alloc: Global, rules: &Rules, c: u8) -> Result<PlainDo, Memory>
         requires { extends_pending rules.now self.old.pending c ≡ false }
-        ensures ok { IfOk result (λ done. kana_char_step rules.now self.old c ≡ record { plain = self.new; done = done }) }
+        ensures ok { IfOk result (λ done. kana_char_step rules.now self.old c
+            ≡ record { plain = self.new; done = done }) }
         ensures err { OnErr result (self.new ≡ self.old) }
     {
         let mode = self.mode;
@@ -147,7 +149,8 @@ impl Plain {
         behind: &str,
         then: PlainThen,
     ) -> Result<PlainDo, Memory>
-        ensures ok { IfOk result (λ done. flush_step rules.now self.old mode (chars behind.now) (then) ≡ record { plain = self.new; done = done }) }
+        ensures ok { IfOk result (λ done. flush_step rules.now self.old mode (chars behind.now) (then)
+            ≡ record { plain = self.new; done = done }) }
         ensures err { OnErr result (self.new ≡ self.old) }
     {
         let mut pending = Pending::of(self.pending.as_slice());
@@ -161,7 +164,8 @@ impl Plain {
     // Reads a key in one of the two ASCII modes.
     #[tactic(auto, using(crate::proofs::Words::words))]
     fn press_ascii(&mut self, alloc: Global, rules: &Rules, key: Key) -> Result<PlainDo, Memory>
-        ensures ok { IfOk result (λ done. ascii_step rules.now self.old key ≡ record { plain = self.new; done = done }) }
+        ensures ok { IfOk result (λ done. ascii_step rules.now self.old key
+            ≡ record { plain = self.new; done = done }) }
         ensures err { OnErr result (self.new ≡ self.old) }
     {
         match key {

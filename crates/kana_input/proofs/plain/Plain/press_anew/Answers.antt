@@ -6,7 +6,8 @@ use Rattle.kana_input.proofs.plain.Plain.press_anew.Goals as goal
 pub returns-in-65-to-90-clause-ok : goal.returns-in-65-to-90-clause-ok
 returns-in-65-to-90-clause-ok c =
     rw (
-      kana_char-upper c.args.rules.now c.args.self.now c.args.c c.requires (omega arith) (omega arith) (λ e. omega (arith, e)) (λ e. omega (arith, e)),
+      kana_char-upper c.args.rules.now c.args.self.now c.args.c c.requires (omega arith) (omega arith)
+          (λ e. omega (arith, e)) (λ e. omega (arith, e)),
       ← c.to_ascii_lowercase-letter.ensures.value,
     )
     (rw empty at c.flush-in-65-to-90.ensures.ok)
