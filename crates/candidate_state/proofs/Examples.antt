@@ -9,7 +9,8 @@ use Rattle.skk_text.specs.declared.notice.Notice.TheVariants.{Empty, NoCandidate
 use Rattle.candidate_state.specs.declared.cands_do.AfterChoose.TheVariants.{Nothing, Delete, Newline, OpenSuffix, Read}
 use Rattle.candidate_state.specs.declared.cands_do.CandsDo.{CandsDo}
 use Rattle.candidate_state.specs.declared.cands_do.CandsDo.TheVariants.{Stay, Back, Register, Purge, Choose}
-use Rattle.candidate_state.specs.Picking.{Picking, PickingStep, is_single, begins_view, is_picking, new_picking, place_named, says_yes, picking_step}
+use Rattle.candidate_state.specs.Picking.{Picking, PickingStep, is_single, begins_view, is_picking, new_picking}
+use Rattle.candidate_state.specs.Picking.{place_named, says_yes, picking_step}
 use Rattle.candidate_state.specs.Shown.{Shown, shown_word, first_shown, shown_plain}
 
 -- Candidates that are shown
@@ -29,12 +30,14 @@ word_shown : shown_word kanji (cand (codes "幹事") (codes "宴会の")) ≡ sh
 word_shown = refl
 
 -- the first of equal texts is kept, whatever the words are
-first_kept : first_shown (shown_as (codes "#0") [] (codes "1") ∷ shown_as (codes "#1") [] (codes "１") ∷ shown_as (codes "1") [] (codes "1") ∷ [])
+first_kept : first_shown (shown_as (codes "#0") [] (codes "1") ∷ shown_as (codes "#1") [] (codes "１")
+    ∷ shown_as (codes "1") [] (codes "1") ∷ [])
     ≡ shown_as (codes "#0") [] (codes "1") ∷ shown_as (codes "#1") [] (codes "１") ∷ []
 first_kept = refl
 
 -- of two candidates with one word the first is shown, with its note
-plain_shown : shown_plain kanji (cand (codes "漢字") [] ∷ cand (codes "幹事") (codes "宴会の") ∷ cand (codes "漢字") (codes "x") ∷ [])
+plain_shown : shown_plain kanji
+    (cand (codes "漢字") [] ∷ cand (codes "幹事") (codes "宴会の") ∷ cand (codes "漢字") (codes "x") ∷ [])
     ≡ shown_as (codes "漢字") [] (codes "漢字") ∷ shown_as (codes "幹事") (codes "宴会の") (codes "幹事") ∷ []
 plain_shown = refl
 
@@ -89,13 +92,18 @@ whole_step = refl
 
 -- the keys where a single candidate is shown
 single_keys : Presses (
-    (at 1 0, Char (code " "), (0, false, Register)) ∷ (at 4 0, Char (code " "), (1, false, Stay Empty)) ∷ (at 4 2, Char (code " "), (3, false, Stay Empty))
-    ∷ (at 4 3, Char (code " "), (3, false, Register)) ∷ (at 5 3, Char (code " "), (4, false, Stay Empty)) ∷ (at 11 3, Char (code " "), (4, false, Stay Empty))
-    ∷ (at 1 0, Char (code "x"), (0, false, Back)) ∷ (at 4 1, Char (code "x"), (0, false, Stay Empty)) ∷ (at 5 3, Char (code "x"), (2, false, Stay Empty))
-    ∷ (at 1 0, Char (code "X"), (0, true, Stay Empty)) ∷ (at 12 3, Char (code "X"), (3, true, Stay Empty)) ∷ (at 4 2, Char (code ">"), (2, false, Choose 2 OpenSuffix))
-    ∷ (at 4 1, Cj, (1, false, Choose 1 Nothing)) ∷ (at 4 1, Cg, (1, false, Back)) ∷ (at 4 1, Bs, (1, false, Choose 1 Delete))
-    ∷ (at 4 1, Ret, (1, false, Choose 1 Newline)) ∷ (at 4 1, Tab, (1, false, Stay Empty)) ∷ (at 4 1, Undo, (1, false, Stay Empty))
-    ∷ [])
+    (at 1 0, Char (code " "), (0, false, Register)) ∷ (at 4 0, Char (code " "), (1, false, Stay Empty))
+    ∷ (at 4 2, Char (code " "), (3, false, Stay Empty))
+    ∷ (at 4 3, Char (code " "), (3, false, Register)) ∷ (at 5 3, Char (code " "), (4, false, Stay Empty))
+    ∷ (at 11 3, Char (code " "), (4, false, Stay Empty))
+    ∷ (at 1 0, Char (code "x"), (0, false, Back)) ∷ (at 4 1, Char (code "x"), (0, false, Stay Empty))
+    ∷ (at 5 3, Char (code "x"), (2, false, Stay Empty))
+    ∷ (at 1 0, Char (code "X"), (0, true, Stay Empty)) ∷ (at 12 3, Char (code "X"), (3, true, Stay Empty))
+    ∷ (at 4 2, Char (code ">"), (2, false, Choose 2 OpenSuffix))
+    ∷ (at 4 1, Cj, (1, false, Choose 1 Nothing)) ∷ (at 4 1, Cg, (1, false, Back))
+    ∷ (at 4 1, Bs, (1, false, Choose 1 Delete))
+    ∷ (at 4 1, Ret, (1, false, Choose 1 Newline)) ∷ (at 4 1, Tab, (1, false, Stay Empty))
+    ∷ (at 4 1, Undo, (1, false, Stay Empty)) ∷ [])
 single_keys = refl
 
 -- every other character is read behind the candidate that it chooses
@@ -112,18 +120,31 @@ no_letters = refl
 
 -- the keys on a page: the first and the last candidate of it, and letters of none
 page_letters : Presses (
-    (at 5 4, Char (code "a"), (4, false, Choose 4 Nothing)) ∷ (at 5 4, Char (code "s"), (4, false, Stay NoCandidate)) ∷ (at 5 4, Char (code "l"), (4, false, Stay NoCandidate))
-    ∷ (at 11 4, Char (code "l"), (4, false, Choose 10 Nothing)) ∷ (at 10 4, Char (code "l"), (4, false, Stay NoCandidate)) ∷ (at 10 4, Char (code "k"), (4, false, Choose 9 Nothing))
-    ∷ (at 12 4, Char (code "l"), (4, false, Choose 10 Nothing)) ∷ (at 12 11, Char (code "a"), (11, false, Choose 11 Nothing)) ∷ (at 12 11, Char (code "s"), (11, false, Stay NoCandidate))
+    (at 5 4, Char (code "a"), (4, false, Choose 4 Nothing)) ∷ (at 5 4, Char (code "s"), (4, false, Stay NoCandidate))
+    ∷ (at 5 4, Char (code "l"), (4, false, Stay NoCandidate))
+    ∷ (at 11 4, Char (code "l"), (4, false, Choose 10 Nothing)) ∷ (
+      at 10 4,
+      Char (code "l"),
+      (4, false, Stay NoCandidate),
+    ) ∷ (at 10 4, Char (code "k"), (4, false, Choose 9 Nothing))
+    ∷ (at 12 4, Char (code "l"), (4, false, Choose 10 Nothing)) ∷ (
+      at 12 11,
+      Char (code "a"),
+      (11, false, Choose 11 Nothing),
+    ) ∷ (at 12 11, Char (code "s"), (11, false, Stay NoCandidate))
     ∷ [])
 page_letters = refl
 
 -- on from a page and back: to the next one where it has a candidate, and to the one before or the last single candidate
 page_turns : Presses (
-    (at 5 4, Char (code " "), (4, false, Register)) ∷ (at 11 4, Char (code " "), (4, false, Register)) ∷ (at 12 4, Char (code " "), (11, false, Stay Empty))
-    ∷ (at 12 11, Char (code " "), (11, false, Register)) ∷ (at 18 11, Char (code " "), (11, false, Register)) ∷ (at 19 11, Char (code " "), (18, false, Stay Empty))
-    ∷ (at 5 4, Char (code "x"), (3, false, Stay Empty)) ∷ (at 12 11, Char (code "x"), (4, false, Stay Empty)) ∷ (at 19 18, Char (code "x"), (11, false, Stay Empty))
-    ∷ (at 5 4, Bs, (3, false, Stay Empty)) ∷ (at 12 11, Bs, (4, false, Stay Empty)) ∷ (at 19 18, Bs, (11, false, Stay Empty)) ∷ (at 12 11, Cg, (11, false, Back))
+    (at 5 4, Char (code " "), (4, false, Register)) ∷ (at 11 4, Char (code " "), (4, false, Register))
+    ∷ (at 12 4, Char (code " "), (11, false, Stay Empty))
+    ∷ (at 12 11, Char (code " "), (11, false, Register)) ∷ (at 18 11, Char (code " "), (11, false, Register))
+    ∷ (at 19 11, Char (code " "), (18, false, Stay Empty))
+    ∷ (at 5 4, Char (code "x"), (3, false, Stay Empty)) ∷ (at 12 11, Char (code "x"), (4, false, Stay Empty))
+    ∷ (at 19 18, Char (code "x"), (11, false, Stay Empty))
+    ∷ (at 5 4, Bs, (3, false, Stay Empty)) ∷ (at 12 11, Bs, (4, false, Stay Empty))
+    ∷ (at 19 18, Bs, (11, false, Stay Empty)) ∷ (at 12 11, Cg, (11, false, Back))
     ∷ [])
 page_turns = refl
 
@@ -134,7 +155,8 @@ page_others :
 page_others = refl
 
 -- `y` and `Y` say yes, and every other key only ends the question
-yes : map says_yes (Char (code "y") ∷ Char (code "Y") ∷ Char (code "x") ∷ Char (code "z") ∷ Char (code "X") ∷ Char (code "Z") ∷ Ret ∷ []) ≡ true ∷ true ∷ false ∷ false ∷ false ∷ false ∷ false ∷ []
+yes : map says_yes (Char (code "y") ∷ Char (code "Y") ∷ Char (code "x") ∷ Char (code "z") ∷ Char (code "X")
+    ∷ Char (code "Z") ∷ Ret ∷ []) ≡ true ∷ true ∷ false ∷ false ∷ false ∷ false ∷ false ∷ []
 yes = refl
 
 question_yes : map (λ key. outcome (picking_step (asking_at 4 2) key)) (map Char (codes "yY"))
@@ -142,6 +164,7 @@ question_yes : map (λ key. outcome (picking_step (asking_at 4 2) key)) (map Cha
 question_yes = refl
 
 question_no :
-    map (λ key. outcome (picking_step (asking_at 4 2) key)) (Cj ∷ Cg ∷ Bs ∷ Ret ∷ Tab ∷ Undo ∷ map Char (codes " >XZanxz"))
+    map (λ key. outcome (picking_step (asking_at 4 2) key))
+    (Cj ∷ Cg ∷ Bs ∷ Ret ∷ Tab ∷ Undo ∷ map Char (codes " >XZanxz"))
     ≡ map (λ key. (2, false, Stay Empty)) (Cj ∷ Cg ∷ Bs ∷ Ret ∷ Tab ∷ Undo ∷ map Char (codes " >XZanxz"))
 question_no = refl

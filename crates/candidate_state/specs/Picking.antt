@@ -1,5 +1,6 @@
 -- The candidate state ▼: what a key does to the candidates that are shown.
-use Rattle.std.specs.Prelude.{ℕ, ◌+◌, ◌-◌, ◌%◌, Bool, true, false, ◌&&◌, ◌||◌, ◌==◌, not, nat_lt, if◌then◌else◌, Option, None, Some, List, length}
+use Rattle.std.specs.Prelude.{ℕ, ◌+◌, ◌-◌, ◌%◌, Bool, true, false, ◌&&◌, ◌||◌, ◌==◌, not, nat_lt, if◌then◌else◌, Option}
+use Rattle.std.specs.Prelude.{None, Some, List, length}
 use Rattle.skk_text.specs.Characters.{code}
 use Rattle.skk_text.specs.declared.key.Key.{Key}
 use Rattle.skk_text.specs.declared.key.Key.TheVariants.{Char, Cj, Cg, Bs, Ret, Tab, Undo}
@@ -10,8 +11,8 @@ use Rattle.candidate_state.specs.declared.cands_do.AfterChoose.TheVariants.{Noth
 use Rattle.candidate_state.specs.declared.cands_do.CandsDo.{CandsDo}
 use Rattle.candidate_state.specs.declared.cands_do.CandsDo.TheVariants.{Stay, Back, Register, Purge, Choose}
 
--- candidates of which one is picked: those that are shown, the place of the one that is shown singly or of the first of a
--- page, and whether it is asked if that one is to be purged
+-- candidates of which one is picked: those that are shown, the place of the one that is shown singly or of the first of
+-- a page, and whether it is asked if that one is to be purged
 pub record Picking : Type 0 where
   pub shown : List Shown
   pub place : ℕ
@@ -33,7 +34,8 @@ is_single place = nat_lt place singles
 abbrev pub begins_view : ℕ → Bool
 begins_view place = is_single place || (place - singles) % page_size == 0
 
--- a picking is one that may be: its place is among the candidates and begins a view, and only a single one may be purged
+-- a picking is one that may be: its place is among the candidates and begins a view,
+-- and only a single one may be purged
 abbrev pub is_picking : Picking → Bool
 is_picking picking =
     nat_lt picking.place (length picking.shown)
@@ -58,7 +60,8 @@ step_to picking place = step_with (record picking { place = place }) (Stay notic
 
 -- the step to a place that comes next: where no candidate is left there, a registration opens
 abbrev pub next_step : Picking → ℕ → PickingStep
-next_step picking place = if nat_lt place (length picking.shown) then step_to picking place else step_with picking Register
+next_step picking place =
+    if nat_lt place (length picking.shown) then step_to picking place else step_with picking Register
 
 -- the step that chooses the candidate of a place, and does more then
 abbrev pub choose_step : Picking → ℕ → AfterChoose → PickingStep

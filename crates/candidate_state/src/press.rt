@@ -1,5 +1,7 @@
 ghost use Rattle.std.specs.Prelude.{◌≡◌, ◌+◌, ◌<◌, ℕ, true, false, length};
-ghost use Rattle.candidate_state.specs.Picking.{begins_view, is_single, picking_step, question_step, single_step, single_char_step, single_back, page_step, page_char_step, page_back, next_step, choose_named, place_named, says_yes};
+ghost use Rattle.candidate_state.specs.Picking.{begins_view, is_single, picking_step, question_step, single_step};
+ghost use Rattle.candidate_state.specs.Picking.{single_char_step, single_back, page_step, page_char_step, page_back};
+ghost use Rattle.candidate_state.specs.Picking.{next_step, choose_named, place_named, says_yes};
 
 use crate::cands_do::{AfterChoose, CandsDo};
 use crate::picking::{PAGE_SIZE, Picking, SINGLES};
@@ -8,7 +10,8 @@ use skk_text::{Key, Notice};
 /// Reads a key in the candidate state. Takes no memory and constant time.
 pub fn press_cands(picking: &mut Picking, key: Key) -> CandsDo
     ensures step { picking_step picking.old key ≡ record { picking = picking.new; done = result } }
-    ensures chooses { (place : ℕ) (after : AfterChoose) → result ≡ CandsDo.Choose place after → place < length picking.new.shown }
+    ensures chooses { (place : ℕ) (after : AfterChoose) → result ≡ CandsDo.Choose place after
+        → place < length picking.new.shown }
 {
     if picking.is_asked() {
         answer(picking, key)

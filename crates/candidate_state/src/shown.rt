@@ -24,7 +24,8 @@ impl Model for ShownList {
     ghost view = { λ s. map (shown_word s.key) s.found };
 }
 
-/// A candidate that is shown: the key that it was found under, the candidate as it was found, and the text that is shown.
+/// A candidate that is shown: the key that it was found under, the candidate as it was found,
+/// and the text that is shown.
 #[derive(Clone, Copy)]
 pub struct Shown<'a> {
     pub key: &'a RowKey,
@@ -32,8 +33,8 @@ pub struct Shown<'a> {
     pub text: &'a Text,
 }
 
-/// The candidates that are shown for what was found of a key: the first of each word, whose texts are moved. Takes time in
-/// their length. After `Memory` the key and the candidates are gone.
+/// The candidates that are shown for what was found of a key: the first of each word, whose texts are moved. Takes time
+/// in their length. After `Memory` the key and the candidates are gone.
 #[tactic(auto, using(crate::proofs::ShownWords::shown_words))]
 pub fn shown_plain(alloc: Global, key: RowKey, found: Cands) -> Result<ShownList, Memory>
     ensures { IfOk result (λ list. list ≡ shown_plain key found) }
@@ -67,7 +68,8 @@ impl ShownList {
     /// The candidate of a place, counted from 0. Takes constant time.
     pub fn at(&self, place: usize) -> Shown<'_>
         requires { place < length self.now }
-        ensures { slice_get self.now place ≡ Some (record { key = result.key.now; cand = result.cand.now; text = result.text.now }) }
+        ensures { slice_get self.now place
+            ≡ Some (record { key = result.key.now; cand = result.cand.now; text = result.text.now }) }
     {
         let cand = self.found.at(place);
         Shown {
