@@ -1,5 +1,6 @@
 -- What an open reading keeps, and the steps that begin an okurigana or end a prefix.
-use Rattle.std.proofs.Common.{◌≡◌, ◌∙◌, ℕ, true, false, ◌&&◌, not, List, [], ◌∷◌, ◌++◌, Option, None, Some, Result, Ok, Err, sym, ap, refl}
+use Rattle.std.proofs.Common.{◌≡◌, ◌∙◌, ℕ, true, false, ◌&&◌, not, List, [], ◌∷◌, ◌++◌, Option, None, Some, Result, Ok}
+use Rattle.std.proofs.Common.{Err, sym, ap, refl}
 use Rattle.std.specs.Result.{IsOk, IsErr}
 use Rattle.std.proofs.lemmas.Bool.{and_parts, and_from, not-true}
 use Rattle.skk_text.specs.Lists.{is_empty}
@@ -9,7 +10,8 @@ use Rattle.skk_calls.specs.Rows.{is_letter}
 use Rattle.romaji_rules.specs.declared.out.Out.{Out}
 use Rattle.romaji_rules.specs.declared.rule.Rule.{Rule}
 use Rattle.romaji_rules.specs.Typed.{fed}
-use Rattle.reading_state.specs.Puts.{Begun, Reading, Put, may_read, may_end, fits_reading, later_notice, refusal, unless_refused}
+use Rattle.reading_state.specs.Puts.{Begun, Reading, Put, may_read, may_end, fits_reading, later_notice, refusal}
+use Rattle.reading_state.specs.Puts.{unless_refused}
 use Rattle.reading_state.specs.Reading.{flush, begin_okuri, ends_prefix, prefix_step}
 use Rattle.reading_state.specs.declared.reading_do.ReadingThen.TheVariants.{Convert}
 use Rattle.reading_state.proofs.Texts.{may_end-without_last}
@@ -21,7 +23,8 @@ pub record Kept (text : List ℕ) (begun : Begun) : Type 0 where
   pub kana : may_end begun.text ≡ true
   pub some : is_empty text ≡ false
 
-pub kept : (text : List ℕ) (okuri : Option Begun) (begun : Begun) → (may_read text && fits_reading text okuri) ≡ true → okuri ≡ Some begun → Kept text begun
+pub kept : (text : List ℕ) (okuri : Option Begun) (begun : Begun) → (may_read text && fits_reading text okuri) ≡ true
+    → okuri ≡ Some begun → Kept text begun
 kept text okuri begun is e =
     let parts = and_parts (may_read text) (fits_reading text okuri) is in
     let fits = and_parts (is_letter (begun.letter ∷ [])) _ (ap (fits_reading text) (sym e) ∙ parts.1) in
@@ -29,8 +32,10 @@ kept text okuri begun is e =
     record { may = parts.0; letter = fits.0; kana = rest.0; some = not-true (is_empty text) rest.1 }
 
 -- an okurigana without its last kana may be begun too
-pub kept-shortened : (text : List ℕ) (okuri : Option Begun) (begun : Begun) → (may_read text && fits_reading text okuri) ≡ true → okuri ≡ Some begun
-    → (may_read text && fits_reading text (Some (record { letter = begun.letter; text = without_last begun.text }))) ≡ true
+pub kept-shortened : (text : List ℕ) (okuri : Option Begun) (begun : Begun)
+    → (may_read text && fits_reading text okuri) ≡ true → okuri ≡ Some begun
+    → (may_read text && fits_reading text (Some (record { letter = begun.letter; text = without_last begun.text })))
+    ≡ true
 kept-shortened text okuri begun is e =
     let k = kept text okuri begun is e in
     and_from _ _ k.may (and_from _ _ k.letter (and_from _ _ (may_end-without_last begun.text k.kana) (ap not k.some)))
@@ -57,10 +62,20 @@ ends (Some begun) flush e some = cc
 -- a reading that a flush leaves, where no okurigana was begun
 abbrev pub flushed_to : Reading → List ℕ → Notice → Put
 flushed_to reading added notice =
-    record { reading = record { text = reading.text ++ added; is_abbrev = reading.is_abbrev; okuri = None; pending = []; completions = reading.completions }; notice = notice }
+    record {
+      reading = record {
+        text = reading.text ++ added;
+        is_abbrev = reading.is_abbrev;
+        okuri = None;
+        pending = [];
+        completions = reading.completions;
+      };
+      notice = notice;
+    }
 
 -- a reading as its fields are seen, which a flush leaves with this behind its text and this notice
-module _ (rules : List Rule) (reading seen : Reading) (view : seen ≡ reading) (added : List ℕ) (notice : Notice) (flushed : flush rules reading ≡ flushed_to reading added notice) where
+module _ (rules : List Rule) (reading seen : Reading) (view : seen ≡ reading) (added : List ℕ) (notice : Notice)
+    (flushed : flush rules reading ≡ flushed_to reading added notice) where
   flushed_seen : flush rules reading ≡ flushed_to seen added notice
   flushed_seen = flushed ∙ ap (λ r. flushed_to r added notice) (sym view)
 
@@ -68,13 +83,24 @@ module _ (rules : List Rule) (reading seen : Reading) (view : seen ≡ reading) 
   pub prefix_ended : (whole after pending : List ℕ) (last : Notice) → seen.okuri ≡ None
       → is_empty (seen.text ++ added) ≡ false
       → last ≡ later_notice notice (refusal 254 may_read (seen.text ++ added) (0x3E ∷ []))
-      → seen.text ++ whole ≡ unless_refused (refusal 254 may_read (seen.text ++ added) (0x3E ∷ [])) (seen.text ++ added) (0x3E ∷ [])
+      → seen.text ++ whole
+      ≡ unless_refused (refusal 254 may_read (seen.text ++ added) (0x3E ∷ [])) (seen.text ++ added) (0x3E ∷ [])
       → after ≡ seen.text ++ whole → pending ≡ []
       → (ends_prefix reading.okuri (flush rules reading) ≡ true)
       × (prefix_step (flush rules reading)
-      ≡ record { reading = record { text = after; is_abbrev = seen.is_abbrev; okuri = seen.okuri; pending = pending; completions = seen.completions }; done = record { notice = last; then = Convert } })
+      ≡ record {
+        reading = record {
+          text = after;
+          is_abbrev = seen.is_abbrev;
+          okuri = seen.okuri;
+          pending = pending;
+          completions = seen.completions;
+        };
+        done = record { notice = last; then = Convert };
+      })
   prefix_ended whole after pending last none some is_last is_whole is_after nothing = (
-    ends reading.okuri (flush rules reading) (ap (λ (r : Reading). r.okuri) (sym view) ∙ none) (ap (λ (put : Put). is_empty put.reading.text) flushed_seen ∙ some),
+    ends reading.okuri (flush rules reading) (ap (λ (r : Reading). r.okuri) (sym view) ∙ none)
+        (ap (λ (put : Put). is_empty put.reading.text) flushed_seen ∙ some),
     ap prefix_step flushed_seen ∙ rw (is_last, is_after, is_whole, none, nothing) refl,
   )
 
@@ -86,12 +112,21 @@ module _ (rules : List Rule) (reading seen : Reading) (view : seen ≡ reading) 
       → after ≡ seen.text ++ added → last ≡ later_notice notice second
       → begin_okuri rules (flush rules reading) c
       ≡ record {
-        reading = record { text = after; is_abbrev = seen.is_abbrev; okuri = Some (record { letter = c; text = kana }); pending = pending; completions = seen.completions };
+        reading = record {
+          text = after;
+          is_abbrev = seen.is_abbrev;
+          okuri = Some (record { letter = c; text = kana });
+          pending = pending;
+          completions = seen.completions;
+        };
         notice = last;
       }
-  okuri_begun c before empty after pending kana out second last some is_before is_fed is_empty is_second is_kana is_after is_last =
-      let alone : fed rules [] c ≡ record { pending = pending; out = out } = ap (λ b. fed rules b c) (sym is_before) ∙ is_fed in
-      let refused : second ≡ refusal 60 may_end [] out.hira = is_second ∙ ap (λ e. refusal 60 may_end e out.hira) is_empty in
+  okuri_begun c before empty after pending kana out second last some is_before is_fed is_empty is_second is_kana
+      is_after is_last =
+      let alone : fed rules [] c ≡ record { pending = pending; out = out } =
+      ap (λ b. fed rules b c) (sym is_before) ∙ is_fed in
+      let refused : second ≡ refusal 60 may_end [] out.hira =
+      is_second ∙ ap (λ e. refusal 60 may_end e out.hira) is_empty in
       let first : kana ≡ unless_refused second [] out.hira =
       ap (λ e. e ++ kana) (sym is_empty) ∙ is_kana ∙ ap (λ e. unless_refused second e out.hira) is_empty in
       ap (λ f. begin_okuri rules f c) flushed_seen ∙ rw (some, alone, is_after, is_last, first, refused) refl

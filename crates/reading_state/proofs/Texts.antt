@@ -1,5 +1,7 @@
 -- Texts that may stand in an open reading: what is behind them, and what is before.
-use Rattle.std.proofs.Common.{◌≡◌, zero, suc, Some, slice_get, ◌≤◌, ◌<◌, ℕ, ◌+◌, ◌-◌, Bool, true, false, ◌&&◌, ◌||◌, not, nat_le, nat_lt, List, [], ◌∷◌, ◌++◌, ◌∙◌, sym, ap, subst, refl, length, take, drop, length-append, append_assoc, arith}
+use Rattle.std.proofs.Common.{◌≡◌, zero, suc, Some, slice_get, ◌≤◌, ◌<◌, ℕ, ◌+◌, ◌-◌, Bool, true, false, ◌&&◌, ◌||◌}
+use Rattle.std.proofs.Common.{not, nat_le, nat_lt, List, [], ◌∷◌, ◌++◌, ◌∙◌, sym, ap, subst, refl, length, take, drop}
+use Rattle.std.proofs.Common.{length-append, append_assoc, arith}
 use Rattle.std.specs.List.{list_all}
 use Rattle.std.specs.Option.{option_map_or}
 use Rattle.std.proofs.lemmas.Bool.{and_parts, and_from, le-leb, leb-true, lt-ltb, le-ltb, ne_eqb}
@@ -51,7 +53,8 @@ pub may_read-behind : (text piece : List ℕ) → may_read text ≡ true → byt
     ≡ (list_all is_reading_char piece && (not (is_empty text) || (is_empty piece || begins_well piece)))
 may_read-behind [] [] may fits = refl
 may_read-behind [] (c ∷ piece) may fits =
-    rw (le-leb (byte_len (c ∷ piece)) 254 (omega arith)) (turned (begins_well (c ∷ piece)) (list_all is_reading_char (c ∷ piece)))
+    rw (le-leb (byte_len (c ∷ piece)) 254 (omega arith))
+    (turned (begins_well (c ∷ piece)) (list_all is_reading_char (c ∷ piece)))
 may_read-behind (t ∷ text) piece may fits =
     let parts = and_parts (begins_well (t ∷ text)) _ may in
     let chars = (and_parts (list_all is_reading_char (t ∷ text)) _ parts.1).0 in
@@ -59,7 +62,8 @@ may_read-behind (t ∷ text) piece may fits =
     le-leb (byte_len ((t ∷ text) ++ piece)) 254 (omega (arith, byte_len-append (t ∷ text) piece)) in
     let all : list_all is_reading_char ((t ∷ text) ++ piece) ≡ list_all is_reading_char piece =
     list_all-append is_reading_char (t ∷ text) piece ∙ ap (λ b. b && list_all is_reading_char piece) chars in
-    ap (λ b. b && (list_all is_reading_char ((t ∷ text) ++ piece) && nat_le (byte_len ((t ∷ text) ++ piece)) 254)) parts.0
+    ap (λ b. b && (list_all is_reading_char ((t ∷ text) ++ piece) && nat_le (byte_len ((t ∷ text) ++ piece)) 254))
+    parts.0
     ∙ ap (λ b. list_all is_reading_char ((t ∷ text) ++ piece) && b) short
     ∙ ap (λ b. b && true) all
 
@@ -75,7 +79,8 @@ may_end-behind (t ∷ text) piece may fits =
     le-leb (byte_len ((t ∷ text) ++ piece)) 60 (omega (arith, byte_len-append (t ∷ text) piece)) in
     let all : list_all is_okuri_char ((t ∷ text) ++ piece) ≡ list_all is_okuri_char piece =
     list_all-append is_okuri_char (t ∷ text) piece ∙ ap (λ b. b && list_all is_okuri_char piece) chars in
-    ap (λ b. b && (nat_le (byte_len ((t ∷ text) ++ piece)) 60 && list_all is_okuri_char ((t ∷ text) ++ piece))) (some_bytes t (text ++ piece))
+    ap (λ b. b && (nat_le (byte_len ((t ∷ text) ++ piece)) 60 && list_all is_okuri_char ((t ∷ text) ++ piece)))
+    (some_bytes t (text ++ piece))
     ∙ ap (λ b. b && list_all is_okuri_char ((t ∷ text) ++ piece)) short
     ∙ all
 
@@ -85,14 +90,16 @@ may_read-before [] behind may = refl
 may_read-before (t ∷ text) behind may =
     let parts = and_parts (begins_well (t ∷ text)) _ may in
     let rest = and_parts (list_all is_reading_char ((t ∷ text) ++ behind)) _ parts.1 in
-    let chars = and_parts (list_all is_reading_char (t ∷ text)) _ (sym (list_all-append is_reading_char (t ∷ text) behind) ∙ rest.0) in
+    let chars = and_parts (list_all is_reading_char (t ∷ text)) _
+    (sym (list_all-append is_reading_char (t ∷ text) behind) ∙ rest.0) in
     let short : byte_len ((t ∷ text) ++ behind) ≤ 254 = leb-true _ _ rest.1 in
     and_from _ _ parts.0
     (and_from _ _ chars.0 (le-leb (byte_len (t ∷ text)) 254 (omega (arith, byte_len-append (t ∷ text) behind))))
 
 pub may_read-without_last : (text : List ℕ) → may_read text ≡ true → may_read (without_last text) ≡ true
 may_read-without_last text may =
-    may_read-before (without_last text) (drop (length text - 1) text) (ap may_read (take-append-drop (length text - 1) text) ∙ may)
+    may_read-before (without_last text) (drop (length text - 1) text)
+    (ap may_read (take-append-drop (length text - 1) text) ∙ may)
 
 -- the beginning of an okurigana may be one too
 may_end-before : (text behind : List ℕ) → may_end (text ++ behind) ≡ true → may_end text ≡ true
@@ -100,14 +107,16 @@ may_end-before [] behind may = refl
 may_end-before (t ∷ text) behind may =
     let parts = and_parts (nat_le 1 (byte_len ((t ∷ text) ++ behind))) _ may in
     let rest = and_parts (nat_le (byte_len ((t ∷ text) ++ behind)) 60) _ parts.1 in
-    let chars = and_parts (list_all is_okuri_char (t ∷ text)) _ (sym (list_all-append is_okuri_char (t ∷ text) behind) ∙ rest.1) in
+    let chars =
+    and_parts (list_all is_okuri_char (t ∷ text)) _ (sym (list_all-append is_okuri_char (t ∷ text) behind) ∙ rest.1) in
     let short : byte_len ((t ∷ text) ++ behind) ≤ 60 = leb-true _ _ rest.0 in
     and_from _ _ (some_bytes t text)
     (and_from _ _ (le-leb (byte_len (t ∷ text)) 60 (omega (arith, byte_len-append (t ∷ text) behind))) chars.0)
 
 pub may_end-without_last : (text : List ℕ) → may_end text ≡ true → may_end (without_last text) ≡ true
 may_end-without_last text may =
-    may_end-before (without_last text) (drop (length text - 1) text) (ap may_end (take-append-drop (length text - 1) text) ∙ may)
+    may_end-before (without_last text) (drop (length text - 1) text)
+    (ap may_end (take-append-drop (length text - 1) text) ∙ may)
 
 -- っ alone may stand in an okurigana
 pub doubled_may_end : may_end (0x3063 ∷ []) ≡ true
@@ -131,7 +140,8 @@ with_letter_valid (t ∷ text) letter may is some =
     let range = and_parts (nat_le 0x61 letter) _ is in
     let from : 0x61 ≤ letter = leb-true _ _ range.0 in
     let to : letter ≤ 0x7A = leb-true _ _ range.1 in
-    let char : is_reading_char letter ≡ true = and_from _ _ (lt-ltb 0x20 letter (omega arith)) (ap not (ne_eqb letter 0x7F (λ e. omega arith))) in
+    let char : is_reading_char letter ≡ true =
+    and_from _ _ (lt-ltb 0x20 letter (omega arith)) (ap not (ne_eqb letter 0x7F (λ e. omega arith))) in
     let chars : list_all is_reading_char ((t ∷ text) ++ letter ∷ []) ≡ true =
     list_all-append is_reading_char (t ∷ text) (letter ∷ []) ∙ and_from _ _ rest.0 (and_from _ _ char refl) in
     let one : byte_len (letter ∷ []) ≡ 1 = ap (λ bytes. length (bytes ++ [])) (encode_ascii letter (omega arith)) in
@@ -141,7 +151,8 @@ with_letter_valid (t ∷ text) letter may is some =
     and_from _ _ parts.0
     (and_from _ _ chars
     (and_from _ _ (le-leb (byte_len ((t ∷ text) ++ letter ∷ [])) 255 bytes)
-    (and_from _ _ (le-leb 2 (length ((t ∷ text) ++ letter ∷ [])) two) (ap is_letter (last_chars-behind (t ∷ text) letter) ∙ is))))
+    (and_from _ _ (le-leb 2 (length ((t ∷ text) ++ letter ∷ [])) two)
+    (ap is_letter (last_chars-behind (t ∷ text) letter) ∙ is))))
 
 -- the mark `>` takes one byte
 mark_bytes : byte_len (0x3E ∷ []) ≡ 1
@@ -162,7 +173,10 @@ mark_read text may some fits = rw (may_read-behind text (0x3E ∷ []) may (omega
 pub mark_put : (text : List ℕ) → may_read text ≡ true → is_empty text ≡ false → byte_len text < 254
     → refusal 254 may_read text (0x3E ∷ []) ≡ notices.Empty
 mark_put text may some fits =
-    rw (le-ltb 254 (byte_len text + byte_len (0x3E ∷ [])) (omega (arith, mark_bytes)), mark_read text may some fits) refl
+    rw (
+      le-ltb 254 (byte_len text + byte_len (0x3E ∷ [])) (omega (arith, mark_bytes)),
+      mark_read text may some fits,
+    ) refl
 
 pub mark_refused : (text : List ℕ) → 254 ≤ byte_len text → refusal 254 may_read text (0x3E ∷ []) ≡ notices.Limit
 mark_refused text full = rw (lt-ltb 254 (byte_len text + byte_len (0x3E ∷ [])) (omega (arith, mark_bytes))) refl
@@ -181,8 +195,10 @@ plain_some (c ∷ text) plain = refl
 pub completion_read : (readings : List (List ℕ)) (place : ℕ) (text : List ℕ) → list_all is_plain_reading readings ≡ true
     → slice_get readings place ≡ Some text → is_plain_reading text ≡ true
 completion_read [] place text all at = cc
-completion_read (first ∷ rest) zero text all at = sym (ap (λ found. option_map_or is_plain_reading found true) at) ∙ (and_parts (is_plain_reading first) _ all).0
-completion_read (first ∷ rest) (suc place) text all at = completion_read rest place text (and_parts (is_plain_reading first) _ all).1 at
+completion_read (first ∷ rest) zero text all at =
+    sym (ap (λ found. option_map_or is_plain_reading found true) at) ∙ (and_parts (is_plain_reading first) _ all).0
+completion_read (first ∷ rest) (suc place) text all at =
+    completion_read rest place text (and_parts (is_plain_reading first) _ all).1 at
 
 pub ruleset marks = (mark_read, mark_put, mark_refused, may_read-short, byte_len-append, append_assoc)
 

@@ -1,5 +1,6 @@
 -- An open reading, what its type keeps, and what is put into it.
-use Rattle.std.specs.Prelude.{ℕ, ◌+◌, Bool, true, false, ◌&&◌, ◌||◌, not, nat_lt, if◌then◌else◌, Option, None, Some, List, [], ◌∷◌, ◌++◌, length}
+use Rattle.std.specs.Prelude.{ℕ, ◌+◌, Bool, true, false, ◌&&◌, ◌||◌, not, nat_lt, if◌then◌else◌, Option, None, Some}
+use Rattle.std.specs.Prelude.{List, [], ◌∷◌, ◌++◌, length}
 use Rattle.std.specs.List.{list_all}
 use Rattle.skk_text.specs.Characters.{code}
 use Rattle.skk_text.specs.Lists.{is_empty}
@@ -20,8 +21,8 @@ pub record Completions : Type 0 where
   pub readings : List (List ℕ)
   pub place : ℕ
 
--- an open reading: its characters, whether it is an abbreviation, its okurigana where one was begun, the letters that wait
--- for more, and its completions where they are kept
+-- an open reading: its characters, whether it is an abbreviation, its okurigana where one was begun, the letters that
+-- wait for more, and its completions where they are kept
 pub record Reading : Type 0 where
   pub text : List ℕ
   pub is_abbrev : Bool
@@ -72,8 +73,8 @@ abbrev pub later_notice : Notice → Notice → Notice
 later_notice first notices.Empty = first
 later_notice first second = second
 
--- why a piece is not put at the end of a text: it would pass its limit, or would not be one that may stand there; nothing
--- where it is put
+-- why a piece is not put at the end of a text: it would pass its limit, or would not be one that may stand there;
+-- nothing where it is put
 abbrev pub refusal : ℕ → (List ℕ → Bool) → List ℕ → List ℕ → Notice
 refusal limit may_stand text piece =
     if nat_lt limit (byte_len text + byte_len piece) then notices.Limit
@@ -94,7 +95,9 @@ put_into reading None piece =
 put_into reading (Some begun) piece =
     let notice = refusal okuri_limit may_end begun.text piece in
     record {
-      reading = record reading { okuri = Some (record { letter = begun.letter; text = unless_refused notice begun.text piece }) };
+      reading = record reading {
+        okuri = Some (record { letter = begun.letter; text = unless_refused notice begun.text piece });
+      };
       notice = notice;
     }
 

@@ -1,5 +1,6 @@
 -- The reading state ▽: what a key does to an open reading.
-use Rattle.std.specs.Prelude.{ℕ, suc, ◌-◌, Bool, true, false, ◌&&◌, ◌||◌, ◌==◌, not, nat_le, if◌then◌else◌, Option, None, Some, List, [], ◌∷◌, slice_get}
+use Rattle.std.specs.Prelude.{ℕ, suc, ◌-◌, Bool, true, false, ◌&&◌, ◌||◌, ◌==◌, not, nat_le, if◌then◌else◌, Option}
+use Rattle.std.specs.Prelude.{None, Some, List, [], ◌∷◌, slice_get}
 use Rattle.std.specs.Char.{to_ascii_lowercase}
 use Rattle.std.specs.Option.{option_map_or}
 use Rattle.skk_text.specs.Characters.{code}
@@ -13,10 +14,12 @@ use Rattle.romaji_rules.specs.declared.rule.Rule.{Rule}
 use Rattle.romaji_rules.specs.Typed.{fed, flushed, extends_pending}
 use Rattle.reading_state.specs.Puts.{Begun, Completions, Reading, Put, put, later_notice}
 use Rattle.reading_state.specs.declared.reading_do.AfterConfirm.{AfterConfirm}
-use Rattle.reading_state.specs.declared.reading_do.AfterConfirm.TheVariants.{Nothing, ToAscii, ToWide, OpenReading, Newline}
+use Rattle.reading_state.specs.declared.reading_do.AfterConfirm.TheVariants.{Nothing, ToAscii, ToWide, OpenReading}
+use Rattle.reading_state.specs.declared.reading_do.AfterConfirm.TheVariants.{Newline}
 use Rattle.reading_state.specs.declared.reading_do.ReadingDo.{ReadingDo}
 use Rattle.reading_state.specs.declared.reading_do.ReadingThen.{ReadingThen}
-use Rattle.reading_state.specs.declared.reading_do.ReadingThen.TheVariants.{Stay, Convert, AskCompletions, Drop, Confirm}
+use Rattle.reading_state.specs.declared.reading_do.ReadingThen.TheVariants.{Stay, Convert, AskCompletions, Drop}
+use Rattle.reading_state.specs.declared.reading_do.ReadingThen.TheVariants.{Confirm}
 
 -- a key's step: the reading after it, and what it gives
 pub record ReadingStep : Type 0 where
@@ -59,7 +62,8 @@ is_whole reading = is_filled_okuri reading.okuri && is_empty reading.pending
 abbrev pub typed_step : Put → ReadingStep
 typed_step put = step_to put.reading put.notice (if is_whole put.reading then Convert else Stay)
 
--- the step of the space behind its flush: it closes an empty reading, gives up an okurigana that has no kana, or converts
+-- the step of the space behind its flush: it closes an empty reading, gives up an okurigana that has no kana,
+-- or converts
 abbrev pub space_step : Put → ReadingStep
 space_step put =
     if is_empty put.reading.text then step_to put.reading put.notice Drop
@@ -116,9 +120,9 @@ put_upper rules reading None c =
     else begin_okuri rules (flush rules reading) c
 put_upper rules reading (Some begun) c = feed rules reading c
 
--- the step of a character: in an abbreviation all but the space are put as themselves; else, by the first case that fits,
--- it goes on with what is pending; it is the space, `q`, `l`, `L`, `Q`, the `>` behind a prefix, or another upper-case
--- letter; or it is read by the rules
+-- the step of a character: in an abbreviation all but the space are put as themselves; else, by the first case that
+-- fits, it goes on with what is pending; it is the space, `q`, `l`, `L`, `Q`, the `>` behind a prefix, or another
+-- upper-case letter; or it is read by the rules
 abbrev pub char_step : List Rule → Reading → ℕ → ReadingStep
 char_step rules reading c =
     if reading.is_abbrev && not (c == code " ") then typed_step (put reading (c ∷ []))
@@ -129,7 +133,8 @@ char_step rules reading c =
     else if c == code "L" then confirm_step rules reading false ToWide
     else if c == code "Q" then confirm_step rules reading false OpenReading
     else if c == code ">" && ends_prefix reading.okuri (flush rules reading) then prefix_step (flush rules reading)
-    else if nat_le (code "A") c && nat_le c (code "Z") then typed_step (put_upper rules reading reading.okuri (to_ascii_lowercase c))
+    else if nat_le (code "A") c && nat_le c (code "Z")
+    then typed_step (put_upper rules reading reading.okuri (to_ascii_lowercase c))
     else typed_step (feed rules reading c)
 
 -- an okurigana is given up where it has no kana and nothing is pending
@@ -142,8 +147,8 @@ abbrev pub okuri_without_last : Option Begun → Option Begun
 okuri_without_last None = None
 okuri_without_last (Some begun) = Some (record { letter = begun.letter; text = without_last begun.text })
 
--- the step of backspace: it takes the last pending letter, or else the okurigana's last kana, or else the reading's last
--- character; where there is none of these it closes the reading
+-- the step of backspace: it takes the last pending letter, or else the okurigana's last kana, or else the reading's
+-- last character; where there is none of these it closes the reading
 abbrev pub delete_step : Reading → ReadingStep
 delete_step reading =
     if not (is_empty reading.pending)
@@ -205,8 +210,8 @@ abbrev pub is_previous : Key → Bool
 is_previous (Char c) = c == code ","
 is_previous key = false
 
--- the step of a key where completions are kept: Tab and `.` go to the next, `,` to the one before, and any other key gives
--- them up
+-- the step of a key where completions are kept: Tab and `.` go to the next, `,` to the one before, and any other key
+-- gives them up
 abbrev pub kept_step : List Rule → Reading → Completions → Key → ReadingStep
 kept_step rules reading kept key =
     if is_next key then next_step reading kept

@@ -2,8 +2,8 @@
 //!
 //! It stands on the romaji rules and on the keys of the dictionary. `press_reading` reads a key: it puts kana into the
 //! reading or its okurigana, deletes them, closes the reading, confirms it, or asks that it be converted or completed;
-//! what is done then is the session's. The type `Reading` keeps that its text is empty or a valid reading, so that what is
-//! converted always has a key.
+//! what is done then is the session's. The type `Reading` keeps that its text is empty or a valid reading, so that what
+//! is converted always has a key.
 #![tactic(auto)]
 
 mod press;

@@ -1,6 +1,8 @@
 ghost use Rattle.std.specs.Prelude.{◌≡◌, ◌≢◌, ◌==◌, ◌&&◌, not, [], false, if◌then◌else◌, IfOk, OnErr};
 ghost use Rattle.romaji_rules.specs.Typed.{extends_pending};
-ghost use Rattle.reading_state.specs.Reading.{reading_step, key_step, is_next, is_previous, without_completions, char_step, typed_step, space_step, confirm_step, tab_step, ends_prefix, prefix_step, flush, feed};
+ghost use Rattle.reading_state.specs.Reading.{reading_step, key_step, is_next, is_previous, without_completions};
+ghost use Rattle.reading_state.specs.Reading.{char_step, typed_step, space_step, confirm_step, tab_step, ends_prefix};
+ghost use Rattle.reading_state.specs.Reading.{prefix_step, flush, feed};
 
 use crate::reading::Reading;
 use crate::reading_do::{AfterConfirm, ReadingDo, ReadingThen};
@@ -8,15 +10,16 @@ use romaji_rules::Rules;
 use skk_text::{Key, Memory, Notice};
 use std::alloc::Global;
 
-/// Reads a key in the reading state. After `Memory` the reading is as before. Takes time in what the key does: in the step
-/// of the rules, and in the text that it puts.
+/// Reads a key in the reading state. After `Memory` the reading is as before. Takes time in what the key does: in the
+/// step of the rules, and in the text that it puts.
 pub fn press_reading(
     alloc: Global,
     reading: &mut Reading,
     rules: &Rules,
     key: Key,
 ) -> Result<ReadingDo, Memory>
-    ensures ok { IfOk result (λ done. reading_step rules.now reading.old key ≡ record { reading = reading.new; done = done }) }
+    ensures ok { IfOk result (λ done. reading_step rules.now reading.old key
+        ≡ record { reading = reading.new; done = done }) }
     ensures err { OnErr result (reading.new ≡ reading.old) }
     ensures convertible { IfOk result (λ done. done.then ≡ ReadingThen.Convert → reading.new.text ≢ []) }
 {
@@ -53,7 +56,8 @@ fn press_other(
     rules: &Rules,
     key: Key,
 ) -> Result<ReadingDo, Memory>
-    ensures ok { IfOk result (λ done. key_step rules.now (without_completions reading.old) key ≡ record { reading = reading.new; done = done }) }
+    ensures ok { IfOk result (λ done. key_step rules.now (without_completions reading.old) key
+        ≡ record { reading = reading.new; done = done }) }
     ensures err { OnErr result (reading.new ≡ reading.old) }
     ensures convertible { IfOk result (λ done. done.then ≡ ReadingThen.Convert → reading.new.text ≢ []) }
 {
@@ -72,7 +76,8 @@ fn press_key(
     rules: &Rules,
     key: Key,
 ) -> Result<ReadingDo, Memory>
-    ensures ok { IfOk result (λ done. key_step rules.now reading.old key ≡ record { reading = reading.new; done = done }) }
+    ensures ok { IfOk result (λ done. key_step rules.now reading.old key
+        ≡ record { reading = reading.new; done = done }) }
     ensures err { OnErr result (reading.new ≡ reading.old) }
     ensures convertible { IfOk result (λ done. done.then ≡ ReadingThen.Convert → reading.new.text ≢ []) }
 {
@@ -94,7 +99,8 @@ fn press_char(
     rules: &Rules,
     c: u8,
 ) -> Result<ReadingDo, Memory>
-    ensures ok { IfOk result (λ done. char_step rules.now reading.old c ≡ record { reading = reading.new; done = done }) }
+    ensures ok { IfOk result (λ done. char_step rules.now reading.old c
+        ≡ record { reading = reading.new; done = done }) }
     ensures err { OnErr result (reading.new ≡ reading.old) }
     ensures convertible { IfOk result (λ done. done.then ≡ ReadingThen.Convert → reading.new.text ≢ []) }
 {
@@ -117,7 +123,8 @@ fn press_anew(
 ) -> Result<ReadingDo, Memory>
     requires read { (reading.old.is_abbrev && not (c == 0x20)) ≡ false }
     requires anew { extends_pending rules.now reading.old.pending c ≡ false }
-    ensures ok { IfOk result (λ done. char_step rules.now reading.old c ≡ record { reading = reading.new; done = done }) }
+    ensures ok { IfOk result (λ done. char_step rules.now reading.old c
+        ≡ record { reading = reading.new; done = done }) }
     ensures err { OnErr result (reading.new ≡ reading.old) }
     ensures convertible { IfOk result (λ done. done.then ≡ ReadingThen.Convert → reading.new.text ≢ []) }
 {
@@ -141,7 +148,8 @@ fn press_anew(
 
 // Reads the space: behind the flush it closes an empty reading, gives up an okurigana that has no kana, or converts.
 fn press_space(alloc: Global, reading: &mut Reading, rules: &Rules) -> Result<ReadingDo, Memory>
-    ensures ok { IfOk result (λ done. space_step (flush rules.now reading.old) ≡ record { reading = reading.new; done = done }) }
+    ensures ok { IfOk result (λ done. space_step (flush rules.now reading.old)
+        ≡ record { reading = reading.new; done = done }) }
     ensures err { OnErr result (reading.new ≡ reading.old) }
     ensures convertible { IfOk result (λ done. done.then ≡ ReadingThen.Convert → reading.new.text ≢ []) }
 {
@@ -152,7 +160,9 @@ fn press_space(alloc: Global, reading: &mut Reading, rules: &Rules) -> Result<Re
 // Reads `>`: it ends a prefix, which is converted then, or is read by the rules.
 fn press_greater(alloc: Global, reading: &mut Reading, rules: &Rules) -> Result<ReadingDo, Memory>
     requires { extends_pending rules.now reading.old.pending 0x3E ≡ false }
-    ensures ok { IfOk result (λ done. (if ends_prefix reading.old.okuri (flush rules.now reading.old) then prefix_step (flush rules.now reading.old) else typed_step (feed rules.now reading.old 0x3E)) ≡ record { reading = reading.new; done = done }) }
+    ensures ok { IfOk result (λ done. (if ends_prefix reading.old.okuri (flush rules.now reading.old)
+        then prefix_step (flush rules.now reading.old)
+        else typed_step (feed rules.now reading.old 0x3E)) ≡ record { reading = reading.new; done = done }) }
     ensures err { OnErr result (reading.new ≡ reading.old) }
     ensures convertible { IfOk result (λ done. done.then ≡ ReadingThen.Convert → reading.new.text ≢ []) }
 {
@@ -171,7 +181,8 @@ fn confirm(
     other: bool,
     after: AfterConfirm,
 ) -> Result<ReadingDo, Memory>
-    ensures ok { IfOk result (λ done. confirm_step rules.now reading.old other after ≡ record { reading = reading.new; done = done }) }
+    ensures ok { IfOk result (λ done. confirm_step rules.now reading.old other after
+        ≡ record { reading = reading.new; done = done }) }
     ensures err { OnErr result (reading.new ≡ reading.old) }
 {
     let notice = reading.flush(alloc, rules)?;
@@ -180,7 +191,8 @@ fn confirm(
 
 // Flushes and asks for completions, where no okurigana was begun.
 fn ask_completions(alloc: Global, reading: &mut Reading, rules: &Rules) -> Result<ReadingDo, Memory>
-    ensures ok { IfOk result (λ done. tab_step rules.now reading.old reading.old.okuri ≡ record { reading = reading.new; done = done }) }
+    ensures ok { IfOk result (λ done. tab_step rules.now reading.old reading.old.okuri
+        ≡ record { reading = reading.new; done = done }) }
     ensures err { OnErr result (reading.new ≡ reading.old) }
 {
     if reading.begun_text().is_some() {
@@ -192,7 +204,8 @@ fn ask_completions(alloc: Global, reading: &mut Reading, rules: &Rules) -> Resul
 
 // What is done behind a character that was put: where an okurigana is whole, the conversion starts.
 fn put_effect(reading: &Reading, notice: Notice) -> ReadingDo
-    ensures step { typed_step (record { reading = reading.now; notice = notice }) ≡ record { reading = reading.now; done = result } }
+    ensures step { typed_step (record { reading = reading.now; notice = notice })
+        ≡ record { reading = reading.now; done = result } }
     ensures convertible { result.then ≡ ReadingThen.Convert → reading.now.text ≢ [] }
 {
     if reading.is_whole() {

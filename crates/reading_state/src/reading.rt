@@ -31,9 +31,9 @@ impl Model for Begun {
     ghost view = { λ b. record { letter = b.letter; text = b.text } };
 }
 
-/// An open reading, its okurigana where one was begun, the letters that wait for more, and its completions where they are
-/// kept. The reading is empty or valid without okurigana, of at most 254 bytes. An okurigana has a letter from `a` to `z`
-/// and a reading before it, and is empty or valid, of at most 60 bytes.
+/// An open reading, its okurigana where one was begun, the letters that wait for more, and its completions where they
+/// are kept. The reading is empty or valid without okurigana, of at most 254 bytes. An okurigana has a letter from `a`
+/// to `z` and a reading before it, and is empty or valid, of at most 60 bytes.
 #[derive(Drop)]
 pub struct Reading {
     text: Text,
@@ -49,9 +49,21 @@ impl Model for Reading {
 
     ghost Value = { Reading };
 
-    ghost view = { λ r. record { text = r.text; is_abbrev = r.is_abbrev; okuri = r.okuri; pending = r.pending; completions = r.completions } };
+    ghost view = { λ r. record {
+      text = r.text;
+      is_abbrev = r.is_abbrev;
+      okuri = r.okuri;
+      pending = r.pending;
+      completions = r.completions;
+    } };
 
-    ghost invariant = { λ r. is_open (record { text = r.text; is_abbrev = r.is_abbrev; okuri = r.okuri; pending = r.pending; completions = r.completions }) ≡ true };
+    ghost invariant = { λ r. is_open (record {
+      text = r.text;
+      is_abbrev = r.is_abbrev;
+      okuri = r.okuri;
+      pending = r.pending;
+      completions = r.completions;
+    }) ≡ true };
 }
 
 impl Reading {

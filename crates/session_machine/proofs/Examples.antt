@@ -1,5 +1,6 @@
 -- Sessions and keys, as the definitions compute them.
-use Rattle.std.proofs.Common.{◌≡◌, refl, arith, ℕ, Bool, true, false, map, Option, Some, None, option_map, List, [], ◌∷◌, ◌++◌, codes, replicate}
+use Rattle.std.proofs.Common.{◌≡◌, refl, arith, ℕ, Bool, true, false, map, Option, Some, None, option_map, List, []}
+use Rattle.std.proofs.Common.{◌∷◌, ◌++◌, codes, replicate}
 use lib.Utf8.{encode}
 use Rattle.skk_text.specs.declared.key.Key.{Key}
 use Rattle.skk_text.specs.declared.key.Key.TheVariants.{Char, Cj, Cg, Bs, Ret, Tab, Undo}
@@ -27,7 +28,8 @@ use Rattle.session_machine.specs.declared.frame.State.TheVariants as states
 use Rattle.session_machine.specs.declared.session_notice.SessionNotice.{SessionNotice}
 use Rattle.session_machine.specs.declared.session_notice.SessionNotice.TheVariants as told
 use Rattle.session_machine.specs.Pressed.{pressed, all_pressed, reading_piece, choice_piece, after_learning}
-use Rattle.session_machine.specs.Session.{Session, FrameFits, frames_of, is_session, text_limit, new_session, text_of, choice_within, choice_at, without_chars, has_room}
+use Rattle.session_machine.specs.Session.{Session, FrameFits, frames_of, is_session, text_limit, new_session, text_of}
+use Rattle.session_machine.specs.Session.{choice_within, choice_at, without_chars, has_room}
 
 -- a table of two inputs, あ and ん
 abbrev rules : List Rule
@@ -39,7 +41,13 @@ rules =
 -- a session of typist 3, who learns in the shared book, with a text, a mode, a state and a notice
 abbrev at : List ℕ → Mode → State → SessionNotice → Session
 at text mode state notice =
-    record { typist = 3; book = 0; frame = record { text = text; mode = mode; state = state; last_choice = None }; outer = []; notice = notice }
+    record {
+      typist = 3;
+      book = 0;
+      frame = record { text = text; mode = mode; state = state; last_choice = None };
+      outer = [];
+      notice = notice;
+    }
 
 abbrev none : SessionNotice
 none = told.Step notices.Empty
@@ -75,7 +83,11 @@ found = cand (codes "亜") [] ∷ cand (codes "阿") (codes "二") ∷ []
 abbrev conversion : ℕ → Bool → Conversion
 conversion place question = record {
   reading = reading (codes "あ") [];
-  picking = record { shown = shown (codes "あ") (cand (codes "亜") []) ∷ shown (codes "あ") (cand (codes "阿") (codes "二")) ∷ []; place = place; question = question };
+  picking = record {
+    shown = shown (codes "あ") (cand (codes "亜") []) ∷ shown (codes "あ") (cand (codes "阿") (codes "二")) ∷ [];
+    place = place;
+    question = question;
+  };
 }
 
 abbrev picking : ℕ → State
@@ -88,7 +100,13 @@ after session key answers = end_of (pressed rules session key) answers
 abbrev found_two : List Answer
 found_two = Done (replies.Found found) ∷ []
 
-new : (new_session 3 3 ≡ record { typist = 3; book = 3; frame = record { text = []; mode = Hira; state = plain; last_choice = None }; outer = []; notice = none })
+new : (new_session 3 3 ≡ record {
+  typist = 3;
+  book = 3;
+  frame = record { text = []; mode = Hira; state = plain; last_choice = None };
+  outer = [];
+  notice = none;
+})
 new = refl
 
 -- a session learns in the shared book or in its typist's
@@ -107,7 +125,8 @@ past_the_limit : (frame : Frame) → byte_len frame.text ≡ 1048577 → FrameFi
 past_the_limit frame full fits = omega (arith, full, fits)
 
 room_to_limit : (text : List ℕ) → byte_len text ≡ 1048573
-    → map (λ piece. has_room (at text Hira plain none) piece) (codes "abc" ∷ codes "あ" ∷ codes "abcd" ∷ codes "あa" ∷ [] ∷ [])
+    → map (λ piece. has_room (at text Hira plain none) piece)
+    (codes "abc" ∷ codes "あ" ∷ codes "abcd" ∷ codes "あa" ∷ [] ∷ [])
     ≡ true ∷ true ∷ false ∷ false ∷ true ∷ []
 unfolding encode
 room_to_limit text full = rw full refl
@@ -126,7 +145,8 @@ in_order : map (λ (frame : Frame). frame.text) (frames_of nested) ≡ codes "�
 in_order = refl
 
 -- in the plain state
-typed : after (at (codes "x") Kata plain (told.Refused refusals.Memory)) (Char 97) [] ≡ Some (Some (at (codes "xア") Kata plain none))
+typed : after (at (codes "x") Kata plain (told.Refused refusals.Memory)) (Char 97) []
+    ≡ Some (Some (at (codes "xア") Kata plain none))
 unfolding encode
 typed = refl
 
@@ -134,19 +154,23 @@ deleted : after (at (codes "xy") Hira plain none) Bs [] ≡ Some (Some (at (code
 unfolding encode
 deleted = refl
 
-newline : after (at (codes "x") Hira (states.Plain (codes "n")) none) Ret [] ≡ Some (Some (at (codes "xん" ++ 10 ∷ []) Hira plain none))
+newline : after (at (codes "x") Hira (states.Plain (codes "n")) none) Ret []
+    ≡ Some (Some (at (codes "xん" ++ 10 ∷ []) Hira plain none))
 unfolding encode
 newline = refl
 
-opened : after (at (codes "x") Hira (states.Plain (codes "n")) none) (Char 81) [] ≡ Some (Some (at (codes "xん") Hira (unfinished []) none))
+opened : after (at (codes "x") Hira (states.Plain (codes "n")) none) (Char 81) []
+    ≡ Some (Some (at (codes "xん") Hira (unfinished []) none))
 unfolding encode
 opened = refl
 
-opened_with : after (at (codes "x") Kata (states.Plain (codes "n")) none) (Char 65) [] ≡ Some (Some (at (codes "xン") Kata (unfinished (codes "あ")) none))
+opened_with : after (at (codes "x") Kata (states.Plain (codes "n")) none) (Char 65) []
+    ≡ Some (Some (at (codes "xン") Kata (unfinished (codes "あ")) none))
 unfolding encode
 opened_with = refl
 
-abbreviated : after (at (codes "x") Hira (states.Plain (codes "n")) none) (Char 47) [] ≡ Some (Some (at (codes "xん") Hira (abbreviation []) none))
+abbreviated : after (at (codes "x") Hira (states.Plain (codes "n")) none) (Char 47) []
+    ≡ Some (Some (at (codes "xん") Hira (abbreviation []) none))
 unfolding encode
 abbreviated = refl
 
@@ -154,16 +178,19 @@ cancelled : after (at (codes "x") Hira plain none) Cg [] ≡ Some (Some (at (cod
 unfolding encode
 cancelled = refl
 
-nothing_back : after (at (codes "x") Hira (states.Plain (codes "n")) none) Undo [] ≡ Some (Some (at (codes "x") Hira (states.Plain (codes "n")) (told.Step notices.NoUndo)))
+nothing_back : after (at (codes "x") Hira (states.Plain (codes "n")) none) Undo []
+    ≡ Some (Some (at (codes "x") Hira (states.Plain (codes "n")) (told.Step notices.NoUndo)))
 unfolding encode
 nothing_back = refl
 
 -- in the reading state
-put : after (at (codes "x") Kata (unfinished (codes "あ")) none) (Char 97) [] ≡ Some (Some (at (codes "x") Kata (unfinished (codes "ああ")) none))
+put : after (at (codes "x") Kata (unfinished (codes "あ")) none) (Char 97) []
+    ≡ Some (Some (at (codes "x") Kata (unfinished (codes "ああ")) none))
 unfolding encode
 put = refl
 
-refused : after (at [] Hira (unfinished []) none) (Char 59) [] ≡ Some (Some (at [] Hira (unfinished []) (told.Step notices.Reading)))
+refused : after (at [] Hira (unfinished []) none) (Char 59) []
+    ≡ Some (Some (at [] Hira (unfinished []) (told.Step notices.Reading)))
 unfolding encode
 refused = refl
 
@@ -171,19 +198,23 @@ closed : after (at (codes "x") Hira (unfinished (codes "あ")) none) Cg [] ≡ S
 unfolding encode
 closed = refl
 
-confirmed_in : after (at (codes "x") Kata (states.Reading (reading (codes "あ") (codes "n"))) none) Cj [] ≡ Some (Some (at (codes "xアン") Kata plain none))
+confirmed_in : after (at (codes "x") Kata (states.Reading (reading (codes "あ") (codes "n"))) none) Cj []
+    ≡ Some (Some (at (codes "xアン") Kata plain none))
 unfolding encode
 confirmed_in = refl
 
-confirmed_other : after (at (codes "x") Hira (unfinished (codes "あ")) none) (Char 113) [] ≡ Some (Some (at (codes "xア") Hira plain none))
+confirmed_other : after (at (codes "x") Hira (unfinished (codes "あ")) none) (Char 113) []
+    ≡ Some (Some (at (codes "xア") Hira plain none))
 unfolding encode
 confirmed_other = refl
 
-confirmed_back : after (at (codes "x") Kata (unfinished (codes "あ")) none) (Char 113) [] ≡ Some (Some (at (codes "xあ") Kata plain none))
+confirmed_back : after (at (codes "x") Kata (unfinished (codes "あ")) none) (Char 113) []
+    ≡ Some (Some (at (codes "xあ") Kata plain none))
 unfolding encode
 confirmed_back = refl
 
-to_ascii : after (at [] Hira (unfinished (codes "あ")) none) (Char 108) [] ≡ Some (Some (at (codes "あ") Ascii plain none))
+to_ascii : after (at [] Hira (unfinished (codes "あ")) none) (Char 108) []
+    ≡ Some (Some (at (codes "あ") Ascii plain none))
 unfolding encode
 to_ascii = refl
 
@@ -191,11 +222,13 @@ to_wide : after (at [] Hira (unfinished (codes "あ")) none) (Char 76) [] ≡ So
 unfolding encode
 to_wide = refl
 
-opened_again : after (at [] Hira (unfinished (codes "あ")) none) (Char 81) [] ≡ Some (Some (at (codes "あ") Hira (unfinished []) none))
+opened_again : after (at [] Hira (unfinished (codes "あ")) none) (Char 81) []
+    ≡ Some (Some (at (codes "あ") Hira (unfinished []) none))
 unfolding encode
 opened_again = refl
 
-ended : after (at [] Hira (unfinished (codes "あ")) none) Ret [] ≡ Some (Some (at (codes "あ" ++ 10 ∷ []) Hira plain none))
+ended : after (at [] Hira (unfinished (codes "あ")) none) Ret []
+    ≡ Some (Some (at (codes "あ" ++ 10 ∷ []) Hira plain none))
 unfolding encode
 ended = refl
 
@@ -205,48 +238,65 @@ with_okuri = refl
 
 not_built_in_reading :
     (after (at [] Hira (unfinished (codes "あ")) none) Tab [] ≡ Some None)
-    × (after (at [] Hira (unfinished (codes "あ0")) none) (Char 32) [] ≡ Some None) × (after (at [] Hira (unfinished (codes "9あ")) none) (Char 32) [] ≡ Some None)
-    × (after (at [] Hira (unfinished (codes "あ0")) none) (Char 62) [] ≡ Some None) × (after (at [] Hira (unfinished (codes "0")) none) (Char 65) [] ≡ Some None)
+    × (after (at [] Hira (unfinished (codes "あ0")) none) (Char 32) [] ≡ Some None)
+    × (after (at [] Hira (unfinished (codes "9あ")) none) (Char 32) [] ≡ Some None)
+    × (after (at [] Hira (unfinished (codes "あ0")) none) (Char 62) [] ≡ Some None)
+    × (after (at [] Hira (unfinished (codes "0")) none) (Char 65) [] ≡ Some None)
     × (after (at [] Hira (abbreviation (codes "p125")) none) (Char 32) [] ≡ Some None)
 unfolding encode
 not_built_in_reading = (refl, refl, refl, refl, refl, refl)
 
 -- an upper-case letter is read in an empty reading, and begins an okurigana behind another, which may refuse it
 upper_case : map (λ (text : List ℕ). after (at [] Hira (unfinished text) none) (Char 75) []) ([] ∷ codes "あ" ∷ [])
-    ≡ Some (Some (at [] Hira (unfinished (codes "k")) none)) ∷ Some (Some (at [] Hira (states.Reading (with_begun (codes "あ") 107 [])) (told.Step notices.Reading))) ∷ []
+    ≡ Some (Some (at [] Hira (unfinished (codes "k")) none))
+    ∷ Some (Some (at [] Hira (states.Reading (with_begun (codes "あ") 107 [])) (told.Step notices.Reading))) ∷ []
 unfolding encode
 upper_case = refl
 
 -- characters beside the letters and the digits
 beside_letters :
-    (after (at [] Hira (unfinished (codes "あ")) none) (Char 64) [] ≡ Some (Some (at [] Hira (unfinished (codes "あ@")) none)))
-    × (after (at [] Hira (unfinished (codes "あ")) none) (Char 91) [] ≡ Some (Some (at [] Hira (unfinished (codes "あ[")) none)))
-    × (asked (pressed rules (at [] Hira (unfinished (codes "あ/:")) none) (Char 32)) found_two ≡ Lookup 3 (record { part = Nasi; reading = codes "あ/:" }) None ∷ [])
+    (after (at [] Hira (unfinished (codes "あ")) none) (Char 64) []
+    ≡ Some (Some (at [] Hira (unfinished (codes "あ@")) none)))
+    × (after (at [] Hira (unfinished (codes "あ")) none) (Char 91) []
+    ≡ Some (Some (at [] Hira (unfinished (codes "あ[")) none)))
+    × (asked (pressed rules (at [] Hira (unfinished (codes "あ/:")) none) (Char 32)) found_two
+    ≡ Lookup 3 (record { part = Nasi; reading = codes "あ/:" }) None ∷ [])
 unfolding encode
 beside_letters = (refl, refl, refl)
 
 -- conversion
-looked_up : asked (pressed rules (at (codes "x") Kata (states.Reading (reading (codes "あ") (codes "n"))) none) (Char 32)) found_two
+looked_up : asked
+    (pressed rules (at (codes "x") Kata (states.Reading (reading (codes "あ") (codes "n"))) none) (Char 32)) found_two
     ≡ Lookup 3 (record { part = Nasi; reading = codes "あん" }) None ∷ []
 unfolding encode
 looked_up = refl
 
--- an okurigana that is whole, a prefix with its `>` and an abbreviation are looked up too, the okurigana with its key's letter
+-- an okurigana that is whole, a prefix with its `>` and an abbreviation are looked up too,
+-- the okurigana with its key's letter
 asked_for : map (λ (line : State × Key). asked (pressed rules (at (codes "x") Kata line.0 none) line.1) found_two)
-    ((unfinished (codes "あ"), Char 65) ∷ (states.Reading (with_begun (codes "あ") 107 []), Char 97) ∷ (unfinished (codes "あ"), Char 62)
-    ∷ (states.Reading (reading (codes "あ") (codes "n")), Char 62) ∷ (states.Reading (with_begun (codes "あ") 107 (codes "く")), Char 32)
+    ((unfinished (codes "あ"), Char 65) ∷ (states.Reading (with_begun (codes "あ") 107 []), Char 97)
+    ∷ (unfinished (codes "あ"), Char 62)
+    ∷ (states.Reading (reading (codes "あ") (codes "n")), Char 62)
+    ∷ (states.Reading (with_begun (codes "あ") 107 (codes "く")), Char 32)
     ∷ (abbreviation (codes "ab"), Char 32) ∷ [])
-    ≡ (Lookup 3 (record { part = Ari; reading = codes "あa" }) (Some (codes "あ")) ∷ []) ∷ (Lookup 3 (record { part = Ari; reading = codes "あk" }) (Some (codes "あ")) ∷ [])
-    ∷ (Lookup 3 (record { part = Nasi; reading = codes "あ>" }) None ∷ []) ∷ (Lookup 3 (record { part = Nasi; reading = codes "あん>" }) None ∷ [])
-    ∷ (Lookup 3 (record { part = Ari; reading = codes "あk" }) (Some (codes "く")) ∷ []) ∷ (Lookup 3 (record { part = Nasi; reading = codes "ab" }) None ∷ []) ∷ []
+    ≡ (Lookup 3 (record { part = Ari; reading = codes "あa" }) (Some (codes "あ")) ∷ [])
+    ∷ (Lookup 3 (record { part = Ari; reading = codes "あk" }) (Some (codes "あ")) ∷ [])
+    ∷ (Lookup 3 (record { part = Nasi; reading = codes "あ>" }) None ∷ [])
+    ∷ (Lookup 3 (record { part = Nasi; reading = codes "あん>" }) None ∷ [])
+    ∷ (Lookup 3 (record { part = Ari; reading = codes "あk" }) (Some (codes "く")) ∷ [])
+    ∷ (Lookup 3 (record { part = Nasi; reading = codes "ab" }) None ∷ []) ∷ []
 unfolding encode
 asked_for = refl
 
 -- a notice of the key stays where its reading is converted
-converted_with_notice : (after (at (codes "x") Hira (states.Reading (with_begun (codes "あ") 107 (codes "く"))) none) (Char 49) (Refused refusals.Disk ∷ [])
-    ≡ Some (Some (at (codes "x") Hira (states.Reading (with_begun (codes "あ") 107 (codes "く"))) (told.Refused refusals.Disk))))
-    × (after (at (codes "x") Hira (states.Reading (with_begun (codes "あ") 107 (codes "く"))) none) (Char 49) (Done replies.Purged ∷ [])
-    ≡ Some (Some (at (codes "x") Hira (states.Reading (with_begun (codes "あ") 107 (codes "く"))) (told.Step notices.Reading))))
+converted_with_notice : (after (at (codes "x") Hira (states.Reading (with_begun (codes "あ") 107 (codes "く"))) none)
+    (Char 49) (Refused refusals.Disk ∷ [])
+    ≡ Some
+    (Some (at (codes "x") Hira (states.Reading (with_begun (codes "あ") 107 (codes "く"))) (told.Refused refusals.Disk))))
+    × (after (at (codes "x") Hira (states.Reading (with_begun (codes "あ") 107 (codes "く"))) none) (Char 49)
+    (Done replies.Purged ∷ [])
+    ≡ Some
+    (Some (at (codes "x") Hira (states.Reading (with_begun (codes "あ") 107 (codes "く"))) (told.Step notices.Reading))))
 unfolding encode
 converted_with_notice = (refl, refl)
 
@@ -254,11 +304,13 @@ unanswered : after (at [] Hira (unfinished (codes "あ")) none) (Char 32) [] ≡
 unfolding encode
 unanswered = refl
 
-shown_first : after (at (codes "x") Hira (unfinished (codes "あ")) (told.Step notices.Reading)) (Char 32) found_two ≡ Some (Some (at (codes "x") Hira (picking 0) none))
+shown_first : after (at (codes "x") Hira (unfinished (codes "あ")) (told.Step notices.Reading)) (Char 32) found_two
+    ≡ Some (Some (at (codes "x") Hira (picking 0) none))
 unfolding encode
 shown_first = refl
 
-no_more_asked : after (at (codes "x") Hira (unfinished (codes "あ")) none) (Char 32) (Done (replies.Found found) ∷ Done (replies.Found found) ∷ []) ≡ None
+no_more_asked : after (at (codes "x") Hira (unfinished (codes "あ")) none) (Char 32)
+    (Done (replies.Found found) ∷ Done (replies.Found found) ∷ []) ≡ None
 unfolding encode
 no_more_asked = refl
 
@@ -266,12 +318,14 @@ none_found : after (at [] Hira (unfinished (codes "あ")) none) (Char 32) (Done 
 unfolding encode
 none_found = refl
 
-refused_look_up : after (at (codes "x") Hira (states.Reading (reading (codes "あ") (codes "n"))) none) (Char 32) (Refused refusals.Memory ∷ [])
+refused_look_up : after (at (codes "x") Hira (states.Reading (reading (codes "あ") (codes "n"))) none) (Char 32)
+    (Refused refusals.Memory ∷ [])
     ≡ Some (Some (at (codes "x") Hira (unfinished (codes "あん")) (told.Refused refusals.Memory)))
 unfolding encode
 refused_look_up = refl
 
-answered_otherwise : after (at [] Hira (unfinished (codes "あ")) none) (Char 32) (Done replies.Purged ∷ []) ≡ Some (Some (at [] Hira (unfinished (codes "あ")) none))
+answered_otherwise : after (at [] Hira (unfinished (codes "あ")) none) (Char 32) (Done replies.Purged ∷ [])
+    ≡ Some (Some (at [] Hira (unfinished (codes "あ")) none))
 unfolding encode
 answered_otherwise = refl
 
@@ -324,7 +378,8 @@ unfolding encode
 confirmed_with_notice = refl
 
 -- so does one that is converted, unless its look-up is refused
-converted_past_limit : map (λ answer. after flushing (Char 32) (answer ∷ [])) (Done replies.Purged ∷ Refused refusals.Disk ∷ [])
+converted_past_limit : map (λ answer. after flushing (Char 32) (answer ∷ []))
+    (Done replies.Purged ∷ Refused refusals.Disk ∷ [])
     ≡ Some (Some (past_limit (codes "x") Hira (unfinished full)))
     ∷ Some (Some (at (codes "x") Hira (unfinished full) (told.Refused refusals.Disk))) ∷ []
 unfolding encode
@@ -363,7 +418,8 @@ not_confirmed text full = rw full refl
 
 -- the flush of the key stands all the same
 flushed_not_confirmed : (text : List ℕ) → has_room (at text Hira plain none) (codes "あん") ≡ false
-    → map (pressed rules (at text Hira (states.Reading (reading (codes "あ") (codes "n"))) none)) (Cj ∷ Ret ∷ Char 108 ∷ Char 81 ∷ [])
+    → map (pressed rules (at text Hira (states.Reading (reading (codes "あ") (codes "n"))) none))
+    (Cj ∷ Ret ∷ Char 108 ∷ Char 81 ∷ [])
     ≡ replicate 4 (ends (Some (past_limit text Hira (unfinished (codes "あん")))))
 unfolding encode
 flushed_not_confirmed text full = rw full refl
@@ -371,7 +427,8 @@ flushed_not_confirmed text full = rw full refl
 -- a reading that fits, and a line feed behind it that does not
 confirmed_up_to_limit : (text : List ℕ) → has_room (at text Hira plain none) (codes "あ") ≡ true
     → has_room (at (text ++ codes "あ") Hira plain none) (10 ∷ []) ≡ false
-    → pressed rules (at text Hira (unfinished (codes "あ")) none) Ret ≡ ends (Some (past_limit (text ++ codes "あ") Hira plain))
+    → pressed rules (at text Hira (unfinished (codes "あ")) none) Ret
+    ≡ ends (Some (past_limit (text ++ codes "あ") Hira plain))
 unfolding encode
 confirmed_up_to_limit text room full = rw (room, full) refl
 
@@ -380,12 +437,17 @@ gone_on : after (at (codes "x") Hira (picking 0) none) (Char 32) [] ≡ Some (So
 unfolding encode
 gone_on = refl
 
-gone_back : after (at (codes "x") Hira (picking 0) none) (Char 120) [] ≡ Some (Some (at (codes "x") Hira (unfinished (codes "あ")) none))
+gone_back : after (at (codes "x") Hira (picking 0) none) (Char 120) []
+    ≡ Some (Some (at (codes "x") Hira (unfinished (codes "あ")) none))
 unfolding encode
 gone_back = refl
 
-none_named : after (at [] Hira (states.Picking (record { reading = reading (codes "あ") []; picking = record { shown = []; place = 4; question = false } })) none) (Char 97) []
-    ≡ Some (Some (at [] Hira (states.Picking (record { reading = reading (codes "あ") []; picking = record { shown = []; place = 4; question = false } })) (told.Step notices.NoCandidate)))
+none_named : after (at [] Hira (states.Picking
+    (record { reading = reading (codes "あ") []; picking = record { shown = []; place = 4; question = false } })) none)
+    (Char 97) []
+    ≡ Some (Some (at [] Hira (states.Picking
+    (record { reading = reading (codes "あ") []; picking = record { shown = []; place = 4; question = false } }))
+    (told.Step notices.NoCandidate)))
 unfolding encode
 none_named = refl
 
@@ -399,17 +461,21 @@ not_built_in_picking = refl
 abbrev learned : Learned
 learned = record { book = 0; key = record { part = Nasi; reading = codes "あ" }; stamp = 8; before = None }
 
-replies_told : map reply_notice (replies.Found found ∷ replies.Readings [] ∷ replies.Learned learned ∷ replies.Purged ∷ replies.Unchanged ∷ replies.Restored
+replies_told : map reply_notice (replies.Found found ∷ replies.Readings [] ∷ replies.Learned learned ∷ replies.Purged
+    ∷ replies.Unchanged ∷ replies.Restored
     ∷ replies.Overtaken 9 ∷ replies.Overtaken 0 ∷ replies.TooBig 70000 ∷ replies.StampsEnd ∷ [])
-    ≡ none ∷ none ∷ none ∷ told.Purged ∷ told.Unchanged ∷ told.Undone ∷ told.Overtaken 9 ∷ told.Overtaken 0 ∷ told.TooBig 70000 ∷ told.StampsEnd ∷ []
+    ≡ none ∷ none ∷ none ∷ told.Purged ∷ told.Unchanged ∷ told.Undone ∷ told.Overtaken 9 ∷ told.Overtaken 0
+    ∷ told.TooBig 70000 ∷ told.StampsEnd ∷ []
 replies_told = refl
 
 abbrev answers : List Answer
-answers = Done (replies.Learned learned) ∷ Done (replies.Found found) ∷ Done replies.Purged ∷ Done replies.Unchanged ∷ Done replies.Restored
-    ∷ Done (replies.TooBig 9) ∷ Done replies.StampsEnd ∷ Refused refusals.Disk ∷ []
+answers =
+    Done (replies.Learned learned) ∷ Done (replies.Found found) ∷ Done replies.Purged ∷ Done replies.Unchanged
+    ∷ Done replies.Restored ∷ Done (replies.TooBig 9) ∷ Done replies.StampsEnd ∷ Refused refusals.Disk ∷ []
 
 answers_told : map answer_notice answers
-    ≡ none ∷ none ∷ told.Purged ∷ told.Unchanged ∷ told.Undone ∷ told.TooBig 9 ∷ told.StampsEnd ∷ told.Refused refusals.Disk ∷ []
+    ≡ none ∷ none ∷ told.Purged ∷ told.Unchanged ∷ told.Undone ∷ told.TooBig 9 ∷ told.StampsEnd
+    ∷ told.Refused refusals.Disk ∷ []
 answers_told = refl
 
 answers_learnt : map learnt_by answers ≡ Some learned ∷ None ∷ None ∷ None ∷ None ∷ None ∷ None ∷ None ∷ []
@@ -435,15 +501,23 @@ inserted = refl
 
 -- a choice of the candidate of a place of あ: so many characters up to so many bytes, in a mode
 abbrev choice : ℕ → ℕ → Mode → ℕ → Option Learned → Choice
-choice inserted end mode place learned = record { inserted = inserted; end = end; mode = mode; conversion = conversion place false; learned = learned }
+choice inserted end mode place learned =
+    record { inserted = inserted; end = end; mode = mode; conversion = conversion place false; learned = learned }
 
 -- a session with a last choice
 abbrev chosen : List ℕ → Mode → State → SessionNotice → Choice → Session
 chosen text mode state notice last =
-    record { typist = 3; book = 0; frame = record { text = text; mode = mode; state = state; last_choice = Some last }; outer = []; notice = notice }
+    record {
+      typist = 3;
+      book = 0;
+      frame = record { text = text; mode = mode; state = state; last_choice = Some last };
+      outer = [];
+      notice = notice;
+    }
 
 -- what was inserted is counted in characters, and where it ends in bytes
-kept : (after_learning (at (codes "x亜リ") Kata plain none) (conversion 1 false) (codes "亜リ") (Done (replies.Learned learned))
+kept : (after_learning (at (codes "x亜リ") Kata plain none) (conversion 1 false) (codes "亜リ")
+    (Done (replies.Learned learned))
     ≡ chosen (codes "x亜リ") Kata plain none (choice 2 7 Kata 1 (Some learned)))
     × (after_learning (at (codes "x亜リ") Kata plain none) (conversion 1 false) (codes "亜リ") (Refused refusals.Disk)
     ≡ chosen (codes "x亜リ") Kata plain (told.Refused refusals.Disk) (choice 2 7 Kata 1 None))
@@ -454,7 +528,8 @@ kept = (refl, refl)
 abbrev last_choice : Choice
 last_choice = choice 2 7 Kata 0 (Some learned)
 
-choices_within : map (λ bytes. choice_within bytes (Some last_choice)) (6 ∷ 7 ∷ 8 ∷ []) ≡ None ∷ Some last_choice ∷ Some last_choice ∷ []
+choices_within : map (λ bytes. choice_within bytes (Some last_choice)) (6 ∷ 7 ∷ 8 ∷ [])
+    ≡ None ∷ Some last_choice ∷ Some last_choice ∷ []
 choices_within = refl
 
 choices_at : map (λ bytes. choice_at bytes (Some last_choice)) (6 ∷ 7 ∷ 8 ∷ []) ≡ None ∷ Some last_choice ∷ None ∷ []
@@ -473,18 +548,24 @@ learnt = Done (replies.Learned learned) ∷ []
 abbrev of_first : Choice
 of_first = choice 1 4 Hira 0 (Some learned)
 
-keys_choose : map (λ key. after (at (codes "x") Hira (picking 0) (told.Step notices.Reading)) key learnt) (Cj ∷ Ret ∷ Bs ∷ Char 97 ∷ Char 110 ∷ Char 81 ∷ Char 113 ∷ Char 62 ∷ Char 47 ∷ [])
-    ≡ Some (Some (chosen (codes "x亜") Hira plain none of_first)) ∷ Some (Some (chosen (codes "x亜" ++ 10 ∷ []) Hira plain none of_first))
+keys_choose : map (λ key. after (at (codes "x") Hira (picking 0) (told.Step notices.Reading)) key learnt)
+    (Cj ∷ Ret ∷ Bs ∷ Char 97 ∷ Char 110 ∷ Char 81 ∷ Char 113 ∷ Char 62 ∷ Char 47 ∷ [])
+    ≡ Some (Some (chosen (codes "x亜") Hira plain none of_first))
+    ∷ Some (Some (chosen (codes "x亜" ++ 10 ∷ []) Hira plain none of_first))
     ∷ Some (Some (at (codes "x") Hira plain none)) ∷ Some (Some (chosen (codes "x亜あ") Hira plain none of_first))
-    ∷ Some (Some (chosen (codes "x亜") Hira (states.Plain (codes "n")) none of_first)) ∷ Some (Some (chosen (codes "x亜") Hira (unfinished []) none of_first))
-    ∷ Some (Some (chosen (codes "x亜") Kata plain none of_first)) ∷ Some (Some (chosen (codes "x亜") Hira (unfinished (codes ">")) none of_first))
+    ∷ Some (Some (chosen (codes "x亜") Hira (states.Plain (codes "n")) none of_first))
+    ∷ Some (Some (chosen (codes "x亜") Hira (unfinished []) none of_first))
+    ∷ Some (Some (chosen (codes "x亜") Kata plain none of_first))
+    ∷ Some (Some (chosen (codes "x亜") Hira (unfinished (codes ">")) none of_first))
     ∷ Some (Some (chosen (codes "x亜") Hira (abbreviation []) none of_first)) ∷ []
 unfolding encode
 keys_choose = refl
 
 -- a learning that is not done, of the second candidate: the choice is made, and what it was answered is told
-not_learnt : map (λ answer. after (at (codes "x") Kata (picking 1) none) Cj (answer ∷ [])) (Done (replies.TooBig 9) ∷ Done replies.StampsEnd ∷ Refused refusals.Disk ∷ [])
-    ≡ Some (Some (chosen (codes "x阿") Kata plain (told.TooBig 9) (choice 1 4 Kata 1 None))) ∷ Some (Some (chosen (codes "x阿") Kata plain told.StampsEnd (choice 1 4 Kata 1 None)))
+not_learnt : map (λ answer. after (at (codes "x") Kata (picking 1) none) Cj (answer ∷ []))
+    (Done (replies.TooBig 9) ∷ Done replies.StampsEnd ∷ Refused refusals.Disk ∷ [])
+    ≡ Some (Some (chosen (codes "x阿") Kata plain (told.TooBig 9) (choice 1 4 Kata 1 None)))
+    ∷ Some (Some (chosen (codes "x阿") Kata plain told.StampsEnd (choice 1 4 Kata 1 None)))
     ∷ Some (Some (chosen (codes "x阿") Kata plain (told.Refused refusals.Disk) (choice 1 4 Kata 1 None))) ∷ []
 unfolding encode
 not_learnt = refl
@@ -515,26 +596,36 @@ choice_up_to_limit text room full = rw (room, full) refl
 abbrev pages : State
 pages = states.Picking (record {
   reading = begun (codes "り");
-  picking = record { shown = sent ∷ sent ∷ sent ∷ sent ∷ sent ∷ numbered (record { part = Ari; reading = codes "だいr" }) (codes "六") ∷ []; place = 4; question = false };
+  picking = record {
+    shown = sent ∷ sent ∷ sent ∷ sent ∷ sent ∷ numbered (record { part = Ari; reading = codes "だいr" }) (codes "六") ∷ [];
+    place = 4;
+    question = false;
+  };
 })
 
 -- a session, and the state of it after a key with an answer to its call
 abbrev text_after : Session → Key → List Answer → Option (Option (List ℕ × State))
-text_after session key answers = option_map (λ end. option_map (λ (s : Session). (text_of s, s.frame.state)) end) (after session key answers)
+text_after session key answers =
+    option_map (λ end. option_map (λ (s : Session). (text_of s, s.frame.state)) end) (after session key answers)
 
-page_chooses : map (λ key. text_after (at (codes "x") Kata pages none) key learnt) (Char 97 ∷ Char 115 ∷ []) ≡ Some (Some (codes "x５りリ", plain)) ∷ Some (Some (codes "x六リ", plain)) ∷ []
+page_chooses : map (λ key. text_after (at (codes "x") Kata pages none) key learnt) (Char 97 ∷ Char 115 ∷ [])
+    ≡ Some (Some (codes "x５りリ", plain)) ∷ Some (Some (codes "x六リ", plain)) ∷ []
 unfolding encode
 page_chooses = refl
 
 -- a candidate is learnt in the book, under its key, with its okurigana, and as it was found
 asks_learning : map (λ key. asked (pressed rules (at (codes "x") Kata pages none) key) learnt) (Char 97 ∷ Char 115 ∷ [])
     ≡ (Learn 0 (record { part = Ari; reading = codes "おくr" }) (Some (codes "り")) (cand (codes "#1り") (codes "注")) ∷ [])
-    ∷ (Learn 0 (record { part = Ari; reading = codes "だいr" }) (Some (codes "り")) (cand (codes "#1り") (codes "注")) ∷ []) ∷ []
+    ∷ (Learn 0 (record { part = Ari; reading = codes "だいr" }) (Some (codes "り")) (cand (codes "#1り") (codes "注")) ∷ [])
+    ∷ []
 unfolding encode
 asks_learning = refl
 
-asks_once : (asked (pressed rules (record (at [] Hira (picking 1) none) { book = 3 }) (Char 97)) learnt ≡ Learn 3 (record { part = Nasi; reading = codes "あ" }) None (cand (codes "阿") (codes "二")) ∷ [])
-    × (asked (pressed rules (at [] Hira (picking 0) none) (Char 62)) learnt ≡ Learn 0 (record { part = Nasi; reading = codes "あ" }) None (cand (codes "亜") []) ∷ []) × (after (at [] Hira (picking 0) none) Cj [] ≡ None)
+asks_once : (asked (pressed rules (record (at [] Hira (picking 1) none) { book = 3 }) (Char 97)) learnt
+    ≡ Learn 3 (record { part = Nasi; reading = codes "あ" }) None (cand (codes "阿") (codes "二")) ∷ [])
+    × (asked (pressed rules (at [] Hira (picking 0) none) (Char 62)) learnt
+    ≡ Learn 0 (record { part = Nasi; reading = codes "あ" }) None (cand (codes "亜") []) ∷ [])
+    × (after (at [] Hira (picking 0) none) Cj [] ≡ None)
 unfolding encode
 asks_once = (refl, refl, refl)
 
@@ -561,52 +652,65 @@ word_purged = Done replies.Purged ∷ []
 purged : (map (λ key. after (at (codes "x") Hira question none) key word_purged) (Char 121 ∷ Char 89 ∷ [])
     ≡ Some (Some (at (codes "x") Hira plain told.Purged)) ∷ Some (Some (at (codes "x") Hira plain told.Purged)) ∷ [])
     × (map (λ key. after (at (codes "x") Hira question none) key []) (Char 110 ∷ Char 88 ∷ Cj ∷ Undo ∷ [])
-    ≡ Some (Some (at (codes "x") Hira (picking 1) none)) ∷ Some (Some (at (codes "x") Hira (picking 1) none)) ∷ Some (Some (at (codes "x") Hira (picking 1) none))
-    ∷ Some (Some (at (codes "x") Hira (picking 1) none)) ∷ [])
+    ≡ Some (Some (at (codes "x") Hira (picking 1) none)) ∷ Some (Some (at (codes "x") Hira (picking 1) none))
+    ∷ Some (Some (at (codes "x") Hira (picking 1) none)) ∷ Some (Some (at (codes "x") Hira (picking 1) none)) ∷ [])
 unfolding encode
 purged = (refl, refl)
 
 -- the candidates are closed where there was nothing to purge, and stay where the purge was not done
-purge_answered : map (λ answer. after (at (codes "x") Hira question none) (Char 121) (answer ∷ [])) (Done replies.Unchanged ∷ Done (replies.TooBig 9) ∷ Done replies.StampsEnd ∷ Refused refusals.Memory ∷ [])
-    ≡ Some (Some (at (codes "x") Hira plain told.Unchanged)) ∷ Some (Some (at (codes "x") Hira (picking 1) (told.TooBig 9))) ∷ Some (Some (at (codes "x") Hira (picking 1) told.StampsEnd))
+purge_answered : map (λ answer. after (at (codes "x") Hira question none) (Char 121) (answer ∷ []))
+    (Done replies.Unchanged ∷ Done (replies.TooBig 9) ∷ Done replies.StampsEnd ∷ Refused refusals.Memory ∷ [])
+    ≡ Some (Some (at (codes "x") Hira plain told.Unchanged))
+    ∷ Some (Some (at (codes "x") Hira (picking 1) (told.TooBig 9)))
+    ∷ Some (Some (at (codes "x") Hira (picking 1) told.StampsEnd))
     ∷ Some (Some (at (codes "x") Hira (picking 1) (told.Refused refusals.Memory))) ∷ []
 unfolding encode
 purge_answered = refl
 
 -- a word is purged from the book, under its key, as it was found
-asks_purge : asked (pressed rules (at (codes "x") Kata (states.Picking (record { reading = begun (codes "り"); picking = record { shown = sent ∷ []; place = 0; question = true } })) none) (Char 121)) word_purged
+asks_purge : asked (pressed rules (at (codes "x") Kata (states.Picking
+    (record { reading = begun (codes "り"); picking = record { shown = sent ∷ []; place = 0; question = true } })) none)
+    (Char 121)) word_purged
     ≡ Purge 0 (record { part = Ari; reading = codes "おくr" }) (codes "#1り") ∷ []
 unfolding encode
 asks_purge = refl
 
 -- Taking back
 
--- the candidates are shown again in the mode of the choice, without what was inserted, with what the dictionary says of it
-taken_back : map (λ answer. after (chosen (codes "x亜リ") Hira (states.Plain (codes "n")) none last_choice) Undo (answer ∷ []))
+-- the candidates are shown again in the mode of the choice, without what was inserted,
+-- with what the dictionary says of it
+taken_back : map
+    (λ answer. after (chosen (codes "x亜リ") Hira (states.Plain (codes "n")) none last_choice) Undo (answer ∷ []))
     (Done replies.Restored ∷ Done (replies.Overtaken 2) ∷ Refused refusals.Memory ∷ [])
-    ≡ Some (Some (at (codes "x") Kata (picking 0) told.Undone)) ∷ Some (Some (at (codes "x") Kata (picking 0) (told.Overtaken 2)))
+    ≡ Some (Some (at (codes "x") Kata (picking 0) told.Undone))
+    ∷ Some (Some (at (codes "x") Kata (picking 0) (told.Overtaken 2)))
     ∷ Some (Some (at (codes "x") Kata (picking 0) (told.Refused refusals.Memory))) ∷ []
 unfolding encode
 taken_back = refl
 
-asks_taking_back : asked (pressed rules (chosen (codes "x亜リ") Hira plain none last_choice) Undo) (Done replies.Restored ∷ []) ≡ Unlearn learned ∷ []
+asks_taking_back : asked (pressed rules (chosen (codes "x亜リ") Hira plain none last_choice) Undo)
+    (Done replies.Restored ∷ []) ≡ Unlearn learned ∷ []
 unfolding encode
 asks_taking_back = refl
 
 -- where nothing was learnt nothing is asked
-back_unlearnt : after (chosen (codes "x亜リ") Hira plain none (choice 2 7 Kata 1 None)) Undo [] ≡ Some (Some (at (codes "x") Kata (picking 1) told.Undone))
+back_unlearnt : after (chosen (codes "x亜リ") Hira plain none (choice 2 7 Kata 1 None)) Undo []
+    ≡ Some (Some (at (codes "x") Kata (picking 1) told.Undone))
 unfolding encode
 back_unlearnt = refl
 
 -- where more was typed it can't be taken back, until that is deleted again; where less is left it is given up
-longer : (after (chosen (codes "x亜リy") Hira plain none last_choice) Undo [] ≡ Some (Some (chosen (codes "x亜リy") Hira plain (told.Step notices.NoUndo) last_choice)))
-    × (after (chosen (codes "x亜リy") Hira plain none last_choice) Bs [] ≡ Some (Some (chosen (codes "x亜リ") Hira plain none last_choice)))
+longer : (after (chosen (codes "x亜リy") Hira plain none last_choice) Undo []
+    ≡ Some (Some (chosen (codes "x亜リy") Hira plain (told.Step notices.NoUndo) last_choice)))
+    × (after (chosen (codes "x亜リy") Hira plain none last_choice) Bs []
+    ≡ Some (Some (chosen (codes "x亜リ") Hira plain none last_choice)))
     × (after (chosen (codes "x亜リ") Hira plain none last_choice) Bs [] ≡ Some (Some (at (codes "x亜") Hira plain none)))
 unfolding encode
 longer = (refl, refl, refl)
 
 -- keys one after another, up to the first that is not built
-several : end_of (all_pressed rules (at [] Hira plain none) (Char 65 ∷ Char 32 ∷ Char 32 ∷ [])) found_two ≡ Some (Some (at [] Hira (picking 1) none))
+several : end_of (all_pressed rules (at [] Hira plain none) (Char 65 ∷ Char 32 ∷ Char 32 ∷ [])) found_two
+    ≡ Some (Some (at [] Hira (picking 1) none))
 unfolding encode
 several = refl
 

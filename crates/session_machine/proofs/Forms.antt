@@ -1,5 +1,6 @@
 -- How parts of what is shown are printed.
-use Rattle.std.proofs.Common.{◌≡◌, ◌<◌, ◌≤◌, ◌+◌, ◌%◌, ◌^◌, ◌∙◌, sym, ap, ℕ, true, false, Some, Result, Ok, Err, List, ◌++◌, ◌∷◌, [], length, drop, get_or, refl, arith, append_assoc, inl, inr}
+use Rattle.std.proofs.Common.{◌≡◌, ◌<◌, ◌≤◌, ◌+◌, ◌%◌, ◌^◌, ◌∙◌, sym, ap, ℕ, true, false, Some, Result, Ok, Err, List}
+use Rattle.std.proofs.Common.{◌++◌, ◌∷◌, [], length, drop, get_or, refl, arith, append_assoc, inl, inr}
 use Rattle.std.proofs.Transfers.{starts_with_of_append, starts_with_of_eq, starts_with_trans}
 use Rattle.std.specs.Fmt.{decimal}
 use Rattle.std.specs.Io.{StartsWith}
@@ -17,7 +18,8 @@ use Rattle.std.proofs.lemmas.Str.{chars-IsAscii}
 use Rattle.skk_text.specs.Characters.{code}
 use Rattle.skk_text.specs.Lists.{is_empty}
 use Rattle.candidate_state.specs.Shown.{Shown}
-use Rattle.session_machine.specs.Display.{escaped, has_escape, printed_form, first_text, first_note, lettered, page_letters}
+use Rattle.session_machine.specs.Display.{escaped, has_escape, printed_form, first_text, first_note, lettered}
+use Rattle.session_machine.specs.Display.{page_letters}
 use Rattle.session_machine.proofs.Escapes.{plain}
 
 -- parts are printed one behind the other
@@ -25,9 +27,11 @@ pub form-append : (text behind : List ℕ) → printed_form (text ++ behind) ≡
 form-append text behind = flat_map-append escaped text behind
 
 -- a text that is put behind a page, and more behind it, are put there together
-pub more : (page text behind : List ℕ) {one two : List ℕ} → one ≡ page ++ printed_form text → two ≡ one ++ printed_form behind → two ≡ page ++ printed_form (text ++ behind)
+pub more : (page text behind : List ℕ) {one two : List ℕ} → one ≡ page ++ printed_form text
+    → two ≡ one ++ printed_form behind → two ≡ page ++ printed_form (text ++ behind)
 more page text behind e f =
-    f ∙ ap (λ cs. cs ++ printed_form behind) e ∙ append_assoc page (printed_form text) (printed_form behind) ∙ ap (λ cs. page ++ cs) (sym (form-append text behind))
+    f ∙ ap (λ cs. cs ++ printed_form behind) e ∙ append_assoc page (printed_form text) (printed_form behind)
+    ∙ ap (λ cs. page ++ cs) (sym (form-append text behind))
 
 -- a digit is printed as it is
 digit-plain : (n : ℕ) → n < 10 → printed_form ((48 + n) ∷ []) ≡ (48 + n) ∷ []
@@ -36,21 +40,27 @@ digit-plain n small = ap (λ cs. cs ++ []) (plain (48 + n) (grind (arith, nat_te
 -- a number is printed as it is
 pub decimal-plain : (n : ℕ) → n < 2 ^ 64 → printed_form (decimal n) ≡ decimal n
 decimal-plain = decimal_by_steps (λ n ds. printed_form ds ≡ ds) digit-plain
-    (λ n ds many shorter. form-append ds ((48 + n % 10) ∷ []) ∙ ap (λ cs. cs ++ printed_form ((48 + n % 10) ∷ [])) shorter ∙ ap (λ cs. ds ++ cs) (digit-plain (n % 10) (omega arith)))
+    (λ n ds many shorter. form-append ds ((48 + n % 10) ∷ [])
+    ∙ ap (λ cs. cs ++ printed_form ((48 + n % 10) ∷ [])) shorter
+    ∙ ap (λ cs. ds ++ cs) (digit-plain (n % 10) (omega arith)))
 
 -- the digits of a number are its characters, and are printed as they are
 pub decimal-printed : (n : ℕ) → n < 2 ^ 64 → chars (decimal n) ≡ printed_form (decimal n)
 decimal-printed n fits = chars-IsAscii (decimal n) (IsAscii-decimal n fits) ∙ sym (decimal-plain n fits)
 
 -- the candidate of a place is the first of those from it on
-pub first_text-at : (shown : List Shown) (place : ℕ) (cand : Shown) → slice_get shown place ≡ Some cand → first_text (drop place shown) ≡ cand.text
+pub first_text-at : (shown : List Shown) (place : ℕ) (cand : Shown) → slice_get shown place ≡ Some cand
+    → first_text (drop place shown) ≡ cand.text
 first_text-at shown place cand found =
-    ap first_text (drop_more shown place cand (slice_get_within shown place cand found)) ∙ ap (λ s. s.text) (get_or_from_slice_get shown place cand cand found)
+    ap first_text (drop_more shown place cand (slice_get_within shown place cand found))
+    ∙ ap (λ s. s.text) (get_or_from_slice_get shown place cand cand found)
 
 -- so is its note
-pub first_note-at : (shown : List Shown) (place : ℕ) (cand : Shown) → slice_get shown place ≡ Some cand → first_note (drop place shown) ≡ cand.cand.note
+pub first_note-at : (shown : List Shown) (place : ℕ) (cand : Shown) → slice_get shown place ≡ Some cand
+    → first_note (drop place shown) ≡ cand.cand.note
 first_note-at shown place cand found =
-    ap first_note (drop_more shown place cand (slice_get_within shown place cand found)) ∙ ap (λ s. s.cand.note) (get_or_from_slice_get shown place cand cand found)
+    ap first_note (drop_more shown place cand (slice_get_within shown place cand found))
+    ∙ ap (λ s. s.cand.note) (get_or_from_slice_get shown place cand cand found)
 
 -- a text without a character is empty
 pub empty-none : (text : List ℕ) → is_empty text ≡ true → text ≡ []
@@ -60,22 +70,30 @@ empty-none (c ∷ text) e = cc
 -- the letters of a page are printed as they are
 letter-plain : (count : ℕ) → count < 7 → has_escape (get_or page_letters count 0) ≡ false
 letter-plain count within =
-    elim (cases_Bool (has_escape (get_or page_letters count 0))) [ inl some ↦ let differ : false ≡ true = list_any_at has_escape page_letters count 0 within some in cc | inr none ↦ none ]
+    elim (cases_Bool (has_escape (get_or page_letters count 0))) [
+      | inl some ↦ let differ : false ≡ true = list_any_at has_escape page_letters count 0 within some in cc
+      | inr none ↦ none
+    ]
 
 -- candidates behind their letters are printed as the first of them behind its letter, and the others behind theirs
 lettered-some : (shown : List Shown) (count place : ℕ) (cand : Shown) → count < 7 → slice_get shown place ≡ Some cand
     → printed_form (lettered (drop count page_letters) (drop place shown))
-    ≡ get_or page_letters count 0 ∷ code ":" ∷ printed_form cand.text ++ code " " ∷ printed_form (lettered (drop (count + 1) page_letters) (drop (place + 1) shown))
+    ≡ get_or page_letters count 0 ∷ code ":" ∷ printed_form cand.text ++ code " "
+    ∷ printed_form (lettered (drop (count + 1) page_letters) (drop (place + 1) shown))
 lettered-some shown count place cand within found =
     let letter = get_or page_letters count 0 in
     let others = lettered (drop (count + 1) page_letters) (drop (place + 1) shown) in
     ap (λ ls. printed_form (lettered ls (drop place shown))) (drop_more page_letters count 0 within)
-    ∙ ap (λ cs. printed_form (lettered (letter ∷ drop (count + 1) page_letters) cs)) (drop_more shown place cand (slice_get_within shown place cand found))
-    ∙ ap (λ c. printed_form (letter ∷ code ":" ∷ c.text ++ code " " ∷ others)) (get_or_from_slice_get shown place cand cand found)
-    ∙ ap (λ cs. cs ++ code ":" ∷ printed_form (cand.text ++ code " " ∷ others)) (plain letter (letter-plain count within))
+    ∙ ap (λ cs. printed_form (lettered (letter ∷ drop (count + 1) page_letters) cs))
+    (drop_more shown place cand (slice_get_within shown place cand found))
+    ∙ ap (λ c. printed_form (letter ∷ code ":" ∷ c.text ++ code " " ∷ others))
+    (get_or_from_slice_get shown place cand cand found)
+    ∙ ap (λ cs. cs ++ code ":" ∷ printed_form (cand.text ++ code " " ∷ others))
+    (plain letter (letter-plain count within))
     ∙ ap (λ cs. letter ∷ code ":" ∷ cs) (form-append cand.text (code " " ∷ others))
 
--- a page with the candidate of a place behind its letter, and with the others, is the page before with that one and the others
+-- a page with the candidate of a place behind its letter, and with the others,
+-- is the page before with that one and the others
 pub lettered-next : (page next whole : List ℕ) (shown : List Shown) (count first : ℕ) (cand : Shown)
     → count < 7 → slice_get shown (first + count) ≡ Some cand
     → next ≡ page ++ get_or page_letters count 0 ∷ code ":" ∷ printed_form cand.text ++ code " " ∷ []
@@ -86,12 +104,15 @@ lettered-next page next whole shown count first cand within found added all =
     let others = printed_form (lettered (drop (count + 1) page_letters) (drop (first + count + 1) shown)) in
     let place : first + (count + 1) ≡ first + count + 1 = omega arith in
     ap (λ place. next ++ printed_form (lettered (drop (count + 1) page_letters) (drop place shown))) place
-    ∙ ap (λ cs. cs ++ others) added ∙ append_assoc (page ++ one) (code " " ∷ []) others ∙ append_assoc page one (code " " ∷ others)
+    ∙ ap (λ cs. cs ++ others) added ∙ append_assoc (page ++ one) (code " " ∷ []) others
+    ∙ append_assoc page one (code " " ∷ others)
     ∙ ap (λ cs. page ++ cs) (sym (lettered-some shown count (first + count) cand within found)) ∙ all
 
 -- where no candidate is left, nothing is printed
-pub lettered-none : (letters : List ℕ) (shown : List Shown) (place : ℕ) → length shown ≤ place → printed_form (lettered letters (drop place shown)) ≡ []
-lettered-none letters shown place past = ap (λ cs. printed_form (lettered letters cs)) (drop_all place shown past) ∙ none letters
+pub lettered-none : (letters : List ℕ) (shown : List Shown) (place : ℕ) → length shown ≤ place
+    → printed_form (lettered letters (drop place shown)) ≡ []
+lettered-none letters shown place past =
+    ap (λ cs. printed_form (lettered letters cs)) (drop_all place shown past) ∙ none letters
   where
     none : (letters : List ℕ) → printed_form (lettered letters []) ≡ []
     none [] = refl

@@ -1,5 +1,6 @@
 -- No text of a session's frames passes its limit.
-use Rattle.std.proofs.Common.{◌≡◌, ◌≤◌, ◌+◌, ◌-◌, ◌==◌, ◌∙◌, sym, ap, ℕ, slice_get, Bool, true, false, Option, Some, None, List, [], ◌∷◌, length, drop, leb-true, subst, arith, refl, if◌then◌else◌}
+use Rattle.std.proofs.Common.{◌≡◌, ◌≤◌, ◌+◌, ◌-◌, ◌==◌, ◌∙◌, sym, ap, ℕ, slice_get, Bool, true, false, Option, Some}
+use Rattle.std.proofs.Common.{None, List, [], ◌∷◌, length, drop, leb-true, subst, arith, refl, if◌then◌else◌}
 use Rattle.std.specs.Prelude.{⊤}
 use Rattle.std.proofs.lemmas.List.{take-append-drop}
 use Rattle.std.specs.List.{All, list_any}
@@ -37,8 +38,13 @@ use Rattle.session_machine.specs.declared.frame.Conversion.{Conversion}
 use Rattle.session_machine.specs.declared.frame.State.{State}
 use Rattle.session_machine.specs.declared.frame.State.TheVariants as states
 use Rattle.session_machine.specs.Answered.{says_purged}
-use Rattle.session_machine.specs.Pressed.{Meaning, not_built, pick, looked_up, converted, reading_piece, after_confirmed, confirmed, reading_effect, reading_pressed, before_choice, unlearnt, undone, plain_effect, plain_pressed, of_candidate, choice_piece, after_learning, choice_effect, choosing, after_purge, purging, picking_effect, picking_pressed, state_pressed, pressed, all_pressed, is_digit, with_plain}
-use Rattle.session_machine.specs.Session.{Session, FrameFits, text_limit, choice_at, without_chars, has_room, with_piece, with_insertion, noting, before_key, with_state}
+use Rattle.session_machine.specs.Pressed.{Meaning, not_built, pick, looked_up, converted, reading_piece}
+use Rattle.session_machine.specs.Pressed.{after_confirmed, confirmed, reading_effect, reading_pressed, before_choice}
+use Rattle.session_machine.specs.Pressed.{unlearnt, undone, plain_effect, plain_pressed, of_candidate, choice_piece}
+use Rattle.session_machine.specs.Pressed.{after_learning, choice_effect, choosing, after_purge, purging, picking_effect}
+use Rattle.session_machine.specs.Pressed.{picking_pressed, state_pressed, pressed, all_pressed, is_digit, with_plain}
+use Rattle.session_machine.specs.Session.{Session, FrameFits, text_limit, choice_at, without_chars, has_room}
+use Rattle.session_machine.specs.Session.{with_piece, with_insertion, noting, before_key, with_state}
 
 -- the text of each frame is within its limit: of the one that keys go to, and of those outside it
 abbrev pub Fits : Session → Type 0
@@ -52,12 +58,14 @@ AllFit (asks call next) = (answer : Answer) → AllFit (next answer)
 AllFit (prints text rest) = AllFit rest
 
 -- so it does by the answers that it was given
-pub comes-fits : (meaning : Meaning) (dialog : Dialog) (session : Session) → AllFit meaning → Comes meaning dialog (Some session) → Fits session
+pub comes-fits : (meaning : Meaning) (dialog : Dialog) (session : Session) → AllFit meaning
+    → Comes meaning dialog (Some session) → Fits session
 comes-fits (ends None) [] session fit comes = cc
 comes-fits (ends (Some end)) [] session fit comes = let same : end ≡ session = cc in subst Fits same fit
 comes-fits (ends end) (pair ∷ dialog) session fit comes = absurd comes
 comes-fits (asks call next) [] session fit comes = absurd comes
-comes-fits (asks call next) (pair ∷ dialog) session fit comes = comes-fits (next pair.1) dialog session (fit pair.1) comes.1
+comes-fits (asks call next) (pair ∷ dialog) session fit comes =
+    comes-fits (next pair.1) dialog session (fit pair.1) comes.1
 comes-fits (prints text rest) [] session fit comes = absurd comes
 comes-fits (prints text rest) (pair ∷ dialog) session fit comes = absurd comes
 
@@ -87,7 +95,8 @@ piece-fits session piece fits room =
 inserted-fits : (session : Session) (piece : List ℕ) → Fits session → Fits (with_insertion session piece)
 inserted-fits session piece fits = by (has_room session piece) refl
   where
-    by : (room : Bool) → has_room session piece ≡ room → Fits (if room then with_piece session piece else noting session notices.Limit)
+    by : (room : Bool) → has_room session piece ≡ room
+        → Fits (if room then with_piece session piece else noting session notices.Limit)
     by true e = piece-fits session piece fits e
     by false e = fits
 
@@ -98,8 +107,10 @@ after-fits session behind.ToWide fits = fits
 after-fits session behind.OpenReading fits = fits
 after-fits session behind.Newline fits = inserted-fits session (10 ∷ []) fits
 
-confirmed-fits : (session : Session) (reading : Reading) (other : Bool) (after : AfterConfirm) → Fits session → Fits (confirmed session reading other after)
-confirmed-fits session reading other after fits = by (has_room session (reading_piece session.frame.mode reading other)) refl
+confirmed-fits : (session : Session) (reading : Reading) (other : Bool) (after : AfterConfirm) → Fits session
+    → Fits (confirmed session reading other after)
+confirmed-fits session reading other after fits =
+    by (has_room session (reading_piece session.frame.mode reading other)) refl
   where
     by : (room : Bool) → has_room session (reading_piece session.frame.mode reading other) ≡ room
         → Fits (if room then after_confirmed (with_piece session (reading_piece session.frame.mode reading other)) after
@@ -117,8 +128,10 @@ pick-fit session reading shown fits = by (length shown == 0) refl
     by true e = rw e tt
     by false e = rw e fits
 
-looked-fit : (session : Session) (reading : Reading) (answer : Answer) → Fits session → AllFit (looked_up session reading answer)
-looked-fit session reading (Done (replies.Found found)) fits = pick-fit session reading (shown_plain (key_of reading) found) fits
+looked-fit : (session : Session) (reading : Reading) (answer : Answer) → Fits session
+    → AllFit (looked_up session reading answer)
+looked-fit session reading (Done (replies.Found found)) fits =
+    pick-fit session reading (shown_plain (key_of reading) found) fits
 looked-fit session reading (Done reply) fits = fits
 looked-fit session reading (Refused refusal) fits = fits
 
@@ -129,17 +142,20 @@ converted-fit session reading fits = by (list_any is_digit reading.text) refl
     by true e = rw e tt
     by false e = rw e (λ answer. looked-fit session reading answer fits)
 
-reading-effect-fit : (session : Session) (reading : Reading) (effect : ReadingThen) → Fits session → AllFit (reading_effect session reading effect)
+reading-effect-fit : (session : Session) (reading : Reading) (effect : ReadingThen) → Fits session
+    → AllFit (reading_effect session reading effect)
 reading-effect-fit session reading effects.Stay fits = fits
 reading-effect-fit session reading effects.Convert fits = converted-fit session reading fits
 reading-effect-fit session reading effects.AskCompletions fits = tt
 reading-effect-fit session reading effects.Drop fits = fits
 reading-effect-fit session reading (effects.Confirm other after) fits = confirmed-fits session reading other after fits
 
-reading-fit : (rules : List Rule) (session : Session) (reading : Reading) (key : Key) → Fits session → AllFit (reading_pressed rules session reading key)
+reading-fit : (rules : List Rule) (session : Session) (reading : Reading) (key : Key) → Fits session
+    → AllFit (reading_pressed rules session reading key)
 reading-fit rules session reading key fits =
     let step = reading_step rules reading key in
-    reading-effect-fit (noting session step.done.notice) step.reading step.done.then (noted-fits session step.done.notice fits)
+    reading-effect-fit (noting session step.done.notice) step.reading step.done.then
+    (noted-fits session step.done.notice fits)
 
 undone-fit : (session : Session) (choice : Option Choice) → Fits session → AllFit (undone session choice)
 undone-fit session None fits = fits
@@ -152,69 +168,84 @@ undone-fit session (Some choice) fits = by choice.learned
     by None = shorter_text
     by (Some learned) = λ answer. shorter_text
 
-plain-effect-fit : (rules : List Rule) (session : Session) (effect : PlainThen) → Fits session → AllFit (plain_effect rules session effect)
+plain-effect-fit : (rules : List Rule) (session : Session) (effect : PlainThen) → Fits session
+    → AllFit (plain_effect rules session effect)
 plain-effect-fit rules session plain.Stay fits = fits
 plain-effect-fit rules session plain.DeleteLast fits = (omega (arith, fits.0, shorter session.frame.text), fits.1)
 plain-effect-fit rules session plain.Newline fits = inserted-fits session (10 ∷ []) fits
 plain-effect-fit rules session (plain.OpenReading None) fits = fits
-plain-effect-fit rules session (plain.OpenReading (Some letter)) fits = reading-fit rules session new_reading (Char letter) fits
+plain-effect-fit rules session (plain.OpenReading (Some letter)) fits =
+    reading-fit rules session new_reading (Char letter) fits
 plain-effect-fit rules session plain.OpenAbbrev fits = fits
 plain-effect-fit rules session plain.Cancel fits = fits
-plain-effect-fit rules session plain.AskUndo fits = undone-fit session (choice_at (byte_len session.frame.text) session.frame.last_choice) fits
+plain-effect-fit rules session plain.AskUndo fits =
+    undone-fit session (choice_at (byte_len session.frame.text) session.frame.last_choice) fits
 
-plain-fit : (rules : List Rule) (session : Session) (pending : List ℕ) (key : Key) → Fits session → AllFit (plain_pressed rules session pending key)
+plain-fit : (rules : List Rule) (session : Session) (pending : List ℕ) (key : Key) → Fits session
+    → AllFit (plain_pressed rules session pending key)
 plain-fit rules session pending key fits =
     let step = plain_step rules (record { mode = session.frame.mode; pending = pending }) key in
     plain-effect-fit rules (with_insertion (with_plain session step.plain) step.done.insert) step.done.then
     (inserted-fits (with_plain session step.plain) step.done.insert fits)
 
-choice-effect-fit : (rules : List Rule) (session : Session) (effect : AfterChoose) → Fits session → AllFit (choice_effect rules session effect)
+choice-effect-fit : (rules : List Rule) (session : Session) (effect : AfterChoose) → Fits session
+    → AllFit (choice_effect rules session effect)
 choice-effect-fit rules session choices.Nothing fits = fits
 choice-effect-fit rules session choices.Delete fits = (omega (arith, fits.0, shorter session.frame.text), fits.1)
 choice-effect-fit rules session choices.Newline fits = inserted-fits session (10 ∷ []) fits
 choice-effect-fit rules session choices.OpenSuffix fits = fits
 choice-effect-fit rules session (choices.Read key) fits = plain-fit rules session [] key fits
 
-choosing-fit : (rules : List Rule) (session : Session) (conversion : Conversion) (effect : AfterChoose) (shown : Shown) → Fits session
-    → AllFit (choosing rules session conversion effect shown)
-choosing-fit rules session conversion effect shown fits = by (has_room session (choice_piece session.frame.mode conversion.reading shown)) refl
+choosing-fit : (rules : List Rule) (session : Session) (conversion : Conversion) (effect : AfterChoose) (shown : Shown)
+    → Fits session → AllFit (choosing rules session conversion effect shown)
+choosing-fit rules session conversion effect shown fits =
+    by (has_room session (choice_piece session.frame.mode conversion.reading shown)) refl
   where
     by : (room : Bool) → has_room session (choice_piece session.frame.mode conversion.reading shown) ≡ room
         → AllFit (choosing rules session conversion effect shown)
     by true e =
         let piece = choice_piece session.frame.mode conversion.reading shown in
-        rw e (λ answer. choice-effect-fit rules (after_learning (with_piece session piece) conversion piece answer) effect (piece-fits session piece fits e))
+        rw e (λ answer. choice-effect-fit rules (after_learning (with_piece session piece) conversion piece answer)
+        effect (piece-fits session piece fits e))
     by false e = rw e fits
 
-purging-fit : (session : Session) (conversion : Conversion) (shown : Shown) → Fits session → AllFit (purging session conversion shown)
+purging-fit : (session : Session) (conversion : Conversion) (shown : Shown) → Fits session
+    → AllFit (purging session conversion shown)
 purging-fit session conversion shown fits = λ answer. by answer (says_purged answer) refl
   where
     by : (answer : Answer) (purged : Bool) → says_purged answer ≡ purged → Fits (after_purge session conversion answer)
     by answer true e = rw e fits
     by answer false e = rw e fits
 
-candidate-fit : (conversion : Conversion) (place : ℕ) (meaning : Shown → Meaning) → ((shown : Shown) → AllFit (meaning shown)) → AllFit (of_candidate conversion place meaning)
+candidate-fit : (conversion : Conversion) (place : ℕ) (meaning : Shown → Meaning)
+    → ((shown : Shown) → AllFit (meaning shown)) → AllFit (of_candidate conversion place meaning)
 candidate-fit conversion place meaning fit = by (slice_get conversion.picking.shown place)
   where
     by : (found : Option Shown) → AllFit (option_map_or meaning found not_built)
     by None = tt
     by (Some shown) = fit shown
 
-picking-effect-fit : (rules : List Rule) (session : Session) (conversion : Conversion) (effect : CandsDo) → Fits session → AllFit (picking_effect rules session conversion effect)
-picking-effect-fit rules session conversion (cands.Stay notice) fits = noted-fits (with_state session (states.Picking conversion)) notice fits
+picking-effect-fit : (rules : List Rule) (session : Session) (conversion : Conversion) (effect : CandsDo) → Fits session
+    → AllFit (picking_effect rules session conversion effect)
+picking-effect-fit rules session conversion (cands.Stay notice) fits =
+    noted-fits (with_state session (states.Picking conversion)) notice fits
 picking-effect-fit rules session conversion cands.Back fits = fits
 picking-effect-fit rules session conversion cands.Register fits = tt
 picking-effect-fit rules session conversion cands.Purge fits =
-    candidate-fit conversion conversion.picking.place (purging session conversion) (λ shown. purging-fit session conversion shown fits)
+    candidate-fit conversion conversion.picking.place (purging session conversion)
+    (λ shown. purging-fit session conversion shown fits)
 picking-effect-fit rules session conversion (cands.Choose place effect) fits =
-    candidate-fit conversion place (choosing rules session conversion effect) (λ shown. choosing-fit rules session conversion effect shown fits)
+    candidate-fit conversion place (choosing rules session conversion effect)
+    (λ shown. choosing-fit rules session conversion effect shown fits)
 
-picking-fit : (rules : List Rule) (session : Session) (conversion : Conversion) (key : Key) → Fits session → AllFit (picking_pressed rules session conversion key)
+picking-fit : (rules : List Rule) (session : Session) (conversion : Conversion) (key : Key) → Fits session
+    → AllFit (picking_pressed rules session conversion key)
 picking-fit rules session conversion key fits =
     let step = picking_step conversion.picking key in
     picking-effect-fit rules session (record { reading = conversion.reading; picking = step.picking }) step.done fits
 
-state-fit : (rules : List Rule) (session : Session) (state : State) (key : Key) → Fits session → AllFit (state_pressed rules session state key)
+state-fit : (rules : List Rule) (session : Session) (state : State) (key : Key) → Fits session
+    → AllFit (state_pressed rules session state key)
 state-fit rules session (states.Plain pending) key fits = plain-fit rules session pending key fits
 state-fit rules session (states.Reading reading) key fits = reading-fit rules session reading key fits
 state-fit rules session (states.Picking conversion) key fits = picking-fit rules session conversion key fits
@@ -227,8 +258,11 @@ followed-fit (asks call next) behind fit none some = λ answer. followed-fit (ne
 followed-fit (prints text rest) behind fit none some = followed-fit rest behind fit none some
 
 -- whatever keys are pressed, and however they are answered
-pub all-fit : (rules : List Rule) (session : Session) (keys : List Key) → Fits session → AllFit (all_pressed rules session keys)
+pub all-fit : (rules : List Rule) (session : Session) (keys : List Key) → Fits session
+    → AllFit (all_pressed rules session keys)
 all-fit rules session [] fits = fits
 all-fit rules session (key ∷ keys) fits =
-    followed-fit (pressed rules session key) (λ next. option_map_or (λ after. all_pressed rules after keys) next (ends None))
-    (state-fit rules (before_key session) session.frame.state key fits) tt (λ after after_fits. all-fit rules after keys after_fits)
+    followed-fit (pressed rules session key)
+    (λ next. option_map_or (λ after. all_pressed rules after keys) next (ends None))
+    (state-fit rules (before_key session) session.frame.state key fits) tt
+    (λ after after_fits. all-fit rules after keys after_fits)

@@ -1,5 +1,6 @@
 -- What a caller has said where nothing was asked, and where one thing was asked behind another.
-use Rattle.std.proofs.Common.{◌≡◌, ◌∙◌, sym, ap, refl, ℕ, slice_get, Result, Ok, Err, Option, Some, None, List, [], ◌∷◌, ◌++◌, IfOk, IsErrAnd, append_assoc, rules, subst}
+use Rattle.std.proofs.Common.{◌≡◌, ◌∙◌, sym, ap, refl, ℕ, slice_get, Result, Ok, Err, Option, Some, None, List, [], ◌∷◌}
+use Rattle.std.proofs.Common.{◌++◌, IfOk, IsErrAnd, append_assoc, rules, subst}
 use Rattle.std.proofs.lemmas.List.{append-nil}
 use Rattle.skk_calls.specs.declared.answer.Answer.{Answer}
 use Rattle.skk_calls.specs.declared.call.Call.{Call}
@@ -17,7 +18,8 @@ use Rattle.session_machine.specs.declared.session.PressFault.{PressFault}
 use Rattle.session_machine.specs.declared.session.PressFault.TheVariants as faults
 
 -- what holds of a value that comes out
-each_ok : {P Q : Session → Type 0} (result : Result Session PressFault) → IfOk result P → ((session : Session) → P session → Q session) → IfOk result Q
+each_ok : {P Q : Session → Type 0} (result : Result Session PressFault) → IfOk result P
+    → ((session : Session) → P session → Q session) → IfOk result Q
 each_ok (Ok session) p q = q session p
 each_ok (Err fault) p q = search rules
 
@@ -32,17 +34,20 @@ says-memory meaning said = record {
 }
 
 -- the same of a fault that tells it
-pub says-fault : (meaning : Meaning) (fault : PressFault) (said : Dialog) → fault ≡ faults.Memory → Says meaning (Err fault) said said
+pub says-fault : (meaning : Meaning) (fault : PressFault) (said : Dialog) → fault ≡ faults.Memory
+    → Says meaning (Err fault) said said
 says-fault meaning fault said is = subst (λ f. Says meaning (Err f) said said) (sym is) (says-memory meaning said)
 
 -- the same of a result that a call below handed on
-pub says-lacking : (meaning : Meaning) (result : Result (Unit {0}) PressFault) (session : Session) (said : Dialog) → IsErrAnd result (λ fault. fault ≡ faults.Memory)
-    → Says meaning (after result session) said said
+pub says-lacking : (meaning : Meaning) (result : Result (Unit {0}) PressFault) (session : Session) (said : Dialog)
+    → IsErrAnd result (λ fault. fault ≡ faults.Memory) → Says meaning (after result session) said said
 says-lacking meaning (Ok unit) session said is = absurd (search (rules, is))
-says-lacking meaning (Err fault) session said is = let lacks : fault ≡ faults.Memory = search (rules, is) in says-fault meaning fault said lacks
+says-lacking meaning (Err fault) session said is =
+    let lacks : fault ≡ faults.Memory = search (rules, is) in says-fault meaning fault said lacks
 
 -- something is not built, and nothing was asked
-pub says-not_built : (meaning : Meaning) (said : Dialog) → meaning ≡ not_built → Says meaning (Err faults.NotBuilt) said said
+pub says-not_built : (meaning : Meaning) (said : Dialog) → meaning ≡ not_built
+    → Says meaning (Err faults.NotBuilt) said said
 says-not_built meaning said is = record {
   dialog = [];
   grows = sym (append-nil said);
@@ -52,7 +57,8 @@ says-not_built meaning said is = record {
 }
 
 -- a session comes out, and nothing was asked
-pub says-session : (meaning : Meaning) (session : Session) (said : Dialog) → meaning ≡ becomes session → Says meaning (Ok session) said said
+pub says-session : (meaning : Meaning) (session : Session) (said : Dialog) → meaning ≡ becomes session
+    → Says meaning (Ok session) said said
 says-session meaning session said is = record {
   dialog = [];
   grows = sym (append-nil said);
@@ -62,7 +68,8 @@ says-session meaning session said is = record {
 }
 
 -- what a call that asks nothing gives is what is said by nothing
-pub says-becomes : (meaning : Meaning) (result : Result Session PressFault) (said : Dialog) → Becomes meaning result → Says meaning result said said
+pub says-becomes : (meaning : Meaning) (result : Result Session PressFault) (said : Dialog) → Becomes meaning result
+    → Says meaning result said said
 says-becomes meaning (Ok session) said becomes = says-session meaning session said becomes.ok
 says-becomes meaning (Err faults.NotBuilt) said becomes = says-not_built meaning said (becomes.not_built refl)
 says-becomes meaning (Err faults.Memory) said becomes = says-memory meaning said
@@ -77,23 +84,28 @@ pub goes-here : (meaning : Meaning) → Goes meaning [] meaning
 goes-here meaning = record { comes = λ rest end comes. comes; begins = λ rest begins. begins }
 
 -- two dialogs, one behind the other
-pub goes-on : (from middle to : Meaning) (dialog more : Dialog) → Goes from dialog middle → Goes middle more to → Goes from (dialog ++ more) to
+pub goes-on : (from middle to : Meaning) (dialog more : Dialog) → Goes from dialog middle → Goes middle more to
+    → Goes from (dialog ++ more) to
 goes-on from middle to dialog more first second = record {
-  comes = λ rest end comes. subst (λ d. Comes from d end) (sym (append_assoc dialog more rest)) (first.comes (more ++ rest) end (second.comes rest end comes));
-  begins = λ rest begins. subst (λ d. Begins from d) (sym (append_assoc dialog more rest)) (first.begins (more ++ rest) (second.begins rest begins));
+  comes =
+      λ rest end comes. subst (λ d. Comes from d end) (sym (append_assoc dialog more rest))
+      (first.comes (more ++ rest) end (second.comes rest end comes));
+  begins =
+      λ rest begins. subst (λ d. Begins from d) (sym (append_assoc dialog more rest))
+      (first.begins (more ++ rest) (second.begins rest begins));
 }
 
 -- what a meaning comes to goes on as what follows behind it
-pub goes-followed : (meaning : Meaning) (dialog : Dialog) (end : Option Session) (behind : Option Session → Meaning) → Comes meaning dialog end
-    → Goes (followed_by meaning behind) dialog (behind end)
+pub goes-followed : (meaning : Meaning) (dialog : Dialog) (end : Option Session) (behind : Option Session → Meaning)
+    → Comes meaning dialog end → Goes (followed_by meaning behind) dialog (behind end)
 goes-followed meaning dialog end behind comes = record {
   comes = λ rest last more. comes-behind meaning dialog end behind comes rest last more;
   begins = λ rest more. begins-behind meaning dialog end behind comes rest more;
 }
 
 -- what was said behind a dialog is said with it
-pub says-on : (from to : Meaning) (dialog : Dialog) (result : Result Session PressFault) (start middle last : Dialog) → Goes from dialog to
-    → middle ≡ start ++ dialog → Says to result middle last → Says from result start last
+pub says-on : (from to : Meaning) (dialog : Dialog) (result : Result Session PressFault) (start middle last : Dialog)
+    → Goes from dialog to → middle ≡ start ++ dialog → Says to result middle last → Says from result start last
 says-on from to dialog result start middle last goes grows says = record {
   dialog = dialog ++ says.dialog;
   grows = says.grows ∙ ap (λ d. d ++ says.dialog) grows ∙ append_assoc start dialog says.dialog;
@@ -103,37 +115,46 @@ says-on from to dialog result start middle last goes grows says = record {
 }
 
 -- a call was made with its answer, and what is said behind it is what the answer comes to
-pub says-asked : (call called : Call) (next : Answer → Meaning) (answer : Answer) (result : Result Session PressFault) (start middle last : Dialog) → called ≡ call
-    → middle ≡ start ++ (called, answer) ∷ [] → Says (next answer) result middle last → Says (asks call next) result start last
+pub says-asked : (call called : Call) (next : Answer → Meaning) (answer : Answer) (result : Result Session PressFault)
+    (start middle last : Dialog) → called ≡ call
+    → middle ≡ start ++ (called, answer) ∷ [] → Says (next answer) result middle last
+    → Says (asks call next) result start last
 says-asked call called next answer result start middle last is grows says =
     says-on (asks call next) (next answer) ((called, answer) ∷ []) result start middle last
     (record { comes = λ rest end comes. (sym is, comes); begins = λ rest begins. (sym is, begins) }) grows says
 
 -- what is said for a candidate is what is said of its place
-pub says-candidate : (conversion : Conversion) (place : ℕ) (meaning : Shown → Meaning) (shown : Shown) (result : Result Session PressFault) (said said' : Dialog)
-    → slice_get conversion.picking.shown place ≡ Some shown → Says (meaning shown) result said said' → Says (of_candidate conversion place meaning) result said said'
+pub says-candidate : (conversion : Conversion) (place : ℕ) (meaning : Shown → Meaning) (shown : Shown)
+    (result : Result Session PressFault) (said said' : Dialog)
+    → slice_get conversion.picking.shown place ≡ Some shown → Says (meaning shown) result said said'
+    → Says (of_candidate conversion place meaning) result said said'
 says-candidate conversion place meaning shown result said said' found says =
     subst (λ o. Says (option_map_or meaning o not_built) result said said') (sym found) says
 
 -- a fault that is handed on is that of the result
-handed-on : (result : Result Session PressFault) (fault : PressFault) → IsErrAnd result (λ handed. handed ≡ fault) → result ≡ Err fault
+handed-on : (result : Result Session PressFault) (fault : PressFault) → IsErrAnd result (λ handed. handed ≡ fault)
+    → result ≡ Err fault
 handed-on (Ok session) fault is = absurd (search (rules, is))
 handed-on (Err other) fault is = let same : other ≡ fault = search (rules, is) in ap Err same
 
 -- where a fault ends a meaning, it ends that with another behind it
-pub says-followed : (meaning : Meaning) (behind : Option Session → Meaning) (result other : Result Session PressFault) (fault : PressFault) (said said' : Dialog)
-    → behind None ≡ not_built → Says meaning result said said' → result ≡ Err fault → other ≡ Err fault → Says (followed_by meaning behind) other said said'
+pub says-followed : (meaning : Meaning) (behind : Option Session → Meaning) (result other : Result Session PressFault)
+    (fault : PressFault) (said said' : Dialog)
+    → behind None ≡ not_built → Says meaning result said said' → result ≡ Err fault → other ≡ Err fault
+    → Says (followed_by meaning behind) other said said'
 says-followed meaning behind result other fault said said' none says is same =
     subst (λ r. Says (followed_by meaning behind) r said said') (sym same)
     (ended fault (subst (λ r. Says meaning r said said') is says))
   where
-    ended : (fault : PressFault) → Says meaning (Err fault) said said' → Says (followed_by meaning behind) (Err fault) said said'
+    ended : (fault : PressFault) → Says meaning (Err fault) said said'
+        → Says (followed_by meaning behind) (Err fault) said said'
     ended faults.NotBuilt told = record {
       dialog = told.dialog;
       grows = told.grows;
       ok = search rules;
       not_built = λ e. subst (λ d. Comes (followed_by meaning behind) d None) (append-nil told.dialog)
-          (comes-behind meaning told.dialog None behind (told.not_built refl) [] None (subst (λ m. Comes m [] None) (sym none) refl));
+          (comes-behind meaning told.dialog None behind (told.not_built refl) [] None
+          (subst (λ m. Comes m [] None) (sym none) refl));
       memory = λ e. cc;
     }
     ended faults.Memory told = record {
@@ -145,17 +166,22 @@ says-followed meaning behind result other fault said said' none says is same =
     }
 
 -- a fault of the first of several keys ends them
-pub says-first : (rules : List Rule) (session : Session) (key : Key) (keys : List Key) (result other : Result Session PressFault) (fault : PressFault) (said said' : Dialog)
-    → Says (pressed rules session key) result said said' → result ≡ Err fault → IsErrAnd other (λ handed. handed ≡ fault)
-    → Says (all_pressed rules session (key ∷ keys)) other said said'
+pub says-first : (rules : List Rule) (session : Session) (key : Key) (keys : List Key)
+    (result other : Result Session PressFault) (fault : PressFault) (said said' : Dialog)
+    → Says (pressed rules session key) result said said' → result ≡ Err fault
+    → IsErrAnd other (λ handed. handed ≡ fault) → Says (all_pressed rules session (key ∷ keys)) other said said'
 says-first rules session key keys result other fault said said' says is handed =
-    says-followed (pressed rules session key) (λ next. option_map_or (λ after. all_pressed rules after keys) next not_built)
+    says-followed (pressed rules session key)
+    (λ next. option_map_or (λ after. all_pressed rules after keys) next not_built)
     result other fault said said' refl says is (handed-on other fault handed)
 
 -- the first of several keys goes on as those behind it
-pub goes-first : (rules : List Rule) (session : Session) (key : Key) (keys : List Key) (next : Session) (dialog : Dialog)
-    → Comes (pressed rules session key) dialog (Some next) → Goes (all_pressed rules session (key ∷ keys)) dialog (all_pressed rules next keys)
+pub goes-first : (rules : List Rule) (session : Session) (key : Key) (keys : List Key) (next : Session)
+    (dialog : Dialog)
+    → Comes (pressed rules session key) dialog (Some next)
+    → Goes (all_pressed rules session (key ∷ keys)) dialog (all_pressed rules next keys)
 goes-first rules session key keys next dialog comes =
-    goes-followed (pressed rules session key) dialog (Some next) (λ o. option_map_or (λ after. all_pressed rules after keys) o not_built) comes
+    goes-followed (pressed rules session key) dialog (Some next)
+    (λ o. option_map_or (λ after. all_pressed rules after keys) o not_built) comes
 
 pub ruleset says = (says-memory, says-fault, says-lacking, says-not_built, says-session, says-becomes)

@@ -102,4 +102,30 @@ pub stamps_end : chars (codes "stamps-end") ≡ codes "stamps-end"
 unfolding chars
 stamps_end = refl
 
-pub ruleset words = (hira, kata, ascii, wide, none, limit, reading, no_more, no_completion, no_undo, no_candidate, line_feed, return, tab, backslash, newline, question, refused_memory, refused_disk, purged, unchanged, undone, overtaken, too_big, stamps_end)
+pub ruleset words = (
+  hira,
+  kata,
+  ascii,
+  wide,
+  none,
+  limit,
+  reading,
+  no_more,
+  no_completion,
+  no_undo,
+  no_candidate,
+  line_feed,
+  return,
+  tab,
+  backslash,
+  newline,
+  question,
+  refused_memory,
+  refused_disk,
+  purged,
+  unchanged,
+  undone,
+  overtaken,
+  too_big,
+  stamps_end,
+)

@@ -1,5 +1,6 @@
 -- The meaning of a key: what a session asks the dictionary, and the session after it.
-use Rattle.std.specs.Prelude.{ℕ, Bool, false, ◌&&◌, ◌||◌, ◌==◌, not, nat_le, if◌then◌else◌, Option, None, Some, List, [], ◌∷◌, ◌++◌, length, slice_get}
+use Rattle.std.specs.Prelude.{ℕ, Bool, false, ◌&&◌, ◌||◌, ◌==◌, not, nat_le, if◌then◌else◌, Option, None, Some, List}
+use Rattle.std.specs.Prelude.{[], ◌∷◌, ◌++◌, length, slice_get}
 use Rattle.std.specs.List.{list_any}
 use Rattle.std.specs.Option.{option_map_or}
 use Rattle.skk_text.specs.Characters.{code}
@@ -41,7 +42,9 @@ use Rattle.session_machine.specs.declared.frame.Conversion.{Conversion}
 use Rattle.session_machine.specs.declared.frame.State.{State}
 use Rattle.session_machine.specs.declared.frame.State.TheVariants as states
 use Rattle.session_machine.specs.declared.session_notice.SessionNotice.TheVariants as told
-use Rattle.session_machine.specs.Session.{Session, with_state, with_text, with_mode, with_choice, choice_at, without_chars, shortened, noting, before_key, has_room, with_piece, with_insertion}
+use Rattle.session_machine.specs.Session.{Session, with_state, with_text, with_mode, with_choice, choice_at}
+use Rattle.session_machine.specs.Session.{without_chars, shortened, noting, before_key, has_room, with_piece}
+use Rattle.session_machine.specs.Session.{with_insertion}
 
 -- what a key comes to: what it asks one after another, and the session after it, where all that it does is built
 abbrev pub Meaning : Type 0
@@ -61,14 +64,15 @@ not_built = ends None
 abbrev pub is_digit : ℕ → Bool
 is_digit c = nat_le (code "0") c && nat_le c (code "9")
 
--- what candidates come to that were found for a reading: the first of them is shown; where there are none a registration
--- would open, which is not built
+-- what candidates come to that were found for a reading: the first of them is shown; where there are none a
+-- registration would open, which is not built
 abbrev pub pick : Session → Reading → List Shown → Meaning
 pick session reading shown =
     if length shown == 0 then not_built
     else becomes (with_state session (states.Picking (record { reading = reading; picking = new_picking shown })))
 
--- what the answer to a reading's look-up comes to: its candidates are shown; where it was refused the reading stays open
+-- what the answer to a reading's look-up comes to: its candidates are shown;
+-- where it was refused the reading stays open
 abbrev pub looked_up : Session → Reading → Answer → Meaning
 looked_up session reading (Done (Found found)) = pick session reading (shown_plain (key_of reading) found)
 looked_up session reading (Done reply) = becomes (with_state session (states.Reading reading))
@@ -125,13 +129,15 @@ reading_pressed rules session reading key =
 -- a session before what was chosen last: without what was inserted, and with the candidates shown again in their mode
 abbrev pub before_choice : Session → Choice → Session
 before_choice session choice =
-    with_state (with_mode (with_text (with_choice session None) (without_chars choice.inserted session.frame.text)) choice.mode)
+    with_state
+    (with_mode (with_text (with_choice session None) (without_chars choice.inserted session.frame.text)) choice.mode)
     (states.Picking choice.conversion)
 
 -- what it comes to that what was learnt is taken back, if anything was
 abbrev pub unlearnt : Session → Option Learned → Meaning
 unlearnt session None = becomes (record session { notice = told.Undone })
-unlearnt session (Some learned) = asks (Unlearn learned) (λ answer. becomes (record session { notice = answer_notice answer }))
+unlearnt session (Some learned) =
+    asks (Unlearn learned) (λ answer. becomes (record session { notice = answer_notice answer }))
 
 -- what it comes to that a choice is taken back: its candidates are shown again, and what was learnt is taken back
 abbrev pub undone : Session → Option Choice → Meaning
@@ -147,14 +153,15 @@ plain_effect rules session (plain.OpenReading None) = becomes (with_state sessio
 plain_effect rules session (plain.OpenReading (Some letter)) = reading_pressed rules session new_reading (Char letter)
 plain_effect rules session plain.OpenAbbrev = becomes (with_state session (states.Reading new_abbrev))
 plain_effect rules session plain.Cancel = becomes session
-plain_effect rules session plain.AskUndo = undone session (choice_at (byte_len session.frame.text) session.frame.last_choice)
+plain_effect rules session plain.AskUndo =
+    undone session (choice_at (byte_len session.frame.text) session.frame.last_choice)
 
 -- a session in the plain state, with its mode and what is pending
 abbrev pub with_plain : Session → Plain → Session
 with_plain session plain = with_state (with_mode session plain.mode) (states.Plain plain.pending)
 
--- a session after a key was read in the plain state, with these letters pending, and what came out was inserted; and what
--- else the key does
+-- a session after a key was read in the plain state, with these letters pending, and what came out was inserted; and
+-- what else the key does
 abbrev pub plain_typed : List Rule → Session → List ℕ → Key → Session × PlainThen
 plain_typed rules session pending key =
     let step = plain_step rules (record { mode = session.frame.mode; pending = pending }) key in
@@ -195,7 +202,8 @@ choice_effect rules session choices.Newline = becomes (with_insertion session (l
 choice_effect rules session choices.OpenSuffix = becomes (with_state session (states.Reading suffix_reading))
 choice_effect rules session (choices.Read key) = plain_pressed rules session [] key
 
--- what it comes to that a candidate is learnt whose piece is inserted: it is learnt as it was found, and then more is done
+-- what it comes to that a candidate is learnt whose piece is inserted: it is learnt as it was found,
+-- and then more is done
 abbrev pub learning : List Rule → Session → Conversion → List ℕ → AfterChoose → Shown → Meaning
 learning rules session conversion piece behind shown =
     asks (Learn session.book shown.key (okuri_of conversion.reading) shown.cand)
@@ -208,10 +216,13 @@ choosing rules session conversion behind shown =
     if has_room session piece then learning rules session conversion piece behind shown
     else becomes (noting (with_state session (states.Picking conversion)) notices.Limit)
 
--- a session after the purge of a candidate was answered: the candidates are closed where it is found no more, and stay else
+-- a session after the purge of a candidate was answered: the candidates are closed where it is found no more,
+-- and stay else
 abbrev pub after_purge : Session → Conversion → Answer → Session
 after_purge session conversion answer =
-    record (if says_purged answer then session else with_state session (states.Picking conversion)) { notice = answer_notice answer }
+    record (if says_purged answer then session else with_state session (states.Picking conversion)) {
+      notice = answer_notice answer;
+    }
 
 -- what the purge of a candidate comes to
 abbrev pub purging : Session → Conversion → Shown → Meaning
@@ -220,10 +231,12 @@ purging session conversion shown =
 
 -- what a key's effect on candidates comes to; registrations are not built
 abbrev pub picking_effect : List Rule → Session → Conversion → CandsDo → Meaning
-picking_effect rules session conversion (cands.Stay notice) = becomes (noting (with_state session (states.Picking conversion)) notice)
+picking_effect rules session conversion (cands.Stay notice) =
+    becomes (noting (with_state session (states.Picking conversion)) notice)
 picking_effect rules session conversion cands.Back = becomes (with_state session (states.Reading conversion.reading))
 picking_effect rules session conversion cands.Register = not_built
-picking_effect rules session conversion cands.Purge = of_candidate conversion conversion.picking.place (purging session conversion)
+picking_effect rules session conversion cands.Purge =
+    of_candidate conversion conversion.picking.place (purging session conversion)
 picking_effect rules session conversion (cands.Choose place behind) =
     of_candidate conversion place (choosing rules session conversion behind)
 
@@ -249,4 +262,5 @@ pressed rules session key = state_pressed rules (before_key session) session.fra
 abbrev pub all_pressed : List Rule → Session → List Key → Meaning
 all_pressed rules session [] = becomes session
 all_pressed rules session (key ∷ keys) =
-    followed_by (pressed rules session key) (λ next. option_map_or (λ after. all_pressed rules after keys) next not_built)
+    followed_by (pressed rules session key)
+    (λ next. option_map_or (λ after. all_pressed rules after keys) next not_built)

@@ -6,8 +6,8 @@ use Rattle.session_machine.specs.Session.{Session}
 use Rattle.session_machine.specs.declared.session.PressFault.{PressFault}
 use Rattle.session_machine.specs.declared.session.PressFault.TheVariants as faults
 
--- a caller has said what a meaning asks, and nothing else: all of it where the session comes out or where something is not
--- built, and the first of it where memory is out
+-- a caller has said what a meaning asks, and nothing else: all of it where the session comes out or where something is
+-- not built, and the first of it where memory is out
 pub record Says (meaning : Meaning) (result : Result Session PressFault) (said said' : Dialog) : Type 0 where
   pub dialog : Dialog
   pub grows : said' ≡ said ++ dialog
@@ -15,7 +15,8 @@ pub record Says (meaning : Meaning) (result : Result Session PressFault) (said s
   pub not_built : IsErrOf result faults.NotBuilt → Comes meaning dialog None
   pub memory : IsErrOf result faults.Memory → Begins meaning dialog
 
--- a call that asks nothing gives what a meaning comes to: the session, or that something is not built, unless memory is out
+-- a call that asks nothing gives what a meaning comes to: the session, or that something is not built,
+-- unless memory is out
 pub record Becomes (meaning : Meaning) (result : Result Session PressFault) : Type 0 where
   pub ok : IfOk result (λ session. meaning ≡ becomes session)
   pub not_built : IsErrOf result faults.NotBuilt → meaning ≡ not_built

@@ -1,5 +1,6 @@
 -- A session: a typist's frames, and the changes that keys make of them.
-use Rattle.std.specs.Prelude.{ℕ, ◌+◌, Bool, ◌||◌, ◌==◌, nat_le, nat_lt, if◌then◌else◌, Option, None, Some, List, [], ◌∷◌, ◌++◌, ◌-◌, ◌≤◌, length, take}
+use Rattle.std.specs.Prelude.{ℕ, ◌+◌, Bool, ◌||◌, ◌==◌, nat_le, nat_lt, if◌then◌else◌, Option, None, Some, List, []}
+use Rattle.std.specs.Prelude.{◌∷◌, ◌++◌, ◌-◌, ◌≤◌, length, take}
 use Rattle.skk_text.specs.Text.{byte_len, without_last}
 use Rattle.skk_text.specs.declared.mode.Mode.{Mode}
 use Rattle.skk_text.specs.declared.mode.Mode.TheVariants.{Hira}
@@ -12,8 +13,8 @@ use Rattle.session_machine.specs.declared.frame.State.TheVariants.{Plain}
 use Rattle.session_machine.specs.declared.session_notice.SessionNotice.{SessionNotice}
 use Rattle.session_machine.specs.declared.session_notice.SessionNotice.TheVariants.{Step}
 
--- a session: its typist, the book that it learns in, the frame that its keys go to, the frames outside that one with the
--- typist's line first, and the notice of the last key
+-- a session: its typist, the book that it learns in, the frame that its keys go to, the frames outside that one with
+-- the typist's line first, and the notice of the last key
 pub record Session : Type 0 where
   pub typist : ℕ
   pub book : ℕ

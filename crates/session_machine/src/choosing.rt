@@ -2,7 +2,8 @@ ghost use Rattle.std.specs.Prelude.{◌≡◌, ◌<◌, length, IfOk, OnOk};
 ghost use Rattle.std.specs.Str.{chars};
 ghost use Rattle.skk_calls.specs.declared.call.Call.TheVariants.{Learn};
 ghost use Rattle.reading_state.specs.Keys.{okuri_of};
-ghost use Rattle.session_machine.specs.Pressed.{after_learning, choice_effect, choice_piece, choosing, learning, of_candidate};
+ghost use Rattle.session_machine.specs.Pressed.{after_learning, choice_effect, choice_piece, choosing, learning};
+ghost use Rattle.session_machine.specs.Pressed.{of_candidate};
 ghost use Rattle.session_machine.specs.Said.{Says, after};
 ghost use Rattle.session_machine.specs.Session.{with_piece};
 
@@ -18,8 +19,8 @@ use skk_calls::{Answer, Call, Caller};
 use skk_text::{Copies, Memory, Mode, Notice, Text};
 use std::alloc::Global;
 
-// Chooses the candidate of a place: inserts it, learns it, and does what comes behind that. The candidates stay where it does
-// not fit.
+// Chooses the candidate of a place: inserts it, learns it, and does what comes behind that. The candidates stay where
+// it does not fit.
 #[tactic(auto, using(crate::proofs::Saying::says))]
 pub(crate) fn choose<C: Caller>(
     session: &mut Session,
@@ -31,7 +32,8 @@ pub(crate) fn choose<C: Caller>(
     caller: &mut C,
 ) -> Result<(), PressFault>
     requires { place < length conversion.picking.shown }
-    ensures said { Says (of_candidate conversion place (choosing rules.now session.old conversion (then))) (after result session.new) (C.said caller.old) (C.said caller.new) }
+    ensures said { Says (of_candidate conversion place (choosing rules.now session.old conversion (then)))
+        (after result session.new) (C.said caller.old) (C.said caller.new) }
     ensures number { C.number caller.new ≡ C.number caller.old }
 {
     let shown = conversion.picking.shown_list().at(place);
@@ -54,7 +56,8 @@ fn choice_piece(
     shown: Shown<'_>,
 ) -> Result<Text, Memory>
     ensures { IfOk result (λ piece. piece
-        ≡ choice_piece mode reading.now (record { key = shown.entry.key.now; cand = shown.entry.cand.now; text = shown.entry.text.now })) }
+        ≡ choice_piece mode reading.now
+        (record { key = shown.entry.key.now; cand = shown.entry.cand.now; text = shown.entry.text.now })) }
 {
     let mut piece = shown.text.copy(alloc)?;
     if let Some(kana) = reading.begun_text() {
@@ -77,7 +80,8 @@ fn learn<C: Caller>(
     caller: &mut C,
 ) -> Result<(), PressFault>
     requires { place < length conversion.picking.shown }
-    ensures said { Says (of_candidate conversion place (learning rules.now session.old conversion piece.now (then))) (after result session.new) (C.said caller.old) (C.said caller.new) }
+    ensures said { Says (of_candidate conversion place (learning rules.now session.old conversion piece.now (then)))
+        (after result session.new) (C.said caller.old) (C.said caller.new) }
     ensures number { C.number caller.new ≡ C.number caller.old }
 {
     let shown = conversion.picking.shown_list().at(place);
@@ -95,7 +99,8 @@ fn insert_choice(
     shown: Shown<'_>,
     piece: &Text,
 ) -> Result<Call, Memory>
-    ensures call { IfOk result (λ call. call ≡ Learn session.old.book shown.entry.key.now (okuri_of reading.now) shown.entry.cand.now) }
+    ensures call { IfOk result (λ call. call
+        ≡ Learn session.old.book shown.entry.key.now (okuri_of reading.now) shown.entry.cand.now) }
     ensures inserted { OnOk result (session.new ≡ with_piece session.old piece.now) }
 {
     let call = learning(alloc, session.book, reading, shown)?;
@@ -145,7 +150,8 @@ fn apply_choice<C: Caller>(
     then: AfterChoose,
     caller: &mut C,
 ) -> Result<(), PressFault>
-    ensures said { Says (choice_effect rules.now session.old (then)) (after result session.new) (C.said caller.old) (C.said caller.new) }
+    ensures said { Says (choice_effect rules.now session.old (then)) (after result session.new)
+        (C.said caller.old) (C.said caller.new) }
     ensures number { C.number caller.new ≡ C.number caller.old }
 {
     match then {

@@ -8,8 +8,8 @@ use reading_state::{AfterConfirm, Reading};
 use skk_text::{Memory, Mode, Notice, Text};
 use std::alloc::Global;
 
-// Inserts a reading in the frame's kana or in the other, and does what comes behind that. The reading stays open where it
-// does not fit.
+// Inserts a reading in the frame's kana or in the other, and does what comes behind that. The reading stays open where
+// it does not fit.
 pub(crate) fn confirm(
     session: &mut Session,
     alloc: Global,

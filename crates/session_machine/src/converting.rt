@@ -24,7 +24,8 @@ pub(crate) fn convert<C: Caller>(
     caller: &mut C,
 ) -> Result<(), PressFault>
     requires { reading.text ≢ [] }
-    ensures said { Says (converted session.old reading) (after result session.new) (C.said caller.old) (C.said caller.new) }
+    ensures said { Says (converted session.old reading) (after result session.new)
+        (C.said caller.old) (C.said caller.new) }
     ensures number { C.number caller.new ≡ C.number caller.old }
 {
     if has_digit(reading.text().as_str()) {

@@ -16,7 +16,8 @@ impl Session {
     ghost use Rattle.std.specs.Prelude.{◌≡◌, None, MatchOption, OnOk};
     ghost use Rattle.std.specs.Str.{chars};
     ghost use Rattle.skk_text.specs.Text.{byte_len};
-    ghost use Rattle.session_machine.specs.Session.{before_key, choice_at, has_room, noting, shortened, with_choice, with_insertion, with_state};
+    ghost use Rattle.session_machine.specs.Session.{before_key, choice_at, has_room, noting, shortened, with_choice};
+    ghost use Rattle.session_machine.specs.Session.{with_insertion, with_state};
 
     // Takes the state of the frame out, which is plain then, and the notice of the key before away.
     pub(crate) fn take_state(&mut self) -> State
@@ -43,8 +44,8 @@ impl Session {
         }
     }
 
-    // Takes the last character of the frame's text off. What was chosen last is given up where the text gets shorter than it
-    // was behind it.
+    // Takes the last character of the frame's text off. What was chosen last is given up where the text gets shorter
+    // than it was behind it.
     pub(crate) fn shorten(&mut self)
         ensures { self.new ≡ shortened self.old }
     {

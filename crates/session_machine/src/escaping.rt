@@ -24,7 +24,8 @@ pub(crate) fn push_printed(page: &mut Text, text: &str) -> Result<(), Memory>
 // The run of characters before the first that has an escape, that escape, and what follows; nothing where no
 // character has one.
 fn next_escape(text: &str) -> Option<(&str, &'static str, &str)>
-    ensures found { IfSome result (λ found. flat_map escaped (chars text.now) ≡ chars found.0.now ++ (chars found.1.now ++ flat_map escaped (chars found.2.now))) }
+    ensures found { IfSome result (λ found. flat_map escaped (chars text.now)
+        ≡ chars found.0.now ++ (chars found.1.now ++ flat_map escaped (chars found.2.now))) }
     ensures shorter { IfSome result (λ found. length found.2.now < length text.now) }
     ensures none { IsNone result → flat_map escaped (chars text.now) ≡ chars text.now }
 {

@@ -1,11 +1,11 @@
 //! A typist's session: the mode machine over keys and a dictionary.
 //!
 //! It stands on the plain state, the reading state ▽ and the candidate state ▼, each in a crate of its own, and does
-//! what they ask for: it inserts, opens and closes readings, looks them up with a `Caller`, shows the candidates, learns
-//! the one that is chosen or purges it, and takes the last choice back. What a key means is a tree of questions
+//! what they ask for: it inserts, opens and closes readings, looks them up with a `Caller`, shows the candidates,
+//! learns the one that is chosen or purges it, and takes the last choice back. What a key means is a tree of questions
 //! (`pressed` in the specs): it ends with the session after the key, or makes a call and goes on by the answer.
-//! `Session::press` promises that the session is the one that the tree comes to by the answers that its caller gave, and
-//! that the calls it made are those that the tree asks, none more. `printing` shows a session as it is printed.
+//! `Session::press` promises that the session is the one that the tree comes to by the answers that its caller gave,
+//! and that the calls it made are those that the tree asks, none more. `printing` shows a session as it is printed.
 #![tactic(auto)]
 
 mod answered;

@@ -1,6 +1,7 @@
 ghost use Rattle.std.specs.Prelude.{◌≡◌, ◌≢◌, ◌<◌, ℕ, [], length, IfOk};
 ghost use Rattle.reading_state.specs.declared.reading_do.ReadingThen.TheVariants as effects;
-ghost use Rattle.session_machine.specs.Pressed.{pressed, plain_pressed, plain_typed, plain_effect, reading_pressed, reading_effect, picking_pressed, picking_effect};
+ghost use Rattle.session_machine.specs.Pressed.{pressed, plain_pressed, plain_typed, plain_effect, reading_pressed};
+ghost use Rattle.session_machine.specs.Pressed.{reading_effect, picking_pressed, picking_effect};
 ghost use Rattle.session_machine.specs.Said.{Says, after};
 
 use crate::choosing::choose;
@@ -27,7 +28,8 @@ pub(crate) fn press_key<C: Caller>(
     key: Key,
     caller: &mut C,
 ) -> Result<(), PressFault>
-    ensures said { Says (pressed rules.now session.old key) (after result session.new) (C.said caller.old) (C.said caller.new) }
+    ensures said { Says (pressed rules.now session.old key) (after result session.new)
+        (C.said caller.old) (C.said caller.new) }
     ensures number { C.number caller.new ≡ C.number caller.old }
 {
     match session.take_state() {
@@ -49,7 +51,8 @@ pub(crate) fn press_in_plain<C: Caller>(
     key: Key,
     caller: &mut C,
 ) -> Result<(), PressFault>
-    ensures said { Says (plain_pressed rules.now session.old pending key) (after result session.new) (C.said caller.old) (C.said caller.new) }
+    ensures said { Says (plain_pressed rules.now session.old pending key) (after result session.new)
+        (C.said caller.old) (C.said caller.new) }
     ensures number { C.number caller.new ≡ C.number caller.old }
 {
     let then = type_plain(session, alloc, rules, pending, key)?;
@@ -86,7 +89,8 @@ fn apply_plain<C: Caller>(
     then: PlainThen,
     caller: &mut C,
 ) -> Result<(), PressFault>
-    ensures said { Says (plain_effect rules.now session.old (then)) (after result session.new) (C.said caller.old) (C.said caller.new) }
+    ensures said { Says (plain_effect rules.now session.old (then)) (after result session.new)
+        (C.said caller.old) (C.said caller.new) }
     ensures number { C.number caller.new ≡ C.number caller.old }
 {
     match then {
@@ -114,7 +118,8 @@ fn press_in_reading<C: Caller>(
     key: Key,
     caller: &mut C,
 ) -> Result<(), PressFault>
-    ensures said { Says (reading_pressed rules.now session.old reading key) (after result session.new) (C.said caller.old) (C.said caller.new) }
+    ensures said { Says (reading_pressed rules.now session.old reading key) (after result session.new)
+        (C.said caller.old) (C.said caller.new) }
     ensures number { C.number caller.new ≡ C.number caller.old }
 {
     let mut reading = reading;
@@ -133,7 +138,8 @@ fn apply_reading<C: Caller>(
     caller: &mut C,
 ) -> Result<(), PressFault>
     requires { then ≡ effects.Convert → reading.text ≢ [] }
-    ensures said { Says (reading_effect session.old reading (then)) (after result session.new) (C.said caller.old) (C.said caller.new) }
+    ensures said { Says (reading_effect session.old reading (then)) (after result session.new)
+        (C.said caller.old) (C.said caller.new) }
     ensures number { C.number caller.new ≡ C.number caller.old }
 {
     match then {
@@ -156,7 +162,8 @@ fn press_in_picking<C: Caller>(
     key: Key,
     caller: &mut C,
 ) -> Result<(), PressFault>
-    ensures said { Says (picking_pressed rules.now session.old conversion key) (after result session.new) (C.said caller.old) (C.said caller.new) }
+    ensures said { Says (picking_pressed rules.now session.old conversion key) (after result session.new)
+        (C.said caller.old) (C.said caller.new) }
     ensures number { C.number caller.new ≡ C.number caller.old }
 {
     let Conversion {
@@ -184,8 +191,10 @@ fn apply_picking<C: Caller>(
     done: CandsDo,
     caller: &mut C,
 ) -> Result<(), PressFault>
-    requires { (place : ℕ) (after : AfterChoose) → done ≡ CandsDo.Choose place after → place < length conversion.picking.shown }
-    ensures said { Says (picking_effect rules.now session.old conversion (done)) (after result session.new) (C.said caller.old) (C.said caller.new) }
+    requires { (place : ℕ) (after : AfterChoose) → done ≡ CandsDo.Choose place after
+        → place < length conversion.picking.shown }
+    ensures said { Says (picking_effect rules.now session.old conversion (done)) (after result session.new)
+        (C.said caller.old) (C.said caller.new) }
     ensures number { C.number caller.new ≡ C.number caller.old }
 {
     match done {

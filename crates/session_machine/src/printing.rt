@@ -8,7 +8,10 @@ ghost use Rattle.skk_text.specs.Characters.{code};
 ghost use Rattle.skk_text.specs.Modes.{in_kana_of};
 ghost use Rattle.skk_calls.specs.declared.answer.Refusal.TheVariants as refusals;
 ghost use Rattle.candidate_state.specs.Picking.{page_size};
-ghost use Rattle.session_machine.specs.Display.{display, first_note, first_text, indicator, lettered, line, note_text, notice, okuri_shown, page_letters, page_shown, picking_shown, printed_form, question_shown, reading_shown, refusal_text, single_shown, state_note, state_shown, step_text};
+ghost use Rattle.session_machine.specs.Display.{display, first_note, first_text, indicator, lettered, line, note_text};
+ghost use Rattle.session_machine.specs.Display.{notice, okuri_shown, page_letters, page_shown, picking_shown};
+ghost use Rattle.session_machine.specs.Display.{printed_form, question_shown, reading_shown, refusal_text};
+ghost use Rattle.session_machine.specs.Display.{single_shown, state_note, state_shown, step_text};
 ghost use Rattle.session_machine.specs.Pressed.{kana_begun};
 
 use crate::escaping::push_printed;

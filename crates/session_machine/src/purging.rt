@@ -20,7 +20,8 @@ pub(crate) fn purge<C: Caller>(
     conversion: Conversion,
     caller: &mut C,
 ) -> Result<(), PressFault>
-    ensures said { Says (of_candidate conversion conversion.picking.place (purging session.old conversion)) (after result session.new) (C.said caller.old) (C.said caller.new) }
+    ensures said { Says (of_candidate conversion conversion.picking.place (purging session.old conversion))
+        (after result session.new) (C.said caller.old) (C.said caller.new) }
     ensures number { C.number caller.new ≡ C.number caller.old }
 {
     let shown = conversion

@@ -41,7 +41,8 @@ pub struct Session {
     pub(crate) notice: SessionNotice,
 }
 
-// Written out, so that whatever drops a session makes one call: a proof of it need not go through all that a session holds.
+// Written out, so that whatever drops a session makes one call:
+// a proof of it need not go through all that a session holds.
 impl Drop for Session {
     fn drop(self) {
         let Session {
@@ -60,9 +61,11 @@ impl Model for Session {
 
     ghost Value = { Session };
 
-    ghost view = { λ s. record { typist = s.typist; book = s.book; frame = s.frame; outer = s.outer; notice = s.notice } };
+    ghost view = { λ s.
+        record { typist = s.typist; book = s.book; frame = s.frame; outer = s.outer; notice = s.notice } };
 
-    ghost invariant = { λ s. is_session (record { typist = s.typist; book = s.book; frame = s.frame; outer = s.outer; notice = s.notice }) ≡ true };
+    ghost invariant = { λ s. is_session
+        (record { typist = s.typist; book = s.book; frame = s.frame; outer = s.outer; notice = s.notice }) ≡ true };
 }
 
 impl Session {
@@ -144,8 +147,8 @@ impl Session {
         &self.outer.at(0).text
     }
 
-    /// What is shown of the session, as it is printed: the last 64 characters of the text of the frame that takes the keys,
-    /// and its state. Takes time in what is shown, not in the text's length nor in the number of candidates.
+    /// What is shown of the session, as it is printed: the last 64 characters of the text of the frame that takes the
+    /// keys, and its state. Takes time in what is shown, not in the text's length nor in the number of candidates.
     pub fn display(&self, alloc: Global) -> Result<Text, Memory>
         ensures { IfOk result (λ text. text ≡ display self.now) }
     {

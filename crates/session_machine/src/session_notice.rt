@@ -14,8 +14,8 @@ pub enum SessionNotice {
     Unchanged,
     /// What was chosen last was taken back.
     Undone,
-    /// What was chosen last was taken out of the text, but its row, which has this stamp by now or 0 where it is gone, was
-    /// left as others changed it.
+    /// What was chosen last was taken out of the text, but its row, which has this stamp by now or 0 where it is gone,
+    /// was left as others changed it.
     Overtaken(u64),
     /// The row's line would have so many bytes, which are too many: nothing was changed.
     TooBig(u64),

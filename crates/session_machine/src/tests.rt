@@ -27,8 +27,9 @@ const FOUND: &[(&str, &str)] = &[
     ("丑", ""),
 ];
 
-// A dictionary that answers each call by the next of these words, which a space stands between: a look-up that has a number
-// for its word finds the first so many of them, and one that has `long` a long candidate. Its trace notes nothing first, and then each call.
+// A dictionary that answers each call by the next of these words, which a space stands between: a look-up that has a
+// number for its word finds the first so many of them, and one that has `long` a long candidate. Its trace notes
+// nothing first, and then each call.
 #[derive(Drop)]
 struct Finder<'a> {
     words: &'a str,
@@ -96,7 +97,8 @@ fn answer_by(alloc: Global, word: &str, call: &Call) -> Answer
 
 // What a look-up is answered.
 fn lookup_answer(alloc: Global, word: &str) -> Answer
-    ensures { (who : ℕ) (key : RowKey) (okuri : Option (List ℕ)) → may_answer (calls.Lookup who key okuri) result ≡ true }
+    ensures { (who : ℕ) (key : RowKey) (okuri : Option (List ℕ))
+        → may_answer (calls.Lookup who key okuri) result ≡ true }
 {
     let found = match word.parse() {
         Ok(count) => first_cands(alloc, count),
@@ -110,7 +112,8 @@ fn lookup_answer(alloc: Global, word: &str) -> Answer
 
 // What a learning is answered.
 fn learning_answer(alloc: Global, word: &str, book: u16, key: &RowKey) -> Answer
-    ensures { (book : ℕ) (key : RowKey) (okuri : Option (List ℕ)) (cand : Cand) → may_answer (calls.Learn book key okuri cand) result ≡ true }
+    ensures { (book : ℕ) (key : RowKey) (okuri : Option (List ℕ)) (cand : Cand)
+        → may_answer (calls.Learn book key okuri cand) result ≡ true }
 {
     if word != "learned" {
         return other_answer(word);
@@ -145,7 +148,8 @@ fn unlearning_answer(word: &str) -> Answer
 
 // What a learning or a purge is answered that is not done.
 fn other_answer(word: &str) -> Answer
-    ensures learning { (book : ℕ) (key : RowKey) (okuri : Option (List ℕ)) (cand : Cand) → may_answer (calls.Learn book key okuri cand) result ≡ true }
+    ensures learning { (book : ℕ) (key : RowKey) (okuri : Option (List ℕ)) (cand : Cand)
+        → may_answer (calls.Learn book key okuri cand) result ≡ true }
     ensures purge { (book : ℕ) (key : RowKey) (text : List ℕ) → may_answer (calls.Purge book key text) result ≡ true }
 {
     match word {
@@ -200,7 +204,8 @@ fn long_cands(alloc: Global, word: &str) -> Result<Cands, Memory> {
     Ok(cands)
 }
 
-// The session after the keys, where `_` is the space. It begins in hiragana mode, and its calls are answered by these words.
+// The session after the keys, where `_` is the space. It begins in hiragana mode,
+// and its calls are answered by these words.
 fn session_after(
     alloc: Global,
     keys: &str,
@@ -213,8 +218,8 @@ fn session_after(
     Ok(Session::new(alloc, 7, 0).play(alloc, &rules, keys.as_slice(), &mut caller))
 }
 
-// What is typed; the words that its calls are answered by; `=`; and the display and the notice behind it. Where `~` stands
-// there, what was typed is not built.
+// What is typed; the words that its calls are answered by; `=`; and the display and the notice behind it. Where `~`
+// stands there, what was typed is not built.
 const CASES: &str = "
 kitte =きって|
 kya<bs> =き|

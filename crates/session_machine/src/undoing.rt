@@ -16,7 +16,8 @@ use std::alloc::Global;
 // Takes back what was chosen last, where the text is as long as it was behind it.
 #[tactic(auto, using(crate::proofs::Saying::says))]
 pub(crate) fn undo<C: Caller>(session: &mut Session, alloc: Global, caller: &mut C)
-    ensures said { Says (undone session.old (choice_at (byte_len session.old.frame.text) session.old.frame.last_choice)) (Ok session.new) (C.said caller.old) (C.said caller.new) }
+    ensures said { Says (undone session.old (choice_at (byte_len session.old.frame.text) session.old.frame.last_choice))
+        (Ok session.new) (C.said caller.old) (C.said caller.new) }
     ensures number { C.number caller.new ≡ C.number caller.old }
 {
     let Some(choice) = session.take_choice() else {

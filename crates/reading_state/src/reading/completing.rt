@@ -1,9 +1,11 @@
-ghost use Rattle.std.specs.Prelude.{◌≡◌, ◌≢◌, ◌<◌, suc, [], true, false, Some, length, is_some, slice_get, IfOk, IfSome, OnErr};
+ghost use Rattle.std.specs.Prelude.{◌≡◌, ◌≢◌, ◌<◌, suc, [], true, false, Some, length, is_some, slice_get, IfOk};
+ghost use Rattle.std.specs.Prelude.{IfSome, OnErr};
 ghost use Rattle.std.specs.List.{list_all};
 ghost use Rattle.skk_text.specs.Lists.{is_empty};
 ghost use Rattle.skk_calls.specs.Dictionary.{is_plain_reading};
 ghost use Rattle.reading_state.specs.Puts.{may_read};
-ghost use Rattle.reading_state.specs.Reading.{completed, completion_step, next_step, previous_step, without_completions};
+ghost use Rattle.reading_state.specs.Reading.{completed, completion_step, next_step, previous_step};
+ghost use Rattle.reading_state.specs.Reading.{without_completions};
 
 use super::Reading;
 use crate::reading_do::{ReadingDo, ReadingThen};
@@ -11,8 +13,8 @@ use skk_text::{Copies, Memory, Notice, Text, Texts};
 use std::alloc::Global;
 use std::marker::Model;
 
-/// Readings that complete what was typed, each valid without okurigana, and the place of the one that is shown, which is
-/// below their number.
+/// Readings that complete what was typed, each valid without okurigana, and the place of the one that is shown, which
+/// is below their number.
 #[derive(Drop)]
 pub struct Completions {
     readings: Texts,
@@ -73,12 +75,13 @@ impl Completions {
 }
 
 impl Reading {
-    /// Takes the readings that complete this one: the first of them replaces it, and all are kept. Where there are none,
-    /// and after `Memory`, the reading is as before. Takes time in the length of the first.
+    /// Takes the readings that complete this one: the first of them replaces it, and all are kept. Where there are
+    /// none, and after `Memory`, the reading is as before. Takes time in the length of the first.
     #[tactic(auto, using(crate::proofs::Steps::refitted))]
     pub fn complete(&mut self, alloc: Global, readings: Texts) -> Result<Notice, Memory>
         requires { list_all is_plain_reading readings ≡ true }
-        ensures ok { IfOk result (λ notice. completed self.old readings ≡ record { reading = self.new; notice = notice }) }
+        ensures ok { IfOk result (λ notice. completed self.old readings
+            ≡ record { reading = self.new; notice = notice }) }
         ensures err { OnErr result (self.new ≡ self.old) }
     {
         if readings.is_empty() {
@@ -114,7 +117,8 @@ impl Reading {
 
     // Shows the completion after the one that is shown, where completions are kept and there is one.
     pub(crate) fn show_next(&mut self, alloc: Global) -> Result<ReadingDo, Memory>
-        ensures ok { IfOk result (λ done. IfSome self.old.completions (λ kept. next_step self.old kept ≡ record { reading = self.new; done = done })) }
+        ensures ok { IfOk result (λ done. IfSome self.old.completions (λ kept. next_step self.old kept
+            ≡ record { reading = self.new; done = done })) }
         ensures err { OnErr result (self.new ≡ self.old) }
         ensures stays { IfOk result (λ done. done.then ≡ ReadingThen.Stay) }
     {
@@ -127,7 +131,8 @@ impl Reading {
 
     // Shows the completion before the one that is shown, where completions are kept and there is one.
     pub(crate) fn show_previous(&mut self, alloc: Global) -> Result<ReadingDo, Memory>
-        ensures ok { IfOk result (λ done. IfSome self.old.completions (λ kept. previous_step self.old kept ≡ record { reading = self.new; done = done })) }
+        ensures ok { IfOk result (λ done. IfSome self.old.completions (λ kept. previous_step self.old kept
+            ≡ record { reading = self.new; done = done })) }
         ensures err { OnErr result (self.new ≡ self.old) }
         ensures stays { IfOk result (λ done. done.then ≡ ReadingThen.Stay) }
     {
@@ -144,7 +149,8 @@ impl Reading {
     // Shows the completion of a place, where completions are kept and there is one.
     #[tactic(auto, using(crate::proofs::Steps::refitted))]
     fn show(&mut self, alloc: Global, place: usize) -> Result<ReadingDo, Memory>
-        ensures ok { IfOk result (λ done. IfSome self.old.completions (λ kept. completion_step self.old kept place ≡ record { reading = self.new; done = done })) }
+        ensures ok { IfOk result (λ done. IfSome self.old.completions (λ kept. completion_step self.old kept place
+            ≡ record { reading = self.new; done = done })) }
         ensures err { OnErr result (self.new ≡ self.old) }
         ensures stays { IfOk result (λ done. done.then ≡ ReadingThen.Stay) }
     {

@@ -48,9 +48,11 @@ impl Reading {
         }
     }
 
-    // What the space does behind its flush: it closes an empty reading, gives up an okurigana that has no kana, or converts.
+    // What the space does behind its flush: it closes an empty reading, gives up an okurigana that has no kana,
+    // or converts.
     pub(crate) fn close_or_convert(&mut self, notice: Notice) -> ReadingDo
-        ensures { space_step (record { reading = self.old; notice = notice }) ≡ record { reading = self.new; done = result } }
+        ensures { space_step (record { reading = self.old; notice = notice })
+            ≡ record { reading = self.new; done = result } }
     {
         if self.text.is_empty() {
             return ReadingDo::new(notice, ReadingThen::Drop);

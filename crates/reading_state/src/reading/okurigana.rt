@@ -2,7 +2,8 @@ ghost use Rattle.std.specs.Prelude.{◌≡◌, ◌≢◌, ◌≤◌, ◌&&◌, n
 ghost use Rattle.skk_text.specs.Lists.{is_empty};
 ghost use Rattle.reading_state.specs.Puts.{may_end, later_notice};
 ghost use Rattle.reading_state.specs.Keys.{kana_of};
-ghost use Rattle.reading_state.specs.Reading.{put_upper, begin_okuri, flush, is_whole, is_alone, is_doubled, is_empty_okuri, is_filled_okuri};
+ghost use Rattle.reading_state.specs.Reading.{put_upper, begin_okuri, flush, is_whole, is_alone, is_doubled};
+ghost use Rattle.reading_state.specs.Reading.{is_empty_okuri, is_filled_okuri};
 
 use super::puts::{accepted_by_okuri, both_empty};
 use super::{Begun, Reading};
@@ -63,7 +64,8 @@ impl Reading {
     ) -> Result<Notice, Memory>
         requires from { 0x61 ≤ letter }
         requires to { letter ≤ 0x7A }
-        ensures ok { IfOk result (λ notice. put_upper rules.now self.old self.old.okuri letter ≡ record { reading = self.new; notice = notice }) }
+        ensures ok { IfOk result (λ notice. put_upper rules.now self.old self.old.okuri letter
+            ≡ record { reading = self.new; notice = notice }) }
         ensures err { OnErr result (self.new ≡ self.old) }
     {
         if self.okuri.is_some() {
@@ -86,12 +88,14 @@ impl Reading {
         is_consonant && self.pending.as_slice() == [letter].as_slice() && !self.text.is_empty()
     }
 
-    // Begins an okurigana behind what is flushed, and reads its letter; behind an empty reading it reads the letter alone.
+    // Begins an okurigana behind what is flushed, and reads its letter;
+    // behind an empty reading it reads the letter alone.
     fn begin_okuri(&mut self, alloc: Global, rules: &Rules, letter: u8) -> Result<Notice, Memory>
         requires none { self.old.okuri ≡ None }
         requires from { 0x61 ≤ letter }
         requires to { letter ≤ 0x7A }
-        ensures ok { IfOk result (λ notice. begin_okuri rules.now (flush rules.now self.old) letter ≡ record { reading = self.new; notice = notice }) }
+        ensures ok { IfOk result (λ notice. begin_okuri rules.now (flush rules.now self.old) letter
+            ≡ record { reading = self.new; notice = notice }) }
         ensures err { OnErr result (self.new ≡ self.old) }
     {
         let mut pending = Pending::new();

@@ -20,10 +20,13 @@ impl Reading {
         alloc: Global,
         rules: &Rules,
     ) -> Result<Option<Notice>, Memory>
-        ensures some { IfOk result (λ found. IfSome found (λ notice. (ends_prefix self.old.okuri (flush rules.now self.old) ≡ true)
-            × (prefix_step (flush rules.now self.old) ≡ record { reading = self.new; done = record { notice = notice; then = Convert } }))) }
+        ensures some { IfOk result
+            (λ found. IfSome found (λ notice. (ends_prefix self.old.okuri (flush rules.now self.old) ≡ true)
+            × (prefix_step (flush rules.now self.old)
+            ≡ record { reading = self.new; done = record { notice = notice; then = Convert } }))) }
         ensures convertible { IfOk result (λ found. IsSome found → self.new.text ≢ []) }
-        ensures none { IfOk result (λ found. IsNone found → (ends_prefix self.old.okuri (flush rules.now self.old) ≡ false) × (self.new ≡ self.old)) }
+        ensures none { IfOk result (λ found. IsNone found
+            → (ends_prefix self.old.okuri (flush rules.now self.old) ≡ false) × (self.new ≡ self.old)) }
         ensures err { OnErr result (self.new ≡ self.old) }
     {
         if self.okuri.is_some() {
@@ -45,9 +48,11 @@ impl Reading {
 fn with_mark(text: &Text, piece: Accepted) -> Result<Accepted, Memory>
     requires may { may_read (text.now ++ piece.text) ≡ true }
     requires some { is_empty (text.now ++ piece.text) ≡ false }
-    ensures notice { IfOk result (λ added. added.notice ≡ later_notice piece.notice (refusal (reading_limit Nasi) may_read (text.now ++ piece.text) (0x3E ∷ []))) }
+    ensures notice { IfOk result (λ added. added.notice
+        ≡ later_notice piece.notice (refusal (reading_limit Nasi) may_read (text.now ++ piece.text) (0x3E ∷ []))) }
     ensures text { IfOk result (λ added. text.now ++ added.text
-        ≡ unless_refused (refusal (reading_limit Nasi) may_read (text.now ++ piece.text) (0x3E ∷ [])) (text.now ++ piece.text) (0x3E ∷ [])) }
+        ≡ unless_refused (refusal (reading_limit Nasi) may_read (text.now ++ piece.text) (0x3E ∷ []))
+        (text.now ++ piece.text) (0x3E ∷ [])) }
     ensures may { IfOk result (λ added. may_read (text.now ++ added.text) ≡ true) }
 {
     let mut added = piece.text;

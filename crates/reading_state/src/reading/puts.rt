@@ -1,4 +1,5 @@
-ghost use Rattle.std.specs.Prelude.{◌≡◌, ◌≤◌, ◌+◌, ◌++◌, ◌∷◌, ◌||◌, [], true, false, None, is_some, IfOk, IfSome, IsNone, OnErr};
+ghost use Rattle.std.specs.Prelude.{◌≡◌, ◌≤◌, ◌+◌, ◌++◌, ◌∷◌, ◌||◌, [], true, false, None, is_some, IfOk, IfSome};
+ghost use Rattle.std.specs.Prelude.{IsNone, OnErr};
 ghost use Rattle.skk_text.specs.Lists.{is_empty};
 ghost use Rattle.skk_text.specs.Text.{byte_len};
 ghost use Rattle.skk_calls.specs.Rows.{begins_well, okuri_limit, reading_limit};
@@ -43,14 +44,16 @@ impl Accepted {
 }
 
 impl Reading {
-    // Puts a piece behind the okurigana where one was begun, or else behind the reading, and leaves these letters pending.
+    // Puts a piece behind the okurigana where one was begun, or else behind the reading,
+    // and leaves these letters pending.
     pub(crate) fn put(
         &mut self,
         alloc: Global,
         piece: Text,
         pending: Pending,
     ) -> Result<Notice, Memory>
-        ensures ok { IfOk result (λ notice. put (with_pending self.old pending) piece ≡ record { reading = self.new; notice = notice }) }
+        ensures ok { IfOk result (λ notice. put (with_pending self.old pending) piece
+            ≡ record { reading = self.new; notice = notice }) }
         ensures err { OnErr result (self.new ≡ self.old) }
     {
         let notice = match &mut self.okuri {
@@ -89,7 +92,13 @@ impl Reading {
     pub(super) fn accepted_flush(&self, alloc: Global, rules: &Rules) -> Result<Accepted, Memory>
         requires { self.now.okuri ≡ None }
         ensures flush { IfOk result (λ accepted. flush rules.now self.now ≡ record {
-          reading = record { text = self.now.text ++ accepted.text; is_abbrev = self.now.is_abbrev; okuri = None; pending = []; completions = self.now.completions };
+          reading = record {
+            text = self.now.text ++ accepted.text;
+            is_abbrev = self.now.is_abbrev;
+            okuri = None;
+            pending = [];
+            completions = self.now.completions;
+          };
           notice = accepted.notice;
         }) }
         ensures may { IfOk result (λ accepted. may_read (self.now.text ++ accepted.text) ≡ true) }
@@ -100,7 +109,8 @@ impl Reading {
 
     // Puts the hiragana of a character that the rules read.
     pub(crate) fn feed(&mut self, alloc: Global, rules: &Rules, c: u8) -> Result<Notice, Memory>
-        ensures ok { IfOk result (λ notice. feed rules.now self.old c ≡ record { reading = self.new; notice = notice }) }
+        ensures ok { IfOk result (λ notice. feed rules.now self.old c
+            ≡ record { reading = self.new; notice = notice }) }
         ensures err { OnErr result (self.new ≡ self.old) }
     {
         let mut pending = Pending::of(self.pending.as_slice());
@@ -116,7 +126,8 @@ impl Reading {
         c: u8,
     ) -> Result<Option<Notice>, Memory>
         ensures exact { IfOk result (λ found. is_some found ≡ extends_pending rules.now self.old.pending c) }
-        ensures some { IfOk result (λ found. IfSome found (λ notice. feed rules.now self.old c ≡ record { reading = self.new; notice = notice })) }
+        ensures some { IfOk result (λ found. IfSome found (λ notice. feed rules.now self.old c
+            ≡ record { reading = self.new; notice = notice })) }
         ensures none { IfOk result (λ found. IsNone found → self.new ≡ self.old) }
         ensures err { OnErr result (self.new ≡ self.old) }
     {
@@ -135,7 +146,8 @@ impl Reading {
         c: u8,
     ) -> Result<Notice, Memory>
         requires { extends_pending rules.now self.old.pending c ≡ false }
-        ensures ok { IfOk result (λ notice. feed rules.now self.old c ≡ record { reading = self.new; notice = notice }) }
+        ensures ok { IfOk result (λ notice. feed rules.now self.old c
+            ≡ record { reading = self.new; notice = notice }) }
         ensures err { OnErr result (self.new ≡ self.old) }
     {
         let mut pending = Pending::of(self.pending.as_slice());

@@ -15,11 +15,17 @@ returns-clause-said g c =
     let piece = c.args.piece.now in
     let found = c.at-shown.result in
     let shown : Shown = record { key = found.key.now; cand = found.cand.now; text = found.text.now } in
-    let next : Answer → Meaning = λ answer. choice_effect rules (after_learning (with_piece session piece) conversion piece answer) c.args.then in
+    let next : Answer → Meaning =
+    λ answer. choice_effect rules (after_learning (with_piece session piece) conversion piece answer) c.args.then in
     let behind : Session → Meaning = λ s. choice_effect rules s c.args.then in
-    let reached : c.take_learning.new.session ≡ after_learning (with_piece session piece) conversion piece c.call-answer.result =
-    c.take_learning.ensures ∙ ap (λ s. after_learning s conversion piece c.call-answer.result) c.in_ok-call.ensures.inserted in
+    let reached : c.take_learning.new.session
+    ≡ after_learning (with_piece session piece) conversion piece c.call-answer.result =
+    c.take_learning.ensures
+    ∙ ap (λ s. after_learning s conversion piece c.call-answer.result) c.in_ok-call.ensures.inserted in
     says-candidate conversion c.args.place (learning rules session conversion piece c.args.then) shown _ _ _
     (rw c.shown_list.ensures.value at c.at-shown.ensures)
-    (says-asked _ c.in_ok-call.call next c.call-answer.result _ _ _ _ c.in_ok-call.ensures.call c.call-answer.ensures.said
-    (subst (λ s. Says (behind s) (after c.apply_choice.result c.apply_choice.new.session) (g.C.Caller.said c.call-answer.new.self) (g.C.Caller.said c.apply_choice.new.caller)) reached c.apply_choice.ensures.said))
+    (says-asked _ c.in_ok-call.call next c.call-answer.result _ _ _ _ c.in_ok-call.ensures.call
+    c.call-answer.ensures.said
+    (subst (λ s. Says (behind s) (after c.apply_choice.result c.apply_choice.new.session)
+    (g.C.Caller.said c.call-answer.new.self) (g.C.Caller.said c.apply_choice.new.caller)) reached
+    c.apply_choice.ensures.said))

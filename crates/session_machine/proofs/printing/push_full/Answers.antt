@@ -17,10 +17,12 @@ returns-clause-ok c =
     (more page two (codes " ")
     (more page (one ++ codes " ") (decimal c.args.need)
     (more page one (codes " ")
-    (more page (codes "refused full ") (decimal c.args.end) c.in_ok-push_str.ensures.ok c.in_ok-push_number.ensures.ok) c.in_ok-push.ensures.ok)
+    (more page (codes "refused full ") (decimal c.args.end) c.in_ok-push_str.ensures.ok c.in_ok-push_number.ensures.ok)
+    c.in_ok-push.ensures.ok)
     c.in_ok-push_number-2.ensures.ok) c.in_ok-push-2.ensures.ok))
     c.push_number-3.ensures.ok
 
 pub returns-clause-kept : goal.returns-clause-kept
 returns-clause-kept c =
-    starts_with_trans c.push_number-3.new.page c.push-2.new.self c.args.page.now c.push_number-3.ensures.kept (grind (arith, kept))
+    starts_with_trans c.push_number-3.new.page c.push-2.new.self c.args.page.now c.push_number-3.ensures.kept
+    (grind (arith, kept))

@@ -21,7 +21,8 @@ returns-clause-ok c =
     (more page (two ++ left) (codes "]")
     (more page two left
     (more page one (codes "残り ")
-    (more page (codes "▼[") cands c.in_ok-push_str.ensures.ok (rw (← c.place.ensures.value, ← c.shown_list.ensures.value) c.in_ok-push_lettered.ensures.ok))
+    (more page (codes "▼[") cands c.in_ok-push_str.ensures.ok
+    (rw (← c.place.ensures.value, ← c.shown_list.ensures.value) c.in_ok-push_lettered.ensures.ok))
     c.in_ok-push_str-2.ensures.ok) c.in_ok-push_count_behind.ensures.ok))
     c.push.ensures.ok
 

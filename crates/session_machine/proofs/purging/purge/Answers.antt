@@ -17,5 +17,6 @@ returns-clause-said g c =
     let book = ap (λ (s : Session). Purge s.book shown.key shown.cand.word) c.session.view_is in
     says-candidate conversion conversion.picking.place (purging session conversion) shown _ _ _
     (rw (c.shown_list.ensures.value, c.place.ensures.value) at c.at-shown.ensures)
-    (says-asked _ c.in_ok-call.call next c.call-answer.result _ _ _ _ (c.in_ok-call.ensures.call ∙ book) c.call-answer.ensures.said
+    (says-asked _ c.in_ok-call.call next c.call-answer.result _ _ _ _ (c.in_ok-call.ensures.call ∙ book)
+    c.call-answer.ensures.said
     (says-session _ c.take_purge.new.session _ (ap becomes (sym c.take_purge.ensures))))

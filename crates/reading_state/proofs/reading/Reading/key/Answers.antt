@@ -6,6 +6,9 @@ use Rattle.reading_state.proofs.reading.Reading.key.Goals as goal
 
 pub unwrap-requires : goal.unwrap-requires
 unwrap-requires c =
-    let k = kept c.self.inside.text c.self.inside.okuri _ c.self.invariant (c.in-Some.is ∙ ap (λ b. Some b) (sym c.begun.view_is)) in
-    let whole = c.in_ok-push-in-Some.ensures.ok ∙ ap (λ text. text ++ c.begun.inside.letter ∷ []) c.in_ok-text.ensures in
-    ok_unless c.new.result (λ fault. both_ways _ (c.new.ensures.invalid.0 fault) (rw whole (with_letter_valid c.self.inside.text c.begun.inside.letter k.may k.letter k.some)))
+    let k = kept c.self.inside.text c.self.inside.okuri _ c.self.invariant
+    (c.in-Some.is ∙ ap (λ b. Some b) (sym c.begun.view_is)) in
+    let whole = c.in_ok-push-in-Some.ensures.ok
+    ∙ ap (λ text. text ++ c.begun.inside.letter ∷ []) c.in_ok-text.ensures in
+    ok_unless c.new.result (λ fault. both_ways _ (c.new.ensures.invalid.0 fault)
+    (rw whole (with_letter_valid c.self.inside.text c.begun.inside.letter k.may k.letter k.some)))

@@ -12,8 +12,11 @@ returns-in_err-session-clause-said g c =
     let session = c.loop-key.session in
     let behind = drop (c.loop-key.key-index + 1) c.args.keys.now in
     says-on _ _ c.loop-key.invariant.dialog _ _ _ _ c.loop-key.invariant.goes c.loop-key.invariant.grows
-    (subst (λ meaning. Says meaning c.from_residual.result (g.C.Caller.said c.loop-key.caller) (g.C.Caller.said c.press.new.caller)) (sym (at_drop_more (all_pressed rules session) c.args.keys.now c.loop-key.key-index _ c.loop-key-test.true))
-    (says-first rules session _ behind c.press.result c.from_residual.result c.in_err-session.field-0.0 _ _ c.press.ensures.said c.in_err-session.was c.from_residual.ensures.1))
+    (subst (λ meaning. Says meaning c.from_residual.result (g.C.Caller.said c.loop-key.caller)
+    (g.C.Caller.said c.press.new.caller))
+    (sym (at_drop_more (all_pressed rules session) c.args.keys.now c.loop-key.key-index _ c.loop-key-test.true))
+    (says-first rules session _ behind c.press.result c.from_residual.result c.in_err-session.field-0.0 _ _
+    c.press.ensures.said c.in_err-session.was c.from_residual.ensures.1))
 
 pub loop-key-preserved : goal.loop-key-preserved
 loop-key-preserved g c =
@@ -23,15 +26,19 @@ loop-key-preserved g c =
     let behind = drop (c.loop-key.key-index + 1) c.args.keys.now in
     record {
       dialog = c.loop-key.invariant.dialog ++ said.dialog;
-      grows = said.grows ∙ ap (λ d. d ++ said.dialog) c.loop-key.invariant.grows ∙ append_assoc (g.C.Caller.said c.args.caller.now) c.loop-key.invariant.dialog said.dialog;
+      grows =
+          said.grows ∙ ap (λ d. d ++ said.dialog) c.loop-key.invariant.grows
+          ∙ append_assoc (g.C.Caller.said c.args.caller.now) c.loop-key.invariant.dialog said.dialog;
       goes = goes-on _ _ _ c.loop-key.invariant.dialog said.dialog c.loop-key.invariant.goes
-          (subst (λ meaning. Goes meaning said.dialog (all_pressed rules c.in_ok-session.session behind)) (sym (at_drop_more (all_pressed rules session) c.args.keys.now c.loop-key.key-index _ c.loop-key-test.true))
+          (subst (λ meaning. Goes meaning said.dialog (all_pressed rules c.in_ok-session.session behind))
+          (sym (at_drop_more (all_pressed rules session) c.args.keys.now c.loop-key.key-index _ c.loop-key-test.true))
           (goes-first rules session _ behind c.in_ok-session.session said.dialog said.ok));
       number = c.press.ensures.number ∙ c.loop-key.invariant.number;
     }
 
 pub returns-clause-said : goal.returns-clause-said
 returns-clause-said g c =
-    let none : drop c.loop-key.key-index c.args.keys.now ≡ [] = drop_of_length-le c.args.keys.now c.loop-key-test.false in
+    let none : drop c.loop-key.key-index c.args.keys.now ≡ [] =
+    drop_of_length-le c.args.keys.now c.loop-key-test.false in
     says-on _ _ c.loop-key.invariant.dialog _ _ _ _ c.loop-key.invariant.goes c.loop-key.invariant.grows
     (says-session _ c.loop-key.session _ (ap (all_pressed c.args.rules.now c.loop-key.session) none))
