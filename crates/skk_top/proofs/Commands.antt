@@ -1,5 +1,6 @@
 -- Commands read from words.
-use Rattle.std.proofs.Common.{◌≡◌, ◌≤◌, ◌∙◌, ap, ℕ, Option, None, Some, true, List, ◌∷◌, length, refl, arith, if◌then◌else◌}
+use Rattle.std.proofs.Common.{◌≡◌, ◌≤◌, ◌∙◌, ap, ℕ, Option, None, Some, true, List, ◌∷◌, length, refl, arith}
+use Rattle.std.proofs.Common.{if◌then◌else◌}
 use Rattle.std.specs.Option.{option_and_then}
 use Rattle.std.proofs.lemmas.Bool.{false_from_ne_true}
 use Rattle.skk_top.specs.Settings.{settings_of, fits, AreNoneOrMany}
@@ -17,10 +18,15 @@ most Check settings fit = omega (arith, fits-few (takes Check) settings fit)
 most Dump settings fit = omega (arith, fits-few (takes Dump) settings fit)
 most Load settings fit = omega (arith, fits-few (takes Load) settings fit)
 
-with-none : (name : CommandName) (given : Option (List Setting)) → AreNoneOrMany given → option_and_then (command_with name) given ≡ None
+with-none : (name : CommandName) (given : Option (List Setting)) → AreNoneOrMany given
+    → option_and_then (command_with name) given ≡ None
 with-none name None many = refl
 with-none name (Some settings) many =
-    ap (λ b. if b then Some (command name settings) else None) (false_from_ne_true (fits (takes name) settings) (λ fit. omega (arith, many, most name settings fit)))
+    ap (λ b. if b then Some (command name settings) else None)
+    (false_from_ne_true (fits (takes name) settings) (λ fit. omega (arith, many, most name settings fit)))
 
-pub no_command : (word : List ℕ) (words : List (List ℕ)) (name : CommandName) → command_named word ≡ Some name → AreNoneOrMany (settings_of words) → command_of (word ∷ words) ≡ None
-no_command word words name named many = ap (option_and_then (λ n. option_and_then (command_with n) (settings_of words))) named ∙ with-none name (settings_of words) many
+pub no_command : (word : List ℕ) (words : List (List ℕ)) (name : CommandName) → command_named word ≡ Some name
+    → AreNoneOrMany (settings_of words) → command_of (word ∷ words) ≡ None
+no_command word words name named many =
+    ap (option_and_then (λ n. option_and_then (command_with n) (settings_of words))) named
+    ∙ with-none name (settings_of words) many

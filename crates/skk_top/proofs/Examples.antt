@@ -1,37 +1,41 @@
 -- The definitions at small examples, each worked out by hand.
-use Rattle.std.proofs.Common.{◌≡◌, ◌*◌, ℕ, None, Some, Ok, Err, true, false, List, [], ◌∷◌, ◌++◌, refl, map, codes, lit≤, arith}
+use Rattle.std.proofs.Common.{◌≡◌, ◌*◌, ℕ, None, Some, Ok, Err, true, false, List, [], ◌∷◌, ◌++◌, refl, map, codes}
+use Rattle.std.proofs.Common.{lit≤, arith, encode_utf8_all}
 use lib.Utf8.{encode}
 use Prim.Native.String.{String}
 use Rattle.std.specs.Fmt.{digits}
 use Rattle.skk_outside.specs.declared.source.ReadFault.TheVariants as reading
+use Rattle.skk_text.specs.declared.text_file.TextFault.TheVariants as texts
 use Rattle.skk_text.specs.declared.key.Key.{Key}
 use Rattle.skk_text.specs.declared.key.Key.TheVariants.{Char, Tab, Undo}
 use Rattle.romaji_rules.specs.declared.rule.Rule.{Rule}
+use Rattle.romaji_rules.specs.declared.rule_fault.RuleFault.TheVariants as rules
 use Rattle.romaji_rules.specs.Standard.{rule}
 use Rattle.skk_text.specs.Lines.{lines_of}
 use Rattle.skk_calls.specs.declared.answer.Answer.{Answer}
-use Rattle.skk_calls.specs.declared.answer.Answer.TheVariants.{Done, Refused}
+use Rattle.skk_calls.specs.declared.answer.Answer.TheVariants as answers
 use Rattle.skk_calls.specs.declared.answer.Refusal.TheVariants as refusals
 use Rattle.skk_calls.specs.declared.answer.Reply.TheVariants.{Found}
 use Rattle.skk_calls.specs.declared.call.Call.{Call}
 use Rattle.skk_calls.specs.declared.call.Call.TheVariants.{Lookup}
-use Rattle.skk_calls.specs.declared.chronicle.Noted.{Noted}
-use Rattle.skk_calls.specs.declared.chronicle.Noted.TheVariants.{Opened, Entered}
 use Rattle.skk_calls.specs.declared.part.Part.TheVariants.{Nasi}
-use Rattle.skk_calls.specs.Chronicles.{opening_of, history_of}
+use Rattle.skk_calls.specs.Openings.{fresh_opening}
 use Rattle.skk_calls.specs.Interactions.{printed, asked, end_of, printed_alone}
 use Rattle.skk_calls.specs.Rows.{RowKey, Cand, Row}
 use Rattle.skk_calls.specs.States.{empty_state}
 use Rattle.session_machine.specs.declared.session.PressFault.TheVariants as pressing
 use Rattle.session_machine.specs.Session.{Session, new_session}
-use Rattle.skk_top.specs.Answering.{opening_over, are_served, are_of_one, said_in}
 use Rattle.skk_top.specs.Printing.{output_line, closing_line}
 use Rattle.skk_top.specs.Script.{IsSession, IsTypist, script_limit, session_of, with_said, opens_well}
 use Rattle.skk_top.specs.Sessions.{session_at, session_or_new, with_session}
-use Rattle.skk_top.specs.Status.{message_at, run_status, run_message, end_unless_refused, fault_of_press, fault_of_read, fault_of_script}
-use Rattle.skk_top.specs.Typed.{typing, typed, typed_alone}
-use Rattle.skk_top.specs.declared.fault.RunFault.TheVariants.{Words, TooLong, BadLine, LongDictionary, BadDictionary, Outside, Memory, NotBuilt}
-use Rattle.skk_top.specs.declared.line.Line.{Line}
+use Rattle.skk_top.specs.RunRules.{fault_of_rules}
+use Rattle.skk_top.specs.Status.{message_of, run_status, run_message, end_unless_refused, fault_of_press, fault_of_read}
+use Rattle.skk_top.specs.Status.{fault_of_text, fault_of_script}
+use Rattle.skk_top.specs.Typed.{typing, typed_alone}
+use Rattle.skk_top.specs.declared.fault.RunFault.TheVariants.{Words, Refused, Outside, Memory, NotBuilt}
+use Rattle.skk_top.specs.declared.run_file.Flaw.TheVariants.{TooLong, Byte, Line}
+use Rattle.skk_top.specs.declared.run_file.RunFile.TheVariants.{Script, Rules, Dictionary}
+use Rattle.skk_top.specs.declared.line.Line as lines
 use Rattle.skk_top.specs.declared.line.Line.TheVariants.{Keys, Opening}
 use Rattle.skk_top.specs.declared.script.ScriptFault.TheVariants as scripts
 
@@ -56,26 +60,30 @@ abbrev with_text : String → Session
 with_text text = let session = new_session 1 1 in record session { frame = record session.frame { text = codes text } }
 
 -- an output line and a closing line
-lines_printed : (output_line 12 (with_text "あ") ≡ fields "12" "かな" "あ" "") × (closing_line 64 (with_text "あ") ≡ codes "64=あ" ++ 10 ∷ [])
+lines_printed : (output_line 12 (with_text "あ") ≡ fields "12" "かな" "あ" "")
+    × (closing_line 64 (with_text "あ") ≡ codes "64=あ" ++ 10 ∷ [])
 unfolding digits
 lines_printed = (refl, refl)
 
 -- sessions as they come, also one that is only opened, and closing lines ascending by number
-three_sessions : printed (typing table [] (Keys 3 (letters "a") ∷ Keys 1 (letters "kak") ∷ Opening 2 7 0 ∷ Keys 3 (Undo ∷ []) ∷ Keys 3 [] ∷ Keys 1 (letters "al") ∷ [])) []
-    ≡ fields "3" "かな" "あ" "" ++ fields "1" "かな" "かk" "" ++ fields "3" "かな" "あ" "no-undo" ++ fields "3" "かな" "あ" "no-undo" ++ fields "1" "SKK" "かか" ""
+three_sessions : printed (typing table [] (Keys 3 (letters "a") ∷ Keys 1 (letters "kak") ∷ Opening 2 7 0
+    ∷ Keys 3 (Undo ∷ []) ∷ Keys 3 [] ∷ Keys 1 (letters "al") ∷ [])) []
+    ≡ fields "3" "かな" "あ" "" ++ fields "1" "かな" "かk" "" ++ fields "3" "かな" "あ" "no-undo"
+    ++ fields "3" "かな" "あ" "no-undo" ++ fields "1" "SKK" "かか" ""
     ++ codes "1=かか" ++ 10 ∷ codes "2=" ++ 10 ∷ codes "3=あ" ++ 10 ∷ []
 unfolding encode digits
 three_sessions = refl
 
 -- a script with a key that is not built in its middle: what is printed before it
-abbrev stopped : List Line
+abbrev stopped : List lines.Line
 stopped = Keys 1 (letters "a") ∷ Keys 1 (letters "aQ" ++ Tab ∷ []) ∷ Keys 1 (letters "a") ∷ []
 
 typed_so_far : map (λ lines. printed (typing table [] lines) []) ([] ∷ stopped ∷ []) ≡ [] ∷ fields "1" "かな" "あ" "" ∷ []
 unfolding encode digits
 typed_so_far = refl
 
-ended_or_not : map (λ lines. end_of (typing table [] lines) []) ([] ∷ (Opening 1 1 0 ∷ Keys 2 (letters "aq") ∷ []) ∷ stopped ∷ (Keys 1 (letters "Ka ") ∷ []) ∷ [])
+ended_or_not : map (λ lines. end_of (typing table [] lines) [])
+    ([] ∷ (Opening 1 1 0 ∷ Keys 2 (letters "aq") ∷ []) ∷ stopped ∷ (Keys 1 (letters "Ka ") ∷ []) ∷ [])
     ≡ Some true ∷ Some true ∷ Some false ∷ None ∷ []
 unfolding encode
 ended_or_not = refl
@@ -91,7 +99,7 @@ abbrev files : List (List Row)
 files = (record { key = key; cands = cands; blocks = []; hides = []; stamp = 0 } ∷ []) ∷ []
 
 -- a script that converts them, and goes on to the second
-abbrev script : List Line
+abbrev script : List lines.Line
 script = Keys 1 (letters "Ka ") ∷ Keys 1 (letters " ") ∷ []
 
 abbrev shown_both : List ℕ
@@ -101,100 +109,128 @@ converted_alone : printed_alone files empty_state (typing table [] script) ≡ s
 unfolding encode digits
 converted_alone = refl
 
--- the call that it asks, and what is printed by its answer; where it is refused the reading stays, and is looked up again
+-- the call that it asks, and what is printed by its answer; where it is refused the reading stays,
+-- and is looked up again
 abbrev call : Call
 call = Lookup 1 key None
 
 abbrev found : Answer
-found = Done (Found cands)
+found = answers.Done (Found cands)
 
 abbrev refused : Answer
-refused = Refused refusals.Memory
+refused = answers.Refused refusals.Memory
 
-converted : map (λ answers. printed (typing table [] script) answers) ([] ∷ (found ∷ []) ∷ (refused ∷ []) ∷ (refused ∷ found ∷ []) ∷ [])
+converted : map (λ told_answers. printed (typing table [] script) told_answers)
+    ([] ∷ (found ∷ []) ∷ (refused ∷ []) ∷ (refused ∷ found ∷ []) ∷ [])
     ≡ [] ∷ shown_both ∷ fields "1" "かな" "▽か" "refused memory"
     ∷ (fields "1" "かな" "▽か" "refused memory" ++ fields "1" "かな" "▼蚊" "" ++ codes "1=" ++ 10 ∷ []) ∷ []
 unfolding encode digits
 converted = refl
 
-called : map (λ answers. asked (typing table [] script) answers) ([] ∷ (found ∷ []) ∷ (refused ∷ found ∷ []) ∷ []) ≡ [] ∷ (call ∷ []) ∷ (call ∷ call ∷ []) ∷ []
+called : map (λ told_answers. asked (typing table [] script) told_answers)
+    ([] ∷ (found ∷ []) ∷ (refused ∷ found ∷ []) ∷ []) ≡ [] ∷ (call ∷ []) ∷ (call ∷ call ∷ []) ∷ []
 unfolding encode
 called = refl
 
-came_to_its_end : map (λ answers. end_of (typing table [] script) answers) ([] ∷ (found ∷ []) ∷ (refused ∷ []) ∷ (refused ∷ found ∷ []) ∷ (found ∷ found ∷ []) ∷ [])
+came_to_its_end : map (λ told_answers. end_of (typing table [] script) told_answers)
+    ([] ∷ (found ∷ []) ∷ (refused ∷ []) ∷ (refused ∷ found ∷ []) ∷ (found ∷ found ∷ []) ∷ [])
     ≡ None ∷ Some true ∷ None ∷ Some true ∷ None ∷ []
 unfolding encode
 came_to_its_end = refl
 
-in_bytes : (typed table [] [] ≡ []) × (typed_alone table (Keys 1 (letters "a") ∷ []) [] ≡ 0x31 ∷ 9 ∷ 0xE3 ∷ 0x81 ∷ 0x8B ∷ 0xE3 ∷ 0x81 ∷ 0xAA ∷ 9 ∷ 0xE3 ∷ 0x81 ∷ 0x82 ∷ 9 ∷ 10 ∷ 0x31 ∷ 0x3D ∷ 0xE3 ∷ 0x81 ∷ 0x82 ∷ 10 ∷ [])
+-- the same in bytes, where the dictionary of one thread answers
+in_bytes : (typed_alone (fresh_opening []) table [] ≡ [])
+    × (typed_alone (fresh_opening []) table (Keys 1 (letters "a") ∷ [])
+    ≡ 0x31 ∷ 9 ∷ 0xE3 ∷ 0x81 ∷ 0x8B ∷ 0xE3 ∷ 0x81 ∷ 0xAA ∷ 9 ∷ 0xE3 ∷ 0x81 ∷ 0x82 ∷ 9 ∷ 10
+    ∷ 0x31 ∷ 0x3D ∷ 0xE3 ∷ 0x81 ∷ 0x82 ∷ 10 ∷ [])
 unfolding encode digits
 in_bytes = (refl, refl)
 
--- a chronicle of the caller 0 with these answers, and one of another caller
-abbrev chronicle_of : ℕ → List Answer → List Noted
-chronicle_of number answers = Opened files empty_state 0 0 0 0 ∷ map (λ answer. Entered number call answer 5 6) answers
-
-chronicle_parts : (opening_of (chronicle_of 0 (found ∷ [])) ≡ Some (opening_over files))
-    × (history_of (chronicle_of 0 (found ∷ [])) ≡ record { number = 0; call = call; answer = found } ∷ [])
-chronicle_parts = (refl, refl)
-
-served_or_not : map are_served ([] ∷ chronicle_of 0 [] ∷ chronicle_of 0 (found ∷ found ∷ []) ∷ chronicle_of 0 (found ∷ refused ∷ []) ∷ []) ≡ true ∷ true ∷ true ∷ false ∷ []
-served_or_not = refl
-
-of_one_or_not : map are_of_one ([] ∷ chronicle_of 0 (found ∷ []) ∷ chronicle_of 1 (found ∷ []) ∷ []) ≡ true ∷ true ∷ false ∷ []
-of_one_or_not = refl
-
-dialogs : map said_in ([] ∷ chronicle_of 0 (found ∷ refused ∷ []) ∷ chronicle_of 1 (found ∷ []) ∷ []) ≡ [] ∷ ((call, found) ∷ (call, refused) ∷ []) ∷ [] ∷ []
-dialogs = refl
+-- over its files, and from its state
+over_files : typed_alone (fresh_opening files) table script ≡ encode_utf8_all shown_both
+unfolding encode digits
+over_files = refl
 
 -- a map by number: the first, one between, the last, and one anew
-some_sessions : with_session (with_session (with_session (with_session [] 5 (with_text "a")) 2 (with_text "b")) 9 (with_text "c")) 5 (with_text "d")
+some_sessions : with_session
+    (with_session (with_session (with_session [] 5 (with_text "a")) 2 (with_text "b")) 9 (with_text "c"))
+    5 (with_text "d")
     ≡ (2, with_text "b") ∷ (5, with_text "d") ∷ (9, with_text "c") ∷ []
 some_sessions = refl
 
-sessions_found : map (session_at ((2, with_text "b") ∷ (5, with_text "d") ∷ [])) (1 ∷ 2 ∷ 3 ∷ 5 ∷ 6 ∷ []) ≡ None ∷ Some (with_text "b") ∷ None ∷ Some (with_text "d") ∷ None ∷ []
+sessions_found : map (session_at ((2, with_text "b") ∷ (5, with_text "d") ∷ [])) (1 ∷ 2 ∷ 3 ∷ 5 ∷ 6 ∷ [])
+    ≡ None ∷ Some (with_text "b") ∷ None ∷ Some (with_text "d") ∷ None ∷ []
 sessions_found = refl
 
 sessions_or_new : map (session_or_new ((2, with_text "b") ∷ [])) (1 ∷ 2 ∷ []) ≡ new_session 1 1 ∷ with_text "b" ∷ []
 sessions_or_new = refl
 
 -- scripts cut into lines
-script_lines : map lines_of ([] ∷ (10 ∷ []) ∷ codes "a" ∷ (codes "ab" ++ 10 ∷ []) ∷ (10 ∷ 10 ∷ codes "a" ++ 10 ∷ codes "b") ∷ (13 ∷ 10 ∷ []) ∷ [])
-    ≡ [] ∷ ([] ∷ []) ∷ (codes "a" ∷ []) ∷ (codes "ab" ∷ []) ∷ ([] ∷ [] ∷ codes "a" ∷ codes "b" ∷ []) ∷ ((13 ∷ []) ∷ []) ∷ []
+script_lines : map lines_of ([] ∷ (10 ∷ []) ∷ codes "a" ∷ (codes "ab" ++ 10 ∷ [])
+    ∷ (10 ∷ 10 ∷ codes "a" ++ 10 ∷ codes "b") ∷ (13 ∷ 10 ∷ []) ∷ [])
+    ≡ [] ∷ ([] ∷ []) ∷ (codes "a" ∷ []) ∷ (codes "ab" ∷ []) ∷ ([] ∷ [] ∷ codes "a" ∷ codes "b" ∷ [])
+    ∷ ((13 ∷ []) ∷ []) ∷ []
 script_lines = refl
 
 -- numbers at both sides of their bounds
 numbers : IsSession 1 × IsSession 64 × (¬ IsSession 0) × (¬ IsSession 65) × IsTypist 65535 × (¬ IsTypist 65536)
-numbers = ((lit≤ tt, lit≤ tt), (lit≤ tt, lit≤ tt), λ is. omega (arith, is), λ is. omega (arith, is), lit≤ tt, λ is. omega (arith, is))
+numbers = (
+  (lit≤ tt, lit≤ tt),
+  (lit≤ tt, lit≤ tt),
+  λ is. omega (arith, is),
+  λ is. omega (arith, is),
+  lit≤ tt,
+  λ is. omega (arith, is),
+)
 
 -- which books may be, and which session is named, by a line of each kind; and a line more
-books_of_openings : map opens_well (Keys 1 [] ∷ Opening 1 7 0 ∷ Opening 1 7 7 ∷ Opening 1 7 6 ∷ Opening 1 0 0 ∷ []) ≡ true ∷ true ∷ true ∷ false ∷ true ∷ []
+books_of_openings : map opens_well (Keys 1 [] ∷ Opening 1 7 0 ∷ Opening 1 7 7 ∷ Opening 1 7 6 ∷ Opening 1 0 0 ∷ [])
+    ≡ true ∷ true ∷ true ∷ false ∷ true ∷ []
 books_of_openings = refl
 
 named_sessions : map session_of (Keys 4 [] ∷ Opening 5 6 0 ∷ []) ≡ 4 ∷ 5 ∷ []
 named_sessions = refl
 
-lines_with_said : map (with_said (Keys 4 [] ∷ [])) (None ∷ Some (Opening 5 6 0) ∷ []) ≡ (Keys 4 [] ∷ []) ∷ (Keys 4 [] ∷ Opening 5 6 0 ∷ []) ∷ []
+lines_with_said : map (with_said (Keys 4 [] ∷ [])) (None ∷ Some (Opening 5 6 0) ∷ [])
+    ≡ (Keys 4 [] ∷ []) ∷ (Keys 4 [] ∷ Opening 5 6 0 ∷ []) ∷ []
 lines_with_said = refl
 
 -- each fault with its status and its line
-statuses : map run_status (Ok tt ∷ Err Words ∷ Err TooLong ∷ Err (BadLine 3) ∷ Err (LongDictionary 1) ∷ Err (BadDictionary 1 0) ∷ Err Outside ∷ Err Memory ∷ Err NotBuilt ∷ [])
+statuses : map run_status
+    (Ok tt ∷ Err Words ∷ Err (Refused Script TooLong) ∷ Err (Refused Script (Line 3)) ∷ Err (Refused Rules TooLong)
+    ∷ Err (Refused (Dictionary 1) (Byte 0)) ∷ Err Outside ∷ Err Memory ∷ Err NotBuilt ∷ [])
     ≡ 0 ∷ 1 ∷ 2 ∷ 2 ∷ 3 ∷ 3 ∷ 4 ∷ 6 ∷ 8 ∷ []
 statuses = refl
 
-messages : map run_message (Ok tt ∷ Err Words ∷ Err TooLong ∷ Err (BadLine 1048577) ∷ Err (LongDictionary 1) ∷ Err (BadDictionary 16 67108863) ∷ Err Outside ∷ Err Memory ∷ Err NotBuilt ∷ [])
-    ≡ [] ∷ (codes "skk: words" ++ 10 ∷ []) ∷ (codes "skk: script too long" ++ 10 ∷ []) ∷ (codes "skk: line 1048577" ++ 10 ∷ [])
-    ∷ (codes "skk: dictionary 1 too long" ++ 10 ∷ []) ∷ (codes "skk: dictionary 16 byte 67108863" ++ 10 ∷ [])
-    ∷ (codes "skk: outside" ++ 10 ∷ []) ∷ (codes "skk: memory" ++ 10 ∷ []) ∷ (codes "skk: not built" ++ 10 ∷ []) ∷ []
-unfolding digits
+-- a line of a message
+abbrev told : String → List ℕ
+told text = codes text ++ 10 ∷ []
+
+messages : map run_message (Ok tt ∷ Err Words ∷ Err Outside ∷ Err Memory ∷ Err NotBuilt ∷ [])
+    ≡ [] ∷ told "skk: words" ∷ told "skk: outside" ∷ told "skk: memory" ∷ told "skk: not built" ∷ []
 messages = refl
 
-messages_at : map message_at (0 ∷ 1 ∷ 4 ∷ 6 ∷ 8 ∷ []) ≡ [] ∷ (codes "skk: words" ++ 10 ∷ []) ∷ (codes "skk: outside" ++ 10 ∷ []) ∷ (codes "skk: memory" ++ 10 ∷ []) ∷ (codes "skk: not built" ++ 10 ∷ []) ∷ []
-messages_at = refl
+refusals_told : map message_of
+    (Refused Script TooLong ∷ Refused Script (Line 1048577) ∷ Refused Rules TooLong ∷ Refused Rules (Byte 1048575)
+    ∷ Refused Rules (Line 12) ∷ Refused (Dictionary 1) TooLong ∷ Refused (Dictionary 16) (Byte 67108863) ∷ [])
+    ≡ told "skk: script too long" ∷ told "skk: line 1048577" ∷ told "skk: rules too long"
+    ∷ told "skk: rules byte 1048575"
+    ∷ told "skk: rules line 12" ∷ told "skk: dictionary 1 too long" ∷ told "skk: dictionary 16 byte 67108863" ∷ []
+unfolding digits
+refusals_told = refl
 
-ended_with_refusals : (map (end_unless_refused (Ok tt)) (false ∷ true ∷ []) ≡ Ok tt ∷ Err Memory ∷ []) × (map (end_unless_refused (Err NotBuilt)) (false ∷ true ∷ []) ≡ Err NotBuilt ∷ Err NotBuilt ∷ [])
+ended_with_refusals : (map (end_unless_refused (Ok tt)) (false ∷ true ∷ []) ≡ Ok tt ∷ Err Memory ∷ [])
+    × (map (end_unless_refused (Err NotBuilt)) (false ∷ true ∷ []) ≡ Err NotBuilt ∷ Err NotBuilt ∷ [])
 ended_with_refusals = (refl, refl)
 
-handed_faults : (map fault_of_press (pressing.NotBuilt ∷ pressing.Memory ∷ []) ≡ NotBuilt ∷ Memory ∷ []) × (map fault_of_read (reading.TooLong ∷ reading.Failed ∷ reading.Memory ∷ []) ≡ TooLong ∷ Outside ∷ Memory ∷ [])
-    × (map fault_of_script (scripts.BadLine 5 ∷ scripts.Memory ∷ []) ≡ BadLine 5 ∷ Memory ∷ [])
-handed_faults = (refl, refl, refl)
+handed_faults : (map fault_of_press (pressing.NotBuilt ∷ pressing.Memory ∷ []) ≡ NotBuilt ∷ Memory ∷ [])
+    × (map (fault_of_read Rules) (reading.TooLong ∷ reading.Failed ∷ reading.Memory ∷ [])
+    ≡ Refused Rules TooLong ∷ Outside ∷ Memory ∷ [])
+    × (map (fault_of_text (Dictionary 2)) (texts.TooLong 9 ∷ texts.NotUtf8 7 ∷ [])
+    ≡ Refused (Dictionary 2) TooLong ∷ Refused (Dictionary 2) (Byte 7) ∷ [])
+    × (map fault_of_script (scripts.BadLine 5 ∷ scripts.Memory ∷ []) ≡ Refused Script (Line 5) ∷ Memory ∷ [])
+    × (map fault_of_rules (rules.NoText (texts.TooLong 9) ∷ rules.NoText (texts.NotUtf8 7) ∷ rules.BadLine 3
+    ∷ rules.Twice 4 ∷ rules.BadNext 5 ∷ rules.Memory ∷ [])
+    ≡ Refused Rules TooLong ∷ Refused Rules (Byte 7) ∷ Refused Rules (Line 3) ∷ Refused Rules (Line 4)
+    ∷ Refused Rules (Line 5) ∷ Memory ∷ [])
+handed_faults = (refl, refl, refl, refl, refl)

@@ -1,6 +1,5 @@
 pub mod Callers
 mod CheckExamples
-pub mod CheckRuns
 pub mod Commands
 pub mod Dictionaries
 mod Examples
@@ -14,13 +13,12 @@ pub mod PrintedChecks
 mod RangeExamples
 pub mod Ranges
 pub mod Reading
-pub mod RuledRuns
+pub mod RunFiles
 pub mod Runs
 pub mod Scripts
 pub mod SessionMaps
 pub mod SettingLists
 pub mod Tables
-pub mod TopRuns
 pub mod Typed
 mod WordExamples
 pub mod WordTexts

@@ -1,32 +1,37 @@
 -- What the printing of a checked file leaves, by how it ends.
-use Rattle.std.proofs.Common.{◌≡◌, ◌≤◌, ◌<◌, ◌+◌, ◌++◌, ◌∷◌, ◌∙◌, [], ap, sym, subst, ℕ, Option, Some, None, List, append_assoc, length, drop, get_or, Ok, Err, IsErrAnd, rules}
+use Rattle.std.proofs.Common.{◌≡◌, ◌≤◌, ◌<◌, ◌+◌, ◌++◌, ◌∷◌, ◌∙◌, [], ap, sym, subst, ℕ, Option, Some, None, List}
+use Rattle.std.proofs.Common.{append_assoc, length, drop, get_or, Result, Ok, Err, OnOk, OnErr, IsErrAnd, rules, arith}
 use Rattle.std.proofs.lemmas.List.{append-nil, at_drop_more}
 use Rattle.std.specs.Io.KnownBytes.{Appends, Keeps}
-use Rattle.skk_outside.specs.Faults.{Rose}
+use Rattle.skk_outside.specs.Moved.{MovedSink}
 use Rattle.skk_outside.specs.Written.{AppendsPrefix}
 use Rattle.dict_format.specs.declared.file.BadLine.{BadLine}
-use Rattle.skk_top.specs.CheckCommand.{LeavesPrinted}
 use Rattle.skk_top.specs.CheckedFiles.{bad_line, bad_lines}
-use Rattle.skk_top.specs.Page.{Printed}
-use Rattle.skk_top.specs.Status.{Ended, HasStatus}
+use Rattle.skk_top.specs.Page.{Printed, LeavesPrinted, StopsPrinting}
+use Rattle.skk_top.specs.Status.{Ended}
 use Rattle.skk_top.specs.declared.fault.RunFault.{RunFault}
-use Rattle.skk_top.specs.declared.fault.RunFault.TheVariants.{Outside}
-use Rattle.skk_top.proofs.Pages.{Printed-more, Printed-rest}
+use Rattle.skk_top.specs.declared.fault.RunFault.TheVariants.{Outside, Memory}
+use Rattle.skk_top.proofs.Pages.{AppendsPrefix-whole, Printed-more, Printed-rest}
 
 -- the line of the bad line at a place goes to the page
-pub printed-bad_line : (lines : List BadLine) (place : ℕ) (none : BadLine) (old new : Option (List ℕ)) (page page' whole : List ℕ)
+pub printed-bad_line : (lines : List BadLine) (place : ℕ) (none : BadLine) (old new : Option (List ℕ))
+    (page page' whole : List ℕ)
     → place < length lines → page' ≡ page ++ bad_line (get_or lines place none)
-    → Printed old new page (bad_lines (drop place lines)) whole → Printed old new page' (bad_lines (drop (place + 1) lines)) whole
+    → Printed old new page (bad_lines (drop place lines)) whole
+    → Printed old new page' (bad_lines (drop (place + 1) lines)) whole
 printed-bad_line lines place none old new page page' whole within pushed printed =
-    Printed-more old new page (bad_line (get_or lines place none)) (bad_lines (drop (place + 1) lines)) whole page' pushed
-    (Printed-rest old new page (bad_lines (drop place lines)) _ whole (at_drop_more bad_lines lines place none within) printed)
+    Printed-more old new page (bad_line (get_or lines place none)) (bad_lines (drop (place + 1) lines))
+    whole page' pushed
+    (Printed-rest old new page (bad_lines (drop place lines)) _ whole
+    (at_drop_more bad_lines lines place none within) printed)
 
 -- a text more behind what is added to a page
 pub more : (page added text next : List ℕ) → next ≡ page ++ added → next ++ text ≡ page ++ (added ++ text)
 more page added text next is = ap (λ p. p ++ text) is ∙ append_assoc page added text
 
 -- a text more behind a page that is all of the rest
-pub Printed-longer : (old new : Option (List ℕ)) (page whole text longer : List ℕ) → longer ≡ page ++ text → Printed old new page [] whole → Printed old new longer [] (whole ++ text)
+pub Printed-longer : (old new : Option (List ℕ)) (page whole text longer : List ℕ) → longer ≡ page ++ text
+    → Printed old new page [] whole → Printed old new longer [] (whole ++ text)
 Printed-longer old new page whole text longer pushed printed = (
   printed.0,
   printed.1,
@@ -36,30 +41,36 @@ Printed-longer old new page whole text longer pushed printed = (
 )
 
 -- a sink that keeps what it was written has it
-pub Appends-kept : (old mid new : Option (List ℕ)) (bytes : List ℕ) → Appends old mid bytes → Keeps mid new → Appends old new bytes
+pub Appends-kept : (old mid new : Option (List ℕ)) (bytes : List ℕ) → Appends old mid bytes → Keeps mid new
+    → Appends old new bytes
 Appends-kept None mid new bytes appends keeps = search rules
 Appends-kept (Some xs) None new bytes appends keeps = absurd appends
 Appends-kept (Some xs) (Some ys) None bytes appends keeps = absurd keeps
 Appends-kept (Some xs) (Some ys) (Some zs) bytes appends keeps = keeps ∙ appends
 
 -- with a fault
-pub printed-fault : (bytes : List ℕ) (ended : Ended) (fault : RunFault) (old new : Option (List ℕ)) (writes writes' : ℕ) → IsErrAnd ended (λ handed. handed ≡ fault)
-    → AppendsPrefix old new bytes → (fault ≡ Outside → Rose writes writes') → HasStatus (4 ∷ 6 ∷ []) fault → writes ≤ writes' → LeavesPrinted bytes ended old new writes writes'
-printed-fault bytes (Ok done) fault old new writes writes' is prefix outside comes counted = absurd (search (rules, is))
-printed-fault bytes (Err handed) fault old new writes writes' is prefix outside comes counted = record {
-  whole = search rules;
+pub printed-fault : (bytes : List ℕ) (ended : Ended) (fault : RunFault) (sink : MovedSink)
+    → IsErrAnd ended (λ handed. handed ≡ fault)
+    → AppendsPrefix sink.written sink.written' bytes → StopsPrinting sink fault → sink.faults ≤ sink.faults'
+    → LeavesPrinted bytes ended sink
+printed-fault bytes (Ok done) fault sink is prefix stops counted = absurd (search (rules, is))
+printed-fault bytes (Err handed) fault sink is prefix stops counted = record {
+  whole = tt;
   prefix = prefix;
-  outside = λ e. outside (cc);
-  fault = subst (HasStatus (4 ∷ 6 ∷ [])) (sym is) comes;
+  stopped = subst (StopsPrinting sink) (sym is) stops;
   counted = counted;
 }
 
--- with all of it written
-pub printed-whole : (bytes : List ℕ) (old new : Option (List ℕ)) (writes writes' : ℕ) → Appends old new bytes → writes ≤ writes' → LeavesPrinted bytes (Ok tt) old new writes writes'
-printed-whole bytes old new writes writes' whole counted = record {
-  whole = whole;
-  prefix = search rules;
-  outside = λ e. absurd (search (rules, e));
-  fault = search rules;
-  counted = counted;
-}
+-- a call that failed behind others failed since these began
+pub stops-behind : (fault : RunFault) (old mid new : Option (List ℕ)) (faults middle faults' : ℕ) → faults ≤ middle
+    → StopsPrinting (record { written = mid; written' = new; faults = middle; faults' = faults' }) fault
+    → StopsPrinting (record { written = old; written' = new; faults = faults; faults' = faults' }) fault
+stops-behind Outside old mid new faults middle faults' counted rose = omega (arith, counted, rose)
+stops-behind Memory old mid new faults middle faults' counted out = tt
+stops-behind fault old mid new faults middle faults' counted none = absurd none
+
+-- all or a prefix of it was written
+pub prefix-of : {T E : Type 0} (ended : Result T E) (old new : Option (List ℕ)) (whole : List ℕ)
+    → OnOk ended (Appends old new whole) → OnErr ended (AppendsPrefix old new whole) → AppendsPrefix old new whole
+prefix-of (Ok done) old new whole ok err = AppendsPrefix-whole old new whole ok
+prefix-of (Err fault) old new whole ok err = err

@@ -1,5 +1,6 @@
 -- The numbers of commands lie in their ranges.
-use Rattle.std.proofs.Common.{◌≡◌, ◌≢◌, ◌≤◌, ◌∙◌, ◌&&◌, ◌==◌, sym, ap, subst, refl, ℕ, Bool, true, cond, if◌then◌else◌, Option, Some, None, List, [], ◌∷◌, length, arith, inl, inr, nat_le}
+use Rattle.std.proofs.Common.{◌≡◌, ◌≢◌, ◌≤◌, ◌∙◌, ◌&&◌, ◌==◌, sym, ap, subst, refl, ℕ, Bool, true, cond, if◌then◌else◌}
+use Rattle.std.proofs.Common.{Option, Some, None, List, [], ◌∷◌, length, arith, inl, inr, nat_le}
 use Rattle.std.specs.Bool.{⊤}
 use Rattle.std.specs.Fmt.{decimal}
 use Rattle.std.specs.List.{AllByRecursion, find, list_all, sum_by}
@@ -14,10 +15,13 @@ use Rattle.std.proofs.lemmas.Option.{IfSome_then, none-some}
 use Rattle.skk_top.specs.Arguments.{options, option_named, value_of, place}
 use Rattle.skk_top.specs.Command.{takes, required, optional, command, command_with, command_named, command_of}
 use Rattle.skk_top.specs.Ranges.{LiesFrom, HasNumbersInRange}
-use Rattle.skk_top.specs.Settings.{setting, takes_value, option_alone, option_with, option_cut, name_or_cut, whole, begun, with_setting, settings_of, is_of, times, number_in, value_given, number_given, number_or, is_within, fits}
+use Rattle.skk_top.specs.Settings.{setting, takes_value, option_alone, option_with, option_cut, name_or_cut, whole}
+use Rattle.skk_top.specs.Settings.{begun, with_setting, settings_of, is_of, times, number_in, value_given, number_given}
+use Rattle.skk_top.specs.Settings.{number_or, is_within, fits}
 use Rattle.skk_top.specs.Words.{is_name, number_within, cut}
 use Rattle.skk_top.specs.declared.argument.Argument.{Argument}
-use Rattle.skk_top.specs.declared.argument.Argument.TheVariants.{File, Limit, Port, Connections, Book, Seed, Sessions, Lines, Threads}
+use Rattle.skk_top.specs.declared.argument.Argument.TheVariants.{File, Limit, Port, Connections, Book, Seed, Sessions}
+use Rattle.skk_top.specs.declared.argument.Argument.TheVariants.{Lines, Threads}
 use Rattle.skk_top.specs.declared.argument.OptionRow.{OptionRow}
 use Rattle.skk_top.specs.declared.argument.Takes.{Takes}
 use Rattle.skk_top.specs.declared.argument.Takes.TheVariants.{Nothing, Name, Number}
@@ -30,15 +34,18 @@ use Rattle.skk_top.specs.declared.setting.Value.TheVariants as values
 use Rattle.skk_top.proofs.Runs.{IfSome-all}
 
 -- what there may be, made of what there may be
-IfSome-map : {X Y : Type 0} (P : Y → Type 0) (f : X → Y) (o : Option X) → IfSome o (λ x. P (f x)) → IfSome (option_map f o) P
+IfSome-map : {X Y : Type 0} (P : Y → Type 0) (f : X → Y) (o : Option X) → IfSome o (λ x. P (f x))
+    → IfSome (option_map f o) P
 IfSome-map P f None p = tt
 IfSome-map P f (Some x) p = p
 
-IfSome-and_then : {X Y : Type 0} (P : Y → Type 0) (f : X → Option Y) (o : Option X) → IfSome o (λ x. IfSome (f x) P) → IfSome (option_and_then f o) P
+IfSome-and_then : {X Y : Type 0} (P : Y → Type 0) (f : X → Option Y) (o : Option X) → IfSome o (λ x. IfSome (f x) P)
+    → IfSome (option_and_then f o) P
 IfSome-and_then P f None p = tt
 IfSome-and_then P f (Some x) p = p
 
-IfSome-map_or : {X Y : Type 0} (P : Y → Type 0) (f : X → Option Y) (o : Option X) (other : Option Y) → IfSome o (λ x. IfSome (f x) P) → IfSome other P → IfSome (option_map_or f o other) P
+IfSome-map_or : {X Y : Type 0} (P : Y → Type 0) (f : X → Option Y) (o : Option X) (other : Option Y)
+    → IfSome o (λ x. IfSome (f x) P) → IfSome other P → IfSome (option_map_or f o other) P
 IfSome-map_or P f None other p q = q
 IfSome-map_or P f (Some x) other p q = p
 
@@ -47,14 +54,20 @@ IfSome-if P b x p = cond_both b (Some x) None (λ o. IfSome o P) p (λ e. tt)
 
 -- what the argument at a place takes: a name, where no option gives it
 abbrev takes_at : ℕ → Takes
-takes_at number = option_map_or (λ (row : List ℕ × OptionRow). row.1.takes) (find (λ (row : List ℕ × OptionRow). place row.1.argument == number) options) Name
+takes_at number =
+    option_map_or (λ (row : List ℕ × OptionRow). row.1.takes)
+    (find (λ (row : List ℕ × OptionRow). place row.1.argument == number) options) Name
 
 -- each option takes what its argument takes
 abbrev IsRow : OptionRow → Type 0
 IsRow row = row.takes ≡ takes_at (place row.argument)
 
 named : (word : List ℕ) → IfSome (option_named word) IsRow
-named word = All-lookup IsRow (bytes_eq word) options (All-from_recursion (λ (row : List ℕ × OptionRow). IsRow row.1) options (refl, (refl, (refl, (refl, (refl, (refl, (refl, (refl, (refl, (refl, (refl, tt))))))))))))
+named word =
+    All-lookup IsRow (bytes_eq word) options (All-from_recursion (λ (row : List ℕ × OptionRow). IsRow row.1) options (
+      refl,
+      (refl, (refl, (refl, (refl, (refl, (refl, (refl, (refl, (refl, (refl, tt)))))))))),
+    ))
 
 -- where a value is to be a number, it is one in the range
 abbrev IsTaken : Takes → Value → Type 0
@@ -68,8 +81,10 @@ value-taken Name word = IfSome-if (λ value. ⊤) (is_name word) (values.Text wo
 value-taken (Number least most) word =
     let number = digits_value 10 word in
     IfSome-map (IsTaken (Number least most)) values.Number (number_within least most word)
-    (IfSome-if (λ n. IsTaken (Number least most) (values.Number n)) (bytes_eq word (decimal number) && (nat_le least number && nat_le number most)) number (λ e.
-    let bounds = and_parts (nat_le least number) (nat_le number most) (and_parts (bytes_eq word (decimal number)) (nat_le least number && nat_le number most) e).1 in
+    (IfSome-if (λ n. IsTaken (Number least most) (values.Number n))
+    (bytes_eq word (decimal number) && (nat_le least number && nat_le number most)) number (λ e.
+    let bounds = and_parts (nat_le least number) (nat_le number most)
+    (and_parts (bytes_eq word (decimal number)) (nat_le least number && nat_le number most) e).1 in
     (number, refl, (leb-true least number bounds.0, leb-true number most bounds.1))))
 
 -- so it is in each setting
@@ -78,22 +93,28 @@ IsGiven given = IsTaken (takes_at (place given.argument)) given.value
 
 with-given : (row : OptionRow) (word : List ℕ) → IsRow row → IfSome (option_with row word) IsGiven
 with-given row word is =
-    IfSome-map IsGiven (setting row.argument) (value_of row.takes word) (subst (λ t. IfSome (value_of row.takes word) (IsTaken t)) is (value-taken row.takes word))
+    IfSome-map IsGiven (setting row.argument) (value_of row.takes word)
+    (subst (λ t. IfSome (value_of row.takes word) (IsTaken t)) is (value-taken row.takes word))
 
-alone-given : (taken : Takes) (argument : Argument) → taken ≡ takes_at (place argument) → IfSome (if takes_value taken then None else Some (setting argument values.Nothing)) IsGiven
+alone-given : (taken : Takes) (argument : Argument) → taken ≡ takes_at (place argument)
+    → IfSome (if takes_value taken then None else Some (setting argument values.Nothing)) IsGiven
 alone-given Nothing argument is = subst (λ t. IsTaken t values.Nothing) is tt
 alone-given Name argument is = tt
 alone-given (Number least most) argument is = tt
 
 cut-given : (word : List ℕ) → IfSome (name_or_cut word) IsGiven
 cut-given word =
-    cond_both (is_name word) (Some (setting File (values.Text word))) (option_and_then option_cut (cut word)) (λ o. IfSome o IsGiven) (λ e. tt) (λ e.
-    IfSome-and_then IsGiven option_cut (cut word) (IfSome-all (cut word) (λ parts. IfSome (option_cut parts) IsGiven) (λ parts.
-    IfSome-and_then IsGiven (λ row. option_with row parts.1) (option_named parts.0) (IfSome_then (option_named parts.0) (named parts.0) (λ row is. with-given row parts.1 is)))))
+    cond_both (is_name word) (Some (setting File (values.Text word))) (option_and_then option_cut (cut word))
+    (λ o. IfSome o IsGiven) (λ e. tt) (λ e.
+    IfSome-and_then IsGiven option_cut (cut word)
+    (IfSome-all (cut word) (λ parts. IfSome (option_cut parts) IsGiven) (λ parts.
+    IfSome-and_then IsGiven (λ row. option_with row parts.1) (option_named parts.0)
+    (IfSome_then (option_named parts.0) (named parts.0) (λ row is. with-given row parts.1 is)))))
 
 whole-given : (word : List ℕ) → IfSome (whole word) IsGiven
 whole-given word =
-    IfSome-map_or IsGiven option_alone (option_named word) (name_or_cut word) (IfSome_then (option_named word) (named word) (λ row is. alone-given row.takes row.argument is)) (cut-given word)
+    IfSome-map_or IsGiven option_alone (option_named word) (name_or_cut word)
+    (IfSome_then (option_named word) (named word) (λ row is. alone-given row.takes row.argument is)) (cut-given word)
 
 begun-row : (word : List ℕ) → IfSome (begun word) IsRow
 begun-row word =
@@ -103,7 +124,8 @@ begun-row word =
 abbrev AreGiven : List Setting → Type 0
 AreGiven settings = AllByRecursion IsGiven settings
 
-one-more : (first : Option Setting) (others : Option (List Setting)) → IfSome first IsGiven → IfSome others AreGiven → IfSome (with_setting first others) AreGiven
+one-more : (first : Option Setting) (others : Option (List Setting)) → IfSome first IsGiven → IfSome others AreGiven
+    → IfSome (with_setting first others) AreGiven
 one-more None others given more = tt
 one-more (Some first) None given more = tt
 one-more (Some first) (Some others) given more = (given, more)
@@ -112,57 +134,79 @@ settings-given : (words : List (List ℕ)) → IfSome (settings_of words) AreGiv
 settings-given [] = tt
 settings-given (word ∷ []) = one-more (whole word) (Some []) (whole-given word) tt
 settings-given (word ∷ next ∷ words) =
-    IfSome-map_or AreGiven (λ row. with_setting (option_with row next) (settings_of words)) (begun word) (with_setting (whole word) (settings_of (next ∷ words)))
-    (IfSome_then (begun word) (begun-row word) (λ row is. one-more (option_with row next) (settings_of words) (with-given row next is) (settings-given words)))
+    IfSome-map_or AreGiven (λ row. with_setting (option_with row next) (settings_of words)) (begun word)
+    (with_setting (whole word) (settings_of (next ∷ words)))
+    (IfSome_then (begun word) (begun-row word)
+    (λ row is. one-more (option_with row next) (settings_of words) (with-given row next is) (settings-given words)))
     (one-more (whole word) (settings_of (next ∷ words)) (whole-given word) (settings-given (next ∷ words)))
 
 -- the value of an argument
-value-given : (argument : Argument) (settings : List Setting) → AreGiven settings → IfSome (value_given argument settings) (IsTaken (takes_at (place argument)))
+value-given : (argument : Argument) (settings : List Setting) → AreGiven settings
+    → IfSome (value_given argument settings) (IsTaken (takes_at (place argument)))
 value-given argument [] given = tt
 value-given argument (first ∷ settings) given =
-    cond_both (is_of argument first) (Some first.value) (value_given argument settings) (λ o. IfSome o (IsTaken (takes_at (place argument))))
+    cond_both (is_of argument first) (Some first.value) (value_given argument settings)
+    (λ o. IfSome o (IsTaken (takes_at (place argument))))
     (λ e. subst (λ p. IsTaken (takes_at p) first.value) (eqb-true (place first.argument) (place argument) e) given.0)
     (λ e. value-given argument settings given.1)
 
 -- its number, where it is given
-number-given : (least most : ℕ) (value : Option Value) → IfSome value (IsTaken (Number least most)) → IfSome (option_and_then number_in value) (LiesFrom least most)
+number-given : (least most : ℕ) (value : Option Value) → IfSome value (IsTaken (Number least most))
+    → IfSome (option_and_then number_in value) (LiesFrom least most)
 number-given least most None taken = tt
-number-given least most (Some value) taken = subst (λ v. IfSome (number_in v) (LiesFrom least most)) (sym taken.1) taken.2
+number-given least most (Some value) taken =
+    subst (λ v. IfSome (number_in v) (LiesFrom least most)) (sym taken.1) taken.2
 
-given-lies : (argument : Argument) (least most : ℕ) (settings : List Setting) → AreGiven settings → takes_at (place argument) ≡ Number least most
-    → IfSome (number_given argument settings) (LiesFrom least most)
+given-lies : (argument : Argument) (least most : ℕ) (settings : List Setting) → AreGiven settings
+    → takes_at (place argument) ≡ Number least most → IfSome (number_given argument settings) (LiesFrom least most)
 given-lies argument least most settings given is =
-    number-given least most (value_given argument settings) (subst (λ t. IfSome (value_given argument settings) (IsTaken t)) is (value-given argument settings given))
+    number-given least most (value_given argument settings)
+    (subst (λ t. IfSome (value_given argument settings) (IsTaken t)) is (value-given argument settings given))
 
 -- and where another stands for it if it is absent
-number-lies : (least most absent : ℕ) (value : Option Value) → IfSome value (IsTaken (Number least most)) → (value ≡ None → LiesFrom least most absent)
+number-lies : (least most absent : ℕ) (value : Option Value) → IfSome value (IsTaken (Number least most))
+    → (value ≡ None → LiesFrom least most absent)
     → LiesFrom least most (unwrap_or (option_and_then number_in value) absent)
 number-lies least most absent None taken lies = lies refl
-number-lies least most absent (Some value) taken lies = subst (λ v. LiesFrom least most (unwrap_or (number_in v) absent)) (sym taken.1) taken.2
+number-lies least most absent (Some value) taken lies =
+    subst (λ v. LiesFrom least most (unwrap_or (number_in v) absent)) (sym taken.1) taken.2
 
-lies-in : (argument : Argument) (least most absent : ℕ) (settings : List Setting) → AreGiven settings → takes_at (place argument) ≡ Number least most
-    → (value_given argument settings ≡ None → LiesFrom least most absent) → LiesFrom least most (number_or absent argument settings)
+lies-in : (argument : Argument) (least most absent : ℕ) (settings : List Setting) → AreGiven settings
+    → takes_at (place argument) ≡ Number least most
+    → (value_given argument settings ≡ None → LiesFrom least most absent)
+    → LiesFrom least most (number_or absent argument settings)
 lies-in argument least most absent settings given is lies =
-    number-lies least most absent (value_given argument settings) (subst (λ t. IfSome (value_given argument settings) (IsTaken t)) is (value-given argument settings given)) lies
+    number-lies least most absent (value_given argument settings)
+    (subst (λ t. IfSome (value_given argument settings) (IsTaken t)) is (value-given argument settings given)) lies
 
 -- one that is required is not absent
-there : (argument : Argument) (settings : List Setting) → 1 ≤ times argument settings → value_given argument settings ≢ None
+there : (argument : Argument) (settings : List Setting) → 1 ≤ times argument settings
+    → value_given argument settings ≢ None
 there argument [] once = absurd (omega (arith, once))
 there argument (first ∷ settings) once =
     elim (cases_Bool (is_of argument first)) [
-      | inl own ↦ λ e. none-some first.value (sym e ∙ cond-true (is_of argument first) (Some first.value) (value_given argument settings) own)
+      | inl own ↦ λ e. none-some first.value
+          (sym e ∙ cond-true (is_of argument first) (Some first.value) (value_given argument settings) own)
       | inr other ↦ λ e.
           there argument settings
-          (omega (arith, once, sum_by-cons (λ s. cond (is_of argument s) 1 0) first settings, ap {B = ℕ} (λ (b : Bool). cond b 1 0) other))
+          (omega (
+            arith,
+            once,
+            sum_by-cons (λ s. cond (is_of argument s) 1 0) first settings,
+            ap {B = ℕ} (λ (b : Bool). cond b 1 0) other,
+          ))
           (sym (cond-false (is_of argument first) (Some first.value) (value_given argument settings) other) ∙ e)
     ]
 
-needed : (argument : Argument) (settings : List Setting) → is_within settings (required argument) ≡ true → value_given argument settings ≢ None
+needed : (argument : Argument) (settings : List Setting) → is_within settings (required argument) ≡ true
+    → value_given argument settings ≢ None
 needed argument settings within =
-    there argument settings (leb-true 1 (times argument settings) (and_parts (nat_le 1 (times argument settings)) (nat_le (times argument settings) 1) within).0)
+    there argument settings (leb-true 1 (times argument settings)
+    (and_parts (nat_le 1 (times argument settings)) (nat_le (times argument settings) 1) within).0)
 
 -- a command with the settings that it takes
-in_range : (name : CommandName) (settings : List Setting) → AreGiven settings → fits (takes name) settings ≡ true → HasNumbersInRange (command name settings)
+in_range : (name : CommandName) (settings : List Setting) → AreGiven settings → fits (takes name) settings ≡ true
+    → HasNumbersInRange (command name settings)
 in_range TypeScript settings given fit = given-lies Limit 64 268435456 settings given refl
 in_range Serve settings given fit = (
   given-lies Limit 64 268435456 settings given refl,
@@ -172,11 +216,16 @@ in_range Serve settings given fit = (
 in_range Check settings given fit = tt
 in_range Dump settings given fit = (lies-in Book 0 65535 0 settings given refl (λ e. (omega arith, omega arith))).1
 in_range Load settings given fit =
-    let rows = and_parts (list_all (is_within settings) (takes Load)) (sum_by (λ row. times row.0 settings) (takes Load) == length settings) fit in
-    let first = and_parts (is_within settings (required Seed)) (list_all (is_within settings) (required Sessions ∷ required Lines ∷ optional Threads ∷ [])) rows.0 in
-    let second = and_parts (is_within settings (required Sessions)) (list_all (is_within settings) (required Lines ∷ optional Threads ∷ [])) first.1 in
-    let third = and_parts (is_within settings (required Lines)) (list_all (is_within settings) (optional Threads ∷ [])) second.1 in
-    let seed : LiesFrom 0 18446744073709551615 (number_or 0 Seed settings) = lies-in Seed 0 18446744073709551615 0 settings given refl (λ e. (omega arith, omega arith)) in (
+    let rows = and_parts (list_all (is_within settings) (takes Load))
+    (sum_by (λ row. times row.0 settings) (takes Load) == length settings) fit in
+    let first = and_parts (is_within settings (required Seed))
+    (list_all (is_within settings) (required Sessions ∷ required Lines ∷ optional Threads ∷ [])) rows.0 in
+    let second = and_parts (is_within settings (required Sessions))
+    (list_all (is_within settings) (required Lines ∷ optional Threads ∷ [])) first.1 in
+    let third =
+    and_parts (is_within settings (required Lines)) (list_all (is_within settings) (optional Threads ∷ [])) second.1 in
+    let seed : LiesFrom 0 18446744073709551615 (number_or 0 Seed settings) =
+    lies-in Seed 0 18446744073709551615 0 settings given refl (λ e. (omega arith, omega arith)) in (
       omega (arith, seed.1),
       lies-in Sessions 1 64 0 settings given refl (λ e. absurd (needed Sessions settings second.0 e)),
       lies-in Lines 1 20000 0 settings given refl (λ e. absurd (needed Lines settings third.0 e)),
@@ -186,8 +235,11 @@ in_range Load settings given fit =
 words-in_range : (words : List (List ℕ)) → IfSome (command_of words) HasNumbersInRange
 words-in_range [] = tt
 words-in_range (word ∷ words) =
-    IfSome-and_then HasNumbersInRange (λ name. option_and_then (command_with name) (settings_of words)) (command_named word) (IfSome-all (command_named word) (λ name. IfSome (option_and_then (command_with name) (settings_of words)) HasNumbersInRange) (λ name.
-    IfSome-and_then HasNumbersInRange (command_with name) (settings_of words) (IfSome_then (settings_of words) (settings-given words) (λ settings given.
+    IfSome-and_then HasNumbersInRange (λ name. option_and_then (command_with name) (settings_of words))
+    (command_named word) (IfSome-all (command_named word)
+    (λ name. IfSome (option_and_then (command_with name) (settings_of words)) HasNumbersInRange) (λ name.
+    IfSome-and_then HasNumbersInRange (command_with name) (settings_of words)
+    (IfSome_then (settings_of words) (settings-given words) (λ settings given.
     IfSome-if HasNumbersInRange (fits (takes name) settings) (command name settings) (in_range name settings given)))))
 
 pub numbers_in_range : (words : List (List ℕ)) (read : Command) → command_of words ≡ Some read → HasNumbersInRange read

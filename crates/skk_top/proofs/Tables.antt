@@ -10,7 +10,9 @@ abbrev pub IsNoneOf : {X : Type 0} → List ℕ → List (List ℕ × X) → Typ
 IsNoneOf word [] = Unit {0}
 IsNoneOf word (row ∷ rows) = (word ≢ row.0) × IsNoneOf word rows
 
-pub not-found : {X : Type 0} (word : List ℕ) (rows : List (List ℕ × X)) → IsNoneOf word rows → None ≡ lookup (bytes_eq word) rows
+pub not-found : {X : Type 0} (word : List ℕ) (rows : List (List ℕ × X)) → IsNoneOf word rows
+    → None ≡ lookup (bytes_eq word) rows
 not-found word [] none = refl
 not-found word (row ∷ rows) none =
-    not-found word rows none.1 ∙ sym (ap (λ b. cond b (Some row.1) (lookup (bytes_eq word) rows)) (false_from_ne_true (bytes_eq word row.0) (λ same. none.0 ((bytes_eq-Decides word row.0).0 same))))
+    not-found word rows none.1 ∙ sym (ap (λ b. cond b (Some row.1) (lookup (bytes_eq word) rows))
+    (false_from_ne_true (bytes_eq word row.0) (λ same. none.0 ((bytes_eq-Decides word row.0).0 same))))

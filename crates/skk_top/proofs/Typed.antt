@@ -1,32 +1,41 @@
 -- How far the typing of lines has come, and what it leaves, by how it ends.
-use Rattle.std.proofs.Common.{◌≡◌, ◌≢◌, ◌≤◌, ◌<◌, ◌+◌, ◌∙◌, ap, sym, subst, ℕ, Bool, true, false, Option, List, [], ◌∷◌, ◌++◌, append_assoc, length, drop, get_or, Ok, Err, IsErrAnd, encode_utf8_all, rules, arith, refl}
+use Rattle.std.proofs.Common.{◌≡◌, ◌<◌, ◌+◌, ◌∙◌, ap, sym, subst, ℕ, Bool, true, false, List, [], ◌∷◌, ◌++◌}
+use Rattle.std.proofs.Common.{append_assoc, length, drop, get_or, Ok, Err, IsErrAnd, encode_utf8_all, rules, refl}
 use Rattle.std.proofs.lemmas.List.{append-nil, at_drop_more}
 use Rattle.std.proofs.lemmas.Str.{encodes-append}
 use Rattle.std.specs.Io.KnownBytes.{Appends}
-use Rattle.skk_outside.specs.Faults.{Rose}
+use Rattle.skk_outside.specs.Moved.{Told, MovedSink}
 use Rattle.skk_outside.specs.Written.{AppendsPrefix}
 use Rattle.romaji_rules.specs.declared.rule.Rule.{Rule}
 use Rattle.skk_calls.specs.InteractionLaws.{leads-on, leads-prints, led-asked, led-end, led-printed}
 use Rattle.skk_calls.specs.Interactions.{Interaction, ends, printed, Dialog, Leads, here, answers_of}
-use Rattle.skk_top.specs.Page.{Printed}
+use Rattle.skk_top.specs.Page.{Printed, StopsPrinting}
 use Rattle.skk_top.specs.Sessions.{SessionMap}
-use Rattle.skk_top.specs.Status.{Ended, HasStatus}
-use Rattle.skk_top.specs.TypeCommand.{LeavesLines}
+use Rattle.skk_top.specs.Status.{Ended}
+use Rattle.skk_top.specs.TypeCommand.{Prints, StopsTyping}
 use Rattle.skk_top.specs.Typed.{typing, closing_lines}
-use Rattle.skk_top.specs.Typing.{Reaches, Stops}
+use Rattle.skk_top.specs.Typing.{Reaches, Breaks, BreaksFor, LeavesLines}
 use Rattle.skk_top.specs.declared.fault.RunFault.{RunFault}
-use Rattle.skk_top.specs.declared.fault.RunFault.TheVariants.{Outside, NotBuilt}
+use Rattle.skk_top.specs.declared.fault.RunFault.TheVariants.{Outside, Memory, NotBuilt}
 use Rattle.skk_top.specs.declared.line.Line.{Line}
-use Rattle.skk_top.proofs.Pages.{Appends-none, AppendsPrefix-more, Printed-prefix, Printed-prefix_of_page, Printed-whole, Printed-written}
+use Rattle.skk_top.proofs.Pages.{Appends-none, AppendsPrefix-more, AppendsPrefix-whole, Printed-prefix}
+use Rattle.skk_top.proofs.Pages.{Printed-prefix_of_page, Printed-whole, Printed-written}
 use Rattle.skk_top.proofs.PrintedChecks.{Printed-longer}
 
+-- a sink that was written this before and that by now, with its counts of faults
+abbrev pub sink : Told → Told → ℕ → ℕ → MovedSink
+sink old new faults faults' = record { written = old; written' = new; faults = faults; faults' = faults' }
+
 -- what is left of lines begins with the one at its place
-pub at-line : {Y : Type 0} (F : List Line → Y) (lines : List Line) (place : ℕ) (line : Line) → place < length lines → line ≡ get_or lines place line → F (drop place lines) ≡ F (line ∷ drop (place + 1) lines)
-at-line F lines place line within is = at_drop_more F lines place line within ∙ ap (λ l. F (l ∷ drop (place + 1) lines)) (sym is)
+pub at-line : {Y : Type 0} (F : List Line → Y) (lines : List Line) (place : ℕ) (line : Line) → place < length lines
+    → line ≡ get_or lines place line → F (drop place lines) ≡ F (line ∷ drop (place + 1) lines)
+at-line F lines place line within is =
+    at_drop_more F lines place line within ∙ ap (λ l. F (l ∷ drop (place + 1) lines)) (sym is)
 
 -- at the start nothing was said or printed
-pub reaches-start : (from : Interaction Bool) (said : Dialog) (old : Option (List ℕ)) (page : List ℕ) → page ≡ [] → Reaches from from said said old old page
-reaches-start from said old page empty = record {
+pub reaches-start : (from : Interaction Bool) (said : Dialog) (page : List ℕ) {old : Told} {faults faults' : ℕ}
+    → page ≡ [] → Reaches from from said said (sink old old faults faults') page
+reaches-start from said page {old = old} empty = record {
   dialog = [];
   text = [];
   grows = sym (append-nil said);
@@ -35,38 +44,72 @@ reaches-start from said old page empty = record {
 }
 
 -- the lines left begin with the one at its place
-pub reaches-next : {from : Interaction Bool} {said said' : Dialog} {old new : Option (List ℕ)} {page : List ℕ} (table : List Rule) (sessions : SessionMap) (lines : List Line) (place : ℕ) (line : Line)
-    → place < length lines → line ≡ get_or lines place line → Reaches from (typing table sessions (drop place lines)) said said' old new page
-    → Reaches from (typing table sessions (line ∷ drop (place + 1) lines)) said said' old new page
-reaches-next {from = from} {said = said} {said' = said'} {old = old} {new = new} {page = page} table sessions lines place line within is reached =
-    subst (λ (i : Interaction Bool). Reaches from i said said' old new page) (at-line (typing table sessions) lines place line within is) reached
+pub reaches-next : {from : Interaction Bool} {said said' : Dialog} {out : MovedSink} {page : List ℕ} (table : List Rule)
+    (sessions : SessionMap) (lines : List Line) (place : ℕ) (line : Line)
+    → place < length lines → line ≡ get_or lines place line
+    → Reaches from (typing table sessions (drop place lines)) said said' out page
+    → Reaches from (typing table sessions (line ∷ drop (place + 1) lines)) said said' out page
+reaches-next {from = from} {said = said} {said' = said'} {out = out} {page = page} table sessions lines place line
+    within is reached =
+    subst (λ (i : Interaction Bool). Reaches from i said said' out page)
+    (at-line (typing table sessions) lines place line within is) reached
 
 -- a way more, whose text goes to the page
-pub reaches-pushed : {from middle to : Interaction Bool} {said said' : Dialog} {old new : Option (List ℕ)} {page : List ℕ} → Reaches from middle said said' old new page
-    → (said'' dialog : Dialog) (text page' : List ℕ) → said'' ≡ said' ++ dialog → Leads middle dialog text to → page' ≡ page ++ text → Reaches from to said said'' old new page'
-reaches-pushed {said = said} {old = old} {new = new} {page = page} reached said'' dialog text page' grows leads pushed = record {
+pub reaches-pushed : {from middle to : Interaction Bool} {said said' : Dialog} {out : MovedSink} {page : List ℕ}
+    → Reaches from middle said said' out page
+    → (said'' dialog : Dialog) (text page' : List ℕ) → said'' ≡ said' ++ dialog → Leads middle dialog text to
+    → page' ≡ page ++ text → Reaches from to said said'' out page'
+reaches-pushed {said = said} {out = out} {page = page} reached said'' dialog text page' grows leads pushed = record {
   dialog = reached.dialog ++ dialog;
   text = reached.text ++ text;
   grows = grows ∙ ap (λ s. s ++ dialog) reached.grows ∙ append_assoc said reached.dialog dialog;
   leads = leads-on reached.leads leads;
-  printed = Printed-longer old new page reached.text text page' pushed reached.printed;
+  printed = Printed-longer out.written out.written' page reached.text text page' pushed reached.printed;
 }
 
 -- a way more, on which nothing is printed
-pub reaches-said : {from middle to : Interaction Bool} {said said' : Dialog} {old new : Option (List ℕ)} {page : List ℕ} → Reaches from middle said said' old new page
-    → (said'' dialog : Dialog) → said'' ≡ said' ++ dialog → Leads middle dialog [] to → Reaches from to said said'' old new page
-reaches-said {page = page} reached said'' dialog grows leads = reaches-pushed reached said'' dialog [] page grows leads (sym (append-nil page))
+pub reaches-said : {from middle to : Interaction Bool} {said said' : Dialog} {out : MovedSink} {page : List ℕ}
+    → Reaches from middle said said' out page
+    → (said'' dialog : Dialog) → said'' ≡ said' ++ dialog → Leads middle dialog [] to
+    → Reaches from to said said'' out page
+reaches-said {page = page} reached said'' dialog grows leads =
+    reaches-pushed reached said'' dialog [] page grows leads (sym (append-nil page))
 
 -- the closing lines go to the page, and then all is typed
-pub reaches-closed : {from : Interaction Bool} {said said' : Dialog} {old new : Option (List ℕ)} {page : List ℕ} (table : List Rule) (sessions : SessionMap)
-    → Reaches from (typing table sessions []) said said' old new page → Reaches from (ends true) said said' old new (page ++ closing_lines sessions)
+pub reaches-closed : {from : Interaction Bool} {said said' : Dialog} {out : MovedSink} {page : List ℕ}
+    (table : List Rule) (sessions : SessionMap)
+    → Reaches from (typing table sessions []) said said' out page
+    → Reaches from (ends true) said said' out (page ++ closing_lines sessions)
 reaches-closed {said' = said'} {page = page} table sessions reached =
-    reaches-pushed reached said' [] (closing_lines sessions) (page ++ closing_lines sessions) (sym (append-nil said')) (leads-prints (closing_lines sessions) (here _)) refl
+    reaches-pushed reached said' [] (closing_lines sessions) (page ++ closing_lines sessions) (sym (append-nil said'))
+    (leads-prints (closing_lines sessions) (here _)) refl
+
+-- what was printed on a way is printed by its answers
+along : {from to : Interaction Bool} {dialog : Dialog} {text : List ℕ} (old new : Told) → Leads from dialog text to
+    → AppendsPrefix old new (encode_utf8_all text)
+    → AppendsPrefix old new (encode_utf8_all (printed from (answers_of dialog)))
+along {to = to} {text = text} old new leads front =
+    subst (AppendsPrefix old new) (sym (ap encode_utf8_all (led-printed leads) ∙ encodes-append text (printed to [])))
+    (AppendsPrefix-more old new (encode_utf8_all text) (encode_utf8_all (printed to [])) front)
+
+-- a way breaks off where it came to
+pub breaks-reached : {from to : Interaction Bool} {said said' : Dialog} {out : MovedSink} {page : List ℕ}
+    → Reaches from to said said' out page → Breaks from said said' out
+breaks-reached {out = out} {page = page} reached = record {
+  dialog = reached.dialog;
+  grows = reached.grows;
+  asks = led-asked reached.leads;
+  prefix =
+      along out.written out.written' reached.leads
+      (Printed-prefix out.written out.written' page [] reached.text reached.printed);
+}
 
 -- some of the page is written
-pub reaches-written : {from to : Interaction Bool} {said said' : Dialog} {old mid : Option (List ℕ)} {page : List ℕ} → Reaches from to said said' old mid page
-    → (new : Option (List ℕ)) (left : List ℕ) → Printed mid new left [] page → Reaches from to said said' old new left
-reaches-written {old = old} {mid = mid} {page = page} reached new left written = record {
+pub reaches-written : {from to : Interaction Bool} {said said' : Dialog} {old mid : Told} {page : List ℕ}
+    {faults middle : ℕ} (faults' : ℕ) → Reaches from to said said' (sink old mid faults middle) page
+    → (new : Told) (left : List ℕ) → Printed mid new left [] page
+    → Reaches from to said said' (sink old new faults faults') left
+reaches-written {old = old} {mid = mid} {page = page} faults' reached new left written = record {
   dialog = reached.dialog;
   text = reached.text;
   grows = reached.grows;
@@ -74,82 +117,100 @@ reaches-written {old = old} {mid = mid} {page = page} reached new left written =
   printed = Printed-written old mid new page left [] reached.text reached.printed written;
 }
 
--- what was printed on a way is printed by its answers
-along : {from to : Interaction Bool} {dialog : Dialog} {text : List ℕ} (old new : Option (List ℕ)) → Leads from dialog text to → AppendsPrefix old new (encode_utf8_all text)
-    → AppendsPrefix old new (encode_utf8_all (printed from (answers_of dialog)))
-along {to = to} {text = text} old new leads front =
-    subst (AppendsPrefix old new) (sym (ap encode_utf8_all (led-printed leads) ∙ encodes-append text (printed to [])))
-    (AppendsPrefix-more old new (encode_utf8_all text) (encode_utf8_all (printed to [])) front)
+-- what was written so far, where a prefix of the page is written as well
+front-written : {from to : Interaction Bool} {said said' : Dialog} {old mid : Told} {page : List ℕ} {faults middle : ℕ}
+    (reached : Reaches from to said said' (sink old mid faults middle) page)
+    → (new : Told) → AppendsPrefix mid new (encode_utf8_all page)
+    → AppendsPrefix old new (encode_utf8_all (printed from (answers_of reached.dialog)))
+front-written {old = old} {mid = mid} {page = page} reached new front =
+    along old new reached.leads (Printed-prefix_of_page old mid new page [] reached.text reached.printed front)
 
--- a way stops where it came to, whether its page waits or a write of it fails
-pub stops-reached : {from to : Interaction Bool} {said said' : Dialog} {old new : Option (List ℕ)} {page : List ℕ} → Reaches from to said said' old new page → Stops from said said' old new
-stops-reached {old = old} {new = new} {page = page} reached = record {
+-- a way breaks off where a write of its page fails
+pub breaks-unwritten : {from to : Interaction Bool} {said said' : Dialog} {old mid : Told} {page : List ℕ}
+    {faults middle : ℕ} (faults' : ℕ) → Reaches from to said said' (sink old mid faults middle) page
+    → (new : Told) → AppendsPrefix mid new (encode_utf8_all page) → Breaks from said said' (sink old new faults faults')
+breaks-unwritten faults' reached new front = record {
   dialog = reached.dialog;
   grows = reached.grows;
   asks = led-asked reached.leads;
-  prefix = along old new reached.leads (Printed-prefix old new page [] reached.text reached.printed);
+  prefix = front-written reached new front;
 }
 
-pub stops-unwritten : {from to : Interaction Bool} {said said' : Dialog} {old mid : Option (List ℕ)} {page : List ℕ} → Reaches from to said said' old mid page
-    → (new : Option (List ℕ)) → AppendsPrefix mid new (encode_utf8_all page) → Stops from said said' old new
-stops-unwritten {old = old} {mid = mid} {page = page} reached new front = record {
-  dialog = reached.dialog;
-  grows = reached.grows;
-  asks = led-asked reached.leads;
-  prefix = along old new reached.leads (Printed-prefix_of_page old mid new page [] reached.text reached.printed front);
-}
+-- What is left then
 
 -- with a fault that no key gave
-pub leaves-stopped : (table : List Rule) (lines : List Line) (ended : Ended) (fault : RunFault) (said said' : Dialog) (old new : Option (List ℕ)) (writes writes' : ℕ) → IsErrAnd ended (λ handed. handed ≡ fault)
-    → Stops (typing table [] lines) said said' old new → fault ≢ NotBuilt → (fault ≡ Outside → Rose writes writes') → HasStatus (4 ∷ 6 ∷ 8 ∷ []) fault → writes ≤ writes'
-    → LeavesLines table lines ended said said' old new writes writes'
-leaves-stopped table lines (Ok done) fault said said' old new writes writes' is stops built outside comes counted = absurd (search (rules, is))
-leaves-stopped table lines (Err handed) fault said said' old new writes writes' is stops built outside comes counted = record {
-  dialog = stops.dialog;
-  grows = stops.grows;
-  asks = stops.asks;
-  whole = search rules;
-  prefix = stops.prefix;
-  taken = search rules;
-  not_built = λ e. absurd (built (cc));
-  outside = λ e. outside (cc);
-  fault = subst (HasStatus (4 ∷ 6 ∷ 8 ∷ [])) (sym is) comes;
-  counted = counted;
+pub leaves-broken : {from : Interaction Bool} {said said' : Dialog} {out : MovedSink} (ended : Ended) (fault : RunFault)
+    → IsErrAnd ended (λ handed. handed ≡ fault)
+    → Breaks from said said' out → StopsPrinting out fault → LeavesLines from ended said said' out
+leaves-broken (Ok done) fault is breaks stops = absurd (search (rules, is))
+leaves-broken {from = from} {out = out} (Err handed) fault is breaks stops = record {
+  dialog = breaks.dialog;
+  grows = breaks.grows;
+  asks = breaks.asks;
+  prints = record {
+    taken = tt;
+    whole = tt;
+    prefix = breaks.prefix;
+    stopped = subst (StopsTyping from (answers_of breaks.dialog) out) (sym is) (typing-stopped fault stops);
+  };
 }
+  where
+    typing-stopped : (fault : RunFault) → StopsPrinting out fault
+        → StopsTyping from (answers_of breaks.dialog) out fault
+    typing-stopped Outside stops = stops
+    typing-stopped Memory stops = tt
+    typing-stopped fault stops = absurd stops
 
 -- at a key that is not built, whether the page is written or a write of it fails
-pub leaves-not_built : (table : List Rule) (lines : List Line) (said said' : Dialog) (old mid new : Option (List ℕ)) (page : List ℕ) (writes writes' : ℕ)
-    → Reaches (typing table [] lines) (ends false) said said' old mid page → AppendsPrefix mid new (encode_utf8_all page) → writes ≤ writes'
-    → LeavesLines table lines (Err NotBuilt) said said' old new writes writes'
-leaves-not_built table lines said said' old mid new page writes writes' reached front counted = record {
+pub leaves-not_built : {from : Interaction Bool} {said said' : Dialog} {old mid : Told} {page : List ℕ}
+    {faults middle : ℕ} (faults' : ℕ) → Reaches from (ends false) said said' (sink old mid faults middle) page
+    → (new : Told) → AppendsPrefix mid new (encode_utf8_all page)
+    → LeavesLines from (Err NotBuilt) said said' (sink old new faults faults')
+leaves-not_built faults' reached new front = record {
   dialog = reached.dialog;
   grows = reached.grows;
   asks = led-asked reached.leads;
-  whole = search rules;
-  prefix = along old new reached.leads (Printed-prefix_of_page old mid new page [] reached.text reached.printed front);
-  taken = search rules;
-  not_built = λ e. led-end reached.leads;
-  outside = λ e. absurd (cc);
-  fault = refl;
-  counted = counted;
+  prints = record { taken = tt; whole = tt; prefix = front-written reached new front; stopped = led-end reached.leads };
 }
+
+-- with the cause for which the typing of lines broke off
+pub leaves-stopped : {from : Interaction Bool} {said said' : Dialog} {out : MovedSink} (page : List ℕ)
+    (fault : RunFault) → Breaks from said said' out
+    → BreaksFor from said said' out page fault → LeavesLines from (Err fault) said said' out
+leaves-stopped {out = out} page NotBuilt breaks reached = record {
+  dialog = reached.dialog;
+  grows = reached.grows;
+  asks = led-asked reached.leads;
+  prints = record {
+    taken = tt;
+    whole = tt;
+    prefix =
+        along out.written out.written' reached.leads
+        (Printed-prefix out.written out.written' page [] reached.text reached.printed);
+    stopped = led-end reached.leads;
+  };
+}
+leaves-stopped page Outside breaks rose = leaves-broken (Err Outside) Outside refl breaks rose
+leaves-stopped page Memory breaks lacks = leaves-broken (Err Memory) Memory refl breaks tt
+leaves-stopped page fault breaks none = absurd none
 
 -- with all of it written
-pub leaves-whole : (table : List Rule) (lines : List Line) (said said' : Dialog) (old mid new : Option (List ℕ)) (page : List ℕ) (writes writes' : ℕ)
-    → Reaches (typing table [] lines) (ends true) said said' old mid page → Appends mid new (encode_utf8_all page) → writes ≤ writes'
-    → LeavesLines table lines (Ok tt) said said' old new writes writes'
-leaves-whole table lines said said' old mid new page writes writes' reached written counted = record {
-  dialog = reached.dialog;
-  grows = reached.grows;
-  asks = led-asked reached.leads;
-  whole = subst (λ t. Appends old new (encode_utf8_all t)) (sym (led-printed reached.leads ∙ append-nil reached.text)) (Printed-whole old mid new page reached.text reached.printed written);
-  prefix = search rules;
-  taken = led-end reached.leads;
-  not_built = λ e. absurd (search (rules, e));
-  outside = λ e. absurd (search (rules, e));
-  fault = search rules;
-  counted = counted;
-}
-
-pub Rose-behind : (before middle after : ℕ) → before ≤ middle → Rose middle after → Rose before after
-Rose-behind before middle after more rose = omega arith
+pub leaves-whole : {from : Interaction Bool} {said said' : Dialog} {old mid : Told} {page : List ℕ} {faults middle : ℕ}
+    (faults' : ℕ) → Reaches from (ends true) said said' (sink old mid faults middle) page
+    → (new : Told) → Appends mid new (encode_utf8_all page)
+    → LeavesLines from (Ok tt) said said' (sink old new faults faults')
+leaves-whole {from = from} {old = old} {mid = mid} {page = page} faults' reached new written =
+    let whole =
+    subst (λ t. Appends old new (encode_utf8_all t)) (sym (led-printed reached.leads ∙ append-nil reached.text))
+    (Printed-whole old mid new page reached.text reached.printed written) in
+    record {
+      dialog = reached.dialog;
+      grows = reached.grows;
+      asks = led-asked reached.leads;
+      prints = record {
+        taken = led-end reached.leads;
+        whole = whole;
+        prefix = AppendsPrefix-whole old new (encode_utf8_all (printed from (answers_of reached.dialog))) whole;
+        stopped = tt;
+      };
+    }

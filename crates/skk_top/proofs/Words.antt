@@ -63,4 +63,19 @@ pub bad : chars (codes " bad ") ≡ codes " bad "
 unfolding chars
 bad = refl
 
-pub ruleset check_words = (long_line, no_space, bad_reading, long_reading, okuri_key, no_slash, block, long_candidate, no_candidates, twice, line, okuri_ari, okuri_nasi, bad)
+pub ruleset check_words = (
+  long_line,
+  no_space,
+  bad_reading,
+  long_reading,
+  okuri_key,
+  no_slash,
+  block,
+  long_candidate,
+  no_candidates,
+  twice,
+  line,
+  okuri_ari,
+  okuri_nasi,
+  bad,
+)

@@ -6,7 +6,8 @@ use Rattle.std.specs.Option.{option_map}
 use Rattle.std.specs.Str.{bytes_eq}
 use Rattle.skk_top.specs.Words.{is_name, number_within}
 use Rattle.skk_top.specs.declared.argument.Argument.{Argument}
-use Rattle.skk_top.specs.declared.argument.Argument.TheVariants.{File, Dictionary, Rules, Learned, Limit, Port, Connections, Book, Seed, Sessions, Lines, Threads}
+use Rattle.skk_top.specs.declared.argument.Argument.TheVariants.{File, Dictionary, Rules, Learned, Limit, Port}
+use Rattle.skk_top.specs.declared.argument.Argument.TheVariants.{Connections, Book, Seed, Sessions, Lines, Threads}
 use Rattle.skk_top.specs.declared.argument.OptionRow.{OptionRow}
 use Rattle.skk_top.specs.declared.argument.Takes.{Takes}
 use Rattle.skk_top.specs.declared.argument.Takes.TheVariants.{Nothing, Name, Number}

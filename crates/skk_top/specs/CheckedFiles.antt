@@ -10,7 +10,9 @@ use Rattle.dict_format.specs.PrintedFiles.{is_of}
 use Rattle.dict_format.specs.declared.file.BadLine.{BadLine}
 use Rattle.dict_format.specs.declared.file.Listed.{Listed}
 use Rattle.dict_format.specs.declared.reason.LineReason.{LineReason}
-use Rattle.dict_format.specs.declared.reason.LineReason.TheVariants.{LongLine, NoSpace, BadReading, LongReading, OkuriKey, NoSlash, Block, LongCandidate, Empty, Twice}
+use Rattle.dict_format.specs.declared.reason.LineReason.TheVariants.{LongLine, NoSpace, BadReading, LongReading}
+use Rattle.dict_format.specs.declared.reason.LineReason.TheVariants.{OkuriKey, NoSlash, Block, LongCandidate, Empty}
+use Rattle.dict_format.specs.declared.reason.LineReason.TheVariants.{Twice}
 
 -- the name of a reason
 abbrev pub reason_name : LineReason → List ℕ
@@ -40,8 +42,8 @@ count_of part rows = count_by (is_of part) rows
 -- the counts of the rows of each part, and of the bad lines
 abbrev pub counts_line : Listed → List ℕ
 counts_line listed =
-    codes "okuri-ari " ++ decimal (count_of Ari listed.book) ++ codes " okuri-nasi " ++ decimal (count_of Nasi listed.book)
-    ++ codes " bad " ++ decimal (length listed.bad) ++ line_feed ∷ []
+    codes "okuri-ari " ++ decimal (count_of Ari listed.book) ++ codes " okuri-nasi "
+    ++ decimal (count_of Nasi listed.book) ++ codes " bad " ++ decimal (length listed.bad) ++ line_feed ∷ []
 
 -- the characters printed for what a file lists: its bad lines, and the counts
 abbrev pub checked_text : Listed → List ℕ

@@ -3,9 +3,11 @@ use Rattle.std.specs.Prelude.{ℕ, Bool, ◌||◌, not, if◌then◌else◌, Opt
 use Rattle.std.specs.Map.{lookup}
 use Rattle.std.specs.Option.{is_some, option_and_then}
 use Rattle.std.specs.Str.{bytes_eq}
-use Rattle.skk_top.specs.Settings.{Row, fits, settings_of, texts_of, text_given, text_of, number_given, number_or, is_given}
+use Rattle.skk_top.specs.Settings.{Row, fits, settings_of, texts_of, text_given, text_of, number_given, number_or}
+use Rattle.skk_top.specs.Settings.{is_given}
 use Rattle.skk_top.specs.declared.argument.Argument.{Argument}
-use Rattle.skk_top.specs.declared.argument.Argument.TheVariants.{File, Dictionary, Rules, Learned, Limit, Port, Connections, Book, Seed, Sessions, Lines, Threads}
+use Rattle.skk_top.specs.declared.argument.Argument.TheVariants.{File, Dictionary, Rules, Learned, Limit, Port}
+use Rattle.skk_top.specs.declared.argument.Argument.TheVariants.{Connections, Book, Seed, Sessions, Lines, Threads}
 use Rattle.skk_top.specs.declared.command.Command.{Command}
 use Rattle.skk_top.specs.declared.command.Command.TheVariants as commands
 use Rattle.skk_top.specs.declared.command_name.CommandName.{CommandName}
@@ -17,7 +19,9 @@ use Rattle.skk_top.specs.declared.setting.Setting.{Setting}
 
 -- the words that name commands
 abbrev pub command_names : List (List ℕ × CommandName)
-command_names = (codes "type", TypeScript) ∷ (codes "serve", Serve) ∷ (codes "check", Check) ∷ (codes "dump", Dump) ∷ (codes "load", Load) ∷ []
+command_names =
+    (codes "type", TypeScript) ∷ (codes "serve", Serve) ∷ (codes "check", Check) ∷ (codes "dump", Dump)
+    ∷ (codes "load", Load) ∷ []
 
 -- the command that a word names
 abbrev pub command_named : List ℕ → Option CommandName
@@ -38,7 +42,8 @@ required argument = (argument, 1, 1)
 -- what each command takes
 abbrev pub takes : CommandName → List Row
 takes TypeScript = up_to 16 Dictionary ∷ optional Rules ∷ optional Learned ∷ optional Limit ∷ optional Threads ∷ []
-takes Serve = required Learned ∷ up_to 16 Dictionary ∷ optional Rules ∷ optional Limit ∷ optional Port ∷ optional Connections ∷ []
+takes Serve =
+    required Learned ∷ up_to 16 Dictionary ∷ optional Rules ∷ optional Limit ∷ optional Port ∷ optional Connections ∷ []
 takes Check = required File ∷ []
 takes Dump = required Learned ∷ optional Book ∷ []
 takes Load = required Seed ∷ required Sessions ∷ required Lines ∷ optional Threads ∷ []
@@ -88,7 +93,8 @@ command_with name settings = if fits (takes name) settings then Some (command na
 -- the command that words are: the first names it, and it takes the settings of the rest
 abbrev pub command_of : List (List ℕ) → Option Command
 command_of [] = None
-command_of (word ∷ words) = option_and_then (λ name. option_and_then (command_with name) (settings_of words)) (command_named word)
+command_of (word ∷ words) =
+    option_and_then (λ name. option_and_then (command_with name) (settings_of words)) (command_named word)
 
 -- whether no option of `type` is given but files to read: dictionaries and rules
 abbrev pub has_files_alone : TypeOptions → Bool

@@ -4,10 +4,12 @@ pub mod CheckCommand
 pub mod CheckedFiles
 pub mod Command
 pub mod Dictionaries
+pub mod Finishes
 pub mod Marks
 pub mod Page
 pub mod Printing
 pub mod Ranges
+pub mod RunFiles
 pub mod RunRules
 pub mod Script
 pub mod Sessions

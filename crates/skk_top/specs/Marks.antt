@@ -5,4 +5,5 @@ use Rattle.skk_top.specs.declared.line.Line.{Line}
 
 -- the marks tell which sessions these lines name
 abbrev pub Mark : List Bool → List Line → Type 0
-Mark marks lines = (session : ℕ) → session ≤ 64 → IsTrue (slice_index_or marks session false) ↔ Contains (map session_of lines) session
+Mark marks lines =
+    (session : ℕ) → session ≤ 64 → IsTrue (slice_index_or marks session false) ↔ Contains (map session_of lines) session

@@ -1,5 +1,6 @@
--- Scripts: what each line says, and which line is the first that is none.
-use Rattle.std.specs.Prelude.{◌≡◌, ◌⊎◌, ◌≤◌, ◌+◌, ℕ, Bool, true, false, ◌==◌, ◌||◌, nat_eq, Option, Some, None, List, [], ◌∷◌, ◌++◌, length, map, ⊤, Contains}
+-- Scripts: what each line says, and which line is the first bad one.
+use Rattle.std.specs.Prelude.{◌≡◌, ◌⊎◌, ◌≤◌, ◌+◌, ℕ, Bool, true, false, ◌==◌, ◌||◌, nat_eq, Option, Some, None, List}
+use Rattle.std.specs.Prelude.{[], ◌∷◌, ◌++◌, length, map, ⊤, Contains}
 use Rattle.std.specs.Fmt.{decimal}
 use Rattle.std.specs.List.{list_any}
 use Rattle.skk_text.specs.KeyText.{spelled, AreKeys}
@@ -24,11 +25,13 @@ IsTypist number = number ≤ 65535
 abbrev pub has_return : List ℕ → Bool
 has_return text = list_any (λ byte. nat_eq byte carriage_return) text
 
--- what a text says: nothing, where it is skipped, being empty or a comment, which has no CR; keys, where it is a session,
--- `:` and their spelling; or an opening, where it is a session, `=`, a typist, `,` and a book, which is 0 or the typist's
+-- what a text says: nothing, where it is skipped, being empty or a comment, which has no CR; keys, where it is a
+-- session, `:` and their spelling; or an opening, where it is a session, `=`, a typist, `,` and a book,
+-- which is 0 or the typist's
 abbrev pub Spells : List ℕ → Option Line → Type 0
 Spells text None = (text ≡ []) ⊎ ((comment : List ℕ) × (text ≡ code "#" ∷ comment) × (has_return comment ≡ false))
-Spells text (Some (Keys session ks)) = IsSession session × AreKeys ks × (text ≡ decimal session ++ code ":" ∷ spelled ks)
+Spells text (Some (Keys session ks)) =
+    IsSession session × AreKeys ks × (text ≡ decimal session ++ code ":" ∷ spelled ks)
 Spells text (Some (Opening session typist book)) =
     IsSession session × IsTypist typist × ((book ≡ 0) ⊎ (book ≡ typist))
     × (text ≡ decimal session ++ code "=" ∷ decimal typist ++ code "," ∷ decimal book)
@@ -37,7 +40,8 @@ Spells text (Some (Opening session typist book)) =
 abbrev pub Follows : ℕ → ℕ → List ℕ → Line → Type 0
 Follows number mark rest (Keys session ks) = (session ≡ number) × (mark ≡ code ":") × AreKeys ks × (rest ≡ spelled ks)
 Follows number mark rest (Opening session typist book) =
-    (session ≡ number) × (mark ≡ code "=") × IsTypist typist × ((book ≡ 0) ⊎ (book ≡ typist)) × (rest ≡ decimal typist ++ code "," ∷ decimal book)
+    (session ≡ number) × (mark ≡ code "=") × IsTypist typist × ((book ≡ 0) ⊎ (book ≡ typist))
+    × (rest ≡ decimal typist ++ code "," ∷ decimal book)
 
 -- the session that a line names
 abbrev pub session_of : Line → ℕ

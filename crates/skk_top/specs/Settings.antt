@@ -1,5 +1,6 @@
 -- Settings: arguments with their values, as words give them.
-use Rattle.std.specs.Prelude.{⊤, ◌<◌, ℕ, Bool, true, false, ◌&&◌, ◌==◌, nat_eq, nat_le, if◌then◌else◌, Option, Some, None, List, [], ◌∷◌, length, unwrap_or, count_by}
+use Rattle.std.specs.Prelude.{⊤, ◌<◌, ℕ, Bool, true, false, ◌&&◌, ◌==◌, nat_eq, nat_le, if◌then◌else◌, Option, Some}
+use Rattle.std.specs.Prelude.{None, List, [], ◌∷◌, length, unwrap_or, count_by}
 use Rattle.std.specs.List.{filter_map, list_all, sum_by}
 use Rattle.std.specs.Option.{option_map, option_map_or, option_and_then}
 use Rattle.skk_top.specs.Arguments.{option_named, value_of, place}
@@ -58,7 +59,8 @@ abbrev pub settings_of : List (List ℕ) → Option (List Setting)
 settings_of [] = Some []
 settings_of (word ∷ []) = with_setting (whole word) (Some [])
 settings_of (word ∷ next ∷ words) =
-    option_map_or (λ row. with_setting (option_with row next) (settings_of words)) (begun word) (with_setting (whole word) (settings_of (next ∷ words)))
+    option_map_or (λ row. with_setting (option_with row next) (settings_of words)) (begun word)
+    (with_setting (whole word) (settings_of (next ∷ words)))
 
 -- words give no settings, or more than 32, which no command takes
 abbrev pub AreNoneOrMany : Option (List Setting) → Type 0
@@ -96,7 +98,8 @@ texts_of argument settings = filter_map (text_for argument) settings
 -- the value of an argument, where it is given
 abbrev pub value_given : Argument → List Setting → Option Value
 value_given argument [] = None
-value_given argument (setting ∷ settings) = if is_of argument setting then Some setting.value else value_given argument settings
+value_given argument (setting ∷ settings) =
+    if is_of argument setting then Some setting.value else value_given argument settings
 
 -- the text of an argument, where it is given
 abbrev pub text_given : Argument → List Setting → Option (List ℕ)

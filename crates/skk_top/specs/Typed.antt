@@ -3,10 +3,8 @@ use Rattle.std.specs.Prelude.{ℕ, Bool, true, false, List, [], ◌∷◌, encod
 use Rattle.std.specs.List.{flat_map}
 use Rattle.std.specs.Option.{option_map_or}
 use Rattle.romaji_rules.specs.declared.rule.Rule.{Rule}
-use Rattle.skk_calls.specs.declared.answer.Answer.{Answer}
-use Rattle.skk_calls.specs.Interactions.{Interaction, ends, prints, followed_by, printed, printed_alone}
-use Rattle.skk_calls.specs.Rows.{Row}
-use Rattle.skk_calls.specs.States.{empty_state}
+use Rattle.skk_calls.specs.Histories as histories
+use Rattle.skk_calls.specs.Interactions.{Interaction, ends, prints, followed_by, printed_alone}
 use Rattle.session_machine.specs.Pressed.{all_pressed}
 use Rattle.session_machine.specs.Session.{new_session}
 use Rattle.skk_top.specs.Printing.{output_line, closing_line}
@@ -24,15 +22,13 @@ abbrev pub typing : List Rule → SessionMap → List Line → Interaction Bool
 typing rules sessions [] = prints (closing_lines sessions) (ends true)
 typing rules sessions (Keys number ks ∷ lines) =
     followed_by (all_pressed rules (session_or_new sessions number) ks)
-    (λ next. option_map_or (λ session. prints (output_line number session) (typing rules (with_session sessions number session) lines)) next (ends false))
+    (λ next. option_map_or
+    (λ session. prints (output_line number session) (typing rules (with_session sessions number session) lines))
+    next (ends false))
 typing rules sessions (Opening number typist book ∷ lines) =
     typing rules (with_session sessions number (new_session typist book)) lines
 
--- the bytes printed for the lines of a script where their calls get these answers
-abbrev pub typed : List Rule → List Line → List Answer → List ℕ
-typed rules lines answers = encode_utf8_all (printed (typing rules [] lines) answers)
-
--- the bytes printed for the lines of a script where the dictionary of one thread answers, over these system files and
--- with nothing learnt before
-abbrev pub typed_alone : List Rule → List Line → List (List Row) → List ℕ
-typed_alone rules lines files = encode_utf8_all (printed_alone files empty_state (typing rules [] lines))
+-- the bytes printed for the lines of a script where the dictionary of one thread answers from an opening on
+abbrev pub typed_alone : histories.Opening → List Rule → List Line → List ℕ
+typed_alone opening rules lines =
+    encode_utf8_all (printed_alone opening.files opening.state (typing rules [] lines))

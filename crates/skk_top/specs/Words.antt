@@ -24,4 +24,5 @@ with_character character parts = (character ∷ parts.0, parts.1)
 -- what stands before and behind the first `=` of a word, where it has one
 abbrev pub cut : List ℕ → Option (List ℕ × List ℕ)
 cut [] = None
-cut (character ∷ rest) = if character == code "=" then Some ([], rest) else option_map (with_character character) (cut rest)
+cut (character ∷ rest) =
+    if character == code "=" then Some ([], rest) else option_map (with_character character) (cut rest)

@@ -3,42 +3,29 @@ ghost use Rattle.skk_calls.specs.Dictionary.{is_fit, may_answer};
 ghost use Rattle.skk_calls.specs.Histories.{after_answer};
 ghost use Rattle.skk_calls.specs.Rows.{Row};
 ghost use Rattle.learn_index.specs.Plans.{is_lookup, is_question};
-ghost use Rattle.skk_top.specs.Answering.{IsAnsweredAt, is_reply};
+ghost use Rattle.skk_calls.specs.Openings.{is_reply};
+ghost use Rattle.skk_top.specs.Answering.{IsAnsweredAt};
 
 use dict_layers::System;
 use learn_index::Index;
-use skk_calls::{Answer, Call, Caller, Chronicle, Noted, Refusal};
+use skk_calls::{Answer, Call, Caller, Chronicle, Noted, OpeningName, Refusal};
 use skk_text::Memory;
 use skk_trace::{Shows, Trace};
 use std::alloc::Global;
-use std::marker::{Brand, Model, PhantomData};
+use std::marker::{Model, PhantomData};
 
-/// The system files that a run is answered over, for the proof alone: a call at `Brand` picks them.
-pub trait Files {
-    ghost use Rattle.std.specs.Prelude.{List};
-    ghost use Rattle.skk_calls.specs.Rows.{Row};
-
-    ghost files: { List (List Row) };
-}
-
-impl Files for Brand {
-    ghost use Rattle.std.specs.Prelude.{[]};
-
-    ghost files = { [] };
-}
-
-/// The one caller of a run, whose number is 0: it looks up in the learned books and the system files, learns and purges in the
-/// books, which are in memory alone and empty at first, and notes what it answers. Contracts see its chronicle.
+/// The one caller of a run, whose number is 0: it looks up in the learned books and the system files, learns and purges
+/// in the books, which are in memory alone and empty at first, and notes what it answers. Contracts see its chronicle.
 #[derive(Drop)]
-pub struct RunCaller<F: Files> {
+pub struct RunCaller<N: OpeningName> {
     system: System,
     index: Index,
     trace: Trace<Noted>,
     has_refused: bool,
-    files: PhantomData<F>,
+    opening: PhantomData<N>,
 }
 
-impl<F: Files> Model for RunCaller<F> {
+impl<N: OpeningName> Model for RunCaller<N> {
     ghost use Rattle.std.specs.Prelude.{List};
     ghost use Rattle.skk_calls.specs.declared.chronicle.Noted.{Noted};
     ghost use Rattle.skk_top.specs.Answering.{KeepsAnswers};
@@ -47,19 +34,19 @@ impl<F: Files> Model for RunCaller<F> {
 
     ghost view = { λ c. c.trace };
 
-    ghost invariant = { λ c. KeepsAnswers F.files c.system c.index.state c.trace c.has_refused };
+    ghost invariant = { λ c. KeepsAnswers N.opening c.system c.index.state c.trace c.has_refused };
 }
 
-impl<F: Files> RunCaller<F> {
+impl<N: OpeningName> RunCaller<N> {
     ghost use Rattle.std.specs.Prelude.{◌≡◌, [], true, not, IfOk};
-    ghost use Rattle.skk_calls.specs.States.{empty_state};
     ghost use Rattle.skk_calls.specs.Interactions.{IsAnsweredAlone};
-    ghost use Rattle.skk_top.specs.Answering.{IsLegalOver, are_of_one, are_served, said_in};
+    ghost use Rattle.skk_calls.specs.Openings.{fresh_opening, IsLegalOver, are_of_one, are_served, is_without_disk};
+    ghost use Rattle.skk_calls.specs.Openings.{said_in};
 
     /// A caller over these system files, with nothing learnt, which has made no call.
-    pub fn new(alloc: Global, system: System) -> Result<RunCaller<F>, Memory>
-        requires { system ≡ F.files }
-        ensures { IfOk result (λ caller. said_in caller ≡ []) }
+    pub fn new(alloc: Global, system: System) -> Result<RunCaller<N>, Memory>
+        requires { N.opening ≡ fresh_opening system }
+        ensures { IfOk result (λ caller. said_in caller 0 ≡ []) }
     {
         let trace = Trace::new(alloc, &Opening { system: &system })?;
         Ok(RunCaller {
@@ -67,7 +54,7 @@ impl<F: Files> RunCaller<F> {
             index: Index::new(alloc),
             trace,
             has_refused: false,
-            files: PhantomData,
+            opening: PhantomData,
         })
     }
 
@@ -75,20 +62,22 @@ impl<F: Files> RunCaller<F> {
     pub fn close(self) -> (Chronicle, bool)
         ensures chronicle { result.0 ≡ self }
         ensures refused { result.1 ≡ not (are_served self) }
-        ensures legal { IsLegalOver F.files self }
+        ensures legal { IsLegalOver N.opening self }
         ensures one { are_of_one self ≡ true }
-        ensures alone { are_served self ≡ true → IsAnsweredAlone F.files empty_state (said_in self) }
+        ensures without_disk { is_without_disk N.opening self ≡ true }
+        ensures alone { are_served self ≡ true
+            → IsAnsweredAlone N.opening.files N.opening.state (said_in self 0) }
     {
         (Chronicle::of(self.trace), self.has_refused)
     }
 }
 
-impl<F: Files> Caller for RunCaller<F> {
-    ghost use Rattle.skk_top.specs.Answering.{said_in};
+impl<N: OpeningName> Caller for RunCaller<N> {
+    ghost use Rattle.skk_calls.specs.Openings.{said_in};
 
     ghost number = { λ _. 0 };
 
-    ghost said = { said_in };
+    ghost said = { λ c. said_in c 0 };
 
     fn number(&self) -> u32 {
         0
@@ -96,7 +85,7 @@ impl<F: Files> Caller for RunCaller<F> {
 
     /// A completion is refused as out of memory, for as long as none is made.
     fn call(&mut self, alloc: Global, call: &Call) -> Answer {
-        let answer = answered(alloc, &self.system, &mut self.index, call);
+        let answer = answer(alloc, &self.system, &mut self.index, call);
         self.has_refused = self.has_refused || !is_reply(&answer);
         self.trace.note(&Said {
             call,
@@ -133,23 +122,23 @@ impl Shows<Noted> for Said<'_> {
 }
 
 // What a call is answered over system files and learned books, which it may change.
-fn answered(alloc: Global, system: &System, index: &mut Index, call: &Call) -> Answer
+fn answer(alloc: Global, system: &System, index: &mut Index, call: &Call) -> Answer
     requires { is_fit call.now ≡ true }
     ensures answered { IsAnsweredAt system.now index.old.state call.now result }
     ensures left { index.new.state ≡ after_answer index.old.state call.now result }
     ensures may { may_answer call.now result ≡ true }
 {
     match call {
-        Call::Lookup { .. } => found(alloc, system, index, call),
+        Call::Lookup { .. } => look_up(alloc, system, index, call),
         Call::Complete { .. } => Answer::Refused(Refusal::Memory),
         Call::Learn { .. } | Call::Purge { .. } | Call::Unlearn { .. } => {
-            changed(alloc, index, call)
+            change(alloc, index, call)
         }
     }
 }
 
 // What a look-up is answered.
-fn found(alloc: Global, system: &System, index: &Index, call: &Call) -> Answer
+fn look_up(alloc: Global, system: &System, index: &Index, call: &Call) -> Answer
     requires { is_lookup call.now ≡ true }
     ensures answered { IsAnsweredAt system.now index.now.state call.now result }
     ensures may { may_answer call.now result ≡ true }
@@ -161,7 +150,7 @@ fn found(alloc: Global, system: &System, index: &Index, call: &Call) -> Answer
 }
 
 // What a change is answered, which is made in the learned books.
-fn changed(alloc: Global, index: &mut Index, call: &Call) -> Answer
+fn change(alloc: Global, index: &mut Index, call: &Call) -> Answer
     requires change { is_question call.now ≡ false }
     requires fit { is_fit call.now ≡ true }
     ensures answered { (files : List (List Row)) → IsAnsweredAt files index.old.state call.now result }

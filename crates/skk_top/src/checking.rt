@@ -1,11 +1,9 @@
-ghost use Rattle.std.specs.Prelude.{◌≡◌, ◌≤◌, ◌++◌, ◌∷◌, [], OnOk, OnErr, IfErr, IsErrOf, encode_utf8_all};
+ghost use Rattle.std.specs.Prelude.{◌≡◌, ◌≤◌, ◌++◌, [], OnOk, OnErr, IfErr, encode_utf8_all};
 ghost use Rattle.std.specs.Str.{chars};
-ghost use Rattle.skk_outside.specs.Faults.{Rose};
+ghost use Rattle.skk_outside.specs.Moved.{moved_sink};
 ghost use Rattle.skk_outside.specs.Written.{AppendsPrefix};
-ghost use Rattle.skk_top.specs.CheckCommand.{LeavesPrinted};
 ghost use Rattle.skk_top.specs.CheckedFiles.{reason_name, bad_line, bad_lines, count_of, counts_line, checked};
-ghost use Rattle.skk_top.specs.Page.{Printed};
-ghost use Rattle.skk_top.specs.Status.{HasStatus};
+ghost use Rattle.skk_top.specs.Page.{Printed, LeavesPrinted, StopsPrinting};
 
 use crate::fault::RunFault;
 use crate::page::{print, print_full};
@@ -18,7 +16,7 @@ use std::alloc::Global;
 
 /// Prints the bad lines of a file, and the counts of what it lists.
 pub fn print_listed<O: Sink>(alloc: Global, listed: &Listed, out: &mut O) -> Result<(), RunFault>
-    ensures { LeavesPrinted (checked listed.now) result (O.written out.old) (O.written out.new) (O.faults out.old) (O.faults out.new) }
+    ensures { LeavesPrinted (checked listed.now) result (moved_sink O.written O.faults out.old out.new) }
 {
     print_lines(alloc, listed, out)?;
     out.flush()?;
@@ -27,7 +25,7 @@ pub fn print_listed<O: Sink>(alloc: Global, listed: &Listed, out: &mut O) -> Res
 
 // Prints the bad lines and the counts.
 fn print_lines<O: Sink>(alloc: Global, listed: &Listed, out: &mut O) -> Result<(), RunFault>
-    ensures { LeavesPrinted (checked listed.now) result (O.written out.old) (O.written out.new) (O.faults out.old) (O.faults out.new) }
+    ensures { LeavesPrinted (checked listed.now) result (moved_sink O.written O.faults out.old out.new) }
 {
     let mut page = Text::new(alloc);
     print_bad_lines(alloc, listed.bad.as_slice(), &mut page, out)?;
@@ -45,9 +43,9 @@ fn print_bad_lines<O: Sink>(
 ) -> Result<(), RunFault>
     requires empty { page.old ≡ [] }
     ensures ok { OnOk result (Printed (O.written out.old) (O.written out.new) page.new [] (bad_lines bad.now)) }
-    ensures err { OnErr result (AppendsPrefix (O.written out.old) (O.written out.new) (encode_utf8_all (bad_lines bad.now))) }
-    ensures outside { IsErrOf result RunFault.Outside → Rose (O.faults out.old) (O.faults out.new) }
-    ensures fault { IfErr result (HasStatus (4 ∷ 6 ∷ [])) }
+    ensures err { OnErr result
+        (AppendsPrefix (O.written out.old) (O.written out.new) (encode_utf8_all (bad_lines bad.now))) }
+    ensures stopped { IfErr result (StopsPrinting (moved_sink O.written O.faults out.old out.new)) }
     ensures counted { O.faults out.old ≤ O.faults out.new }
 {
     for line in bad {

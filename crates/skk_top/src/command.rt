@@ -1,12 +1,13 @@
 ghost use Rattle.std.specs.Prelude.{◌≡◌, ◌<◌, if◌then◌else◌, Some, None, MatchOption};
 ghost use Rattle.std.specs.Option.{option_copied};
-ghost use Rattle.skk_top.specs.Command.{command_of, type_options, serve_options, load_options, has_files_alone, files_alone, file_checked};
+ghost use Rattle.skk_top.specs.Command.{command_of, type_options, serve_options, load_options, has_files_alone};
+ghost use Rattle.skk_top.specs.Command.{files_alone, file_checked};
 ghost use Rattle.skk_top.specs.Settings.{times};
 ghost use Rattle.skk_top.specs.declared.argument.Argument.TheVariants.{Dictionary};
 
 use crate::argument::Argument;
 use crate::command_name::command_named;
-use crate::given::read_settings;
+use crate::setting_words::read_settings;
 use crate::settings::{DICTIONARIES, Settings};
 use crate::word::Word;
 use arrayvec::ArrayVec;
@@ -81,7 +82,8 @@ pub struct TypeOptions<'a> {
 impl<'a> TypeOptions<'a> {
     /// The options that settings give, where there are not too many dictionaries.
     pub fn of(settings: &Settings<'a>) -> Option<TypeOptions<'a>>
-        ensures { MatchOption result (16 < times Dictionary settings.now) (λ options. options ≡ type_options settings.now) }
+        ensures { MatchOption result (16 < times Dictionary settings.now)
+            (λ options. options ≡ type_options settings.now) }
     {
         Some(TypeOptions {
             dictionaries: settings.texts(Argument::Dictionary)?,
@@ -124,7 +126,8 @@ pub struct ServeOptions<'a> {
 impl<'a> ServeOptions<'a> {
     /// The options that settings give, where there are not too many dictionaries.
     pub fn of(settings: &Settings<'a>) -> Option<ServeOptions<'a>>
-        ensures { MatchOption result (16 < times Dictionary settings.now) (λ options. options ≡ serve_options settings.now) }
+        ensures { MatchOption result (16 < times Dictionary settings.now)
+            (λ options. options ≡ serve_options settings.now) }
     {
         Some(ServeOptions {
             learned: settings.text(Argument::Learned),

@@ -1,21 +1,27 @@
-ghost use Rattle.std.specs.Prelude.{◌≡◌, map};
-ghost use Rattle.skk_top.specs.Dictionaries.{LeavesDictionary, LeavesDictionaries, fault_of_shelf, fault_of_file};
+ghost use Rattle.std.specs.Prelude.{◌≡◌, ◌≤◌, IfOk, IfErr, IfSome, map};
+ghost use Rattle.dict_format.specs.FileLines.{Lists};
+ghost use Rattle.skk_top.specs.Dictionaries.{AreRowsOf, HasDictionaryFlaw, RefusesDictionaries, fault_of_file};
+ghost use Rattle.skk_top.specs.RunFiles.{RefusesFile, RefusesBytes};
 
 use crate::fault::RunFault;
+use crate::run_file::{RunFile, read_run_file};
 use crate::word::Word;
 use dict_format::{FILE_LIMIT, FileFault, Listed, read_file};
 use skk_calls::Books;
-use skk_outside::{ReadFault, Shelf, read_named_file};
-use skk_text::Text;
+use skk_outside::Shelf;
 use std::alloc::Global;
 
-/// Reads the dictionaries of these names in their order, up to the first that is none. Their bad lines are passed over.
+/// Reads the dictionaries of these names in their order, up to the first that is refused.
+/// Their bad lines are passed over.
 pub fn read_dictionaries<H: Shelf>(
     alloc: Global,
     shelf: &mut H,
     names: &[Word],
 ) -> Result<Books, RunFault>
-    ensures { LeavesDictionaries result (map (H.file shelf.old) names.now) (H.faults shelf.old) (H.faults shelf.new) }
+    ensures rows { IfOk result (λ books. AreRowsOf books (map (H.file shelf.old) names.now)) }
+    ensures refused { IfErr result (RefusesDictionaries (map (H.file shelf.old) names.now)
+        (H.faults shelf.old) (H.faults shelf.new)) }
+    ensures counted { H.faults shelf.old ≤ H.faults shelf.new }
 {
     let mut books = Books::new(alloc);
     for name in names {
@@ -32,50 +38,42 @@ pub fn read_dictionary<H: Shelf>(
     name: &Word,
     number: usize,
 ) -> Result<Listed, RunFault>
-    ensures leaves { LeavesDictionary number result (H.file shelf.old name.now) (H.faults shelf.old) (H.faults shelf.new) }
+    ensures lists { IfOk result (λ listed. IfSome (H.file shelf.old name.now) (λ bytes. Lists bytes listed)) }
+    ensures refused { IfErr result
+        (RefusesFile (RunFile.Dictionary number) HasDictionaryFlaw (H.file shelf.old name.now)
+        (H.faults shelf.old) (H.faults shelf.new)) }
+    ensures counted { H.faults shelf.old ≤ H.faults shelf.new }
     ensures kept { H.file shelf.new ≡ H.file shelf.old }
 {
-    let name = name.to_text(alloc)?;
-    read_text(alloc, shelf, &name, number)
-}
-
-// Reads the dictionary with this number from the file of this name.
-fn read_text<H: Shelf>(
-    alloc: Global,
-    shelf: &mut H,
-    name: &Text,
-    number: usize,
-) -> Result<Listed, RunFault>
-    ensures leaves { LeavesDictionary number result (H.file shelf.old name.now) (H.faults shelf.old) (H.faults shelf.new) }
-    ensures kept { H.file shelf.new ≡ H.file shelf.old }
-{
-    match read_named_file(alloc, shelf, name, FILE_LIMIT) {
-        Ok(bytes) => match read_file(alloc, bytes.as_slice()) {
-            Ok(listed) => Ok(listed),
-            Err(fault) => Err(fault_of_file(number, fault)),
-        },
-        Err(fault) => Err(fault_of_shelf(number, fault)),
+    match read_run_file(
+        alloc,
+        shelf,
+        name,
+        RunFile::Dictionary { number },
+        FILE_LIMIT,
+    ) {
+        Ok(bytes) => listed_in(alloc, bytes.as_slice(), number),
+        Err(fault) => Err(fault),
     }
 }
 
-// What a fault of reading its file is for the dictionary with this number.
-fn fault_of_shelf(number: usize, fault: ReadFault) -> RunFault
-    ensures { result ≡ fault_of_shelf number fault }
+// What the bytes of the dictionary with this number list.
+fn listed_in(alloc: Global, bytes: &[u8], number: usize) -> Result<Listed, RunFault>
+    ensures lists { IfOk result (Lists bytes.now) }
+    ensures refused { IfErr result (RefusesBytes (RunFile.Dictionary number) HasDictionaryFlaw bytes.now) }
 {
-    match fault {
-        ReadFault::TooLong => RunFault::LongDictionary { number },
-        ReadFault::Failed => RunFault::Outside,
-        ReadFault::Memory => RunFault::Memory,
+    match read_file(alloc, bytes) {
+        Ok(listed) => Ok(listed),
+        Err(fault) => Err(fault_of_file(number, fault)),
     }
 }
 
-// What a fault of the bytes is for the dictionary with this number.
+// What a fault of its file is for the dictionary with this number.
 fn fault_of_file(number: usize, fault: FileFault) -> RunFault
     ensures { result ≡ fault_of_file number fault }
 {
     match fault {
-        FileFault::TooLong { bytes: _ } => RunFault::LongDictionary { number },
-        FileFault::NotUtf8 { at } => RunFault::BadDictionary { number, at },
+        FileFault::NoText(fault) => RunFile::Dictionary { number }.fault_of_text(fault),
         FileFault::Memory => RunFault::Memory,
     }
 }

@@ -1,15 +1,17 @@
-ghost use Rattle.std.specs.Prelude.{◌≡◌, ◌≤◌, ◌++◌, OnOk, OnErr};
+ghost use Rattle.std.specs.Prelude.{◌≡◌, ◌≤◌, ◌++◌, codes};
 ghost use Rattle.std.specs.Fmt.{decimal};
-ghost use Rattle.std.specs.Io.KnownBytes.{Appends};
-ghost use Rattle.skk_outside.specs.Faults.{Rose};
-ghost use Rattle.skk_outside.specs.Written.{AppendsPrefix};
-ghost use Rattle.skk_top.specs.Status.{run_status, run_message, Tells};
+ghost use Rattle.skk_outside.specs.Moved.{moved_sink};
+ghost use Rattle.skk_top.specs.Finishes.{finish_of};
+ghost use Rattle.skk_top.specs.Page.{Writes};
+ghost use Rattle.skk_top.specs.Status.{run_status, run_message, Tells, file_words, flaw_words, fault_words, message_of};
 
 use crate::finish::{Finish, Run};
+use crate::page::write;
+use crate::run_file::{Flaw, RunFile};
 use crate::script::ScriptFault;
 use itoa::Buffer;
 use session_machine::PressFault;
-use skk_outside::{Failed, ReadFault, Sink, write_all};
+use skk_outside::{Failed, Sink};
 use skk_text::Memory;
 
 /// Why a run was not done.
@@ -17,20 +19,8 @@ use skk_text::Memory;
 pub enum RunFault {
     /// The words are no command.
     Words,
-    /// The script is longer than its limit.
-    TooLong,
-    /// The first line of the script that is none, counted from 1.
-    BadLine { number: usize },
-    /// The rule file has more bytes than a rule file may have.
-    LongRules,
-    /// The rule file is not UTF-8: the longest prefix of it that is ends at this byte.
-    BadRules { at: usize },
-    /// The line of the rule file that is at fault, counted from 1.
-    BadRule { number: usize },
-    /// The dictionary with this number, counted from 1, has more bytes than a dictionary may have.
-    LongDictionary { number: usize },
-    /// The dictionary with this number is not UTF-8: the longest prefix of it that is ends at this byte.
-    BadDictionary { number: usize, at: usize },
+    /// A file is refused.
+    Refused { file: RunFile, flaw: Flaw },
     /// A call on the outside failed.
     Outside,
     /// Out of memory.
@@ -39,22 +29,26 @@ pub enum RunFault {
     NotBuilt,
 }
 
-/// Ends a run: tells its fault on `err`, and answers the status to exit with beside its chronicle. Takes no memory.
+/// Ends a run: tells its fault on `err`, and answers the status to exit with beside how it ended and its chronicle.
+/// Takes no memory.
 pub fn end_run<E: Sink>(run: Run, err: &mut E) -> Finish
-    ensures status { result.status ≡ run_status run.ended }
-    ensures chronicle { result.chronicle ≡ run.chronicle }
-    ensures told { Tells (run_message run.ended) (E.written err.old) (E.written err.new) (E.faults err.old) (E.faults err.new) }
+    ensures finish { result ≡ finish_of run }
+    ensures told { Tells (run_message run.ended) (moved_sink E.written E.faults err.old err.new) }
     ensures counted { E.faults err.old ≤ E.faults err.new }
 {
     let Run { ended, chronicle } = run;
     let status = end(ended, err);
-    Finish { status, chronicle }
+    Finish {
+        status,
+        ended,
+        chronicle,
+    }
 }
 
 // Tells a fault on `err`, and answers the status.
 fn end<E: Sink>(ended: Result<(), RunFault>, err: &mut E) -> u8
     ensures status { result ≡ run_status ended }
-    ensures told { Tells (run_message ended) (E.written err.old) (E.written err.new) (E.faults err.old) (E.faults err.new) }
+    ensures told { Tells (run_message ended) (moved_sink E.written E.faults err.old err.new) }
     ensures counted { E.faults err.old ≤ E.faults err.new }
 {
     match ended {
@@ -67,11 +61,8 @@ fn end<E: Sink>(ended: Result<(), RunFault>, err: &mut E) -> u8
 }
 
 impl RunFault {
-    ghost use Rattle.std.specs.Prelude.{◌≡◌, ◌≤◌, OnOk, OnErr};
-    ghost use Rattle.std.specs.Io.KnownBytes.{Appends};
-    ghost use Rattle.skk_outside.specs.Faults.{Rose};
-    ghost use Rattle.skk_outside.specs.Written.{AppendsPrefix};
-    ghost use Rattle.skk_top.specs.Status.{status_of, message_of};
+    ghost use Rattle.std.specs.Prelude.{◌≡◌};
+    ghost use Rattle.skk_top.specs.Status.{status_of};
 
     // The status that the program exits with.
     fn status(self) -> u8
@@ -79,11 +70,7 @@ impl RunFault {
     {
         match self {
             RunFault::Words => 1,
-            RunFault::TooLong | RunFault::BadLine { number: _ } => 2,
-            RunFault::LongRules => 3,
-            RunFault::BadRules { at: _ } | RunFault::BadRule { number: _ } => 3,
-            RunFault::LongDictionary { number: _ } => 3,
-            RunFault::BadDictionary { number: _, at: _ } => 3,
+            RunFault::Refused { file, flaw: _ } => file.status(),
             RunFault::Outside => 4,
             RunFault::Memory => 6,
             RunFault::NotBuilt => 8,
@@ -92,47 +79,80 @@ impl RunFault {
 
     // Writes the line on standard error.
     fn tell<E: Sink>(self, err: &mut E) -> Result<(), Failed>
-        ensures ok { OnOk result (Appends (E.written err.old) (E.written err.new) (message_of self)) }
-        ensures err { OnErr result (AppendsPrefix (E.written err.old) (E.written err.new) (message_of self)) }
-        ensures failed { OnErr result (Rose (E.faults err.old) (E.faults err.new)) }
-        ensures counted { E.faults err.old ≤ E.faults err.new }
+        ensures { Writes (message_of self) result (moved_sink E.written E.faults err.old err.new) }
+    {
+        self.tell_head(err)?;
+        write(err, b"\n")
+    }
+
+    // Writes the line up to its LF.
+    fn tell_head<E: Sink>(self, err: &mut E) -> Result<(), Failed>
+        ensures { Writes (codes "skk: " ++ fault_words self) result (moved_sink E.written E.faults err.old err.new) }
+    {
+        write(err, b"skk: ")?;
+        self.tell_words(err)
+    }
+
+    // Writes the words of the line.
+    fn tell_words<E: Sink>(self, err: &mut E) -> Result<(), Failed>
+        ensures { Writes (fault_words self) result (moved_sink E.written E.faults err.old err.new) }
     {
         match self {
-            RunFault::Words => write_all(err, b"skk: words\n"),
-            RunFault::TooLong => write_all(err, b"skk: script too long\n"),
-            RunFault::BadLine { number } => tell_number(err, b"skk: line ", number, b"\n"),
-            RunFault::LongRules => write_all(err, b"skk: rules too long\n"),
-            RunFault::BadRules { at } => tell_number(err, b"skk: rules byte ", at, b"\n"),
-            RunFault::BadRule { number } => tell_number(err, b"skk: rules line ", number, b"\n"),
-            RunFault::LongDictionary { number } => {
-                tell_number(err, b"skk: dictionary ", number, b" too long\n")
-            }
-            RunFault::BadDictionary { number, at } => {
-                tell_number(err, b"skk: dictionary ", number, b" byte ")?;
-                tell_number(err, b"", at, b"\n")
-            }
-            RunFault::Outside => write_all(err, b"skk: outside\n"),
-            RunFault::Memory => write_all(err, b"skk: memory\n"),
-            RunFault::NotBuilt => write_all(err, b"skk: not built\n"),
+            RunFault::Words => write(err, b"words"),
+            RunFault::Refused { file, flaw } => tell_refused(file, flaw, err),
+            RunFault::Outside => write(err, b"outside"),
+            RunFault::Memory => write(err, b"memory"),
+            RunFault::NotBuilt => write(err, b"not built"),
         }
     }
 }
 
-// Writes a number in decimal, with what stands before it and behind it.
-fn tell_number<E: Sink>(
-    err: &mut E,
-    before: &[u8],
-    number: usize,
-    behind: &[u8],
-) -> Result<(), Failed>
-    ensures ok { OnOk result (Appends (E.written err.old) (E.written err.new) (before.now ++ decimal number ++ behind.now)) }
-    ensures err { OnErr result (AppendsPrefix (E.written err.old) (E.written err.new) (before.now ++ decimal number ++ behind.now)) }
-    ensures failed { OnErr result (Rose (E.faults err.old) (E.faults err.new)) }
-    ensures counted { E.faults err.old ≤ E.faults err.new }
+// Writes the words of a file and of its flaw.
+fn tell_refused<E: Sink>(file: RunFile, flaw: Flaw, err: &mut E) -> Result<(), Failed>
+    ensures { Writes (file_words file flaw ++ flaw_words flaw) result (moved_sink E.written E.faults err.old err.new) }
 {
-    write_all(err, before)?;
-    write_all(err, Buffer::new().format(number).as_bytes())?;
-    write_all(err, behind)
+    tell_file(file, flaw, err)?;
+    tell_flaw(flaw, err)
+}
+
+// Writes the words that name a file in front of its flaw.
+fn tell_file<E: Sink>(file: RunFile, flaw: Flaw, err: &mut E) -> Result<(), Failed>
+    ensures { Writes (file_words file flaw) result (moved_sink E.written E.faults err.old err.new) }
+{
+    match (file, flaw) {
+        (RunFile::Script, Flaw::Line { number: _ }) => write(err, b""),
+        (RunFile::Script, _) => write(err, b"script "),
+        (RunFile::Rules, _) => write(err, b"rules "),
+        (RunFile::Dictionary { number }, _) => tell_dictionary(number, err),
+    }
+}
+
+// Writes the words that name the dictionary of a number.
+fn tell_dictionary<E: Sink>(number: usize, err: &mut E) -> Result<(), Failed>
+    ensures { Writes (codes "dictionary " ++ decimal number ++ codes " ") result
+        (moved_sink E.written E.faults err.old err.new) }
+{
+    write_numbered(err, b"dictionary ", number)?;
+    write(err, b" ")
+}
+
+// Writes the words of a flaw.
+fn tell_flaw<E: Sink>(flaw: Flaw, err: &mut E) -> Result<(), Failed>
+    ensures { Writes (flaw_words flaw) result (moved_sink E.written E.faults err.old err.new) }
+{
+    match flaw {
+        Flaw::TooLong => write(err, b"too long"),
+        Flaw::Byte { at } => write_numbered(err, b"byte ", at),
+        Flaw::Line { number } => write_numbered(err, b"line ", number),
+    }
+}
+
+// Writes bytes, and behind them a number in decimal.
+fn write_numbered<E: Sink>(err: &mut E, before: &[u8], number: usize) -> Result<(), Failed>
+    ensures { Writes (before.now ++ decimal number) result (moved_sink E.written E.faults err.old err.new) }
+{
+    write(err, before)?;
+    write(err, Buffer::new().format(number).as_bytes())
 }
 
 impl From<Memory> for RunFault {
@@ -171,21 +191,6 @@ impl From<PressFault> for RunFault {
     }
 }
 
-impl From<ReadFault> for RunFault {
-    ghost use Rattle.std.specs.Prelude.{◌≡◌};
-    ghost use Rattle.skk_top.specs.Status.{fault_of_read};
-
-    ghost from_gives = { λ fault told. told ≡ fault_of_read fault };
-
-    fn from(fault: ReadFault) -> RunFault {
-        match fault {
-            ReadFault::TooLong => RunFault::TooLong,
-            ReadFault::Failed => RunFault::Outside,
-            ReadFault::Memory => RunFault::Memory,
-        }
-    }
-}
-
 impl From<ScriptFault> for RunFault {
     ghost use Rattle.std.specs.Prelude.{◌≡◌};
     ghost use Rattle.skk_top.specs.Status.{fault_of_script};
@@ -194,7 +199,10 @@ impl From<ScriptFault> for RunFault {
 
     fn from(fault: ScriptFault) -> RunFault {
         match fault {
-            ScriptFault::BadLine { number } => RunFault::BadLine { number },
+            ScriptFault::BadLine { number } => RunFault::Refused {
+                file: RunFile::Script,
+                flaw: Flaw::Line { number },
+            },
             ScriptFault::Memory => RunFault::Memory,
         }
     }

@@ -27,6 +27,8 @@ impl Run {
 pub struct Finish {
     /// The status to exit with.
     pub status: u8,
+    /// How the run ended.
+    pub ended: Result<(), RunFault>,
     /// What the run called, for contracts alone.
     pub chronicle: Chronicle,
 }

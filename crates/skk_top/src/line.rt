@@ -1,4 +1,5 @@
-ghost use Rattle.std.specs.Prelude.{◌≡◌, ◌≢◌, ◌<◌, ◌≤◌, ◌⊎◌, [], ◌++◌, ◌∷◌, IfOk, IsErrOf, IfSome, IsNone, MatchOption, ℕ, Option, List, length, slice_index};
+ghost use Rattle.std.specs.Prelude.{◌≡◌, ◌≢◌, ◌<◌, ◌≤◌, ◌⊎◌, [], ◌++◌, ◌∷◌, IfOk, IsErrOf, IfSome, IsNone, MatchOption};
+ghost use Rattle.std.specs.Prelude.{ℕ, Option, List, length, slice_index};
 ghost use Rattle.std.specs.Fmt.{decimal};
 ghost use Rattle.skk_text.specs.Characters.{code};
 ghost use Rattle.skk_text.specs.Lines.{lines_of};
@@ -114,7 +115,8 @@ fn typist_and_book(text: &[u8]) -> Option<(u16, u16)>
 
 /// The first line without its LF, and what follows it; nothing where there is no line.
 pub fn next_line(bytes: &[u8]) -> Option<(&[u8], &[u8])>
-    ensures { MatchOption result (bytes.now ≡ []) (λ p. (lines_of bytes.now ≡ p.0.now ∷ lines_of p.1.now) × (length p.1.now < length bytes.now)) }
+    ensures { MatchOption result (bytes.now ≡ [])
+        (λ p. (lines_of bytes.now ≡ p.0.now ∷ lines_of p.1.now) × (length p.1.now < length bytes.now)) }
 {
     if bytes.is_empty() {
         return None;

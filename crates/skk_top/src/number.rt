@@ -1,4 +1,5 @@
-ghost use Rattle.std.specs.Prelude.{◌≡◌, ◌≢◌, ◌≤◌, ◌<◌, ◌^◌, ◌++◌, ◌∷◌, ℕ, List, length, slice_index, IfSome, IsNone, MatchOption};
+ghost use Rattle.std.specs.Prelude.{◌≡◌, ◌≢◌, ◌≤◌, ◌<◌, ◌^◌, ◌++◌, ◌∷◌, ℕ, List, length, slice_index, IfSome, IsNone};
+ghost use Rattle.std.specs.Prelude.{MatchOption};
 ghost use Rattle.std.specs.Fmt.{decimal};
 ghost use Rattle.std.specs.Int.{IsInRange};
 ghost use Rattle.std.specs.Str.{chars};
@@ -58,7 +59,8 @@ pub fn number_within(text: &str, least: u64, most: u64) -> Option<u64>
 // The number that the text writes, without a sign and without leading zeros. Nothing where it writes none, or one that
 // no `u64` has.
 fn long_number(text: &str) -> Option<u64>
-    ensures { MatchOption result ((number : ℕ) → number < 2 ^ 64 → text.now ≢ decimal number) (λ found. text.now ≡ decimal found) }
+    ensures { MatchOption result ((number : ℕ) → number < 2 ^ 64
+        → text.now ≢ decimal number) (λ found. text.now ≡ decimal found) }
 {
     let number = text.parse::<u64>().ok()?;
     if Buffer::new().format(number) != text {

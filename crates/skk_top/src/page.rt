@@ -1,8 +1,8 @@
 ghost use Rattle.std.specs.Prelude.{◌≡◌, ◌≤◌, ◌++◌, [], ℕ, List, OnOk, OnErr, encode_utf8_all};
-ghost use Rattle.std.specs.Io.KnownBytes.{Appends};
 ghost use Rattle.skk_outside.specs.Faults.{Rose};
+ghost use Rattle.skk_outside.specs.Moved.{moved_sink};
 ghost use Rattle.skk_outside.specs.Written.{AppendsPrefix};
-ghost use Rattle.skk_top.specs.Page.{Printed};
+ghost use Rattle.skk_top.specs.Page.{Printed, Writes};
 
 use skk_outside::{Failed, Sink, write_all};
 use skk_text::Text;
@@ -11,14 +11,18 @@ use std::alloc::Global;
 /// How many bytes a page has before it is written.
 const PAGE: usize = 65536;
 
+/// Writes bytes.
+pub fn write<O: Sink>(out: &mut O, bytes: &[u8]) -> Result<(), Failed>
+    ensures { Writes bytes.now result (moved_sink O.written O.faults out.old out.new) }
+{
+    write_all(out, bytes)
+}
+
 /// Writes a page.
 pub fn print<O: Sink>(out: &mut O, page: &Text) -> Result<(), Failed>
-    ensures ok { OnOk result (Appends (O.written out.old) (O.written out.new) (encode_utf8_all page.now)) }
-    ensures err { OnErr result (AppendsPrefix (O.written out.old) (O.written out.new) (encode_utf8_all page.now)) }
-    ensures failed { OnErr result (Rose (O.faults out.old) (O.faults out.new)) }
-    ensures counted { O.faults out.old ≤ O.faults out.new }
+    ensures { Writes (encode_utf8_all page.now) result (moved_sink O.written O.faults out.old out.new) }
 {
-    write_all(out, page.as_str().as_bytes())
+    write(out, page.as_str().as_bytes())
 }
 
 /// Writes a page that is full, and begins a new one.

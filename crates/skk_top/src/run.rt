@@ -1,11 +1,14 @@
-ghost use Rattle.std.specs.Prelude.{◌≡◌, ◌≢◌, ◌≤◌, ◌⊎◌, ◌↔◌, ℕ, List, [], None, IfSome, false, map};
+ghost use Rattle.std.specs.Prelude.{◌≡◌, ◌≤◌, ◌↔◌, ◌+◌, [], None, IfSome, IsErrOf, false};
 ghost use Rattle.std.specs.Io.KnownBytes.{Keeps};
-ghost use Rattle.std.specs.Option.{option_map};
-ghost use Rattle.skk_outside.specs.Faults.{Rose};
+ghost use Rattle.skk_outside.specs.Moved.{moved_shelf, moved_source, moved_sink};
+ghost use Rattle.skk_outside.specs.Taken.{TakesAtMost};
+ghost use Rattle.skk_outside.specs.declared.source.TheConstants.{PIECE};
 ghost use Rattle.skk_top.specs.CheckCommand.{LeavesChecked};
 ghost use Rattle.skk_top.specs.Command.{command_of, files_to_type, file_to_check, are_built_words};
-ghost use Rattle.skk_top.specs.Status.{IsStatus, Tells, message_at};
-ghost use Rattle.skk_top.specs.TypeCommand.{LeavesTypedFrom};
+ghost use Rattle.skk_top.specs.Finishes.{run_of, HasFailed};
+ghost use Rattle.skk_top.specs.Script.{script_limit};
+ghost use Rattle.skk_top.specs.Status.{Tells, run_status, run_message};
+ghost use Rattle.skk_top.specs.TypeCommand.{LeavesTyped};
 
 use crate::check_command::run_check;
 use crate::command::read_command;
@@ -20,6 +23,7 @@ use std::alloc::Global;
 ///
 /// A write on `err` that fails changes no status. Of the input at most one piece more is read than a
 /// script may have, and of a file than a rule file or a dictionary may have.
+#[tactic(auto, using(crate::proofs::Runs::untouched))]
 pub fn run_alone<H: Shelf, I: Source, O: Sink, E: Sink>(
     alloc: Global,
     words: &[Text],
@@ -28,21 +32,23 @@ pub fn run_alone<H: Shelf, I: Source, O: Sink, E: Sink>(
     out: &mut O,
     err: &mut E,
 ) -> Finish
-    ensures status { IsStatus result.status }
+    // The status is made of how the run ended, and so is what is told on standard error.
+    ensures status { result.status ≡ run_status result.ended }
+    ensures told { Tells (run_message result.ended) (moved_sink E.written E.faults err.old err.new) }
 
     // Words that are no command, or a command that is not built.
-    ensures words { (result.status ≡ 1) ↔ (command_of words.now ≡ None) }
-    ensures not_built { IfSome (command_of words.now) (λ command. are_built_words words.now ≡ false → result.status ≡ 8) }
+    ensures words { IsErrOf result.ended RunFault.Words ↔ (command_of words.now ≡ None) }
+    ensures not_built { IfSome (command_of words.now) (λ command.
+        are_built_words words.now ≡ false → IsErrOf result.ended RunFault.NotBuilt) }
     ensures unread { files_to_type words.now ≡ None → Keeps (I.left input.old) (I.left input.new) }
     ensures untouched { are_built_words words.now ≡ false → Keeps (O.written out.old) (O.written out.new) }
+    ensures taken { TakesAtMost (I.left input.old) (I.left input.new) (script_limit + PIECE) }
     ensures uncalled { files_to_type words.now ≡ None → result.chronicle ≡ [] }
 
-    // A call on the outside failed where the status says so.
-    ensures outside { result.status ≡ 4 → Rose (H.faults shelf.old) (H.faults shelf.new)
-        ⊎ (Rose (I.faults input.old) (I.faults input.new) ⊎ Rose (O.faults out.old) (O.faults out.new)) }
-
-    // What is told on standard error.
-    ensures told { result.status ≢ 2 → result.status ≢ 3 → Tells (message_at result.status) (E.written err.old) (E.written err.new) (E.faults err.old) (E.faults err.new) }
+    // A call on the outside failed where the run ended so.
+    ensures outside { IsErrOf result.ended RunFault.Outside → HasFailed
+        (moved_shelf H.file H.faults shelf.old shelf.new) (moved_source I.left I.faults input.old input.new)
+        (moved_sink O.written O.faults out.old out.new) }
 
     // No count of faults falls.
     ensures shelf_counted { H.faults shelf.old ≤ H.faults shelf.new }
@@ -51,20 +57,17 @@ pub fn run_alone<H: Shelf, I: Source, O: Sink, E: Sink>(
     ensures err_counted { E.faults err.old ≤ E.faults err.new }
 
     // What each command leaves.
-    ensures types { IfSome (files_to_type words.now) (λ options. (message : List ℕ)
-        × Tells message (E.written err.old) (E.written err.new) (E.faults err.old) (E.faults err.new)
-        × LeavesTypedFrom (option_map (H.file shelf.old) options.rules) result.status message result.chronicle (map (H.file shelf.old) options.dictionaries.items) (H.faults shelf.old) (H.faults shelf.new)
-        (I.left input.old) (I.left input.new) (I.faults input.old) (I.faults input.new) (O.written out.old) (O.written out.new) (O.faults out.old) (O.faults out.new)) }
-    ensures checks { IfSome (file_to_check words.now) (λ name. (message : List ℕ)
-        × Tells message (E.written err.old) (E.written err.new) (E.faults err.old) (E.faults err.new)
-        × LeavesChecked result.status message (H.file shelf.old name) (H.faults shelf.old) (H.faults shelf.new)
-        (O.written out.old) (O.written out.new) (O.faults out.old) (O.faults out.new)) }
+    ensures types { IfSome (files_to_type words.now) (λ options. LeavesTyped options (run_of result)
+        (moved_shelf H.file H.faults shelf.old shelf.new) (moved_source I.left I.faults input.old input.new)
+        (moved_sink O.written O.faults out.old out.new)) }
+    ensures checks { IfSome (file_to_check words.now) (λ name. LeavesChecked name (run_of result)
+        (moved_shelf H.file H.faults shelf.old shelf.new) (moved_sink O.written O.faults out.old out.new)) }
 {
     let Some(command) = read_command(words) else {
         return end_run(Run::without_calls(Err(RunFault::Words)), err);
     };
     if let Some(name) = command.file_checked() {
-        return end_run(Run::without_calls(run_check(alloc, &name, shelf, out)), err);
+        return end_run(run_check(alloc, &name, shelf, out), err);
     }
     let Some(options) = command.files_alone() else {
         return end_run(Run::without_calls(Err(RunFault::NotBuilt)), err);

@@ -11,16 +11,16 @@ use thiserror::Error;
 /// Why bytes are no script.
 #[derive(Clone, Copy, Debug, PartialEq, Eq, Error)]
 pub enum ScriptFault {
-    /// The first line that is none, counted from 1.
-    #[error("line {number} is none")]
+    /// The first bad line, counted from 1.
+    #[error("line {number} is no line of a script")]
     BadLine { number: usize },
     /// Out of memory.
     #[error("out of memory")]
     Memory,
 }
 
-/// A script that was checked whole: contracts see its lines, of which each opening line has a book that may be. Nothing is
-/// held of the texts that are skipped.
+/// A script that was checked whole: contracts see its lines, of which each opening line has a book that may be. Nothing
+/// is held of the texts that are skipped.
 #[derive(Debug, Drop)]
 pub struct Script {
     lines: Sequence<Line>,
@@ -48,7 +48,8 @@ impl Script {
     /// Reads a script, and checks it whole. Whether a session was named before costs constant time a line.
     pub fn read(alloc: Global, bytes: &[u8]) -> Result<Script, ScriptFault>
         ensures ok { IfOk result (λ lines. Says [] (lines_of bytes.now) lines) }
-        ensures bad { (number : ℕ) → IsErrOf result (ScriptFault.BadLine number) → IsFirstBad (lines_of bytes.now) number }
+        ensures bad { (number : ℕ) → IsErrOf result (ScriptFault.BadLine number)
+            → IsFirstBad (lines_of bytes.now) number }
     {
         let mut lines = Sequence::new(alloc);
         let mut named = [false; 65];
@@ -85,7 +86,8 @@ fn push_line(
     ensures marked { OnOk result (Mark named.new lines.new) }
     ensures ok { OnOk result ((said : Option Line) × Spells text.now said × MayFollow lines.old said
         × (lines.new ≡ with_said lines.old said)) }
-    ensures none { IsErrOf result LineFault.NoLine → (said : Option Line) → Spells text.now said → ¬ MayFollow lines.old said }
+    ensures none { IsErrOf result LineFault.NoLine → (said : Option Line) → Spells text.now said
+        → ¬ MayFollow lines.old said }
 {
     one_list_of_keys();
     let Some(line) = read_line(alloc, text)? else {
@@ -101,7 +103,8 @@ fn push_line(
 // Marks the session of a line. False, where the line opens a session that is marked.
 fn mark(named: &mut [bool; 65], line: &Line) -> bool
     requires { IsSession (session_of line.now) }
-    ensures yes { IsTrue result → (lines : List Line) → Mark named.old lines → MayFollow lines (Some line.now) × Mark named.new (lines ++ line.now ∷ []) }
+    ensures yes { IsTrue result → (lines : List Line) → Mark named.old lines
+        → MayFollow lines (Some line.now) × Mark named.new (lines ++ line.now ∷ []) }
     ensures no { result ≡ false → (lines : List Line) → Mark named.old lines → ¬ MayFollow lines (Some line.now) }
 {
     match line {

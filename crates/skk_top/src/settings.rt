@@ -1,5 +1,7 @@
-ghost use Rattle.std.specs.Prelude.{◌≡◌, ◌≤◌, ◌<◌, ◌++◌, ◌∷◌, [], Some, None, length, IsSome, IsNone, MatchOption, option_copied};
-ghost use Rattle.skk_top.specs.Settings.{times, texts_of, value_given, text_given, text_of, number_given, number_or, is_given, fits};
+ghost use Rattle.std.specs.Prelude.{◌≡◌, ◌≤◌, ◌<◌, ◌++◌, ◌∷◌, [], Some, None, length, IsSome, IsNone, MatchOption};
+ghost use Rattle.std.specs.Prelude.{option_copied};
+ghost use Rattle.skk_top.specs.Settings.{times, texts_of, value_given, text_given, text_of, number_given, number_or};
+ghost use Rattle.skk_top.specs.Settings.{is_given, fits};
 
 use crate::argument::Argument;
 use crate::setting::{Setting, Value};
@@ -100,7 +102,8 @@ impl<'a> Settings<'a> {
 
     /// The texts of an argument in their order, where they are not too many for a command.
     pub fn texts(&self, argument: Argument) -> Option<ArrayVec<Word<'a>, DICTIONARIES>>
-        ensures { MatchOption result (16 < times argument self.now) (λ texts. texts.items ≡ texts_of argument self.now) }
+        ensures { MatchOption result (16 < times argument self.now)
+            (λ texts. texts.items ≡ texts_of argument self.now) }
     {
         let mut texts = ArrayVec::new();
         for setting in self.list.as_slice() {

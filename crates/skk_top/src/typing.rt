@@ -1,16 +1,13 @@
-ghost use Rattle.std.specs.Prelude.{◌≡◌, ◌≤◌, ◌++◌, ◌∷◌, ℕ, List, [], OnOk, OnErr, IfErr, IsErrOf, IfOk, false, true, encode_utf8_all};
+ghost use Rattle.std.specs.Prelude.{◌≡◌, ◌≤◌, ◌++◌, [], OnOk, OnErr, IfErr, IfOk, true, encode_utf8_all};
 ghost use Rattle.std.specs.List.{list_all};
-ghost use Rattle.skk_outside.specs.Faults.{Rose};
+ghost use Rattle.skk_outside.specs.Moved.{moved_sink};
 ghost use Rattle.skk_outside.specs.Written.{AppendsPrefix};
-ghost use Rattle.skk_calls.specs.Interactions.{ends};
 ghost use Rattle.session_machine.specs.Session.{Session, new_session};
-ghost use Rattle.skk_top.specs.Page.{Printed};
+ghost use Rattle.skk_top.specs.Page.{Printed, StopsPrinting};
 ghost use Rattle.skk_top.specs.Script.{opens_well};
 ghost use Rattle.skk_top.specs.Sessions.{session_at, session_or_new, with_session};
-ghost use Rattle.skk_top.specs.Status.{HasStatus};
-ghost use Rattle.skk_top.specs.TypeCommand.{LeavesLines};
 ghost use Rattle.skk_top.specs.Typed.{typing, closing_lines};
-ghost use Rattle.skk_top.specs.Typing.{TypesLine, Reaches, Stops};
+ghost use Rattle.skk_top.specs.Typing.{stand, TypesLine, Reaches, Breaks, BreaksFor, LeavesLines};
 
 use crate::fault::RunFault;
 use crate::line::Line;
@@ -34,7 +31,9 @@ pub fn type_script<C: Caller, O: Sink>(
     out: &mut O,
 ) -> Result<(), RunFault>
     requires { list_all opens_well lines.now ≡ true }
-    ensures { LeavesLines rules.now lines.now result (C.said caller.old) (C.said caller.new) (O.written out.old) (O.written out.new) (O.faults out.old) (O.faults out.new) }
+    ensures leaves { LeavesLines (typing rules.now [] lines.now) result (C.said caller.old) (C.said caller.new)
+        (moved_sink O.written O.faults out.old out.new) }
+    ensures counted { O.faults out.old ≤ O.faults out.new }
 {
     print_script(alloc, rules, lines, caller, out)?;
     out.flush()?;
@@ -50,7 +49,9 @@ fn print_script<C: Caller, O: Sink>(
     out: &mut O,
 ) -> Result<(), RunFault>
     requires { list_all opens_well lines.now ≡ true }
-    ensures { LeavesLines rules.now lines.now result (C.said caller.old) (C.said caller.new) (O.written out.old) (O.written out.new) (O.faults out.old) (O.faults out.new) }
+    ensures leaves { LeavesLines (typing rules.now [] lines.now) result (C.said caller.old) (C.said caller.new)
+        (moved_sink O.written O.faults out.old out.new) }
+    ensures counted { O.faults out.old ≤ O.faults out.new }
 {
     let mut sessions = BTreeMap::new(alloc);
     let mut page = Text::new(alloc);
@@ -82,13 +83,11 @@ fn type_lines<C: Caller, O: Sink>(
     requires none_there { sessions.old.entries ≡ [] }
     requires empty { page.old ≡ [] }
     ensures ok { OnOk result (Reaches (typing rules.now [] lines.now) (typing rules.now sessions.new.entries [])
-        (C.said caller.old) (C.said caller.new) (O.written out.old) (O.written out.new) page.new) }
-    ensures not_built { IsErrOf result RunFault.NotBuilt → Reaches (typing rules.now [] lines.now) (ends false)
-        (C.said caller.old) (C.said caller.new) (O.written out.old) (O.written out.new) page.new }
-    ensures err { OnErr result (Stops (typing rules.now [] lines.now)
-        (C.said caller.old) (C.said caller.new) (O.written out.old) (O.written out.new)) }
-    ensures outside { IsErrOf result RunFault.Outside → Rose (O.faults out.old) (O.faults out.new) }
-    ensures fault { IfErr result (HasStatus (4 ∷ 6 ∷ 8 ∷ [])) }
+        (C.said caller.old) (C.said caller.new) (moved_sink O.written O.faults out.old out.new) page.new) }
+    ensures err { OnErr result (Breaks (typing rules.now [] lines.now)
+        (C.said caller.old) (C.said caller.new) (moved_sink O.written O.faults out.old out.new)) }
+    ensures stopped { IfErr result (BreaksFor (typing rules.now [] lines.now)
+        (C.said caller.old) (C.said caller.new) (moved_sink O.written O.faults out.old out.new) page.new) }
     ensures counted { O.faults out.old ≤ O.faults out.new }
 {
     for line in lines {
@@ -108,7 +107,9 @@ fn type_line<C: Caller>(
     caller: &mut C,
 ) -> Result<(), PressFault>
     requires { opens_well line.now ≡ true }
-    ensures { TypesLine rules.now line.now result sessions.old.entries sessions.new.entries page.old page.new (C.said caller.old) (C.said caller.new) }
+    ensures { TypesLine rules.now line.now result
+        (stand sessions.old.entries page.old (C.said caller.old))
+        (stand sessions.new.entries page.new (C.said caller.new)) }
 {
     match line {
         Line::Keys { session, keys } => {
@@ -135,7 +136,9 @@ fn type_keys<C: Caller>(
     page: &mut Text,
     caller: &mut C,
 ) -> Result<(), PressFault>
-    ensures { TypesLine rules.now (Line.Keys number keys.now) result sessions.old.entries sessions.new.entries page.old page.new (C.said caller.old) (C.said caller.new) }
+    ensures { TypesLine rules.now (Line.Keys number keys.now) result
+        (stand sessions.old.entries page.old (C.said caller.old))
+        (stand sessions.new.entries page.new (C.said caller.new)) }
 {
     let session = take_session(alloc, number, sessions)?;
     let next = session.play(alloc, rules, keys.as_slice(), caller)?;
@@ -152,7 +155,8 @@ fn take_session(
     sessions: &mut BTreeMap<u8, Session>,
 ) -> Result<Session, Memory>
     ensures session { IfOk result (λ session. session ≡ session_or_new sessions.old.entries number) }
-    ensures others { OnOk result ((session : Session) → with_session sessions.new.entries number session ≡ with_session sessions.old.entries number session) }
+    ensures others { OnOk result ((session : Session)
+        → with_session sessions.new.entries number session ≡ with_session sessions.old.entries number session) }
 {
     let before = put_session(number, new_session(alloc, number), sessions)?;
     Ok(before.unwrap_or(new_session(alloc, number)))
@@ -185,11 +189,11 @@ fn close_sessions<O: Sink>(
     page: &mut Text,
     out: &mut O,
 ) -> Result<(), RunFault>
-    ensures ok { OnOk result (Printed (O.written out.old) (O.written out.new) page.new [] (page.old ++ closing_lines sessions.now.entries)) }
-    ensures err { OnErr result (AppendsPrefix (O.written out.old) (O.written out.new) (encode_utf8_all (page.old ++ closing_lines sessions.now.entries))) }
-    ensures outside { IsErrOf result RunFault.Outside → Rose (O.faults out.old) (O.faults out.new) }
-    ensures fault { IfErr result (HasStatus (4 ∷ 6 ∷ 8 ∷ [])) }
-    ensures built { IsErrOf result RunFault.NotBuilt → ⊥ }
+    ensures ok { OnOk result
+        (Printed (O.written out.old) (O.written out.new) page.new [] (page.old ++ closing_lines sessions.now.entries)) }
+    ensures err { OnErr result (AppendsPrefix (O.written out.old) (O.written out.new)
+        (encode_utf8_all (page.old ++ closing_lines sessions.now.entries))) }
+    ensures stopped { IfErr result (StopsPrinting (moved_sink O.written O.faults out.old out.new)) }
     ensures counted { O.faults out.old ≤ O.faults out.new }
 {
     for (number, session) in sessions {

@@ -103,7 +103,8 @@ fn is_name(text: &str) -> bool
 
 // What stands in a text before and behind its first `=`, where it has one.
 fn cut(text: &str) -> Option<(&str, &str)>
-    ensures { MatchOption result (cut (chars text.now) ≡ None) (λ parts. cut (chars text.now) ≡ Some (chars parts.0.now, chars parts.1.now)) }
+    ensures { MatchOption result (cut (chars text.now) ≡ None)
+        (λ parts. cut (chars text.now) ≡ Some (chars parts.0.now, chars parts.1.now)) }
 {
     text.split_once('=')
 }

@@ -1,45 +1,57 @@
-use Rattle.std.proofs.Common.{refl, sym, ap, subst, Err, arith, encode_utf8_all}
+use Rattle.std.proofs.Common.{sym, subst, arith, encode_utf8_all}
 use Rattle.std.proofs.lemmas.Str.{encodes-append}
+use Rattle.skk_outside.specs.Moved.{moved_sink}
 use Rattle.skk_outside.specs.Written.{AppendsPrefix}
 use Rattle.skk_top.specs.CheckedFiles.{bad_lines, counts_line, checked}
 use Rattle.skk_top.specs.declared.fault.RunFault.TheVariants.{Outside, Memory}
 use Rattle.skk_top.proofs.Pages.{AppendsPrefix-more, Printed-prefix, Printed-prefix_of_page, Printed-whole}
-use Rattle.skk_top.proofs.PrintedChecks.{printed-fault, printed-whole, Printed-longer}
-use Rattle.skk_top.proofs.Typed.{Rose-behind}
+use Rattle.skk_top.proofs.PrintedChecks.{printed-fault, Printed-longer}
 use Rattle.skk_top.proofs.checking.print_lines.Goals as goal
 
 pub returns-in_err-print_bad_lines : goal.returns-in_err-print_bad_lines
 returns-in_err-print_bad_lines g c =
     let bad = bad_lines c.args.listed.now.bad in
     let counts = counts_line c.args.listed.now in
-    let fault = c.in_err-print_bad_lines.field-0.0 in
-    printed-fault (checked c.args.listed.now) c.from_residual.result fault _ _ _ _ c.from_residual.ensures.1
-    (subst (AppendsPrefix _ _) (sym (encodes-append bad counts)) (AppendsPrefix-more _ _ (encode_utf8_all bad) (encode_utf8_all counts) (rw c.as_slice.ensures at c.in_err-print_bad_lines.ensures.err)))
-    (λ e. c.in_err-print_bad_lines.ensures.outside (ap Err e)) c.in_err-print_bad_lines.ensures.fault c.in_err-print_bad_lines.ensures.counted
+    let out = moved_sink g.O.Sink.written g.O.Outside.faults c.args.out.now c.print_bad_lines.new.out in
+    printed-fault (checked c.args.listed.now) c.from_residual.result c.in_err-print_bad_lines.field-0.0 out
+    c.from_residual.ensures.1
+    (subst (AppendsPrefix _ _) (sym (encodes-append bad counts)) (AppendsPrefix-more _ _ (encode_utf8_all bad)
+    (encode_utf8_all counts) (rw c.as_slice.ensures at c.in_err-print_bad_lines.ensures.err)))
+    c.in_err-print_bad_lines.ensures.stopped c.in_err-print_bad_lines.ensures.counted
 
 pub returns-in_err-push_counts : goal.returns-in_err-push_counts
 returns-in_err-push_counts g c =
     let bad = bad_lines c.args.listed.now.bad in
     let counts = counts_line c.args.listed.now in
-    printed-fault (checked c.args.listed.now) c.from_residual-in_err-push_counts.result Memory _ _ _ _ c.from_residual-in_err-push_counts.ensures.1
-    (subst (AppendsPrefix _ _) (sym (encodes-append bad counts)) (AppendsPrefix-more _ _ (encode_utf8_all bad) (encode_utf8_all counts)
+    let out = moved_sink g.O.Sink.written g.O.Outside.faults c.args.out.now c.print_bad_lines.new.out in
+    printed-fault (checked c.args.listed.now) c.from_residual-in_err-push_counts.result Memory out
+    c.from_residual-in_err-push_counts.ensures.1
+    (subst (AppendsPrefix _ _) (sym (encodes-append bad counts))
+    (AppendsPrefix-more _ _ (encode_utf8_all bad) (encode_utf8_all counts)
     (Printed-prefix _ _ c.print_bad_lines.new.page _ _ (rw c.as_slice.ensures at c.in_ok-print_bad_lines.ensures.ok))))
-    (λ e. cc) refl c.in_ok-print_bad_lines.ensures.counted
+    tt c.in_ok-print_bad_lines.ensures.counted
 
 pub returns-in_err-print : goal.returns-in_err-print
 returns-in_err-print g c =
     let bad = bad_lines c.args.listed.now.bad in
     let counts = counts_line c.args.listed.now in
-    printed-fault (checked c.args.listed.now) c.from_residual-in_err-print.result Outside _ _ _ _ c.from_residual-in_err-print.ensures.1
-    (Printed-prefix_of_page _ _ _ c.push_counts.new.page _ _
-    (Printed-longer _ _ c.print_bad_lines.new.page bad counts c.push_counts.new.page c.in_ok-push_counts.ensures (rw c.as_slice.ensures at c.in_ok-print_bad_lines.ensures.ok)) c.in_err-print.ensures.err)
-    (λ e. Rose-behind _ _ _ c.in_ok-print_bad_lines.ensures.counted c.in_err-print.ensures.failed) refl (omega (arith, c.in_ok-print_bad_lines.ensures.counted, c.in_err-print.ensures.counted))
+    let out = moved_sink g.O.Sink.written g.O.Outside.faults c.args.out.now c.print.new.out in
+    printed-fault (checked c.args.listed.now) c.from_residual-in_err-print.result Outside out
+    c.from_residual-in_err-print.ensures.1 (Printed-prefix_of_page _ _ _ c.push_counts.new.page _ _
+    (Printed-longer _ _ c.print_bad_lines.new.page bad counts c.push_counts.new.page c.in_ok-push_counts.ensures
+    (rw c.as_slice.ensures at c.in_ok-print_bad_lines.ensures.ok)) c.in_err-print.ensures.prefix)
+    (omega (arith, c.in_ok-print_bad_lines.ensures.counted, c.in_err-print.ensures.failed))
+    (omega (arith, c.in_ok-print_bad_lines.ensures.counted, c.in_err-print.ensures.counted))
 
 pub returns : goal.returns
 returns g c =
     let bad = bad_lines c.args.listed.now.bad in
     let counts = counts_line c.args.listed.now in
-    printed-whole (checked c.args.listed.now) _ _ _ _
-    (Printed-whole _ _ _ c.push_counts.new.page _
-    (Printed-longer _ _ c.print_bad_lines.new.page bad counts c.push_counts.new.page c.in_ok-push_counts.ensures (rw c.as_slice.ensures at c.in_ok-print_bad_lines.ensures.ok)) c.in_ok-print.ensures.ok)
-    (omega (arith, c.in_ok-print_bad_lines.ensures.counted, c.in_ok-print.ensures.counted))
+    record {
+      whole = Printed-whole _ _ _ c.push_counts.new.page _
+          (Printed-longer _ _ c.print_bad_lines.new.page bad counts c.push_counts.new.page c.in_ok-push_counts.ensures
+          (rw c.as_slice.ensures at c.in_ok-print_bad_lines.ensures.ok)) c.in_ok-print.ensures.whole;
+      prefix = tt;
+      stopped = tt;
+      counted = omega (arith, c.in_ok-print_bad_lines.ensures.counted, c.in_ok-print.ensures.counted);
+    }

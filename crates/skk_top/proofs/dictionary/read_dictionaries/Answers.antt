@@ -1,18 +1,23 @@
-use Rattle.std.proofs.Common.{◌≡◌, ◌+◌, ◌∙◌, [], ◌∷◌, ◌++◌, sym, ap, subst, refl, rules, map, take, get_or, arith, length, length-append, Result, Ok, Err, Option, IfSome, List, ℕ}
+use Rattle.std.proofs.Common.{◌≡◌, ◌+◌, ◌∙◌, [], ◌∷◌, ◌++◌, sym, ap, subst, refl, map, take, get_or, arith, length}
+use Rattle.std.proofs.Common.{length-append, IfSome, List, ℕ}
 use Rattle.std.proofs.lemmas.List.{map-append, take_more}
 use Rattle.skk_calls.specs.Rows.{Row}
-use Rattle.dict_format.specs.declared.file.Listed.{Listed}
-use Rattle.skk_top.specs.Dictionaries.{AreRowsOf, ListsRows, LeavesDictionary, LeavesDictionaries}
-use Rattle.skk_top.specs.declared.fault.RunFault.{RunFault}
-use Rattle.skk_top.proofs.Dictionaries.{leaves-stopped, rows-more}
+use Rattle.dict_format.specs.FileLines.{Lists}
+use Rattle.skk_outside.specs.Moved.{Told}
+use Rattle.skk_top.specs.Dictionaries.{AreRowsOf, HasDictionaryFlaw, ListsRows, RefusesDictionaries}
+use Rattle.skk_top.specs.RunFiles.{RefusesFile}
+use Rattle.skk_top.specs.declared.fault.RunFault.TheVariants.{Memory}
+use Rattle.skk_top.specs.declared.run_file.RunFile.TheVariants.{Dictionary}
+use Rattle.skk_top.proofs.Dictionaries.{refuses-first, rows-more}
+use Rattle.skk_top.proofs.RunFiles.{handed-on}
 use Rattle.skk_top.proofs.Runs.{each_some}
 use Rattle.skk_top.proofs.dictionary.read_dictionaries.Goals as goal
 
--- a file is told as it was before
-told-before : (number : ℕ) (result : Result Listed RunFault) (reads reads' : ℕ) (name item : List ℕ) (tells before : List ℕ → Option (List ℕ)) → item ≡ name → tells ≡ before
-    → LeavesDictionary number result (tells item) reads reads' → LeavesDictionary number result (before name) reads reads'
-told-before number result reads reads' name item tells before is same leaves =
-    subst (λ (told : List ℕ → Option (List ℕ)). LeavesDictionary number result (told name) reads reads') same (subst (λ (n : List ℕ). LeavesDictionary number result (tells n) reads reads') is leaves)
+-- what holds of a file of a name holds of that of the same name before
+told-before : (P : Told → Type 0) (name item : List ℕ) (tells before : List ℕ → Told) → item ≡ name → tells ≡ before
+    → P (tells item) → P (before name)
+told-before P name item tells before is same has =
+    subst (λ (told : List ℕ → Told). P (told name)) same (subst (λ (n : List ℕ). P (tells n)) is has)
 
 pub loop-name-preserved : goal.loop-name-preserved
 loop-name-preserved g c =
@@ -22,27 +27,42 @@ loop-name-preserved g c =
     let name = get_or names k c.name-item.result in
     let item : c.name-item.result ≡ name = c.name-item.is in
     let files : map tells (take (k + 1) names) ≡ map tells (take k names) ++ tells name ∷ [] =
-    ap (map tells) (take_more names k c.name-item.result c.loop-name-test.true) ∙ map-append tells (take k names) (name ∷ []) in
-    let leaves = told-before (c.len.result + 1) (Ok c.in_ok-listed.listed) (g.H.Outside.faults c.loop-name.shelf) (g.H.Outside.faults c.read_dictionary.new.shelf) name c.name-item.result (g.H.Shelf.file c.loop-name.shelf) tells item c.loop-name.invariant.kept c.in_ok-listed.ensures.leaves in
-    let book = c.in_ok-listed.listed.book in
-    let more : IfSome (tells name) (λ bytes. ListsRows bytes book) = each_some (tells name) (λ bytes is. (c.in_ok-listed.listed, is.0, refl)) leaves.whole in
+    ap (map tells) (take_more names k c.name-item.result c.loop-name-test.true)
+    ∙ map-append tells (take k names) (name ∷ []) in
+    let listed = c.in_ok-listed.listed in
+    let lists = told-before (λ told. IfSome told (λ bytes. Lists bytes listed)) name c.name-item.result
+    (g.H.Shelf.file c.loop-name.shelf) tells item c.loop-name.invariant.kept c.in_ok-listed.ensures.lists in
+    let more : IfSome (tells name) (λ bytes. ListsRows bytes listed.book) =
+    each_some (tells name) (λ bytes is. (listed, is, refl)) lists in
     record {
-      rows = subst (λ (books : List (List Row)). AreRowsOf books (map tells (take (k + 1) names))) (sym c.in_ok-push.ensures.ok)
-          (subst (AreRowsOf (c.loop-name.books ++ book ∷ [])) (sym files) (rows-more c.loop-name.books book (map tells (take k names)) (tells name) c.loop-name.invariant.rows more));
-      count = ap length c.in_ok-push.ensures.ok ∙ length-append c.loop-name.books (book ∷ []) ∙ ap (λ n. n + 1) c.loop-name.invariant.count;
+      rows =
+          subst (λ (books : List (List Row)). AreRowsOf books (map tells (take (k + 1) names)))
+          (sym c.in_ok-push.ensures.ok)
+          (subst (AreRowsOf (c.loop-name.books ++ listed.book ∷ [])) (sym files) (rows-more c.loop-name.books
+          listed.book (map tells (take k names)) (tells name) c.loop-name.invariant.rows more));
+      count =
+          ap length c.in_ok-push.ensures.ok ∙ length-append c.loop-name.books (listed.book ∷ [])
+          ∙ ap (λ n. n + 1) c.loop-name.invariant.count;
       kept = c.in_ok-listed.ensures.kept ∙ c.loop-name.invariant.kept;
-      counted = omega (arith, c.loop-name.invariant.counted, leaves.counted);
+      counted = omega (arith, c.loop-name.invariant.counted, c.in_ok-listed.ensures.counted);
     }
 
-pub returns-in_err-listed : goal.returns-in_err-listed
-returns-in_err-listed g c =
+pub returns-in_err-listed-clause-refused : goal.returns-in_err-listed-clause-refused
+returns-in_err-listed-clause-refused g c =
     let tells = g.H.Shelf.file c.args.shelf.now in
     let names = c.args.names.now in
-    let name = get_or names c.loop-name.name-index c.name-item.result in
+    let k = c.loop-name.name-index in
+    let name = get_or names k c.name-item.result in
     let item : c.name-item.result ≡ name = c.name-item.is in
     let fault = c.in_err-listed.field-0.0 in
-    let is : c.from_residual.result ≡ Err fault = search rules in
-    let leaves = told-before (c.len.result + 1) (Err fault) (g.H.Outside.faults c.loop-name.shelf) (g.H.Outside.faults c.read_dictionary.new.shelf) name c.name-item.result (g.H.Shelf.file c.loop-name.shelf) tells item c.loop-name.invariant.kept c.in_err-listed.ensures.leaves in
-    subst (λ (r : Result (List (List Row)) RunFault). LeavesDictionaries r (map tells names) (g.H.Outside.faults c.args.shelf.now) (g.H.Outside.faults c.read_dictionary.new.shelf)) (sym is)
-    (leaves-stopped tells c.loop-name.books names c.name-item.result c.loop-name.name-index _ fault _ _ _ c.loop-name-test.true c.loop-name.invariant.count (ap (λ n. n + 1) c.len.ensures) c.loop-name.invariant.rows
-    c.loop-name.invariant.counted leaves (λ rose. omega (arith, rose, c.loop-name.invariant.counted)))
+    let middle = g.H.Outside.faults c.loop-name.shelf in
+    let after = g.H.Outside.faults c.read_dictionary.new.shelf in
+    let refused =
+    told-before (λ told. RefusesFile (Dictionary (c.len.result + 1)) HasDictionaryFlaw told middle after fault) name
+    c.name-item.result (g.H.Shelf.file c.loop-name.shelf) tells item c.loop-name.invariant.kept
+    c.in_err-listed.ensures.refused in
+    handed-on (RefusesDictionaries (map tells names) (g.H.Outside.faults c.args.shelf.now) after) c.from_residual.result
+    fault c.from_residual.ensures.1
+    (refuses-first tells c.loop-name.books names c.name-item.result k (c.len.result + 1) fault _ middle after
+    c.loop-name-test.true c.loop-name.invariant.count (ap (λ n. n + 1) c.len.ensures) c.loop-name.invariant.rows
+    c.loop-name.invariant.counted refused)

@@ -11,4 +11,5 @@ returns-then-end-bytes c =
 pub returns : goal.returns
 returns c =
     let within : c.line_end-end.result < length c.args.bytes.now = omega arith in
-    cut-line c.args.bytes.now c.line_end-end.result within c.line_end-end.ensures.none_before (c.line_end-end.ensures.found within)
+    cut-line c.args.bytes.now c.line_end-end.result within c.line_end-end.ensures.none_before
+    (c.line_end-end.ensures.found within)

@@ -4,7 +4,8 @@ use Rattle.skk_top.proofs.Pages.{same-fault}
 use Rattle.skk_top.proofs.LineReading.{line-follows}
 use Rattle.skk_top.proofs.Scripts.{return-no_line}
 use Rattle.skk_top.proofs.line.read_line.Goals as goal
-use Rattle.skk_top.proofs.line.read_line.Goals.{then-session-lt1-via-then-session-lt1, then-session-lt1-via-else-session-lt1+then-session-gt-SESSIONS}
+use Rattle.skk_top.proofs.line.read_line.Goals.{then-session-lt1-via-then-session-lt1}
+use Rattle.skk_top.proofs.line.read_line.Goals.{then-session-lt1-via-else-session-lt1+then-session-gt-SESSIONS}
 
 pub returns-then-contains-clause-none : goal.returns-then-contains-clause-none
 returns-then-contains-clause-none c none said =
@@ -15,13 +16,19 @@ pub returns-then-session-lt1-clause-none : goal.returns-then-session-lt1-clause-
 returns-then-session-lt1-clause-none c = λ none line spells.
     let found = c.in-Some.ensures.some in
     let some : c.args.text.now ≢ [] = λ e. grind (arith, ap length e) in
-    let says = line-follows c.args.text.now c.in-Some.rest.now line c.in-Some.session c.in-Some.mark spells some c.if-text-eq35.false found.0 found.1 found.2 in
-    elim c.then-session-lt1.branch
-    [ then-session-lt1-via-then-session-lt1 w ↦ omega arith | then-session-lt1-via-else-session-lt1+then-session-gt-SESSIONS w ↦ omega arith ]
+    let says = line-follows c.args.text.now c.in-Some.rest.now line c.in-Some.session c.in-Some.mark spells some
+    c.if-text-eq35.false found.0 found.1 found.2 in
+    elim c.then-session-lt1.branch [
+      | then-session-lt1-via-then-session-lt1 w ↦ omega arith
+      | then-session-lt1-via-else-session-lt1+then-session-gt-SESSIONS w ↦ omega arith
+    ]
 
 pub returns-in_err-line-clause-none : goal.returns-in_err-line-clause-none
 returns-in_err-line-clause-none c = λ none said spells.
     let found = c.in-Some.ensures.some in
     let some : c.args.text.now ≢ [] = λ e. grind (arith, ap length e) in
-    let says = line-follows c.args.text.now c.in-Some.rest.now said c.in-Some.session c.in-Some.mark spells some c.if-text-eq35.false found.0 found.1 found.2 in
-    c.in_err-line.ensures.none (ap Err (same-fault c.from_residual.result c.in_err-line.field-0.0 NoLine c.from_residual.ensures.1 none)) says.1.0 says.1.2
+    let says = line-follows c.args.text.now c.in-Some.rest.now said c.in-Some.session c.in-Some.mark spells some
+    c.if-text-eq35.false found.0 found.1 found.2 in
+    c.in_err-line.ensures.none
+    (ap Err (same-fault c.from_residual.result c.in_err-line.field-0.0 NoLine c.from_residual.ensures.1 none))
+    says.1.0 says.1.2

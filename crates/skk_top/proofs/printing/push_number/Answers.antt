@@ -8,5 +8,6 @@ use Rattle.skk_top.proofs.printing.push_number.Goals as goal
 pub returns : goal.returns
 returns c =
     let number = c.args.number in
-    let digits : chars c.format.result.now ≡ decimal number = ap chars c.format.ensures.text ∙ chars-IsAscii (decimal number) (IsAscii-decimal number (omega arith)) in
+    let digits : chars c.format.result.now ≡ decimal number =
+    ap chars c.format.ensures.text ∙ chars-IsAscii (decimal number) (IsAscii-decimal number (omega arith)) in
     rw digits at c.push_str.ensures.ok

@@ -1,4 +1,4 @@
-use Rattle.std.proofs.Common.{◌∙◌, ap}
+use Rattle.std.proofs.Common.{◌∙◌, ap, refl}
 use Rattle.session_machine.specs.declared.session.PressFault.TheVariants.{Memory}
 use Rattle.skk_top.specs.Sessions.{with_session}
 use Rattle.skk_top.proofs.KeyLines.{types-handed, types-nothing, types-opening}
@@ -6,10 +6,12 @@ use Rattle.skk_top.proofs.typing.type_line.Goals as goal
 
 pub returns-in_err-put_session-in-Opening : goal.returns-in_err-put_session-in-Opening
 returns-in_err-put_session-in-Opening g c =
-    types-handed c.args.rules.now c.args.line.now c.from_residual.result Memory _ _ _ _ _ _ c.from_residual.ensures.1 (types-nothing c.args.rules.now c.args.line.now _ _ _ _ _)
+    types-handed c.args.rules.now c.args.line.now c.from_residual.result Memory _ _ c.from_residual.ensures.1
+    (types-nothing c.args.rules.now c.args.line.now _ _ refl)
 
 pub returns-in_ok-put_session-in-Opening : goal.returns-in_ok-put_session-in-Opening
 returns-in_ok-put_session-in-Opening g c =
     rw c.in-Opening.is
     (types-opening c.args.rules.now c.in-Opening.session c.in-Opening.typist c.in-Opening.book _ _ _ _
-    (c.in_ok-put_session-in-Opening.ensures.put ∙ ap (with_session c.args.sessions.now.entries c.in-Opening.session) c.new.ensures))
+    (c.in_ok-put_session-in-Opening.ensures.put
+    ∙ ap (with_session c.args.sessions.now.entries c.in-Opening.session) c.new.ensures))

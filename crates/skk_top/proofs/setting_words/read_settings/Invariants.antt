@@ -1,7 +1,7 @@
 use Rattle.std.proofs.Common.{◌≡◌, ◌++◌, length}
 use Rattle.std.specs.Option.{option_map}
 use Rattle.skk_top.specs.Settings.{settings_of}
-use Rattle.skk_top.proofs.given.read_settings.Given as goal
+use Rattle.skk_top.proofs.setting_words.read_settings.Given as goal
 
 -- the settings of all words are those so far, and those of the words that are left
 abbrev pub invariant-loop-first : goal.invariant-loop-first

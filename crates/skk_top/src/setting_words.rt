@@ -9,7 +9,8 @@ use skk_text::Text;
 
 /// The settings that words give. Nothing where a word is part of none, or there are more than any command takes.
 pub fn read_settings(words: &[Text]) -> Option<Settings>
-    ensures { MatchOption result (AreNoneOrMany (settings_of words.now)) (λ settings. settings_of words.now ≡ Some settings) }
+    ensures { MatchOption result (AreNoneOrMany (settings_of words.now)) (λ settings. settings_of words.now
+        ≡ Some settings) }
 {
     let mut settings = Settings::new();
     let mut left = words;
@@ -24,7 +25,8 @@ pub fn read_settings(words: &[Text]) -> Option<Settings>
 // The setting that words begin with, and those behind it.
 fn next_setting<'a>(first: &'a Text, rest: &'a [Text]) -> Option<(Setting<'a>, &'a [Text])>
     ensures { MatchOption result (settings_of (first.now ∷ rest.now) ≡ None)
-        (λ next. (settings_of (first.now ∷ rest.now) ≡ with_setting (Some next.0) (settings_of next.1.now)) × (length next.1.now < length rest.now + 1)) }
+        (λ next. (settings_of (first.now ∷ rest.now) ≡ with_setting (Some next.0) (settings_of next.1.now))
+        × (length next.1.now < length rest.now + 1)) }
 {
     let word = Word::of(first);
     let Some(row) = option_named(&word) else {

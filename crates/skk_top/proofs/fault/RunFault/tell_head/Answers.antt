@@ -1,0 +1,16 @@
+use Rattle.std.proofs.Common.{◌++◌, ◌∷◌, [], ◌∙◌, subst, codes}
+use Rattle.std.specs.Fmt.{decimal}
+use Rattle.skk_text.specs.Lines.{line_feed}
+use Rattle.skk_top.specs.Page.{Writes}
+use Rattle.skk_top.specs.Status.{fault_words, file_words, flaw_words}
+use Rattle.skk_top.proofs.Pages.{writes-stopped, writes-then}
+use Rattle.skk_top.proofs.fault.RunFault.tell_head.Goals as goal
+
+pub returns-in_err-write : goal.returns-in_err-write
+returns-in_err-write g c =
+    writes-stopped (codes "skk: ") (fault_words c.args.self) c.from_residual.result c.in_err-write.field-0.0 _
+    c.from_residual.ensures.1 c.in_err-write.ensures
+
+pub returns : goal.returns
+returns g c =
+    writes-then (codes "skk: ") (fault_words c.args.self) c.tell_words.result c.in_ok-write.ensures c.tell_words.ensures

@@ -1,0 +1,17 @@
+use Rattle.std.proofs.Common.{◌++◌, ◌∷◌, [], ◌∙◌, subst, codes}
+use Rattle.std.specs.Fmt.{decimal}
+use Rattle.skk_text.specs.Lines.{line_feed}
+use Rattle.skk_top.specs.Page.{Writes}
+use Rattle.skk_top.specs.Status.{fault_words, file_words, flaw_words}
+use Rattle.skk_top.proofs.Pages.{writes-stopped, writes-then}
+use Rattle.skk_top.proofs.fault.tell_dictionary.Goals as goal
+
+pub returns-in_err-write_numbered : goal.returns-in_err-write_numbered
+returns-in_err-write_numbered g c =
+    writes-stopped (codes "dictionary " ++ decimal c.args.number) (codes " ") c.from_residual.result
+    c.in_err-write_numbered.field-0.0 _ c.from_residual.ensures.1 c.in_err-write_numbered.ensures
+
+pub returns : goal.returns
+returns g c =
+    writes-then (codes "dictionary " ++ decimal c.args.number) (codes " ") c.write.result
+    c.in_ok-write_numbered.ensures c.write.ensures

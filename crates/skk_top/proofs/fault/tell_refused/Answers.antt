@@ -1,0 +1,17 @@
+use Rattle.std.proofs.Common.{◌++◌, ◌∷◌, [], ◌∙◌, subst, codes}
+use Rattle.std.specs.Fmt.{decimal}
+use Rattle.skk_text.specs.Lines.{line_feed}
+use Rattle.skk_top.specs.Page.{Writes}
+use Rattle.skk_top.specs.Status.{fault_words, file_words, flaw_words}
+use Rattle.skk_top.proofs.Pages.{writes-stopped, writes-then}
+use Rattle.skk_top.proofs.fault.tell_refused.Goals as goal
+
+pub returns-in_err-tell_file : goal.returns-in_err-tell_file
+returns-in_err-tell_file g c =
+    writes-stopped (file_words c.args.file c.args.flaw) (flaw_words c.args.flaw) c.from_residual.result
+    c.in_err-tell_file.field-0.0 _ c.from_residual.ensures.1 c.in_err-tell_file.ensures
+
+pub returns : goal.returns
+returns g c =
+    writes-then (file_words c.args.file c.args.flaw) (flaw_words c.args.flaw) c.tell_flaw.result
+    c.in_ok-tell_file.ensures c.tell_flaw.ensures
