@@ -12,7 +12,7 @@ use Rattle.romaji_rules.specs.declared.rule.Rule.{Rule}
 use Rattle.candidate_state.specs.Shown.{Shown}
 use Rattle.session_machine.specs.declared.frame.Conversion.{Conversion}
 use Rattle.session_machine.specs.Pressed.{Meaning, becomes, not_built, of_candidate, pressed, all_pressed}
-use Rattle.session_machine.specs.Said.{Says, Becomes, after}
+use Rattle.session_machine.specs.Said.{Spoken, Says, Becomes, after}
 use Rattle.session_machine.specs.Session.{Session}
 use Rattle.session_machine.specs.declared.session.PressFault.{PressFault}
 use Rattle.session_machine.specs.declared.session.PressFault.TheVariants as faults
@@ -24,55 +24,59 @@ each_ok (Ok session) p q = q session p
 each_ok (Err fault) p q = search rules
 
 -- memory was out before anything was asked
-pub says-memory : (meaning : Meaning) (said : Dialog) → Says meaning (Err faults.Memory) said said
-says-memory meaning said = record {
+pub says-memory : (meaning : Meaning) (caller : Spoken) → Says meaning (Err faults.Memory) caller caller
+says-memory meaning caller = record {
   dialog = [];
-  grows = sym (append-nil said);
+  number = refl;
+  grows = sym (append-nil caller.said);
   ok = search rules;
   not_built = λ e. cc;
   memory = λ e. tt;
 }
 
 -- the same of a fault that tells it
-pub says-fault : (meaning : Meaning) (fault : PressFault) (said : Dialog) → fault ≡ faults.Memory
-    → Says meaning (Err fault) said said
-says-fault meaning fault said is = subst (λ f. Says meaning (Err f) said said) (sym is) (says-memory meaning said)
+pub says-fault : (meaning : Meaning) (fault : PressFault) (caller : Spoken) → fault ≡ faults.Memory
+    → Says meaning (Err fault) caller caller
+says-fault meaning fault caller is =
+    subst (λ f. Says meaning (Err f) caller caller) (sym is) (says-memory meaning caller)
 
 -- the same of a result that a call below handed on
-pub says-lacking : (meaning : Meaning) (result : Result (Unit {0}) PressFault) (session : Session) (said : Dialog)
-    → IsErrAnd result (λ fault. fault ≡ faults.Memory) → Says meaning (after result session) said said
-says-lacking meaning (Ok unit) session said is = absurd (search (rules, is))
-says-lacking meaning (Err fault) session said is =
-    let lacks : fault ≡ faults.Memory = search (rules, is) in says-fault meaning fault said lacks
+pub says-lacking : (meaning : Meaning) (result : Result (Unit {0}) PressFault) (session : Session) (caller : Spoken)
+    → IsErrAnd result (λ fault. fault ≡ faults.Memory) → Says meaning (after result session) caller caller
+says-lacking meaning (Ok unit) session caller is = absurd (search (rules, is))
+says-lacking meaning (Err fault) session caller is =
+    let lacks : fault ≡ faults.Memory = search (rules, is) in says-fault meaning fault caller lacks
 
 -- something is not built, and nothing was asked
-pub says-not_built : (meaning : Meaning) (said : Dialog) → meaning ≡ not_built
-    → Says meaning (Err faults.NotBuilt) said said
-says-not_built meaning said is = record {
+pub says-not_built : (meaning : Meaning) (caller : Spoken) → meaning ≡ not_built
+    → Says meaning (Err faults.NotBuilt) caller caller
+says-not_built meaning caller is = record {
   dialog = [];
-  grows = sym (append-nil said);
+  number = refl;
+  grows = sym (append-nil caller.said);
   ok = search rules;
   not_built = λ e. subst (λ m. Comes m [] None) (sym is) refl;
   memory = λ e. tt;
 }
 
 -- a session comes out, and nothing was asked
-pub says-session : (meaning : Meaning) (session : Session) (said : Dialog) → meaning ≡ becomes session
-    → Says meaning (Ok session) said said
-says-session meaning session said is = record {
+pub says-session : (meaning : Meaning) (session : Session) (caller : Spoken) → meaning ≡ becomes session
+    → Says meaning (Ok session) caller caller
+says-session meaning session caller is = record {
   dialog = [];
-  grows = sym (append-nil said);
+  number = refl;
+  grows = sym (append-nil caller.said);
   ok = subst (λ m. Comes m [] (Some session)) (sym is) refl;
   not_built = λ e. cc;
   memory = λ e. tt;
 }
 
 -- what a call that asks nothing gives is what is said by nothing
-pub says-becomes : (meaning : Meaning) (result : Result Session PressFault) (said : Dialog) → Becomes meaning result
-    → Says meaning result said said
-says-becomes meaning (Ok session) said becomes = says-session meaning session said becomes.ok
-says-becomes meaning (Err faults.NotBuilt) said becomes = says-not_built meaning said (becomes.not_built refl)
-says-becomes meaning (Err faults.Memory) said becomes = says-memory meaning said
+pub says-becomes : (meaning : Meaning) (result : Result Session PressFault) (caller : Spoken) → Becomes meaning result
+    → Says meaning result caller caller
+says-becomes meaning (Ok session) caller becomes = says-session meaning session caller becomes.ok
+says-becomes meaning (Err faults.NotBuilt) caller becomes = says-not_built meaning caller (becomes.not_built refl)
+says-becomes meaning (Err faults.Memory) caller becomes = says-memory meaning caller
 
 -- a meaning goes on by a dialog as another: what comes of that comes of it
 pub record Goes (from : Meaning) (dialog : Dialog) (to : Meaning) : Type 0 where
@@ -104,11 +108,13 @@ goes-followed meaning dialog end behind comes = record {
 }
 
 -- what was said behind a dialog is said with it
-pub says-on : (from to : Meaning) (dialog : Dialog) (result : Result Session PressFault) (start middle last : Dialog)
-    → Goes from dialog to → middle ≡ start ++ dialog → Says to result middle last → Says from result start last
-says-on from to dialog result start middle last goes grows says = record {
+pub says-on : (from to : Meaning) (dialog : Dialog) (result : Result Session PressFault) (start middle last : Spoken)
+    → Goes from dialog to → middle.number ≡ start.number → middle.said ≡ start.said ++ dialog
+    → Says to result middle last → Says from result start last
+says-on from to dialog result start middle last goes number grows says = record {
   dialog = dialog ++ says.dialog;
-  grows = says.grows ∙ ap (λ d. d ++ says.dialog) grows ∙ append_assoc start dialog says.dialog;
+  number = says.number ∙ number;
+  grows = says.grows ∙ ap (λ d. d ++ says.dialog) grows ∙ append_assoc start.said dialog says.dialog;
   ok = each_ok result says.ok (λ session comes. goes.comes says.dialog (Some session) comes);
   not_built = λ e. goes.comes says.dialog None (says.not_built e);
   memory = λ e. goes.begins says.dialog (says.memory e);
@@ -116,20 +122,20 @@ says-on from to dialog result start middle last goes grows says = record {
 
 -- a call was made with its answer, and what is said behind it is what the answer comes to
 pub says-asked : (call called : Call) (next : Answer → Meaning) (answer : Answer) (result : Result Session PressFault)
-    (start middle last : Dialog) → called ≡ call
-    → middle ≡ start ++ (called, answer) ∷ [] → Says (next answer) result middle last
-    → Says (asks call next) result start last
-says-asked call called next answer result start middle last is grows says =
+    (start middle last : Spoken) → called ≡ call
+    → middle.number ≡ start.number → middle.said ≡ start.said ++ (called, answer) ∷ []
+    → Says (next answer) result middle last → Says (asks call next) result start last
+says-asked call called next answer result start middle last is number grows says =
     says-on (asks call next) (next answer) ((called, answer) ∷ []) result start middle last
-    (record { comes = λ rest end comes. (sym is, comes); begins = λ rest begins. (sym is, begins) }) grows says
+    (record { comes = λ rest end comes. (sym is, comes); begins = λ rest begins. (sym is, begins) }) number grows says
 
 -- what is said for a candidate is what is said of its place
 pub says-candidate : (conversion : Conversion) (place : ℕ) (meaning : Shown → Meaning) (shown : Shown)
-    (result : Result Session PressFault) (said said' : Dialog)
-    → slice_get conversion.picking.shown place ≡ Some shown → Says (meaning shown) result said said'
-    → Says (of_candidate conversion place meaning) result said said'
-says-candidate conversion place meaning shown result said said' found says =
-    subst (λ o. Says (option_map_or meaning o not_built) result said said') (sym found) says
+    (result : Result Session PressFault) (before after : Spoken)
+    → slice_get conversion.picking.shown place ≡ Some shown → Says (meaning shown) result before after
+    → Says (of_candidate conversion place meaning) result before after
+says-candidate conversion place meaning shown result before after found says =
+    subst (λ o. Says (option_map_or meaning o not_built) result before after) (sym found) says
 
 -- a fault that is handed on is that of the result
 handed-on : (result : Result Session PressFault) (fault : PressFault) → IsErrAnd result (λ handed. handed ≡ fault)
@@ -139,17 +145,18 @@ handed-on (Err other) fault is = let same : other ≡ fault = search (rules, is)
 
 -- where a fault ends a meaning, it ends that with another behind it
 pub says-followed : (meaning : Meaning) (behind : Option Session → Meaning) (result other : Result Session PressFault)
-    (fault : PressFault) (said said' : Dialog)
-    → behind None ≡ not_built → Says meaning result said said' → result ≡ Err fault → other ≡ Err fault
-    → Says (followed_by meaning behind) other said said'
-says-followed meaning behind result other fault said said' none says is same =
-    subst (λ r. Says (followed_by meaning behind) r said said') (sym same)
-    (ended fault (subst (λ r. Says meaning r said said') is says))
+    (fault : PressFault) (before after : Spoken)
+    → behind None ≡ not_built → Says meaning result before after → result ≡ Err fault → other ≡ Err fault
+    → Says (followed_by meaning behind) other before after
+says-followed meaning behind result other fault before after none says is same =
+    subst (λ r. Says (followed_by meaning behind) r before after) (sym same)
+    (ended fault (subst (λ r. Says meaning r before after) is says))
   where
-    ended : (fault : PressFault) → Says meaning (Err fault) said said'
-        → Says (followed_by meaning behind) (Err fault) said said'
+    ended : (fault : PressFault) → Says meaning (Err fault) before after
+        → Says (followed_by meaning behind) (Err fault) before after
     ended faults.NotBuilt told = record {
       dialog = told.dialog;
+      number = told.number;
       grows = told.grows;
       ok = search rules;
       not_built = λ e. subst (λ d. Comes (followed_by meaning behind) d None) (append-nil told.dialog)
@@ -159,6 +166,7 @@ says-followed meaning behind result other fault said said' none says is same =
     }
     ended faults.Memory told = record {
       dialog = told.dialog;
+      number = told.number;
       grows = told.grows;
       ok = search rules;
       not_built = λ e. cc;
@@ -167,13 +175,13 @@ says-followed meaning behind result other fault said said' none says is same =
 
 -- a fault of the first of several keys ends them
 pub says-first : (rules : List Rule) (session : Session) (key : Key) (keys : List Key)
-    (result other : Result Session PressFault) (fault : PressFault) (said said' : Dialog)
-    → Says (pressed rules session key) result said said' → result ≡ Err fault
-    → IsErrAnd other (λ handed. handed ≡ fault) → Says (all_pressed rules session (key ∷ keys)) other said said'
-says-first rules session key keys result other fault said said' says is handed =
+    (result other : Result Session PressFault) (fault : PressFault) (before after : Spoken)
+    → Says (pressed rules session key) result before after → result ≡ Err fault
+    → IsErrAnd other (λ handed. handed ≡ fault) → Says (all_pressed rules session (key ∷ keys)) other before after
+says-first rules session key keys result other fault before after says is handed =
     says-followed (pressed rules session key)
-    (λ next. option_map_or (λ after. all_pressed rules after keys) next not_built)
-    result other fault said said' refl says is (handed-on other fault handed)
+    (λ next. option_map_or (λ reached. all_pressed rules reached keys) next not_built)
+    result other fault before after refl says is (handed-on other fault handed)
 
 -- the first of several keys goes on as those behind it
 pub goes-first : (rules : List Rule) (session : Session) (key : Key) (keys : List Key) (next : Session)

@@ -1,16 +1,26 @@
 -- What a call on a session leaves: what its caller has said, by the session or the fault.
-use Rattle.std.specs.Prelude.{◌≡◌, Result, Ok, Err, Some, None, ◌++◌, IfOk, IsErrOf}
+use Rattle.std.specs.Prelude.{◌≡◌, ℕ, Result, Ok, Err, Some, None, ◌++◌, IfOk, IsErrOf}
 use Rattle.skk_calls.specs.Interactions.{Dialog, Comes, Begins}
 use Rattle.session_machine.specs.Pressed.{Meaning, becomes, not_built}
 use Rattle.session_machine.specs.Session.{Session}
 use Rattle.session_machine.specs.declared.session.PressFault.{PressFault}
 use Rattle.session_machine.specs.declared.session.PressFault.TheVariants as faults
 
+-- what contracts see of a caller: its number, and what it has said
+pub record Spoken : Type 0 where
+  pub number : ℕ
+  pub said : Dialog
+
+-- a caller by its meanings
+abbrev pub spoken : {S : Type 0} → (S → ℕ) → (S → Dialog) → S → Spoken
+spoken number said caller = record { number = number caller; said = said caller }
+
 -- a caller has said what a meaning asks, and nothing else: all of it where the session comes out or where something is
--- not built, and the first of it where memory is out
-pub record Says (meaning : Meaning) (result : Result Session PressFault) (said said' : Dialog) : Type 0 where
+-- not built, and the first of it where memory is out; its number stays
+pub record Says (meaning : Meaning) (result : Result Session PressFault) (before after : Spoken) : Type 0 where
   pub dialog : Dialog
-  pub grows : said' ≡ said ++ dialog
+  pub number : after.number ≡ before.number
+  pub grows : after.said ≡ before.said ++ dialog
   pub ok : IfOk result (λ session. Comes meaning dialog (Some session))
   pub not_built : IsErrOf result faults.NotBuilt → Comes meaning dialog None
   pub memory : IsErrOf result faults.Memory → Begins meaning dialog

@@ -4,7 +4,7 @@ ghost use Rattle.skk_calls.specs.declared.call.Call.TheVariants.{Learn};
 ghost use Rattle.reading_state.specs.Keys.{okuri_of};
 ghost use Rattle.session_machine.specs.Pressed.{after_learning, choice_effect, choice_piece, choosing, learning};
 ghost use Rattle.session_machine.specs.Pressed.{of_candidate};
-ghost use Rattle.session_machine.specs.Said.{Says, after};
+ghost use Rattle.session_machine.specs.Said.{Says, after, spoken};
 ghost use Rattle.session_machine.specs.Session.{with_piece};
 
 use crate::answered::{learnt_by, notice_of};
@@ -32,9 +32,8 @@ pub(crate) fn choose<C: Caller>(
     caller: &mut C,
 ) -> Result<(), PressFault>
     requires { place < length conversion.picking.shown }
-    ensures said { Says (of_candidate conversion place (choosing rules.now session.old conversion (then)))
-        (after result session.new) (C.said caller.old) (C.said caller.new) }
-    ensures number { C.number caller.new ≡ C.number caller.old }
+    ensures { Says (of_candidate conversion place (choosing rules.now session.old conversion (then)))
+        (after result session.new) (spoken C.number C.said caller.old) (spoken C.number C.said caller.new) }
 {
     let shown = conversion.picking.shown_list().at(place);
     let piece = choice_piece(alloc, session.frame.mode, &conversion.reading, shown)?;
@@ -80,9 +79,8 @@ fn learn<C: Caller>(
     caller: &mut C,
 ) -> Result<(), PressFault>
     requires { place < length conversion.picking.shown }
-    ensures said { Says (of_candidate conversion place (learning rules.now session.old conversion piece.now (then)))
-        (after result session.new) (C.said caller.old) (C.said caller.new) }
-    ensures number { C.number caller.new ≡ C.number caller.old }
+    ensures { Says (of_candidate conversion place (learning rules.now session.old conversion piece.now (then)))
+        (after result session.new) (spoken C.number C.said caller.old) (spoken C.number C.said caller.new) }
 {
     let shown = conversion.picking.shown_list().at(place);
     let call = insert_choice(session, alloc, &conversion.reading, shown, piece)?;
@@ -150,9 +148,8 @@ fn apply_choice<C: Caller>(
     then: AfterChoose,
     caller: &mut C,
 ) -> Result<(), PressFault>
-    ensures said { Says (choice_effect rules.now session.old (then)) (after result session.new)
-        (C.said caller.old) (C.said caller.new) }
-    ensures number { C.number caller.new ≡ C.number caller.old }
+    ensures { Says (choice_effect rules.now session.old (then)) (after result session.new)
+        (spoken C.number C.said caller.old) (spoken C.number C.said caller.new) }
 {
     match then {
         AfterChoose::Nothing => {}

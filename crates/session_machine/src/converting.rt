@@ -4,7 +4,7 @@ ghost use Rattle.std.specs.Str.{chars};
 ghost use Rattle.skk_calls.specs.declared.call.Call.TheVariants.{Lookup};
 ghost use Rattle.reading_state.specs.Keys.{key_of, okuri_of};
 ghost use Rattle.session_machine.specs.Pressed.{converted, looked_up, pick, is_digit};
-ghost use Rattle.session_machine.specs.Said.{Becomes, Says, after};
+ghost use Rattle.session_machine.specs.Said.{Becomes, Says, after, spoken};
 
 use crate::frame::{Conversion, State};
 use crate::session::{PressFault, Session};
@@ -24,9 +24,8 @@ pub(crate) fn convert<C: Caller>(
     caller: &mut C,
 ) -> Result<(), PressFault>
     requires { reading.text ≢ [] }
-    ensures said { Says (converted session.old reading) (after result session.new)
-        (C.said caller.old) (C.said caller.new) }
-    ensures number { C.number caller.new ≡ C.number caller.old }
+    ensures { Says (converted session.old reading) (after result session.new)
+        (spoken C.number C.said caller.old) (spoken C.number C.said caller.new) }
 {
     if has_digit(reading.text().as_str()) {
         return Err(PressFault::NotBuilt);

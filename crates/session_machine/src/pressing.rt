@@ -2,7 +2,7 @@ ghost use Rattle.std.specs.Prelude.{◌≡◌, ◌≢◌, ◌<◌, ℕ, [], leng
 ghost use Rattle.reading_state.specs.declared.reading_do.ReadingThen.TheVariants as effects;
 ghost use Rattle.session_machine.specs.Pressed.{pressed, plain_pressed, plain_typed, plain_effect, reading_pressed};
 ghost use Rattle.session_machine.specs.Pressed.{reading_effect, picking_pressed, picking_effect};
-ghost use Rattle.session_machine.specs.Said.{Says, after};
+ghost use Rattle.session_machine.specs.Said.{Says, after, spoken};
 
 use crate::choosing::choose;
 use crate::confirming::confirm;
@@ -28,9 +28,8 @@ pub(crate) fn press_key<C: Caller>(
     key: Key,
     caller: &mut C,
 ) -> Result<(), PressFault>
-    ensures said { Says (pressed rules.now session.old key) (after result session.new)
-        (C.said caller.old) (C.said caller.new) }
-    ensures number { C.number caller.new ≡ C.number caller.old }
+    ensures { Says (pressed rules.now session.old key) (after result session.new)
+        (spoken C.number C.said caller.old) (spoken C.number C.said caller.new) }
 {
     match session.take_state() {
         State::Plain(pending) => press_in_plain(session, alloc, rules, pending, key, caller),
@@ -51,9 +50,8 @@ pub(crate) fn press_in_plain<C: Caller>(
     key: Key,
     caller: &mut C,
 ) -> Result<(), PressFault>
-    ensures said { Says (plain_pressed rules.now session.old pending key) (after result session.new)
-        (C.said caller.old) (C.said caller.new) }
-    ensures number { C.number caller.new ≡ C.number caller.old }
+    ensures { Says (plain_pressed rules.now session.old pending key) (after result session.new)
+        (spoken C.number C.said caller.old) (spoken C.number C.said caller.new) }
 {
     let then = type_plain(session, alloc, rules, pending, key)?;
     apply_plain(session, alloc, rules, then, caller)
@@ -89,9 +87,8 @@ fn apply_plain<C: Caller>(
     then: PlainThen,
     caller: &mut C,
 ) -> Result<(), PressFault>
-    ensures said { Says (plain_effect rules.now session.old (then)) (after result session.new)
-        (C.said caller.old) (C.said caller.new) }
-    ensures number { C.number caller.new ≡ C.number caller.old }
+    ensures { Says (plain_effect rules.now session.old (then)) (after result session.new)
+        (spoken C.number C.said caller.old) (spoken C.number C.said caller.new) }
 {
     match then {
         PlainThen::Stay | PlainThen::Cancel => {}
@@ -118,9 +115,8 @@ fn press_in_reading<C: Caller>(
     key: Key,
     caller: &mut C,
 ) -> Result<(), PressFault>
-    ensures said { Says (reading_pressed rules.now session.old reading key) (after result session.new)
-        (C.said caller.old) (C.said caller.new) }
-    ensures number { C.number caller.new ≡ C.number caller.old }
+    ensures { Says (reading_pressed rules.now session.old reading key) (after result session.new)
+        (spoken C.number C.said caller.old) (spoken C.number C.said caller.new) }
 {
     let mut reading = reading;
     let ReadingDo { notice, then } = press_reading(alloc, &mut reading, rules, key)?;
@@ -138,9 +134,8 @@ fn apply_reading<C: Caller>(
     caller: &mut C,
 ) -> Result<(), PressFault>
     requires { then ≡ effects.Convert → reading.text ≢ [] }
-    ensures said { Says (reading_effect session.old reading (then)) (after result session.new)
-        (C.said caller.old) (C.said caller.new) }
-    ensures number { C.number caller.new ≡ C.number caller.old }
+    ensures { Says (reading_effect session.old reading (then)) (after result session.new)
+        (spoken C.number C.said caller.old) (spoken C.number C.said caller.new) }
 {
     match then {
         ReadingThen::Stay => session.put_state(State::Reading(reading)),
@@ -162,9 +157,8 @@ fn press_in_picking<C: Caller>(
     key: Key,
     caller: &mut C,
 ) -> Result<(), PressFault>
-    ensures said { Says (picking_pressed rules.now session.old conversion key) (after result session.new)
-        (C.said caller.old) (C.said caller.new) }
-    ensures number { C.number caller.new ≡ C.number caller.old }
+    ensures { Says (picking_pressed rules.now session.old conversion key) (after result session.new)
+        (spoken C.number C.said caller.old) (spoken C.number C.said caller.new) }
 {
     let Conversion {
         reading,
@@ -193,9 +187,8 @@ fn apply_picking<C: Caller>(
 ) -> Result<(), PressFault>
     requires { (place : ℕ) (after : AfterChoose) → done ≡ CandsDo.Choose place after
         → place < length conversion.picking.shown }
-    ensures said { Says (picking_effect rules.now session.old conversion (done)) (after result session.new)
-        (C.said caller.old) (C.said caller.new) }
-    ensures number { C.number caller.new ≡ C.number caller.old }
+    ensures { Says (picking_effect rules.now session.old conversion (done)) (after result session.new)
+        (spoken C.number C.said caller.old) (spoken C.number C.said caller.new) }
 {
     match done {
         CandsDo::Stay(notice) => {

@@ -2,7 +2,7 @@ ghost use Rattle.std.specs.Prelude.{◌≡◌, true, IfOk};
 ghost use Rattle.skk_calls.specs.declared.call.Call.TheVariants as calls;
 ghost use Rattle.skk_calls.specs.Dictionary.{is_fit};
 ghost use Rattle.session_machine.specs.Pressed.{after_purge, of_candidate, purging};
-ghost use Rattle.session_machine.specs.Said.{Says, after};
+ghost use Rattle.session_machine.specs.Said.{Says, after, spoken};
 
 use crate::answered::{notice_of, says_purged};
 use crate::frame::{Conversion, State};
@@ -20,9 +20,8 @@ pub(crate) fn purge<C: Caller>(
     conversion: Conversion,
     caller: &mut C,
 ) -> Result<(), PressFault>
-    ensures said { Says (of_candidate conversion conversion.picking.place (purging session.old conversion))
-        (after result session.new) (C.said caller.old) (C.said caller.new) }
-    ensures number { C.number caller.new ≡ C.number caller.old }
+    ensures { Says (of_candidate conversion conversion.picking.place (purging session.old conversion))
+        (after result session.new) (spoken C.number C.said caller.old) (spoken C.number C.said caller.new) }
 {
     let shown = conversion
         .picking

@@ -73,7 +73,7 @@ impl Session {
     ghost use Rattle.std.specs.Io.{StartsWith};
     ghost use Rattle.session_machine.specs.Display.{display, notice, line, text_printed};
     ghost use Rattle.session_machine.specs.Pressed.{pressed, all_pressed};
-    ghost use Rattle.session_machine.specs.Said.{Says};
+    ghost use Rattle.session_machine.specs.Said.{Says, spoken};
     ghost use Rattle.session_machine.specs.Session.{new_session, text_of};
 
     /// A new session of a typist, who learns in a book: hiragana mode, and an empty text. Takes no memory.
@@ -104,8 +104,8 @@ impl Session {
         key: Key,
         caller: &mut C,
     ) -> Result<Session, PressFault>
-        ensures said { Says (pressed rules.now self key) result (C.said caller.old) (C.said caller.new) }
-        ensures number { C.number caller.new ≡ C.number caller.old }
+        ensures { Says (pressed rules.now self key) result
+            (spoken C.number C.said caller.old) (spoken C.number C.said caller.new) }
     {
         let mut session = self;
         press_key(&mut session, alloc, rules, key, caller)?;
@@ -120,8 +120,8 @@ impl Session {
         keys: &[Key],
         caller: &mut C,
     ) -> Result<Session, PressFault>
-        ensures said { Says (all_pressed rules.now self keys.now) result (C.said caller.old) (C.said caller.new) }
-        ensures number { C.number caller.new ≡ C.number caller.old }
+        ensures { Says (all_pressed rules.now self keys.now) result
+            (spoken C.number C.said caller.old) (spoken C.number C.said caller.new) }
     {
         let mut session = self;
         for key in keys {

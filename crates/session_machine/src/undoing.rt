@@ -1,6 +1,6 @@
 ghost use Rattle.std.specs.Prelude.{◌≡◌};
 ghost use Rattle.session_machine.specs.Pressed.{before_choice, undone, unlearnt};
-ghost use Rattle.session_machine.specs.Said.{Says};
+ghost use Rattle.session_machine.specs.Said.{Says, spoken};
 ghost use Rattle.session_machine.specs.Session.{choice_at};
 ghost use Rattle.skk_text.specs.Text.{byte_len};
 
@@ -16,9 +16,8 @@ use std::alloc::Global;
 // Takes back what was chosen last, where the text is as long as it was behind it.
 #[tactic(auto, using(crate::proofs::Saying::says))]
 pub(crate) fn undo<C: Caller>(session: &mut Session, alloc: Global, caller: &mut C)
-    ensures said { Says (undone session.old (choice_at (byte_len session.old.frame.text) session.old.frame.last_choice))
-        (Ok session.new) (C.said caller.old) (C.said caller.new) }
-    ensures number { C.number caller.new ≡ C.number caller.old }
+    ensures { Says (undone session.old (choice_at (byte_len session.old.frame.text) session.old.frame.last_choice))
+        (Ok session.new) (spoken C.number C.said caller.old) (spoken C.number C.said caller.new) }
 {
     let Some(choice) = session.take_choice() else {
         session.note(Notice::NoUndo);
@@ -48,8 +47,8 @@ fn unlearn<C: Caller>(
     learned: Option<Learned>,
     caller: &mut C,
 )
-    ensures said { Says (unlearnt session.old learned) (Ok session.new) (C.said caller.old) (C.said caller.new) }
-    ensures number { C.number caller.new ≡ C.number caller.old }
+    ensures { Says (unlearnt session.old learned) (Ok session.new)
+        (spoken C.number C.said caller.old) (spoken C.number C.said caller.new) }
 {
     let Some(learned) = learned else {
         session.notice = SessionNotice::Undone;

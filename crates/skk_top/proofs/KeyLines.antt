@@ -9,7 +9,7 @@ use Rattle.skk_text.specs.declared.key.Key.{Key}
 use Rattle.skk_calls.specs.InteractionLaws.{begins-followed, begins-leads, comes-begins, comes-followed, leads-prints}
 use Rattle.skk_calls.specs.Interactions.{Interaction, ends, prints, Dialog, Leads, here}
 use Rattle.session_machine.specs.Pressed.{all_pressed}
-use Rattle.session_machine.specs.Said.{Says}
+use Rattle.session_machine.specs.Said.{Says, Spoken}
 use Rattle.session_machine.specs.Session.{Session, new_session}
 use Rattle.session_machine.specs.declared.session.PressFault.{PressFault}
 use Rattle.session_machine.specs.declared.session.PressFault.TheVariants.{NotBuilt, Memory}
@@ -69,19 +69,19 @@ module _ (table : List Rule) (number : ℕ) (keys : List Key) (sessions : Sessio
       next (ends false)
 
   -- keys that came to a session, whose output line was printed
-  pub types-keys : (next : Session) (sessions' : SessionMap) (page page' : List ℕ) (said said' : Dialog)
-      → Says (all_pressed table (session_or_new sessions number) keys) (Ok next) said said'
+  pub types-keys : (next : Session) (sessions' : SessionMap) (page page' : List ℕ) (before after : Spoken)
+      → Says (all_pressed table (session_or_new sessions number) keys) (Ok next) before after
       → page' ≡ page ++ output_line number next → sessions' ≡ with_session sessions number next
-      → TypesLine table (Keys number keys) (Ok tt) (stand sessions page said) (stand sessions' page' said')
-  types-keys next sessions' page page' said said' says pushed put = record {
+      → TypesLine table (Keys number keys) (Ok tt) (stand sessions page before.said) (stand sessions' page' after.said)
+  types-keys next sessions' page page' before after says pushed put = record {
     dialog = says.dialog;
     text = output_line number next;
     grows = says.grows;
     ok = (
       pushed,
       λ lines.
-          subst (λ (after : SessionMap). Leads (typing table sessions (Keys number keys ∷ lines)) says.dialog
-          (output_line number next) (typing table after lines)) (sym put)
+          subst (λ (map : SessionMap). Leads (typing table sessions (Keys number keys ∷ lines)) says.dialog
+          (output_line number next) (typing table map lines)) (sym put)
           (leads-prints (output_line number next)
           (comes-followed (all_pressed table (session_or_new sessions number) keys) says.dialog (Some next)
           (behind lines) says.ok)),
@@ -91,10 +91,11 @@ module _ (table : List Rule) (number : ℕ) (keys : List Key) (sessions : Sessio
   }
 
   -- keys of which one is not built, or for which memory was out
-  pub types-fault : (fault : PressFault) (sessions' : SessionMap) (page : List ℕ) (said said' : Dialog)
-      → Says (all_pressed table (session_or_new sessions number) keys) (Err fault) said said'
-      → TypesLine table (Keys number keys) (Err fault) (stand sessions page said) (stand sessions' page said')
-  types-fault fault sessions' page said said' says = record {
+  pub types-fault : (fault : PressFault) (sessions' : SessionMap) (page : List ℕ) (before after : Spoken)
+      → Says (all_pressed table (session_or_new sessions number) keys) (Err fault) before after
+      → TypesLine table (Keys number keys) (Err fault) (stand sessions page before.said)
+      (stand sessions' page after.said)
+  types-fault fault sessions' page before after says = record {
     dialog = says.dialog;
     text = [];
     grows = says.grows;
@@ -110,10 +111,11 @@ module _ (table : List Rule) (number : ℕ) (keys : List Key) (sessions : Sessio
   }
 
   -- keys that came to a session, for which memory was out then
-  pub types-lost : (next : Session) (sessions' : SessionMap) (page page' : List ℕ) (said said' : Dialog)
-      → Says (all_pressed table (session_or_new sessions number) keys) (Ok next) said said'
-      → TypesLine table (Keys number keys) (Err Memory) (stand sessions page said) (stand sessions' page' said')
-  types-lost next sessions' page page' said said' says = record {
+  pub types-lost : (next : Session) (sessions' : SessionMap) (page page' : List ℕ) (before after : Spoken)
+      → Says (all_pressed table (session_or_new sessions number) keys) (Ok next) before after
+      → TypesLine table (Keys number keys) (Err Memory) (stand sessions page before.said)
+      (stand sessions' page' after.said)
+  types-lost next sessions' page page' before after says = record {
     dialog = says.dialog;
     text = [];
     grows = says.grows;

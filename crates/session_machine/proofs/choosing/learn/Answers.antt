@@ -2,13 +2,13 @@ use Rattle.std.proofs.Common.{◌≡◌, ◌∙◌, ap, subst}
 use Rattle.skk_calls.specs.declared.answer.Answer.{Answer}
 use Rattle.candidate_state.specs.Shown.{Shown}
 use Rattle.session_machine.specs.Pressed.{Meaning, after_learning, choice_effect, learning}
-use Rattle.session_machine.specs.Said.{Says, after}
+use Rattle.session_machine.specs.Said.{Says, after, spoken}
 use Rattle.session_machine.specs.Session.{Session, with_piece}
 use Rattle.session_machine.proofs.Saying.{says-asked, says-candidate}
 use Rattle.session_machine.proofs.choosing.learn.Goals as goal
 
-pub returns-clause-said : goal.returns-clause-said
-returns-clause-said g c =
+pub returns : goal.returns
+returns g c =
     let rules = c.args.rules.now in
     let session = c.args.session.now in
     let conversion = c.args.conversion in
@@ -25,7 +25,7 @@ returns-clause-said g c =
     says-candidate conversion c.args.place (learning rules session conversion piece c.args.then) shown _ _ _
     (rw c.shown_list.ensures.value at c.at-shown.ensures)
     (says-asked _ c.in_ok-call.call next c.call-answer.result _ _ _ _ c.in_ok-call.ensures.call
-    c.call-answer.ensures.said
+    c.call-answer.ensures.number c.call-answer.ensures.said
     (subst (λ s. Says (behind s) (after c.apply_choice.result c.apply_choice.new.session)
-    (g.C.Caller.said c.call-answer.new.self) (g.C.Caller.said c.apply_choice.new.caller)) reached
-    c.apply_choice.ensures.said))
+    (spoken g.C.Caller.number g.C.Caller.said c.call-answer.new.self)
+    (spoken g.C.Caller.number g.C.Caller.said c.apply_choice.new.caller)) reached c.apply_choice.ensures))

@@ -7,8 +7,8 @@ use Rattle.session_machine.specs.Session.{Session}
 use Rattle.session_machine.proofs.Saying.{says-asked, says-candidate, says-session}
 use Rattle.session_machine.proofs.purging.purge.Goals as goal
 
-pub returns-clause-said : goal.returns-clause-said
-returns-clause-said g c =
+pub returns : goal.returns
+returns g c =
     let session = c.args.session.now in
     let conversion = c.args.conversion in
     let found = c.at-shown.result in
@@ -18,5 +18,5 @@ returns-clause-said g c =
     says-candidate conversion conversion.picking.place (purging session conversion) shown _ _ _
     (rw (c.shown_list.ensures.value, c.place.ensures.value) at c.at-shown.ensures)
     (says-asked _ c.in_ok-call.call next c.call-answer.result _ _ _ _ (c.in_ok-call.ensures.call ∙ book)
-    c.call-answer.ensures.said
+    c.call-answer.ensures.number c.call-answer.ensures.said
     (says-session _ c.take_purge.new.session _ (ap becomes (sym c.take_purge.ensures))))

@@ -16,25 +16,25 @@ returns-in_err-next g c =
     types-handed c.args.rules.now (Keys c.args.number c.args.keys.now) c.from_residual-in_err-next.result fault _ _
     c.from_residual-in_err-next.ensures.1
     (types-fault c.args.rules.now c.args.number c.args.keys.now c.args.sessions.now.entries fault _ _ _ _
-    (rw (c.in_ok-session.ensures.session, c.as_slice.ensures) at c.in_err-next.ensures.said))
+    (rw (c.in_ok-session.ensures.session, c.as_slice.ensures) at c.in_err-next.ensures))
 
 pub returns-in_err-push_output_line : goal.returns-in_err-push_output_line
 returns-in_err-push_output_line g c =
     types-handed c.args.rules.now (Keys c.args.number c.args.keys.now) c.from_residual-in_err-push_output_line.result
     Memory _ _ c.from_residual-in_err-push_output_line.ensures.1
     (types-lost c.args.rules.now c.args.number c.args.keys.now c.args.sessions.now.entries c.in_ok-next.next _ _ _ _ _
-    (rw (c.in_ok-session.ensures.session, c.as_slice.ensures) at c.in_ok-next.ensures.said))
+    (rw (c.in_ok-session.ensures.session, c.as_slice.ensures) at c.in_ok-next.ensures))
 
 pub returns-in_err-put_session : goal.returns-in_err-put_session
 returns-in_err-put_session g c =
     types-handed c.args.rules.now (Keys c.args.number c.args.keys.now) c.from_residual-in_err-put_session.result Memory
     _ _ c.from_residual-in_err-put_session.ensures.1
     (types-lost c.args.rules.now c.args.number c.args.keys.now c.args.sessions.now.entries c.in_ok-next.next _ _ _ _ _
-    (rw (c.in_ok-session.ensures.session, c.as_slice.ensures) at c.in_ok-next.ensures.said))
+    (rw (c.in_ok-session.ensures.session, c.as_slice.ensures) at c.in_ok-next.ensures))
 
 pub returns : goal.returns
 returns g c =
     types-keys c.args.rules.now c.args.number c.args.keys.now c.args.sessions.now.entries c.in_ok-next.next _ _ _ _ _
-    (rw (c.in_ok-session.ensures.session, c.as_slice.ensures) at c.in_ok-next.ensures.said)
+    (rw (c.in_ok-session.ensures.session, c.as_slice.ensures) at c.in_ok-next.ensures)
     c.in_ok-push_output_line.ensures
     (c.in_ok-put_session.ensures.put ∙ c.in_ok-session.ensures.others c.in_ok-next.next)
