@@ -1,11 +1,10 @@
 -- How runs end and the program finishes.
-use Rattle.std.specs.Prelude.{◌≡◌, ◌⊎◌, ⊤, [], IsErrAnd}
+use Rattle.std.specs.Prelude.{◌≡◌, ◌⊎◌, [], IsErrAnd}
 use Rattle.std.specs.Io.KnownBytes.{Keeps}
 use Rattle.skk_outside.specs.Faults.{Rose}
 use Rattle.skk_outside.specs.Moved.{MovedShelf, MovedSource, MovedSink}
 use Rattle.skk_top.specs.Status.{run_status}
 use Rattle.skk_top.specs.declared.fault.RunFault.{RunFault}
-use Rattle.skk_top.specs.declared.fault.RunFault.TheVariants.{Words, Outside}
 use Rattle.skk_top.specs.declared.finish.Finish.{Finish}
 use Rattle.skk_top.specs.declared.finish.Run.{Run}
 
@@ -27,9 +26,3 @@ pub record EndsUnbegun (Cause : RunFault → Type 0) (run : Run) (out : MovedSin
 abbrev pub HasFailed : MovedShelf → MovedSource → MovedSink → Type 0
 HasFailed shelf input out =
     Rose shelf.faults shelf.faults' ⊎ (Rose input.faults input.faults' ⊎ Rose out.faults out.faults')
-
--- a command ends with no fault of the words, and with the outside at fault only where one of its calls failed
-abbrev pub HasCause : MovedShelf → MovedSource → MovedSink → RunFault → Type 0
-HasCause shelf input out Words = ⊥
-HasCause shelf input out Outside = HasFailed shelf input out
-HasCause shelf input out fault = ⊤
