@@ -25,7 +25,7 @@ use Rattle.skk_calls.specs.Learning.{learnt, purged, purge_changes}
 use Rattle.skk_calls.specs.Rows.{Row}
 use Rattle.skk_calls.specs.States.{State, count_of, row_at}
 use Rattle.learn_index.specs.Plans.{is_question}
-use Rattle.skk_calls.specs.Openings.{fresh_opening, IsLegalOver, is_reply, is_reply_or_memory, is_noted_at}
+use Rattle.skk_calls.specs.Openings.{IsLegalOver, is_reply, is_reply_or_memory, is_noted_at}
 use Rattle.skk_calls.specs.Openings.{is_without_disk, are_served, are_of_one, said_in}
 use Rattle.skk_top.specs.Answering.{IsAnsweredAt, AreAnswered, KeepsAnswers}
 

@@ -9,7 +9,6 @@ use Rattle.skk_outside.specs.Written.{AppendsPrefix}
 use Rattle.skk_top.specs.Page.{Printed}
 use Rattle.skk_outside.specs.Moved.{MovedSink}
 use Rattle.skk_outside.specs.declared.outside.Failed.{Failed}
-use Rattle.skk_outside.specs.Faults.{Rose}
 use Rattle.skk_top.specs.Page.{Writes}
 
 -- what holds anyway holds at an error

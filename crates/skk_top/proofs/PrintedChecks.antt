@@ -1,5 +1,5 @@
 -- What the printing of a checked file leaves, by how it ends.
-use Rattle.std.proofs.Common.{◌≡◌, ◌≤◌, ◌<◌, ◌+◌, ◌++◌, ◌∷◌, ◌∙◌, [], ap, sym, subst, ℕ, Option, Some, None, List}
+use Rattle.std.proofs.Common.{◌≡◌, ◌≤◌, ◌<◌, ◌+◌, ◌++◌, ◌∙◌, [], ap, sym, subst, ℕ, Option, Some, None, List}
 use Rattle.std.proofs.Common.{append_assoc, length, drop, get_or, Result, Ok, Err, OnOk, OnErr, IsErrAnd, rules, arith}
 use Rattle.std.proofs.lemmas.List.{append-nil, at_drop_more}
 use Rattle.std.specs.Io.KnownBytes.{Appends, Keeps}

@@ -1,15 +1,14 @@
 -- Why runs end, at small examples, each worked out by hand.
-use Rattle.std.proofs.Common.{◌≡◌, ◌≤◌, ◌<◌, ℕ, None, Some, Ok, Err, true, false, List, [], ◌∷◌, ◌++◌, refl, codes, length, arith, lit<, lit≤}
-use Rattle.std.specs.Option.{IfSome}
+use Rattle.std.proofs.Common.{◌≡◌, ℕ, None, Some, true, false, List, [], ◌∷◌, refl}
+use Rattle.std.proofs.Common.{length, arith, lit≤}
 use Rattle.skk_outside.specs.Moved.{MovedShelf, MovedSource, MovedSink}
-use Rattle.skk_calls.specs.Interactions.{Interaction, ends, asks}
+use Rattle.skk_calls.specs.Interactions.{ends}
 use Rattle.romaji_rules.specs.Standard.{standard}
 use Rattle.skk_top.specs.Dictionaries.{HasDictionaryFlaw, IsFirst, RefusesDictionaries, AreRowsOf}
 use Rattle.skk_top.specs.Finishes.{HasFailed}
 use Rattle.skk_top.specs.Page.{StopsPrinting}
 use Rattle.skk_top.specs.RunFiles.{HasTextFlaw, IsLonger, RefusesBytes, RefusesFile}
 use Rattle.skk_top.specs.RunRules.{AreRules, HasRulesFlaw, IsNamed, RefusesRules}
-use Rattle.skk_top.specs.Script.{script_limit}
 use Rattle.skk_top.specs.TypeCommand.{HasScriptFlaw, RefusesFiles, StopsTyping}
 use Rattle.skk_top.proofs.Dictionaries.{are_dictionaries}
 use Rattle.skk_top.specs.declared.fault.RunFault.TheVariants.{Words, Refused, Outside, Memory, NotBuilt}
@@ -24,7 +23,8 @@ bytes = 1 ∷ 2 ∷ 3 ∷ 4 ∷ []
 text_flaws : HasTextFlaw 3 TooLong bytes × (¬ HasTextFlaw 4 TooLong bytes) × (¬ HasTextFlaw 3 (Line 1) bytes)
 text_flaws = (omega arith, λ long. omega (arith, long), λ none. none)
 
-longer : IsLonger 3 TooLong bytes × (¬ IsLonger 4 TooLong bytes) × (¬ IsLonger 3 (Byte 0) bytes) × (¬ IsLonger 3 (Line 1) bytes)
+longer : IsLonger 3 TooLong bytes × (¬ IsLonger 4 TooLong bytes) × (¬ IsLonger 3 (Byte 0) bytes)
+    × (¬ IsLonger 3 (Line 1) bytes)
 longer = (omega arith, λ long. omega (arith, long), λ none. none, λ none. none)
 
 -- where a file is told its bytes must have the flaw, and where it is not told nothing is said of them
@@ -44,10 +44,12 @@ faults_of_reading : RefusesFile Script (IsLonger 4) (Some bytes) 2 3 Outside
     × (¬ RefusesFile Script (IsLonger 4) (Some bytes) 3 3 Outside)
     × RefusesFile Script (IsLonger 4) (Some bytes) 18446744073709551615 18446744073709551615 Outside
     × RefusesFile Script (IsLonger 4) (Some bytes) 3 3 Memory
-    × (¬ RefusesFile Script (IsLonger 4) (Some bytes) 2 3 Words) × (¬ RefusesFile Script (IsLonger 4) (Some bytes) 2 3 NotBuilt)
+    × (¬ RefusesFile Script (IsLonger 4) (Some bytes) 2 3 Words)
+    × (¬ RefusesFile Script (IsLonger 4) (Some bytes) 2 3 NotBuilt)
 faults_of_reading = (lit≤ tt, λ rose. omega (arith, rose), lit≤ tt, tt, λ none. none, λ none. none)
 
-faults_of_bytes : RefusesBytes Script (IsLonger 3) bytes (Refused Script TooLong) × (¬ RefusesBytes Script (IsLonger 4) bytes (Refused Script TooLong))
+faults_of_bytes : RefusesBytes Script (IsLonger 3) bytes (Refused Script TooLong)
+    × (¬ RefusesBytes Script (IsLonger 4) bytes (Refused Script TooLong))
     × RefusesBytes Script (IsLonger 4) bytes Memory × (¬ RefusesBytes Script (IsLonger 4) bytes Outside)
 faults_of_bytes = ((refl, omega arith), λ is. omega (arith, is.1), tt, λ none. none)
 
@@ -82,24 +84,29 @@ script_flaws = (λ none. none, λ text e bad. omega (arith, e, bad.0))
 
 -- of several files the one behind those that are dictionaries is the first that has a property; a file that is not told
 -- may be anything
-first_files : IsFirst (λ text. text ≡ bytes) 1 (Some bytes ∷ None ∷ []) × IsFirst (λ text. text ≡ bytes) 2 (None ∷ Some bytes ∷ [])
+first_files : IsFirst (λ text. text ≡ bytes) 1 (Some bytes ∷ None ∷ [])
+    × IsFirst (λ text. text ≡ bytes) 2 (None ∷ Some bytes ∷ [])
 first_files = (
   ([], None ∷ [], Some bytes, refl, refl, are_dictionaries [] [] tt, refl),
   (None ∷ [], [], Some bytes, refl, refl, are_dictionaries ([] ∷ []) (None ∷ []) (tt, tt), refl),
 )
 
 -- what a run that names files may not end with
-not_of_files : (¬ RefusesFiles None [] 0 1 (Refused Script TooLong)) × (¬ RefusesFiles None [] 0 1 Words) × (¬ RefusesFiles None [] 0 1 NotBuilt)
+not_of_files : (¬ RefusesFiles None [] 0 1 (Refused Script TooLong)) × (¬ RefusesFiles None [] 0 1 Words)
+    × (¬ RefusesFiles None [] 0 1 NotBuilt)
     × (¬ RefusesFiles None [] 0 0 Outside) × RefusesFiles None [] 0 1 Outside × RefusesFiles None [] 0 0 Memory
     × (¬ RefusesFiles None [] 0 0 (Refused Rules TooLong)) × RefusesFiles (Some None) [] 0 0 (Refused Rules TooLong)
 not_of_files = (λ none. none, λ none. none, λ none. none, λ rose. omega (arith, rose), lit≤ tt, tt, λ none. none, tt)
 
-not_of_dictionaries : (¬ RefusesDictionaries [] 0 1 (Refused Rules TooLong)) × (¬ RefusesDictionaries [] 0 1 (Refused Script TooLong))
-    × (¬ RefusesDictionaries [] 0 1 Words) × (¬ RefusesDictionaries [] 0 0 Outside) × RefusesDictionaries [] 0 1 Outside × RefusesDictionaries [] 0 0 Memory
+not_of_dictionaries : (¬ RefusesDictionaries [] 0 1 (Refused Rules TooLong))
+    × (¬ RefusesDictionaries [] 0 1 (Refused Script TooLong))
+    × (¬ RefusesDictionaries [] 0 1 Words) × (¬ RefusesDictionaries [] 0 0 Outside) × RefusesDictionaries [] 0 1 Outside
+    × RefusesDictionaries [] 0 0 Memory
 not_of_dictionaries = (λ none. none, λ none. none, λ none. none, λ rose. omega (arith, rose), lit≤ tt, tt)
 
 -- as many books as files
-books_of_files : AreRowsOf [] [] × (¬ AreRowsOf [] (None ∷ [])) × (¬ AreRowsOf ([] ∷ []) []) × AreRowsOf ([] ∷ []) (None ∷ [])
+books_of_files : AreRowsOf [] [] × (¬ AreRowsOf [] (None ∷ [])) × (¬ AreRowsOf ([] ∷ []) [])
+    × AreRowsOf ([] ∷ []) (None ∷ [])
 books_of_files = (tt, λ none. none, λ none. none, (tt, tt))
 
 -- a sink of which a call failed, and one of which none did
@@ -111,11 +118,13 @@ sound = record { written = None; written' = None; faults = 3; faults' = 3 }
 
 -- typing stops at a key that is not built, for a call that failed, or for want of memory
 stops : StopsTyping (ends false) [] sound NotBuilt × (¬ StopsTyping (ends true) [] sound NotBuilt)
-    × StopsTyping (ends true) [] failed Outside × (¬ StopsTyping (ends true) [] sound Outside) × StopsTyping (ends true) [] sound Memory
+    × StopsTyping (ends true) [] failed Outside × (¬ StopsTyping (ends true) [] sound Outside)
+    × StopsTyping (ends true) [] sound Memory
     × (¬ StopsTyping (ends false) [] failed Words) × (¬ StopsTyping (ends false) [] failed (Refused Script TooLong))
 stops = (refl, λ e. cc (e), lit≤ tt, λ rose. omega (arith, rose), tt, λ none. none, λ none. none)
 
-printing_stops : StopsPrinting failed Outside × (¬ StopsPrinting sound Outside) × StopsPrinting sound Memory × (¬ StopsPrinting failed NotBuilt)
+printing_stops : StopsPrinting failed Outside × (¬ StopsPrinting sound Outside) × StopsPrinting sound Memory
+    × (¬ StopsPrinting failed NotBuilt)
 printing_stops = (lit≤ tt, λ rose. omega (arith, rose), tt, λ none. none)
 
 -- each of the three may have failed

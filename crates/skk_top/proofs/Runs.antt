@@ -1,26 +1,20 @@
 -- What runs leave, of what their parts leave.
-use Rattle.std.proofs.Common.{◌≡◌, ◌≤◌, ◌⊎◌, ◌∙◌, sym, ap, subst, refl, rules, ℕ, Bool, Option, Some, None, List, []}
-use Rattle.std.proofs.Common.{Ok, Err, IfErr, IfSome, IsErrAnd, IsErrOf, OnOk, not, true, false, encode_utf8_all, arith}
-use Rattle.std.proofs.Common.{inl, inr}
+use Rattle.std.proofs.Common.{◌≡◌, ◌∙◌, sym, subst, refl, rules, ℕ, Bool, Option, Some, None, List, []}
+use Rattle.std.proofs.Common.{Ok, Err, IfSome, not, true, false, encode_utf8_all, arith}
 use Rattle.std.specs.Io.KnownBytes.{Appends, Keeps}
 use Rattle.std.proofs.KnownBytes.{Consumes-nil}
 use Rattle.skk_outside.specs.Taken.{TakesAtMost}
 use Rattle.romaji_rules.specs.declared.rule.Rule.{Rule}
-use Rattle.skk_outside.specs.Moved.{Told, MovedShelf, MovedSource, MovedSink}
-use Rattle.skk_calls.specs.declared.answer.Answer.{Answer}
+use Rattle.skk_outside.specs.Moved.{Told, MovedSink}
 use Rattle.skk_calls.specs.declared.chronicle.Noted.{Noted}
 use Rattle.skk_calls.specs.Histories.{Opening}
 use Rattle.skk_calls.specs.InteractionLaws.{printed-answered_alone}
-use Rattle.skk_calls.specs.Interactions.{Interaction, asked, answers_of, calls_of, IsAnsweredAlone}
+use Rattle.skk_calls.specs.Interactions.{asked, answers_of, calls_of, IsAnsweredAlone}
 use Rattle.skk_calls.specs.Openings.{IsLegalOver, said_in, are_of_one, are_served, is_without_disk}
-use Rattle.skk_top.specs.Finishes.{EndsUnbegun}
 use Rattle.skk_top.specs.Status.{Ended, end_unless_refused}
-use Rattle.skk_top.specs.TypeCommand.{Prints, StopsTyping, TypesLines}
+use Rattle.skk_top.specs.TypeCommand.{Prints, TypesLines}
 use Rattle.skk_top.specs.Typed.{typing, typed_alone}
 use Rattle.skk_top.specs.Typing.{LeavesLines}
-use Rattle.skk_top.specs.declared.fault.RunFault.{RunFault}
-use Rattle.skk_top.specs.declared.fault.RunFault.TheVariants.{Memory}
-use Rattle.skk_top.specs.declared.finish.Run.{Run}
 use Rattle.skk_top.specs.declared.line.Line.{Line}
 
 -- what is known of bytes that are told

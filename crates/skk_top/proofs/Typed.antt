@@ -12,7 +12,7 @@ use Rattle.skk_calls.specs.Interactions.{Interaction, ends, printed, Dialog, Lea
 use Rattle.skk_top.specs.Page.{Printed, StopsPrinting}
 use Rattle.skk_top.specs.Sessions.{SessionMap}
 use Rattle.skk_top.specs.Status.{Ended}
-use Rattle.skk_top.specs.TypeCommand.{Prints, StopsTyping}
+use Rattle.skk_top.specs.TypeCommand.{StopsTyping}
 use Rattle.skk_top.specs.Typed.{typing, closing_lines}
 use Rattle.skk_top.specs.Typing.{Reaches, Breaks, BreaksFor, LeavesLines}
 use Rattle.skk_top.specs.declared.fault.RunFault.{RunFault}

@@ -1,6 +1,5 @@
 -- What a run of `check` leaves.
-use Rattle.std.specs.Prelude.{◌≡◌, ◌⊎◌, ℕ, List, IfSome, IsErrAnd}
-use Rattle.std.specs.Io.KnownBytes.{Keeps}
+use Rattle.std.specs.Prelude.{◌⊎◌, ℕ, List, IfSome}
 use Rattle.skk_outside.specs.Moved.{MovedShelf, MovedSink}
 use Rattle.dict_format.specs.FileLines.{Lists}
 use Rattle.dict_format.specs.declared.file.Listed.{Listed}

@@ -9,7 +9,7 @@ use Rattle.dict_format.specs.declared.file.FileFault.TheVariants as files
 use Rattle.dict_format.specs.declared.file.Listed.{Listed}
 use Rattle.skk_top.specs.RunFiles.{HasTextFlaw}
 use Rattle.skk_top.specs.Status.{fault_of_text}
-use Rattle.skk_top.specs.declared.run_file.RunFile.TheVariants.{Script, Rules, Dictionary}
+use Rattle.skk_top.specs.declared.run_file.RunFile.TheVariants.{Dictionary}
 use Rattle.skk_top.specs.declared.run_file.Flaw.{Flaw}
 use Rattle.skk_top.specs.declared.fault.RunFault.{RunFault}
 use Rattle.skk_top.specs.declared.fault.RunFault.TheVariants.{Refused, Outside, Memory}

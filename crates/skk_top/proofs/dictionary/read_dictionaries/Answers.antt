@@ -6,7 +6,6 @@ use Rattle.dict_format.specs.FileLines.{Lists}
 use Rattle.skk_outside.specs.Moved.{Told}
 use Rattle.skk_top.specs.Dictionaries.{AreRowsOf, HasDictionaryFlaw, ListsRows, RefusesDictionaries}
 use Rattle.skk_top.specs.RunFiles.{RefusesFile}
-use Rattle.skk_top.specs.declared.fault.RunFault.TheVariants.{Memory}
 use Rattle.skk_top.specs.declared.run_file.RunFile.TheVariants.{Dictionary}
 use Rattle.skk_top.proofs.Dictionaries.{refuses-first, rows-more}
 use Rattle.skk_top.proofs.RunFiles.{handed-on}

@@ -1,8 +1,5 @@
-use Rattle.std.proofs.Common.{◌++◌, ◌∷◌, [], ◌∙◌, subst, codes}
+use Rattle.std.proofs.Common.{◌++◌, codes}
 use Rattle.std.specs.Fmt.{decimal}
-use Rattle.skk_text.specs.Lines.{line_feed}
-use Rattle.skk_top.specs.Page.{Writes}
-use Rattle.skk_top.specs.Status.{fault_words, file_words, flaw_words}
 use Rattle.skk_top.proofs.Pages.{writes-stopped, writes-then}
 use Rattle.skk_top.proofs.fault.tell_dictionary.Goals as goal
 

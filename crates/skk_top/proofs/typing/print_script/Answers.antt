@@ -1,7 +1,7 @@
 use Rattle.std.proofs.Common.{arith}
 use Rattle.skk_top.specs.declared.fault.RunFault.TheVariants.{Outside}
 use Rattle.skk_top.proofs.PrintedChecks.{prefix-of, stops-behind}
-use Rattle.skk_top.proofs.Typed.{breaks-unwritten, leaves-broken, leaves-not_built, leaves-stopped, leaves-whole}
+use Rattle.skk_top.proofs.Typed.{breaks-unwritten, leaves-broken, leaves-not_built, leaves-whole}
 use Rattle.skk_top.proofs.Typed.{reaches-closed, reaches-written}
 use Rattle.skk_top.proofs.typing.print_script.Goals as goal
 
