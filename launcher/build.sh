@@ -1,0 +1,216 @@
+# Read by the launcher, which holds the lock then: proves the crates that the program stands on, and builds it.
+#
+# Crates that do not stand on each other are proved side by side. rt keeps every other command out of the folder of a
+# crate and of all below it, so each crate is proved in a copy of the sources, which is taken away afterwards. What rt
+# keeps of a crate lies in the crate's own out/ before and after: it is moved into the copy and back.
+
+copies=$out/copies
+sources=$copies/sources # the sources as they stood when the build began: all copies are made from it
+logs=$out/logs # the log of each crate
+
+# Copies all that rt reads, and what makes the checksum.
+copy_sources() {
+    mkdir -p "$sources/crates" && cp -R "$here/.ci" "$here/crates.txt" "$here/HANDLES" "$sources/" || return 1
+    for folder in "$here"/crates/*/; do
+        folder=${folder%/}
+        mkdir "$sources/crates/${folder##*/}" || return 1
+        for it in "$folder"/*; do
+            case $it in
+                */out | */must-fail) ;;
+                *) cp -R "$it" "$sources/crates/${folder##*/}/" || return 1 ;;
+            esac
+        done
+    done
+}
+
+# A line for each crate that the program stands on, and for its own: the name, how much there is to do, by the bytes of
+# its sources, how much in the longest chain of crates from it up to the program, and the crates that it stands on. The
+# longest chain is first, so that each crate comes behind those that it stands on. With its own crate the whole program
+# is built, which takes about a fifteenth of the time of all proofs.
+plan() {
+    for folder in "$sources"/crates/*; do
+        echo "${folder##*/} $(($(find "$folder" -type f -exec cat {} + | wc -c) + 5000))"
+    done | awk '
+        function visit(name, above, depth, count, at, deps) {
+            if (!(name in below) || depth > 99 || above + work[name] <= chain[name]) return
+            chain[name] = above + work[name]
+            count = split(below[name], deps, " ")
+            for (at = 1; at <= count; at++) visit(deps[at], chain[name], depth + 1)
+        }
+        FNR == NR { work[$1] = $2; all += $2; next }
+        { sub(/#.*/, "") }
+        /:/ { split($0, part, ":"); split(part[1], word, " "); below[word[1]] = part[2] }
+        END {
+            work["skk"] += int(all / 15)
+            visit("skk", 0, 0)
+            for (name in chain) {
+                line = name " " work[name] " " chain[name]
+                count = split(below[name], deps, " ")
+                for (at = 1; at <= count; at++) if (deps[at] in below) line = line " " deps[at]
+                print line
+            }
+        }' - "$sources/crates.txt" | sort -k 3,3nr
+}
+
+# How many crates may be proved at a time: one for each processor, and one for each 4 GB of free memory.
+lanes() {
+    awk -v most="$processors" '
+        /^MemAvailable:/ { fit = int($2 / 4000000) }
+        END { print fit < 1 ? 1 : fit < most ? fit : most }' /proc/meminfo
+}
+
+# The crates that are not begun and stand on none that is not proved.
+ready() {
+    echo "$plan" | while read -r name _ _ deps; do
+        case $begun in *" $name "*) continue ;; esac
+        for dep in $deps; do
+            case $ended in *" $dep "*) ;; *) continue 2 ;; esac
+        done
+        echo "$name"
+    done
+}
+
+# Makes the copy for a crate, by links, and moves there what rt keeps of it.
+make_copy() {
+    cp -Rl "$sources" "$copies/$1" || return 1
+    move_out "$here/crates/$1" "$copies/$1/crates/$1" "$here/crates/$1" || :
+}
+
+# Puts what was proved where others find it: a library beside the sources, with which it comes into the copies for the
+# crates above it.
+hand_on() {
+    if [ "$1" = skk ]; then
+        cp "$copies/skk/crates/skk/out/skk" "$copies/program"
+    else
+        mkdir "$sources/crates/$1/out" && cp -Rl "$copies/$1/crates/$1/out/rlib" "$sources/crates/$1/out/"
+    fi
+}
+
+# Moves a crate's out/ from one folder to another, while no rt works in the third, which is one of them. Where one works
+# there for long it is left: only time is lost then.
+move_out() {
+    # shellcheck disable=SC2016
+    [ ! -d "$1/out" ] || flock -w 10 "$3" sh -c 'rm -rf "$2/out" && mv "$1/out" "$2/out"' move "$1" "$2"
+}
+
+# Proves a crate in its copy, in the background, with its share of the processors, and writes to the pipe that it ended,
+# how, and after how many seconds.
+begin() {
+    begun="$begun$1 "
+    (
+        exec 2>"$logs/$1"
+        stopped='' child=''
+        trap 'stopped=yes; [ -z "$child" ] || kill "$child"' TERM HUP
+        since=$(date +%s)
+        status=1
+        if make_copy "$1" && [ -z "$stopped" ]; then
+            jobs=''
+            # A crate that is alone has all processors, and rt chooses.
+            [ "$2" -eq 1 ] || jobs="--jobs $(((processors + $2 - 1) / $2))"
+            how="lib $jobs"
+            [ "$1" = skk ] && how="run $jobs -- type"
+            # shellcheck disable=SC2086
+            (cd "$copies/$1/crates/$1" && exec rt $how) </dev/null >&2 8>&- &
+            child=$!
+            [ -z "$stopped" ] || kill "$child"
+            wait "$child"
+            status=$?
+            [ -z "$stopped" ] || wait "$child"
+        fi
+        [ "$status" -ne 0 ] || hand_on "$1" || status=1
+        move_out "$copies/$1/crates/$1" "$here/crates/$1" "$here/crates/$1"
+        rm -rf "${copies:?}/$1"
+        echo "$1 $status $(($(date +%s) - since))" >&8
+    ) 9>&- &
+    running="$running$1:$! "
+}
+
+# How long the rest may take, by what those took that were not done at once: all of it, side by side, and no less than
+# its longest chain.
+time_left() {
+    awk -v lanes="$lanes" '
+        FNR == NR { took[$1] = $2; next }
+        $1 in took { if (took[$1] > 5) { work += $2; seconds += took[$1] } next }
+        { rest += $2; if ($3 > longest) longest = $3 }
+        END {
+            if (!work || !rest) exit
+            left = (rest / lanes > longest ? rest / lanes : longest) * seconds / work
+            if (left < 90) print ", about a minute"; else print ", some " int(left / 60 + 0.5) " minutes"
+        }' "$copies/times" "$copies/plan"
+}
+
+# Ends all that still runs, with what it started, and takes the copies away.
+stop() {
+    trap '' INT TERM HUP
+    for it in $running; do
+        kill "${it#*:}" 2>/dev/null
+    done
+    wait
+    exec 8>&-
+    rm -rf "$copies"
+    trap - INT TERM HUP
+}
+
+# Proves the crates of the plan, each as soon as those that it stands on are proved.
+prove() {
+    left=$(echo "$plan" | wc -l)
+    tell "proving $left crates, up to $lanes at a time"
+    while [ "$left" -gt 0 ]; do
+        ready=$(ready)
+        # shellcheck disable=SC2086
+        together=$(echo $running $ready | wc -w)
+        [ "$together" -le "$lanes" ] || together=$lanes
+        for name in $ready; do
+            # shellcheck disable=SC2086
+            [ "$(echo $running | wc -w)" -ge "$lanes" ] || begin "$name" "$together"
+        done
+        if [ "$running" = ' ' ]; then
+            tell 'crates.txt leaves no crate to begin with: it has a circle, or no line of skk'
+            return 1
+        fi
+        read -r name status seconds <&8 || continue
+        running=$(echo "$running" | sed "s/ $name:[0-9]* / /")
+        if [ "$status" -ne 0 ]; then
+            grep -E '(: error|^error)|no proof:' "$logs/$name" | head -n 5 >&2
+            tell "$name is not proved, so no program is run; the whole log is $logs/$name"
+            return 1
+        fi
+        ended="$ended$name "
+        echo "$name $seconds" >>"$copies/times"
+        left=$((left - 1))
+        tell "$name is proved, $left left$(time_left)"
+    done
+}
+
+# Proves the crates from the sources as they stand, and puts the program and their checksum in place.
+make_program() {
+    mkdir -p "$logs" && copy_sources && mkfifo "$copies/ends" && exec 8<>"$copies/ends" || return 1
+    started=$("$sources/.ci/sum-of-sources")
+    plan=$(plan)
+    echo "$plan" >"$copies/plan"
+    processors=$(nproc)
+    lanes=$(lanes)
+    prove && echo "$started" >"$out/looked" || return 1
+    if [ "$started" != "$("$here/.ci/sum-of-sources")" ]; then
+        tell 'a source changed while it was proved: start again'
+        return 1
+    fi
+    mv "$copies/program" "$program" && mv "$out/looked" "$proved"
+}
+
+# Proves the crates and builds the program, which is taken away before.
+build() {
+    rm -rf "$program" "$proved" "$copies" "$logs"
+    if ! command -v rt >/dev/null; then
+        tell 'the command rt of the toolchain is not on the path: README.md says where it comes from ("What it needs")'
+        return 1
+    fi
+    running=' ' begun=' ' ended=' '
+    trap 'stop; exit 130' INT
+    trap 'stop; exit 143' TERM
+    trap 'stop; exit 129' HUP
+    make_program
+    made=$?
+    stop
+    return "$made"
+}
