@@ -93,24 +93,30 @@ move_out() {
     [ ! -d "$1/out" ] || flock -w 10 "$3" sh -c 'rm -rf "$2/out" && mv "$1/out" "$2/out"' move "$1" "$2"
 }
 
-# Proves a crate in its copy, in the background, with its share of the processors, and writes to the pipe that it ended,
-# how, and after how many seconds.
+# The crate that is first in the longest chain of what is left: the program can be there no sooner than its chain.
+first() {
+    echo "$plan" | while read -r name _; do
+        case $ended in *" $name "*) ;; *) echo "$name" && break ;; esac
+    done
+}
+
+# Proves a crate in its copy, in the background, and writes to the pipe that it ended, and how.
+# The crate that all others wait for in the end has as many jobs as rt chooses; the others have two each, and take what
+# of the processors it leaves.
 begin() {
     begun="$begun$1 "
     (
         exec 2>"$logs/$1"
         stopped='' child=''
         trap 'stopped=yes; [ -z "$child" ] || kill "$child"' TERM HUP
-        since=$(date +%s)
         status=1
         if make_copy "$1" && [ -z "$stopped" ]; then
-            jobs=''
-            # A crate that is alone has all processors, and rt chooses.
-            [ "$2" -eq 1 ] || jobs="--jobs $(((processors + $2 - 1) / $2))"
+            give_way='nice -n 10' jobs='--jobs 2'
+            [ "$1" != "$2" ] || give_way='' jobs=''
             how="lib $jobs"
-            [ "$1" = skk ] && how="run $jobs -- type"
+            [ "$1" != skk ] || how="run $jobs -- type"
             # shellcheck disable=SC2086
-            (cd "$copies/$1/crates/$1" && exec rt $how) </dev/null >&2 8>&- &
+            (cd "$copies/$1/crates/$1" && exec $give_way rt $how) </dev/null >&2 8>&- &
             child=$!
             [ -z "$stopped" ] || kill "$child"
             wait "$child"
@@ -120,23 +126,21 @@ begin() {
         [ "$status" -ne 0 ] || hand_on "$1" || status=1
         move_out "$copies/$1/crates/$1" "$here/crates/$1" "$here/crates/$1"
         rm -rf "${copies:?}/$1"
-        echo "$1 $status $(($(date +%s) - since))" >&8
+        echo "$1 $status" >&8
     ) 9>&- &
     running="$running$1:$! "
 }
 
-# How long the rest may take, by what those took that were not done at once: all of it, side by side, and no less than
-# its longest chain.
+# How long the rest may take: what is left of the longest chain, by the time that its part so far took.
 time_left() {
-    awk -v lanes="$lanes" '
-        FNR == NR { took[$1] = $2; next }
-        $1 in took { if (took[$1] > 5) { work += $2; seconds += took[$1] } next }
-        { rest += $2; if ($3 > longest) longest = $3 }
+    echo "$plan" | awk -v ended="$ended" -v seconds="$(($(date +%s) - since))" '
+        NR == 1 { whole = $3 }
+        !index(ended, " " $1 " ") { left = $3; exit }
         END {
-            if (!work || !rest) exit
-            left = (rest / lanes > longest ? rest / lanes : longest) * seconds / work
+            if (!left || (whole - left) * 10 < whole) exit
+            left = left * seconds / (whole - left)
             if (left < 90) print ", about a minute"; else print ", some " int(left / 60 + 0.5) " minutes"
-        }' "$copies/times" "$copies/plan"
+        }'
 }
 
 # Ends all that still runs, with what it started, and takes the copies away.
@@ -156,19 +160,16 @@ prove() {
     left=$(echo "$plan" | wc -l)
     tell "proving $left crates, up to $lanes at a time"
     while [ "$left" -gt 0 ]; do
-        ready=$(ready)
-        # shellcheck disable=SC2086
-        together=$(echo $running $ready | wc -w)
-        [ "$together" -le "$lanes" ] || together=$lanes
-        for name in $ready; do
+        first=$(first)
+        for name in $(ready); do
             # shellcheck disable=SC2086
-            [ "$(echo $running | wc -w)" -ge "$lanes" ] || begin "$name" "$together"
+            [ "$(echo $running | wc -w)" -ge "$lanes" ] || begin "$name" "$first"
         done
         if [ "$running" = ' ' ]; then
             tell 'crates.txt leaves no crate to begin with: it has a circle, or no line of skk'
             return 1
         fi
-        read -r name status seconds <&8 || continue
+        read -r name status <&8 || continue
         running=$(echo "$running" | sed "s/ $name:[0-9]* / /")
         if [ "$status" -ne 0 ]; then
             grep -E '(: error|^error)|no proof:' "$logs/$name" | head -n 5 >&2
@@ -176,7 +177,6 @@ prove() {
             return 1
         fi
         ended="$ended$name "
-        echo "$name $seconds" >>"$copies/times"
         left=$((left - 1))
         tell "$name is proved, $left left$(time_left)"
     done
@@ -187,9 +187,9 @@ make_program() {
     mkdir -p "$logs" && copy_sources && mkfifo "$copies/ends" && exec 8<>"$copies/ends" || return 1
     started=$("$sources/.ci/sum-of-sources")
     plan=$(plan)
-    echo "$plan" >"$copies/plan"
     processors=$(nproc)
     lanes=$(lanes)
+    since=$(date +%s)
     prove && echo "$started" >"$out/looked" || return 1
     if [ "$started" != "$("$here/.ci/sum-of-sources")" ]; then
         tell 'a source changed while it was proved: start again'

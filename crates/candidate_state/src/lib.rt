@@ -10,8 +10,6 @@ mod cands_do;
 mod picking;
 mod press;
 mod shown;
-#[cfg(test)]
-mod tests;
 
 pub use cands_do::{AfterChoose, CandsDo};
 pub use picking::Picking;

@@ -23,8 +23,6 @@ mod printing;
 mod readings;
 mod reason;
 mod row;
-#[cfg(test)]
-mod tests;
 mod words;
 
 pub use file::{BadLine, BadLines, FileFault, Listed};

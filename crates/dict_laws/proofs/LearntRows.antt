@@ -17,7 +17,8 @@ use Rattle.skk_calls.specs.Learning.{learnt_blocks, learnt, row_or_empty}
 use Rattle.skk_calls.specs.Rows.{RowKey, Cand, Block, Row, same_text, has_text, texts_differ, is_row_key, is_okuri}
 use Rattle.skk_calls.specs.Rows.{is_word, is_cand, is_block, fits_blocks, words_of, okuri_of, is_row}
 use Rattle.skk_calls.specs.RowLaws.{RowParts, row_from_parts, block_from_parts, block_parts, cand_with_note_of}
-use Rattle.dict_laws.proofs.RowParts.{BeforeParts, good_from_parts, cand_word}
+use Rattle.skk_calls.specs.RowLaws.{cand_word}
+use Rattle.dict_laws.proofs.RowParts.{BeforeParts, good_from_parts}
 use Rattle.dict_laws.proofs.Texts.{differ_parts, differ_from, differ_front, differ_filter, words_without}
 
 -- a list with an item at its front has one

@@ -68,19 +68,6 @@ before_parts count key (Some row) e has_text fits = record {
       (and_parts (is_row row) (is_good row && has_stamp count row) fits).1).0;
 }
 
--- the word of a candidate is one
-pub cand_word : (cand : Cand) → is_cand cand ≡ true → is_word cand.word ≡ true
-cand_word cand e =
-    by (length cand.word) (byte_len cand.word) (byte_len cand.note)
-    (and_parts (nat_le 1 (length cand.word)) (is_note cand.note && short) e).0
-    (and_parts (is_note cand.note) short (and_parts (nat_le 1 (length cand.word)) (is_note cand.note && short) e).1).1
-  where
-    short : Bool
-    short = nat_le (byte_len cand.word + byte_len cand.note) word_limit
-
-    by : (l w n : ℕ) → nat_le 1 l ≡ true → nat_le (w + n) 4095 ≡ true → (nat_le 1 l && nat_le w 4095) ≡ true
-    by l w n has_item short = grind (arith, nat_tests)
-
 -- a row that says something, hides words alone and is short is good
 pub good_from_parts : (row : Row) → RowParts row → list_all is_word row.hides ≡ true
     → (not (is_empty row.cands) || (not (is_empty row.blocks) || not (is_empty row.hides))) ≡ true

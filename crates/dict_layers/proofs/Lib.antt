@@ -1,6 +1,5 @@
 pub mod BlockFirst
 pub mod Completing
-pub mod Differing
 pub mod Index
 pub mod Indexes
 pub mod LayersAdded

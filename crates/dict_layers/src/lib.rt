@@ -14,8 +14,6 @@ mod merging;
 mod ordering;
 mod orders;
 mod system;
-#[cfg(test)]
-mod tests;
 
 pub use laws::walks_go_over_completions;
 pub use merging::merge;

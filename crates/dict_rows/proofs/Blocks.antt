@@ -12,21 +12,9 @@ use Rattle.skk_calls.specs.DifferLaws.{differ_front}
 use Rattle.skk_calls.specs.Found.{note_of}
 use Rattle.skk_calls.specs.KeyLaws.{same_equal}
 use Rattle.skk_calls.specs.Learning.{block_without, learnt_note, without_text}
-use Rattle.skk_calls.specs.RowLaws.{block_from_parts, block_parts}
+use Rattle.skk_calls.specs.RowLaws.{block_from_parts, block_parts, cand_word}
 use Rattle.skk_calls.specs.Rows.{Cand, Block, same_text, texts_differ, is_cand, is_block, is_note, is_okuri, is_word}
 use Rattle.skk_calls.specs.Rows.{word_limit, words_of}
-
--- the word of a candidate is one
-pub cand_word : (cand : Cand) → is_cand cand ≡ true → is_word cand.word ≡ true
-cand_word cand e =
-    let parts = and_parts (nat_le 1 (length cand.word))
-    (is_note cand.note && nat_le (byte_len cand.word + byte_len cand.note) word_limit) e in
-    by (length cand.word) (byte_len cand.word) (byte_len cand.note) parts.0
-    (and_parts (is_note cand.note) (nat_le (byte_len cand.word + byte_len cand.note) word_limit) parts.1).1
-  where
-    by : (l w n : ℕ) → nat_le 1 l ≡ true → nat_le (w + n) word_limit ≡ true
-        → (nat_le 1 l && nat_le w word_limit) ≡ true
-    by l w n has_item short = grind (arith, nat_tests)
 
 -- a list with an item at its front has one
 one_more : {X : Type 0} (x : X) (xs : List X) → nat_le 1 (length (x ∷ xs)) ≡ true

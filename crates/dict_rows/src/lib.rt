@@ -11,8 +11,6 @@ mod learnt_blocks;
 mod length;
 mod purging;
 mod row_or_empty;
-#[cfg(test)]
-mod tests;
 
 pub use learning::learn_row;
 pub use length::line_length;

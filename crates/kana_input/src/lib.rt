@@ -6,7 +6,5 @@
 #![tactic(auto)]
 
 mod plain;
-#[cfg(test)]
-mod tests;
 
 pub use plain::{Plain, PlainDo, PlainThen, press_plain};

@@ -13,8 +13,6 @@ mod kept_row;
 mod layering;
 mod plan;
 mod planning;
-#[cfg(test)]
-mod tests;
 
 pub use index::Index;
 pub use kept_row::KeptRow;

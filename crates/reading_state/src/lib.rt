@@ -9,8 +9,6 @@
 mod press;
 mod reading;
 mod reading_do;
-#[cfg(test)]
-mod tests;
 
 pub use press::press_reading;
 pub use reading::{Begun, Completions, Reading};

@@ -14,7 +14,7 @@ use Rattle.romaji_rules.specs.Fed.{IsProperPrefix, BeginsInput, IsInput, GoesOn}
 use Rattle.romaji_rules.specs.declared.standing.Standing.{Standing}
 use Rattle.romaji_rules.specs.declared.standing.Standing.TheVariants.{Begins, Input}
 use Rattle.romaji_rules.specs.Standing.{IsStanding}
-use Rattle.romaji_rules.specs.Typed.{begins_input, rule_of, goes_on, extends_pending}
+use Rattle.romaji_rules.specs.Typed.{begins_input, rule_of, goes_on}
 use Rattle.romaji_rules.proofs.Found.{list_any-Contains, find-Some, find-None}
 
 -- a text that goes past its prefix has one more character there
@@ -79,12 +79,6 @@ module _ (rules : List Rule) (text : List ℕ) where
 
   pub goes_on-exact : (r : Bool) → r ≡ goes_on rules text → IsTrue r ↔ GoesOn rules text
   goes_on-exact r e = (λ t. goes_on-Decides.0 (sym e ∙ t), λ h. e ∙ goes_on-Decides.1 h)
-
--- what is pending is not extended by a character that does not go on with it
-pub not-extended : (rules : List Rule) (pending : List ℕ) (c : ℕ) → goes_on rules (pending ++ c ∷ []) ≡ false
-    → extends_pending rules pending c ≡ false
-not-extended rules [] c e = refl
-not-extended rules (b ∷ pending) c e = e
 
 -- a text that begins an input, or is one, goes on
 pub standing-goes_on : (rules : List Rule) (text whole : List ℕ) (standing : Standing) → IsStanding rules text standing

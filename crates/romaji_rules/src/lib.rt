@@ -21,8 +21,6 @@ mod rule_list;
 mod rules;
 mod standard;
 mod standing;
-#[cfg(test)]
-mod tests;
 mod text_end;
 
 pub use laws::{one_flush, one_step};

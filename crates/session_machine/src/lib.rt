@@ -22,8 +22,6 @@ mod printing;
 mod purging;
 mod session;
 mod session_notice;
-#[cfg(test)]
-mod tests;
 mod undoing;
 
 pub use frame::{Choice, Conversion, Frame, Frames, State};

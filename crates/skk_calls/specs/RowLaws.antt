@@ -8,7 +8,7 @@ use Rattle.skk_text.specs.Text.{byte_len}
 use Rattle.skk_calls.specs.Found.{note_of}
 use Rattle.skk_calls.specs.KeyLaws.{same_equal}
 use Rattle.skk_calls.specs.Rows.{Cand, Block, Row, same_text, texts_differ, word_limit, is_row_key, is_okuri, is_word}
-use Rattle.skk_calls.specs.Rows.{is_cand, is_block, fits_blocks, words_of, okuri_of, is_row}
+use Rattle.skk_calls.specs.Rows.{is_cand, is_note, is_block, fits_blocks, words_of, okuri_of, is_row}
 
 -- what a row keeps
 pub record RowParts (row : Row) : Type 0 where
@@ -85,6 +85,18 @@ block_parts block e =
       words = (and_parts (list_all is_word block.words) (texts_differ block.words) words).0;
       different = (and_parts (list_all is_word block.words) (texts_differ block.words) words).1;
     }
+
+-- the word of a candidate is one
+pub cand_word : (cand : Cand) → is_cand cand ≡ true → is_word cand.word ≡ true
+cand_word cand e =
+    let parts = and_parts (nat_le 1 (length cand.word))
+    (is_note cand.note && nat_le (byte_len cand.word + byte_len cand.note) word_limit) e in
+    by (length cand.word) (byte_len cand.word) (byte_len cand.note) parts.0
+    (and_parts (is_note cand.note) (nat_le (byte_len cand.word + byte_len cand.note) word_limit) parts.1).1
+  where
+    by : (l w n : ℕ) → nat_le 1 l ≡ true → nat_le (w + n) word_limit ≡ true
+        → (nat_le 1 l && nat_le w word_limit) ≡ true
+    by l w n has_item short = grind (arith, nat_tests)
 
 -- a word with the note that a candidate has for it is a candidate
 pub cand_with_note_of : (cands : List Cand) (word : List ℕ) → is_word word ≡ true → list_all is_cand cands ≡ true

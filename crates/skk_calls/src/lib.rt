@@ -25,8 +25,6 @@ mod row;
 mod row_key;
 mod state;
 mod tally;
-#[cfg(test)]
-mod tests;
 mod walk;
 
 pub use answer::{Answer, Answers, Refusal, Reply};

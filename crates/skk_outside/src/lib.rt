@@ -20,8 +20,6 @@ mod reader_source;
 mod shelf;
 mod sink;
 mod source;
-#[cfg(test)]
-mod tests;
 mod writer_sink;
 
 pub use host_shelf::HostShelf;

@@ -16,8 +16,6 @@ mod memory;
 mod mode;
 mod notice;
 mod sequence;
-#[cfg(test)]
-mod tests;
 mod text;
 mod text_file;
 

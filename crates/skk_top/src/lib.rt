@@ -27,8 +27,6 @@ mod script;
 mod setting;
 mod setting_words;
 mod settings;
-#[cfg(test)]
-mod tests;
 mod type_command;
 mod typing;
 mod word;

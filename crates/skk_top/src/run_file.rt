@@ -4,7 +4,7 @@ ghost use Rattle.skk_top.specs.RunFiles.{RefusesFile, IsLonger};
 use crate::fault::RunFault;
 use crate::word::Word;
 use skk_outside::{ReadFault, Shelf, read_named_file};
-use skk_text::{Bytes, Text, TextFault};
+use skk_text::{Bytes, TextFault};
 use std::alloc::Global;
 
 /// A file that a run reads.
@@ -88,25 +88,7 @@ pub fn read_run_file<H: Shelf>(
     ensures kept { H.file shelf.new ≡ H.file shelf.old }
 {
     let name = name.to_text(alloc)?;
-    read_text_named(alloc, shelf, &name, file, limit)
-}
-
-// Reads the bytes of a file of a run, that of this name, where they are no more than `limit`.
-fn read_text_named<H: Shelf>(
-    alloc: Global,
-    shelf: &mut H,
-    name: &Text,
-    file: RunFile,
-    limit: usize,
-) -> Result<Bytes, RunFault>
-    requires { limit < 2 ^ 62 }
-    ensures whole { IfOk result (λ bytes. IfSome (H.file shelf.old name.now) (λ told. bytes ≡ told)) }
-    ensures refused { IfErr result (RefusesFile file (IsLonger limit) (H.file shelf.old name.now)
-        (H.faults shelf.old) (H.faults shelf.new)) }
-    ensures counted { H.faults shelf.old ≤ H.faults shelf.new }
-    ensures kept { H.file shelf.new ≡ H.file shelf.old }
-{
-    match read_named_file(alloc, shelf, name, limit) {
+    match read_named_file(alloc, shelf, &name, limit) {
         Ok(bytes) => Ok(bytes),
         Err(fault) => Err(file.fault_of_read(fault)),
     }

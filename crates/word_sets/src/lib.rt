@@ -7,8 +7,6 @@
 #![tactic(auto)]
 
 mod first_cands;
-#[cfg(test)]
-mod tests;
 mod word_set;
 
 pub use first_cands::FirstCands;

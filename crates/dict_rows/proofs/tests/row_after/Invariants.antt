@@ -1,7 +1,0 @@
-use Rattle.std.proofs.Common.{◌≡◌}
-use Rattle.std.specs.Option.{IfSome}
-use Rattle.dict_rows.proofs.tests.row_after.Given as goal
-
--- the row so far, if there is one, is of the key
-abbrev pub invariant-loop-change : goal.invariant-loop-change
-invariant-loop-change l = IfSome l.row (λ row. row.key ≡ l.key)

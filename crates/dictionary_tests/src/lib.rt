@@ -1,0 +1,23 @@
+//! Tests of the public calls of the crates of the dictionary, lowest first: texts and keys, traces, calls, sets of
+//! words, rows, layers, learning, and the format of a dictionary file.
+//!
+//! They stand above those crates, so that none of these is proved once with its tests and once without. It has no
+//! public item.
+#![tactic(auto)]
+
+#[cfg(test)]
+mod calls;
+#[cfg(test)]
+mod format;
+#[cfg(test)]
+mod layers;
+#[cfg(test)]
+mod learning;
+#[cfg(test)]
+mod rows;
+#[cfg(test)]
+mod texts;
+#[cfg(test)]
+mod traces;
+#[cfg(test)]
+mod words;

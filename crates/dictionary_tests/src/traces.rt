@@ -1,0 +1,70 @@
+ghost use Rattle.std.specs.Prelude.{◌≡◌, true, false, [], ◌∷◌, IfOk};
+
+use skk_trace::{Shows, Trace};
+use std::alloc::{AllocError, Global};
+use std::test::Fail;
+
+// A disk, of which contracts see how many blocks it has.
+trait Disk {
+    ghost use Rattle.std.specs.Prelude.{ℕ};
+
+    ghost blocks: { Self → ℕ };
+}
+
+#[derive(Drop)]
+struct SmallDisk {
+    blocks: u64,
+}
+
+impl Disk for SmallDisk {
+    ghost blocks = { λ disk. disk.blocks };
+}
+
+// What a disk answered, as contracts see it. No value of it is made.
+struct Event {
+    blocks: u64,
+    full: bool,
+}
+
+// A disk and its answer.
+#[derive(Drop)]
+struct Answered<'a, D> {
+    disk: &'a D,
+    full: bool,
+}
+
+impl<D: Disk> Shows<Event> for Answered<'_, D> {
+    ghost shows = { λ answered. record { blocks = D.blocks answered.disk.now; full = answered.full } };
+}
+
+// Three answers of a disk, in order.
+fn three_answers<D: Disk>(alloc: Global, disk: &D) -> Result<Trace<Event>, AllocError>
+    ensures { IfOk result (λ trace. trace ≡ record {
+      blocks = D.blocks disk.now;
+      full = false;
+    } ∷ record { blocks = D.blocks disk.now; full = true } ∷ record { blocks = D.blocks disk.now; full = false } ∷ []) }
+{
+    let mut trace = Trace::new(alloc, &Answered { disk, full: false })?;
+    trace.note(&Answered { disk, full: true });
+    trace.note(&Answered { disk, full: false });
+    Ok(trace)
+}
+
+fn send<T: Send>(value: T) -> T
+    ensures { result ≡ value }
+{
+    value
+}
+
+#[test]
+fn a_trace_is_made_and_noted_in(rt: HostRuntime) -> Result<(), Fail> {
+    let disk = SmallDisk { blocks: 3 };
+    let mut trace = send(three_answers(rt.alloc(), &disk)?);
+    for _ in 0..100 {
+        trace.note(&Answered {
+            disk: &disk,
+            full: true,
+        });
+    }
+    Ok(())
+}

@@ -1,0 +1,48 @@
+use kana_input::{Plain, PlainThen, press_plain};
+use romaji_rules::Rules;
+use skk_text::{Text, read_keys};
+use std::alloc::Global;
+use std::test::Fail;
+
+// What is typed in hiragana mode; `=`; and then all that is inserted, what waits, the mode, and
+// what the last key does besides.
+const CASES: &str = "
+kan=か:n:Hira:Stay kana=かな::Hira:Stay kany=か:ny:Hira:Stay kan1=かん1::Hira:Stay kanq=かん::Kata:Stay
+qkan<cj>=カン::Kata:Stay zl=→::Hira:Stay kal=か::Ascii:Stay laA/=aA/::Ascii:Stay La=ａ::Wide:Stay
+La<cj>=ａ::Hira:Stay kanQ=かん::Hira:OpenReading(None) n/=ん::Hira:OpenAbbrev kanK=かん::Hira:OpenReading(Some(107))
+ky<bs>=:k:Hira:Stay ka<bs>=か::Hira:DeleteLast k<cg>=::Hira:Stay ka<cg>=か::Hira:Cancel n<ret>=ん::Hira:Newline
+n<tab>=:n:Hira:Stay n<undo>=:n:Hira:AskUndo l<ret>=::Ascii:Newline l<cg>=::Ascii:Stay l<bs>=::Ascii:DeleteLast
+";
+
+// What keys come to that are typed in hiragana mode, as a case has it.
+fn outcome_of(alloc: Global, rules: &Rules, keys: &str) -> Result<String, Fail> {
+    let mut plain = Plain::new();
+    let mut inserted = Text::new(alloc);
+    let mut then = PlainThen::Stay;
+    let keys = read_keys(alloc, keys.as_bytes())?;
+    for key in keys.iter() {
+        let done = press_plain(alloc, &mut plain, rules, *key)?;
+        inserted.push_str(done.insert.as_str())?;
+        then = done.then;
+    }
+    let inserted = inserted.as_str();
+    let pending = plain.pending.as_str();
+    let mode = plain.mode;
+    Ok(format!(in alloc; "{inserted}:{pending}:{mode:?}:{then:?}")?)
+}
+
+#[test]
+fn keys_are_read_in_the_plain_state(rt: HostRuntime) -> Result<(), Fail> {
+    let alloc = rt.alloc();
+    let rules = Rules::standard(alloc)?;
+    assert_eq!(rt; CASES.split_whitespace().count(), 24);
+    for case in CASES.split_whitespace() {
+        let (keys, wanted) = case.split_once('=').ok_or("no `=`")?;
+        assert_eq!(rt;
+            outcome_of(alloc, &rules, keys)?.as_str(),
+            wanted,
+            "typed {keys}"
+        );
+    }
+    Ok(())
+}

@@ -1,0 +1,205 @@
+ghost use Rattle.std.specs.Prelude.{◌≡◌, ◌≢◌, [], true, IfOk};
+ghost use Rattle.std.specs.List.{list_all};
+ghost use Rattle.skk_calls.specs.Dictionary.{is_plain_reading};
+
+use reading_state::{AfterConfirm, Reading, ReadingDo, ReadingThen, press_reading};
+use romaji_rules::Rules;
+use skk_calls::{Part, RowKey};
+use skk_text::{Copies, Key, Notice, Text, Texts, read_keys};
+use std::alloc::{AllocError, Global};
+use std::test::Fail;
+
+// What is typed into a new reading, where `_` is the space; `=`; the reading, with `*` before the kana of an okurigana
+// that was begun; `:` and what is pending; and then what the last key tells, and what it does.
+const CASES: &str = "
+kanj=かん:j:Empty:stay kanji=かんじ::Empty:stay a1;-=あ1;ー::Empty:stay ;=::Reading:stay
+Kanji_=かんじ::Empty:convert kan_=かん::Empty:convert _=::Empty:drop k_=::Empty:drop
+ugoK_=うご::Empty:stay YoN_=よ*ん::Empty:convert
+kanq=かん::Empty:other kal=か::Empty:ascii kazl=か→::Empty:stay kanL=かん::Empty:wide kakQ=か::Empty:open
+cho>=ちょ>::Empty:convert n>=ん>::Empty:convert k>=>::Empty:stay ooK>=おお*::Reading:stay
+ITta=い*った::Empty:convert ItTa=い*った::Empty:convert ItT=い*っ:t:Empty:stay
+UgoKu=うご*く::Empty:convert UgoK=うご*:k:Empty:stay OoK1=おお*::Reading:stay
+YoNde=よ*んで::Empty:convert KanJi=かん*じ::Empty:convert kK=:k:Empty:stay KaI=か*い::Empty:convert
+kan<cj>=かん::Empty:confirm kan<ret>=かん::Empty:newline kan<cg>=か:n:Empty:drop kan<undo>=か:n:NoUndo:stay
+kan<tab>=かん::Empty:complete ugoK<tab>=うご*:k:NoCompletion:stay
+kany<bs>=か:n:Empty:stay kana<bs>=か::Empty:stay ItTa<bs>=い*っ::Empty:stay ItTa<bs><bs>=い::Empty:stay
+UgoK<bs>=うご::Empty:stay OoK1<bs>=お::Empty:stay <bs>=::Empty:drop
+";
+
+// What is done with a reading, in a word.
+fn word_of(then: ReadingThen) -> &'static str {
+    match then {
+        ReadingThen::Stay => "stay",
+        ReadingThen::Convert => "convert",
+        ReadingThen::AskCompletions => "complete",
+        ReadingThen::Drop => "drop",
+        ReadingThen::Confirm { other, then } => {
+            if other {
+                return "other";
+            }
+            match then {
+                AfterConfirm::Nothing => "confirm",
+                AfterConfirm::ToAscii => "ascii",
+                AfterConfirm::ToWide => "wide",
+                AfterConfirm::OpenReading => "open",
+                AfterConfirm::Newline => "newline",
+            }
+        }
+    }
+}
+
+// A reading and what is done with it, as the cases have it.
+fn case_text(alloc: Global, reading: &Reading, done: ReadingDo) -> Result<String, AllocError> {
+    let text = reading.text().as_str();
+    let pending = reading.pending().as_str();
+    let then = word_of(done.then);
+    let notice = done.notice;
+    match reading.begun_text() {
+        Some(kana) => format!(in alloc; "{text}*{}:{pending}:{notice:?}:{then}", kana.as_str()),
+        None => format!(in alloc; "{text}:{pending}:{notice:?}:{then}"),
+    }
+}
+
+// Presses keys, and gives what the last one gives.
+fn press_keys(
+    alloc: Global,
+    reading: &mut Reading,
+    rules: &Rules,
+    keys: &str,
+) -> Result<ReadingDo, Fail> {
+    let mut done = ReadingDo {
+        notice: Notice::Empty,
+        then: ReadingThen::Stay,
+    };
+    let keys = read_keys(alloc, keys.as_bytes())?;
+    for key in keys.as_slice() {
+        let key = match *key {
+            Key::Char(b'_') => Key::Char(b' '),
+            other => other,
+        };
+        done = press_reading(alloc, reading, rules, key)?;
+    }
+    Ok(done)
+}
+
+#[test]
+fn keys_make_a_reading(rt: HostRuntime) -> Result<(), Fail> {
+    let alloc = rt.alloc();
+    let rules = Rules::standard(alloc)?;
+    assert_eq!(rt; CASES.split_whitespace().count(), 42);
+    for case in CASES.split_whitespace() {
+        let (keys, wanted) = case.split_once('=').ok_or("no `=`")?;
+        let mut reading = Reading::new(alloc);
+        let done = press_keys(alloc, &mut reading, &rules, keys)?;
+        assert_eq!(rt;
+            case_text(alloc, &reading, done)?.as_str(),
+            wanted,
+            "typed {keys}"
+        );
+    }
+    Ok(())
+}
+
+// The readings かん, かんじ and かき, which complete か.
+fn completions(alloc: Global) -> Result<Texts, Fail>
+    ensures { IfOk result (λ readings. list_all is_plain_reading readings ≡ true) }
+{
+    let mut readings = Texts::new(alloc);
+    readings.push(plain_reading(alloc, "かん")?)?;
+    readings.push(plain_reading(alloc, "かんじ")?)?;
+    readings.push(plain_reading(alloc, "かき")?)?;
+    Ok(readings)
+}
+
+// A valid reading without okurigana.
+fn plain_reading(alloc: Global, text: &str) -> Result<Text, Fail>
+    ensures { IfOk result (λ reading. is_plain_reading reading ≡ true) }
+{
+    let mut reading = Text::new(alloc);
+    reading.push_str(text)?;
+    let key = RowKey::new(Part::Nasi, reading)?;
+    Ok(key.reading().copy(alloc)?)
+}
+
+// What is typed where か was completed, and the reading after it.
+const COMPLETED: &str = "
+.=かんじ::Empty:stay .<tab>=かき::Empty:stay ..<tab>=かき::NoMore:stay ,=かん::NoMore:stay .,=かん::Empty:stay
+.n.=かんじん。::Empty:stay .,n=かん:n:Empty:stay ._=かんじ::Empty:convert .<undo>=かんじ::NoUndo:stay
+..<bs>,=か、::Empty:stay .Ku=かんじ*く::Empty:convert .<cg>=かんじ::Empty:drop
+";
+
+#[test]
+fn completions_are_gone_over(rt: HostRuntime) -> Result<(), Fail> {
+    let alloc = rt.alloc();
+    let rules = Rules::standard(alloc)?;
+    assert_eq!(rt; COMPLETED.split_whitespace().count(), 12);
+    for case in COMPLETED.split_whitespace() {
+        let (keys, wanted) = case.split_once('=').ok_or("no `=`")?;
+        let mut reading = Reading::new(alloc);
+        press_keys(alloc, &mut reading, &rules, "ka")?;
+        assert_eq!(rt;
+            reading.complete(alloc, completions(alloc)?)?,
+            Notice::Empty
+        );
+        let done = press_keys(alloc, &mut reading, &rules, keys)?;
+        assert_eq!(rt;
+            case_text(alloc, &reading, done)?.as_str(),
+            wanted,
+            "typed {keys}"
+        );
+    }
+    let mut reading = Reading::new(alloc);
+    assert_eq!(rt;
+        reading.complete(alloc, Texts::new(alloc))?,
+        Notice::NoCompletion
+    );
+    Ok(())
+}
+
+// The reading after keys.
+fn reading_after(alloc: Global, reading: Reading, keys: &str) -> Result<Reading, Fail> {
+    let rules = Rules::standard(alloc)?;
+    let mut reading = reading;
+    press_keys(alloc, &mut reading, &rules, keys)?;
+    Ok(reading)
+}
+
+// The part and the text of the key that a reading is converted by.
+fn key_of(alloc: Global, reading: &Reading) -> Result<String, Fail>
+    requires { reading.now.text ≢ [] }
+{
+    let key = reading.key(alloc)?;
+    Ok(format!(in alloc; "{:?} {}", key.part(), key.reading().as_str())?)
+}
+
+// The kana of the okurigana that a reading is converted by, or `-` where there is none.
+fn okuri_of(alloc: Global, reading: &Reading) -> Result<String, Fail> {
+    let okuri = reading.okuri(alloc)?;
+    let kana = match &okuri {
+        Some(okuri) => okuri.text().as_str(),
+        None => "-",
+    };
+    Ok(String::from_str(alloc, kana)?)
+}
+
+// A reading is converted by its text, with the letter of an okurigana.
+#[test]
+fn readings_are_converted_by_their_keys(rt: HostRuntime) -> Result<(), Fail> {
+    let alloc = rt.alloc();
+    let reading = reading_after(alloc, Reading::new(alloc), "ugoKu")?;
+    assert!(rt; reading.text().byte_len() > 0);
+    assert_eq!(rt; key_of(alloc, &reading)?.as_str(), "Ari うごk");
+    assert_eq!(rt; okuri_of(alloc, &reading)?.as_str(), "く");
+    Ok(())
+}
+
+// An abbreviation is converted as it was typed.
+#[test]
+fn abbreviations_are_converted_by_themselves(rt: HostRuntime) -> Result<(), Fail> {
+    let alloc = rt.alloc();
+    let reading = reading_after(alloc, Reading::abbrev(alloc), "Vim9_")?;
+    assert!(rt; reading.text().byte_len() > 0);
+    assert_eq!(rt; key_of(alloc, &reading)?.as_str(), "Nasi Vim9");
+    assert_eq!(rt; okuri_of(alloc, &reading)?.as_str(), "-");
+    Ok(())
+}

@@ -1,0 +1,393 @@
+ghost use Rattle.std.specs.Prelude.{◌≡◌, true, ℕ, List, Option};
+ghost use Rattle.skk_calls.specs.Dictionary.{may_answer};
+ghost use Rattle.skk_calls.specs.Rows.{Cand, Learned, RowKey};
+ghost use Rattle.skk_calls.specs.declared.call.Call.TheVariants as calls;
+
+use romaji_rules::Rules;
+use session_machine::{PressFault, Session};
+use skk_calls::{Answer, Call, Caller, Cand, Cands, Learned, Refusal, Reply, RowKey};
+use skk_text::{Copies, Memory, Mode, Text, read_keys};
+use skk_trace::{Shows, Trace};
+use std::alloc::Global;
+use std::test::Fail;
+
+// The candidates of every key, each with its note.
+const FOUND: &[(&str, &str)] = &[
+    ("甲", ""),
+    ("乙", "二"),
+    ("丙", ""),
+    ("丁", ""),
+    ("戊", ""),
+    ("己", ""),
+    ("庚", ""),
+    ("辛", ""),
+    ("壬", ""),
+    ("癸", ""),
+    ("子", ""),
+    ("丑", ""),
+];
+
+// A dictionary that answers each call by the next of these words, which a space stands between: a look-up that has a
+// number for its word finds the first so many of them, and one that has `long` a long candidate. Its trace notes
+// nothing first, and then each call.
+#[derive(Drop)]
+struct Finder<'a> {
+    words: &'a str,
+    trace: Trace<Option<(Call, Answer)>>,
+}
+
+// No call.
+#[derive(Drop)]
+struct Silence;
+
+impl Shows<Option<(Call, Answer)>> for Silence {
+    ghost use Rattle.std.specs.Prelude.{None};
+
+    ghost shows = { λ _. None };
+}
+
+// A call and its answer.
+#[derive(Drop)]
+struct Answered<'a> {
+    call: &'a Call,
+    answer: &'a Answer,
+}
+
+impl Shows<Option<(Call, Answer)>> for Answered<'_> {
+    ghost use Rattle.std.specs.Prelude.{Some};
+
+    ghost shows = { λ answered. Some (answered.call.now, answered.answer.now) };
+}
+
+impl Caller for Finder<'_> {
+    ghost use Rattle.std.specs.List.{filter_map};
+
+    ghost number = { λ _. 7 };
+
+    ghost said = { λ caller. filter_map (λ entry. entry) caller.trace };
+
+    fn number(&self) -> u32 {
+        7
+    }
+
+    fn call(&mut self, alloc: Global, call: &Call) -> Answer {
+        let (word, words) = self.words.split_once(' ').unwrap_or((self.words, ""));
+        self.words = words;
+        let answer = answer_by(alloc, word, call);
+        self.trace.note(&Answered {
+            call,
+            answer: &answer,
+        });
+        answer
+    }
+}
+
+// What a call is answered by a word.
+fn answer_by(alloc: Global, word: &str, call: &Call) -> Answer
+    ensures { may_answer call.now result ≡ true }
+{
+    match call {
+        Call::Lookup { .. } => lookup_answer(alloc, word),
+        Call::Complete { .. } => Answer::Refused(Refusal::Memory),
+        Call::Learn { book, key, .. } => learning_answer(alloc, word, *book, key),
+        Call::Purge { .. } => purge_answer(word),
+        Call::Unlearn { .. } => unlearning_answer(word),
+    }
+}
+
+// What a look-up is answered.
+fn lookup_answer(alloc: Global, word: &str) -> Answer
+    ensures { (who : ℕ) (key : RowKey) (okuri : Option (List ℕ))
+        → may_answer (calls.Lookup who key okuri) result ≡ true }
+{
+    let found = match word.parse() {
+        Ok(count) => first_cands(alloc, count),
+        Err(_) => long_cands(alloc, word),
+    };
+    match found {
+        Ok(cands) => Answer::Done(Reply::Found(cands)),
+        Err(_) => Answer::Refused(Refusal::Memory),
+    }
+}
+
+// What a learning is answered.
+fn learning_answer(alloc: Global, word: &str, book: u16, key: &RowKey) -> Answer
+    ensures { (book : ℕ) (key : RowKey) (okuri : Option (List ℕ)) (cand : Cand)
+        → may_answer (calls.Learn book key okuri cand) result ≡ true }
+{
+    if word != "learned" {
+        return other_answer(word);
+    }
+    match key.copy(alloc) {
+        Ok(key) => Answer::Done(Reply::Learned(Learned::new(book, key, 1, None))),
+        Err(_) => Answer::Refused(Refusal::Memory),
+    }
+}
+
+// What a purge is answered.
+fn purge_answer(word: &str) -> Answer
+    ensures { (book : ℕ) (key : RowKey) (text : List ℕ) → may_answer (calls.Purge book key text) result ≡ true }
+{
+    match word {
+        "purged" => Answer::Done(Reply::Purged),
+        "unchanged" => Answer::Done(Reply::Unchanged),
+        _ => other_answer(word),
+    }
+}
+
+// What a taking back is answered.
+fn unlearning_answer(word: &str) -> Answer
+    ensures { (learned : Learned) → may_answer (calls.Unlearn learned) result ≡ true }
+{
+    match word {
+        "restored" => Answer::Done(Reply::Restored),
+        "overtaken" => Answer::Done(Reply::Overtaken(2)),
+        _ => Answer::Refused(refusal_by(word)),
+    }
+}
+
+// What a learning or a purge is answered that is not done.
+fn other_answer(word: &str) -> Answer
+    ensures learning { (book : ℕ) (key : RowKey) (okuri : Option (List ℕ)) (cand : Cand)
+        → may_answer (calls.Learn book key okuri cand) result ≡ true }
+    ensures purge { (book : ℕ) (key : RowKey) (text : List ℕ) → may_answer (calls.Purge book key text) result ≡ true }
+{
+    match word {
+        "too-big" => Answer::Done(Reply::TooBig(65_537)),
+        "stamps-end" => Answer::Done(Reply::StampsEnd),
+        _ => Answer::Refused(refusal_by(word)),
+    }
+}
+
+// Why a call is refused.
+fn refusal_by(word: &str) -> Refusal {
+    match word {
+        "disk" => Refusal::Disk,
+        "full" => Refusal::JournalFull {
+            end: 18,
+            need: 90,
+            limit: 100,
+        },
+        _ => Refusal::Memory,
+    }
+}
+
+// The first so many candidates.
+fn first_cands(alloc: Global, count: usize) -> Result<Cands, Memory> {
+    let mut cands = Cands::new(alloc);
+    for (word, note) in FOUND.iter().take(count) {
+        let word = Text::of(String::from_str(alloc, word)?);
+        let note = Text::of(String::from_str(alloc, note)?);
+        if let Ok(cand) = Cand::new(word, note) {
+            cands.push(cand)?;
+        }
+    }
+    Ok(cands)
+}
+
+// How many bytes the word has that `long` finds.
+const LONG: usize = 2_048;
+
+// How many of them a text has just room for.
+const MANY: usize = 512;
+
+// A long candidate, where that is asked for.
+fn long_cands(alloc: Global, word: &str) -> Result<Cands, Memory> {
+    if word != "long" {
+        return Err(Memory);
+    }
+    let mut cands = Cands::new(alloc);
+    let word = Text::of("x".repeat(alloc, LONG)?);
+    if let Ok(cand) = Cand::new(word, Text::new(alloc)) {
+        cands.push(cand)?;
+    }
+    Ok(cands)
+}
+
+// The session after the keys, where `_` is the space. It begins in hiragana mode,
+// and its calls are answered by these words.
+fn session_after(
+    alloc: Global,
+    keys: &str,
+    words: &str,
+) -> Result<Result<Session, PressFault>, Fail> {
+    let rules = Rules::standard(alloc)?;
+    let keys = read_keys(alloc, keys.replace(alloc, "_", " ")?.as_bytes())?;
+    let trace = Trace::new(alloc, &Silence)?;
+    let mut caller = Finder { words, trace };
+    Ok(Session::new(alloc, 7, 0).play(alloc, &rules, keys.as_slice(), &mut caller))
+}
+
+// What is typed; the words that its calls are answered by; `=`; and the display and the notice behind it. Where `~`
+// stands there, what was typed is not built.
+const CASES: &str = "
+kitte =きって|
+kya<bs> =き|
+<undo> =|no-undo
+<undo>a =あ|
+A =▽あ|
+Kan =▽かn|
+qKa =▽カ|
+Q; =▽|reading
+Q;a =▽あ|
+Ka<undo> =▽か|no-undo
+Kan<cj> =かん|
+Kaq =カ|
+qKaq =か|
+KaQ =か▽|
+Ka<ret> =か\\n|
+Ka<cg> =|
+Q_ =|
+Q<bs> =|
+Ka_ 12=▼甲|
+Ka__ 12=▼乙|;二
+Ka__x 12=▼甲|
+Ka_x 12=▽か|
+Ka__<cg> 12=▽か|
+Ka_____ 12=▼[A:戊 S:己 D:庚 F:辛 J:壬 K:癸 L:子 残り 1]|
+Ka_____ 11=▼[A:戊 S:己 D:庚 F:辛 J:壬 K:癸 L:子 残り 0]|
+Ka_____ 5=▼[A:戊 残り 0]|
+Ka______ 12=▼[A:丑 残り 0]|
+Ka______s 12=▼[A:丑 残り 0]|no-candidate
+Ka______x 12=▼[A:戊 S:己 D:庚 F:辛 J:壬 K:癸 L:子 残り 1]|
+Ka_____<bs> 12=▼丁|
+Ka_ memory=▽か|refused memory
+Ka_i memory=▽かい|
+Ka_<cj> 12 learned=甲|
+aKa__<cj> 12 learned=あ乙|
+Ka_<ret> 12 learned=甲\\n|
+aKa_<bs> 12 learned=あ|
+Ka_a 12 learned=甲あ|
+Ka_k 12 learned=甲k|
+Ka_Ki 12 learned=甲▽き|
+qKa_qa 12 learned=甲あ|
+Ka_____a 12 learned=戊|
+Ka_____l 12 learned=子|
+Ka______a 12 learned=丑|
+Ka_<undo> 12=▼甲|
+Ka_<cj> 12 too-big=甲|too-big 65537
+Ka_a 12 too-big=甲あ|too-big 65537
+Ka_<cj> 12 stamps-end=甲|stamps-end
+Ka_<cj> 12 memory=甲|refused memory
+Ka_<cj> 12 disk=甲|refused disk
+Ka_<cj> 12 full=甲|refused full 18 90 100
+Ka_<cj>i 12 disk=甲い|
+Ka_X 12=▼甲[削除 Y/N]|
+Ka__X 12=▼乙[削除 Y/N]|;二
+aKa_Xy 12 purged=あ|purged
+Ka_XY 12 purged=|purged
+Ka_Xyi 12 purged=い|
+Ka_Xn 12=▼甲|
+Ka_X_ 12=▼甲|
+Ka_XX 12=▼甲|
+Ka_X<cj> 12=▼甲|
+Ka_X<cg> 12=▼甲|
+aKa_Xy 12 unchanged=あ|unchanged
+Ka__Xy 12 too-big=▼乙|too-big 65537
+Ka__Xy 12 stamps-end=▼乙|stamps-end
+Ka__Xy 12 memory=▼乙|refused memory
+Ka__Xy 12 disk=▼乙|refused disk
+Ka__Xy 12 full=▼乙|refused full 18 90 100
+aKa_<cj><undo> 12 learned restored=あ▼甲|undone
+Ka_<cj><undo> 12 learned overtaken=▼甲|overtaken 2
+Ka_<cj><undo> 12 learned memory=▼甲|refused memory
+Ka_<cj><undo> 12 too-big=▼甲|undone
+Ka__<cj><undo> 12 learned restored=▼乙|undone
+Ka__<cj><undo><tab> 12 learned restored=▼乙|;二
+Ka_____s<undo> 12 learned restored=▼[A:戊 S:己 D:庚 F:辛 J:壬 K:癸 L:子 残り 1]|undone
+Ka_<cj>k<undo> 12 learned restored=▼甲|undone
+qKa_<cj>q<undo><cg>i 12 learned restored=▽カイ|
+Ka_<cj><undo>_<cj> 12 learned restored learned=乙|
+Ka_<cj><undo><undo> 12 learned restored=▼甲|
+Ka_<cj><undo><cg><cg><undo> 12 learned restored=|no-undo
+Ka_<cj>a<undo> 12 learned restored=甲あ|no-undo
+Ka_<cj>a<bs><undo> 12 learned restored=▼甲|undone
+Ka_a<undo> 12 learned restored=甲あ|no-undo
+Ka_<ret><bs><undo> 12 learned restored=▼甲|undone
+Ka_<bs><undo> 12 learned restored=|no-undo
+Ka_<cj><bs>a<undo> 12 learned restored=あ|no-undo
+Ka_<cj>Ka__<cj><undo> 12 learned 12 learned restored=甲▼乙|undone
+Ka_<cj>Ka_<cj><undo><cg><cg><undo> 12 learned 12 learned restored=甲|no-undo
+/ =▽|
+n/aQ-> =ん▽aQ->|
+/;a =▽a|
+/ab_ 12=▼甲|
+/_ =|
+KaK =▽か*k|
+KaK_ =▽か|
+KaKu 12=▼甲く|
+qKakKu 12=▼甲ック|
+KaKu<cg> 12=▽か*く|
+KaKu memory=▽か*く|refused memory
+KaKu_ 12=▼乙く|;二
+aKaKu<cj> 12 learned=あ甲く|
+KaKu<cj><undo> 12 learned restored=▼甲く|undone
+KaKuXy 12 purged=|purged
+Ka> 12=▼甲|
+Kan><cg> 12=▽かん>|
+Ka_> 12 learned=甲▽>|
+Ka_/ 12 learned=甲▽|
+Ka> memory=▽か>|refused memory
+Ka<tab> =~
+Q1_ =~
+Q1> =~
+Q1A =~
+/a1_ =~
+KaKu 0=~
+Ka_ 0=~
+Ka__ 1=~
+Ka______ 11=~
+";
+
+// What a case has of a session.
+fn case_text(alloc: Global, ended: Result<Session, PressFault>) -> Result<String, Fail> {
+    let Ok(session) = ended else {
+        return Ok(String::from_str(alloc, "~")?);
+    };
+    let display = session.display(alloc)?;
+    let notice = session.notice(alloc)?;
+    let display = display.as_str();
+    Ok(format!(in alloc; "{display}|{}", notice.as_str())?)
+}
+
+#[test]
+fn sessions_are_shown(rt: HostRuntime) -> Result<(), Fail> {
+    let alloc = rt.alloc();
+    assert_eq!(rt; CASES.lines().count(), 117);
+    for case in CASES.lines().skip(1) {
+        let (typing, wanted) = case.split_once('=').ok_or("no `=`")?;
+        let (keys, words) = typing.split_once(' ').ok_or("no space")?;
+        let ended = session_after(alloc, keys, words)?;
+        assert_eq!(rt; case_text(alloc, ended)?.as_str(), wanted, "typed {typing}");
+    }
+    Ok(())
+}
+
+// The session after the choices of so many long candidates, one after another.
+fn session_after_long(alloc: Global, count: usize) -> Result<Result<Session, PressFault>, Fail> {
+    let keys = "Ka_<cj>".repeat(alloc, count)?;
+    let words = "long learned ".repeat(alloc, count)?;
+    session_after(alloc, keys.as_str(), words.as_str())
+}
+
+#[test]
+fn choices_fit_up_to_the_limit(rt: HostRuntime) -> Result<(), Fail> {
+    let alloc = rt.alloc();
+    let session = session_after_long(alloc, MANY + 1)??;
+    assert_eq!(rt; session.text().byte_len(), MANY * LONG);
+    assert_eq!(rt; session.notice(alloc)?.as_str(), "limit");
+    Ok(())
+}
+
+#[test]
+fn sessions_have_a_mode_and_a_text(rt: HostRuntime) -> Result<(), Fail> {
+    let alloc = rt.alloc();
+    let session = session_after(alloc, "KanaL<tab>Ka", "")??;
+    assert_eq!(rt; session.mode(), Mode::Wide);
+    assert_eq!(rt; session.text().as_str(), "かなＫａ");
+    let mut page = Text::new(alloc);
+    session.push_line(alloc, &mut page)?;
+    session.push_text(&mut page)?;
+    assert_eq!(rt; page.as_str(), "全英\tかなＫａ\t\nかなＫａ");
+    Ok(())
+}

@@ -1,0 +1,272 @@
+ghost use Rattle.std.specs.Prelude.{◌≡◌, ◌∷◌, ◌^◌, ◌<◌, [], IfOk, true};
+ghost use Rattle.skk_outside.specs.Memory.{names_differ};
+
+use skk_outside::{
+    Failed, HostShelf, MemShelf, MemSink, MemSource, PIECE, ReadFault, ReaderSource, Shelf, Sink,
+    Source, WriterSink, read_named_file, read_to_end, write_all,
+};
+use skk_text::{Bytes, Memory, Text};
+use std::alloc::{AllocError, Global};
+use std::io::{self, ErrorKind, Read, Write};
+use std::process::Abort;
+use std::test::Fail;
+
+// Three pieces, of which one is empty.
+fn pieces(alloc: Global, fails: Vec<u64>) -> Result<MemSource, AllocError> {
+    let mut pieces = Vec::new(alloc);
+    for piece in ["xyz", "", "w"] {
+        pieces.push(Bytes::of(piece.as_bytes().to_vec(alloc)?))?;
+    }
+    Ok(MemSource::new(pieces, fails))
+}
+
+#[test]
+fn a_source_in_memory_reads_piece_by_piece(rt: HostRuntime) -> Result<(), Fail> {
+    let mut source = pieces(rt.alloc(), vec![in rt.alloc(); 2]?)?;
+    let mut into = [0; 2];
+    assert_eq!(rt; source.read(&mut into), Ok(2));
+    assert_eq!(rt; source.read(&mut into), Err(Failed));
+    assert_eq!(rt; source.read(&mut into), Ok(1));
+    assert_eq!(rt; into, *b"zy");
+    Ok(())
+}
+
+#[test]
+fn a_sink_in_memory_writes_but_at_calls_that_fail(rt: HostRuntime) -> Result<(), Fail> {
+    let mut sink = MemSink::new(rt.alloc(), vec![in rt.alloc(); 2]?);
+    assert_eq!(rt; sink.write(b"xy"), Ok(2));
+    assert_eq!(rt; sink.flush(), Err(Failed));
+    assert_eq!(rt; write_all(&mut sink, b"zw"), Ok(()));
+    assert_eq!(rt; sink.written(), b"xyzw".as_slice());
+    Ok(())
+}
+
+// What is read of the pieces up to a limit.
+fn read_pieces(alloc: Global, limit: usize) -> Result<Bytes, ReadFault>
+    requires { limit < 2 ^ 62 }
+{
+    let mut source = pieces(alloc, Vec::new(alloc))?;
+    read_to_end(alloc, &mut source, limit)
+}
+
+#[test]
+fn a_source_is_read_up_to_the_limit(rt: HostRuntime) -> Result<(), Fail> {
+    assert_eq!(rt; read_pieces(rt.alloc(), 4)?.as_slice(), b"xyzw".as_slice());
+    assert_eq!(rt; read_pieces(rt.alloc(), 3).err(), Some(ReadFault::TooLong));
+    Ok(())
+}
+
+// Gives one byte at a time, and fails at its second read.
+#[derive(Drop)]
+struct Halting(u8);
+
+impl Read for Halting {
+    fn read(&mut self, buf: &mut [u8]) -> io::Result<usize> {
+        if self.0 == 1 {
+            self.0 = 2;
+            return Err(ErrorKind::Other.into());
+        }
+        if self.0 > 2 || buf.is_empty() {
+            return Ok(0);
+        }
+        self.0 += 1;
+        buf[0] = self.0;
+        Ok(1)
+    }
+}
+
+#[test]
+fn a_reader_is_a_source(rt: HostRuntime) -> Result<(), Fail> {
+    let mut source = ReaderSource::new([7, 8, 9].as_slice());
+    let bytes = read_to_end(rt.alloc(), &mut source, 3)?;
+    assert_eq!(rt; bytes.as_slice(), [7, 8, 9].as_slice());
+    Ok(())
+}
+
+#[test]
+fn a_read_that_fails_may_be_tried_again(rt: HostRuntime) {
+    let mut source = ReaderSource::new(Halting(0));
+    let mut into = [0; 2];
+    assert_eq!(rt; source.read(&mut into), Ok(1));
+    assert_eq!(rt; source.read(&mut into), Err(Failed));
+    assert_eq!(rt; source.read(&mut into), Ok(1));
+    assert_eq!(rt; into, [3, 0]);
+}
+
+// Takes two bytes, one at a time, and then none.
+#[derive(Drop)]
+struct Narrow(u8);
+
+impl Write for Narrow {
+    fn write(&mut self, buf: &[u8]) -> io::Result<usize> {
+        if self.0 >= 2 || buf.is_empty() {
+            return Ok(0);
+        }
+        self.0 += 1;
+        Ok(1)
+    }
+
+    fn flush(&mut self) -> io::Result<()> {
+        Err(ErrorKind::Other.into())
+    }
+}
+
+#[test]
+fn a_writer_is_a_sink(rt: HostRuntime) -> Result<(), Fail> {
+    let mut written = Vec::new(rt.alloc());
+    let mut sink = WriterSink::new(&mut written);
+    assert_eq!(rt; write_all(&mut sink, &[7, 8, 9]), Ok(()));
+    drop(sink);
+    assert_eq!(rt; written.as_slice(), [7, 8, 9].as_slice());
+    Ok(())
+}
+
+#[test]
+fn a_writer_that_takes_no_byte_fails(rt: HostRuntime) {
+    let mut sink = WriterSink::new(Narrow(0));
+    assert_eq!(rt; write_all(&mut sink, &[1, 2]), Ok(()));
+    assert_eq!(rt; sink.write(&[3]), Err(Failed));
+    assert_eq!(rt; sink.flush(), Err(Failed));
+}
+
+// A file of three bytes, an empty one, and one of a piece and a byte.
+fn three_files(alloc: Global) -> Result<Vec<(Text, Bytes)>, Memory>
+    ensures { IfOk result (λ files. names_differ files.items ≡ true) }
+{
+    let long = vec![in alloc; b'w'; PIECE + 1]?;
+    let mut files = Vec::new(alloc);
+    files.push(file(alloc, 'a', b"xyz")?)?;
+    files.push(file(alloc, 'b', b"")?)?;
+    files.push(file(alloc, 'c', &long)?)?;
+    Ok(files)
+}
+
+// A file whose name is one letter.
+fn file(alloc: Global, letter: char, content: &[u8]) -> Result<(Text, Bytes), Memory>
+    ensures { IfOk result (λ file. file.0 ≡ letter ∷ []) }
+{
+    let mut name = Text::new(alloc);
+    name.push(letter)?;
+    Ok((name, Bytes::of(content.to_vec(alloc)?)))
+}
+
+// A read of a file: its name, the place that is read from, the answer, and all of the buffer then, which was dots.
+type Reading = (&'static str, u64, Result<usize, Failed>, &'static str);
+
+fn expect_read<R: Abort, H: Shelf>(
+    rt: &R,
+    alloc: Global,
+    shelf: &mut H,
+    reading: &Reading,
+) -> Result<(), AllocError> {
+    let (name, place, answer, left) = *reading;
+    let text = Text::of(String::from_str(alloc, name)?);
+    let mut into = vec![in alloc; b'.'; left.len()]?;
+    assert_eq!(rt; shelf.read(&text, place, &mut into), answer, "{reading:?}");
+    assert_eq!(rt; into.as_slice(), left.as_bytes(), "{reading:?}");
+    Ok(())
+}
+
+static READINGS: [Reading; 15] = [
+    ("a", 0, Ok(2), "xy"),
+    ("a", 0, Ok(3), "xyz."),
+    ("a", 1, Ok(1), "y"),
+    ("a", 2, Ok(1), "z."),
+    // at its end, behind it, far behind it, and where there is no room
+    ("a", 3, Ok(0), "."),
+    ("a", 4, Ok(0), "."),
+    ("a", u64::MAX, Ok(0), "."),
+    ("a", 1, Ok(0), ""),
+    ("b", 0, Ok(0), "."),
+    // names that no file has
+    ("aa", 0, Err(Failed), "."),
+    ("", 0, Err(Failed), ""),
+    // the calls 12 and 14 are to fail, whatever they read
+    ("a", 0, Err(Failed), "."),
+    ("c", 65536, Ok(1), "w."),
+    ("d", 0, Err(Failed), "."),
+    ("a", 0, Ok(1), "x"),
+];
+
+#[test]
+fn a_shelf_in_memory_reads_from_any_place(rt: HostRuntime) -> Result<(), Fail> {
+    let alloc = rt.alloc();
+    let mut shelf = MemShelf::new(three_files(alloc)?, vec![in alloc; 12, 14]?);
+    for reading in &READINGS {
+        expect_read(&rt, alloc, &mut shelf, reading)?;
+    }
+    Ok(())
+}
+
+static SYSTEM_READINGS: [Reading; 10] = [
+    ("/proc/version", 0, Ok(3), "Lin"),
+    // read on, read again, and read from the middle
+    ("/proc/version", 3, Ok(5), "ux ve"),
+    ("/proc/version", 3, Ok(2), "ux"),
+    ("/proc/version", 1, Ok(4), "inux"),
+    ("/dev/null", 0, Ok(0), "."),
+    ("/dev/null", 5, Ok(0), "."),
+    // a directory, and names that no file has
+    ("/", 0, Err(Failed), "."),
+    ("/no such file", 0, Err(Failed), "."),
+    ("", 0, Err(Failed), "."),
+    ("/proc/version", 5, Ok(3), " ve"),
+];
+
+#[test]
+fn files_of_the_system_are_read_from_any_place(rt: HostRuntime) -> Result<(), Fail> {
+    let alloc = rt.alloc();
+    let mut shelf = HostShelf::new(alloc, &rt);
+    for reading in &SYSTEM_READINGS {
+        expect_read(&rt, alloc, &mut shelf, reading)?;
+    }
+    Ok(())
+}
+
+// A file that is read up to a limit: its name, the limit, the number of the call that is to fail, and the fault, where
+// the file is not read whole.
+type WholeReading = (&'static str, u32, u64, Option<ReadFault>);
+
+static WHOLE_READINGS: [WholeReading; 10] = [
+    ("a", 3, 0, None),
+    ("a", 2, 0, Some(ReadFault::TooLong)),
+    ("b", 0, 0, None),
+    ("c", 65537, 0, None),
+    ("c", 65536, 0, Some(ReadFault::TooLong)),
+    ("c", 65535, 2, Some(ReadFault::TooLong)),
+    ("d", 9, 0, Some(ReadFault::Failed)),
+    ("a", 9, 1, Some(ReadFault::Failed)),
+    ("a", 9, 2, Some(ReadFault::Failed)),
+    ("a", 9, 3, None),
+];
+
+#[test]
+fn a_file_is_read_up_to_the_limit(rt: HostRuntime) -> Result<(), Fail> {
+    for reading in &WHOLE_READINGS {
+        expect_whole_read(&rt, rt.alloc(), reading)?;
+    }
+    Ok(())
+}
+
+fn expect_whole_read(rt: &impl Abort, alloc: Global, reading: &WholeReading) -> Result<(), Memory> {
+    let (name, limit, fail, fault) = *reading;
+    let mut shelf = MemShelf::new(three_files(alloc)?, vec![in alloc; fail]?);
+    let text = Text::of(String::from_str(alloc, name)?);
+    match read_named_file(alloc, &mut shelf, &text, limit as usize) {
+        Ok(bytes) => assert!(rt;
+            fault.is_none() && holds(name, bytes.as_slice()),
+            "{reading:?}"
+        ),
+        Err(why) => assert_eq!(rt; Some(why), fault, "{reading:?}"),
+    }
+    Ok(())
+}
+
+// Whether the file of a name holds these bytes.
+fn holds(name: &str, bytes: &[u8]) -> bool {
+    match name {
+        "a" => bytes == b"xyz".as_slice(),
+        "b" => bytes.is_empty(),
+        _ => bytes.len() == PIECE + 1 && bytes.iter().all(|&byte| byte == b'w'),
+    }
+}
