@@ -1,3 +1,4 @@
+use crate::making::text;
 use dict_format::{
     FileFault, LineFault, LineReason, files_list_one_thing, lines_spell_one_row,
     lines_spell_rows_or_have_reasons, print_file, print_item, print_line,
@@ -5,12 +6,8 @@ use dict_format::{
 };
 use skk_calls::{Cand, Part};
 use skk_text::{Memory, Text, TextFault};
-use std::alloc::{AllocError, Global};
+use std::alloc::Global;
 use std::test::Fail;
-
-fn text(alloc: Global, content: &str) -> Result<Text, AllocError> {
-    Ok(Text::of(String::from_str(alloc, content)?))
-}
 
 // A text that is `start`, `unit` so many times, and then `end`.
 fn long_text(

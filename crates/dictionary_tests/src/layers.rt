@@ -1,21 +1,15 @@
-ghost use Rattle.std.specs.Prelude.{◌≡◌, ◌&&◌, not, IfOk};
+ghost use Rattle.std.specs.Prelude.{◌≡◌, ◌&&◌, not};
 ghost use Rattle.std.specs.List.{list_all};
-ghost use Rattle.std.specs.Str.{chars};
 ghost use Rattle.skk_calls.specs.Rows.{same_text, same_key, texts_differ, words_of, okuri_of, keys_differ, fits_blocks};
 ghost use Rattle.skk_calls.specs.Rows.{is_cand, is_block, is_row};
 
+use crate::making::text;
 use dict_layers::{RowList, System, cands_in_order, merge, walks_go_over_completions};
 use skk_calls::{Block, Blocks, Book, Books, Cand, Cands, Okuri, Part, Row, RowKey, Rows, Walk};
 use skk_text::{Text, Texts};
-use std::alloc::{AllocError, Global};
+use std::alloc::Global;
 use std::process::Abort;
 use std::test::Fail;
-
-fn text(alloc: Global, content: &str) -> Result<Text, AllocError>
-    ensures { IfOk result (λ text. text ≡ chars content.now) }
-{
-    Ok(Text::of(String::from_str(alloc, content)?))
-}
 
 // Whether two texts are the same.
 fn is_same(text: &Text, other: &Text) -> bool

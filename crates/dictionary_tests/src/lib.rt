@@ -14,6 +14,8 @@ mod layers;
 #[cfg(test)]
 mod learning;
 #[cfg(test)]
+mod making;
+#[cfg(test)]
 mod rows;
 #[cfg(test)]
 mod texts;

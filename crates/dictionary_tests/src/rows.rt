@@ -1,6 +1,7 @@
 ghost use Rattle.std.specs.Prelude.{◌≡◌, IfOk};
 ghost use Rattle.std.specs.Option.{option_copied, IfSome};
 
+use crate::making::text;
 use dict_rows::{learn_row, line_length, purge_row};
 use skk_calls::{Cand, Okuri, Part, Row, RowKey};
 use skk_text::{Text, Texts};
@@ -39,11 +40,6 @@ const LENGTHS: &str = r#"
 あ -漢字 -"/ = 45
 おおk +a/b*き +大*き = 60
 "#;
-
-// The text of a string.
-fn text(alloc: Global, content: &str) -> Result<Text, AllocError> {
-    Ok(Text::of(String::from_str(alloc, content)?))
-}
 
 // The text of a string of the tables, with the characters that stand for others there.
 fn table_text(alloc: Global, content: &str) -> Result<Text, Fail> {

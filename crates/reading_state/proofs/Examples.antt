@@ -18,7 +18,7 @@ use Rattle.reading_state.specs.declared.reading_do.ReadingThen.TheVariants.{Stay
 use Rattle.reading_state.specs.declared.reading_do.ReadingThen.TheVariants.{Confirm}
 use Rattle.reading_state.specs.Keys.{key_of, okuri_of}
 use Rattle.reading_state.specs.Puts.{Begun, Reading, new_reading, new_abbrev, suffix_reading, is_open, may_complete}
-use Rattle.reading_state.specs.Puts.{later_notice}
+use Rattle.reading_state.specs.Puts.{later_notice, may_read, may_end, fits_reading}
 use Rattle.reading_state.specs.Reading.{ReadingStep, reading_step, step_to, completed, is_alone, is_doubled}
 
 -- vowels, rows of k and t, n, doubled letters, and rules with outputs that are refused here or there
@@ -585,6 +585,29 @@ open_readings : map is_open (
     ≡ true ∷ true ∷ true ∷ false ∷ false ∷ true ∷ false ∷ true ∷ true ∷ false ∷ false ∷ false ∷ true ∷ false ∷ []
 unfolding lib.Utf8.encode
 open_readings = refl
+
+-- only what is opened as an abbreviation is one
+new_readings : map (λ (reading : Reading). reading.is_abbrev) (new_reading ∷ new_abbrev ∷ suffix_reading ∷ [])
+    ≡ false ∷ true ∷ false ∷ []
+new_readings = refl
+
+-- nothing may stand in a reading and in an okurigana, and what is valid there
+texts_of_readings : map may_read ([] ∷ codes "か" ∷ codes "a" ∷ codes ";" ∷ codes "か " ∷ [])
+    ≡ true ∷ true ∷ true ∷ false ∷ false ∷ []
+unfolding lib.Utf8.encode
+texts_of_readings = refl
+
+texts_of_okurigana : map may_end ([] ∷ codes "く" ∷ codes "a" ∷ []) ≡ true ∷ true ∷ false ∷ []
+unfolding lib.Utf8.encode
+texts_of_okurigana = refl
+
+-- an okurigana that is not begun fits any reading; one that is begun wants a small letter, kana, and a reading before it
+okurigana_fits : map (λ (pair : List ℕ × Option Begun). fits_reading pair.0 pair.1) (
+    ([], None) ∷ (codes "か", None) ∷ (codes "か", okuri "k" []) ∷ (codes "か", okuri "k" (codes "く"))
+    ∷ (codes "か", okuri "k" (codes "a")) ∷ (codes "か", okuri "K" []) ∷ ([], okuri "k" []) ∷ [])
+    ≡ true ∷ true ∷ true ∷ true ∷ false ∷ false ∷ false ∷ []
+unfolding lib.Utf8.encode
+okurigana_fits = refl
 
 keys : map key_of
     (plain (codes "か") ∷ begun (codes "うご") "k" (codes "く") ∷ begun (codes "うご") "k" [] ∷ abbreviated (codes "ab") ∷ [])
