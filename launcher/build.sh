@@ -101,8 +101,8 @@ first() {
 }
 
 # Proves a crate in its copy, in the background, and writes to the pipe that it ended, and how.
-# The crate that is first in the longest chain has as many jobs as rt chooses; the others have no more than four each,
-# since each wants memory of its own, and give way to it.
+# The crate that is first in the longest chain has as many jobs as rt chooses. Each other has one, since every job reads
+# all libraries anew, and gives way to it.
 begin() {
     begun="$begun$1 "
     (
@@ -111,7 +111,7 @@ begin() {
         trap 'stopped=yes; [ -z "$child" ] || kill "$child"' TERM HUP
         status=1
         if make_copy "$1" && [ -z "$stopped" ]; then
-            give_way='nice -n 10' jobs="--jobs $most"
+            give_way='nice -n 10' jobs='--jobs 1'
             [ "$1" != "$2" ] || give_way='' jobs=''
             how="lib $jobs"
             [ "$1" != skk ] || how="run $jobs -- type"
@@ -189,7 +189,6 @@ make_program() {
     plan=$(plan)
     processors=$(nproc)
     lanes=$(lanes)
-    most=$((processors < 4 ? processors : 4))
     since=$(date +%s)
     prove && echo "$started" >"$out/looked" || return 1
     if [ "$started" != "$("$here/.ci/sum-of-sources")" ]; then
