@@ -601,7 +601,7 @@ texts_of_okurigana : map may_end ([] ∷ codes "く" ∷ codes "a" ∷ []) ≡ t
 unfolding lib.Utf8.encode
 texts_of_okurigana = refl
 
--- an okurigana that is not begun fits any reading; one that is begun wants a small letter, kana, and a reading before it
+-- an okurigana that is not begun fits any reading; one that is begun wants a small letter, kana, and a reading
 okurigana_fits : map (λ (pair : List ℕ × Option Begun). fits_reading pair.0 pair.1) (
     ([], None) ∷ (codes "か", None) ∷ (codes "か", okuri "k" []) ∷ (codes "か", okuri "k" (codes "く"))
     ∷ (codes "か", okuri "k" (codes "a")) ∷ (codes "か", okuri "K" []) ∷ ([], okuri "k" []) ∷ [])
