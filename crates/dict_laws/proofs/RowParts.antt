@@ -1,7 +1,6 @@
 -- What a row and its parts keep, each by its name.
-use Rattle.std.proofs.Common.{◌≡◌, ℕ, ◌+◌, Bool, true, ◌&&◌, ◌||◌, nat_le, None, Some, Option, [], length, refl, arith}
+use Rattle.std.proofs.Common.{◌≡◌, ℕ, Bool, true, ◌&&◌, ◌||◌, nat_le, None, Some, Option, [], refl}
 use Rattle.std.proofs.Common.{not}
-use Rattle.std.proofs.lemmas.Bool.Decides.{nat_tests}
 use Rattle.std.specs.List.{list_all}
 use Rattle.std.proofs.lemmas.Bool.{and_from, and_parts}
 use Rattle.skk_text.specs.Text.{byte_len}
@@ -12,7 +11,7 @@ use Rattle.skk_calls.specs.declared.part.Part.TheVariants.{Nasi, Ari}
 use Rattle.skk_calls.specs.Canonical.{canonical, is_good, line_limit}
 use Rattle.skk_text.specs.Lists.{is_empty}
 use Rattle.skk_calls.specs.Learning.{row_or_empty}
-use Rattle.skk_calls.specs.Rows.{RowKey, Cand, Block, Row, is_row_key, is_note, is_word, word_limit, is_cand, is_block}
+use Rattle.skk_calls.specs.Rows.{RowKey, Block, Row, is_row_key, is_word, is_block}
 use Rattle.skk_calls.specs.Rows.{fits_blocks, is_row}
 use Rattle.skk_calls.specs.RowLaws.{RowParts, row_parts, block_parts}
 use Rattle.skk_calls.specs.States.{has_stamp}

@@ -1,20 +1,19 @@
 -- Blocks with a word at the front and without a word, and the candidate that stands first.
-use Rattle.std.proofs.Common.{◌≡◌, ℕ, ◌+◌, Bool, true, false, cond, ◌&&◌, ◌||◌, not, nat_le, Some, Option, List, []}
+use Rattle.std.proofs.Common.{◌≡◌, ℕ, Bool, true, false, cond, ◌||◌, not, nat_le, Some, Option, List, []}
 use Rattle.std.proofs.Common.{◌∷◌, length, find, refl, sym, ap, ◌∙◌, arith}
 use Rattle.std.specs.List.{list_all, list_any}
 use Rattle.std.specs.Option.{unwrap_or}
-use Rattle.std.proofs.lemmas.Bool.{and_from, and_parts}
+use Rattle.std.proofs.lemmas.Bool.{and_from}
 use Rattle.std.proofs.lemmas.Bool.Decides.{nat_tests}
 use Rattle.skk_text.specs.PairsLaws.{list_all-filter, all_pairs-filter}
-use Rattle.skk_text.specs.Text.{byte_len}
 use Rattle.skk_text.specs.Lists.{is_empty}
 use Rattle.skk_calls.specs.DifferLaws.{differ_front}
 use Rattle.skk_calls.specs.Found.{note_of}
 use Rattle.skk_calls.specs.KeyLaws.{same_equal}
 use Rattle.skk_calls.specs.Learning.{block_without, learnt_note, without_text}
 use Rattle.skk_calls.specs.RowLaws.{block_from_parts, block_parts, cand_word}
-use Rattle.skk_calls.specs.Rows.{Cand, Block, same_text, texts_differ, is_cand, is_block, is_note, is_okuri, is_word}
-use Rattle.skk_calls.specs.Rows.{word_limit, words_of}
+use Rattle.skk_calls.specs.Rows.{Cand, Block, same_text, texts_differ, is_cand, is_block, is_okuri, is_word}
+use Rattle.skk_calls.specs.Rows.{words_of}
 
 -- a list with an item at its front has one
 one_more : {X : Type 0} (x : X) (xs : List X) → nat_le 1 (length (x ∷ xs)) ≡ true
