@@ -13,6 +13,7 @@ pub mod PrintedChecks
 mod RangeExamples
 pub mod Ranges
 pub mod Reading
+mod RelationExamples
 mod RunExamples
 pub mod RunFiles
 pub mod Runs

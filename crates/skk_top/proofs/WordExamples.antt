@@ -150,6 +150,7 @@ of_another : taken ("type --port 1" ∷ "type --connections 1" ∷ "type --book 
     ∷ "type --lines 1" ∷ "serve --learned a --threads" ∷ "serve --learned a --book 1" ∷ "check a --dict a"
     ∷ "check a --threads" ∷ "check --learned a"
     ∷ "dump --learned a --limit 64" ∷ "dump --learned a --dict a" ∷ "dump --learned a --threads"
+    ∷ "dump --learned a --seed 1"
     ∷ "load --seed 1 --sessions 1 --lines 1 --learned a" ∷ "load --seed 1 --sessions 1 --lines 1 --dict a"
     ∷ "load --seed 1 --sessions 1 --lines 1 --limit 64" ∷ [])
     ≡ []
