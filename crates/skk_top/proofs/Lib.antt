@@ -17,6 +17,7 @@ mod RelationExamples
 mod RunExamples
 pub mod RunFiles
 pub mod Runs
+mod ScriptExamples
 pub mod Scripts
 pub mod SessionMaps
 pub mod SettingLists

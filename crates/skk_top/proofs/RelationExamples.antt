@@ -1,6 +1,5 @@
 -- Relations of what a run keeps and leaves, at small examples, each worked out by hand.
-use Rattle.std.proofs.Common.{◌≡◌, ◌++◌, ℕ, Bool, true, false, None, Some, Err, List, [], ◌∷◌, codes, inl, inr, refl}
-use Rattle.std.proofs.Common.{replicate, arith, lit≤}
+use Rattle.std.proofs.Common.{ℕ, false, None, Some, Err, [], ◌∷◌, codes, inl, inr, refl, replicate, lit≤}
 use Rattle.skk_outside.specs.Moved.{MovedShelf, MovedSink}
 use Rattle.skk_calls.specs.declared.answer.Answer.TheVariants.{Done, Refused}
 use Rattle.skk_calls.specs.declared.answer.Refusal.TheVariants.{Disk, JournalFull}
