@@ -1,6 +1,7 @@
 -- Why runs end, at small examples, each worked out by hand.
 use Rattle.std.proofs.Common.{◌≡◌, ℕ, None, Some, true, false, List, [], ◌∷◌, refl}
 use Rattle.std.proofs.Common.{length, arith, lit≤}
+use Rattle.skk_text.specs.Lines.{lines_of}
 use Rattle.skk_outside.specs.Moved.{MovedShelf, MovedSource, MovedSink}
 use Rattle.skk_calls.specs.Interactions.{ends}
 use Rattle.romaji_rules.specs.Standard.{standard}
@@ -9,6 +10,7 @@ use Rattle.skk_top.specs.Finishes.{HasFailed}
 use Rattle.skk_top.specs.Page.{StopsPrinting}
 use Rattle.skk_top.specs.RunFiles.{HasTextFlaw, IsLonger, RefusesBytes, RefusesFile}
 use Rattle.skk_top.specs.RunRules.{AreRules, HasRulesFlaw, IsNamed, RefusesRules}
+use Rattle.skk_top.specs.Script.{IsFirstBad}
 use Rattle.skk_top.specs.TypeCommand.{HasScriptFlaw, RefusesFiles, StopsTyping}
 use Rattle.skk_top.proofs.Dictionaries.{are_dictionaries}
 use Rattle.skk_top.specs.declared.fault.RunFault.TheVariants.{Words, Refused, Outside, Memory, NotBuilt}
@@ -81,6 +83,11 @@ script_not_too_long text e long = omega (arith, e, long)
 script_flaws : (¬ HasScriptFlaw (Byte 0) bytes)
     × ((text : List ℕ) → length text ≡ 4194305 → ¬ HasScriptFlaw (Line 1) text)
 script_flaws = (λ none. none, λ text e bad. omega (arith, e, bad.0))
+
+-- of a script of just as many bytes as one may have the first bad line is told
+script_at_limit : (text : List ℕ) (number : ℕ) → length text ≡ 4194304 → IsFirstBad (lines_of text) number
+    → HasScriptFlaw (Line number) text
+script_at_limit text number e bad = (omega (arith, e), bad)
 
 -- of several files the one behind those that are dictionaries is the first that has a property; a file that is not told
 -- may be anything
