@@ -12,6 +12,7 @@ use Rattle.skk_top.specs.RunFiles.{HasTextFlaw, IsLonger, RefusesBytes, RefusesF
 use Rattle.skk_top.specs.RunRules.{AreRules, HasRulesFlaw, IsNamed, RefusesRules}
 use Rattle.skk_top.specs.Script.{IsFirstBad}
 use Rattle.skk_top.specs.TypeCommand.{HasScriptFlaw, RefusesFiles, StopsTyping}
+use Rattle.skk_top.specs.Typing.{BreaksFor}
 use Rattle.skk_top.proofs.Dictionaries.{are_dictionaries}
 use Rattle.skk_top.specs.declared.fault.RunFault.TheVariants.{Words, Refused, Outside, Memory, NotBuilt}
 use Rattle.skk_top.specs.declared.run_file.Flaw.TheVariants.{TooLong, Byte, Line}
@@ -129,6 +130,13 @@ stops : StopsTyping (ends false) [] sound NotBuilt × (¬ StopsTyping (ends true
     × StopsTyping (ends true) [] sound Memory
     × (¬ StopsTyping (ends false) [] failed Words) × (¬ StopsTyping (ends false) [] failed (Refused Script TooLong))
 stops = (refl, λ e. cc (e), lit≤ tt, λ rose. omega (arith, rose), tt, λ none. none, λ none. none)
+
+-- the typing of lines breaks off for the same causes
+breaks : BreaksFor (ends true) [] [] failed [] Outside × (¬ BreaksFor (ends true) [] [] sound [] Outside)
+    × BreaksFor (ends true) [] [] sound [] Memory
+    × (¬ BreaksFor (ends false) [] [] failed [] Words)
+    × (¬ BreaksFor (ends false) [] [] failed [] (Refused Script TooLong))
+breaks = (lit≤ tt, λ rose. omega (arith, rose), tt, λ none. none, λ none. none)
 
 printing_stops : StopsPrinting failed Outside × (¬ StopsPrinting sound Outside) × StopsPrinting sound Memory
     × (¬ StopsPrinting failed NotBuilt)
