@@ -1,0 +1,4 @@
+pub mod KeyOrders
+pub mod OrderLaws
+pub mod Orders
+pub mod PlaceLaws
