@@ -1,0 +1,120 @@
+-- What lacks a character, and the bytes and lines of texts that do.
+use Rattle.std.proofs.Common.{◌≡◌, ◌⊎◌, inl, inr, ℕ, ◌+◌, ◌/◌, ◌%◌, ◌≤◌, ◌<◌, ◌==◌, Bool, true, false, cond, not, List}
+use Rattle.std.proofs.Common.{[], ◌∷◌, ◌++◌, map, encode_utf8_all, refl, ap, ◌∙◌, arith, append_assoc}
+use lib.Utf8.{encode}
+use Rattle.std.specs.List.{flat_map, list_all, AllByRecursion}
+use Rattle.std.proofs.lemmas.Bool.{and_parts, and_from, both_ways, not_from_false, ne_eqb}
+use Rattle.std.proofs.lemmas.Bool.Decides.{eqb_tells}
+use Rattle.std.proofs.lemmas.List.Folds.{list_all-append}
+use Rattle.std.proofs.lemmas.Str.{encodes-append}
+use Rattle.skk_text.specs.Lines.{lines_of}
+use Rattle.exact_readers.specs.Lacking.{lacks}
+use Rattle.exact_readers.specs.LineLaws.{line-ended}
+use Rattle.exact_readers.specs.Lines.{with_line_end}
+
+-- Texts
+
+-- two texts that lack a character lack it together
+pub both_lack : (code : ℕ) (xs ys : List ℕ) → lacks code xs ≡ true → lacks code ys ≡ true → lacks code (xs ++ ys) ≡ true
+both_lack code xs ys first second =
+    list_all-append (λ c. not (c == code)) xs ys ∙ and_from (lacks code xs) (lacks code ys) first second
+
+-- and so do the texts of many values
+pub each_lacks : {X : Type 0} (code : ℕ) (f : X → List ℕ) → ((x : X) → lacks code (f x) ≡ true) → (xs : List X)
+    → lacks code (flat_map f xs) ≡ true
+each_lacks code f each [] = refl
+each_lacks code f each (x ∷ xs) = both_lack code (f x) (flat_map f xs) (each x) (each_lacks code f each xs)
+
+-- a text whose characters pass a test lacks one that fails it
+pub lacks-failing : (test : ℕ → Bool) (code : ℕ) → test code ≡ false → (text : List ℕ) → list_all test text ≡ true
+    → lacks code text ≡ true
+lacks-failing test code fails [] all = refl
+lacks-failing test code fails (c ∷ text) all =
+    let parts = and_parts (test c) (list_all test text) all in
+    and_from (not (c == code)) _ (not_from_false (c == code) (ne_eqb c code
+    (λ same. both_ways (test c) (ap test same ∙ fails) parts.0)))
+    (lacks-failing test code fails text parts.1)
+
+-- Characters
+
+-- a byte from 128 on is no ASCII character
+pub above_ascii : (code : ℕ) → code < 128 → (byte : ℕ) → 128 ≤ byte → not (byte == code) ≡ true
+above_ascii code low byte high =
+    elim (eqb_tells byte code) [ inl same ↦ absurd (omega (arith, same.1)) | inr other ↦ ap not other.0 ]
+
+-- bytes are those of a character: itself, or bytes from 128 on
+abbrev pub AreOf : ℕ → List ℕ → Type 0
+AreOf c bytes =
+    (bytes ≡ c ∷ [])
+    ⊎ ((first : ℕ) × (rest : List ℕ) × (bytes ≡ first ∷ rest) × AllByRecursion (λ byte. 128 ≤ byte) (first ∷ rest))
+
+-- those of each character are so
+pub bytes_are : (c : ℕ) → AreOf c (encode c)
+unfolding encode
+bytes_are c = by _ _ _
+  where
+    by : (one two three : Bool) → AreOf c (cond one (c ∷ []) (cond two ((192 + c / 64) ∷ (128 + c % 64) ∷ [])
+        (cond three ((224 + c / 4096) ∷ (128 + c / 64 % 64) ∷ (128 + c % 64) ∷ [])
+        ((240 + c / 262144) ∷ (128 + c / 4096 % 64) ∷ (128 + c / 64 % 64) ∷ (128 + c % 64) ∷ []))))
+    by true two three = inl refl
+    by false true three = inr (192 + c / 64, (128 + c % 64) ∷ [], refl, (omega arith, (omega arith, tt)))
+    by false false true = inr (
+      224 + c / 4096,
+      (128 + c / 64 % 64) ∷ (128 + c % 64) ∷ [],
+      refl,
+      (omega arith, (omega arith, (omega arith, tt))),
+    )
+    by false false false =
+        inr (
+          240 + c / 262144,
+          (128 + c / 4096 % 64) ∷ (128 + c / 64 % 64) ∷ (128 + c % 64) ∷ [],
+          refl,
+          (omega arith, (omega arith, (omega arith, (omega arith, tt)))),
+        )
+
+-- Their texts
+
+-- the bytes of a text that lacks an ASCII character lack it
+pub bytes_lack : (code : ℕ) → code < 128 → (text : List ℕ) → lacks code text ≡ true
+    → lacks code (encode_utf8_all text) ≡ true
+bytes_lack code low [] none = refl
+bytes_lack code low (c ∷ text) none =
+    let parts = and_parts (not (c == code)) (lacks code text) none in
+    list_all-append (λ d. not (d == code)) (encode c) (encode_utf8_all text)
+    ∙ and_from (lacks code (encode c)) (lacks code (encode_utf8_all text)) (by (bytes_are c) parts.0)
+    (bytes_lack code low text parts.1)
+  where
+    all_above : (bytes : List ℕ) → AllByRecursion (λ byte. 128 ≤ byte) bytes → lacks code bytes ≡ true
+    all_above [] all = refl
+    all_above (byte ∷ bytes) all =
+        and_from (not (byte == code)) (lacks code bytes) (above_ascii code low byte all.0) (all_above bytes all.1)
+
+    by : AreOf c (encode c) → not (c == code) ≡ true → lacks code (encode c) ≡ true
+    by (inl itself) other = ap (lacks code) itself ∙ and_from (not (c == code)) true other refl
+    by (inr (first, rest, are, all)) other = ap (lacks code) are ∙ all_above (first ∷ rest) all
+
+-- Lines
+
+-- the end of a line is one byte
+pub bytes_line_end : (text : List ℕ) → encode_utf8_all (text ++ 10 ∷ []) ≡ encode_utf8_all text ++ 10 ∷ []
+unfolding encode
+bytes_line_end text = encodes-append text (10 ∷ [])
+
+-- lines with their ends are cut into these lines
+pub lines_back : (lines : List (List ℕ)) → list_all (lacks 10) lines ≡ true
+    → lines_of (flat_map with_line_end lines) ≡ lines
+lines_back [] none = refl
+lines_back (line ∷ lines) none =
+    let parts = and_parts (lacks 10 line) (list_all (lacks 10) lines) none in
+    let rest = flat_map with_line_end lines in
+    ap lines_of (append_assoc line (10 ∷ []) rest) ∙ line-ended line rest parts.0
+    ∙ ap (λ more. line ∷ more) (lines_back lines parts.1)
+
+-- the bytes of lines with their ends
+pub lines_bytes : (texts : List (List ℕ))
+    → encode_utf8_all (flat_map with_line_end texts) ≡ flat_map with_line_end (map encode_utf8_all texts)
+lines_bytes [] = refl
+lines_bytes (text ∷ texts) =
+    encodes-append (with_line_end text) (flat_map with_line_end texts)
+    ∙ ap (λ bytes. bytes ++ encode_utf8_all (flat_map with_line_end texts)) (bytes_line_end text)
+    ∙ ap (λ bytes. with_line_end (encode_utf8_all text) ++ bytes) (lines_bytes texts)

@@ -1,0 +1,13 @@
+pub mod CutLaws
+pub mod Cuts
+pub mod Exact
+pub mod ExactLaws
+pub mod Formats
+pub mod LackLaws
+pub mod Lacking
+pub mod LineLaws
+pub mod Lines
+pub mod LoopLaws
+pub mod ManyLaws
+pub mod Trimming
+pub mod TrimmingLaws
