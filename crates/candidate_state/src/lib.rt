@@ -1,9 +1,9 @@
 //! The candidate state ▼ of a session: the candidates that are shown, and what a key does to them.
 //!
-//! It stands on the candidates of the dictionary. `shown_plain` makes the candidates that are shown of those that a
-//! look-up found, which it moves. `press_cands` reads a key: it goes on to the next candidate or page or back, asks
-//! whether one is to be purged, or tells the session to choose, to purge, to register or to go back to the reading. It
-//! takes no memory and constant time, however many candidates there are.
+//! It stands on the candidates of the dictionary. `shown_plain` shows the candidates that a look-up found, which it
+//! moves. `press_cands` reads a key: it goes on to the next candidate or page or back, asks whether one is to be
+//! purged, or tells the session to choose, to purge, to register or to go back to the reading. Both take no memory and
+//! constant time, however many candidates there are.
 #![tactic(auto)]
 
 mod cands_do;

@@ -1,12 +1,9 @@
-ghost use Rattle.std.specs.Prelude.{◌≡◌, [], IfOk};
-ghost use Rattle.skk_calls.specs.Found.{first_of_each};
+ghost use Rattle.std.specs.Prelude.{◌≡◌};
 ghost use Rattle.candidate_state.specs.Shown.{shown_plain};
 
-use skk_calls::{Cand, Cands, RowKey};
-use skk_text::{Memory, Text};
-use std::alloc::Global;
+use skk_calls::{Cand, Cands, DistinctCands, RowKey};
+use skk_text::Text;
 use std::marker::Model;
-use word_sets::FirstCands;
 
 /// Candidates of a key as they are shown, in order: contracts see the list of them.
 #[derive(Drop)]
@@ -33,26 +30,16 @@ pub struct Shown<'a> {
     pub text: &'a Text,
 }
 
-/// The candidates that are shown for what was found of a key: the first of each word, whose texts are moved. Takes time
-/// in their length. After `Memory` the key and the candidates are gone.
+/// The candidates that are shown for what was found of a key, the first of each word: what was found has no word
+/// twice, and is moved. Takes no memory and constant time.
 #[tactic(auto, using(crate::proofs::ShownWords::shown_words))]
-pub fn shown_plain(alloc: Global, key: RowKey, found: Cands) -> Result<ShownList, Memory>
-    ensures { IfOk result (λ list. list ≡ shown_plain key found) }
+pub fn shown_plain(key: RowKey, found: DistinctCands) -> ShownList
+    ensures { result ≡ shown_plain key found }
 {
-    let found = first_of_each_word(alloc, found)?;
-    Ok(ShownList { key, found })
-}
-
-// The candidates, the first of each word.
-#[tactic(auto, using(crate::proofs::ShownWords::first_words))]
-fn first_of_each_word(alloc: Global, cands: Cands) -> Result<Cands, Memory>
-    ensures { IfOk result (λ first. first ≡ first_of_each (λ cand. cand.word) [] cands) }
-{
-    let mut first = FirstCands::new(alloc);
-    for cand in cands.into_vec() {
-        first.insert_cand(cand)?;
+    ShownList {
+        key,
+        found: found.into_cands(),
     }
-    first.into_cands(alloc)
 }
 
 impl ShownList {

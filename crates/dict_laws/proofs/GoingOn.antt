@@ -9,8 +9,9 @@ use Rattle.skk_calls.specs.declared.part.Part.TheVariants.{Nasi}
 use Rattle.skk_text.specs.Lists.{is_empty}
 use Rattle.skk_calls.specs.Completions.{goes_on_from, completes, reading_of, newest_readings, ascending_readings}
 use Rattle.skk_calls.specs.Completions.{all_readings}
-use Rattle.skk_calls.specs.OrderLaws.{list_all-sort_by}
-use Rattle.skk_calls.specs.Orders.{sort_by, is_newer, text_less}
+use Rattle.ordered_lists.specs.OrderLaws.{list_all-sort_by}
+use Rattle.ordered_lists.specs.Orders.{sort_by}
+use Rattle.skk_calls.specs.Orders.{is_newer, text_less}
 use Rattle.skk_calls.specs.Rows.{Row, same_part}
 use Rattle.skk_calls.specs.States.{State, rows_of}
 use Rattle.dict_laws.proofs.Seen.{list_all-flat_map}

@@ -4,7 +4,8 @@ use Rattle.std.proofs.Common.{find, ◌∙◌, ap}
 use Rattle.std.proofs.lemmas.Bool.{eqb-true, not-false}
 use Rattle.skk_calls.specs.declared.book.NumberedBook.{NumberedBook}
 use Rattle.skk_calls.specs.KeyLaws.{same_key_equal}
-use Rattle.skk_calls.specs.Orders.{insert_by, key_less}
+use Rattle.ordered_lists.specs.Orders.{insert_by}
+use Rattle.skk_calls.specs.Orders.{key_less}
 use Rattle.skk_calls.specs.Rows.{RowKey, Row, same_key}
 use Rattle.skk_calls.specs.States.{State, row_in, book_at, book_rows, rows_of, row_at, without_row, with_row}
 use Rattle.skk_calls.specs.States.{without_book, state_with}

@@ -9,7 +9,8 @@ use Rattle.skk_calls.specs.declared.call.Call.{Call}
 use Rattle.skk_calls.specs.Canonical.{is_good}
 use Rattle.skk_calls.specs.Dictionary.{after, moves, state_moved}
 use Rattle.skk_calls.specs.Learning.{is_row_before}
-use Rattle.skk_calls.specs.Orders.{insert_by, key_less}
+use Rattle.ordered_lists.specs.Orders.{insert_by}
+use Rattle.skk_calls.specs.Orders.{key_less}
 use Rattle.skk_calls.specs.Rows.{RowKey, Row, same_key}
 use Rattle.skk_calls.specs.States.{State, row_in, book_at, book_rows, book_count, rows_of, count_of, row_at}
 use Rattle.skk_calls.specs.States.{without_row, with_row, without_book, state_with}

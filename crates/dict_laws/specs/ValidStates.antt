@@ -10,7 +10,8 @@ use Rattle.skk_text.specs.FilterLaws.{list_all_found, list_all_kept}
 use Rattle.skk_calls.specs.KeyLaws.{same_key_equal, same_key_other}
 use Rattle.skk_calls.specs.declared.book.NumberedBook.{NumberedBook}
 use Rattle.skk_calls.specs.Canonical.{is_good}
-use Rattle.skk_calls.specs.OrderLaws.{insert_ascends, key_order, keys_apart, list_all-insert_by, order_read}
+use Rattle.ordered_lists.specs.OrderLaws.{insert_ascends, list_all-insert_by, order_read}
+use Rattle.skk_calls.specs.OrderLaws.{key_order, keys_apart}
 use Rattle.skk_calls.specs.Orders.{key_less}
 use Rattle.skk_calls.specs.Rows.{RowKey, Row, same_key, is_row}
 use Rattle.skk_calls.specs.States.{State, book_at, book_rows, book_count, rows_of, row_at, count_of, without_row}

@@ -4,12 +4,14 @@ use Rattle.std.specs.Cmp.{IsStrictWeakOrder}
 use Rattle.std.specs.List.{filter, list_all}
 use Rattle.std.proofs.lemmas.Bool.{and_from, and_parts}
 use Rattle.skk_text.specs.Pairs.{all_pairs}
-use Rattle.skk_text.specs.PairsLaws.{list_all-filter, list_all-weaker}
+use Rattle.skk_text.specs.PairsLaws.{list_all-filter}
 use Rattle.skk_calls.specs.declared.part.Part.TheVariants.{Nasi}
 use Rattle.skk_text.specs.Lists.{is_empty}
 use Rattle.skk_calls.specs.Completions.{ascending_readings, completes, goes_on_from, reading_of}
-use Rattle.skk_calls.specs.OrderLaws.{apart, less_trans, sort_ascends, text_order}
-use Rattle.skk_calls.specs.Orders.{insert_by, sort_by, text_less}
+use Rattle.ordered_lists.specs.OrderLaws.{apart, insert_first, less_than_all, sort_ascends}
+use Rattle.ordered_lists.specs.Orders.{insert_by, sort_by}
+use Rattle.skk_calls.specs.OrderLaws.{text_order}
+use Rattle.skk_calls.specs.Orders.{text_less}
 use Rattle.skk_calls.specs.Rows.{Row, same_part, keys_differ}
 use Rattle.dict_layers.specs.InOrder.{is_walked, walked_readings}
 use Rattle.dict_layers.specs.WalkLaws.{texts_all_apart}
@@ -40,12 +42,6 @@ filter_made {X} {Y} f q (x ∷ xs) = by (q (f x)) (filter_made f q xs)
     by false rest = rest
 
 module _ {X : Type 0} (less : X → X → Bool) (order : IsStrictWeakOrder less) (p : X → Bool) where
-  -- an item that is less than all goes to the front
-  insert_first : (x : X) (ys : List X) → list_all (less x) ys ≡ true → insert_by less x ys ≡ x ∷ ys
-  insert_first x [] all = refl
-  insert_first x (y ∷ ys) all =
-      ap (λ b. cond b (x ∷ y ∷ ys) (y ∷ insert_by less x ys)) (and_parts (less x y) (list_all (less x) ys) all).0
-
   -- what is kept of ascending items with one more at its place
   filter_insert : (x : X) (ys : List X) → all_pairs less ys ≡ true
       → filter p (insert_by less x ys) ≡ cond (p x) (insert_by less x (filter p ys)) (filter p ys)
@@ -57,9 +53,9 @@ module _ {X : Type 0} (less : X → X → Bool) (order : IsStrictWeakOrder less)
       front : less x y ≡ true → list_all (less y) ys ≡ true
           → insert_by less x (filter p (y ∷ ys)) ≡ x ∷ filter p (y ∷ ys)
       front first above =
-          insert_first x (filter p (y ∷ ys))
+          insert_first less x (filter p (y ∷ ys))
           (list_all-filter (less x) p (y ∷ ys) (and_from (less x y) (list_all (less x) ys) first
-          (list_all-weaker (less y) (less x) (λ z e. less_trans less order x y z first e) ys above)))
+          (less_than_all less order x y ys first above)))
 
       behind : less x y ≡ false → (a b : Bool)
           → cond b (y ∷ cond a (insert_by less x (filter p ys)) (filter p ys))

@@ -1,98 +1,49 @@
--- What is found by the index of a file.
-use Rattle.std.proofs.Common.{◌≡◌, ℕ, Bool, true, false, not, List, find, slice_get, refl, sym, ap, ◌∙◌}
-use Rattle.std.specs.List.{filter}
-use Rattle.std.specs.List.Sorted.{IsPartitionedBy, IsPartitionPoint}
-use Rattle.std.specs.Option.{option_and_then, option_map}
-use Rattle.std.proofs.lemmas.Bool.{not-true}
-use Rattle.skk_text.specs.Pairs.{all_pairs}
+-- What is found by the indexes of a file.
+use Rattle.std.proofs.Common.{◌≡◌, ℕ, Bool, true, cond, List, [], ◌∷◌, Some, find, refl, ap, ◌∙◌}
+use Rattle.std.specs.List.{filter, list_all}
+use Rattle.std.specs.Option.{option_map}
+use Rattle.std.proofs.lemmas.Bool.{and_parts}
 use Rattle.skk_text.specs.FilterLaws.{find-map}
-use Rattle.skk_text.specs.PairsLaws.{all_pairs-filter, all_pairs-map}
+use Rattle.ordered_lists.specs.OrderLaws.{list_all-sort_by}
+use Rattle.ordered_lists.specs.Orders.{item_above, sort_by}
+use Rattle.skk_calls.specs.declared.part.Part.{Part}
+use Rattle.skk_calls.specs.declared.part.Part.TheVariants.{Nasi, Ari}
 use Rattle.skk_calls.specs.Completions.{reading_of}
-use Rattle.skk_calls.specs.OrderLaws.{apart, key_order, less_trans, order_read, sort_ascends, text_order}
-use Rattle.skk_calls.specs.Orders.{key_less, sort_by, text_less, row_less}
-use Rattle.skk_calls.specs.Rows.{RowKey, Row, keys_differ}
-use Rattle.skk_calls.specs.States.{row_in}
-use Rattle.skk_calls.specs.Walks.{next_above, texts_ascend}
-use Rattle.skk_text.specs.Places.{HasAt, passes, found_at, partitioned}
+use Rattle.skk_calls.specs.OrderLaws.{row_keys}
+use Rattle.skk_calls.specs.Orders.{key_less, less_by_part, plain_key, row_less, text_less}
+use Rattle.skk_calls.specs.Rows.{Row, keys_differ, same_part}
+use Rattle.skk_calls.specs.Walks.{next_above}
 use Rattle.dict_layers.specs.InOrder.{is_walked, walked_readings}
-use Rattle.dict_layers.specs.WalkLaws.{walked_ascend}
-use Rattle.skk_calls.specs.RowsInOrder.{if_same, row_in_order, row_not_less, rows_apart}
-use Rattle.dict_layers.proofs.Walking.{walked_in_order}
-use Rattle.std.specs.Cmp.{IsStrictWeakOrder}
+use Rattle.dict_layers.proofs.Walking.{all_walked, walked_in_order, walked_part}
 
--- the order of rows by their keys is one
-pub row_order : IsStrictWeakOrder row_less
-row_order = order_read (λ (row : Row). row.key) key_less key_order
+-- among items where two tests are the same, both find the same
+find_same : {X : Type 0} (p q there : X → Bool) → ((x : X) → there x ≡ true → p x ≡ q x) → (xs : List X)
+    → list_all there xs ≡ true → find p xs ≡ find q xs
+find_same p q there same [] all = refl
+find_same p q there same (x ∷ xs) all =
+    let parts = and_parts (there x) (list_all there xs) all in
+    ap (λ b. cond b (Some x) (find p xs)) (same x parts.0)
+    ∙ ap (λ found. cond (q x) (Some x) found) (find_same p q there same xs parts.1)
 
--- a test that is turned twice
-twice : (b : Bool) → b ≡ not (not b)
-twice true = refl
-twice false = refl
-
--- a text that is not greater than another has no lesser one that is
-still_low : (low : List ℕ) (row other : Row) → text_less (reading_of row) (reading_of other) ≡ true
-    → not (text_less low (reading_of other)) ≡ true → not (text_less low (reading_of row)) ≡ true
-still_low low row other e f = by (text_less low (reading_of row)) refl
+-- of the rows that a walk comes by those with greater readings have greater keys
+above_by_key : (low : List ℕ) (row : Row) → is_walked row ≡ true
+    → text_less low (reading_of row) ≡ key_less (plain_key low) row.key
+above_by_key low row e = by row.key.part (walked_part row e)
   where
-    by : (b : Bool) → text_less low (reading_of row) ≡ b → not b ≡ true
-    by true g =
-        let greater = less_trans text_less text_order low (reading_of row) (reading_of other) g e in
-        let not_greater = not-true (text_less low (reading_of other)) f in
-        cc
-    by false g = refl
+    by : (p : Part) → same_part p Nasi ≡ true
+        → text_less low row.key.reading ≡ less_by_part Nasi p (text_less low row.key.reading)
+    by Nasi f = refl
+    by Ari f = cc
 
-module _ (rows : List Row) (differ : keys_differ rows ≡ true) where
-  -- rows in order ascend
-  rows_ascend : all_pairs row_less (sort_by row_less rows) ≡ true
-  rows_ascend = sort_ascends row_less row_order rows (rows_apart rows differ)
-
-  pub walked_apart : all_pairs (apart row_less) (filter is_walked rows) ≡ true
-  walked_apart = all_pairs-filter (apart row_less) is_walked rows (rows_apart rows differ)
-
-  readings_ascend : all_pairs (λ row other. text_less (reading_of row) (reading_of other))
-      (sort_by row_less (filter is_walked rows)) ≡ true
-  readings_ascend =
-      sym (all_pairs-map reading_of text_less (sort_by row_less (filter is_walked rows)))
-      ∙ ap texts_ascend (sym (walked_in_order rows differ)) ∙ walked_ascend rows
-
-  module _ (places : List ℕ) where
-    module _ (here : HasAt rows places (sort_by row_less rows)) (key : RowKey) where
-      -- the places are parted at a key
-      pub keys_parted : IsPartitionedBy (λ place. passes (λ row. key_less row.key key) (slice_get rows place)) places
-      keys_parted =
-          partitioned (slice_get rows) (λ row. key_less row.key key) row_less
-          (λ row other e f. less_trans key_less key_order row.key other.key key e f) places (sort_by row_less rows)
-          here.items_are rows_ascend
-
-      -- and there the row of the key stands, if there is one
-      pub key_found : (i : ℕ) → IsPartitionPoint (λ place. passes (λ row. key_less row.key key) (slice_get rows place)
-          ≡ true) (λ place. passes (λ row. key_less row.key key) (slice_get rows place) ≡ false) places i
-          → row_in key rows ≡ option_and_then (if_same key) (option_and_then (slice_get rows) (slice_get places i))
-      key_found i point =
-          sym (row_in_order key rows differ) ∙ row_not_less key (sort_by row_less rows) rows_ascend
-          ∙ ap (option_and_then (if_same key))
-          (sym (found_at (slice_get rows) (λ row. not (key_less row.key key)) (λ row. key_less row.key key)
-          (λ row. refl) places (sort_by row_less rows) i here.items_are point))
-
-    module _ (here : HasAt rows places (sort_by row_less (filter is_walked rows))) (low : List ℕ) where
-      -- the places are parted at a reading
-      pub readings_parted : IsPartitionedBy
-          (λ place. passes (λ row. not (text_less low row.key.reading)) (slice_get rows place)) places
-      readings_parted =
-          partitioned (slice_get rows) (λ row. not (text_less low row.key.reading))
-          (λ row other. text_less (reading_of row) (reading_of other)) (still_low low)
-          places (sort_by row_less (filter is_walked rows)) here.items_are readings_ascend
-
-      -- and there the next one stands, if there is one
-      pub reading_found : (i : ℕ)
-          → IsPartitionPoint (λ place. passes (λ row. not (text_less low row.key.reading)) (slice_get rows place)
-          ≡ true) (λ place. passes (λ row. not (text_less low row.key.reading)) (slice_get rows place) ≡ false) places i
-          → next_above (walked_readings rows) low
-          ≡ option_map reading_of (option_and_then (slice_get rows) (slice_get places i))
-      reading_found i point =
-          ap (find (text_less low)) (walked_in_order rows differ)
-          ∙ find-map reading_of (text_less low) (sort_by row_less (filter is_walked rows))
-          ∙ ap (option_map reading_of)
-          (sym (found_at (slice_get rows) (λ row. text_less low row.key.reading)
-          (λ row. not (text_less low row.key.reading)) (λ row. twice (text_less low row.key.reading)) places
-          (sort_by row_less (filter is_walked rows)) i here.items_are point))
+-- the next reading of a walk is that of the first row that it comes by whose key is greater
+pub reading_found : (rows : List Row) (low : List ℕ) → keys_differ rows ≡ true
+    → next_above (walked_readings rows) low
+    ≡ option_map reading_of (item_above (λ (row : Row). row.key) row_keys (plain_key low)
+    (sort_by row_less (filter is_walked rows)))
+reading_found rows low differ =
+    let walked = sort_by row_less (filter is_walked rows) in
+    ap (find (text_less low)) (walked_in_order rows differ)
+    ∙ find-map reading_of (text_less low) walked
+    ∙ ap (option_map reading_of)
+    (find_same (λ row. text_less low (reading_of row)) (λ row. key_less (plain_key low) row.key) is_walked
+    (above_by_key low) walked (list_all-sort_by row_less is_walked (filter is_walked rows) (all_walked rows)))

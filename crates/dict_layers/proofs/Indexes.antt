@@ -4,12 +4,12 @@ use Rattle.std.specs.List.{AllZip}
 use Rattle.std.proofs.lemmas.Option.{get_or_from_slice_get}
 use Rattle.skk_calls.specs.Rows.{Row}
 use Rattle.dict_layers.specs.declared.file_index.FileIndex.{FileIndex}
-use Rattle.dict_layers.specs.InOrder.{IsIndex}
+use Rattle.dict_layers.specs.InOrder.{IsFileIndex}
 use Rattle.dict_layers.proofs.Zipped.{zipped_at, zipped_length}
 
 -- an index is that of rows
 abbrev pub Fits : List Row → FileIndex → Type 0
-Fits rows index = IsIndex rows index.by_key.items index.readings.items
+Fits rows index = IsFileIndex rows index.by_key index.walked
 
 module _ (books : List (List Row)) (indexes : List FileIndex) (all : AllZip Fits books indexes) (file : ℕ)
     (low : file < length books) where

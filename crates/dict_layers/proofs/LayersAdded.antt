@@ -1,62 +1,152 @@
--- The candidates of layers, as they are added layer by layer.
-use Rattle.std.proofs.Common.{◌≡◌, ℕ, true, not, ◌||◌, Option, List, [], ◌∷◌, ◌++◌, refl, sym, ap, ◌∙◌}
-use Rattle.std.specs.List.{fold, list_all}
+-- The candidates of layers, as they are added layer by layer, where words that were given or hidden are passed.
+use Rattle.std.proofs.Common.{◌≡◌, ℕ, Bool, true, false, not, ◌&&◌, ◌||◌, cond, Option, List, [], ◌∷◌, ◌++◌, refl}
+use Rattle.std.proofs.Common.{sym, ap, ◌∙◌}
+use Rattle.std.specs.List.{filter, fold}
+use Rattle.std.proofs.lemmas.List.{append-nil}
 use Rattle.std.proofs.lemmas.List.Folds.{list_any-append}
 use Rattle.std.proofs.lemmas.List.Sums.{fold-append}
-use Rattle.skk_text.specs.PairsLaws.{list_all-filter}
-use Rattle.skk_calls.specs.Found.{ordered, without_hidden, cands_of_layers, merged}
-use Rattle.skk_calls.specs.Rows.{Cand, Row, same_text, has_text, is_cand, is_row}
-use Rattle.word_sets.specs.FirstLaws.{first_of_each-fold, fold_new-all, texts_fold_new}
+use Rattle.skk_text.specs.PairsLaws.{all_pairs-filter, all_pairs-map}
+use Rattle.skk_calls.specs.Found.{cands_of_layers, merged, ordered, without_hidden}
+use Rattle.skk_calls.specs.KeyLaws.{same_equal}
+use Rattle.skk_calls.specs.Rows.{Cand, Row, same_text, has_text, is_row, texts_differ, words_of}
+use Rattle.word_sets.specs.FirstLaws.{first_of_each-fold, fold_new-apart, fold_new-texts}
 use Rattle.word_sets.specs.Firsts.{with_new}
-use Rattle.dict_layers.proofs.BlockFirst.{ordered_valid}
-use Rattle.dict_layers.proofs.Lists.{filter_same}
+use Rattle.dict_layers.proofs.BlockFirst.{ordered_differ}
 
--- lists that have the same texts
-abbrev Alike : List (List ℕ) → List (List ℕ) → Type 0
-Alike texts others = (text : List ℕ) → has_text texts text ≡ has_text others text
+abbrev word_of : Cand → List ℕ
+word_of cand = cand.word
 
--- lists that hide the same words leave the same candidates
-hidden_alike : (hidden others : List (List ℕ)) (layers : List Row) (okuri : Option (List ℕ)) → Alike hidden others
-    → cands_of_layers hidden layers okuri ≡ cands_of_layers others layers okuri
-hidden_alike hidden others [] okuri alike = refl
-hidden_alike hidden others (row ∷ layers) okuri alike =
-    ap (λ cands. cands ++ cands_of_layers (hidden ++ row.hides) layers okuri)
-    (filter_same (λ (cand : Cand). not (has_text hidden cand.word)) (λ (cand : Cand). not (has_text others cand.word))
-    (λ cand. ap not (alike cand.word)) (ordered row okuri))
-    ∙ ap (λ cands. without_hidden others (ordered row okuri) ++ cands)
-    (hidden_alike (hidden ++ row.hides) (others ++ row.hides) layers okuri
-    (λ text.
-    list_any-append (same_text text) hidden row.hides ∙ ap (λ b. b || has_text row.hides text) (alike text)
-    ∙ sym (list_any-append (same_text text) others row.hides)))
+-- The layers so far gave these candidates, and these words are passed: with what comes of the layers that are left the
+-- candidates are those of all.
+pub record Merging (all : List Row) (okuri : Option (List ℕ)) (cands : List Cand) (passed : List (List ℕ))
+    (left : List Row) : Type 0 where
+  pub hidden : List (List ℕ)
+  pub comes : fold (with_new (λ (cand : Cand). cand.word)) cands (cands_of_layers hidden left okuri) ≡ merged all okuri
+  pub alike : (text : List ℕ) → has_text passed text ≡ (has_text (words_of cands) text || has_text hidden text)
+
+-- Tests
+
+neither : (a b : Bool) → (not b && not a) ≡ not (a || b)
+neither true true = refl
+neither true false = refl
+neither false true = refl
+neither false false = refl
+
+or_true : (a : Bool) → (a || true) ≡ true
+or_true true = refl
+or_true false = refl
+
+or_none : (a : Bool) → (a || false) ≡ a
+or_none true = refl
+or_none false = refl
+
+joined : (c d w h s : Bool) → (s || d) ≡ (w || d) → ((c || d) || (w || h)) ≡ ((c || s) || (d || h))
+joined true d w h s same = refl
+joined false true w h s same = sym (or_true s)
+joined false false w h s same = ap (λ b. b || h) (sym (sym (or_none s) ∙ same ∙ or_none w))
+
+-- Filters
+
+-- a filter behind another keeps what passes both
+filter_twice : {X : Type 0} (p q r : X → Bool) → ((x : X) → (q x && p x) ≡ r x) → (xs : List X)
+    → filter p (filter q xs) ≡ filter r xs
+filter_twice p q r both [] = refl
+filter_twice {X} p q r both (x ∷ xs) = by (q x) (both x) (filter_twice p q r both xs)
+  where
+    by : (b : Bool) → (b && p x) ≡ r x → filter p (filter q xs) ≡ filter r xs
+        → filter p (cond b (x ∷ filter q xs) (filter q xs)) ≡ cond (r x) (x ∷ filter r xs) (filter r xs)
+    by true here rest = ap (λ b. cond b (x ∷ filter p (filter q xs)) (filter p (filter q xs))) here
+        ∙ ap (λ ys. cond (r x) (x ∷ ys) ys) rest
+    by false here rest = rest ∙ ap (λ b. cond b (x ∷ filter r xs) (filter r xs)) here
+
+-- what is hidden of candidates has words that are hidden
+hidden_words : (hidden : List (List ℕ)) (cands : List Cand) (text : List ℕ)
+    → (has_text (words_of (without_hidden hidden cands)) text || has_text hidden text)
+    ≡ (has_text (words_of cands) text || has_text hidden text)
+hidden_words hidden [] text = refl
+hidden_words hidden (cand ∷ cands) text =
+    by (has_text hidden cand.word) refl (same_text text cand.word) refl (hidden_words hidden cands text)
+  where
+    by : (b : Bool) → has_text hidden cand.word ≡ b → (s : Bool) → same_text text cand.word ≡ s
+        → (has_text (words_of (without_hidden hidden cands)) text || has_text hidden text)
+        ≡ (has_text (words_of cands) text || has_text hidden text)
+        → (has_text (words_of (cond (not b) (cand ∷ without_hidden hidden cands) (without_hidden hidden cands))) text
+        || has_text hidden text)
+        ≡ ((same_text text cand.word || has_text (words_of cands) text) || has_text hidden text)
+    by true e true same rest =
+        let there : has_text hidden text ≡ true = ap (has_text hidden) (same_equal text cand.word same) ∙ e in
+        rw (there, same) (or_true (has_text (words_of (without_hidden hidden cands)) text))
+    by true e false same rest = rw same rest
+    by false e true same rest = rw same refl
+    by false e false same rest = rw same rest
+
+-- Layers
+
+-- what a layer shows are its candidates that are hidden by none above it and new
+layer_shown : (cands new : List Cand) (hidden passed : List (List ℕ)) (row : Row) (okuri : Option (List ℕ))
+    → is_row row ≡ true
+    → ((text : List ℕ) → has_text passed text ≡ (has_text (words_of cands) text || has_text hidden text))
+    → new ≡ cands ++ without_hidden passed (ordered row okuri)
+    → new ≡ fold (with_new word_of) cands (without_hidden hidden (ordered row okuri))
+layer_shown cands new hidden passed row okuri valid alike shown =
+    let items = ordered row okuri in
+    let differ : texts_differ (words_of (without_hidden hidden items)) ≡ true =
+    all_pairs-map word_of (λ text other. not (same_text text other)) (without_hidden hidden items)
+    ∙ all_pairs-filter (λ (c : Cand) (other : Cand). not (same_text c.word other.word))
+    (λ cand. not (has_text hidden cand.word)) items
+    (sym (all_pairs-map word_of (λ text other. not (same_text text other)) items) ∙ ordered_differ row valid okuri) in
+    shown
+    ∙ ap (λ kept. cands ++ kept)
+    (sym (filter_twice (λ (cand : Cand). not (has_text (words_of cands) cand.word))
+    (λ (cand : Cand). not (has_text hidden cand.word)) (λ (cand : Cand). not (has_text passed cand.word))
+    (λ cand.
+    neither (has_text (words_of cands) cand.word) (has_text hidden cand.word) ∙ ap not (sym (alike cand.word))) items))
+    ∙ sym (fold_new-apart word_of cands (without_hidden hidden items) differ)
+
+-- before the first layer
+pub merging_none : (all : List Row) (okuri : Option (List ℕ)) → Merging all okuri [] [] all
+merging_none all okuri = record {
+  hidden = [];
+  comes = sym (first_of_each-fold word_of (cands_of_layers [] all okuri));
+  alike = λ text. refl;
+}
 
 -- one layer more
-pub layer_added : (found new : List Cand) (hidden more : List (List ℕ)) (row : Row) (layers : List Row)
-    (okuri : Option (List ℕ))
-    → new ≡ fold (with_new (λ (cand : Cand). cand.word)) found (without_hidden hidden (ordered row okuri))
-    → more ≡ fold (with_new (λ (text : List ℕ). text)) hidden row.hides
-    → fold (with_new (λ (cand : Cand). cand.word)) new (cands_of_layers more layers okuri)
-    ≡ fold (with_new (λ (cand : Cand). cand.word)) found (cands_of_layers hidden (row ∷ layers) okuri)
-layer_added found new hidden more row layers okuri shown hides =
-    ap (λ cands. fold (with_new (λ (cand : Cand). cand.word)) cands (cands_of_layers more layers okuri)) shown
-    ∙ ap (fold (with_new (λ (cand : Cand). cand.word))
-    (fold (with_new (λ (cand : Cand). cand.word)) found (without_hidden hidden (ordered row okuri))))
-    (hidden_alike more (hidden ++ row.hides) layers okuri
-    (λ text. ap (λ texts. has_text texts text) hides ∙ texts_fold_new hidden row.hides text
-    ∙ sym (list_any-append (same_text text) hidden row.hides)))
-    ∙ sym (fold-append (with_new (λ (cand : Cand). cand.word)) found (without_hidden hidden (ordered row okuri))
-    (cands_of_layers (hidden ++ row.hides) layers okuri))
+pub merging_more : (all : List Row) (okuri : Option (List ℕ)) (cands new : List Cand) (passed more : List (List ℕ))
+    (row : Row) (left : List Row) → Merging all okuri cands passed (row ∷ left) → is_row row ≡ true
+    → new ≡ cands ++ without_hidden passed (ordered row okuri)
+    → ((text : List ℕ) → has_text more text
+    ≡ (has_text passed text || (has_text (words_of (ordered row okuri)) text || has_text row.hides text)))
+    → Merging all okuri new more left
+merging_more all okuri cands new passed more row left before valid shown passes =
+    let hidden = before.hidden in
+    let items = ordered row okuri in
+    let given : new ≡ fold (with_new word_of) cands (without_hidden hidden items) =
+    layer_shown cands new hidden passed row okuri valid before.alike shown in
+    record {
+      hidden = hidden ++ row.hides;
+      comes =
+          ap (λ found. fold (with_new word_of) found (cands_of_layers (hidden ++ row.hides) left okuri)) given
+          ∙ sym (fold-append (with_new word_of) cands (without_hidden hidden items)
+          (cands_of_layers (hidden ++ row.hides) left okuri))
+          ∙ before.comes;
+      alike = λ text.
+          passes text
+          ∙ ap (λ b. b || (has_text (words_of items) text || has_text row.hides text)) (before.alike text)
+          ∙ joined (has_text (words_of cands) text) (has_text hidden text) (has_text (words_of items) text)
+          (has_text row.hides text) (has_text (words_of (without_hidden hidden items)) text)
+          (hidden_words hidden items text)
+          ∙ ap (λ b. b || (has_text hidden text || has_text row.hides text))
+          (sym (fold_new-texts word_of cands (without_hidden hidden items) text)
+          ∙ ap (λ found. has_text (words_of found) text) (sym given))
+          ∙ ap (λ b. has_text (words_of new) text || b) (sym (list_any-append (same_text text) hidden row.hides));
+    }
 
--- which are candidates
-pub layer_valid : (found new : List Cand) (hidden : List (List ℕ)) (row : Row) (okuri : Option (List ℕ))
-    → new ≡ fold (with_new (λ (cand : Cand). cand.word)) found (without_hidden hidden (ordered row okuri))
-    → is_row row ≡ true → list_all is_cand found ≡ true → list_all is_cand new ≡ true
-layer_valid found new hidden row okuri shown valid all =
-    ap (list_all is_cand) shown
-    ∙ fold_new-all (λ (cand : Cand). cand.word) is_cand found (without_hidden hidden (ordered row okuri)) all
-    (list_all-filter is_cand (λ cand. not (has_text hidden cand.word)) (ordered row okuri)
-    (ordered_valid row valid okuri))
-
--- all layers
-pub layers_added : (layers : List Row) (okuri : Option (List ℕ))
-    → fold (with_new (λ (cand : Cand). cand.word)) [] (cands_of_layers [] layers okuri) ≡ merged layers okuri
-layers_added layers okuri = sym (first_of_each-fold (λ (cand : Cand). cand.word) (cands_of_layers [] layers okuri))
+-- the last layer
+pub merging_last : (all : List Row) (okuri : Option (List ℕ)) (cands new : List Cand) (passed : List (List ℕ))
+    (row : Row) → Merging all okuri cands passed (row ∷ []) → is_row row ≡ true
+    → new ≡ cands ++ without_hidden passed (ordered row okuri) → new ≡ merged all okuri
+merging_last all okuri cands new passed row before valid shown =
+    layer_shown cands new before.hidden passed row okuri valid before.alike shown
+    ∙ ap (fold (with_new word_of) cands) (sym (append-nil (without_hidden before.hidden (ordered row okuri))))
+    ∙ before.comes

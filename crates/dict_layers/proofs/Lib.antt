@@ -5,6 +5,5 @@ pub mod Indexes
 pub mod LayersAdded
 pub mod Lists
 pub mod Places
-pub mod Sorting
 pub mod Walking
 pub mod Zipped

@@ -1,18 +1,7 @@
 -- Places of a list that are gone over: one place more.
-use Rattle.std.proofs.Common.{◌≡◌, ℕ, zero, suc, ◌+◌, ◌<◌, Bool, true, false, cond, Some, List, [], ◌∷◌, ◌++◌, map}
-use Rattle.std.proofs.Common.{length, take, slice_get, refl, ap, ◌∙◌, arith, add-one}
+use Rattle.std.proofs.Common.{◌≡◌, ℕ, zero, suc, ◌+◌, Bool, true, false, cond, Some, List, [], ◌∷◌, ◌++◌, map}
+use Rattle.std.proofs.Common.{take, slice_get, refl, ap, ◌∙◌, add-one}
 use Rattle.std.specs.List.{filter}
-
--- the place of the next item
-pub place_more : {X : Type 0} (xs : List X) (i : ℕ) → i < length xs
-    → map Some (take (i + 1) xs) ≡ map Some (take i xs) ++ slice_get xs i ∷ []
-place_more {X} xs i low = ap (λ n. map Some (take n xs)) (add-one i) ∙ next xs i low
-  where
-    next : (ys : List X) (k : ℕ) → k < length ys
-        → map Some (take (suc k) ys) ≡ map Some (take k ys) ++ slice_get ys k ∷ []
-    next [] k high = absurd (omega (arith, high))
-    next (y ∷ ys) zero high = refl
-    next (y ∷ ys) (suc k) high = ap (λ os. Some y ∷ os) (next ys k (omega (arith, high)))
 
 -- the place of the next item that passes
 pub kept_more : {X : Type 0} (p : X → Bool) (xs : List X) (i : ℕ) (x : X) → slice_get xs i ≡ Some x → p x ≡ true

@@ -9,15 +9,16 @@ use Rattle.skk_calls.specs.declared.part.Part.{Part}
 use Rattle.skk_calls.specs.declared.part.Part.TheVariants.{Nasi, Ari}
 use Rattle.skk_text.specs.Lists.{is_empty}
 use Rattle.skk_calls.specs.Completions.{reading_of}
-use Rattle.skk_calls.specs.OrderLaws.{holds_moved, sort_moves}
-use Rattle.skk_calls.specs.Orders.{insert_by, sort_by, text_less, less_by_part, row_less}
+use Rattle.ordered_lists.specs.OrderLaws.{list_all-sort_by}
+use Rattle.ordered_lists.specs.Orders.{insert_by, sort_by}
+use Rattle.skk_calls.specs.Orders.{text_less, less_by_part, row_less}
 use Rattle.skk_calls.specs.Rows.{Row, same_text, same_part, same_key, keys_differ, texts_differ}
 use Rattle.word_sets.specs.FirstLaws.{first_of_each-fresh, texts_stay}
 use Rattle.dict_layers.specs.InOrder.{is_walked, walked_readings}
 use Rattle.dict_layers.proofs.Lists.{pairs_within}
 
 -- the rows that a walk comes by are without okurigana
-walked_part : (row : Row) → is_walked row ≡ true → same_part row.key.part Nasi ≡ true
+pub walked_part : (row : Row) → is_walked row ≡ true → same_part row.key.part Nasi ≡ true
 walked_part row e = (and_parts (same_part row.key.part Nasi) (not (is_empty row.cands)) e).0
 
 -- so their readings order them
@@ -43,7 +44,8 @@ readings_apart row other e f = by row.key.part other.key.part (walked_part row e
     by Nasi Ari g h apart = cc
     by Ari q g h apart = cc
 
-all_walked : (rows : List Row) → list_all is_walked (filter is_walked rows) ≡ true
+-- each of them is one
+pub all_walked : (rows : List Row) → list_all is_walked (filter is_walked rows) ≡ true
 all_walked rows = list_all-from_AllPass is_walked (filter is_walked rows) (filter_passes is_walked rows)
 
 -- the readings of the rows that a walk comes by differ
@@ -80,7 +82,7 @@ sort_read (row ∷ rows) all =
     let parts = and_parts (is_walked row) (list_all is_walked rows) all in
     ap (insert_by text_less (reading_of row)) (sort_read rows parts.1)
     ∙ insert_read row (sort_by row_less rows) parts.0
-    (holds_moved is_walked rows (sort_by row_less rows) (sort_moves row_less rows) parts.1)
+    (list_all-sort_by row_less is_walked rows parts.1)
 
 -- the readings that a walk goes over are those of its rows in order
 pub walked_plain : (rows : List Row) → keys_differ rows ≡ true

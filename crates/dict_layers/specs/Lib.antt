@@ -1,5 +1,4 @@
 pub mod Blocks
 pub mod Files
-pub mod Finding
 pub mod InOrder
 pub mod WalkLaws

@@ -5,7 +5,8 @@ use Rattle.std.proofs.lemmas.Bool.{and_from, not-true}
 use Rattle.skk_text.specs.PairsLaws.{pairs_weaker}
 use Rattle.skk_calls.specs.Completions.{reading_of}
 use Rattle.skk_calls.specs.Found.{first_of_each}
-use Rattle.skk_calls.specs.OrderLaws.{apart, sort_ascends, text_order, texts_apart}
+use Rattle.ordered_lists.specs.OrderLaws.{apart, sort_ascends}
+use Rattle.skk_calls.specs.OrderLaws.{text_order, texts_apart}
 use Rattle.skk_calls.specs.Orders.{text_less}
 use Rattle.skk_calls.specs.Rows.{Row, same_text, texts_differ}
 use Rattle.skk_calls.specs.Walks.{all_ascend, texts_ascend}

@@ -1,7 +1,8 @@
 ghost use Rattle.std.specs.Prelude.{◌≡◌, ℕ, true, List, map};
 ghost use Rattle.std.specs.List.{filter};
 ghost use Rattle.skk_calls.specs.Completions.{ascending_readings, goes_on_from, reading_of};
-ghost use Rattle.skk_calls.specs.Orders.{sort_by, text_less};
+ghost use Rattle.ordered_lists.specs.Orders.{sort_by};
+ghost use Rattle.skk_calls.specs.Orders.{text_less};
 ghost use Rattle.skk_calls.specs.Rows.{Row, keys_differ};
 ghost use Rattle.dict_layers.specs.InOrder.{is_walked, walked_readings};
 

@@ -19,14 +19,14 @@ impl Model for System {
     ghost use Rattle.std.specs.List.{AllZip, list_all};
     ghost use Rattle.skk_calls.specs.Rows.{Row};
     ghost use Rattle.dict_layers.specs.Files.{is_file};
-    ghost use Rattle.dict_layers.specs.InOrder.{IsIndex};
+    ghost use Rattle.dict_layers.specs.InOrder.{IsFileIndex};
 
     ghost Value = { List (List Row) };
 
     ghost view = { λ s. s.books };
 
     ghost invariant = { λ s.
-        AllZip (λ rows index. IsIndex rows index.by_key.items index.readings.items) s.books s.indexes.items
+        AllZip (λ rows index. IsFileIndex rows index.by_key index.walked) s.books s.indexes.items
         × (list_all is_file s.books ≡ true) };
 }
 

@@ -5,7 +5,9 @@ ghost use Rattle.skk_calls.specs.Rows.{is_cand, is_block, is_row};
 
 use crate::making::text;
 use dict_layers::{RowList, System, cands_in_order, merge, walks_go_over_completions};
-use skk_calls::{Block, Blocks, Book, Books, Cand, Cands, Okuri, Part, Row, RowKey, Rows, Walk};
+use skk_calls::{
+    Block, Blocks, Book, Books, Cand, Cands, DistinctCands, Okuri, Part, Row, RowKey, Rows, Walk,
+};
 use skk_text::{Text, Texts};
 use std::alloc::Global;
 use std::process::Abort;
@@ -270,7 +272,7 @@ fn cands_of_two_layers(
     upper: &[(&str, &str)],
     hides: &[&str],
     lower: &[(&str, &str)],
-) -> Result<Cands, Fail> {
+) -> Result<DistinctCands, Fail> {
     let hiding = row(alloc, key(alloc, Part::Ari, "おおk")?, upper, &[], hides)?;
     let blocked = row(
         alloc,
@@ -282,7 +284,7 @@ fn cands_of_two_layers(
     both(alloc, &hiding, &blocked, okuri)
 }
 
-fn both(alloc: Global, upper: &Row, lower: &Row, okuri: &str) -> Result<Cands, Fail> {
+fn both(alloc: Global, upper: &Row, lower: &Row, okuri: &str) -> Result<DistinctCands, Fail> {
     let okuri = Okuri::new(text(alloc, okuri)?)?;
     let mut layers = RowList::new(alloc);
     layers.push(upper)?;
@@ -295,7 +297,7 @@ fn layers_are_merged(rt: HostRuntime) -> Result<(), Fail> {
     let alloc = rt.alloc();
     let lower = [("漢字", ""), ("幹事", "宴会の"), ("感じ", "")];
     let cands = cands_of_two_layers(alloc, "き", &[], &["漢字"], &lower)?;
-    expect(&rt, &cands, &[("幹事", "宴会の"), ("感じ", "")]);
+    expect(&rt, cands.cands(), &[("幹事", "宴会の"), ("感じ", "")]);
     walks_go_over_completions();
     Ok(())
 }
@@ -307,7 +309,7 @@ fn rows_hide_no_words_of_their_own(rt: HostRuntime) -> Result<(), Fail> {
     let upper = [("a", "x"), ("b", "")];
     let lower = [("c", ""), ("a", ""), ("b", "y"), ("d", "")];
     let cands = cands_of_two_layers(alloc, "き", &upper, &["a", "c"], &lower)?;
-    expect(&rt, &cands, &[("a", "x"), ("b", ""), ("d", "")]);
+    expect(&rt, cands.cands(), &[("a", "x"), ("b", ""), ("d", "")]);
     Ok(())
 }
 
@@ -316,7 +318,7 @@ fn blocks_of_lower_layers_count(rt: HostRuntime) -> Result<(), Fail> {
     let alloc = rt.alloc();
     let lower = [("大", ""), ("多", "y"), ("b", "z")];
     let cands = cands_of_two_layers(alloc, "く", &[("b", "")], &[], &lower)?;
-    expect(&rt, &cands, &[("b", ""), ("多", "y"), ("大", "")]);
+    expect(&rt, cands.cands(), &[("b", ""), ("多", "y"), ("大", "")]);
     Ok(())
 }
 

@@ -389,7 +389,7 @@ fn learned_of(reply: Reply) -> Option<Learned> {
 // A reply.
 fn reply_text(alloc: Global, reply: &Reply) -> Result<String, Fail> {
     let told = match reply {
-        Reply::Found(cands) => return words_text(alloc, cands),
+        Reply::Found(found) => return words_text(alloc, found.cands()),
         Reply::Learned(learned) => {
             let before = learned.before().map_or(0, |row| row.stamp());
             format!(in alloc; "learned {} after {before}", learned.stamp())?

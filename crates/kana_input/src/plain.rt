@@ -2,7 +2,7 @@ ghost use Rattle.std.specs.Prelude.{◌≡◌};
 ghost use Rattle.std.specs.Prelude.{IfOk, OnErr};
 ghost use Rattle.kana_input.specs.Plain.{no_insertion, insertion, in_kana, char_in_mode, plain_step};
 
-use romaji_rules::{Out, Pending, Rules};
+use romaji_rules::{Kana, OutRef, Pending, Rules};
 use skk_text::{Key, Memory, Mode, Text, to_wide};
 use std::alloc::Global;
 
@@ -107,8 +107,13 @@ impl Plain {
             ≡ record { plain = self.new; done = done }) }
         ensures err { OnErr result (self.new ≡ self.old) }
     {
-        match rules.extend(alloc, &mut self.pending, c)? {
-            Some(out) => Ok(insertion(self.mode, out)),
+        let mut pending = Pending::of(self.pending.as_slice());
+        match rules.extend(&mut pending, c) {
+            Some(out) => {
+                let done = insertion(alloc, self.mode, &out)?;
+                self.pending = pending;
+                Ok(done)
+            }
             None => self.press_anew(alloc, rules, c),
         }
     }
@@ -134,8 +139,11 @@ impl Plain {
                 self.flush(alloc, rules, mode, "", PlainThen::OpenReading(Some(letter)))
             }
             _ => {
-                let out = rules.feed_anew(alloc, &mut self.pending, c)?;
-                Ok(insertion(mode, out))
+                let mut pending = Pending::of(self.pending.as_slice());
+                let out = rules.feed_anew(&mut pending, c);
+                let done = insertion(alloc, mode, &out)?;
+                self.pending = pending;
+                Ok(done)
             }
         }
     }
@@ -154,7 +162,7 @@ impl Plain {
         ensures err { OnErr result (self.new ≡ self.old) }
     {
         let mut pending = Pending::of(self.pending.as_slice());
-        let mut insert = in_kana(self.mode, rules.flush(alloc, &mut pending)?);
+        let mut insert = in_kana(alloc, self.mode, &rules.flush(&mut pending))?;
         insert.push_str(behind)?;
         self.mode = mode;
         self.pending = pending;
@@ -190,13 +198,13 @@ impl Plain {
 }
 
 // An output is inserted.
-fn insertion(mode: Mode, out: Out) -> PlainDo
-    ensures { result ≡ insertion mode out }
+fn insertion(alloc: Global, mode: Mode, out: &OutRef<'_>) -> Result<PlainDo, Memory>
+    ensures { IfOk result (λ done. done ≡ insertion mode out.now) }
 {
-    PlainDo {
-        insert: in_kana(mode, out),
+    Ok(PlainDo {
+        insert: in_kana(alloc, mode, out)?,
         then: PlainThen::Stay,
-    }
+    })
 }
 
 // Nothing is inserted.
@@ -210,13 +218,12 @@ fn no_insertion(alloc: Global, then: PlainThen) -> PlainDo
 }
 
 // An output in katakana mode, and in every other.
-fn in_kana(mode: Mode, out: Out) -> Text
-    ensures { result ≡ in_kana mode out }
+fn in_kana(alloc: Global, mode: Mode, out: &OutRef<'_>) -> Result<Text, Memory>
+    ensures { IfOk result (λ text. text ≡ in_kana mode out.now) }
 {
-    let Out { hira, kata } = out;
     match mode {
-        Mode::Kata => kata,
-        Mode::Hira | Mode::Ascii | Mode::Wide => hira,
+        Mode::Kata => out.text(alloc, Kana::Katakana),
+        Mode::Hira | Mode::Ascii | Mode::Wide => out.text(alloc, Kana::Hiragana),
     }
 }
 

@@ -13,10 +13,11 @@ use Rattle.skk_text.specs.Pairs.{all_pairs}
 use Rattle.skk_text.specs.PairsLaws.{list_all-filter, list_all-weaker, all_pairs-filter, pairs_weaker}
 use Rattle.skk_text.specs.FilterLaws.{find_none}
 use Rattle.skk_calls.specs.declared.book.NumberedBook.{NumberedBook}
-use Rattle.skk_calls.specs.OrderLaws.{insert_first, less_trans, list_all-insert_by}
-use Rattle.skk_calls.specs.Orders.{insert_by, key_less}
+use Rattle.ordered_lists.specs.OrderLaws.{insert_first, less_differs, less_trans, list_all-insert_by}
+use Rattle.ordered_lists.specs.Orders.{insert_by}
+use Rattle.skk_calls.specs.OrderLaws.{row_keys}
+use Rattle.skk_calls.specs.Orders.{key_less}
 use Rattle.skk_calls.specs.Rows.{Row, same_key, keys_differ}
-use Rattle.skk_calls.specs.RowsInOrder.{less_differs}
 use Rattle.skk_calls.specs.States.{State, book_rows, book_count, rows_of, count_of, without_book, with_book}
 use Rattle.skk_calls.specs.States.{rows_ascend, books_ascend, is_valid}
 use Rattle.skk_calls.specs.Tallies.{count_rows}
@@ -234,4 +235,4 @@ rows_counted all rows keeps =
 pub ascending_differ : (rows : List Row) → rows_ascend rows ≡ true → keys_differ rows ≡ true
 ascending_differ rows ascend =
     pairs_weaker (λ row other. key_less row.key other.key) (λ row other. not (same_key row.key other.key))
-    (λ row other e. not_from_false (same_key row.key other.key) (less_differs row.key other.key e)) rows ascend
+    (λ row other e. not_from_false (same_key row.key other.key) (less_differs row_keys row.key other.key e)) rows ascend

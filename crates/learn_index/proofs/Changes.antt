@@ -3,7 +3,6 @@ use Rattle.std.proofs.Common.{◌≡◌, ◌==◌, ℕ, zero, suc, ◌+◌, ◌^
 use Rattle.std.proofs.Common.{Option, None, Some, List, [], ◌∷◌, length, get_or, set, map, find, slice_get, refl, sym}
 use Rattle.std.proofs.Common.{ap, ◌∙◌, subst, arith}
 use Rattle.std.specs.List.{filter, insert, sum_by}
-use Rattle.std.specs.List.Sorted.{IsPartitionPoint}
 use Rattle.std.specs.Option.{is_some, option_and_then, option_map}
 use Rattle.std.specs.Vec.{vec_len, vec_capacity}
 use Rattle.std.proofs.lemmas.Bool.{and_from, eq-eqb, lt-ltb, or_right}
@@ -14,17 +13,18 @@ use Rattle.std.proofs.lemmas.Option.{get_or_from_slice_get}
 use Rattle.skk_text.specs.Pairs.{all_pairs}
 use Rattle.skk_text.specs.FilterLaws.{find-map}
 use Rattle.skk_text.specs.PairsLaws.{all_pairs-map}
+use Rattle.ordered_lists.specs.KeyOrders.{number_keys}
+use Rattle.ordered_lists.specs.Orders.{passes, IsPlace}
+use Rattle.ordered_lists.specs.PlaceLaws.{found_put, item_at, point_made, put_insert, put_set}
 use Rattle.skk_calls.specs.declared.book.NumberedBook.{NumberedBook}
 use Rattle.skk_calls.specs.Rows.{RowKey, Row}
 use Rattle.skk_calls.specs.States.{State, book_rows, rows_of, with_book, with_row, state_with, books_ascend, is_valid}
 use Rattle.skk_calls.specs.Tallies.{count_rows}
 use Rattle.learn_index.specs.declared.book.LearnedBook.{LearnedBook}
-use Rattle.skk_text.specs.Places.{passes}
 use Rattle.learn_index.specs.Index.{Index, Spare, changes_of, spare_of}
 use Rattle.learn_index.specs.Kept.{numbered, kept, has_changed, changed, spare, keeps_book, IsKept}
 use Rattle.learn_index.specs.Records.{state_counted}
 use Rattle.learn_index.proofs.Books.{book_changed, kept_with, rows_changed}
-use Rattle.learn_index.proofs.Places.{found_at, found_put, number_keys, place_read, put_insert, put_set}
 
 -- the book of a number stands at a place
 pub record IsAt (items : List LearnedBook) (number place : ℕ) (book : LearnedBook) : Type 0 where
@@ -37,11 +37,11 @@ place_within p [] i e = cc
 place_within p (x ∷ xs) zero e = omega arith
 place_within p (x ∷ xs) (suc i) e = let rest = place_within p xs i e in omega (arith, rest)
 
-item_at : {X : Type 0} (p : X → Bool) (xs : List X) (i : ℕ) (x : X) → passes p (slice_get xs i) ≡ true
+read_at : {X : Type 0} (p : X → Bool) (xs : List X) (i : ℕ) (x : X) → passes p (slice_get xs i) ≡ true
     → x ≡ get_or xs i x → (slice_get xs i ≡ Some x) × (p x ≡ true)
-item_at p [] i x e read = cc
-item_at p (y ∷ ys) zero x e read = (ap (λ z. Some z) (sym read), ap p read ∙ e)
-item_at p (y ∷ ys) (suc i) x e read = item_at p ys i x e read
+read_at p [] i x e read = cc
+read_at p (y ∷ ys) zero x e read = (ap (λ z. Some z) (sym read), ap p read ∙ e)
+read_at p (y ∷ ys) (suc i) x e read = read_at p ys i x e read
 
 -- a book that has room is there
 pub room_there : (index : Index) (number : ℕ) → 0 < spare_of index number → keeps_book index number ≡ true
@@ -84,13 +84,12 @@ numbers_ascend items ascend =
     sym (all_pairs-map numbered (λ (book other : NumberedBook). nat_lt book.number other.number) items) ∙ ascend
 
 module _ (items : List LearnedBook) (number place : ℕ) (ascend : books_ascend (kept items).books ≡ true)
-    (point : IsPartitionPoint (λ (book : LearnedBook). nat_lt book.number number ≡ true)
-    (λ (book : LearnedBook). nat_lt book.number number ≡ false) items place) where
+    (point : IsPlace (λ (book : LearnedBook). book.number) number_keys number items place) where
   -- the book of the number is the one at the place
   pub found : find (λ (book : LearnedBook). book.number == number) items
       ≡ option_and_then (λ (book : LearnedBook). cond (book.number == number) (Some book) None) (slice_get items place)
   found =
-      found_at (λ (book : LearnedBook). book.number) nat_lt (λ a b. a == b) number_keys number items place
+      item_at (λ (book : LearnedBook). book.number) number_keys number items place
       (numbers_ascend items ascend) point
 
   -- a book that is there stands at the place
@@ -115,7 +114,7 @@ module _ (items : List LearnedBook) (number place : ℕ) (ascend : books_ascend 
       → keeps_book (record { state = state; spare = map spare items }) number ≡ true → book ≡ get_or items place book
       → IsAt items number place book
   stands_at state book there read =
-      let both = item_at (λ (b : LearnedBook). b.number == number) items place book (stands state there) read in
+      let both = read_at (λ (b : LearnedBook). b.number == number) items place book (stands state there) read in
       record { here = both.0; has = both.1 }
 
   -- a book that stands at the place is there
@@ -138,13 +137,13 @@ module _ (items : List LearnedBook) (number place : ℕ) (ascend : books_ascend 
       (missing : passes (λ (book : LearnedBook). book.number == number) (slice_get items place) ≡ false) where
     kept_insert : kept (insert items place new) ≡ record { books = with_book (numbered new) (kept items).books }
     kept_insert =
-        let low = place_read numbered (λ (b : NumberedBook). nat_lt b.number number) items place within point in
+        let low = point_made numbered (λ (b : NumberedBook). nat_lt b.number number) items place within point in
         ap (λ (books : List NumberedBook). record { books = books })
         (map_insert numbered items place new
-        ∙ sym (put_insert (λ (b : NumberedBook). b.number) nat_lt (λ a b. a == b) number_keys (numbered new)
+        ∙ sym (put_insert (λ (b : NumberedBook). b.number) number_keys (numbered new)
         (map numbered items) place (omega (arith, within, length-map items numbered)) ascend
-        (subst (λ (n : ℕ). IsPartitionPoint (λ (b : NumberedBook). nat_lt b.number n ≡ true)
-        (λ (b : NumberedBook). nat_lt b.number n ≡ false) (map numbered items) place) (sym same) low)
+        (subst (λ (n : ℕ). IsPlace (λ (b : NumberedBook). b.number) number_keys n (map numbered items) place)
+        (sym same) low)
         (passed items place missing)))
       where
         passed : (xs : List LearnedBook) (i : ℕ)
@@ -238,7 +237,7 @@ module _ (items : List LearnedBook) (number place : ℕ) (ascend : books_ascend 
       room_grown state room =
           let within = place_within (λ (b : LearnedBook). b.number == number) items place
           (ap (passes (λ (b : LearnedBook). b.number == number)) at.here ∙ at.has) in
-          let there = found_put (λ (b : LearnedBook). b.number) nat_lt (λ a b. a == b) number_keys number after items
+          let there = found_put (λ (b : LearnedBook). b.number) number_keys number after items
           place point within (ap (λ n. n == number) number_same ∙ at.has) in
           let same = ap changes_of
           (find-map spare (λ s. s.number == number) (set items place after) ∙ ap (option_map spare) there) in
@@ -276,14 +275,14 @@ module _ (items : List LearnedBook) (number place : ℕ) (ascend : books_ascend 
         kept_set =
             let within = place_within (λ (b : LearnedBook). b.number == number) items place
             (ap (passes (λ (b : LearnedBook). b.number == number)) at.here ∙ at.has) in
-            let low = place_read numbered (λ (b : NumberedBook). nat_lt b.number number) items place
+            let low = point_made numbered (λ (b : NumberedBook). nat_lt b.number number) items place
             (omega (arith, within)) point in
             ap (λ (books : List NumberedBook). record { books = books })
             (map-set numbered items place after
-            ∙ sym (put_set (λ (b : NumberedBook). b.number) nat_lt (λ a b. a == b) number_keys (numbered after)
+            ∙ sym (put_set (λ (b : NumberedBook). b.number) number_keys (numbered after)
             (map numbered items) place ascend
-            (subst (λ (n : ℕ). IsPartitionPoint (λ (b : NumberedBook). nat_lt b.number n ≡ true)
-            (λ (b : NumberedBook). nat_lt b.number n ≡ false) (map numbered items) place) (sym same) low)
+            (subst (λ (n : ℕ). IsPlace (λ (b : NumberedBook). b.number) number_keys n (map numbered items) place)
+            (sym same) low)
             (passed items place at.here)))
           where
             passed : (xs : List LearnedBook) (i : ℕ) → slice_get xs i ≡ Some book

@@ -1,9 +1,10 @@
 -- The book of a number that an index finds, and what the index stands for once that book changes in its place.
-use Rattle.std.proofs.Common.{◌≡◌, ◌==◌, ℕ, ◌+◌, ◌^◌, ◌<◌, ◌≤◌, true, false, nat_lt, Option, List, length, get_or, set}
+use Rattle.std.proofs.Common.{◌≡◌, ◌==◌, ℕ, ◌+◌, ◌^◌, ◌<◌, ◌≤◌, true, Option, List, length, get_or, set}
 use Rattle.std.proofs.Common.{map, sym, ap, ◌∙◌, subst, arith}
 use Rattle.std.proofs.lemmas.Bool.{eqb-true, lt-ltb}
-use Rattle.std.specs.List.Sorted.{IsPartitionPoint}
 use Rattle.std.specs.Vec.{vec_len, vec_capacity}
+use Rattle.ordered_lists.specs.KeyOrders.{number_keys}
+use Rattle.ordered_lists.specs.Orders.{IsPlace}
 use Rattle.skk_calls.specs.Rows.{RowKey, Row}
 use Rattle.skk_calls.specs.States.{State, with_row, state_with, rows_ascend, is_valid}
 use Rattle.learn_index.specs.declared.book.LearnedBook.{LearnedBook}
@@ -19,8 +20,7 @@ pub record HasPlace (items : List LearnedBook) (rows : ℕ) (index : Index) (num
   pub keeps : IsKept (kept items) rows
   pub seen : record { state = changed (kept items); spare = map spare items } ≡ index
   pub there : keeps_book index number ≡ true
-  pub point : IsPartitionPoint (λ (book : LearnedBook). nat_lt book.number number ≡ true)
-      (λ (book : LearnedBook). nat_lt book.number number ≡ false) items place
+  pub point : IsPlace (λ (book : LearnedBook). book.number) number_keys number items place
 
 -- and this is the book
 pub record HasBook (items : List LearnedBook) (rows : ℕ) (index : Index) (number place : ℕ)

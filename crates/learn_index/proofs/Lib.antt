@@ -2,5 +2,4 @@ mod Books
 mod Changes
 mod Examples
 mod FoundBook
-mod Places
 mod Planned

@@ -1,17 +1,14 @@
-ghost use Rattle.std.specs.Prelude.{◌≡◌, ◌<◌, ◌≤◌, ◌+◌, true, false, [], length, Some, slice_get, IfOk};
-ghost use Rattle.std.specs.List.Sorted.{IsPartitionPoint};
-ghost use Rattle.std.specs.Option.{option_and_then, option_copied};
+ghost use Rattle.std.specs.Prelude.{◌≡◌, ◌<◌, true, [], Some, IfOk};
+ghost use Rattle.std.specs.Option.{option_copied};
 ghost use Rattle.std.specs.Vec.{vec_len, vec_capacity};
-ghost use Rattle.skk_calls.specs.Orders.{key_less};
-ghost use Rattle.skk_calls.specs.Rows.{same_key};
-ghost use Rattle.skk_calls.specs.RowsInOrder.{if_same};
 ghost use Rattle.skk_calls.specs.States.{row_in, with_row, without_row, rows_ascend};
-ghost use Rattle.skk_text.specs.Places.{passes};
 
 use crate::kept_row::KeptRow;
+use ordered_lists::{Keyed, has_key_at, item_of, place_of};
 use skk_calls::{Row, RowKey, Rows};
 use skk_text::{Copies, Memory};
 use std::alloc::Global;
+use std::cmp::Ordering;
 
 /// A book in memory: its number, its count of changes, and its rows ascending by their keys. One whose count is 0 has
 /// no rows: it only keeps room for its first change.
@@ -41,8 +38,8 @@ impl LearnedBook {
         requires { rows_ascend self.now.rows.items ≡ true }
         ensures { option_copied result ≡ row_in key.now self.now.rows.items }
     {
-        let place = self.place_of(key);
-        where_same(self.row_at(place), key)
+        let kept = item_of(&self.rows, key)?;
+        Some(kept.row())
     }
 
     /// Gives the key of a row this row. Takes a logarithm in the number of rows to find its place, moves the rows
@@ -55,8 +52,8 @@ impl LearnedBook {
         ensures count { self.new.count ≡ self.old.count }
     {
         let key = row.row().key();
-        let place = self.place_of(key);
-        if self.has_key_at(place, key) {
+        let place = place_of(&self.rows, key);
+        if has_key_at(&self.rows, place, key) {
             self.rows[place] = row;
         } else {
             let _fits = self.rows.insert(place, row);
@@ -70,8 +67,8 @@ impl LearnedBook {
         ensures number { self.new.number ≡ self.old.number }
         ensures count { self.new.count ≡ self.old.count }
     {
-        let place = self.place_of(key);
-        if self.has_key_at(place, key) {
+        let place = place_of(&self.rows, key);
+        if has_key_at(&self.rows, place, key) {
             let _row = self.rows.remove(place);
         }
     }
@@ -86,47 +83,22 @@ impl LearnedBook {
         }
         Ok(rows)
     }
-
-    // The place before which every key is less than this one, and from which none is.
-    fn place_of(&self, key: &RowKey) -> usize
-        requires { rows_ascend self.now.rows.items ≡ true }
-        ensures bound { result ≤ length self.now.rows.items }
-        ensures point { IsPartitionPoint (λ row. key_less row.key key.now ≡ true)
-            (λ row. key_less row.key key.now ≡ false) self.now.rows.items result }
-    {
-        self.rows
-            .partition_point(|kept| kept.row().key().order(key).is_lt())
-    }
-
-    // Whether the row of a key stands at a place.
-    fn has_key_at(&self, place: usize, key: &RowKey) -> bool
-        ensures { result ≡ passes (λ row. same_key row.key key.now) (slice_get self.now.rows.items place) }
-    {
-        match self.row_at(place) {
-            Some(row) => row.key().is_same(key),
-            None => false,
-        }
-    }
-
-    // The row at a place.
-    fn row_at(&self, place: usize) -> Option<&Row>
-        ensures { option_copied result ≡ slice_get self.now.rows.items place }
-    {
-        match self.rows.get(place) {
-            Some(kept) => Some(kept.row()),
-            None => None,
-        }
-    }
 }
 
-// A row, where it is that of a key.
-fn where_same<'a>(row: Option<&'a Row>, key: &RowKey) -> Option<&'a Row>
-    ensures { option_copied result ≡ option_and_then (if_same key.now) (option_copied row.entry) }
-{
-    let row = row?;
-    if row.key().is_same(key) {
-        Some(row)
-    } else {
-        None
+/// Books stand in order by their numbers.
+impl Keyed<u16> for LearnedBook {
+    ghost use Rattle.std.specs.Prelude.{ℕ};
+    ghost use Rattle.ordered_lists.specs.KeyOrders.{number_keys};
+
+    ghost Key = { ℕ };
+
+    ghost keys = { number_keys };
+
+    ghost key = { λ book. book.number };
+
+    ghost sought_key = { λ number. number };
+
+    fn compare(&self, number: &u16) -> Ordering {
+        self.number.cmp(number)
     }
 }

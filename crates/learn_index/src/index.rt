@@ -12,7 +12,7 @@ ghost use Rattle.learn_index.specs.Plans.{is_lookup, is_question, IsPlanned, IsM
 ghost use Rattle.learn_index.specs.Records.{state_counted, state_without};
 
 use crate::book::LearnedBook;
-use crate::kept_books::{book_of, has_number_at, place_of};
+use crate::kept_books::{book_of, place_of};
 use crate::kept_row::KeptRow;
 use crate::layering::layers;
 use crate::plan::Plan;
@@ -21,6 +21,7 @@ use crate::planning::{
 };
 use dict_laws::changes_keep_states_valid;
 use dict_layers::{System, merge};
+use ordered_lists::has_key_at;
 use skk_calls::{Book, Call, Reply, Row, RowKey, Rows};
 use skk_text::Memory;
 use std::alloc::Global;
@@ -242,7 +243,7 @@ impl Index {
         ensures there { OnOk result (keeps_book self.new number ≡ true) }
     {
         let place = place_of(&self.books, number);
-        if !has_number_at(&self.books, place, number) {
+        if !has_key_at(&self.books, place, &number) {
             self.books.insert(place, LearnedBook::new(alloc, number))?;
         }
         Ok(())

@@ -1,6 +1,8 @@
-use skk_calls::Row;
+use ordered_lists::Keyed;
+use skk_calls::{Row, RowKey};
 use skk_text::Memory;
 use std::alloc::Global;
+use std::cmp::Ordering;
 use std::marker::Model;
 
 /// A row behind a pointer, so that a book that is in order moves few bytes where a row comes between others.
@@ -37,5 +39,22 @@ impl KeptRow {
         let row = &*self.row;
         let _valid = row.stamp();
         row
+    }
+}
+
+impl Keyed<RowKey> for KeptRow {
+    ghost use Rattle.skk_calls.specs.OrderLaws.{row_keys};
+    ghost use Rattle.skk_calls.specs.Rows.{RowKey};
+
+    ghost Key = { RowKey };
+
+    ghost keys = { row_keys };
+
+    ghost key = { λ row. row.key };
+
+    ghost sought_key = { λ key. key };
+
+    fn compare(&self, key: &RowKey) -> Ordering {
+        self.row().key().order(key)
     }
 }

@@ -1,3 +1,4 @@
+use crate::distinct::distinct;
 use candidate_state::{CandsDo, Picking, ShownList, press_cands, shown_plain};
 use skk_calls::{Cand, Cands, Part, RowKey};
 use skk_text::{Notice, Text, read_keys};
@@ -20,7 +21,7 @@ fn shown_list(alloc: Global, words: &str, count: usize) -> Result<ShownList, Fai
         found.push(Cand::new(text(alloc, word)?, text(alloc, note)?)?)?;
     }
     let key = RowKey::new(Part::Nasi, text(alloc, "すう")?)?;
-    Ok(shown_plain(alloc, key, found)?)
+    Ok(shown_plain(key, distinct(alloc, found)?))
 }
 
 // What keys make of so many candidates, and what is done behind the last key.

@@ -8,6 +8,8 @@
 #[cfg(test)]
 mod candidates;
 #[cfg(test)]
+mod distinct;
+#[cfg(test)]
 mod plain;
 #[cfg(test)]
 mod reading;

@@ -1,4 +1,4 @@
-use romaji_rules::{Out, Pending, RuleFault, Rules};
+use romaji_rules::{Kana, Out, Pending, RuleFault, Rules};
 use skk_text::{Copies, Memory, Text, TextFault};
 use std::alloc::Global;
 use std::test::Fail;
@@ -56,14 +56,15 @@ rr=っ:r rra=っら: ss=っ:s ssa=っさ: tt=っ:t tta=った: vv=っ:v vva=っ�
 xx=っ:x xxa=っぁ: yy=っ:y yya=っや: zz=っ:z zza=っざ:
 ";
 
-// What comes out of the letters that are typed, and what is pending behind them.
-fn output_of(alloc: Global, rules: &Rules, letters: &str) -> Result<(Out, Pending), Memory> {
+// What comes out of the letters that are typed, in hiragana, and what is pending behind them.
+fn output_of(alloc: Global, rules: &Rules, letters: &str) -> Result<(Text, Pending), Memory> {
     let mut pending = Pending::new();
-    let mut out = Out::nothing(alloc);
+    let mut hira = Text::new(alloc);
     for c in letters.bytes() {
-        out.append(&rules.feed(alloc, &mut pending, c)?)?;
+        let out = rules.feed(&mut pending, c).text(alloc, Kana::Hiragana)?;
+        hira.push_str(out.as_str())?;
     }
-    Ok((out, pending))
+    Ok((hira, pending))
 }
 
 #[test]
@@ -75,7 +76,7 @@ fn reads_the_standard_table(rt: HostRuntime) -> Result<(), Fail> {
         let (letters, wanted) = case.split_once('=').ok_or("no `=`")?;
         let (hira, pending) = wanted.split_once(':').ok_or("no `:`")?;
         let (out, left) = output_of(alloc, &rules, letters)?;
-        assert_eq!(rt; out.hira.as_str(), hira, "typed {letters}");
+        assert_eq!(rt; out.as_str(), hira, "typed {letters}");
         assert_eq!(rt; left.as_str(), pending, "left by {letters}");
     }
     Ok(())
@@ -85,11 +86,11 @@ fn reads_the_standard_table(rt: HostRuntime) -> Result<(), Fail> {
 fn letters_go_on_or_begin_anew(rt: HostRuntime) -> Result<(), Fail> {
     let rules = Rules::standard(rt.alloc())?;
     let mut pending = Pending::of(b"n");
-    assert!(rt; rules.extend(rt.alloc(), &mut pending, b'y')?.is_some());
+    assert!(rt; rules.extend(&mut pending, b'y').is_some());
     assert_eq!(rt; pending.as_str(), "ny");
     assert!(rt; !rules.goes_on(&pending, b'q'));
-    let out = rules.feed_anew(rt.alloc(), &mut pending, b'q')?;
-    assert_eq!(rt; out.hira.as_str(), "q");
+    let out = rules.feed_anew(&mut pending, b'q');
+    assert_eq!(rt; out.text(rt.alloc(), Kana::Hiragana)?.as_str(), "q");
     assert!(rt; pending.is_empty());
     Ok(())
 }
@@ -99,21 +100,21 @@ fn what_is_pending_comes_out(rt: HostRuntime) -> Result<(), Fail> {
     let rules = Rules::standard(rt.alloc())?;
     let mut pending = Pending::of(b"ny");
     pending.delete_last();
-    let out = rules.flush(rt.alloc(), &mut pending)?;
-    assert_eq!(rt; out.hira.as_str(), "ん");
-    assert_eq!(rt; out.kata.as_str(), "ン");
+    let out = rules.flush(&mut pending);
+    assert_eq!(rt; out.text(rt.alloc(), Kana::Hiragana)?.as_str(), "ん");
+    assert_eq!(rt; out.text(rt.alloc(), Kana::Katakana)?.as_str(), "ン");
     Ok(())
 }
 
 #[test]
-fn outputs_are_made_and_appended(rt: HostRuntime) -> Result<(), Fail> {
+fn outputs_are_in_both_kana(rt: HostRuntime) -> Result<(), Fail> {
     let mut hira = Text::new(rt.alloc());
     hira.push('な')?;
-    let mut out = Out::of_hiragana(rt.alloc(), hira)?;
-    out.append(&Out::itself(rt.alloc(), b'q')?)?;
-    let copy = out.copy(rt.alloc())?;
-    assert_eq!(rt; copy.hira.as_str(), "なq");
-    assert_eq!(rt; copy.kata.as_str(), "ナq");
+    let out = Out::of_hiragana(rt.alloc(), hira)?;
+    assert_eq!(rt; out.in_kana(Kana::Hiragana).as_str(), "な");
+    assert_eq!(rt; out.in_kana(Kana::Katakana).as_str(), "ナ");
+    let nothing = Out::nothing(rt.alloc());
+    assert!(rt; nothing.in_kana(Kana::Katakana).is_empty());
     Ok(())
 }
 

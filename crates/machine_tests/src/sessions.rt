@@ -3,6 +3,7 @@ ghost use Rattle.skk_calls.specs.Dictionary.{may_answer};
 ghost use Rattle.skk_calls.specs.Rows.{Cand, Learned, RowKey};
 ghost use Rattle.skk_calls.specs.declared.call.Call.TheVariants as calls;
 
+use crate::distinct::distinct;
 use romaji_rules::Rules;
 use session_machine::{PressFault, Session};
 use skk_calls::{Answer, Call, Caller, Cand, Cands, Learned, Refusal, Reply, RowKey};
@@ -104,7 +105,7 @@ fn lookup_answer(alloc: Global, word: &str) -> Answer
         Ok(count) => first_cands(alloc, count),
         Err(_) => long_cands(alloc, word),
     };
-    match found {
+    match found.and_then(|cands| distinct(alloc, cands)) {
         Ok(cands) => Answer::Done(Reply::Found(cands)),
         Err(_) => Answer::Refused(Refusal::Memory),
     }

@@ -105,10 +105,10 @@ module _ (rules : List Rule) (reading seen : Reading) (view : seen ≡ reading) 
   )
 
   -- an okurigana begins behind a flush that leaves a reading, and its letter is read
-  pub okuri_begun : (c : ℕ) (before empty after pending kana : List ℕ) (out : Out) (second last : Notice)
+  pub okuri_begun : (c : ℕ) (before empty after pending kana piece : List ℕ) (out : Out) (second last : Notice)
       → is_empty (seen.text ++ added) ≡ false
-      → before ≡ [] → fed rules before c ≡ record { pending = pending; out = out }
-      → empty ≡ [] → second ≡ refusal 60 may_end empty out.hira → empty ++ kana ≡ unless_refused second empty out.hira
+      → before ≡ [] → fed rules before c ≡ record { pending = pending; out = out } → piece ≡ out.hira
+      → empty ≡ [] → second ≡ refusal 60 may_end empty piece → empty ++ kana ≡ unless_refused second empty piece
       → after ≡ seen.text ++ added → last ≡ later_notice notice second
       → begin_okuri rules (flush rules reading) c
       ≡ record {
@@ -121,12 +121,13 @@ module _ (rules : List Rule) (reading seen : Reading) (view : seen ≡ reading) 
         };
         notice = last;
       }
-  okuri_begun c before empty after pending kana out second last some is_before is_fed is_empty is_second is_kana
-      is_after is_last =
+  okuri_begun c before empty after pending kana piece out second last some is_before is_fed is_piece is_empty is_second
+      is_kana is_after is_last =
       let alone : fed rules [] c ≡ record { pending = pending; out = out } =
       ap (λ b. fed rules b c) (sym is_before) ∙ is_fed in
       let refused : second ≡ refusal 60 may_end [] out.hira =
-      is_second ∙ ap (λ e. refusal 60 may_end e out.hira) is_empty in
+      is_second ∙ ap (λ e. refusal 60 may_end e piece) is_empty ∙ ap (refusal 60 may_end []) is_piece in
       let first : kana ≡ unless_refused second [] out.hira =
-      ap (λ e. e ++ kana) (sym is_empty) ∙ is_kana ∙ ap (λ e. unless_refused second e out.hira) is_empty in
+      ap (λ e. e ++ kana) (sym is_empty) ∙ is_kana ∙ ap (λ e. unless_refused second e piece) is_empty
+      ∙ ap (unless_refused second []) is_piece in
       ap (λ f. begin_okuri rules f c) flushed_seen ∙ rw (some, alone, is_after, is_last, first, refused) refl

@@ -6,7 +6,6 @@ pub mod FileRules
 pub mod Fits
 pub mod Found
 pub mod InOrder
-pub mod Indexed
 pub mod ReadLines
 pub mod Rows
 pub mod Step

@@ -1,7 +1,7 @@
 pub mod Fed
 pub mod Fitting
-pub mod InOrder
 pub mod Output
+pub mod Pieces
 pub mod RuleFiles
 pub mod RuleLines
 pub mod Standard

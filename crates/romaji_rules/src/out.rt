@@ -1,4 +1,4 @@
-use crate::text_end::take_off;
+use crate::kana::Kana;
 use skk_text::{Memory, Text, to_katakana};
 use std::alloc::Global;
 
@@ -12,8 +12,9 @@ pub struct Out {
 }
 
 impl Out {
-    ghost use Rattle.std.specs.Prelude.{◌≡◌, OnOk, OnErr, IfOk};
-    ghost use Rattle.romaji_rules.specs.Output.{nothing, itself, of_hiragana, appended};
+    ghost use Rattle.std.specs.Prelude.{◌≡◌, IfOk};
+    ghost use Rattle.romaji_rules.specs.Output.{nothing, of_hiragana};
+    ghost use Rattle.romaji_rules.specs.Pieces.{out_in};
 
     /// No output. Takes no memory.
     pub fn nothing(alloc: Global) -> Out
@@ -25,16 +26,6 @@ impl Out {
         }
     }
 
-    /// A character that comes out as itself.
-    pub fn itself(alloc: Global, c: u8) -> Result<Out, Memory>
-        ensures { IfOk result (λ out. out ≡ itself c) }
-    {
-        let mut out = Out::nothing(alloc);
-        out.hira.push(c as char)?;
-        out.kata.push(c as char)?;
-        Ok(out)
-    }
-
     /// A hiragana text, and the same in katakana.
     pub fn of_hiragana(alloc: Global, hira: Text) -> Result<Out, Memory>
         ensures { IfOk result (λ out. out ≡ of_hiragana hira) }
@@ -43,28 +34,13 @@ impl Out {
         Ok(Out { hira, kata })
     }
 
-    /// Adds another output behind this one. After `Memory` the output is as before.
-    pub fn append(&mut self, other: &Out) -> Result<(), Memory>
-        ensures ok { OnOk result (self.new ≡ appended self.old other.now) }
-        ensures err { OnErr result (self.new ≡ self.old) }
+    /// The output in one kana.
+    pub fn in_kana(&self, kana: Kana) -> &Text
+        ensures { result.now ≡ out_in kana self.now }
     {
-        let added = other.hira.as_str();
-        self.hira.push_str(added)?;
-        match self.kata.push_str(other.kata.as_str()) {
-            Ok(()) => Ok(()),
-            Err(Memory) => {
-                take_off(&mut self.hira, added);
-                Err(Memory)
-            }
+        match kana {
+            Kana::Hiragana => &self.hira,
+            Kana::Katakana => &self.kata,
         }
-    }
-
-    /// An equal output.
-    pub fn copy(&self, alloc: Global) -> Result<Out, Memory>
-        ensures { IfOk result (λ out. out ≡ self.now) }
-    {
-        let mut out = Out::nothing(alloc);
-        out.append(self)?;
-        Ok(out)
     }
 }

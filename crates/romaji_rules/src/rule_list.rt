@@ -1,13 +1,12 @@
-ghost use Rattle.std.specs.Prelude.{◌≡◌, ◌≤◌, ◌∷◌, ◌++◌, [], true, false, not, None, List, length, position, slice_get};
+ghost use Rattle.std.specs.Prelude.{◌≡◌, ◌∷◌, ◌++◌, [], true, None, length, position};
 ghost use Rattle.std.specs.Prelude.{IfOk};
-ghost use Rattle.std.specs.Option.{option_copied, option_and_then};
-ghost use Rattle.skk_text.specs.Places.{passes};
+ghost use Rattle.std.specs.Option.{option_copied};
 ghost use Rattle.romaji_rules.specs.Fitting.{inputs_differ};
-ghost use Rattle.romaji_rules.specs.InOrder.{bytes_less, IsIndexed, IsParted};
 ghost use Rattle.romaji_rules.specs.RuleFiles.{has_bad_next};
 ghost use Rattle.romaji_rules.specs.Typed.{rule_of, begins_input};
 
 use crate::rule::Rule;
+use ordered_lists::Places;
 use skk_text::Memory;
 use std::alloc::Global;
 use std::marker::Model;
@@ -17,19 +16,20 @@ use std::marker::Model;
 #[derive(Debug, Drop)]
 pub struct RuleList {
     rules: Vec<Rule>,
-    places: Vec<usize>,
+    places: Places,
 }
 
 impl Model for RuleList {
     ghost use Rattle.std.specs.Prelude.{List};
+    ghost use Rattle.ordered_lists.specs.KeyOrders.{byte_keys};
+    ghost use Rattle.ordered_lists.specs.Orders.{IsIndex};
     ghost use Rattle.romaji_rules.specs.declared.rule.Rule.{Rule};
-    ghost use Rattle.romaji_rules.specs.InOrder.{IsIndexed};
 
     ghost Value = { List Rule };
 
     ghost view = { λ l. l.rules.items };
 
-    ghost invariant = { λ l. IsIndexed l.rules.items l.places.items };
+    ghost invariant = { λ l. IsIndex (λ (rule : Rule). rule.input) byte_keys l.rules.items l.places l.rules.items };
 }
 
 impl RuleList {
@@ -39,7 +39,7 @@ impl RuleList {
     {
         RuleList {
             rules: Vec::new(alloc),
-            places: Vec::new(alloc),
+            places: Places::new(alloc),
         }
     }
 
@@ -48,11 +48,8 @@ impl RuleList {
         requires { inputs_differ rules.items ≡ true }
         ensures { IfOk result (λ list. list ≡ rules.items) }
     {
-        let mut list = RuleList::new(alloc);
-        for rule in rules {
-            list = list.with(rule)?;
-        }
-        Ok(list)
+        let places = Places::of(alloc, &rules)?;
+        Ok(RuleList { rules, places })
     }
 
     /// The rules and one more behind them.
@@ -64,8 +61,7 @@ impl RuleList {
             mut rules,
             mut places,
         } = self;
-        let index = place_of(&rules, &places, rule.input.as_slice());
-        places.insert(index, rules.len())?;
+        places.add(&rules, &rule.input.as_slice())?;
         rules.push(rule)?;
         Ok(RuleList { rules, places })
     }
@@ -74,21 +70,14 @@ impl RuleList {
     pub fn rule_of(&self, text: &[u8]) -> Option<&Rule>
         ensures { option_copied result ≡ rule_of self.now text.now }
     {
-        let index = place_of(&self.rules, &self.places, text);
-        let rule = rule_at(&self.rules, &self.places, index)?;
-        if rule.input.as_slice() == text {
-            Some(rule)
-        } else {
-            None
-        }
+        self.places.item_of(&self.rules, &text)
     }
 
     /// Whether some input begins with the text and goes on. Takes time with a logarithm in the number of rules.
     pub fn begins_input(&self, text: &[u8]) -> bool
         ensures { result ≡ begins_input self.now text.now }
     {
-        let index = place_behind(&self.rules, &self.places, text);
-        match rule_at(&self.rules, &self.places, index) {
+        match self.places.item_above(&self.rules, &text) {
             Some(rule) => rule.input.as_slice().starts_with(text),
             None => false,
         }
@@ -117,56 +106,4 @@ impl RuleList {
         let next = rule.next.as_slice();
         !next.is_empty() && (!self.begins_input(next) || self.begins_input(rule.input.as_slice()))
     }
-}
-
-// How many places stand before the first whose rule has an input that is not less than the text.
-fn place_of(rules: &[Rule], places: &[usize], text: &[u8]) -> usize
-    requires { IsIndexed rules.now places.now }
-    ensures bound { result ≤ length places.now }
-    ensures parted { IsParted (λ rule. bytes_less rule.input text.now) rules.now places.now result }
-{
-    places.partition_point(|place| is_less_at(rules, *place, text))
-}
-
-// How many places stand before the first whose rule has an input that is greater than the text.
-fn place_behind(rules: &[Rule], places: &[usize], text: &[u8]) -> usize
-    requires { IsIndexed rules.now places.now }
-    ensures { IsParted (λ rule. not (bytes_less text.now rule.input)) rules.now places.now result }
-{
-    places.partition_point(|place| is_low_at(rules, *place, text))
-}
-
-// Whether at a place a rule stands whose input is less than the text.
-fn is_less_at(rules: &[Rule], place: usize, text: &[u8]) -> bool
-    ensures { result ≡ passes (λ rule. bytes_less rule.input text.now) (slice_get rules.now place) }
-{
-    match rules.get(place) {
-        Some(rule) => is_less(rule.input.as_slice(), text),
-        None => false,
-    }
-}
-
-// Whether at a place a rule stands whose input is not greater than the text.
-fn is_low_at(rules: &[Rule], place: usize, text: &[u8]) -> bool
-    ensures { result ≡ passes (λ rule. not (bytes_less text.now rule.input)) (slice_get rules.now place) }
-{
-    match rules.get(place) {
-        Some(rule) => !is_less(text, rule.input.as_slice()),
-        None => false,
-    }
-}
-
-// Whether bytes stand before others in the order of their values.
-fn is_less(text: &[u8], other: &[u8]) -> bool
-    ensures { result ≡ bytes_less text.now other.now }
-{
-    text.cmp(other).is_lt()
-}
-
-// The rule at the place that stands at this index among places.
-fn rule_at<'a>(rules: &'a [Rule], places: &[usize], index: usize) -> Option<&'a Rule>
-    ensures { option_copied result ≡ option_and_then (slice_get rules.now) (slice_get places.now index) }
-{
-    let place = places.get(index)?;
-    rules.get(*place)
 }

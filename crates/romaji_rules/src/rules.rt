@@ -1,5 +1,5 @@
 ghost use Rattle.std.specs.Prelude.{◌≡◌, ◌↔◌, ◌⊎◌, IsTrue, true, false, [], ◌∷◌, ◌++◌, Ok, Err};
-ghost use Rattle.std.specs.Prelude.{is_some, OnOk, OnErr, IfOk, IfErr, IfSome, IsSome, IsNone};
+ghost use Rattle.std.specs.Prelude.{is_some, IfOk, IfErr, IfSome, IsSome, IsNone};
 ghost use Rattle.skk_text.specs.Results.{AnswersUnless};
 ghost use Rattle.skk_text.specs.TextFiles.{IsTextFault};
 ghost use Rattle.skk_text.specs.declared.text_file.TextFault.{TextFault};
@@ -8,17 +8,19 @@ ghost use Rattle.romaji_rules.specs.Standing.{IsStanding};
 ghost use Rattle.romaji_rules.specs.Typed.{goes_on, extends_pending, flushed, fed, fed_alone};
 ghost use Rattle.romaji_rules.specs.Fed.{Fed, Flushed, GoesOn, BeginsInput};
 ghost use Rattle.romaji_rules.specs.Fitting.{is_rule_set};
+ghost use Rattle.romaji_rules.specs.Pieces.{piece_out};
 ghost use Rattle.romaji_rules.specs.Standard.{standard};
 
-use crate::out::Out;
+use crate::out_ref::OutRef;
 use crate::pending::Pending;
+use crate::piece::Piece;
 use crate::rule_fault::RuleFault;
 use crate::rule_file::{RULE_FILE_LIMIT, read_rules};
 use crate::rule_list::RuleList;
 use crate::standard::standard_rules;
 use crate::standing::Standing;
 use arrayvec::ArrayVec;
-use skk_text::{Copies, Memory, text_within};
+use skk_text::{Memory, text_within};
 use std::alloc::Global;
 use std::marker::Model;
 
@@ -90,130 +92,122 @@ impl Rules {
         }
     }
 
-    /// Reads a character: what is pending changes, and the output comes out. After `Memory` the same is
-    /// pending as before. Takes time with a logarithm in the number of rules.
-    pub fn feed(&self, alloc: Global, pending: &mut Pending, c: u8) -> Result<Out, Memory>
-        ensures exact { IfOk result (λ out. Fed self.now pending.old c pending.new out) }
-        ensures computed { IfOk result (λ out. fed self.now pending.old c
-            ≡ record { pending = pending.new; out = out }) }
-        ensures waits { OnOk result ((pending.new ≡ []) ⊎ BeginsInput self.now pending.new) }
-        ensures err { OnErr result (pending.new ≡ pending.old) }
+    /// Reads a character: what is pending changes, and the output comes out. Takes no memory, and time with a logarithm
+    /// in the number of rules.
+    pub fn feed(&self, pending: &mut Pending, c: u8) -> OutRef<'_>
+        ensures exact { Fed self.now pending.old c pending.new result }
+        ensures computed { fed self.now pending.old c ≡ record { pending = pending.new; out = result } }
+        ensures waits { (pending.new ≡ []) ⊎ BeginsInput self.now pending.new }
     {
-        match self.go_on(alloc, pending, c)? {
-            Some(out) => Ok(out),
-            None => self.begin_anew(alloc, pending, c),
+        match self.go_on(pending, c) {
+            Some(piece) => OutRef::of(piece),
+            None => self.begin_anew(pending, c),
         }
     }
 
     /// Reads a character as `feed` does, where something is pending and it goes on with that. Where it does not,
-    /// there is no output, and then, as after `Memory`, the same is pending as before. Takes time with a logarithm in
-    /// the number of rules.
-    pub fn extend(&self, alloc: Global, pending: &mut Pending, c: u8) -> Result<Option<Out>, Memory>
-        ensures exact { IfOk result (λ out. is_some out ≡ extends_pending self.now pending.old c) }
-        ensures computed { IfOk result (λ out. IfSome out (λ o. fed self.now pending.old c
-            ≡ record { pending = pending.new; out = o })) }
-        ensures waits { IfOk result (λ out. IsSome out → (pending.new ≡ []) ⊎ BeginsInput self.now pending.new) }
-        ensures none { IfOk result (λ out. IsNone out → pending.new ≡ pending.old) }
-        ensures err { OnErr result (pending.new ≡ pending.old) }
+    /// there is no output, and then the same is pending as before. Takes no memory, and time with a logarithm in the
+    /// number of rules.
+    pub fn extend(&self, pending: &mut Pending, c: u8) -> Option<OutRef<'_>>
+        ensures exact { is_some result ≡ extends_pending self.now pending.old c }
+        ensures computed { IfSome result (λ o. fed self.now pending.old c
+            ≡ record { pending = pending.new; out = o }) }
+        ensures waits { IsSome result → (pending.new ≡ []) ⊎ BeginsInput self.now pending.new }
+        ensures none { IsNone result → pending.new ≡ pending.old }
     {
         if pending.is_empty() {
-            return Ok(None);
+            return None;
         }
-        self.go_on(alloc, pending, c)
+        match self.go_on(pending, c) {
+            Some(piece) => Some(OutRef::of(piece)),
+            None => None,
+        }
     }
 
-    /// Reads a character as `feed` does, where `extend` gave no output for it. After `Memory` the same is pending
-    /// as before. Takes time with a logarithm in the number of rules.
-    pub fn feed_anew(&self, alloc: Global, pending: &mut Pending, c: u8) -> Result<Out, Memory>
+    /// Reads a character as `feed` does, where `extend` gave no output for it. Takes no memory, and time with a
+    /// logarithm in the number of rules.
+    pub fn feed_anew(&self, pending: &mut Pending, c: u8) -> OutRef<'_>
         requires { extends_pending self.now pending.old c ≡ false }
-        ensures computed { IfOk result (λ out. fed self.now pending.old c
-            ≡ record { pending = pending.new; out = out }) }
-        ensures waits { OnOk result ((pending.new ≡ []) ⊎ BeginsInput self.now pending.new) }
-        ensures err { OnErr result (pending.new ≡ pending.old) }
+        ensures computed { fed self.now pending.old c ≡ record { pending = pending.new; out = result } }
+        ensures waits { (pending.new ≡ []) ⊎ BeginsInput self.now pending.new }
     {
         if pending.is_empty() {
-            return self.feed_alone(alloc, pending, c);
+            return OutRef::of(self.feed_alone(pending, c));
         }
-        self.begin_anew(alloc, pending, c)
+        self.begin_anew(pending, c)
     }
 
     // Reads a character as `feed` does, where it goes on with what is pending. Where it does not, there is no
-    // output, and then, as after `Memory`, the same is pending as before.
-    fn go_on(&self, alloc: Global, pending: &mut Pending, c: u8) -> Result<Option<Out>, Memory>
-        ensures exact { IfOk result (λ out. is_some out ≡ goes_on self.now (pending.old ++ c ∷ [])) }
-        ensures computed { IfOk result (λ out. IfSome out (λ o. fed self.now pending.old c
-            ≡ record { pending = pending.new; out = o })) }
-        ensures waits { IfOk result (λ out. IsSome out → (pending.new ≡ []) ⊎ BeginsInput self.now pending.new) }
-        ensures none { IfOk result (λ out. IsNone out → pending.new ≡ pending.old) }
-        ensures err { OnErr result (pending.new ≡ pending.old) }
+    // output, and then the same is pending as before.
+    fn go_on(&self, pending: &mut Pending, c: u8) -> Option<Piece<'_>>
+        ensures exact { is_some result ≡ goes_on self.now (pending.old ++ c ∷ []) }
+        ensures computed { IfSome result (λ o. fed self.now pending.old c
+            ≡ record { pending = pending.new; out = piece_out o }) }
+        ensures waits { IsSome result → (pending.new ≡ []) ⊎ BeginsInput self.now pending.new }
+        ensures none { IsNone result → pending.new ≡ pending.old }
     {
         let text = text_with(pending, c);
         match self.standing(text.as_slice()) {
             Standing::Begins => {
                 *pending = Pending::of(text.as_slice());
-                Ok(Some(Out::nothing(alloc)))
+                Some(Piece::Nothing)
             }
             Standing::Input(rule) => {
-                let out = rule.out.copy(alloc)?;
                 *pending = Pending::of(rule.next.as_slice());
-                Ok(Some(out))
+                Some(Piece::Rule(&rule.out))
             }
-            Standing::Neither => Ok(None),
+            Standing::Neither => None,
         }
     }
 
     // Reads a character as `feed` does, where it does not go on with what is pending: that is flushed, and
-    // the character is read alone. After `Memory` the same is pending as before.
-    fn begin_anew(&self, alloc: Global, pending: &mut Pending, c: u8) -> Result<Out, Memory>
+    // the character is read alone.
+    fn begin_anew(&self, pending: &mut Pending, c: u8) -> OutRef<'_>
         requires { goes_on self.now (pending.old ++ c ∷ []) ≡ false }
-        ensures computed { IfOk result (λ out. fed self.now pending.old c
-            ≡ record { pending = pending.new; out = out }) }
-        ensures waits { OnOk result ((pending.new ≡ []) ⊎ BeginsInput self.now pending.new) }
-        ensures err { OnErr result (pending.new ≡ pending.old) }
+        ensures computed { fed self.now pending.old c ≡ record { pending = pending.new; out = result } }
+        ensures waits { (pending.new ≡ []) ⊎ BeginsInput self.now pending.new }
     {
         if pending.is_empty() {
-            return Out::itself(alloc, c);
+            return OutRef::of(Piece::Itself(c));
         }
-        let mut out = self.pending_output(alloc, pending)?;
+        let flushed = self.pending_output(pending);
         let mut alone = Pending::new();
-        out.append(&self.feed_alone(alloc, &mut alone, c)?)?;
+        let fed = self.feed_alone(&mut alone, c);
         *pending = alone;
-        Ok(out)
+        OutRef::behind(flushed, fed)
     }
 
-    /// Gives out what is pending: its output where it is an input, else nothing. Nothing is pending then.
-    /// After `Memory` the same is pending as before. Takes time with a logarithm in the number of rules.
-    pub fn flush(&self, alloc: Global, pending: &mut Pending) -> Result<Out, Memory>
-        ensures exact { IfOk result (λ out. Flushed self.now pending.old out) }
-        ensures computed { IfOk result (λ out. out ≡ flushed self.now pending.old) }
-        ensures empty { OnOk result (pending.new ≡ []) }
-        ensures err { OnErr result (pending.new ≡ pending.old) }
+    /// Gives out what is pending: its output where it is an input, else nothing. Nothing is pending then. Takes no
+    /// memory, and time with a logarithm in the number of rules.
+    pub fn flush(&self, pending: &mut Pending) -> OutRef<'_>
+        ensures exact { Flushed self.now pending.old result }
+        ensures computed { result ≡ flushed self.now pending.old }
+        ensures empty { pending.new ≡ [] }
     {
-        let out = self.pending_output(alloc, pending)?;
+        let out = self.pending_output(pending);
         *pending = Pending::new();
-        Ok(out)
+        OutRef::of(out)
     }
 
     // Reads a character with nothing pending.
-    fn feed_alone(&self, alloc: Global, pending: &mut Pending, c: u8) -> Result<Out, Memory>
+    fn feed_alone(&self, pending: &mut Pending, c: u8) -> Piece<'_>
         requires { pending.old ≡ [] }
-        ensures computed { IfOk result (λ out. fed_alone self.now c ≡ record { pending = pending.new; out = out }) }
-        ensures waits { OnOk result ((pending.new ≡ []) ⊎ BeginsInput self.now pending.new) }
-        ensures err { OnErr result (pending.new ≡ pending.old) }
+        ensures computed { fed_alone self.now c ≡ record { pending = pending.new; out = piece_out result } }
+        ensures waits { (pending.new ≡ []) ⊎ BeginsInput self.now pending.new }
     {
-        match self.go_on(alloc, pending, c)? {
-            Some(out) => Ok(out),
-            None => Out::itself(alloc, c),
+        match self.go_on(pending, c) {
+            Some(piece) => piece,
+            None => Piece::Itself(c),
         }
     }
 
     // The output of what is pending, where that is an input.
-    fn pending_output(&self, alloc: Global, pending: &Pending) -> Result<Out, Memory>
-        ensures { IfOk result (λ out. out ≡ flushed self.now pending.now) }
+    fn pending_output(&self, pending: &Pending) -> Piece<'_>
+        ensures { piece_out result ≡ flushed self.now pending.now }
     {
         match self.rules.rule_of(pending.as_slice()) {
-            Some(rule) => rule.out.copy(alloc),
-            None => Ok(Out::nothing(alloc)),
+            Some(rule) => Piece::Rule(&rule.out),
+            None => Piece::Nothing,
         }
     }
 

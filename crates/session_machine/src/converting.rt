@@ -1,7 +1,8 @@
-ghost use Rattle.std.specs.Prelude.{◌≡◌, ◌≢◌, [], IfOk};
+ghost use Rattle.std.specs.Prelude.{◌≡◌, ◌≢◌, ℕ, Option, List, [], IfOk};
 ghost use Rattle.std.specs.List.{list_any};
 ghost use Rattle.std.specs.Str.{chars};
 ghost use Rattle.skk_calls.specs.declared.call.Call.TheVariants.{Lookup};
+ghost use Rattle.skk_calls.specs.Rows.{RowKey as row_key};
 ghost use Rattle.reading_state.specs.Keys.{key_of, okuri_of};
 ghost use Rattle.session_machine.specs.Pressed.{converted, looked_up, pick, is_digit};
 ghost use Rattle.session_machine.specs.Said.{Becomes, Says, after, spoken};
@@ -11,7 +12,7 @@ use crate::session::{PressFault, Session};
 use crate::session_notice::SessionNotice;
 use candidate_state::{Picking, ShownList, shown_plain};
 use reading_state::Reading;
-use skk_calls::{Answer, Call, Caller, Reply};
+use skk_calls::{Answer, Call, Caller, Reply, RowKey};
 use skk_text::Memory;
 use std::alloc::Global;
 
@@ -32,7 +33,7 @@ pub(crate) fn convert<C: Caller>(
     }
     let call = look_up(alloc, session.typist, &reading)?;
     let answer = caller.call(alloc, &call);
-    take_answer(session, alloc, reading, answer)
+    take_answer(session, reading, looked_up_key(call), answer)
 }
 
 // The call that looks a reading up for a typist.
@@ -47,20 +48,34 @@ fn look_up(alloc: Global, typist: u16, reading: &Reading) -> Result<Call, Memory
     })
 }
 
-// Takes the answer to a reading's look-up.
+// The key of a look-up, moved out of its call.
+fn looked_up_key(call: Call) -> RowKey
+    requires { (who : ℕ) × (key : row_key) × (okuri : Option (List ℕ)) × (call ≡ Lookup who key okuri) }
+    ensures { (who : ℕ) (key : row_key) (okuri : Option (List ℕ)) → call ≡ Lookup who key okuri → result ≡ key }
+{
+    match call {
+        Call::Lookup {
+            who: _,
+            key,
+            okuri: _,
+        } => key,
+        _ => unreachable!(),
+    }
+}
+
+// Takes the answer to a reading's look-up by its key.
 fn take_answer(
     session: &mut Session,
-    alloc: Global,
     reading: Reading,
+    key: RowKey,
     answer: Answer,
 ) -> Result<(), PressFault>
-    requires { reading.text ≢ [] }
+    requires { key ≡ key_of reading }
     ensures { Becomes (looked_up session.old reading answer) (after result session.new) }
 {
     match answer {
         Answer::Done(Reply::Found(found)) => {
-            let shown = shown_plain(alloc, reading.key(alloc)?, found)?;
-            return pick(session, reading, shown);
+            return pick(session, reading, shown_plain(key, found));
         }
         Answer::Done(_) => {}
         Answer::Refused(refusal) => session.notice = SessionNotice::Refused(refusal),

@@ -10,4 +10,3 @@ pub mod LineExamples
 pub mod RowExamples
 pub mod Samples
 pub mod StateExamples
-pub mod TextOrder

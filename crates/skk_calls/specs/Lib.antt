@@ -14,7 +14,6 @@ pub mod Openings
 pub mod Orders
 pub mod RowLaws
 pub mod Rows
-pub mod RowsInOrder
 pub mod States
 pub mod Tallies
 pub mod Walks

@@ -44,7 +44,7 @@ pub enum CandFault {
 impl Cand {
     ghost use Rattle.std.specs.Prelude.{◌≡◌, ◌≢◌, ◌↔◌, ◌<◌, ◌+◌, ℕ, [], true, IfOk, IsErrOf};
     ghost use Rattle.skk_text.specs.Text.{byte_len};
-    ghost use Rattle.skk_calls.specs.Rows.{is_cand, word_limit, IsBadNote, is_note};
+    ghost use Rattle.skk_calls.specs.Rows.{is_cand, word_limit, IsBadNote, is_note, is_word};
 
     /// The candidate, unless the texts are none. Takes no memory, and time in the note's length.
     pub fn new(word: Text, note: Text) -> Result<Cand, CandFault>
@@ -65,6 +65,17 @@ impl Cand {
             return Err(CandFault::TooLong { bytes });
         }
         Ok(Cand { word, note })
+    }
+
+    /// The candidate of a word, without a note. Takes no memory: the note keeps the allocator.
+    pub fn of_word(alloc: Global, word: Text) -> Cand
+        requires { is_word word ≡ true }
+        ensures { result ≡ record { word = word; note = [] } }
+    {
+        Cand {
+            word,
+            note: Text::new(alloc),
+        }
     }
 
     /// The word and the note, moved out. Takes no memory.

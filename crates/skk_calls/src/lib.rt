@@ -1,11 +1,11 @@
 //! The dictionary's language: rows, the calls on a dictionary with their answers, and the traits of those who make
 //! and take them.
 //!
-//! It stands on `skk_text` and `skk_trace`. Its types keep what the format of a dictionary asks of readings,
-//! okurigana, words and notes, and its definitions say what the crates above are proved to do: what is found for a
-//! key, which readings go on from a prefix, what learning, purging and taking back make of a row and of a state, what
-//! a dictionary of one thread answers, and which histories of calls and answers are legal. The crate `dict_laws` has
-//! the laws of these definitions.
+//! It stands on `skk_text`, `ordered_lists` and `skk_trace`. Its types keep what the format of a dictionary asks of
+//! readings, okurigana, words and notes, and its definitions say what the crates above are proved to do: what is found
+//! for a key, which readings go on from a prefix, what learning, purging and taking back make of a row and of a state,
+//! what a dictionary of one thread answers, and which histories of calls and answers are legal. The crate `dict_laws`
+//! has the laws of these definitions.
 #![tactic(auto)]
 
 mod answer;
@@ -14,6 +14,7 @@ mod call;
 mod caller;
 mod cand;
 mod chronicle;
+mod distinct_cands;
 mod learned;
 mod limits;
 mod office;
@@ -23,6 +24,7 @@ mod part;
 mod quoting;
 mod row;
 mod row_key;
+mod row_order;
 mod state;
 mod tally;
 mod walk;
@@ -33,6 +35,7 @@ pub use call::{Call, Calls};
 pub use caller::{Caller, Kept};
 pub use cand::{Cand, CandFault, Cands};
 pub use chronicle::{Chronicle, Noted};
+pub use distinct_cands::DistinctCands;
 pub use learned::Learned;
 pub use limits::{LINE_LIMIT, OKURI_LIMIT, OKURI_READING_LIMIT, READING_LIMIT, WORD_LIMIT};
 pub use office::Office;

@@ -8,6 +8,7 @@ ghost use Rattle.skk_calls.specs.Rows.{is_row_key, same_text, begins_well, may_b
 ghost use Rattle.skk_calls.specs.Rows.{is_letter, fits_part};
 
 use crate::part::Part;
+use ordered_lists::order_bytes;
 use skk_text::{Copies, Memory, Text};
 use std::alloc::Global;
 use std::cmp::Ordering;
@@ -107,12 +108,12 @@ impl Copies for RowKey {
 }
 
 // Which of two texts is the lesser by its bytes.
-fn text_order(text: &Text, other: &Text) -> Ordering
+pub(crate) fn text_order(text: &Text, other: &Text) -> Ordering
     ensures less { is_lt result ≡ text_less text.now other.now }
     ensures equal { is_eq result ≡ same_text text.now other.now }
     ensures greater { is_gt result ≡ text_less other.now text.now }
 {
-    bytes_of(text).cmp(bytes_of(other))
+    order_bytes(bytes_of(text), bytes_of(other))
 }
 
 // The bytes of a text.

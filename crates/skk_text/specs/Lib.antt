@@ -9,7 +9,6 @@ pub mod Lists
 pub mod Modes
 pub mod Pairs
 pub mod PairsLaws
-pub mod Places
 pub mod Results
 pub mod Text
 pub mod TextFiles

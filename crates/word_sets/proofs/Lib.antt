@@ -1,2 +1,3 @@
 pub mod CandsMade
+pub mod RefSets
 pub mod StringSets

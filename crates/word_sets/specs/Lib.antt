@@ -1,3 +1,4 @@
 pub mod FirstLaws
 pub mod Firsts
 pub mod Strings
+pub mod WordRefs

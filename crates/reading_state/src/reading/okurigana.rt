@@ -7,7 +7,7 @@ ghost use Rattle.reading_state.specs.Reading.{is_empty_okuri, is_filled_okuri};
 
 use super::puts::{accepted_by_okuri, both_empty};
 use super::{Begun, Reading};
-use romaji_rules::{Pending, Rules};
+use romaji_rules::{Kana, Pending, Rules};
 use skk_calls::Okuri;
 use skk_text::{Copies, Memory, Notice, Text};
 use std::alloc::Global;
@@ -99,13 +99,15 @@ impl Reading {
         ensures err { OnErr result (self.new ≡ self.old) }
     {
         let mut pending = Pending::new();
-        let fed = rules.feed(alloc, &mut pending, letter)?;
+        let fed = rules
+            .feed(&mut pending, letter)
+            .text(alloc, Kana::Hiragana)?;
         let flushed = self.accepted_flush(alloc, rules)?;
         if both_empty(&self.text, &flushed.text) {
-            let notice = self.put(alloc, fed.hira, pending)?;
+            let notice = self.put(alloc, fed, pending)?;
             return Ok(later_notice(flushed.notice, notice));
         }
-        let kana = accepted_by_okuri(alloc, &Text::new(alloc), fed.hira);
+        let kana = accepted_by_okuri(alloc, &Text::new(alloc), fed);
         self.text.push_str(flushed.text.as_str())?;
         self.okuri = Some(Begun {
             letter,

@@ -9,7 +9,7 @@ ghost use Rattle.reading_state.specs.Puts.{may_read, may_end, refusal, unless_re
 ghost use Rattle.reading_state.specs.Reading.{with_pending, flush, feed};
 
 use super::Reading;
-use romaji_rules::{Pending, Rules};
+use romaji_rules::{Kana, Pending, Rules};
 use skk_calls::{OKURI_LIMIT, READING_LIMIT, are_okuri_chars, are_reading_chars, begins_well};
 use skk_text::{Memory, Notice, Text};
 use std::alloc::Global;
@@ -84,8 +84,7 @@ impl Reading {
         ensures { IfOk result (λ text. text ≡ (flushed rules.now self.now.pending).hira) }
     {
         let mut pending = Pending::of(self.pending.as_slice());
-        let out = rules.flush(alloc, &mut pending)?;
-        Ok(out.hira)
+        rules.flush(&mut pending).text(alloc, Kana::Hiragana)
     }
 
     // What is put of the hiragana of what is pending, where no okurigana was begun.
@@ -114,8 +113,8 @@ impl Reading {
         ensures err { OnErr result (self.new ≡ self.old) }
     {
         let mut pending = Pending::of(self.pending.as_slice());
-        let out = rules.feed(alloc, &mut pending, c)?;
-        self.put(alloc, out.hira, pending)
+        let piece = rules.feed(&mut pending, c).text(alloc, Kana::Hiragana)?;
+        self.put(alloc, piece, pending)
     }
 
     // Puts the hiragana of a character that goes on with what is pending; else nothing changes.
@@ -132,8 +131,11 @@ impl Reading {
         ensures err { OnErr result (self.new ≡ self.old) }
     {
         let mut pending = Pending::of(self.pending.as_slice());
-        match rules.extend(alloc, &mut pending, c)? {
-            Some(out) => Ok(Some(self.put(alloc, out.hira, pending)?)),
+        match rules.extend(&mut pending, c) {
+            Some(out) => {
+                let piece = out.text(alloc, Kana::Hiragana)?;
+                Ok(Some(self.put(alloc, piece, pending)?))
+            }
             None => Ok(None),
         }
     }
@@ -151,8 +153,10 @@ impl Reading {
         ensures err { OnErr result (self.new ≡ self.old) }
     {
         let mut pending = Pending::of(self.pending.as_slice());
-        let out = rules.feed_anew(alloc, &mut pending, c)?;
-        self.put(alloc, out.hira, pending)
+        let piece = rules
+            .feed_anew(&mut pending, c)
+            .text(alloc, Kana::Hiragana)?;
+        self.put(alloc, piece, pending)
     }
 
     // Puts a character of an abbreviation as itself.

@@ -20,13 +20,12 @@ loop-place-preserved c =
     record {
       places = elim c.if-is_walked.branch [
         | then-is_walked+in_ok-push w ↦
-            ap (λ places. map (slice_get rows) places.items) w.places-is
-            ∙ ap (map (slice_get rows)) w.in_ok-push.ensures.items
-            ∙ map-append (slice_get rows) c.loop-place.places.items (place ∷ [])
+            ap (map (slice_get rows)) (w.places-is ∙ w.in_ok-push.ensures.ok)
+            ∙ map-append (slice_get rows) c.loop-place.places (place ∷ [])
             ∙ ap (λ found. found ++ slice_get rows place ∷ []) c.loop-place.invariant.places
             ∙ sym (kept_more is_walked rows place row here (sym c.is_walked.ensures.value ∙ w.if-is_walked.true))
         | else-is_walked w ↦
-            ap (λ places. map (slice_get rows) places.items) w.places-is ∙ c.loop-place.invariant.places
+            ap (map (slice_get rows)) w.places-is ∙ c.loop-place.invariant.places
             ∙ sym (kept_same is_walked rows place row here (sym c.is_walked.ensures.value ∙ w.if-is_walked.false))
       ];
       rows =

@@ -7,6 +7,6 @@ use Rattle.dict_layers.proofs.file_index.walked_places.Given as goal
 -- the places so far are those of the rows so far that a walk comes by, and these are rows
 abbrev pub invariant-loop-place : goal.invariant-loop-place
 invariant-loop-place l = record {
-  places : map (slice_get l.rows) l.places.items ≡ map Some (filter is_walked (take l.place l.rows));
+  places : map (slice_get l.rows) l.places ≡ map Some (filter is_walked (take l.place l.rows));
   rows : list_all is_row (take l.place l.rows) ≡ true;
 }

@@ -6,7 +6,7 @@ use Rattle.std.proofs.lemmas.List.Folds.{list_all_more}
 use Rattle.skk_calls.specs.Rows.{Row}
 use Rattle.dict_layers.specs.declared.file_index.FileIndex.{FileIndex}
 use Rattle.dict_layers.specs.Files.{is_file}
-use Rattle.dict_layers.specs.InOrder.{IsIndex}
+use Rattle.dict_layers.specs.InOrder.{IsFileIndex}
 use Rattle.dict_layers.proofs.Zipped.{zipped_push}
 use Rattle.dict_layers.proofs.system.System.of_books.Goals as goal
 
@@ -16,7 +16,7 @@ loop-book-preserved c =
     let i = c.loop-book.book-index in
     let book = c.book-item.result in
     let index = c.in_ok-of_rows.field-0 in
-    let fits = λ (rows : List Row) (places : FileIndex). IsIndex rows places.by_key.items places.readings.items in
+    let fits = λ (rows : List Row) (places : FileIndex). IsFileIndex rows places.by_key places.walked in
     let here : fits book index = rw (sym c.rows.ensures.value, sym c.as_slice.ensures) c.in_ok-of_rows.ensures.index in
     let all = zipped_push fits (take i books) c.loop-book.indexes.items book index c.loop-book.invariant.indexes here in
     let file : is_file book ≡ true =

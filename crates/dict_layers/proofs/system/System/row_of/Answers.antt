@@ -11,8 +11,8 @@ index-requires c =
     let low : c.args.file < length books = omega (arith, ap length c.self.view_is, c.requires) in
     omega (arith, index_there books indexes.items c.self.invariant.0 c.args.file low, indexes.ok.0)
 
-pub row_of-requires-clause-index : goal.row_of-requires-clause-index
-row_of-requires-clause-index c =
+pub row_of-requires : goal.row_of-requires
+row_of-requires c =
     let books = c.self.inside.books in
     let low : c.args.file < length books = omega (arith, ap length c.self.view_is, c.requires) in
     rw (c.as_slice-rows.ensures, c.rows.ensures.value)

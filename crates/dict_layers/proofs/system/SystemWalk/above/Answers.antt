@@ -15,8 +15,8 @@ index-requires c =
     omega (arith, ap length c.self.view_is, c.requires, length-map c.args.self.now walked_readings) in
     omega (arith, index_there books indexes.items c.self.invariant.0 c.args.file low, indexes.ok.0)
 
-pub reading_above-requires-clause-index : goal.reading_above-requires-clause-index
-reading_above-requires-clause-index c =
+pub reading_above-requires : goal.reading_above-requires
+reading_above-requires c =
     let books = c.self.inside.books in
     let low : c.args.file < length books =
     omega (arith, ap length c.self.view_is, c.requires, length-map c.args.self.now walked_readings) in

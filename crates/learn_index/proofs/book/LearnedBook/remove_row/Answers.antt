@@ -1,18 +1,20 @@
 use Rattle.std.proofs.Common.{◌∙◌, sym}
-use Rattle.skk_calls.specs.Orders.{key_less}
-use Rattle.skk_calls.specs.Rows.{Row, same_key}
-use Rattle.learn_index.proofs.Places.{left_out, not_there, row_keys}
+use Rattle.ordered_lists.specs.PlaceLaws.{left_out, not_there}
+use Rattle.skk_calls.specs.OrderLaws.{row_keys}
+use Rattle.skk_calls.specs.Rows.{Row}
 use Rattle.learn_index.proofs.book.LearnedBook.remove_row.Goals as goal
 
 pub returns-then-has_key_at-clause-rows : goal.returns-then-has_key_at-clause-rows
 returns-then-has_key_at-clause-rows c =
+    let point = rw c.deref.ensures.value at c.place_of-place.ensures.place in
+    let there = rw c.deref-2.ensures.value at (sym c.has_key_at.ensures ∙ c.if-has_key_at.true) in
     c.remove-row.ensures.items
-    ∙ sym (left_out (λ (row : Row). row.key) key_less same_key row_keys c.args.key.now c.args.self.now.rows.items
-    c.place_of-place.result c.requires
-    c.place_of-place.ensures.point (sym c.has_key_at.ensures ∙ c.if-has_key_at.true))
+    ∙ sym (left_out (λ (row : Row). row.key) row_keys c.args.key.now c.args.self.now.rows.items c.place_of-place.result
+    c.requires point there)
 
 pub returns-else-has_key_at-clause-rows : goal.returns-else-has_key_at-clause-rows
 returns-else-has_key_at-clause-rows c =
-    sym (not_there (λ (row : Row). row.key) key_less same_key row_keys c.args.key.now c.args.self.now.rows.items
-    c.place_of-place.result c.requires
-    c.place_of-place.ensures.point (sym c.has_key_at.ensures ∙ c.if-has_key_at.false))
+    let point = rw c.deref.ensures.value at c.place_of-place.ensures.place in
+    let missing = rw c.deref-2.ensures.value at (sym c.has_key_at.ensures ∙ c.if-has_key_at.false) in
+    sym (not_there (λ (row : Row). row.key) row_keys c.args.key.now c.args.self.now.rows.items c.place_of-place.result
+    c.requires point missing)

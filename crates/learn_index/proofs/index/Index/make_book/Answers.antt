@@ -1,7 +1,7 @@
 use Rattle.std.proofs.Common.{◌≡◌, ◌==◌, ◌≤◌, ◌∙◌, false, length, ap, sym, subst, slice_get, arith}
 use Rattle.std.specs.List.{insert}
+use Rattle.ordered_lists.specs.Orders.{passes}
 use Rattle.learn_index.specs.declared.book.LearnedBook.{LearnedBook}
-use Rattle.skk_text.specs.Places.{passes}
 use Rattle.learn_index.specs.Index.{Index}
 use Rattle.learn_index.specs.Kept.{changed, keeps_book, kept, IsKept}
 use Rattle.learn_index.proofs.Changes.{kept_new, new_there, state_insert, there_by}
@@ -19,7 +19,7 @@ missing c =
     ap
     (λ books. passes (λ (book : LearnedBook). book.number == c.args.number) (slice_get books c.place_of-place.result))
     (sym c.deref-2.ensures.value)
-    ∙ sym c.has_number_at.ensures ∙ c.if-not-has_number_at.true
+    ∙ sym c.has_key_at.ensures ∙ c.if-not-has_key_at.true
 
 pub invariant_of-self : goal.invariant_of-self
 invariant_of-self c =
@@ -49,8 +49,8 @@ returns-in_ok-insert-clause-there c =
     c.self.invariant c.new.result c.new.ensures.number c.new.ensures.count c.new.ensures.rows
     (within c) (missing c) (changed (kept (insert items c.place_of-place.result c.new.result))))
 
-pub returns-else-not-has_number_at-clause-there : goal.returns-else-not-has_number_at-clause-there
-returns-else-not-has_number_at-clause-there c =
+pub returns-else-not-has_key_at-clause-there : goal.returns-else-not-has_key_at-clause-there
+returns-else-not-has_key_at-clause-there c =
     let items = c.self.inside.books.items in
     let point = rw c.deref.ensures.value at c.place_of-place.ensures.point in
     ap (λ (index : Index). keeps_book index c.args.number) (sym c.self.view_is)
@@ -58,4 +58,4 @@ returns-else-not-has_number_at-clause-there c =
     (ap
     (λ books. passes (λ (book : LearnedBook). book.number == c.args.number) (slice_get books c.place_of-place.result))
     (sym c.deref-2.ensures.value)
-    ∙ sym c.has_number_at.ensures ∙ c.if-not-has_number_at.false)
+    ∙ sym c.has_key_at.ensures ∙ c.if-not-has_key_at.false)

@@ -7,7 +7,8 @@ returns-clause-ok c =
     okuri_begun c.args.rules.now c.args.self.now _ c.self.view_is c.in_ok-flushed.flushed.text
     c.in_ok-flushed.flushed.notice c.in_ok-flushed.ensures.flush
     c.args.letter c.new-pending.result c.new.result c.push_str.new.self c.feed.new.pending
-    c.accepted_by_okuri-kana.result.text c.in_ok-fed.fed c.accepted_by_okuri-kana.result.notice c.later_notice-2.result
-    (search rules) c.new-pending.ensures c.in_ok-fed.ensures.computed c.new.ensures
+    c.accepted_by_okuri-kana.result.text c.in_ok-fed.fed c.feed.result c.accepted_by_okuri-kana.result.notice
+    c.later_notice-2.result (search rules) c.new-pending.ensures c.feed.ensures.computed c.in_ok-fed.ensures
+    c.new.ensures
     c.accepted_by_okuri-kana.ensures.notice c.accepted_by_okuri-kana.ensures.text (search rules)
     c.later_notice-2.ensures

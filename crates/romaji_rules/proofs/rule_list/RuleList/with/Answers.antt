@@ -1,24 +1,17 @@
-use Rattle.std.proofs.Common.{◌≡◌, ◌∙◌, ℕ, None, List, [], ◌∷◌, ◌++◌, length, ap, sym, subst}
-use Rattle.std.specs.List.{insert}
+use Rattle.std.proofs.Common.{◌≡◌, ◌∙◌, None, List, ap, subst, sym}
+use Rattle.ordered_lists.specs.KeyOrders.{byte_keys}
+use Rattle.ordered_lists.specs.Orders.{IsIndex}
 use Rattle.romaji_rules.specs.declared.rule.Rule.{Rule}
-use Rattle.romaji_rules.specs.InOrder.{IsIndexed}
 use Rattle.romaji_rules.specs.Typed.{rule_of}
-use Rattle.romaji_rules.proofs.Indexed.{indexed_with}
+use Rattle.romaji_rules.proofs.InOrder.{input}
 use Rattle.romaji_rules.proofs.rule_list.RuleList.with.Goals as goal
 
--- the new place is put where the rules that stand before it end
+-- the rule has a new input, so its place goes into the index
 pub invariant_of-result : goal.invariant_of-result
 invariant_of-result c =
-    let all = c.self.inside.rules.items in
-    let places = c.self.inside.places.items in
+    let rules = c.self.inside.rules.items in
     let rule = c.args.rule in
-    let new : rule_of all rule.input ≡ None = ap (λ rs. rule_of rs rule.input) c.self.view_is ∙ c.requires in
-    let parted =
-    rw (c.deref.ensures.value, c.deref-2.ensures.value, c.as_slice.ensures) at c.place_of-index.ensures.parted in
-    let count : c.len.result ≡ length all = c.len.ensures ∙ sym c.deref.ensures.len ∙ ap length c.deref.ensures.value in
-    let rules_are : c.push.new.self.items ≡ all ++ rule ∷ [] = c.in_ok-push.ensures.items in
-    let places_are : c.insert.new.self.items ≡ insert places c.place_of-index.result (length all) =
-    c.in_ok-insert.ensures.items ∙ ap (insert places c.place_of-index.result) count in
-    subst (λ (rs : List Rule). IsIndexed rs c.insert.new.self.items) (sym rules_are)
-    (subst (λ (ps : List ℕ). IsIndexed (all ++ rule ∷ []) ps) (sym places_are)
-    (indexed_with all places c.self.invariant rule new c.place_of-index.result parted))
+    let new : rule_of rules rule.input ≡ None = ap (λ all. rule_of all rule.input) c.self.view_is ∙ c.requires in
+    let more = rw c.deref.ensures.value at c.in_ok-add.ensures.ok in
+    subst (λ (all : List Rule). IsIndex input byte_keys all c.add.new.self all) (sym c.in_ok-push.ensures.items)
+    (more rules rule (sym c.as_slice.ensures) new c.self.invariant)

@@ -1,12 +1,11 @@
 use Rattle.std.proofs.Common.{rules}
-use Rattle.romaji_rules.proofs.Step.{Fed-computed, Fed-answered}
+use Rattle.romaji_rules.proofs.Step.{Fed-computed}
 use Rattle.romaji_rules.proofs.rules.Rules.feed.Goals as goal
 
 pub returns-in-Some-clause-exact : goal.returns-in-Some-clause-exact
 returns-in-Some-clause-exact c =
-    Fed-computed c.args.self.now c.args.pending.now c.args.c c.go_on.new.pending c.in-Some.out (search rules)
+    Fed-computed c.args.self.now c.args.pending.now c.args.c c.go_on.new.pending c.of.result (search rules)
 
 pub returns-in-None-clause-exact : goal.returns-in-None-clause-exact
 returns-in-None-clause-exact c =
-    Fed-answered c.args.self.now c.go_on.new.pending c.args.pending.now c.args.c c.begin_anew.new.pending
-    c.begin_anew.result (search rules) c.begin_anew.ensures.computed
+    Fed-computed c.args.self.now c.args.pending.now c.args.c c.begin_anew.new.pending c.begin_anew.result (search rules)

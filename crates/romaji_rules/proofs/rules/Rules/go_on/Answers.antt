@@ -23,7 +23,7 @@ returns-in-Begins-clause-waits c _ =
     inr (subst (BeginsInput c.args.self.now) (sym text)
     ((begins_input-Decides c.args.self.now c.as_slice.result.now).0 c.in-Begins.ensures.standing))
 
-pub returns-in_ok-out-in-Input-clause-waits : goal.returns-in_ok-out-in-Input-clause-waits
-returns-in_ok-out-in-Input-clause-waits c _ =
+pub returns-in-Input-clause-waits : goal.returns-in-Input-clause-waits
+returns-in-Input-clause-waits c _ =
     found-waits c.args.self.now c.standing.ensures.fits c.as_slice.result.now c.of-in-Input.result c.in-Input.rule.now
     c.in-Input.ensures.standing.1 (c.of-in-Input.ensures ∙ c.as_slice-in-Input.ensures)

@@ -1,0 +1,8 @@
+/// The two kana.
+#[derive(Clone, Copy, Debug, PartialEq, Eq)]
+pub enum Kana {
+    /// Hiragana.
+    Hiragana,
+    /// Katakana.
+    Katakana,
+}

@@ -1,0 +1,30 @@
+use crate::kana::Kana;
+use crate::out::Out;
+use skk_text::{Memory, Text};
+
+// A piece of what comes out of the rules.
+#[derive(Clone, Copy)]
+pub(crate) enum Piece<'a> {
+    // Nothing.
+    Nothing,
+    // A character as itself.
+    Itself(u8),
+    // The output of a rule.
+    Rule(&'a Out),
+}
+
+impl Piece<'_> {
+    ghost use Rattle.std.specs.Prelude.{◌≡◌, ◌++◌, OnOk};
+    ghost use Rattle.romaji_rules.specs.Pieces.{out_in, piece_out};
+
+    // Adds the piece in one kana to the end of a text.
+    pub(crate) fn push_to(&self, text: &mut Text, kana: Kana) -> Result<(), Memory>
+        ensures { OnOk result (text.new ≡ text.old ++ out_in kana (piece_out self.now)) }
+    {
+        match self {
+            Piece::Nothing => Ok(()),
+            Piece::Itself(c) => text.push(*c as char),
+            Piece::Rule(out) => text.push_str(out.in_kana(kana).as_str()),
+        }
+    }
+}
