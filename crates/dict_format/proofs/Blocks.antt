@@ -5,7 +5,8 @@ use Rattle.std.specs.declared.alloc.Global.{Global}
 use Rattle.std.specs.List.{list_any, filter, flat_map, position_or_len}
 use Rattle.std.proofs.Math.ListN.{set}
 use Rattle.std.proofs.lemmas.Bool.{or_parts, both_ways}
-use Rattle.std.proofs.lemmas.List.{append-nil, map-append, length-map}
+use Rattle.std.proofs.lemmas.List.{append-nil, get_or-map, map-append, length-map}
+use Rattle.std.proofs.lemmas.List.Sums.{passes_at_first}
 use Rattle.std.proofs.lemmas.List.Elements.{filter-append}
 use Rattle.std.proofs.lemmas.Grind.{flat_map-append}
 use Rattle.skk_text.specs.Lists.{is_empty}
@@ -110,24 +111,6 @@ okuris_of-push blocks block =
     by true = refl
     by false = map-append (λ (c : Block). c.okuri) (first_of_each (λ c. c.okuri) [] blocks) (block ∷ [])
 
--- the value of a text that stands there, and of one that is new
-there_value : {V : Type 0} (old : List ℕ → V) (text : List ℕ) (texts : List (List ℕ)) (d : V)
-    → has_text texts text ≡ true → get_or (map old texts) (position_or_len (same_text text) texts) d ≡ old text
-there_value old text [] d there = absurd (both_ways false refl there)
-there_value old text (other ∷ texts) d there =
-    by (same_text text other) refl (λ h. there_value old text texts d h) there
-  where
-    by : (b : Bool) → same_text text other ≡ b
-        → (has_text texts text ≡ true → get_or (map old texts) (position_or_len (same_text text) texts) d ≡ old text)
-        → (same_text text other || has_text texts text) ≡ true
-        → get_or (map old (other ∷ texts)) (position_or_len (same_text text) (other ∷ texts)) d ≡ old text
-    by true e later h = rw e (ap old (sym (same_equal text other e)))
-    by false e later h =
-        let there_later : has_text texts text ≡ true = rw e at h in
-        let next : 1 + position_or_len (same_text text) texts
-        ≡ suc (position_or_len (same_text text) texts) = omega arith in
-        rw (e, next) (later there_later)
-
 -- the place of a text that stands there
 there_within : (text : List ℕ) (texts : List (List ℕ)) → has_text texts text ≡ true
     → position_or_len (same_text text) texts < length texts
@@ -143,6 +126,15 @@ there_within text (other ∷ texts) there = by (same_text text other) refl (λ h
         let there_later : has_text texts text ≡ true = rw e at h in
         let lt = later there_later in
         rw e (omega arith)
+
+-- its value
+there_value : {V : Type 0} (old : List ℕ → V) (text : List ℕ) (texts : List (List ℕ)) (d : V)
+    → has_text texts text ≡ true → get_or (map old texts) (position_or_len (same_text text) texts) d ≡ old text
+there_value old text texts d there =
+    let within = there_within text texts there in
+    let at = position_or_len (same_text text) texts in
+    get_or-map old texts at text d within
+    ∙ ap old (sym (same_equal text (get_or texts at text) (passes_at_first (same_text text) texts text within)))
 
 -- One more block
 

@@ -1,7 +1,6 @@
 -- The entries of a file, one after another.
 use Rattle.std.proofs.Common.{◌≡◌, ◌≤◌, ◌<◌, ◌+◌, ◌∙◌, sym, ap, subst, ℕ, Bool, true, false, List, [], ◌∷◌, ◌++◌}
 use Rattle.std.proofs.Common.{length, Result, Ok, Err, IfOk, IfErr, refl, arith, inl, inr}
-use Rattle.std.proofs.lemmas.Bool.{both_ways}
 use Rattle.std.proofs.lemmas.List.{append_assoc, append-nil}
 use Rattle.std.specs.Str.{IsUtf8}
 use Rattle.skk_text.specs.Lines.{lines_of}
@@ -16,10 +15,12 @@ use Rattle.dict_format.specs.declared.file.Listed.{Listed}
 use Rattle.dict_format.specs.declared.reason.LineReason.{LineReason}
 use Rattle.dict_format.specs.declared.reason.LineReason.TheVariants.{Twice}
 use Rattle.dict_format.specs.FileBuilding.{listed_with, refused_with}
-use Rattle.dict_format.specs.FileLines.{FileEntry, Takes, TakeAll, Refuses, has_key, Lists, file_limit, none_listed}
-use Rattle.dict_format.specs.FileLines.{entries_from, entries_of, entry_of, part_behind, kind_of, trimmed_line}
+use Rattle.dict_format.specs.FileLines.{FileEntry, Takes, TakeAll, has_key, Lists, file_limit, none_listed}
+use Rattle.exact_readers.specs.Trimming.{trimmed_line}
+use Rattle.dict_format.specs.FileLines.{entries_from, entries_of, entry_of, part_behind, kind_of}
 use Rattle.dict_format.specs.Lines.{SpellsRow}
-use Rattle.dict_format.proofs.LineReading.{row_once, reason_once, row_or_reason, not_both}
+use Rattle.dict_format.specs.Reading.{line_reading}
+use Rattle.dict_format.proofs.LineReading.{row_or_reason, line_reading-row, line_reading-reason}
 
 -- What an entry takes
 
@@ -32,62 +33,31 @@ row-taken before entry row spells = by (has_key before.book row.key) refl
     by false new = inl (row, (spells, new), rw new refl)
     by true again = inr (Twice, inr (refl, row, spells, again), rw again refl)
 
--- an entry takes what was listed to one thing alone
-takes-once : (before : Listed) (entry : FileEntry) (after other : Listed) → Takes before entry after
-    → Takes before entry other → after ≡ other
-takes-once before entry after other takes also =
-    elim takes [
-      | inl one ↦
-          elim also [
-            | inl two ↦ one.2 ∙ ap (λ row. record { book = before.book ++ row ∷ []; bad = before.bad })
-                (row_once entry.part entry.text one.0 two.0 one.1.0 two.1.0) ∙ sym two.2
-            | inr two ↦ absurd (taken-refused one.0 two.0 one.1.0 one.1.1 two.1)
-          ]
-      | inr one ↦
-          elim also [
-            | inl two ↦ absurd (taken-refused two.0 one.0 two.1.0 two.1.1 one.1)
-            | inr two ↦
-                one.2 ∙ ap (λ reason. record {
-                  book = before.book;
-                  bad = before.bad ++ record { line = entry.number; reason = reason } ∷ [];
-                }) (refused-once one.0 two.0 one.1 two.1)
-                ∙ sym two.2
-          ]
-    ]
-  where
-    taken-refused : (row : Row) (reason : LineReason) → SpellsRow entry.part entry.text row
-        → has_key before.book row.key ≡ false → Refuses before.book entry reason → ⊥
-    taken-refused row reason spells new refuses =
-        elim refuses [
-          | inl first ↦ not_both entry.part entry.text row reason spells first
-          | inr again ↦
-              both_ways (has_key before.book row.key) new
-              (ap (λ r. has_key before.book r.key) (row_once entry.part entry.text row again.1 spells again.2)
-              ∙ again.3)
-        ]
+-- what was listed before an entry, with what is read of it
+abbrev next_of : Listed → FileEntry → Result Row LineReason → Listed
+next_of before entry (Ok row) = listed_with before entry.number row
+next_of before entry (Err reason) = refused_with before entry.number reason
 
-    refused-once : (reason other_reason : LineReason) → Refuses before.book entry reason
-        → Refuses before.book entry other_reason → reason ≡ other_reason
-    refused-once reason other_reason refuses others =
-        elim refuses [
-          | inl first ↦
-              elim others [
-                | inl second ↦ reason_once entry.part entry.text reason other_reason first second
-                | inr again ↦ absurd (not_both entry.part entry.text again.1 reason again.2 first)
-              ]
-          | inr again ↦
-              elim others [
-                | inl second ↦ absurd (not_both entry.part entry.text again.1 other_reason again.2 second)
-                | inr twice ↦ again.0 ∙ sym twice.0
-              ]
-        ]
+-- an entry takes what was listed to that alone
+takes-is : (before : Listed) (entry : FileEntry) (after : Listed) → Takes before entry after
+    → after ≡ next_of before entry (line_reading entry.part entry.text)
+takes-is before entry after (inl (row, (spells, new), is)) =
+    let same : listed_with before entry.number row
+    ≡ record { book = before.book ++ row ∷ []; bad = before.bad } = rw new refl in
+    is ∙ sym same ∙ sym (ap (next_of before entry) (line_reading-row entry.part entry.text row spells))
+takes-is before entry after (inr (reason, inl first, is)) =
+    is ∙ sym (ap (next_of before entry) (line_reading-reason entry.part entry.text reason first))
+takes-is before entry after (inr (reason, inr (twice, row, spells, again), is)) =
+    let same : listed_with before entry.number row ≡ refused_with before entry.number Twice = rw again refl in
+    is ∙ ap (refused_with before entry.number) twice ∙ sym same
+    ∙ sym (ap (next_of before entry) (line_reading-row entry.part entry.text row spells))
 
 -- so do all entries
 pub all-once : (entries : List FileEntry) (before after other : Listed) → TakeAll before entries after
     → TakeAll before entries other → after ≡ other
 all-once [] before after other takes also = takes ∙ sym also
 all-once (entry ∷ entries) before after other takes also =
-    let same = takes-once before entry takes.0 also.0 takes.1 also.1 in
+    let same = takes-is before entry takes.0 takes.1 ∙ sym (takes-is before entry also.0 also.1) in
     all-once entries also.0 after other (subst (λ (next : Listed). TakeAll next entries after) same takes.2) also.2
 
 -- an entry takes what was listed to something, and so do all entries

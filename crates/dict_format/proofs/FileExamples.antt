@@ -1,13 +1,10 @@
 -- Files that are printed, worked out by hand.
-use Rattle.std.proofs.Common.{◌≡◌, ℕ, List, [], ◌∷◌, codes, map, refl}
+use Rattle.std.proofs.Common.{ℕ, List, [], ◌∷◌, codes, map, refl}
 use Rattle.skk_calls.specs.declared.part.Part.{Part}
 use Rattle.skk_calls.specs.declared.part.Part.TheVariants.{Nasi, Ari}
 use Rattle.skk_calls.specs.Rows.{Row}
 use Rattle.dict_format.specs.PrintedFiles.{in_printing_order, printed_file}
-
--- a function gives what a table says of each argument
-abbrev Gives : {X Y : Type 0} → (X → Y) → List (X × Y) → Type 0
-Gives f table = map (λ line. f line.0) table ≡ map (λ line. line.1) table
+use Rattle.dict_format.proofs.Examples.{Gives}
 
 -- a row of a reading, with one candidate
 abbrev row : Part → List ℕ → Row
@@ -53,50 +50,37 @@ printed_files : Gives printed_file (
 unfolding lib.Utf8.encode
 printed_files = refl
 
--- with okurigana a reading stands behind those that go on from it, and without it in front of them, in whatever order
--- the rows came
-prefixes : Gives in_printing_order ((
-  ari (codes "かk") ∷ ari (codes "かkk") ∷ ari (codes "かkkk") ∷ [],
-  ari (codes "かkkk") ∷ ari (codes "かkk") ∷ ari (codes "かk") ∷ [],
-)
-    ∷ (
-      ari (codes "かkkk") ∷ ari (codes "かkk") ∷ ari (codes "かk") ∷ [],
-      ari (codes "かkkk") ∷ ari (codes "かkk") ∷ ari (codes "かk") ∷ [],
-    )
-    ∷ (
-      ari (codes "かkk") ∷ ari (codes "かk") ∷ ari (codes "かkkk") ∷ [],
-      ari (codes "かkkk") ∷ ari (codes "かkk") ∷ ari (codes "かk") ∷ [],
-    )
-    ∷ (
-      nasi (codes "かん") ∷ nasi (codes "かんじ") ∷ nasi (codes "か") ∷ [],
-      nasi (codes "か") ∷ nasi (codes "かん") ∷ nasi (codes "かんじ") ∷ [],
-    )
-    ∷ (
-      nasi (codes "かんじ") ∷ nasi (codes "かん") ∷ nasi (codes "か") ∷ [],
-      nasi (codes "か") ∷ nasi (codes "かん") ∷ nasi (codes "かんじ") ∷ [],
-    )
-    ∷ [])
-unfolding lib.Utf8.encode
-prefixes = refl
+-- the readings of rows of a part, in printing order
+abbrev in_order : Part → List (List ℕ) → List (List ℕ)
+in_order part readings = map (λ r. r.key.reading) (in_printing_order (map (row part) readings))
 
--- the first byte that differs decides, and not the length: a shorter reading with a greater byte is greater. A
--- character of four bytes is greater than each of three, and these than those of one
-by_bytes : Gives in_printing_order (
-    (nasi (codes "い") ∷ nasi (codes "ああ") ∷ [], nasi (codes "ああ") ∷ nasi (codes "い") ∷ [])
-    ∷ (ari (codes "ああk") ∷ ari (codes "いk") ∷ [], ari (codes "いk") ∷ ari (codes "ああk") ∷ [])
+-- with okurigana a reading stands behind those that go on from it, and without it in front of them, in whatever order
+-- the rows came; the first byte that differs decides, and not the length: a shorter reading with a greater byte is
+-- greater. A character of four bytes is greater than each of three, and these than those of one
+ari_in_order : Gives (in_order Ari) (
+    (codes "かk" ∷ codes "かkk" ∷ codes "かkkk" ∷ [], codes "かkkk" ∷ codes "かkk" ∷ codes "かk" ∷ [])
+    ∷ (codes "かkkk" ∷ codes "かkk" ∷ codes "かk" ∷ [], codes "かkkk" ∷ codes "かkk" ∷ codes "かk" ∷ [])
+    ∷ (codes "かkk" ∷ codes "かk" ∷ codes "かkkk" ∷ [], codes "かkkk" ∷ codes "かkk" ∷ codes "かk" ∷ [])
+    ∷ (codes "ああk" ∷ codes "いk" ∷ [], codes "いk" ∷ codes "ああk" ∷ [])
     ∷ (
-      nasi (codes "𠮷") ∷ nasi (codes "ｱ") ∷ nasi (codes "あ") ∷ nasi (codes "é") ∷ nasi (codes "z")
-          ∷ nasi (codes "Z") ∷ [],
-      nasi (codes "Z") ∷ nasi (codes "z") ∷ nasi (codes "é") ∷ nasi (codes "あ") ∷ nasi (codes "ｱ")
-          ∷ nasi (codes "𠮷") ∷ [],
-    )
-    ∷ (
-      ari (codes "zk") ∷ ari (codes "𠮷k") ∷ ari (codes "あk") ∷ ari (codes "ｱk") ∷ [],
-      ari (codes "𠮷k") ∷ ari (codes "ｱk") ∷ ari (codes "あk") ∷ ari (codes "zk") ∷ [],
+      codes "zk" ∷ codes "𠮷k" ∷ codes "あk" ∷ codes "ｱk" ∷ [],
+      codes "𠮷k" ∷ codes "ｱk" ∷ codes "あk" ∷ codes "zk" ∷ [],
     )
     ∷ [])
 unfolding lib.Utf8.encode
-by_bytes = refl
+ari_in_order = refl
+
+nasi_in_order : Gives (in_order Nasi) (
+    (codes "かん" ∷ codes "かんじ" ∷ codes "か" ∷ [], codes "か" ∷ codes "かん" ∷ codes "かんじ" ∷ [])
+    ∷ (codes "かんじ" ∷ codes "かん" ∷ codes "か" ∷ [], codes "か" ∷ codes "かん" ∷ codes "かんじ" ∷ [])
+    ∷ (codes "い" ∷ codes "ああ" ∷ [], codes "ああ" ∷ codes "い" ∷ [])
+    ∷ (
+      codes "𠮷" ∷ codes "ｱ" ∷ codes "あ" ∷ codes "é" ∷ codes "z" ∷ codes "Z" ∷ [],
+      codes "Z" ∷ codes "z" ∷ codes "é" ∷ codes "あ" ∷ codes "ｱ" ∷ codes "𠮷" ∷ [],
+    )
+    ∷ [])
+unfolding lib.Utf8.encode
+nasi_in_order = refl
 
 -- all rows with okurigana stand before all without it, also where both have one reading
 parts_apart : Gives in_printing_order (

@@ -6,8 +6,8 @@ use Rattle.skk_calls.specs.Rows.{Row}
 use Rattle.dict_format.specs.declared.file_lines.LineKind.TheVariants.{Opening, Entry, Skipped}
 use Rattle.dict_format.specs.declared.reason.LineReason.TheVariants.{Twice, NoSlash}
 use Rattle.dict_format.specs.FileBuilding.{refused_with, listed_with}
-use Rattle.dict_format.specs.FileLines.{file_limit, without_mark, trimmed_line, kind_of, entries_of, has_key}
-use Rattle.dict_format.specs.FileLines.{none_listed}
+use Rattle.exact_readers.specs.Trimming.{without_mark, trimmed_line}
+use Rattle.dict_format.specs.FileLines.{file_limit, kind_of, entries_of, has_key, none_listed}
 
 limit_of_a_file : file_limit ≡ 64 * 1024 * 1024
 limit_of_a_file = refl

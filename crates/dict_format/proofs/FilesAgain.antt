@@ -1,64 +1,65 @@
 -- The file that is printed of good rows lists them again.
-use Rattle.std.proofs.Common.{◌≡◌, ◌≤◌, ℕ, ◌+◌, Bool, true, false, not, ◌==◌, ◌&&◌, ◌||◌, if◌then◌else◌, List, [], ◌∷◌}
-use Rattle.std.proofs.Common.{◌++◌, map, length, encode_utf8_all, refl, sym, ap, subst, ◌∙◌, append_assoc, inl, arith}
+use Rattle.std.proofs.Common.{◌≡◌, ◌≤◌, ℕ, ◌+◌, Bool, true, false, ◌==◌, ◌&&◌, ◌||◌, List, [], ◌∷◌, ◌++◌, map}
+use Rattle.std.proofs.Common.{length, encode_utf8_all, refl, sym, ap, subst, ◌∙◌, append_assoc, inl, inr, arith}
+use lib.Utf8.{encode}
 use Rattle.std.specs.List.{flat_map, list_all, AllByRecursion}
 use Rattle.std.specs.Str.{IsUtf8, chars}
 use Rattle.std.proofs.Math.Utf8.{scalar, scalars}
-use Rattle.std.proofs.lemmas.Bool.{and_parts, and_from, not-true}
+use Rattle.std.proofs.lemmas.Bool.{and_parts, and_from, both_ways, not-true}
 use Rattle.std.proofs.lemmas.Grind.{flat_map-append}
 use Rattle.std.proofs.lemmas.List.{append-nil, map-append}
 use Rattle.std.proofs.lemmas.List.Folds.{list_all-append, list_all-map}
 use Rattle.std.proofs.lemmas.Simd.{map-map}
 use Rattle.std.proofs.lemmas.Str.{chars-encodes, encodes-append, encodes_same}
-use Rattle.skk_text.specs.Lines.{with_first, lines_of}
+use Rattle.exact_readers.specs.LackLaws.{bytes_are, bytes_lack, above_ascii, AreOf, lines_back, lines_bytes}
+use Rattle.exact_readers.specs.Trimming.{trimmed_line}
+use Rattle.exact_readers.specs.TrimmingLaws.{trimmed-kept}
+use Rattle.exact_readers.specs.Lines.{with_line_end}
 use Rattle.skk_calls.specs.KeyLaws.{same_part_equal}
 use Rattle.skk_calls.specs.declared.part.Part.{Part}
 use Rattle.skk_calls.specs.declared.part.Part.TheVariants.{Nasi, Ari}
 use Rattle.skk_calls.specs.Canonical.{canonical, is_good}
-use Rattle.skk_calls.specs.Rows.{Row, is_row, same_key, keys_differ}
+use Rattle.skk_calls.specs.Rows.{Row, begins_well, is_row, same_key, keys_differ}
 use Rattle.dict_format.specs.declared.file.Listed.{Listed}
 use Rattle.dict_format.specs.declared.file_lines.LineKind.TheVariants.{Entry}
 use Rattle.dict_format.specs.FileLines.{FileEntry, Lists, TakeAll, entries_from, entries_of, entry_of, file_limit}
-use Rattle.dict_format.specs.FileLines.{has_key, kind_of, none_listed, part_behind, trimmed_line}
-use Rattle.dict_format.specs.Lines.{SpellsRow, lacks}
+use Rattle.dict_format.specs.FileLines.{has_key, kind_of, none_listed, part_behind}
+use Rattle.exact_readers.specs.Lacking.{lacks}
+use Rattle.dict_format.specs.Lines.{SpellsRow}
 use Rattle.dict_format.specs.PrintedFiles.{in_printing_order, is_of, part_in_order, part_line, printed_file}
-use Rattle.dict_format.specs.PrintedFiles.{printed_part, with_line_end, without_stamp}
+use Rattle.dict_format.specs.PrintedFiles.{printed_part, without_stamp}
 use Rattle.skk_calls.specs.OrderLaws.{holds_moved}
-use Rattle.dict_format.proofs.LineBytes.{bytes_lack, bytes_begin, bytes_line_end, bytes_part_line, bytes_slash}
-use Rattle.dict_format.proofs.LineBytes.{kind_entry, trimmed_slash}
-use Rattle.dict_format.proofs.LineEnds.{canonical_begins, canonical_ends, canonical_lacks}
-use Rattle.dict_format.proofs.LinesAgain.{canonical_spells, good_row}
+use Rattle.dict_format.proofs.LinesAgain.{canonical_begins, canonical_ends, canonical_lacks, canonical_spells, good_row}
 use Rattle.dict_format.proofs.PrintingOrder.{differ_in_key, order_keeps_keys, order_moves, part_holds}
 use Rattle.dict_format.proofs.RowsBack.{row_back}
 
--- Lines
+-- Bytes
 
-first_line : (line rest : List ℕ) → lacks 10 line ≡ true → lines_of (line ++ 10 ∷ rest) ≡ line ∷ lines_of rest
-first_line [] rest none = refl
-first_line (c ∷ line) rest none =
-    let parts = and_parts (not (c == 10)) (lacks 10 line) none in
-    let later = lines_of (line ++ 10 ∷ rest) in
-    ap (λ b. if b then [] ∷ later else with_first c later) (not-true (c == 10) parts.0)
-    ∙ ap (with_first c) (first_line line rest parts.1)
+-- the bytes of a text that begins well do so
+bytes_begin : (text : List ℕ) → begins_well text ≡ true → begins_well (encode_utf8_all text) ≡ true
+bytes_begin [] begins = begins
+bytes_begin (c ∷ text) begins = by (bytes_are c)
+  where
+    by : AreOf c (encode c) → begins_well (encode c ++ encode_utf8_all text) ≡ true
+    by (inl itself) = ap (λ bytes. begins_well (bytes ++ encode_utf8_all text)) itself ∙ begins
+    by (inr (first, rest, are, all)) =
+        ap (λ bytes. begins_well (bytes ++ encode_utf8_all text)) are ∙ above_ascii 0x3B (omega arith) first all.0
 
--- lines with their ends are cut into these lines
-lines_back : (lines : List (List ℕ)) → list_all (lacks 10) lines ≡ true
-    → lines_of (flat_map with_line_end lines) ≡ lines
-lines_back [] none = refl
-lines_back (line ∷ lines) none =
-    let parts = and_parts (lacks 10 line) (list_all (lacks 10) lines) none in
-    let rest = flat_map with_line_end lines in
-    ap lines_of (append_assoc line (10 ∷ []) rest) ∙ first_line line rest parts.0
-    ∙ ap (λ more. line ∷ more) (lines_back lines parts.1)
+-- an ASCII character behind a text
+bytes_slash : (text : List ℕ) → encode_utf8_all (text ++ 0x2F ∷ []) ≡ encode_utf8_all text ++ 0x2F ∷ []
+unfolding encode
+bytes_slash text = encodes-append text (0x2F ∷ [])
 
--- the bytes of lines with their ends
-lines_bytes : (texts : List (List ℕ))
-    → encode_utf8_all (flat_map with_line_end texts) ≡ flat_map with_line_end (map encode_utf8_all texts)
-lines_bytes [] = refl
-lines_bytes (text ∷ texts) =
-    encodes-append (with_line_end text) (flat_map with_line_end texts)
-    ∙ ap (λ bytes. bytes ++ encode_utf8_all (flat_map with_line_end texts)) (bytes_line_end text)
-    ∙ ap (λ bytes. with_line_end (encode_utf8_all text) ++ bytes) (lines_bytes texts)
+-- the line of a part is ASCII
+bytes_part_line : (part : Part) → encode_utf8_all (part_line part) ≡ part_line part
+unfolding encode
+bytes_part_line Nasi = refl
+bytes_part_line Ari = refl
+
+-- a line that begins well is an entry
+kind_entry : (line : List ℕ) → begins_well line ≡ true → kind_of line ≡ Entry
+kind_entry [] begins = absurd (both_ways false refl begins)
+kind_entry (c ∷ line) begins = let other : (c == 0x3B) ≡ false = not-true (c == 0x3B) begins in rw other refl
 
 -- What is read of a row's line
 
@@ -82,11 +83,11 @@ row_read row valid good text =
     let slash : written row ≡ encode_utf8_all ends.0 ++ 0x2F ∷ [] = ap encode_utf8_all ends.1 ∙ bytes_slash ends.0 in
     record {
       no_end = bytes_lack 10 (omega arith) (canonical row) (canonical_lacks row is);
-      whole = ap trimmed_line slash ∙ trimmed_slash (encode_utf8_all ends.0) ∙ sym slash;
+      whole = ap trimmed_line slash ∙ trimmed-kept (encode_utf8_all ends.0) 0x2F refl refl ∙ sym slash;
       entry = kind_entry (written row) (bytes_begin (canonical row) (canonical_begins row is));
       spells =
           subst (λ (line : List ℕ). SpellsRow row.key.part line (without_stamp row))
-          (sym (chars-encodes (canonical row) text)) (canonical_spells row valid good (row_back row valid is.hides));
+          (sym (chars-encodes (canonical row) text)) (canonical_spells row valid good (row_back row is.parts is.hides));
     }
 
 -- rows of a part

@@ -1,571 +1,472 @@
 -- Reading a line is the relation: it gives the row that the line spells, or else the first reason that fits it.
-use Rattle.std.proofs.Common.{◌≡◌, ◌≤◌, ℕ, Bool, true, false, not, nat_lt, if◌then◌else◌, ◌⊎◌, inl, inr, Option, None}
-use Rattle.std.proofs.Common.{Some, Result, Ok, Err, IfOk, IsErrOf, List, [], ◌∷◌, ◌++◌, refl, sym, ap, ◌∙◌, subst}
-use Rattle.std.proofs.Common.{arith}
+use Rattle.std.proofs.Common.{◌≡◌, ◌≤◌, ℕ, Bool, true, false, not, ◌||◌, nat_lt, if◌then◌else◌, ◌⊎◌, inl, inr, Option}
+use Rattle.std.proofs.Common.{None, Some, Result, Ok, Err, IfOk, IsErrOf, List, [], ◌∷◌, ◌++◌, refl, sym, ap, ◌∙◌}
+use Rattle.std.proofs.Common.{subst, arith}
 use Rattle.std.specs.List.{list_all, AllByRecursion}
-use Rattle.std.proofs.lemmas.Bool.{both_ways, ltb-true, ltb-false}
+use Rattle.std.proofs.lemmas.Bool.{both_ways, cases_Bool, ltb-true, ltb-false, le-ltb}
 use Rattle.std.proofs.lemmas.Option.{none-some, same_Some, some_pair_parts}
 use Rattle.skk_text.specs.Text.{byte_len}
 use Rattle.skk_text.specs.Results.{AnswersUnless}
 use Rattle.skk_calls.specs.declared.part.Part.{Part}
 use Rattle.skk_calls.specs.Canonical.{line_limit}
 use Rattle.skk_calls.specs.Rows.{Row, RowKey, is_row_key, reading_limit}
+use Rattle.exact_readers.specs.Cuts.{cut, without_spaces}
+use Rattle.exact_readers.specs.CutLaws.{cut-none, cut-nowhere}
+use Rattle.exact_readers.specs.Exact.{AreAll}
+use Rattle.exact_readers.specs.Formats.{all}
+use Rattle.exact_readers.specs.ManyLaws.{all-are, all-once}
 use Rattle.dict_format.specs.declared.reason.LineFault.{LineFault}
 use Rattle.dict_format.specs.declared.reason.LineFault.TheVariants.{Reason, Memory}
 use Rattle.dict_format.specs.declared.reason.LineReason.{LineReason}
-use Rattle.dict_format.specs.declared.reason.LineReason.TheVariants as reason
-use Rattle.dict_format.specs.Items.{Item, SpellsItems}
+use Rattle.dict_format.specs.declared.reason.LineReason.TheVariants.{LongLine, NoSpace, BadReading, LongReading}
+use Rattle.dict_format.specs.declared.reason.LineReason.TheVariants.{OkuriKey, NoSlash, Block, LongCandidate, Empty}
+use Rattle.dict_format.specs.declared.reason.LineReason.TheVariants.{Twice}
+use Rattle.dict_format.specs.Items.{Item, SpellsItems, item_format}
+use Rattle.exact_readers.specs.Lacking.{lacks}
 use Rattle.dict_format.specs.Lines.{HasBody, HasTexts, SpellsRow}
-use Rattle.dict_format.specs.Reading.{cut, is_space, without_spaces, texts_at, items_at, or_reason, and_then, key_at}
-use Rattle.dict_format.specs.Reading.{fit_items_at, some_row_of, row_reading, line_reading}
-use Rattle.dict_format.specs.Reasons.{is_bad_reading, lacks_letter, is_slashed, Fits, reasons, IsReason}
+use Rattle.dict_format.specs.Reading.{is_space, texts_at, or_reason, and_then, key_at, fit_items_at, some_row_of}
+use Rattle.dict_format.specs.Reading.{row_reading, line_reading, key_reading}
+use Rattle.dict_format.specs.Reasons.{is_bad_reading, lacks_letter, is_slashed, Fits, ReadingIs, reasons, IsReason}
 use Rattle.dict_format.specs.RowOfItems.{item_fits, row_of_items, says_something}
 use Rattle.dict_format.specs.Views.{Gives}
-use Rattle.dict_format.proofs.Cutting.{cut-none, cut-nowhere}
-use Rattle.dict_format.proofs.ItemReading.{items_at-sound, items_at-complete, items_at-none}
-use Rattle.dict_format.proofs.KeyReading.{is_key-from, key_bad, key_long}
+use Rattle.dict_format.proofs.Exactness.{item_exact, items-none}
+use Rattle.dict_format.proofs.KeyReading.{key_is}
 use Rattle.dict_format.proofs.LineTexts.{body-sound, body-cut, texts-sound, texts-complete, slashed-texts, slashed-none}
 
--- One reading and body
+-- One of each
 
 -- a line has one reading and body at most
-pub body_once : (line reading body other_reading other_body : List ℕ) → HasBody line reading body
-    → HasBody line other_reading other_body → (reading ≡ other_reading) × (body ≡ other_body)
-body_once line reading body other_reading other_body has other =
+pub body_once : {line reading body r b : List ℕ} → HasBody line reading body → HasBody line r b
+    → (reading ≡ r) × (body ≡ b)
+body_once {line = line} {reading = reading} {body = body} {r = r} {b = b} has other =
     let (rest, at, is) = body-cut line reading body has in
-    let (more, again, also) = body-cut line other_reading other_body other in
-    let same = some_pair_parts reading other_reading rest more (sym at ∙ again) in
+    let (more, again, also) = body-cut line r b other in
+    let same = some_pair_parts reading r rest more (sym at ∙ again) in
     (same.0, sym is ∙ ap without_spaces same.1 ∙ also)
 
--- a body has one list of texts at most
-pub texts_once : (body : List ℕ) (texts others : List (List ℕ)) → HasTexts body texts → HasTexts body others
-    → texts ≡ others
-texts_once body texts others has other =
-    same_Some texts others (sym (texts-complete body texts has) ∙ texts-complete body others other)
+-- the parts of a line up to its items, and that they are the only ones
+record HasItems (part : Part) (line reading body : List ℕ) (texts : List (List ℕ)) (items : List Item) : Type 0 where
+  has_body : HasBody line reading body
+  has_texts : HasTexts body texts
+  has_items : SpellsItems part texts items
 
--- and texts one list of items
-pub items_once : (part : Part) (texts : List (List ℕ)) (items others : List Item) → SpellsItems part texts items
-    → SpellsItems part texts others → items ≡ others
-items_once part texts items others has other =
-    same_Some items others (sym (items_at-complete part texts items has) ∙ items_at-complete part texts others other)
+module _ (part : Part) (line : List ℕ) where
+  texts_once : {reading body r b : List ℕ} {texts ts : List (List ℕ)} → HasBody line reading body
+      → HasTexts body texts → HasBody line r b → HasTexts b ts → texts ≡ ts
+  texts_once {body = body} {b = b} {texts = texts} {ts = ts} has between other more =
+      same_Some texts ts (sym (texts-complete body texts between) ∙ ap texts_at (body_once has other).1
+      ∙ texts-complete b ts more)
 
--- a line spells one row at most
-pub row_once : (part : Part) (line : List ℕ) (row other : Row) → SpellsRow part line row
-    → SpellsRow part line other → row ≡ other
-row_once part line row other is also =
-    let one = body_once line is.reading is.body also.reading also.body is.has_body also.has_body in
-    let texts : is.texts ≡ also.texts =
-    texts_once also.body is.texts also.texts (subst (λ b. HasTexts b is.texts) one.1 is.has_texts) also.has_texts in
-    let items : is.items ≡ also.items = items_once part also.texts is.items also.items
-    (subst (λ ts. SpellsItems part ts is.items) texts is.has_items) also.has_items in
-    is.row_is
-    ∙ ap (λ r. row_of_items (record { part = part; reading = r }) is.items) one.0
-    ∙ ap (row_of_items (record { part = part; reading = also.reading })) items
-    ∙ sym also.row_is
+  items_once : {reading body r b : List ℕ} {texts ts : List (List ℕ)} {items others : List Item}
+      → HasItems part line reading body texts items → HasItems part line r b ts others
+      → (reading ≡ r) × (items ≡ others)
+  items_once {ts = ts} {items = items} {others = others} is also = (
+    (body_once is.has_body also.has_body).0,
+    all-once (item_format part) (item_exact part) items others ts
+        (subst (λ us. SpellsItems part us items)
+        (texts_once is.has_body is.has_texts also.has_body also.has_texts) is.has_items)
+        also.has_items,
+  )
 
--- One reason
+  parts_of : (row : Row) → (is : SpellsRow part line row) → HasItems part line is.reading is.body is.texts is.items
+  parts_of row is = record { has_body = is.has_body; has_texts = is.has_texts; has_items = is.has_items }
 
--- no reason fits of those in a list
-abbrev NoneFits : Part → List ℕ → List LineReason → Type 0
-NoneFits part line others = AllByRecursion (λ other. Fits part line other → ⊥) others
+  same_row : {reading body r b : List ℕ} {texts ts : List (List ℕ)} {items others : List Item}
+      → HasItems part line reading body texts items → HasItems part line r b ts others
+      → row_of_items (record { part = part; reading = reading }) items
+      ≡ row_of_items (record { part = part; reading = r }) others
+  same_row {r = r} {items = items} is also =
+      let same = items_once is also in
+      ap (λ t. row_of_items (record { part = part; reading = t }) items) same.0
+      ∙ ap (row_of_items (record { part = part; reading = r })) same.1
 
-first_once : (part : Part) (line : List ℕ) (earlier : List LineReason) (first : LineReason)
-    (later others : List LineReason) (other : LineReason) (more : List LineReason)
-    → earlier ++ first ∷ later ≡ others ++ other ∷ more → Fits part line first → Fits part line other
-    → NoneFits part line earlier → NoneFits part line others → first ≡ other
-first_once part line [] first later [] other more e here there none also = cc
-first_once part line [] first later (o ∷ others) other more e here there none also =
-    let same : first ≡ o = cc in
-    absurd (also.0 (subst (Fits part line) same here))
-first_once part line (x ∷ earlier) first later [] other more e here there none also =
-    let same : other ≡ x = cc in
-    absurd (none.0 (subst (Fits part line) same there))
-first_once part line (x ∷ earlier) first later (o ∷ others) other more e here there none also =
-    let rest : earlier ++ first ∷ later ≡ others ++ other ∷ more = cc in
-    first_once part line earlier first later others other more rest here there none.1 also.1
+  -- a line spells one row at most
+  pub row_once : (row other : Row) → SpellsRow part line row → SpellsRow part line other → row ≡ other
+  row_once row other is also =
+      is.row_is ∙ same_row (parts_of row is) (parts_of other also) ∙ sym also.row_is
 
--- a line has one first reason at most
-pub reason_once : (part : Part) (line : List ℕ) (first other : LineReason) → IsReason part line first
-    → IsReason part line other → first ≡ other
-reason_once part line first other is also =
-    first_once part line is.earlier first is.later also.earlier other also.later (sym is.order ∙ also.order) is.fits
-    also.fits is.none_before also.none_before
+  -- its key is valid
+  key_none : (row : Row) → SpellsRow part line row → (r b : List ℕ) → HasBody line r b
+      → is_row_key (record { part = part; reading = r }) ≡ false → ⊥
+  key_none row is r b has invalid =
+      both_ways (is_row_key (record { part = part; reading = r })) invalid
+      (ap (λ t. is_row_key (record { part = part; reading = t })) (sym (body_once is.has_body has).0) ∙ is.valid)
+
+  -- and no reason fits one that spells a row
+  pub fits-none : (row : Row) → SpellsRow part line row → (reason : LineReason) → Fits part line reason → ⊥
+  fits-none row is LongLine long = absurd (omega (arith, is.not_long, long))
+  fits-none row is NoSpace none =
+      let (rest, at, _) = body-cut line is.reading is.body is.has_body in
+      none-some _ (sym (cut-nowhere is_space line none) ∙ at)
+  fits-none row is BadReading (r, b, has, bad) =
+      key_none row is r b has (key_is part r has.before true _ _ bad refl refl)
+  fits-none row is LongReading (r, b, has, long) =
+      key_none row is r b has (by (is_bad_reading r) (key_is part r has.before _ true _ refl long refl))
+    where
+      by : (c : Bool) → is_row_key (record { part = part; reading = r }) ≡ not (c || true)
+          → is_row_key (record { part = part; reading = r }) ≡ false
+      by true e = e
+      by false e = e
+  fits-none row is OkuriKey (r, b, has, lacking) =
+      key_none row is r b has (by (is_bad_reading r) (nat_lt (reading_limit part) (byte_len r))
+      (key_is part r has.before _ _ true refl refl lacking))
+    where
+      by : (c d : Bool) → is_row_key (record { part = part; reading = r }) ≡ not (c || (d || true))
+          → is_row_key (record { part = part; reading = r }) ≡ false
+      by true d e = e
+      by false true e = e
+      by false false e = e
+  fits-none row is NoSlash (r, b, has, not_so) =
+      both_ways (is_slashed b) not_so
+      (ap is_slashed (sym (body_once is.has_body has).1) ∙ slashed-texts is.body is.texts is.has_texts)
+  fits-none row is Block (r, b, ts, ari, has, between, none) =
+      none is.items (subst (λ us. SpellsItems part us is.items)
+      (texts_once is.has_body is.has_texts has between) is.has_items)
+  fits-none row is LongCandidate (r, b, ts, items, has, between, spelled, unfit) =
+      let these : HasItems part line r b ts items =
+      record { has_body = has; has_texts = between; has_items = spelled } in
+      let same = (items_once (parts_of row is) these).1 in
+      both_ways (list_all item_fits items) unfit (ap (list_all item_fits) (sym same) ∙ is.fit)
+  fits-none row is Empty (r, b, ts, items, has, between, spelled, silent) =
+      let these : HasItems part line r b ts items =
+      record { has_body = has; has_texts = between; has_items = spelled } in
+      both_ways (says_something row)
+      (ap says_something (is.row_is ∙ same_row (parts_of row is) these) ∙ silent) is.something
+  fits-none row is Twice never = never
+
+-- the key of a valid reading is read
+key_at-valid : (part : Part) (reading : List ℕ) → lacks 0x20 reading ≡ true
+    → is_row_key (record { part = part; reading = reading }) ≡ true
+    → key_at part reading ≡ Ok (record { part = part; reading = reading })
+unfolding key_at
+key_at-valid part reading none valid =
+    by (is_bad_reading reading) (nat_lt (reading_limit part) (byte_len reading)) (lacks_letter part reading)
+    (sym (key_is part reading none _ _ _ refl refl refl) ∙ valid)
+  where
+    by : (bad long lacking : Bool) → not (bad || (long || lacking)) ≡ true
+        → ◌≡◌ {A = Result RowKey LineReason} (if bad then Err BadReading
+        else if long then Err LongReading
+        else if lacking then Err OkuriKey
+        else Ok (record { part = part; reading = reading }))
+        (Ok (record { part = part; reading = reading }))
+    by true long lacking e = absurd (both_ways false refl e)
+    by false true lacking e = absurd (both_ways false refl e)
+    by false false true e = absurd (both_ways false refl e)
+    by false false false e = refl
 
 -- What reading tells
 
--- what is told of a line: the row that it spells, and that no reason fits; or its first reason,
--- and that it spells no row
-abbrev Told : Part → List ℕ → Result Row LineReason → Type 0
-Told part line (Ok row) = SpellsRow part line row × NoneFits part line reasons
-Told part line (Err first) = IsReason part line first × ((row : Row) → SpellsRow part line row → ⊥)
+-- no reason fits of those in a list
+abbrev pub NoneFits : Part → List ℕ → List LineReason → Type 0
+NoneFits part line others = AllByRecursion (λ other. Fits part line other → ⊥) others
 
--- a line that is not too long
-module _ (part : Part) (line : List ℕ) (short : byte_len line ≤ line_limit) where
-  not_long : Fits part line reason.LongLine → ⊥
-  not_long long = absurd (omega (arith, short, long))
+-- the first of the reasons in a list that fits
+pub record IsFirst (part : Part) (line : List ℕ) (tried : List LineReason) (first : LineReason) : Type 0 where
+  pub earlier : List LineReason
+  pub later : List LineReason
+  pub order : tried ≡ earlier ++ first ∷ later
+  pub fits : Fits part line first
+  pub none_before : NoneFits part line earlier
 
-  -- a line without a space
-  no_space : cut is_space line ≡ None → Told part line (Err reason.NoSpace)
-  no_space none = (
-    record {
-      earlier = reason.LongLine ∷ [];
-      later =
-          reason.BadReading ∷ reason.LongReading ∷ reason.OkuriKey ∷ reason.NoSlash ∷ reason.Block
-          ∷ reason.LongCandidate ∷ reason.Empty ∷ [];
-      order = refl;
-      fits = cut-none is_space line none;
-      none_before = (not_long, tt);
-    },
-    λ row is. let (rest, at, _) = body-cut line is.reading is.body is.has_body in none-some _ (sym none ∙ at),
-  )
+-- what is told of a line by some reasons: the row that it spells, where none of them fits, or the first that does
+pub record Told (part : Part) (line : List ℕ) (tried : List LineReason) (read : Result Row LineReason) : Type 0 where
+  pub spells : (row : Row) → read ≡ Ok row → SpellsRow part line row × NoneFits part line tried
+  pub first : (reason : LineReason) → read ≡ Err reason → IsFirst part line tried reason
 
-  -- a line with a body
-  module _ (reading rest : List ℕ) (at : cut is_space line ≡ Some (reading, rest)) where
-    body : List ℕ
-    body = without_spaces rest
+module _ (part : Part) (line : List ℕ) where
+  -- a reason that fits is the first
+  here : (reason : LineReason) (tried : List LineReason) → Fits part line reason
+      → Told part line (reason ∷ tried) (Err reason)
+  here reason tried fits = record {
+    spells = λ row e. cc;
+    first = λ other e.
+        let same : reason ≡ other = cc in
+        subst (IsFirst part line (reason ∷ tried)) same
+        (record { earlier = []; later = tried; order = refl; fits = fits; none_before = tt });
+  }
 
-    has : HasBody line reading (without_spaces rest)
-    has = body-sound line reading rest at
-
-    spaced : Fits part line reason.NoSpace → ⊥
-    spaced none = none-some (reading, rest) (sym (cut-nowhere is_space line none) ∙ at)
-
-    -- whatever is told of a reading of the line is told of this
-    of_reading : (test : List ℕ → Bool) → test reading ≡ false
-        → ((r : List ℕ) × (b : List ℕ) × HasBody line r b × (test r ≡ true)) → ⊥
-    of_reading test not_so (r, b, other, so) =
-        both_ways (test reading) not_so (ap test (body_once line reading (without_spaces rest) r b has other).0 ∙ so)
-
-    of_key : is_row_key (record { part = part; reading = reading }) ≡ false → (row : Row) → SpellsRow part line row → ⊥
-    of_key invalid row is =
-        let same = (body_once line is.reading is.body reading (without_spaces rest) is.has_body has).0 in
-        both_ways (is_row_key (record { part = part; reading = reading })) invalid
-        (ap (λ r. is_row_key (record { part = part; reading = r })) (sym same) ∙ is.valid)
-
-    -- what is told of the reading alone
-    when_bad : is_bad_reading reading ≡ true → Told part line (Err reason.BadReading)
-    when_bad bad = (
-      record {
-        earlier = reason.LongLine ∷ reason.NoSpace ∷ [];
-        later =
-            reason.LongReading ∷ reason.OkuriKey ∷ reason.NoSlash ∷ reason.Block ∷ reason.LongCandidate
-            ∷ reason.Empty ∷ [];
-        order = refl;
-        fits = (reading, without_spaces rest, has, bad);
-        none_before = (not_long, (spaced, tt));
-      },
-      of_key (key_bad part reading bad),
-    )
-
-    module _ (good : is_bad_reading reading ≡ false) where
-      when_long : nat_lt (reading_limit part) (byte_len reading) ≡ true → Told part line (Err reason.LongReading)
-      when_long long = (
+  -- where it doesn't, those behind it tell
+  later : (reason : LineReason) (tried : List LineReason) (read : Result Row LineReason)
+      → (Fits part line reason → ⊥) → Told part line tried read → Told part line (reason ∷ tried) read
+  later reason tried read not_so tells = record {
+    spells = λ row e. let is = tells.spells row e in (is.0, (not_so, is.1));
+    first = λ other e.
+        let is = tells.first other e in
         record {
-          earlier = reason.LongLine ∷ reason.NoSpace ∷ reason.BadReading ∷ [];
-          later = reason.OkuriKey ∷ reason.NoSlash ∷ reason.Block ∷ reason.LongCandidate ∷ reason.Empty ∷ [];
-          order = refl;
-          fits = (reading, without_spaces rest, has, long);
-          none_before = (not_long, (spaced, (of_reading is_bad_reading good, tt)));
-        },
-        of_key (key_long part reading long),
-      )
+          earlier = reason ∷ is.earlier;
+          later = is.later;
+          order = ap (λ rs. reason ∷ rs) is.order;
+          fits = is.fits;
+          none_before = (not_so, is.none_before);
+        };
+  }
 
-      module _ (fits : nat_lt (reading_limit part) (byte_len reading) ≡ false) where
-        -- the key is valid where it has its letter
-        key_is : is_row_key (record { part = part; reading = reading }) ≡ not (lacks_letter part reading)
-        key_is = is_key-from part reading has.before good fits
+  -- so by a test that the reason makes
+  by_test : {X : Type 0} (reason : LineReason) (tried : List LineReason) (b : Bool) (more : Result X LineReason)
+      (f : X → Result Row LineReason) → (b ≡ true → Fits part line reason)
+      → (b ≡ false → Fits part line reason → ⊥) → (b ≡ false → Told part line tried (and_then more f))
+      → Told part line (reason ∷ tried) (and_then (if b then Err reason else more) f)
+  by_test reason tried true more f fits other rest = here reason tried (fits refl)
+  by_test reason tried false more f fits other rest = later reason tried (and_then more f) (other refl) (rest refl)
 
-        when_letter : lacks_letter part reading ≡ true → Told part line (Err reason.OkuriKey)
-        when_letter lacking = (
-          record {
-            earlier = reason.LongLine ∷ reason.NoSpace ∷ reason.BadReading ∷ reason.LongReading ∷ [];
-            later = reason.NoSlash ∷ reason.Block ∷ reason.LongCandidate ∷ reason.Empty ∷ [];
-            order = refl;
-            fits = (reading, without_spaces rest, has, lacking);
-            none_before = (
-              not_long,
-              (
-                spaced,
-                (of_reading is_bad_reading good, (of_reading (λ r. nat_lt (reading_limit part) (byte_len r)) fits, tt)),
-              ),
-            );
-          },
-          of_key (key_is ∙ ap not lacking),
-        )
+  by_pass : {X : Type 0} (reason : LineReason) (tried : List LineReason) (b : Bool) (more : Result X LineReason)
+      (f : X → Result Row LineReason) → (b ≡ false → Fits part line reason)
+      → (b ≡ true → Fits part line reason → ⊥) → (b ≡ true → Told part line tried (and_then more f))
+      → Told part line (reason ∷ tried) (and_then (if b then more else Err reason) f)
+  by_pass reason tried true more f fits other rest = later reason tried (and_then more f) (other refl) (rest refl)
+  by_pass reason tried false more f fits other rest = here reason tried (fits refl)
 
-        module _ (letter : lacks_letter part reading ≡ false) where
-          key : RowKey
-          key = record { part = part; reading = reading }
+  -- or by a value that is there where it doesn't fit
+  by_value : {X : Type 0} (reason : LineReason) (tried : List LineReason) (o : Option X)
+      (f : X → Result Row LineReason) → (o ≡ None → Fits part line reason)
+      → ((x : X) → o ≡ Some x → Fits part line reason → ⊥) → ((x : X) → o ≡ Some x → Told part line tried (f x))
+      → Told part line (reason ∷ tried) (and_then (or_reason reason o) f)
+  by_value reason tried None f fits other rest = here reason tried (fits refl)
+  by_value reason tried (Some x) f fits other rest = later reason tried (f x) (other x refl) (rest x refl)
 
-          valid : is_row_key (record { part = part; reading = reading }) ≡ true
-          valid = key_is ∙ ap not letter
+  module _ (short : byte_len line ≤ line_limit) (reading body : List ℕ) (has : HasBody line reading body) where
+    not_reading : (test : List ℕ → Bool) → test reading ≡ false → ReadingIs test line → ⊥
+    not_reading test not_so (r, b, other, so) =
+        both_ways (test reading) not_so (ap test (body_once has other).0 ∙ so)
 
-          -- the reasons of the reading and of what stands before it
-          read_well : List LineReason → Type 0
-          read_well others =
-              NoneFits part line
-              (reason.LongLine ∷ reason.NoSpace ∷ reason.BadReading ∷ reason.LongReading ∷ reason.OkuriKey ∷ others)
-
-          with_these : (others : List LineReason) → NoneFits part line others
-              → NoneFits part line
-              (reason.LongLine ∷ reason.NoSpace ∷ reason.BadReading ∷ reason.LongReading ∷ reason.OkuriKey ∷ others)
-          with_these others none = (
-            not_long,
-            (
-              spaced,
-              (
-                of_reading is_bad_reading good,
-                (
-                  of_reading (λ r. nat_lt (reading_limit part) (byte_len r)) fits,
-                  (of_reading (lacks_letter part) letter, none),
-                ),
-              ),
-            ),
-          )
-
-          same_body : (r b : List ℕ) → HasBody line r b → without_spaces rest ≡ b
-          same_body r b other = (body_once line reading (without_spaces rest) r b has other).1
-
-          when_no_slash : texts_at (without_spaces rest) ≡ None → Told part line (Err reason.NoSlash)
-          when_no_slash none = (
-            record {
-              earlier =
-                  reason.LongLine ∷ reason.NoSpace ∷ reason.BadReading ∷ reason.LongReading ∷ reason.OkuriKey ∷ [];
-              later = reason.Block ∷ reason.LongCandidate ∷ reason.Empty ∷ [];
-              order = refl;
-              fits = (reading, without_spaces rest, has, slashed-none (without_spaces rest) none);
-              none_before = with_these [] tt;
-            },
-            λ row is.
-                none-some is.texts (sym none ∙ ap texts_at (same_body is.reading is.body is.has_body)
-                ∙ texts-complete is.body is.texts is.has_texts),
-          )
-
-          module _ (texts : List (List ℕ)) (between : texts_at (without_spaces rest) ≡ Some texts) where
-            has_texts : HasTexts (without_spaces rest) texts
-            has_texts = texts-sound (without_spaces rest) texts between
-
-            same_texts : (r b : List ℕ) (ts : List (List ℕ)) → HasBody line r b → HasTexts b ts → texts ≡ ts
-            same_texts r b ts other more =
-                same_Some texts ts (sym between ∙ ap texts_at (same_body r b other) ∙ texts-complete b ts more)
-
-            slashed : Fits part line reason.NoSlash → ⊥
-            slashed (r, b, other, not_so) =
-                both_ways (is_slashed (without_spaces rest)) (ap is_slashed (same_body r b other) ∙ not_so)
-                (slashed-texts (without_spaces rest) texts has_texts)
-
-            when_block : items_at part texts ≡ None → Told part line (Err reason.Block)
-            when_block none = (
-              record {
-                earlier =
-                    reason.LongLine ∷ reason.NoSpace ∷ reason.BadReading ∷ reason.LongReading ∷ reason.OkuriKey
-                    ∷ reason.NoSlash ∷ [];
-                later = reason.LongCandidate ∷ reason.Empty ∷ [];
-                order = refl;
-                fits = (
-                  reading,
-                  without_spaces rest,
-                  texts,
-                  items_at-none part texts none,
-                  has,
-                  has_texts,
-                  λ items is. none-some items (sym none ∙ items_at-complete part texts items is),
-                );
-                none_before = with_these (reason.NoSlash ∷ []) (slashed, tt);
-              },
-              λ row is.
-                  none-some is.items
-                  (sym none ∙ ap (items_at part) (same_texts is.reading is.body is.texts is.has_body is.has_texts)
-                  ∙ items_at-complete part is.texts is.items is.has_items),
-            )
-
-            module _ (items : List Item) (spelled : items_at part texts ≡ Some items) where
-              has_items : SpellsItems part texts items
-              has_items = items_at-sound part texts items spelled
-
-              same_items : (r b : List ℕ) (ts : List (List ℕ)) (others : List Item) → HasBody line r b → HasTexts b ts
-                  → SpellsItems part ts others → items ≡ others
-              same_items r b ts others other more is =
-                  same_Some items others (sym spelled ∙ ap (items_at part) (same_texts r b ts other more)
-                  ∙ items_at-complete part ts others is)
-
-              closed : Fits part line reason.Block → ⊥
-              closed (r, b, ts, ari, other, more, none) =
-                  none items (subst (λ us. SpellsItems part us items) (same_texts r b ts other more) has_items)
-
-              when_unfit : list_all item_fits items ≡ false → Told part line (Err reason.LongCandidate)
-              when_unfit unfit = (
-                record {
-                  earlier =
-                      reason.LongLine ∷ reason.NoSpace ∷ reason.BadReading ∷ reason.LongReading ∷ reason.OkuriKey
-                      ∷ reason.NoSlash ∷ reason.Block ∷ [];
-                  later = reason.Empty ∷ [];
-                  order = refl;
-                  fits = (reading, without_spaces rest, texts, items, has, has_texts, has_items, unfit);
-                  none_before = with_these (reason.NoSlash ∷ reason.Block ∷ []) (slashed, (closed, tt));
-                },
-                λ row is.
-                    both_ways (list_all item_fits items) unfit
-                    (ap (list_all item_fits)
-                    (same_items is.reading is.body is.texts is.items is.has_body is.has_texts is.has_items) ∙ is.fit),
-              )
-
-              module _ (fit : list_all item_fits items ≡ true) where
-                all_fit : Fits part line reason.LongCandidate → ⊥
-                all_fit (r, b, ts, others, other, more, is, unfit) =
-                    both_ways (list_all item_fits items)
-                    (ap (list_all item_fits) (same_items r b ts others other more is) ∙ unfit) fit
-
-                row : Row
-                row = row_of_items (record { part = part; reading = reading }) items
-
-                same_row : (r b : List ℕ) (ts : List (List ℕ)) (others : List Item) → HasBody line r b → HasTexts b ts
-                    → SpellsItems part ts others
-                    → row_of_items (record { part = part; reading = reading }) items
-                    ≡ row_of_items (record { part = part; reading = r }) others
-                same_row r b ts others other more is =
-                    ap (λ t. row_of_items (record { part = part; reading = t }) items)
-                    (body_once line reading (without_spaces rest) r b has other).0
-                    ∙ ap (row_of_items (record { part = part; reading = r })) (same_items r b ts others other more is)
-
-                when_empty : says_something (row_of_items (record { part = part; reading = reading }) items) ≡ false
-                    → Told part line (Err reason.Empty)
-                when_empty silent = (
-                  record {
-                    earlier =
-                        reason.LongLine ∷ reason.NoSpace ∷ reason.BadReading ∷ reason.LongReading ∷ reason.OkuriKey
-                        ∷ reason.NoSlash ∷ reason.Block ∷ reason.LongCandidate ∷ [];
-                    later = [];
-                    order = refl;
-                    fits = (reading, without_spaces rest, texts, items, has, has_texts, has_items, silent);
-                    none_before = with_these (reason.NoSlash ∷ reason.Block ∷ reason.LongCandidate ∷ []) (
-                      slashed,
-                      (closed, (all_fit, tt)),
-                    );
-                  },
-                  λ other is.
-                      both_ways (says_something other)
-                      (ap says_something (is.row_is
-                      ∙ sym (same_row is.reading is.body is.texts is.items is.has_body is.has_texts is.has_items))
-                      ∙ silent) is.something,
-                )
-
-                when_row : says_something (row_of_items (record { part = part; reading = reading }) items) ≡ true
-                    → Told part line (Ok (row_of_items (record { part = part; reading = reading }) items))
-                when_row something = (
+    -- by the row
+    told_row : (texts : List (List ℕ)) (items : List Item) → HasItems part line reading body texts items
+        → is_row_key (record { part = part; reading = reading }) ≡ true → list_all item_fits items ≡ true
+        → Told part line (Empty ∷ []) (some_row_of (record { part = part; reading = reading }) items)
+    unfolding some_row_of
+    told_row texts items is valid fit =
+        elim (cases_Bool (says_something (row_of_items (record { part = part; reading = reading }) items))) [
+          | inl something ↦ rw something
+              (later Empty [] (Ok (row_of_items (record { part = part; reading = reading }) items))
+              (λ (r, b, ts, others, other, between, spelled, silent).
+              let these : HasItems part line r b ts others =
+              record { has_body = other; has_texts = between; has_items = spelled } in
+              both_ways (says_something (row_of_items (record { part = part; reading = reading }) items))
+              (ap says_something (same_row part line is these) ∙ silent) something)
+              (record {
+                spells = λ row e. (
                   record {
                     reading = reading;
-                    body = without_spaces rest;
+                    body = body;
                     texts = texts;
                     items = items;
                     not_long = short;
                     has_body = has;
                     valid = valid;
-                    has_texts = has_texts;
-                    has_items = has_items;
+                    has_texts = is.has_texts;
+                    has_items = is.has_items;
                     fit = fit;
-                    row_is = refl;
-                    something = something;
+                    row_is = cc;
+                    something = let same : row_of_items (record { part = part; reading = reading }) items ≡ row = cc in
+                        ap says_something (sym same) ∙ something;
                   },
-                  with_these (reason.NoSlash ∷ reason.Block ∷ reason.LongCandidate ∷ reason.Empty ∷ [])
-                      (slashed, (closed, (all_fit, (speaks, tt)))),
-                )
-                  where
-                    speaks : Fits part line reason.Empty → ⊥
-                    speaks (r, b, ts, others, other, more, is, silent) =
-                        both_ways (says_something (row_of_items (record { part = part; reading = reading }) items))
-                        (ap says_something (same_row r b ts others other more is) ∙ silent) something
+                  tt,
+                );
+                first = λ reason e. cc;
+              }))
+          | inr silent ↦ rw silent
+              (here Empty [] (reading, body, texts, items, has, is.has_texts, is.has_items, silent))
+        ]
 
-                -- so by whether the row says something
-                told_row : Told part line (some_row_of (record { part = part; reading = reading }) items)
-                unfolding some_row_of
-                told_row = by (says_something (row_of_items (record { part = part; reading = reading }) items)) refl
-                  where
-                    by : (b : Bool)
-                        → says_something (row_of_items (record { part = part; reading = reading }) items) ≡ b
-                        → Told part line (some_row_of (record { part = part; reading = reading }) items)
-                    by true e = rw e (when_row e)
-                    by false e = rw e (when_empty e)
-
-            -- by the items
-            told_items : Told part line (and_then (fit_items_at part texts)
-                (λ items. some_row_of (record { part = part; reading = reading }) items))
-            unfolding fit_items_at
-            told_items = by (items_at part texts) refl
-              where
-                fit_or_not : (items : List Item) → items_at part texts ≡ Some items → (b : Bool)
-                    → list_all item_fits items ≡ b
-                    → Told part line (and_then (if b then Ok items else Err reason.LongCandidate)
-                    (λ others. some_row_of (record { part = part; reading = reading }) others))
-                fit_or_not items e true fit = told_row items e fit
-                fit_or_not items e false unfit = when_unfit items e unfit
-
-                by : (o : Option (List Item)) → items_at part texts ≡ o
-                    → Told part line (and_then (and_then (or_reason reason.Block o)
-                    (λ items. if list_all item_fits items then Ok items else Err reason.LongCandidate))
-                    (λ items. some_row_of (record { part = part; reading = reading }) items))
-                by None e = when_block e
-                by (Some items) e = fit_or_not items e (list_all item_fits items) refl
-
-          -- by the texts
-          told_texts : Told part line (and_then (or_reason reason.NoSlash (texts_at (without_spaces rest)))
-              (λ texts. and_then (fit_items_at part texts)
-              (λ items. some_row_of (record { part = part; reading = reading }) items)))
-          told_texts = by (texts_at (without_spaces rest)) refl
-            where
-              by : (o : Option (List (List ℕ))) → texts_at (without_spaces rest) ≡ o
-                  → Told part line (and_then (or_reason reason.NoSlash o) (λ texts. and_then (fit_items_at part texts)
-                  (λ items. some_row_of (record { part = part; reading = reading }) items)))
-              by None e = when_no_slash e
-              by (Some texts) e = told_items texts e
-
-    -- by the reading
-    told_reading : Told part line (row_reading part (reading, rest))
-    unfolding row_reading key_at
-    told_reading = by_bad (is_bad_reading reading) refl
+    -- by the items
+    told_items : (texts : List (List ℕ)) → HasTexts body texts
+        → is_row_key (record { part = part; reading = reading }) ≡ true
+        → Told part line (Block ∷ LongCandidate ∷ Empty ∷ []) (and_then (fit_items_at part texts)
+        (some_row_of (record { part = part; reading = reading })))
+    unfolding fit_items_at
+    told_items texts between valid =
+        subst (Told part line (Block ∷ LongCandidate ∷ Empty ∷ [])) (joined (all (item_format part) texts))
+        (by_value Block (LongCandidate ∷ Empty ∷ []) (all (item_format part) texts)
+        (λ items. and_then (if list_all item_fits items then Ok items else Err LongCandidate)
+        (some_row_of (record { part = part; reading = reading })))
+        (λ none. (reading, body, texts, items-none part texts none, has, between, are none))
+        (λ items e (r, b, ts, ari, other, more, none).
+        none items (subst (λ us. SpellsItems part us items)
+        (texts_once part line has between other more) (are e)))
+        (λ items e.
+        let is : HasItems part line reading body texts items =
+        record { has_body = has; has_texts = between; has_items = are e } in
+        by_pass LongCandidate (Empty ∷ []) (list_all item_fits items) (Ok items)
+        (some_row_of (record { part = part; reading = reading }))
+        (λ unfit. (reading, body, texts, items, has, between, is.has_items, unfit))
+        (λ fit (r, b, ts, others, other, more, spelled, unfit).
+        let these : HasItems part line r b ts others =
+        record { has_body = other; has_texts = more; has_items = spelled } in
+        both_ways (list_all item_fits items)
+        (ap (list_all item_fits) (items_once part line is these).1 ∙ unfit) fit)
+        (told_row texts items is valid)))
       where
-        go_on : RowKey → Result Row LineReason
-        go_on k =
-            and_then (or_reason reason.NoSlash (texts_at (without_spaces rest)))
-            (λ texts. and_then (fit_items_at part texts) (λ items. some_row_of k items))
+        are : {o : Option (List Item)} → all (item_format part) texts ≡ o → AreAll (item_format part) texts o
+        are e = subst (AreAll (item_format part) texts) e (all-are (item_format part) (item_exact part) texts)
 
-        by_letter : is_bad_reading reading ≡ false → nat_lt (reading_limit part) (byte_len reading) ≡ false → (b : Bool)
-            → lacks_letter part reading ≡ b
-            → Told part line
-            (and_then (if b then Err reason.OkuriKey else Ok (record { part = part; reading = reading }))
-            (λ k. and_then (or_reason reason.NoSlash (texts_at (without_spaces rest)))
-            (λ texts. and_then (fit_items_at part texts) (λ items. some_row_of k items))))
-        by_letter good fits true e = when_letter good fits e
-        by_letter good fits false e = told_texts good fits e
+        joined : (o : Option (List Item))
+            → and_then (or_reason Block o)
+            (λ items. and_then (if list_all item_fits items then Ok items else Err LongCandidate)
+            (some_row_of (record { part = part; reading = reading })))
+            ≡ and_then (and_then (or_reason Block o)
+            (λ items. if list_all item_fits items then Ok items else Err LongCandidate))
+            (some_row_of (record { part = part; reading = reading }))
+        joined None = refl
+        joined (Some items) = refl
 
-        by_long : is_bad_reading reading ≡ false → (b : Bool) → nat_lt (reading_limit part) (byte_len reading) ≡ b
-            → Told part line (and_then (if b then Err reason.LongReading
-            else if lacks_letter part reading then Err reason.OkuriKey
-            else Ok (record { part = part; reading = reading }))
-            (λ k. and_then (or_reason reason.NoSlash (texts_at (without_spaces rest)))
-            (λ texts. and_then (fit_items_at part texts) (λ items. some_row_of k items))))
-        by_long good true e = when_long good e
-        by_long good false e = by_letter good e (lacks_letter part reading) refl
-
-        by_bad : (b : Bool) → is_bad_reading reading ≡ b
-            → Told part line (and_then (if b then Err reason.BadReading
-            else if nat_lt (reading_limit part) (byte_len reading) then Err reason.LongReading
-            else if lacks_letter part reading then Err reason.OkuriKey
-            else Ok (record { part = part; reading = reading }))
-            (λ k. and_then (or_reason reason.NoSlash (texts_at (without_spaces rest)))
-            (λ texts. and_then (fit_items_at part texts) (λ items. some_row_of k items))))
-        by_bad true e = when_bad e
-        by_bad false e = by_long e (nat_lt (reading_limit part) (byte_len reading)) refl
-
-  -- by the space
-  told_line : Told part line (and_then (or_reason reason.NoSpace (cut is_space line)) (row_reading part))
-  told_line = by (cut is_space line) refl
-    where
-      by : (o : Option (List ℕ × List ℕ)) → cut is_space line ≡ o
-          → Told part line (and_then (or_reason reason.NoSpace o) (row_reading part))
-      by None e = no_space e
-      by (Some (reading, rest)) e = told_reading reading rest e
+    -- by the reading and the texts
+    told_key : Told part line (BadReading ∷ LongReading ∷ OkuriKey ∷ NoSlash ∷ Block ∷ LongCandidate ∷ Empty ∷ [])
+        (and_then (key_at part reading) (λ k. and_then (or_reason NoSlash (texts_at body))
+        (λ texts. and_then (fit_items_at part texts) (some_row_of k))))
+    unfolding key_at
+    told_key =
+        by_test BadReading _ (is_bad_reading reading) _ _ (λ bad. (reading, body, has, bad))
+        (not_reading is_bad_reading) (λ good.
+        by_test LongReading _ (nat_lt (reading_limit part) (byte_len reading)) _ _ (λ long. (reading, body, has, long))
+        (not_reading (λ r. nat_lt (reading_limit part) (byte_len r))) (λ fits.
+        by_test OkuriKey _ (lacks_letter part reading) _ _ (λ lacking. (reading, body, has, lacking))
+        (not_reading (lacks_letter part)) (λ letter.
+        by_value NoSlash _ (texts_at body) _ (λ none. (reading, body, has, slashed-none body none))
+        (λ texts e (r, b, other, not_so).
+        both_ways (is_slashed body) (ap is_slashed (body_once has other).1 ∙ not_so)
+        (slashed-texts body texts (texts-sound body texts e)))
+        (λ texts e. told_items texts (texts-sound body texts e)
+        (key_is part reading has.before false false false good fits letter)))))
 
 -- what reading gives is told of the line
-pub told : (part : Part) (line : List ℕ) → Told part line (line_reading part line)
-unfolding line_reading
-told part line = by (nat_lt line_limit (byte_len line)) refl
-  where
-    by : (b : Bool) → nat_lt line_limit (byte_len line) ≡ b → Told part line
-        (if b then Err reason.LongLine else and_then (or_reason reason.NoSpace (cut is_space line)) (row_reading part))
-    by true e =
-        let long = ltb-true line_limit (byte_len line) e in (
-          record {
-            earlier = [];
-            later =
-                reason.NoSpace ∷ reason.BadReading ∷ reason.LongReading ∷ reason.OkuriKey ∷ reason.NoSlash
-                ∷ reason.Block ∷ reason.LongCandidate ∷ reason.Empty ∷ [];
-            order = refl;
-            fits = long;
-            none_before = tt;
-          },
-          λ row is. let short = is.not_long in absurd (omega (arith, long, short)),
-        )
-    by false e = told_line part line (ltb-false line_limit (byte_len line) e)
+pub told : (part : Part) (line : List ℕ) → Told part line reasons (line_reading part line)
+unfolding line_reading row_reading
+told part line =
+    elim (cases_Bool (nat_lt line_limit (byte_len line))) [
+      | inl long ↦ rw long (here part line LongLine _ (ltb-true line_limit (byte_len line) long))
+      | inr fits ↦
+          let short : byte_len line ≤ line_limit = ltb-false line_limit (byte_len line) fits in
+          rw fits (later part line LongLine _ _ (λ long. absurd (omega (arith, short, long)))
+          (by_value part line NoSpace _ (cut is_space line) _ (cut-none is_space line)
+          (λ parts e none. none-some parts (sym (cut-nowhere is_space line none) ∙ e))
+          (λ parts e. told_key part line short parts.0 (without_spaces parts.1) (body-sound line parts.0 parts.1 e))))
+    ]
 
 -- What is told is all
 
--- so reading gives each row that is spelled, and each first reason
-pub line_reading-row : (part : Part) (line : List ℕ) (row : Row) → SpellsRow part line row
-    → line_reading part line ≡ Ok row
-line_reading-row part line row is = by (line_reading part line) (told part line)
-  where
-    by : (read : Result Row LineReason) → Told part line read → read ≡ Ok row
-    by (Ok other) tells = ap Ok (row_once part line other row tells.0 is)
-    by (Err first) tells = absurd (tells.1 row is)
-
--- none of the reasons fits
-never : (part : Part) (line : List ℕ) (earlier : List LineReason) (first : LineReason) (later all : List LineReason)
-    → all ≡ earlier ++ first ∷ later → NoneFits part line all → Fits part line first → ⊥
-never part line [] first later [] e none here = cc
-never part line [] first later (x ∷ all) e none here =
-    let same : first ≡ x = cc in none.0 (subst (Fits part line) same here)
-never part line (y ∷ earlier) first later [] e none here = cc
-never part line (y ∷ earlier) first later (x ∷ all) e none here =
-    let rest : all ≡ earlier ++ first ∷ later = cc in never part line earlier first later all rest none.1 here
-
-pub line_reading-reason : (part : Part) (line : List ℕ) (first : LineReason) → IsReason part line first
-    → line_reading part line ≡ Err first
-line_reading-reason part line first is = by (line_reading part line) (told part line)
-  where
-    by : (read : Result Row LineReason) → Told part line read → read ≡ Err first
-    by (Ok other) tells = absurd (never part line is.earlier first is.later reasons is.order tells.1 is.fits)
-    by (Err other) tells = ap Err (reason_once part line other first tells.0 is)
-
--- a line spells a row or has a first reason
-pub row_or_reason : (part : Part) (line : List ℕ)
-    → ((row : Row) × SpellsRow part line row) ⊎ ((first : LineReason) × IsReason part line first)
-row_or_reason part line = by (line_reading part line) (told part line)
-  where
-    by : (read : Result Row LineReason) → Told part line read
-        → ((row : Row) × SpellsRow part line row) ⊎ ((first : LineReason) × IsReason part line first)
-    by (Ok row) tells = inl (row, tells.0)
-    by (Err first) tells = inr (first, tells.0)
-
--- and never both
-pub not_both : (part : Part) (line : List ℕ) (row : Row) (first : LineReason) → SpellsRow part line row
-    → IsReason part line first → ⊥
-not_both part line row first is why =
-    let e : ◌≡◌ {A = Result Row LineReason} (Ok row) (Err first) =
-    sym (line_reading-row part line row is) ∙ line_reading-reason part line first why in cc
-
--- Answers
-
--- what is answered of a line
 module _ (part : Part) (line : List ℕ) where
+  -- the first of the reasons that fits is one alone
+  first_once : (earlier : List LineReason) (first : LineReason) (later others : List LineReason) (other : LineReason)
+      (more : List LineReason) → earlier ++ first ∷ later ≡ others ++ other ∷ more → Fits part line first
+      → Fits part line other → NoneFits part line earlier → NoneFits part line others → first ≡ other
+  first_once [] first later [] other more e fits also none nor = cc
+  first_once [] first later (o ∷ others) other more e fits also none nor =
+      let same : first ≡ o = cc in absurd (nor.0 (subst (Fits part line) same fits))
+  first_once (x ∷ earlier) first later [] other more e fits also none nor =
+      let same : other ≡ x = cc in absurd (none.0 (subst (Fits part line) same also))
+  first_once (x ∷ earlier) first later (o ∷ others) other more e fits also none nor =
+      let rest : earlier ++ first ∷ later ≡ others ++ other ∷ more = cc in
+      first_once earlier first later others other more rest fits also none.1 nor.1
+
+  pub reason_once : (first other : LineReason) → IsReason part line first → IsReason part line other → first ≡ other
+  reason_once first other is also =
+      first_once is.earlier first is.later also.earlier other also.later (sym is.order ∙ also.order) is.fits
+      also.fits is.none_before also.none_before
+
+  reason_told : (first : LineReason) → IsFirst part line reasons first → IsReason part line first
+  reason_told first is = record {
+    earlier = is.earlier;
+    later = is.later;
+    order = is.order;
+    fits = is.fits;
+    none_before = is.none_before;
+  }
+
+  -- none of the reasons fits where the line spells a row
+  pub not_both : (row : Row) (first : LineReason) → SpellsRow part line row → IsReason part line first → ⊥
+  not_both row first is why = fits-none part line row is first why.fits
+
+  -- so reading gives each row that is spelled, and each first reason
+  pub line_reading-row : (row : Row) → SpellsRow part line row → line_reading part line ≡ Ok row
+  line_reading-row row is = by (line_reading part line) (told part line)
+    where
+      by : (read : Result Row LineReason) → Told part line reasons read → read ≡ Ok row
+      by (Ok other) tells = ap Ok (row_once part line other row (tells.spells other refl).0 is)
+      by (Err first) tells = absurd (fits-none part line row is first (tells.first first refl).fits)
+
+  pub line_reading-reason : (first : LineReason) → IsReason part line first → line_reading part line ≡ Err first
+  line_reading-reason first is = by (line_reading part line) (told part line)
+    where
+      by : (read : Result Row LineReason) → Told part line reasons read → read ≡ Err first
+      by (Ok other) tells = absurd (not_both other first (tells.spells other refl).0 is)
+      by (Err other) tells = ap Err (reason_once other first (reason_told other (tells.first other refl)) is)
+
+  -- a line spells a row or has a first reason
+  pub row_or_reason : ((row : Row) × SpellsRow part line row) ⊎ ((first : LineReason) × IsReason part line first)
+  row_or_reason = by (line_reading part line) (told part line)
+    where
+      by : (read : Result Row LineReason) → Told part line reasons read
+          → ((row : Row) × SpellsRow part line row) ⊎ ((first : LineReason) × IsReason part line first)
+      by (Ok row) tells = inl (row, (tells.spells row refl).0)
+      by (Err first) tells = inr (first, reason_told first (tells.first first refl))
+
+  -- Answers
+
   pub answers_ok : (answer : Result Row LineFault) → Gives (λ row. row) answer (line_reading part line)
       → IfOk answer (SpellsRow part line)
-  answers_ok (Ok other) e = (subst (Told part line) e (told part line)).0
+  answers_ok (Ok other) e = ((told part line).spells other e).0
   answers_ok (Err fault) e = tt
 
   pub answers_only : (answer : Result Row LineFault) → Gives (λ row. row) answer (line_reading part line) → (row : Row)
       → SpellsRow part line row → AnswersUnless Memory answer (Ok row)
   answers_only (Ok other) e row is =
-      let same : ◌≡◌ {A = Result Row LineReason} (Ok other) (Ok row) = sym e ∙ line_reading-row part line row is in
+      let same : ◌≡◌ {A = Result Row LineReason} (Ok other) (Ok row) = sym e ∙ line_reading-row row is in
       let one : other ≡ row = cc in inr (ap Ok one)
   answers_only (Err Memory) e row is = inl refl
   answers_only (Err (Reason first)) e row is =
-      let same : ◌≡◌ {A = Result Row LineReason} (Err first) (Ok row) = sym e ∙ line_reading-row part line row is in cc
+      let same : ◌≡◌ {A = Result Row LineReason} (Err first) (Ok row) = sym e ∙ line_reading-row row is in cc
 
   pub answers_reason : (answer : Result Row LineFault) → Gives (λ row. row) answer (line_reading part line)
       → (first : LineReason) → IsErrOf answer (Reason first) → IsReason part line first
   answers_reason answer e first is =
-      (subst (Told part line) (subst (λ (a : Result Row LineFault). Gives (λ row. row) a (line_reading part line)) is e)
-      (told part line)).0
+      reason_told first ((told part line).first first
+      (subst (λ (a : Result Row LineFault). Gives (λ row. row) a (line_reading part line)) is e))
 
   pub answers_only_reason : (answer : Result Row LineFault) → Gives (λ row. row) answer (line_reading part line)
       → (first : LineReason) → IsReason part line first → AnswersUnless Memory answer (Err (Reason first))
   answers_only_reason (Ok other) e first is =
-      let same : ◌≡◌ {A = Result Row LineReason} (Ok other) (Err first) =
-      sym e ∙ line_reading-reason part line first is in cc
+      let same : ◌≡◌ {A = Result Row LineReason} (Ok other) (Err first) = sym e ∙ line_reading-reason first is in cc
   answers_only_reason (Err Memory) e first is = inl refl
-  answers_only_reason (Err (Reason told_first)) e first is =
-      let same : ◌≡◌ {A = Result Row LineReason} (Err told_first) (Err first) =
-      sym e ∙ line_reading-reason part line first is in
-      let one : told_first ≡ first = cc in
-      inr (ap (λ r. Err (Reason r)) one)
+  answers_only_reason (Err (Reason given)) e first is =
+      let same : ◌≡◌ {A = Result Row LineReason} (Err given) (Err first) = sym e ∙ line_reading-reason first is in
+      let one : given ≡ first = cc in inr (ap (λ r. Err (Reason r)) one)
+
+  -- The key alone
+
+  -- it is that of the row that the line spells
+  key_reading-row : (row : Row) → SpellsRow part line row → key_reading part line ≡ Ok row.key
+  unfolding key_reading
+  key_reading-row row is =
+      let (rest, at, _) = body-cut line is.reading is.body is.has_body in
+      let short : nat_lt line_limit (byte_len line) ≡ false = le-ltb line_limit (byte_len line) is.not_long in
+      rw (short, at) (key_at-valid part is.reading is.has_body.before is.valid
+      ∙ ap (λ r. Ok r.key) (sym is.row_is))
+
+  -- and each reason of it is that of the line
+  key_reading-reason : (first : LineReason) → key_reading part line ≡ Err first → line_reading part line ≡ Err first
+  unfolding key_reading line_reading row_reading
+  key_reading-reason first e = by (nat_lt line_limit (byte_len line)) (cut is_space line) e
+    where
+      by : (b : Bool) (o : Option (List ℕ × List ℕ))
+          → (if b then Err LongLine else and_then (or_reason NoSpace o) (λ parts. key_at part parts.0)) ≡ Err first
+          → (if b then Err LongLine else and_then (or_reason NoSpace o) (row_reading part)) ≡ Err first
+      by true o f = cc
+      by false None f = cc
+      by false (Some parts) f =
+          ap (λ k. and_then k (λ key. and_then (or_reason NoSlash (texts_at (without_spaces parts.1)))
+          (λ texts. and_then (fit_items_at part texts) (some_row_of key)))) f
+
+  pub key_answers : (answer : Result RowKey LineFault) → Gives (λ key. key) answer (key_reading part line)
+      → (row : Row) → SpellsRow part line row → AnswersUnless Memory answer (Ok row.key)
+  key_answers (Ok key) e row is =
+      let same : ◌≡◌ {A = Result RowKey LineReason} (Ok key) (Ok row.key) = sym e ∙ key_reading-row row is in
+      let one : key ≡ row.key = cc in inr (ap Ok one)
+  key_answers (Err Memory) e row is = inl refl
+  key_answers (Err (Reason first)) e row is =
+      let same : ◌≡◌ {A = Result RowKey LineReason} (Err first) (Ok row.key) = sym e ∙ key_reading-row row is in cc
+
+  pub key_answers_reason : (answer : Result RowKey LineFault) → Gives (λ key. key) answer (key_reading part line)
+      → (first : LineReason) → IsErrOf answer (Reason first) → IsReason part line first
+  key_answers_reason answer e first is =
+      reason_told first ((told part line).first first (key_reading-reason first
+      (subst (λ (a : Result RowKey LineFault). Gives (λ key. key) a (key_reading part line)) is e)))

@@ -1,28 +1,12 @@
 -- What is printed piece by piece.
-use Rattle.std.proofs.Common.{◌≡◌, ℕ, ◌+◌, true, false, Some, List, [], ◌∷◌, ◌++◌, codes, map, take, length, refl, sym}
-use Rattle.std.proofs.Common.{ap, ◌∙◌, append_assoc, arith}
-use Rattle.std.specs.List.{flat_map, slice_get}
+use Rattle.std.proofs.Common.{◌≡◌, ℕ, true, false, List, [], ◌∷◌, ◌++◌, codes, map, length, refl, ap, ◌∙◌, append_assoc}
+use Rattle.std.proofs.Common.{arith}
+use Rattle.std.specs.List.{flat_map}
 use Rattle.std.proofs.lemmas.Grind.{flat_map-append}
-use Rattle.std.proofs.lemmas.List.{append-nil, take_more}
-use Rattle.std.proofs.lemmas.Option.{slice_get_within, get_or_from_slice_get}
+use Rattle.std.proofs.lemmas.List.{append-nil}
 use Rattle.skk_text.specs.Lists.{is_empty}
 use Rattle.skk_calls.specs.Canonical.{with_slash, quoted, mark_items, written_note, items, item, written_block}
 use Rattle.skk_calls.specs.Rows.{Row}
-
--- one more piece
-pub piece_more : {X : Type 0} (f : X → List ℕ) (xs : List X) (place : ℕ) (x : X) (old line new : List ℕ)
-    → slice_get xs place ≡ Some x
-    → line ≡ old ++ flat_map f (take place xs) → new ≡ line ++ f x → new ≡ old ++ flat_map f (take (place + 1) xs)
-piece_more f xs place x old line new at so_far more =
-    let next : flat_map f (take (place + 1) xs) ≡ flat_map f (take place xs) ++ f x =
-    rw (
-      take_more xs place x (slice_get_within xs place x at),
-      get_or_from_slice_get xs place x x at,
-      flat_map-append f (take place xs) (x ∷ []),
-    )
-    (ap (λ ys. flat_map f (take place xs) ++ ys) (append-nil (f x))) in
-    more ∙ ap (λ ys. ys ++ f x) so_far ∙ append_assoc old (flat_map f (take place xs)) (f x)
-    ∙ ap (λ ys. old ++ ys) (sym next)
 
 -- a text and a slash
 pub slash_behind : (line text middle new : List ℕ) → middle ≡ line ++ text → new ≡ middle ++ 0x2F ∷ []

@@ -1,16 +1,15 @@
 -- The row that items make is a row.
 use Rattle.std.proofs.Common.{◌≡◌, ℕ, ◌+◌, Bool, true, false, not, ◌&&◌, ◌||◌, nat_le, if◌then◌else◌, List, [], ◌∷◌}
-use Rattle.std.proofs.Common.{◌++◌, map, length, refl, sym, ap, ◌∙◌, arith, append_assoc}
+use Rattle.std.proofs.Common.{map, length, refl, sym, ap, ◌∙◌, arith}
 use Rattle.std.specs.List.{list_all, list_any, filter, flat_map}
 use Rattle.std.proofs.lemmas.Bool.{and_parts, and_from, or_left, or_right, both_ways, le-leb}
-use Rattle.std.proofs.lemmas.Grind.{flat_map-append}
-use Rattle.std.proofs.lemmas.List.Elements.{filter-append}
-use Rattle.std.proofs.lemmas.List.Folds.{list_all-append, list_any-append}
+use Rattle.std.proofs.lemmas.List.Folds.{list_all-append, list_all-map, list_any-append}
 use Rattle.skk_text.specs.FilterLaws.{list_all_kept}
 use Rattle.skk_text.specs.Lists.{is_empty}
-use Rattle.skk_text.specs.PairsLaws.{all_pairs-filter, list_all-filter}
+use Rattle.skk_text.specs.PairsLaws.{all_pairs-filter, list_all-filter, list_all-weaker}
 use Rattle.skk_text.specs.Text.{byte_len}
 use Rattle.skk_calls.specs.KeyLaws.{same_itself}
+use Rattle.skk_calls.specs.RowLaws.{row_from_parts}
 use Rattle.skk_calls.specs.Rows.{RowKey, Cand, Block, same_text, texts_differ, is_row_key, is_word, is_cand, is_note}
 use Rattle.skk_calls.specs.Rows.{is_okuri, is_block, is_row, fits_blocks, word_limit}
 use Rattle.skk_calls.specs.Found.{first_of_each}
@@ -31,80 +30,66 @@ pub some-longer : (text : List ℕ) → not (is_empty text) ≡ true → nat_le 
 some-longer [] e = absurd (both_ways false refl e)
 some-longer (c ∷ text) e = le-leb 1 (length (c ∷ text)) (omega arith)
 
+-- of items that pass a test those are kept that pass another with it
+kept_all : {X : Type 0} (test keeps passes : X → Bool)
+    → ((x : X) → test x ≡ true → keeps x ≡ true → passes x ≡ true) → (xs : List X) → list_all test xs ≡ true
+    → list_all passes (filter keeps xs) ≡ true
+kept_all test keeps passes both [] all = refl
+kept_all test keeps passes both (x ∷ xs) all =
+    let parts = and_parts (test x) (list_all test xs) all in
+    by (keeps x) refl parts.0 (kept_all test keeps passes both xs parts.1)
+  where
+    by : (b : Bool) → keeps x ≡ b → test x ≡ true → list_all passes (filter keeps xs) ≡ true
+        → list_all passes (filter keeps (x ∷ xs)) ≡ true
+    by true e here rest = rw e (and_from (passes x) (list_all passes (filter keeps xs)) (both x here e) rest)
+    by false e here rest = rw e rest
+
 -- Candidates
 
--- the candidates that are not skipped are candidates
-cands_valid : (items : List Item) → list_all item_fits items ≡ true → list_all has_note items ≡ true
-    → list_all is_cand (filter (λ cand. not (is_empty cand.word)) (flat_map cand_in items)) ≡ true
-cands_valid [] fit noted = refl
-cands_valid (candidate word note ∷ items) fit noted =
+-- a note that may stand in an item, and is short enough with its word
+abbrev has_rest : Cand → Bool
+has_rest c = is_note c.note && nat_le (byte_len c.word + byte_len c.note) word_limit
+
+cands_rest : (items : List Item) → list_all item_fits items ≡ true → list_all has_note items ≡ true
+    → list_all has_rest (flat_map cand_in items) ≡ true
+cands_rest [] fit noted = refl
+cands_rest (candidate word note ∷ items) fit noted =
     let fits_all = and_parts (item_fits (candidate word note)) (list_all item_fits items) fit in
     let notes_all = and_parts (is_note note) (list_all has_note items) noted in
-    by (not (is_empty word)) refl fits_all.0 notes_all.0 (cands_valid items fits_all.1 notes_all.1)
-  where
-    by : (b : Bool) → not (is_empty word) ≡ b → nat_le (byte_len word + byte_len note) word_limit ≡ true
-        → is_note note ≡ true
-        → list_all is_cand (filter (λ cand. not (is_empty cand.word)) (flat_map cand_in items)) ≡ true
-        → list_all is_cand
-        (filter (λ cand. not (is_empty cand.word)) (record { word = word; note = note } ∷ flat_map cand_in items))
-        ≡ true
-    by true e short good rest =
-        rw e (and_from (is_cand (record { word = word; note = note })) _
-        (and_from (nat_le 1 (length word)) _ (some-longer word e) (and_from (is_note note) _ good short)) rest)
-    by false e short good rest = rw e rest
-cands_valid (block okuri words ∷ items) fit noted =
-    cands_valid items (and_parts (list_all fits words) (list_all item_fits items) fit).1 noted
-cands_valid (mark words ∷ items) fit noted =
-    cands_valid items (and_parts (list_all fits words) (list_all item_fits items) fit).1 noted
+    and_from (has_rest (record { word = word; note = note })) _ (and_from (is_note note) _ notes_all.0 fits_all.0)
+    (cands_rest items fits_all.1 notes_all.1)
+cands_rest (block okuri words ∷ items) fit noted =
+    cands_rest items (and_parts (list_all fits words) (list_all item_fits items) fit).1 noted
+cands_rest (mark words ∷ items) fit noted =
+    cands_rest items (and_parts (list_all fits words) (list_all item_fits items) fit).1 noted
 
 -- Words
 
--- words that fit are words where they are not skipped
-not_empty_words : (words : List (List ℕ)) → list_all fits words ≡ true
-    → list_all is_word (filter (λ word. not (is_empty word)) words) ≡ true
-not_empty_words [] fit = refl
-not_empty_words (word ∷ words) fit =
-    let parts = and_parts (fits word) (list_all fits words) fit in
-    by (not (is_empty word)) refl parts.0 (not_empty_words words parts.1)
-  where
-    by : (b : Bool) → not (is_empty word) ≡ b → fits word ≡ true
-        → list_all is_word (filter (λ word. not (is_empty word)) words) ≡ true
-        → list_all is_word (filter (λ word. not (is_empty word)) (word ∷ words)) ≡ true
-    by true e short rest =
-        rw e (and_from (is_word word) _ (and_from (nat_le 1 (length word)) (fits word) (some-longer word e) short) rest)
-    by false e short rest = rw e rest
+-- some word is not empty
+abbrev some_word : List (List ℕ) → Bool
+some_word words = list_any (λ word. not (is_empty word)) words
 
 words_valid : (words : List (List ℕ)) → list_all fits words ≡ true → list_all is_word (words_once words) ≡ true
 words_valid words fit =
-    first_of_each-all (λ word. word) is_word (filter (λ word. not (is_empty word)) words) (not_empty_words words fit)
+    first_of_each-all (λ word. word) is_word (filter (λ word. not (is_empty word)) words)
+    (kept_all fits (λ word. not (is_empty word)) is_word
+    (λ word short some. and_from (nat_le 1 (length word)) (fits word) (some-longer word some) short) words fit)
 
 words_differ : (words : List (List ℕ)) → texts_differ (words_once words) ≡ true
 words_differ words =
     ap texts_differ (sym (texts_stay (words_once words)))
     ∙ first_of_each-differ (λ word. word) (filter (λ word. not (is_empty word)) words)
 
--- where some word is not empty there is a word
-words_some : (words : List (List ℕ)) → list_any (λ word. not (is_empty word)) words ≡ true
-    → nat_le 1 (length (words_once words)) ≡ true
-words_some words e = first (filter (λ word. not (is_empty word)) words) (kept words e)
+words_some : (words : List (List ℕ)) → some_word words ≡ true → nat_le 1 (length (words_once words)) ≡ true
+words_some [] e = absurd (both_ways false refl e)
+words_some (w ∷ words) e = by (not (is_empty w)) refl (λ h. words_some words h) e
   where
-    kept : (ws : List (List ℕ)) → list_any (λ word. not (is_empty word)) ws ≡ true
-        → not (is_empty (filter (λ word. not (is_empty word)) ws)) ≡ true
-    kept [] e = absurd (both_ways false refl e)
-    kept (w ∷ ws) e = by (not (is_empty w)) refl (λ h. kept ws h) e
-      where
-        by : (b : Bool) → not (is_empty w) ≡ b
-            → (list_any (λ word. not (is_empty word)) ws ≡ true
-            → not (is_empty (filter (λ word. not (is_empty word)) ws)) ≡ true)
-            → (not (is_empty w) || list_any (λ word. not (is_empty word)) ws) ≡ true
-            → not (is_empty (filter (λ word. not (is_empty word)) (w ∷ ws))) ≡ true
-        by true f later h = rw f refl
-        by false f later h = rw f (later (rw f at h))
-
-    first : (ws : List (List ℕ)) → not (is_empty ws) ≡ true
-        → nat_le 1 (length (first_of_each (λ word. word) [] ws)) ≡ true
-    first [] e = absurd (both_ways false refl e)
-    first (w ∷ ws) e = le-leb 1 (length (first_of_each (λ word. word) [] (w ∷ ws))) (omega arith)
+    by : (b : Bool) → not (is_empty w) ≡ b → (some_word words ≡ true → nat_le 1 (length (words_once words)) ≡ true)
+        → (not (is_empty w) || some_word words) ≡ true → nat_le 1 (length (words_once (w ∷ words))) ≡ true
+    by true f later h =
+        rw f (le-leb 1 (length (first_of_each (λ word. word) [] (w ∷ filter (λ word. not (is_empty word)) words)))
+        (omega arith))
+    by false f later h = rw f (later (rw f at h))
 
 -- Blocks
 
@@ -137,66 +122,62 @@ words_with_fit okuri blocks fit =
         list_all-append fits b.words (flat_map (λ c. c.words) bs)
         ∙ and_from (list_all fits b.words) _ parts.0 (joined bs parts.1)
 
+-- the words with an okurigana and those of a block, by whether it is that of the block
+abbrev with_block : Block → List Block → List ℕ → Bool → List (List ℕ)
+with_block b blocks okuri same =
+    flat_map (λ (c : Block). c.words) (if same
+    then b ∷ filter (λ (c : Block). same_text c.okuri okuri) blocks
+    else filter (λ (c : Block). same_text c.okuri okuri) blocks)
+
 -- each block that has a word gives its okurigana one
-each_has : (before after : List Block) → list_all has_word after ≡ true
-    → list_all (λ b. list_any (λ word. not (is_empty word)) (words_with b.okuri (before ++ after))) after ≡ true
-each_has before [] all = refl
-each_has before (b ∷ after) all =
-    let parts = and_parts (has_word b) (list_all has_word after) all in
-    and_from (list_any (λ word. not (is_empty word)) (words_with b.okuri (before ++ b ∷ after))) _ (here parts.0)
-    (ap (λ bs. list_all (λ c. list_any (λ word. not (is_empty word)) (words_with c.okuri bs)) after)
-    (sym (append_assoc before (b ∷ []) after)) ∙ each_has (before ++ b ∷ []) after parts.1)
+each_has : (blocks : List Block) → list_all has_word blocks ≡ true
+    → list_all (λ b. some_word (words_with b.okuri blocks)) blocks ≡ true
+each_has [] all = refl
+each_has (b ∷ blocks) all =
+    let parts = and_parts (has_word b) (list_all has_word blocks) all in
+    and_from (some_word (words_with b.okuri (b ∷ blocks))) _ (own parts.0)
+    (list_all-weaker (λ c. some_word (words_with c.okuri blocks)) (λ c. some_word (words_with c.okuri (b ∷ blocks)))
+    (λ c here. more c.okuri (same_text b.okuri c.okuri) here) blocks (each_has blocks parts.1))
   where
-    here : has_word b ≡ true → list_any (λ word. not (is_empty word)) (words_with b.okuri (before ++ b ∷ after)) ≡ true
-    here some_word =
-        let test : Block → Bool = λ c. same_text c.okuri b.okuri in
-        let rest = flat_map (λ (c : Block). c.words) (filter test after) in
-        ap (λ bs. list_any (λ word. not (is_empty word)) (flat_map (λ c. c.words) bs))
-        (filter-append test before (b ∷ after))
-        ∙ ap (list_any (λ word. not (is_empty word)))
-        (flat_map-append (λ (c : Block). c.words) (filter test before) (filter test (b ∷ after)))
-        ∙ list_any-append (λ word. not (is_empty word)) (flat_map (λ c. c.words) (filter test before))
-        (flat_map (λ c. c.words) (filter test (b ∷ after)))
-        ∙ ap (λ x. list_any (λ word. not (is_empty word)) (flat_map (λ c. c.words) (filter test before))
-        || list_any (λ word. not (is_empty word))
-        (flat_map (λ c. c.words) (if x then b ∷ filter test after else filter test after))) (same_itself b.okuri)
-        ∙ or_right (list_any (λ word. not (is_empty word)) (flat_map (λ c. c.words) (filter test before))) _
-        (list_any-append (λ word. not (is_empty word)) b.words rest
-        ∙ or_left (list_any (λ word. not (is_empty word)) b.words)
-        (list_any (λ word. not (is_empty word)) rest) some_word)
+    own : has_word b ≡ true → some_word (words_with b.okuri (b ∷ blocks)) ≡ true
+    own has =
+        ap (λ same. some_word (with_block b blocks b.okuri same)) (same_itself b.okuri)
+        ∙ list_any-append (λ word. not (is_empty word)) b.words (words_with b.okuri blocks)
+        ∙ or_left (some_word b.words) (some_word (words_with b.okuri blocks)) has
+
+    more : (okuri : List ℕ) (same : Bool) → some_word (words_with okuri blocks) ≡ true
+        → some_word (with_block b blocks okuri same) ≡ true
+    more okuri true here =
+        list_any-append (λ word. not (is_empty word)) b.words (words_with okuri blocks)
+        ∙ or_right (some_word b.words) (some_word (words_with okuri blocks)) here
+    more okuri false here = here
+
+-- a block as it is joined with the others of its okurigana
+abbrev pub joined : List Block → Block → Block
+joined blocks first = record { okuri = first.okuri; words = words_once (words_with first.okuri blocks) }
+
+-- what a block keeps besides its okurigana
+abbrev has_words : Block → Bool
+has_words b = nat_le 1 (length b.words) && (list_all is_word b.words && texts_differ b.words)
 
 -- so the joined blocks of valid okurigana are blocks
 joined_valid : (blocks firsts : List Block) → list_all block_fits blocks ≡ true
-    → list_all (λ b. list_any (λ word. not (is_empty word)) (words_with b.okuri blocks)) firsts ≡ true
+    → list_all (λ b. some_word (words_with b.okuri blocks)) firsts ≡ true
     → list_all is_block (filter (λ b. is_okuri b.okuri)
     (map (λ first. record { okuri = first.okuri; words = words_once (words_with first.okuri blocks) }) firsts)) ≡ true
-joined_valid blocks [] fit have = refl
-joined_valid blocks (first ∷ firsts) fit have =
-    let parts = and_parts (list_any (λ word. not (is_empty word)) (words_with first.okuri blocks))
-    (list_all (λ b. list_any (λ word. not (is_empty word)) (words_with b.okuri blocks)) firsts) have in
-    by (is_okuri first.okuri) refl parts.0 (joined_valid blocks firsts fit parts.1)
+joined_valid blocks firsts fit have =
+    kept_all has_words (λ b. is_okuri b.okuri) is_block (λ b words okuri. and_from (is_okuri b.okuri) _ okuri words)
+    (map (joined blocks) firsts)
+    (list_all-map has_words (joined blocks) firsts
+    ∙ list_all-weaker (λ b. some_word (words_with b.okuri blocks)) (λ b. has_words (joined blocks b)) words_are
+    firsts have)
   where
-    words : List (List ℕ)
-    words = words_with first.okuri blocks
-
-    made : List Block
-    made = map (λ f. record { okuri = f.okuri; words = words_once (words_with f.okuri blocks) }) firsts
-
-    by : (b : Bool) → is_okuri first.okuri ≡ b
-        → list_any (λ word. not (is_empty word)) (words_with first.okuri blocks) ≡ true
-        → list_all is_block (filter (λ b. is_okuri b.okuri)
-        (map (λ f. record { okuri = f.okuri; words = words_once (words_with f.okuri blocks) }) firsts)) ≡ true
-        → list_all is_block (filter (λ b. is_okuri b.okuri)
-        (map (λ f. record { okuri = f.okuri; words = words_once (words_with f.okuri blocks) }) (first ∷ firsts))) ≡ true
-    by true e some_word rest =
-        let ws = words_with first.okuri blocks in
-        rw e (and_from (is_block (record { okuri = first.okuri; words = words_once ws })) _
-        (and_from (is_okuri first.okuri) _ e
-        (and_from (nat_le 1 (length (words_once ws))) _ (words_some ws some_word)
-        (and_from (list_all is_word (words_once ws)) (texts_differ (words_once ws))
-        (words_valid ws (words_with_fit first.okuri blocks fit)) (words_differ ws))))
-        rest)
-    by false e some_word rest = rw e rest
+    words_are : (b : Block) → some_word (words_with b.okuri blocks) ≡ true → has_words (joined blocks b) ≡ true
+    words_are b some =
+        let words = words_with b.okuri blocks in
+        and_from (nat_le 1 (length (words_once words))) _ (words_some words some)
+        (and_from (list_all is_word (words_once words)) (texts_differ (words_once words))
+        (words_valid words (words_with_fit b.okuri blocks fit)) (words_differ words))
 
 -- the okurigana of the blocks that are kept
 kept_okuris : (words_of : List ℕ → List (List ℕ)) (firsts : List Block)
@@ -224,30 +205,27 @@ pub row_of_items-valid : (key : RowKey) (items : List Item) → is_row_key key �
     → list_all has_note items ≡ true
     → fits_blocks key.part (blocks_of_items items) ≡ true → is_row (row_of_items key items) ≡ true
 row_of_items-valid key items valid fit noted part =
-    let row = row_of_items key items in
+    let said = filter (λ (cand : Cand). not (is_empty cand.word)) (flat_map cand_in items) in
     let worded = filter has_word (flat_map block_in items) in
-    let fit_blocks = list_all-filter block_fits has_word (flat_map block_in items) (blocks_fit items fit) in
-    let all_worded = list_all_kept has_word (flat_map block_in items) in
-    let have = first_of_each-all (λ (b : Block). b.okuri)
-    (λ b. list_any (λ word. not (is_empty word)) (words_with b.okuri worded)) worded (each_has [] worded all_worded) in
-    let okuris =
-    ap texts_differ
-    (kept_okuris (λ okuri. words_once (words_with okuri worded)) (first_of_each (λ b. b.okuri) [] worded))
-    ∙ all_pairs-filter (λ text other. not (same_text text other)) is_okuri
-    (map (λ (b : Block). b.okuri) (first_of_each (λ b. b.okuri) [] worded))
-    (first_of_each-differ (λ (b : Block). b.okuri) worded) in
-    and_from (is_row_key key) _ valid
-    (and_from (list_all is_cand row.cands && texts_differ (map (λ cand. cand.word) row.cands)) _
-    (and_from (list_all is_cand row.cands) (texts_differ (map (λ cand. cand.word) row.cands))
-    (first_of_each-all (λ (cand : Cand). cand.word) is_cand
-    (filter (λ cand. not (is_empty cand.word)) (flat_map cand_in items)) (cands_valid items fit noted))
-    (first_of_each-differ (λ (cand : Cand). cand.word)
-    (filter (λ cand. not (is_empty cand.word)) (flat_map cand_in items))))
-    (and_from (fits_blocks key.part row.blocks && list_all is_block row.blocks
-    && texts_differ (map (λ b. b.okuri) row.blocks)) (texts_differ row.hides)
-    (and_from (fits_blocks key.part row.blocks && list_all is_block row.blocks)
-    (texts_differ (map (λ b. b.okuri) row.blocks))
-    (and_from (fits_blocks key.part row.blocks) (list_all is_block row.blocks) part
-    (joined_valid worded (first_of_each (λ b. b.okuri) [] worded) fit_blocks have))
-    okuris)
-    (words_differ (flat_map hidden_in items))))
+    let firsts = first_of_each (λ (b : Block). b.okuri) [] worded in
+    row_from_parts (row_of_items key items)
+    (record {
+      key = valid;
+      cands =
+          first_of_each-all (λ (cand : Cand). cand.word) is_cand said
+          (kept_all has_rest (λ cand. not (is_empty cand.word)) is_cand
+          (λ cand rest some. and_from (nat_le 1 (length cand.word)) _ (some-longer cand.word some) rest)
+          (flat_map cand_in items) (cands_rest items fit noted));
+      words = first_of_each-differ (λ (cand : Cand). cand.word) said;
+      part = part;
+      blocks =
+          joined_valid worded firsts
+          (list_all-filter block_fits has_word (flat_map block_in items) (blocks_fit items fit))
+          (first_of_each-all (λ (b : Block). b.okuri) (λ b. some_word (words_with b.okuri worded)) worded
+          (each_has worded (list_all_kept has_word (flat_map block_in items))));
+      okuri =
+          ap texts_differ (kept_okuris (λ okuri. words_once (words_with okuri worded)) firsts)
+          ∙ all_pairs-filter (λ text other. not (same_text text other)) is_okuri (map (λ (b : Block). b.okuri) firsts)
+          (first_of_each-differ (λ (b : Block). b.okuri) worded);
+      hides = words_differ (flat_map hidden_in items);
+    })

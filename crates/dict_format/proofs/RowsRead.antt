@@ -1,34 +1,30 @@
 -- What is read of a line makes a row.
-use Rattle.std.proofs.Common.{◌≡◌, ℕ, Bool, true, false, not, ◌==◌, ◌||◌, nat_lt, if◌then◌else◌, inl, inr, Option, None}
-use Rattle.std.proofs.Common.{Some, Ok, Err, List, [], ◌∷◌, ◌++◌, map, drop, ◌+◌, zero, suc, refl, sym, ap, ◌∙◌, subst}
-use Rattle.std.specs.List.{flat_map, filter, list_all, AllByRecursion, position_or_len}
+use Rattle.std.proofs.Common.{◌≡◌, ℕ, Bool, true, false, not, ◌==◌, ◌||◌, if◌then◌else◌, inl, inr, Option, None, Some}
+use Rattle.std.proofs.Common.{Ok, Err, List, [], ◌∷◌, ◌++◌, refl, sym, ap, ◌∙◌, subst}
+use Rattle.std.specs.List.{flat_map, filter, list_all}
+use Rattle.std.specs.Option.{unwrap_or}
 use Rattle.std.proofs.lemmas.Bool.{and_parts, and_from, not-true, not_from_false, or_from}
 use Rattle.std.proofs.lemmas.List.Folds.{list_all-append}
-use Rattle.skk_text.specs.Text.{byte_len}
 use Rattle.skk_calls.specs.declared.part.Part.{Part}
 use Rattle.skk_calls.specs.declared.part.Part.TheVariants.{Nasi, Ari}
 use Rattle.skk_calls.specs.Rows.{RowKey, is_row_key, is_note, is_note_char, is_row, fits_blocks, is_okuri}
-use Rattle.skk_calls.specs.Rows.{reading_limit}
-use Rattle.dict_format.specs.declared.reason.LineReason.TheVariants as reason
-use Rattle.dict_format.specs.Items.{Item, SpellsItem, is_semicolon, note_of_text}
-use Rattle.dict_format.specs.Items.SpellsItem.{marks, says, blocks}
-use Rattle.dict_format.specs.Lines.{lacks}
-use Rattle.dict_format.specs.Reading.{texts_at, items_at, or_reason, and_then, key_at, fit_items_at}
-use Rattle.dict_format.specs.Reasons.{is_bad_reading, lacks_letter}
+use Rattle.exact_readers.specs.Cuts.{cut}
+use Rattle.exact_readers.specs.CutLaws.{up_to-exact}
+use Rattle.exact_readers.specs.ExactLaws.{chosen}
+use Rattle.exact_readers.specs.Exact.{AreAll}
+use Rattle.exact_readers.specs.Formats.{all}
+use Rattle.exact_readers.specs.ManyLaws.{all-are}
+use Rattle.dict_format.specs.declared.reason.LineReason.TheVariants.{NoSlash, Block, LongCandidate}
+use Rattle.dict_format.specs.Items.{Item, SpellsItems, is_semicolon, note_of_text, item_format}
+use Rattle.dict_format.specs.Items.Item.{candidate, block, mark}
+use Rattle.exact_readers.specs.Lacking.{lacks}
+use Rattle.dict_format.specs.Reading.{texts_at, or_reason, and_then, fit_items_at}
 use Rattle.dict_format.specs.RowOfItems.{item_fits, block_in, has_word, joined_blocks, blocks_of_items, row_of_items}
-use Rattle.dict_format.proofs.ItemReading.{items_at-sound}
-use Rattle.dict_format.proofs.KeyReading.{is_key-from}
-use Rattle.dict_format.proofs.LineTexts.{texts-sound}
-use Rattle.dict_format.proofs.Pieces.{chosen}
+use Rattle.dict_format.proofs.Exactness.{item_exact}
+use Rattle.dict_format.proofs.LineTexts.{texts-sound, texts_lack}
 use Rattle.dict_format.proofs.RowParts.{has_note, row_of_items-valid}
 
 -- Notes
-
--- what all pass those pass that are left
-drop_all : (p : ℕ → Bool) (n : ℕ) (text : List ℕ) → list_all p text ≡ true → list_all p (drop n text) ≡ true
-drop_all p zero text all = all
-drop_all p (suc n) [] all = refl
-drop_all p (suc n) (c ∷ text) all = drop_all p n text (and_parts (p c) (list_all p text) all).1
 
 -- a text without slashes has a note that may stand in an item
 note_chars : (text : List ℕ) → lacks 0x2F text ≡ true → is_note (filter (λ c. not (c == 13 || c == 10)) text) ≡ true
@@ -46,108 +42,81 @@ note_chars (c ∷ text) none =
         (not_from_false (c == 0x2F || (c == 13 || c == 10)) (or_from (c == 0x2F) (c == 13 || c == 10) slash e)) rest)
 
 note_valid : (text : List ℕ) → lacks 0x2F text ≡ true → is_note (note_of_text text) ≡ true
-note_valid text none =
-    note_chars (drop (position_or_len is_semicolon text + 1) text)
-    (drop_all (λ c. not (c == 0x2F)) (position_or_len is_semicolon text + 1) text none)
+note_valid text none = by (cut is_semicolon text) refl
+  where
+    by : (o : Option (List ℕ × List ℕ)) → cut is_semicolon text ≡ o
+        → is_note (filter (λ c. not (c == 13 || c == 10)) (unwrap_or o (text, [])).1) ≡ true
+    by None e = refl
+    by (Some (front, rest)) e =
+        let is = (up_to-exact is_semicolon).sound text front rest e in
+        note_chars rest (and_parts (lacks 0x2F is.piece) (lacks 0x2F rest)
+        (sym (list_all-append (λ c. not (c == 0x2F)) is.piece rest) ∙ ap (lacks 0x2F) (sym is.tokens_are) ∙ none)).1
 
-item_noted : (part : Part) (piece : List (List ℕ)) (item : Item) → SpellsItem part piece item
-    → list_all (lacks 0x2F) piece ≡ true → has_note item ≡ true
-item_noted part piece item (marks p text words closed is) none = refl
-item_noted part piece item (says p text word closed not_mark is) none =
-    note_valid text (and_parts (lacks 0x2F text) true none).0
-item_noted part piece item (blocks okuri words unclosed each) none = refl
+item_noted : (part : Part) (item : Item) (texts : List (List ℕ)) → (item_format part).Spells item texts
+    → list_all (lacks 0x2F) texts ≡ true → has_note item ≡ true
+item_noted part (block okuri words) texts is none = refl
+item_noted part (mark words) texts is none = refl
+item_noted part (candidate word note) texts (inl (text, (closed, not_marked, says, same), one)) none =
+    ap is_note same
+    ∙ note_valid text (and_parts (lacks 0x2F text) true (ap (list_all (lacks 0x2F)) (sym one) ∙ none)).0
+item_noted part (candidate word note) texts (inr (parts, spelled, wrong)) none = cc
 
-pieces_noted : (part : Part) (pieces : List (List (List ℕ) × Item))
-    → AllByRecursion (λ piece. SpellsItem part piece.0 piece.1) pieces
-    → list_all (lacks 0x2F) (flat_map (λ piece. piece.0) pieces) ≡ true
-    → list_all has_note (map (λ piece. piece.1) pieces) ≡ true
-pieces_noted part [] each none = refl
-pieces_noted part ((piece, item) ∷ pieces) each none =
-    let parts = and_parts (list_all (lacks 0x2F) piece) (list_all (lacks 0x2F) (flat_map (λ p. p.0) pieces))
-    (sym (list_all-append (lacks 0x2F) piece (flat_map (λ p. p.0) pieces)) ∙ none) in
-    and_from (has_note item) (list_all has_note (map (λ p. p.1) pieces)) (item_noted part piece item each.0 parts.0)
-    (pieces_noted part pieces each.1 parts.1)
+items_noted : (part : Part) (items : List Item) (texts : List (List ℕ)) → SpellsItems part texts items
+    → list_all (lacks 0x2F) texts ≡ true → list_all has_note items ≡ true
+items_noted part [] texts is none = refl
+items_noted part (item ∷ items) texts (front, back, spelled, more, is) none =
+    let parts = and_parts (list_all (lacks 0x2F) front) (list_all (lacks 0x2F) back)
+    (sym (list_all-append (lacks 0x2F) front back) ∙ ap (list_all (lacks 0x2F)) (sym is) ∙ none) in
+    and_from (has_note item) (list_all has_note items) (item_noted part item front spelled parts.0)
+    (items_noted part items back more parts.1)
 
 -- Blocks
 
 -- an item of the okuri-nasi part is no block
-no_block : (part : Part) (piece : List (List ℕ)) (item : Item) → SpellsItem part piece item → part ≡ Nasi
-    → block_in item ≡ []
-no_block part piece item (marks p text words closed is) nasi = refl
-no_block part piece item (says p text word closed not_mark is) nasi = refl
-no_block part piece item (blocks okuri words unclosed each) nasi = cc
+no_block : (item : Item) (texts : List (List ℕ)) → (item_format Nasi).Spells item texts → block_in item ≡ []
+no_block (candidate word note) texts is = refl
+no_block (mark words) texts is = refl
+no_block (block okuri words) texts (inl (text, never, one)) = absurd never
+no_block (block okuri words) texts (inr (parts, (front, back, (text, opened, one), rest, is), value)) = cc
 
-no_blocks : (part : Part) (pieces : List (List (List ℕ) × Item))
-    → AllByRecursion (λ piece. SpellsItem part piece.0 piece.1) pieces → part ≡ Nasi
-    → flat_map block_in (map (λ piece. piece.1) pieces) ≡ []
-no_blocks part [] each nasi = refl
-no_blocks part ((piece, item) ∷ pieces) each nasi =
-    ap (λ bs. bs ++ flat_map block_in (map (λ p. p.1) pieces)) (no_block part piece item each.0 nasi)
-    ∙ no_blocks part pieces each.1 nasi
+no_blocks : (items : List Item) (texts : List (List ℕ)) → SpellsItems Nasi texts items → flat_map block_in items ≡ []
+no_blocks [] texts is = refl
+no_blocks (item ∷ items) texts (front, back, spelled, more, is) =
+    ap (λ bs. bs ++ flat_map block_in items) (no_block item front spelled) ∙ no_blocks items back more
 
-fits_part : (part : Part) (items : List Item) → (part ≡ Nasi → flat_map block_in items ≡ [])
+fits_part : (part : Part) (items : List Item) (texts : List (List ℕ)) → SpellsItems part texts items
     → fits_blocks part (blocks_of_items items) ≡ true
-fits_part Ari items none = refl
-fits_part Nasi items none =
-    ap (λ bs. fits_blocks Nasi (filter (λ b. is_okuri b.okuri) (joined_blocks (filter has_word bs)))) (none refl)
-
--- Keys
-
--- a key that is read is valid
-key_valid : (part : Part) (reading : List ℕ) (key : RowKey) → lacks 0x20 reading ≡ true → key_at part reading ≡ Ok key
-    → (is_row_key key ≡ true) × (key.part ≡ part)
-unfolding key_at
-key_valid part reading key none e =
-    elim (chosen (is_bad_reading reading) _ _ _ e) [
-      | inl bad ↦ cc
-      | inr good ↦
-          elim (chosen (nat_lt (reading_limit part) (byte_len reading)) _ _ _ good.1) [
-            | inl long ↦ cc
-            | inr short ↦
-                elim (chosen (lacks_letter part reading) _ _ _ short.1) [
-                  | inl lacking ↦ cc
-                  | inr letter ↦
-                      let made : RowKey = record { part = part; reading = reading } in
-                      let same : made ≡ key = cc in
-                      let valid = is_key-from part reading none good.0 short.0 ∙ ap not letter.0 in
-                      (subst (λ (k : RowKey). is_row_key k ≡ true) same valid, sym (ap (λ (k : RowKey). k.part) same))
-                ]
-          ]
-    ]
+fits_part Ari items texts is = refl
+fits_part Nasi items texts is =
+    ap (λ bs. fits_blocks Nasi (filter (λ b. is_okuri b.okuri) (joined_blocks (filter has_word bs))))
+    (no_blocks items texts is)
 
 -- Rows
 
 -- what is read of the parts of a line makes a row
-pub row_read : (part : Part) (reading body : List ℕ) (texts : List (List ℕ)) (key : RowKey) (items : List Item)
-    → lacks 0x20 reading ≡ true → key_at part reading ≡ Ok key
-    → or_reason reason.NoSlash (texts_at body) ≡ Ok texts → fit_items_at part texts ≡ Ok items
-    → is_row (row_of_items key items) ≡ true
+pub row_read : (part : Part) (body : List ℕ) (texts : List (List ℕ)) (key : RowKey) (items : List Item)
+    → is_row_key key ≡ true → key.part ≡ part → or_reason NoSlash (texts_at body) ≡ Ok texts
+    → fit_items_at part texts ≡ Ok items → is_row (row_of_items key items) ≡ true
 unfolding fit_items_at
-row_read part reading body texts key items none keyed between fitted =
-    by (texts_at body) (items_at part texts) refl refl between fitted
+row_read part body texts key items valid of between fitted =
+    by (texts_at body) (all (item_format part) texts) refl between
+    (all-are (item_format part) (item_exact part) texts) fitted
   where
-    by : (o : Option (List (List ℕ))) (i : Option (List Item)) → texts_at body ≡ o → items_at part texts ≡ i
-        → or_reason reason.NoSlash o ≡ Ok texts
-        → and_then (or_reason reason.Block i)
-        (λ others. if list_all item_fits others then Ok others else Err reason.LongCandidate) ≡ Ok items
+    by : (o : Option (List (List ℕ))) (i : Option (List Item)) → texts_at body ≡ o → or_reason NoSlash o ≡ Ok texts
+        → AreAll (item_format part) texts i → and_then (or_reason Block i)
+        (λ others. if list_all item_fits others then Ok others else Err LongCandidate) ≡ Ok items
         → is_row (row_of_items key items) ≡ true
-    by None i t s e f = cc
-    by (Some others) None t s e f = cc
-    by (Some others) (Some more) t s e f =
-        let has = texts-sound body others t in
+    by None i t s are f = cc
+    by (Some others) None t s are f = cc
+    by (Some others) (Some more) t s are f =
         let same : others ≡ texts = cc in
+        let has = texts-sound body texts (t ∙ ap Some same) in
         elim (chosen (list_all item_fits more) _ _ _ f) [
           | inr unfit ↦ cc
           | inl fit ↦
               let also : more ≡ items = cc in
-              let spelled = items_at-sound part texts more s in
-              let valid = key_valid part reading key none keyed in
-              let noted = ap (list_all has_note) spelled.items_are
-              ∙ pieces_noted part spelled.pieces spelled.spelled (sym (ap (list_all (lacks 0x2F)) spelled.texts_are)
-              ∙ ap (list_all (lacks 0x2F)) (sym same) ∙ has.no_slash) in
-              let blocks_fit = fits_part part more
-              (λ nasi. ap (flat_map block_in) spelled.items_are ∙ no_blocks part spelled.pieces spelled.spelled nasi) in
               subst (λ (is : List Item). is_row (row_of_items key is) ≡ true) also
-              (row_of_items-valid key more valid.0 fit.0 noted
-              (ap (λ p. fits_blocks p (blocks_of_items more)) valid.1 ∙ blocks_fit))
+              (row_of_items-valid key more valid fit.0
+              (items_noted part more texts are (texts_lack texts has.behind has.spelled))
+              (ap (λ p. fits_blocks p (blocks_of_items more)) of ∙ fits_part part more texts are))
         ]

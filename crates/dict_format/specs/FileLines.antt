@@ -1,12 +1,12 @@
 -- A dictionary file: its lines, and the rows and bad lines that they come to.
-use Rattle.std.specs.Prelude.{◌≡◌, ◌⊎◌, ◌≤◌, ℕ, ◌+◌, ◌==◌, ◌||◌, nat_eq, Bool, true, false, if◌then◌else◌, List, []}
-use Rattle.std.specs.Prelude.{◌∷◌, ◌++◌, length, drop}
-use Rattle.std.specs.List.{list_all, list_any, starts_with}
+use Rattle.std.specs.Prelude.{◌≡◌, ◌⊎◌, ◌≤◌, ℕ, ◌+◌, Bool, true, false, if◌then◌else◌, List, [], ◌∷◌, ◌++◌, length}
+use Rattle.std.specs.List.{list_any}
 use Rattle.std.specs.Str.{IsUtf8, chars}
 use Rattle.skk_text.specs.Lines.{lines_of}
 use Rattle.skk_calls.specs.declared.part.Part.{Part}
 use Rattle.skk_calls.specs.declared.part.Part.TheVariants.{Nasi, Ari}
 use Rattle.skk_calls.specs.Rows.{Row, RowKey, begins_well, same_text, same_key}
+use Rattle.exact_readers.specs.Trimming.{without_mark, trimmed_line}
 use Rattle.dict_format.specs.declared.file.Listed.{Listed}
 use Rattle.dict_format.specs.declared.file_lines.LineKind.{LineKind}
 use Rattle.dict_format.specs.declared.file_lines.LineKind.TheVariants.{Opening, Entry, Skipped}
@@ -19,33 +19,6 @@ use Rattle.dict_format.specs.Reasons.{IsReason}
 -- the most bytes of a file
 abbrev pub file_limit : ℕ
 file_limit = 67108864
-
--- the bytes of the mark U+FEFF
-abbrev pub byte_order_mark : List ℕ
-byte_order_mark = 0xEF ∷ 0xBB ∷ 0xBF ∷ []
-
--- the bytes of a file without the mark with which they may begin
-abbrev pub without_mark : List ℕ → List ℕ
-without_mark bytes = if starts_with nat_eq bytes byte_order_mark then drop (length byte_order_mark) bytes else bytes
-
--- a line without the CR with which it may end
-abbrev pub without_return : List ℕ → List ℕ
-without_return [] = []
-without_return (c ∷ []) = if c == 13 then [] else c ∷ []
-without_return (c ∷ d ∷ line) = c ∷ without_return (d ∷ line)
-
--- a space or a TAB
-abbrev pub is_blank : ℕ → Bool
-is_blank c = c == 0x20 || c == 9
-
--- a line without the spaces and TABs with which it ends
-abbrev pub without_blanks : List ℕ → List ℕ
-without_blanks [] = []
-without_blanks (c ∷ line) = if list_all is_blank (c ∷ line) then [] else c ∷ without_blanks line
-
--- what is read of a line: not the CR at its end, nor the spaces and TABs before that
-abbrev pub trimmed_line : List ℕ → List ℕ
-trimmed_line line = without_blanks (without_return line)
 
 -- what a line is, by what is read of it: a part line opens its part; it is skipped where it is empty or a comment; any
 -- other is an entry

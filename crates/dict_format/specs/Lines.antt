@@ -1,16 +1,15 @@
 -- A line of a dictionary, and the row that it spells.
 use Rattle.std.specs.Prelude.{◌≡◌, ◌≢◌, ◌≤◌, ℕ, ◌==◌, Bool, true, not, List, [], ◌∷◌, ◌++◌, replicate}
-use Rattle.std.specs.List.{flat_map, list_all}
+use Rattle.std.specs.List.{list_all}
 use Rattle.skk_text.specs.Text.{byte_len}
 use Rattle.skk_calls.specs.declared.part.Part.{Part}
-use Rattle.skk_calls.specs.Canonical.{with_slash, line_limit}
+use Rattle.skk_calls.specs.Canonical.{line_limit}
 use Rattle.skk_calls.specs.Rows.{Row, is_row_key}
+use Rattle.exact_readers.specs.Cuts.{up_to}
+use Rattle.exact_readers.specs.Formats.{Format, SpellsMany}
+use Rattle.exact_readers.specs.Lacking.{lacks}
 use Rattle.dict_format.specs.Items.{Item, SpellsItems}
 use Rattle.dict_format.specs.RowOfItems.{item_fits, row_of_items, says_something}
-
--- the text holds no such character
-abbrev pub lacks : ℕ → List ℕ → Bool
-lacks c text = list_all (λ d. not (d == c)) text
 
 -- the text does not begin with a space
 abbrev pub begins_without_space : List ℕ → Bool
@@ -25,11 +24,20 @@ pub record HasBody (line reading body : List ℕ) : Type 0 where
   pub before : lacks 0x20 reading ≡ true
   pub behind : begins_without_space body ≡ true
 
+-- a slash
+abbrev pub is_slash : ℕ → Bool
+is_slash c = c == 0x2F
+
+-- a text without slashes, and the slash that ends it
+abbrev pub slashed_text : Format ℕ (List ℕ)
+slashed_text = up_to is_slash
+
 -- the body is a slash and texts without slashes, one or more, each ended by a slash
 pub record HasTexts (body : List ℕ) (texts : List (List ℕ)) : Type 0 where
   pub some_text : texts ≢ []
-  pub body_is : body ≡ 0x2F ∷ flat_map with_slash texts
-  pub no_slash : list_all (lacks 0x2F) texts ≡ true
+  pub behind : List ℕ
+  pub body_is : body ≡ 0x2F ∷ behind
+  pub spelled : SpellsMany slashed_text.Spells texts behind
 
 -- the line of a part spells the row: it is not too long, its reading is valid in the part, the texts of its body spell
 -- items that are not too long, and the row of these says something

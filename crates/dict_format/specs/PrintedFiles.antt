@@ -1,7 +1,7 @@
 -- A whole dictionary file as it is printed.
-use Rattle.std.specs.Prelude.{◌≡◌, ℕ, Bool, true, List, [], ◌∷◌, ◌++◌, codes, map}
+use Rattle.std.specs.Prelude.{◌≡◌, ℕ, Bool, true, List, ◌∷◌, ◌++◌, codes, map}
 use Rattle.std.specs.List.{filter, flat_map, list_all}
-use Rattle.skk_text.specs.Lines.{line_feed}
+use Rattle.exact_readers.specs.Lines.{with_line_end}
 use Rattle.skk_calls.specs.declared.part.Part.{Part}
 use Rattle.skk_calls.specs.declared.part.Part.TheVariants.{Nasi, Ari}
 use Rattle.skk_calls.specs.Canonical.{canonical}
@@ -31,10 +31,6 @@ in_printing_order rows = part_in_order Ari rows ++ part_in_order Nasi rows
 abbrev pub part_line : Part → List ℕ
 part_line Nasi = codes ";; okuri-nasi entries."
 part_line Ari = codes ";; okuri-ari entries."
-
--- a line with its end
-abbrev pub with_line_end : List ℕ → List ℕ
-with_line_end line = line ++ line_feed ∷ []
 
 -- the text of a part: its line, and the lines of its rows
 abbrev pub printed_part : Part → List Row → List ℕ

@@ -1,7 +1,7 @@
 -- Why a line spells no row: the first reason that fits it.
 use Rattle.std.specs.Prelude.{◌≡◌, ◌<◌, ℕ, Bool, true, false, ◌||◌, ◌==◌, ◌&&◌, not, nat_lt, nat_le, length, List, []}
-use Rattle.std.specs.Prelude.{◌∷◌, ◌++◌, codes, nat_eq}
-use Rattle.std.specs.List.{list_all, list_any, AllByRecursion, starts_with, ends_with}
+use Rattle.std.specs.Prelude.{◌∷◌, ◌++◌}
+use Rattle.std.specs.List.{list_all, list_any, AllByRecursion}
 use Rattle.skk_text.specs.Text.{byte_len, last_chars}
 use Rattle.skk_calls.specs.declared.part.Part.{Part}
 use Rattle.skk_calls.specs.declared.part.Part.TheVariants.{Nasi, Ari}
@@ -12,7 +12,8 @@ use Rattle.dict_format.specs.declared.reason.LineReason.TheVariants.{LongLine, N
 use Rattle.dict_format.specs.declared.reason.LineReason.TheVariants.{OkuriKey, NoSlash, Block, LongCandidate, Empty}
 use Rattle.dict_format.specs.declared.reason.LineReason.TheVariants.{Twice}
 use Rattle.dict_format.specs.Items.{Item, SpellsItems}
-use Rattle.dict_format.specs.Lines.{lacks, HasBody, HasTexts}
+use Rattle.exact_readers.specs.Lacking.{lacks}
+use Rattle.dict_format.specs.Lines.{HasBody, HasTexts}
 use Rattle.dict_format.specs.RowOfItems.{item_fits, row_of_items, says_something}
 
 -- a character that no reading holds: one below the space, or DEL
@@ -28,9 +29,16 @@ abbrev pub lacks_letter : Part → List ℕ → Bool
 lacks_letter Nasi reading = false
 lacks_letter Ari reading = not (nat_le 2 (length reading) && is_letter (last_chars 1 reading))
 
+-- the last character is a slash
+abbrev pub ends_in_slash : List ℕ → Bool
+ends_in_slash [] = false
+ends_in_slash (c ∷ []) = c == 0x2F
+ends_in_slash (c ∷ d ∷ text) = ends_in_slash (d ∷ text)
+
 -- two characters or more, the first and the last of which are slashes
 abbrev pub is_slashed : List ℕ → Bool
-is_slashed body = nat_le 2 (length body) && (starts_with nat_eq body (codes "/") && ends_with nat_eq body (codes "/"))
+is_slashed [] = false
+is_slashed (c ∷ body) = c == 0x2F && ends_in_slash body
 
 -- what the reading of a line is like
 abbrev pub ReadingIs : (List ℕ → Bool) → List ℕ → Type 0

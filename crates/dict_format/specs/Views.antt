@@ -1,5 +1,6 @@
 -- What the values of the code are to the definitions.
-use Rattle.std.specs.Prelude.{◌≡◌, Result, Ok, Err, map}
+use Rattle.std.specs.Borrow.{Bor}
+use Rattle.std.specs.Prelude.{◌≡◌, ℕ, Result, Ok, Err, List, map}
 use Rattle.word_sets.specs.Strings.{characters}
 use Rattle.dict_format.specs.declared.items.Item.{Item as MadeItem}
 use Rattle.dict_format.specs.declared.items.Item.TheVariants.{Candidate, Block, Mark}
@@ -8,6 +9,10 @@ use Rattle.dict_format.specs.declared.reason.LineFault.TheVariants.{Reason, Memo
 use Rattle.dict_format.specs.declared.reason.LineReason.{LineReason}
 use Rattle.dict_format.specs.Items.{Item}
 use Rattle.dict_format.specs.Items.Item.{candidate, block, mark}
+
+-- the characters of texts
+abbrev pub texts_seen : List (Bor (List ℕ)) → List (List ℕ)
+texts_seen texts = map (λ text. text.now) texts
 
 -- what an item of the code says
 abbrev pub item_said : MadeItem → Item

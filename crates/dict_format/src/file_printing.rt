@@ -7,7 +7,8 @@ ghost use Rattle.skk_calls.specs.Canonical.{canonical, is_good};
 ghost use Rattle.skk_calls.specs.Rows.{is_row};
 ghost use Rattle.dict_format.specs.FileLines.{Lists, file_limit};
 ghost use Rattle.dict_format.specs.PrintedFiles.{AreOfBook, in_printing_order, is_of, is_printed_before, part_in_order};
-ghost use Rattle.dict_format.specs.PrintedFiles.{part_line, with_line_end, without_stamp, printed_part, printed_file};
+ghost use Rattle.exact_readers.specs.Lines.{with_line_end};
+ghost use Rattle.dict_format.specs.PrintedFiles.{part_line, without_stamp, printed_part, printed_file};
 
 use crate::laws::printed_files_are_read_again;
 use crate::printing::push_line;

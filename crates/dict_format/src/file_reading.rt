@@ -7,8 +7,9 @@ ghost use Rattle.dict_format.specs.FileLines.{entries_of, entry_of, part_behind,
 ghost use Rattle.dict_format.specs.declared.file.Listed.{Listed};
 
 use crate::file::{FileFault, Listed};
-use crate::file_lines::{LineKind, kind_of, next_line, trimmed_line, without_mark};
+use crate::file_lines::{LineKind, kind_of};
 use crate::listing::Listing;
+use exact_readers::{first_line, trimmed_line, without_mark};
 use skk_calls::Part;
 use skk_text::{Memory, text_within};
 use std::alloc::Global;
@@ -49,7 +50,7 @@ fn read_text(alloc: Global, text: &str) -> Result<Listed, Memory>
     let mut part = Part::Nasi;
     let mut number: usize = 0;
     let mut rest = without_mark(text);
-    while let Some((line, behind)) = next_line(rest) {
+    while let Some((line, behind)) = first_line(rest) {
         number += 1;
         let read = trimmed_line(line);
         listing = take_line(alloc, listing, number, part, read)?;

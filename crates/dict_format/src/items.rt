@@ -1,17 +1,21 @@
-ghost use Rattle.std.specs.Prelude.{◌≡◌, ◌<◌, ◌≤◌, ◌+◌, ◌-◌, ◌==◌, ◌||◌, not, if◌then◌else◌, Some, None, map, length};
-ghost use Rattle.std.specs.Prelude.{drop, position, IfOk, IfSome};
-ghost use Rattle.std.specs.List.{after_first, filter, list_all};
+ghost use Rattle.std.specs.Prelude.{◌≡◌, ◌∷◌, ◌++◌, ◌+◌, ◌≤◌, ◌==◌, ◌||◌, [], ℕ, List, not, if◌then◌else◌, Some, None};
+ghost use Rattle.std.specs.Prelude.{map, drop, IfOk, OnOk};
+ghost use Rattle.std.specs.List.{filter, list_all};
 ghost use Rattle.std.specs.Option.{option_map};
-ghost use Rattle.dict_format.specs.Items.{before_note, is_semicolon, opens_block, closes_block};
-ghost use Rattle.dict_format.specs.Reading.{taken, said_words, mark_or_candidate, single_item, block_at, item_at};
-ghost use Rattle.dict_format.specs.Reading.{items_at, fit_items_at};
-ghost use Rattle.dict_format.specs.RowOfItems.{fits, item_fits};
+ghost use Rattle.exact_readers.specs.Formats.{mapped, all};
 ghost use Rattle.word_sets.specs.Strings.{characters};
-ghost use Rattle.dict_format.specs.Views.{item_said, Gives};
+ghost use Rattle.dict_format.specs.Items.{Item as said_item};
+ghost use Rattle.dict_format.specs.Items.Item.{block};
+ghost use Rattle.dict_format.specs.Items.{at_note, before_note, opens_block, closes_block, mark_or_candidate};
+ghost use Rattle.dict_format.specs.Items.{single_item, inside_block, block_words, item_format};
+ghost use Rattle.dict_format.specs.Reading.{fit_items_at};
+ghost use Rattle.dict_format.specs.RowOfItems.{fits, item_fits};
+ghost use Rattle.dict_format.specs.Views.{item_said, texts_seen, Gives};
+ghost use Rattle.dict_format.specs.Words.{said};
 
-use crate::cut::place_of;
 use crate::reason::{LineFault, LineReason};
-use crate::words::{marked_words, plain, word_of};
+use crate::words::{plain, whole_marked, word_of};
+use exact_readers::{Reader, cut_at, read_many};
 use skk_calls::{Part, WORD_LIMIT};
 use skk_text::Memory;
 use std::alloc::Global;
@@ -28,49 +32,94 @@ pub enum Item {
 }
 
 // The items that texts spell, none of which is too long.
-#[tactic(auto, unfolding(crate::specs::Reading::items_at, crate::specs::Reading::fit_items_at))]
+#[tactic(auto, unfolding(crate::specs::Reading::fit_items_at))]
 pub fn items_of(alloc: Global, part: Part, texts: &[&[char]]) -> Result<Vec<Item>, LineFault>
-    ensures { Gives (λ items. map item_said items.items) result (fit_items_at part (map (λ text. text.now) texts.now)) }
+    ensures { Gives (λ items. map item_said items.items) result (fit_items_at part (texts_seen texts.now)) }
 {
-    let (items, taken) = all_items(alloc, part, texts)?;
-    if taken < texts.len() {
+    let Some(items) = whole_items(alloc, part, texts)? else {
         return Err(LineFault::Reason(LineReason::Block));
-    }
+    };
     if !are_fit(&items) {
         return Err(LineFault::Reason(LineReason::LongCandidate));
     }
     Ok(items)
 }
 
-// The items that texts spell, and how many texts these are: all of them, unless a block is not closed.
-fn all_items(alloc: Global, part: Part, texts: &[&[char]]) -> Result<(Vec<Item>, usize), Memory>
-    ensures items { IfOk result (λ parts. taken (item_at part) (map (λ text. text.now) texts.now)
-        ≡ (map item_said parts.0.items, drop parts.1 (map (λ text. text.now) texts.now))) }
-    ensures within { IfOk result (λ parts. parts.1 ≤ length texts.now) }
+// The items that all texts spell, unless a block is not closed.
+#[tactic(auto, using(crate::proofs::Exactness::item_exact))]
+fn whole_items(alloc: Global, part: Part, texts: &[&[char]]) -> Result<Option<Vec<Item>>, Memory>
+    ensures { IfOk result (λ found. option_map (λ items. map item_said items.items) found
+        ≡ all (item_format part) (texts_seen texts.now)) }
 {
-    let mut items = Vec::new(alloc);
-    let mut at = 0;
-    while let Some((item, size)) = first_item(alloc, part, &texts[at..])? {
-        items.push(item)?;
-        at += size;
+    match read_many(alloc, &Items { part }, texts)? {
+        (items, []) => Ok(Some(items)),
+        _ => Ok(None),
     }
-    Ok((items, at))
 }
 
-// The item that the first texts spell, and how many texts these are.
-#[tactic(auto, unfolding(crate::specs::Reading::item_at))]
-fn first_item(alloc: Global, part: Part, texts: &[&[char]]) -> Result<Option<(Item, usize)>, Memory>
-    ensures item { IfOk result
-        (λ found. option_map (λ parts. (item_said parts.0, drop parts.1 (map (λ text. text.now) texts.now))) found
-        ≡ item_at part (map (λ text. text.now) texts.now)) }
-    ensures within { IfOk result (λ found. IfSome found (λ parts. parts.1 ≤ length texts.now)) }
+// The items of a part.
+#[derive(Clone, Copy)]
+struct Items {
+    part: Part,
+}
+
+impl<'c> Reader<&'c [char]> for Items {
+    type Value = Item;
+
+    type Many = Vec<Item>;
+
+    ghost Token = { List ℕ };
+
+    ghost Item = { said_item };
+
+    ghost tokens = { texts_seen };
+
+    ghost item = { item_said };
+
+    ghost items = { λ items. map item_said items.items };
+
+    ghost format = { λ items. item_format items.part };
+
+    fn read<'t>(
+        &self,
+        alloc: Global,
+        texts: &'t [&'c [char]],
+    ) -> Result<Option<(Item, &'t [&'c [char]])>, Memory>
+        ensures { IfOk result (λ found. option_map (λ parts. (item_said parts.0, texts_seen parts.1.now)) found
+            ≡ (item_format self.now.part).step (texts_seen texts.now)) }
+    {
+        first_item(alloc, self.part, texts)
+    }
+
+    fn none(alloc: Global) -> Vec<Item>
+        ensures { map item_said result.items ≡ [] }
+    {
+        Vec::new(alloc)
+    }
+
+    fn push(items: &mut Vec<Item>, item: Item) -> Result<(), Memory>
+        ensures { OnOk result (map item_said items.new.items ≡ map item_said items.old.items ++ item_said item ∷ []) }
+    {
+        items.push(item)?;
+        Ok(())
+    }
+}
+
+// The item that the first texts spell, and the texts behind them.
+fn first_item<'t, 'c>(
+    alloc: Global,
+    part: Part,
+    texts: &'t [&'c [char]],
+) -> Result<Option<(Item, &'t [&'c [char]])>, Memory>
+    ensures { IfOk result (λ found. option_map (λ parts. (item_said parts.0, texts_seen parts.1.now)) found
+        ≡ (item_format part).step (texts_seen texts.now)) }
 {
     let [text, rest @ ..] = texts else {
         return Ok(None);
     };
     match okuri_of(part, text) {
         Some(okuri) => block_behind(alloc, okuri, rest),
-        None => Ok(Some((single_item(alloc, text)?, 1))),
+        None => Ok(Some((single_item(alloc, text)?, rest))),
     }
 }
 
@@ -85,32 +134,87 @@ fn okuri_of(part: Part, text: &[char]) -> Option<&[char]>
     }
 }
 
-// The block that texts behind its first one close, and how many texts it has with that.
-#[tactic(auto, unfolding(crate::specs::Reading::block_at))]
-fn block_behind(
+// The block that texts behind its first one close, and the texts behind it.
+fn block_behind<'t, 'c>(
     alloc: Global,
     okuri: &[char],
-    texts: &[&[char]],
-) -> Result<Option<(Item, usize)>, Memory>
-    ensures item { IfOk result
-        (λ found. option_map (λ parts. (item_said parts.0, drop (parts.1 - 1) (map (λ text. text.now) texts.now))) found
-        ≡ block_at okuri.now (map (λ text. text.now) texts.now)) }
-    ensures within { IfOk result (λ found. IfSome found (λ parts. (1 ≤ parts.1) × (parts.1 ≤ length texts.now + 1))) }
+    texts: &'t [&'c [char]],
+) -> Result<Option<(Item, &'t [&'c [char]])>, Memory>
+    ensures { IfOk result (λ found. option_map (λ parts. (item_said parts.0, texts_seen parts.1.now)) found
+        ≡ (mapped (block okuri.now) block_words).step (texts_seen texts.now)) }
 {
-    let Some(at) = bracket_place(texts) else {
+    let Some((words, rest)) = closed_words(alloc, texts)? else {
         return Ok(None);
     };
     let okuri = plain(alloc, okuri)?;
-    let words = words_of(alloc, &texts[..at])?;
-    Ok(Some((Item::Block { okuri, words }, at + 2)))
+    Ok(Some((Item::Block { okuri, words }, rest)))
 }
 
-// Where the first text stands that closes a block.
-fn bracket_place(texts: &[&[char]]) -> Option<usize>
-    ensures value { result ≡ position (λ text. closes_block text.now) texts.now }
-    ensures within { IfSome result (λ at. at < length texts.now) }
+// The words of texts up to the one that closes their block, and the texts behind that.
+#[tactic(auto, using(crate::proofs::Exactness::inside_exact))]
+fn closed_words<'t, 'c>(
+    alloc: Global,
+    texts: &'t [&'c [char]],
+) -> Result<Option<(Vec<String>, &'t [&'c [char]])>, Memory>
+    ensures { IfOk result (λ found. option_map (λ parts. (map characters parts.0.items, texts_seen parts.1.now)) found
+        ≡ block_words.step (texts_seen texts.now)) }
 {
-    texts.iter().position(|text| closes_block(text))
+    let (words, rest) = read_many(alloc, &WordInside, texts)?;
+    match rest {
+        [end, behind @ ..] if closes_block(end) => Ok(Some((words, behind))),
+        _ => Ok(None),
+    }
+}
+
+// A word in a block.
+struct WordInside;
+
+impl<'c> Reader<&'c [char]> for WordInside {
+    type Value = String;
+
+    type Many = Vec<String>;
+
+    ghost Token = { List ℕ };
+
+    ghost Item = { List ℕ };
+
+    ghost tokens = { texts_seen };
+
+    ghost item = { characters };
+
+    ghost items = { λ words. map characters words.items };
+
+    ghost format = { λ _. inside_block };
+
+    fn read<'t>(
+        &self,
+        alloc: Global,
+        texts: &'t [&'c [char]],
+    ) -> Result<Option<(String, &'t [&'c [char]])>, Memory>
+        ensures { IfOk result (λ found. option_map (λ parts. (characters parts.0, texts_seen parts.1.now)) found
+            ≡ inside_block.step (texts_seen texts.now)) }
+    {
+        match texts {
+            [text, behind @ ..] if !closes_block(text) => {
+                Ok(Some((word_of(alloc, before_note(text))?, behind)))
+            }
+            _ => Ok(None),
+        }
+    }
+
+    fn none(alloc: Global) -> Vec<String>
+        ensures { map characters result.items ≡ [] }
+    {
+        Vec::new(alloc)
+    }
+
+    fn push(words: &mut Vec<String>, word: String) -> Result<(), Memory>
+        ensures { OnOk result
+            (map characters words.new.items ≡ map characters words.old.items ++ characters word ∷ []) }
+    {
+        words.push(word)?;
+        Ok(())
+    }
 }
 
 // Whether a text is the bracket that closes a block.
@@ -120,43 +224,31 @@ fn closes_block(text: &[char]) -> bool
     matches!(text, [']'])
 }
 
-// The words that texts say, without their notes.
-fn words_of(alloc: Global, texts: &[&[char]]) -> Result<Vec<String>, Memory>
-    ensures { IfOk result (λ words. map characters words.items ≡ said_words (map (λ text. text.now) texts.now)) }
-{
-    let mut words = Vec::new(alloc);
-    for text in texts {
-        words.push(word_of(alloc, before_note(text))?)?;
-    }
-    Ok(words)
-}
-
 // A text without its note.
 fn before_note(text: &[char]) -> &[char]
     ensures { result.now ≡ before_note text.now }
 {
-    match place_of(text, ';') {
-        Some(at) => &text[..at],
+    match cut_at(text, ';') {
+        Some((word, _)) => word,
         None => text,
     }
 }
 
 // What stands behind the first semicolon.
 fn behind_semicolon(text: &[char]) -> &[char]
-    ensures { result.now ≡ after_first is_semicolon text.now }
+    ensures { result.now ≡ (at_note text.now).1 }
 {
-    match place_of(text, ';') {
-        Some(at) => &text[at + 1..],
+    match cut_at(text, ';') {
+        Some((_, note)) => note,
         None => &[],
     }
 }
 
 // The item that a text outside of blocks is: a mark, or else a candidate.
-#[tactic(auto, unfolding(crate::specs::Reading::single_item))]
 fn single_item(alloc: Global, text: &[char]) -> Result<Item, Memory>
     ensures { IfOk result (λ item. item_said item ≡ single_item text.now) }
 {
-    match marked_words(alloc, text)? {
+    match whole_marked(alloc, text)? {
         Some(words) => Ok(Item::Mark { words }),
         None => candidate(alloc, text),
     }

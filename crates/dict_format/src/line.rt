@@ -1,25 +1,29 @@
-ghost use Rattle.std.specs.Prelude.{◌≡◌, ◌&&◌, not, length, map, true, ℕ, nat_lt, IfOk, IsErrOf, Ok, Err};
+ghost use Rattle.std.specs.Prelude.{◌≡◌, map, true, ℕ, nat_lt, IfOk, IsErrOf, Ok, Err};
 ghost use Rattle.skk_text.specs.Lists.{is_empty};
 ghost use Rattle.skk_text.specs.Results.{AnswersUnless};
 ghost use Rattle.skk_text.specs.Text.{byte_len};
 ghost use Rattle.skk_calls.specs.Canonical.{line_limit};
 ghost use Rattle.std.specs.List.{list_any, list_all};
 ghost use Rattle.std.specs.Str.{chars};
-ghost use Rattle.skk_calls.specs.Rows.{Row, begins_well, is_row};
+ghost use Rattle.skk_calls.specs.Rows.{Row, begins_well, is_row, is_row_key};
 ghost use Rattle.dict_format.specs.declared.reason.LineReason.{LineReason};
 ghost use Rattle.dict_format.specs.declared.reason.LineReason.TheVariants as reasons;
-ghost use Rattle.dict_format.specs.Lines.{lacks, SpellsRow};
-ghost use Rattle.dict_format.specs.Reading.{and_then, taken, cut, is_slash, is_space, or_reason, texts_at, key_at};
-ghost use Rattle.dict_format.specs.Reading.{row_reading, line_reading, some_row_of};
+ghost use Rattle.std.specs.Option.{option_map};
+ghost use Rattle.exact_readers.specs.Cuts.{cut};
+ghost use Rattle.exact_readers.specs.Formats.{taken, all};
+ghost use Rattle.exact_readers.specs.Lacking.{lacks};
+ghost use Rattle.dict_format.specs.Lines.{slashed_text, SpellsRow};
+ghost use Rattle.dict_format.specs.Reading.{and_then, is_space, or_reason, texts_at, key_at};
+ghost use Rattle.dict_format.specs.Reading.{row_reading, line_reading, key_reading, some_row_of};
 ghost use Rattle.dict_format.specs.Reasons.{is_control, is_bad_reading, IsReason};
 ghost use Rattle.dict_format.specs.RowOfItems.{row_of_items, says_something};
-ghost use Rattle.dict_format.specs.Views.{item_said, Gives};
+ghost use Rattle.dict_format.specs.Views.{item_said, texts_seen, Gives};
 
-use crate::cut::{behind_spaces, cut_at};
 use crate::items::{Item, items_of};
 use crate::reason::{LineFault, LineReason};
 use crate::row::row_of;
 use crate::words::plain;
+use exact_readers::{behind_spaces, cut_at};
 use skk_calls::{LINE_LIMIT, Part, Row, RowKey, may_begin_reading};
 use skk_text::{Memory, Text};
 use std::alloc::Global;
@@ -34,6 +38,40 @@ pub fn read_line(alloc: Global, part: Part, line: &Text) -> Result<Row, LineFaul
         → AnswersUnless LineFault.Memory result (Err (LineFault.Reason first)) }
 {
     read(alloc, part, line.as_str())
+}
+
+/// Reads the key of a line alone: that of the row that the line spells, or else the first reason that fits the line,
+/// where that is one of the line or of its reading. Takes time in the length of the line.
+pub fn read_key(alloc: Global, part: Part, line: &str) -> Result<RowKey, LineFault>
+    ensures row { (row : Row) → SpellsRow part (chars line.now) row
+        → AnswersUnless LineFault.Memory result (Ok row.key) }
+    ensures reason { (first : LineReason) → IsErrOf result (LineFault.Reason first)
+        → IsReason part (chars line.now) first }
+{
+    key_before_space(alloc, part, line)
+}
+
+// Reads what stands before the first space of a line that is not too long.
+#[tactic(auto, unfolding(crate::specs::Reading::key_reading))]
+fn key_before_space(alloc: Global, part: Part, line: &str) -> Result<RowKey, LineFault>
+    ensures { Gives (λ key. key) result (key_reading part (chars line.now)) }
+{
+    if is_long(line) {
+        return Err(LineFault::Reason(LineReason::LongLine));
+    }
+    let characters = characters_of(alloc, line)?;
+    reading_key(alloc, part, &characters)
+}
+
+// The key of what stands before the first space of characters.
+fn reading_key(alloc: Global, part: Part, line: &[char]) -> Result<RowKey, LineFault>
+    ensures { Gives (λ key. key) result
+        (and_then (or_reason reasons.NoSpace (cut is_space line.now)) (λ parts. key_at part parts.0)) }
+{
+    match cut_at(line, ' ') {
+        Some((reading, _)) => key_of(alloc, part, reading),
+        None => Err(LineFault::Reason(LineReason::NoSpace)),
+    }
 }
 
 /// Reads a line, as its characters are read from left to right.
@@ -110,7 +148,8 @@ fn says_something(row: &Row) -> bool
 #[tactic(auto, unfolding(crate::specs::Reading::key_at))]
 fn key_of(alloc: Global, part: Part, reading: &[char]) -> Result<RowKey, LineFault>
     requires { lacks 0x20 reading.now ≡ true }
-    ensures { Gives (λ key. key) result (key_at part reading.now) }
+    ensures gives { Gives (λ key. key) result (key_at part reading.now) }
+    ensures valid { IfOk result (λ key. (is_row_key key ≡ true) × (key.part ≡ part)) }
 {
     if is_bad_reading(reading) {
         return Err(LineFault::Reason(LineReason::BadReading));
@@ -152,24 +191,33 @@ fn holds_control(text: &[char]) -> bool
 // The texts between the slashes of a body that begins and ends with one.
 #[tactic(auto, unfolding(crate::specs::Reading::texts_at))]
 fn texts_between(alloc: Global, body: &[char]) -> Result<Vec<&[char]>, LineFault>
-    ensures { Gives (λ texts. map (λ text. text.now) texts.items) result
+    ensures { Gives (λ texts. texts_seen texts.items) result
         (or_reason reasons.NoSlash (texts_at body.now)) }
 {
     let ['/', behind @ ..] = body else {
         return Err(LineFault::Reason(LineReason::NoSlash));
     };
-    let (texts, rest) = all_texts(alloc, behind)?;
-    if ends_body(&texts, rest) {
-        Ok(texts)
-    } else {
-        Err(LineFault::Reason(LineReason::NoSlash))
+    match whole_texts(alloc, behind)? {
+        Some(texts) if !texts.is_empty() => Ok(texts),
+        _ => Err(LineFault::Reason(LineReason::NoSlash)),
+    }
+}
+
+// The texts that a whole text is, each ended by a slash.
+fn whole_texts(alloc: Global, text: &[char]) -> Result<Option<Vec<&[char]>>, Memory>
+    ensures { IfOk result (λ found. option_map (λ texts. texts_seen texts.items) found
+        ≡ all slashed_text text.now) }
+{
+    match all_texts(alloc, text)? {
+        (texts, []) => Ok(Some(texts)),
+        _ => Ok(None),
     }
 }
 
 // The texts that are ended by a slash, and what stands behind the last of them.
 fn all_texts(alloc: Global, text: &[char]) -> Result<(Vec<&[char]>, &[char]), Memory>
-    ensures { IfOk result (λ parts. taken (cut is_slash) text.now
-        ≡ (map (λ text. text.now) parts.0.items, parts.1.now)) }
+    ensures { IfOk result (λ parts. taken slashed_text.step text.now
+        ≡ (texts_seen parts.0.items, parts.1.now)) }
 {
     let mut texts = Vec::new(alloc);
     let mut rest = text;
@@ -178,12 +226,4 @@ fn all_texts(alloc: Global, text: &[char]) -> Result<(Vec<&[char]>, &[char]), Me
         rest = behind;
     }
     Ok((texts, rest))
-}
-
-// Whether there are texts, and nothing stands behind the last slash.
-#[tactic(auto, using(crate::proofs::Cutting::empty_by_length))]
-fn ends_body(texts: &[&[char]], rest: &[char]) -> bool
-    ensures { result ≡ (not (is_empty texts.now) && is_empty rest.now) }
-{
-    !texts.is_empty() && rest.is_empty()
 }

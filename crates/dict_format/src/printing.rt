@@ -1,4 +1,4 @@
-ghost use Rattle.std.specs.Prelude.{◌≡◌, ◌++◌, ◌∷◌, true, IfOk, OnOk};
+ghost use Rattle.std.specs.Prelude.{◌≡◌, ◌++◌, ◌∷◌, ℕ, true, IfOk, OnOk};
 ghost use Rattle.std.specs.List.{flat_map};
 ghost use Rattle.dict_format.specs.Lines.{SpellsRow};
 ghost use Rattle.skk_calls.specs.Rows.{is_row};
@@ -6,7 +6,8 @@ ghost use Rattle.skk_calls.specs.Canonical.{canonical, is_good, item, with_slash
 ghost use Rattle.skk_calls.specs.Canonical.{written_note, written_block, mark_items};
 
 use crate::laws::good_rows_are_read_again;
-use skk_calls::{Block, Blocks, Cand, Cands, Row, needs_quotes};
+use exact_readers::{Printer, print_each};
+use skk_calls::{Block, Cand, Row, needs_quotes};
 use skk_text::{Memory, Text, Texts};
 use std::alloc::Global;
 
@@ -30,8 +31,8 @@ pub fn push_line(text: &mut Text, row: &Row) -> Result<(), Memory>
 {
     text.push_str(row.key().reading().as_str())?;
     text.push_str(" /")?;
-    push_cands(text, row.cands())?;
-    push_blocks(text, row.blocks())?;
+    print_each::<CandItem>(text, row.cands().as_slice())?;
+    print_each::<BlockItem>(text, row.blocks().as_slice())?;
     push_mark(text, row.hides())?;
     Ok(())
 }
@@ -45,15 +46,24 @@ pub fn print_item(alloc: Global, cand: &Cand) -> Result<Text, Memory>
     Ok(text)
 }
 
-// Adds the items of candidates, each with its slash.
-fn push_cands(line: &mut Text, cands: &Cands) -> Result<(), Memory>
-    ensures { OnOk result (line.new ≡ line.old ++ flat_map (λ cand. with_slash (item cand)) cands.now) }
-{
-    for place in 0..cands.len() {
-        push_item(line, cands.at(place))?;
-        line.push('/')?;
+// A candidate as an item, with its slash.
+struct CandItem;
+
+impl Printer for CandItem {
+    type Page = Text;
+
+    type Value = Cand;
+
+    ghost Token = { ℕ };
+
+    ghost shown = { λ text. text };
+
+    ghost printed = { λ cand. with_slash (item cand) };
+
+    fn print(line: &mut Text, cand: &Cand) -> Result<(), Memory> {
+        push_item(line, cand)?;
+        line.push('/')
     }
-    Ok(())
 }
 
 // Adds a candidate: its word, and its note where it has one.
@@ -75,15 +85,24 @@ fn push_note(line: &mut Text, note: &Text) -> Result<(), Memory>
     line.push_str(note.as_str())
 }
 
-// Adds blocks, each with its slash.
-fn push_blocks(line: &mut Text, blocks: &Blocks) -> Result<(), Memory>
-    ensures { OnOk result (line.new ≡ line.old ++ flat_map (λ block. with_slash (written_block block)) blocks.now) }
-{
-    for place in 0..blocks.len() {
-        push_block(line, blocks.at(place))?;
-        line.push('/')?;
+// A block as an item, with its slash.
+struct BlockItem;
+
+impl Printer for BlockItem {
+    type Page = Text;
+
+    type Value = Block;
+
+    ghost Token = { ℕ };
+
+    ghost shown = { λ text. text };
+
+    ghost printed = { λ block. with_slash (written_block block) };
+
+    fn print(line: &mut Text, block: &Block) -> Result<(), Memory> {
+        push_block(line, block)?;
+        line.push('/')
     }
-    Ok(())
 }
 
 // Adds a block: its okurigana and its words between brackets.
@@ -93,19 +112,28 @@ fn push_block(line: &mut Text, block: &Block) -> Result<(), Memory>
     line.push('[')?;
     line.push_str(block.okuri().text().as_str())?;
     line.push('/')?;
-    push_words(line, block.words())?;
+    print_each::<BlockWord>(line, block.words().as_slice())?;
     line.push(']')
 }
 
-// Adds words, each with its slash.
-fn push_words(line: &mut Text, words: &Texts) -> Result<(), Memory>
-    ensures { OnOk result (line.new ≡ line.old ++ flat_map (λ word. with_slash (written_word word)) words.now) }
-{
-    for place in 0..words.len() {
-        push_word(line, words.at(place))?;
-        line.push('/')?;
+// A word in a block, with its slash.
+struct BlockWord;
+
+impl Printer for BlockWord {
+    type Page = Text;
+
+    type Value = Text;
+
+    ghost Token = { ℕ };
+
+    ghost shown = { λ text. text };
+
+    ghost printed = { λ word. with_slash (written_word word) };
+
+    fn print(line: &mut Text, word: &Text) -> Result<(), Memory> {
+        push_word(line, word)?;
+        line.push('/')
     }
-    Ok(())
 }
 
 // Adds a word, quoted where it could not be read as it is.
@@ -167,18 +195,27 @@ fn push_mark(line: &mut Text, hides: &Texts) -> Result<(), Memory>
         return Ok(());
     }
     line.push_str("(skk-ignore-dic-word")?;
-    push_strings(line, hides)?;
+    print_each::<HiddenWord>(line, hides.as_slice())?;
     line.push_str(")/")?;
     Ok(())
 }
 
-// Adds words as strings, each behind a space.
-fn push_strings(line: &mut Text, words: &Texts) -> Result<(), Memory>
-    ensures { OnOk result (line.new ≡ line.old ++ flat_map (λ word. 0x20 ∷ quoted word) words.now) }
-{
-    for place in 0..words.len() {
+// A hidden word as a string of a mark, behind its space.
+struct HiddenWord;
+
+impl Printer for HiddenWord {
+    type Page = Text;
+
+    type Value = Text;
+
+    ghost Token = { ℕ };
+
+    ghost shown = { λ text. text };
+
+    ghost printed = { λ word. 0x20 ∷ quoted word };
+
+    fn print(line: &mut Text, word: &Text) -> Result<(), Memory> {
         line.push(' ')?;
-        push_string(line, words.at(place))?;
+        push_string(line, word)
     }
-    Ok(())
 }

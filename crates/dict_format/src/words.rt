@@ -1,11 +1,12 @@
-ghost use Rattle.std.specs.Prelude.{◌≡◌, ◌&&◌, ◌∷◌, ◌++◌, not, [], map, IfOk, OnOk};
+ghost use Rattle.std.specs.Prelude.{◌≡◌, ◌∷◌, ◌++◌, [], ℕ, List, map, IfOk, OnOk};
 ghost use Rattle.std.specs.Option.{option_map};
-ghost use Rattle.skk_text.specs.Lists.{is_empty};
-ghost use Rattle.dict_format.specs.Reading.{taken, behind, if_closed, then_at, is_octal, octal_of, octal_at, escape_at};
-ghost use Rattle.dict_format.specs.Reading.{piece_at, behind_quote, closes_form, string_at, marked_at, strings_at};
-ghost use Rattle.dict_format.specs.Reading.{marked, quoted_word, said};
+ghost use Rattle.exact_readers.specs.Formats.{whole};
 ghost use Rattle.word_sets.specs.Strings.{characters};
+ghost use Rattle.dict_format.specs.Words.{string_character, string_behind, quoted_word, marked_string, closed_strings};
+ghost use Rattle.dict_format.specs.Words.{marked_strings, marked_words, said};
 
+use crate::characters::string_character;
+use exact_readers::{Reader, past, read_many};
 use skk_text::Memory;
 use std::alloc::Global;
 
@@ -26,193 +27,181 @@ pub fn plain(alloc: Global, text: &[char]) -> Result<String, Memory>
 }
 
 // The word that a text says: the one that it quotes, or itself.
-#[tactic(auto, unfolding(crate::specs::Reading::said))]
 pub fn word_of(alloc: Global, text: &[char]) -> Result<String, Memory>
     ensures { IfOk result (λ word. characters word ≡ said text.now) }
 {
-    match quoted_word(alloc, text)? {
+    match whole_quoted(alloc, text)? {
         Some(word) => Ok(word),
         None => plain(alloc, text),
     }
 }
 
-// The word that a text quotes.
-#[tactic(auto, unfolding(crate::specs::Reading::quoted_word))]
-fn quoted_word(alloc: Global, text: &[char]) -> Result<Option<String>, Memory>
-    ensures { IfOk result (λ found. option_map characters found ≡ quoted_word text.now) }
+// The word that a whole text quotes.
+fn whole_quoted(alloc: Global, text: &[char]) -> Result<Option<String>, Memory>
+    ensures { IfOk result (λ found. option_map characters found ≡ whole quoted_word text.now) }
 {
-    match behind(text, &QUOTED) {
-        Some(string) => closed_string(alloc, string),
-        None => Ok(None),
-    }
-}
-
-// The word of a string behind which a form is closed.
-fn closed_string(alloc: Global, text: &[char]) -> Result<Option<String>, Memory>
-    ensures { IfOk result (λ found. option_map characters found ≡ then_at (string_at text.now) if_closed) }
-{
-    let Some((word, rest)) = string(alloc, text)? else {
-        return Ok(None);
-    };
-    if closes_form(rest) {
-        Ok(Some(word))
-    } else {
-        Ok(None)
-    }
-}
-
-// The words that a text marks.
-#[tactic(auto, unfolding(crate::specs::Reading::marked))]
-pub fn marked_words(alloc: Global, text: &[char]) -> Result<Option<Vec<String>>, Memory>
-    ensures { IfOk result (λ found. option_map (λ words. map characters words.items) found ≡ marked text.now) }
-{
-    match behind(text, &MARKED) {
-        Some(text) => strings(alloc, text),
-        None => Ok(None),
-    }
-}
-
-// What stands behind a beginning, where the text has it.
-fn behind<'t>(text: &'t [char], prefix: &[char]) -> Option<&'t [char]>
-    ensures { option_map (λ rest. rest.now) result ≡ behind prefix.now text.now }
-{
-    text.strip_prefix(prefix)
-}
-
-// The words of the strings of a mark, where there is one and `)` ends them.
-fn strings(alloc: Global, text: &[char]) -> Result<Option<Vec<String>>, Memory>
-    ensures { IfOk result (λ found. option_map (λ words. map characters words.items) found ≡ strings_at text.now) }
-{
-    let (words, rest) = all_strings(alloc, text)?;
-    if ends_mark(&words, rest) {
-        Ok(Some(words))
-    } else {
-        Ok(None)
-    }
-}
-
-// Whether there are words, and a mark is closed behind them.
-#[tactic(auto, using(crate::proofs::Cutting::empty_by_length))]
-fn ends_mark(words: &[String], rest: &[char]) -> bool
-    ensures { result ≡ (not (is_empty words.now) && closes_form rest.now) }
-{
-    !words.is_empty() && closes_form(rest)
-}
-
-// The words of strings, each behind a space, and what stands behind the last of them.
-fn all_strings(alloc: Global, text: &[char]) -> Result<(Vec<String>, &[char]), Memory>
-    ensures { IfOk result (λ parts. taken marked_at text.now ≡ (map characters parts.0.items, parts.1.now)) }
-{
-    let mut words = Vec::new(alloc);
-    let mut rest = text;
-    while let Some((word, behind)) = marked_string(alloc, rest)? {
-        words.push(word)?;
-        rest = behind;
-    }
-    Ok((words, rest))
-}
-
-// The word of a string behind a space, and what stands behind the string, where there is one.
-#[tactic(auto, unfolding(crate::specs::Reading::marked_at))]
-fn marked_string(alloc: Global, text: &[char]) -> Result<Option<(String, &[char])>, Memory>
-    ensures { IfOk result (λ found. option_map (λ parts. (characters parts.0, parts.1.now)) found
-        ≡ marked_at text.now) }
-{
-    match text {
-        [' ', '"', behind @ ..] => string(alloc, behind),
+    match quoted_word(alloc, text)? {
+        Some((word, [])) => Ok(Some(word)),
         _ => Ok(None),
     }
 }
 
-// Whether a parenthesis closes a form, and nothing stands behind it.
-fn closes_form(text: &[char]) -> bool
-    ensures { result ≡ closes_form text.now }
+// The word that is quoted at the front of a text, and what stands behind it.
+fn quoted_word(alloc: Global, text: &[char]) -> Result<Option<(String, &[char])>, Memory>
+    ensures { IfOk result (λ found. option_map (λ parts. (characters parts.0, parts.1.now)) found
+        ≡ quoted_word.step text.now) }
 {
-    matches!(text, [')'])
+    let Some(text) = past(text, &QUOTED) else {
+        return Ok(None);
+    };
+    match string(alloc, text)? {
+        Some((word, [')', rest @ ..])) => Ok(Some((word, rest))),
+        _ => Ok(None),
+    }
 }
 
-// The word of a string up to its closing double quote, and what stands behind that, where there is one.
-#[tactic(auto, unfolding(crate::specs::Reading::string_at))]
-fn string(alloc: Global, text: &[char]) -> Result<Option<(String, &[char])>, Memory>
-    ensures { IfOk result (λ found. option_map (λ parts. (characters parts.0, parts.1.now)) found
-        ≡ string_at text.now) }
+// The words that a whole text marks.
+pub fn whole_marked(alloc: Global, text: &[char]) -> Result<Option<Vec<String>>, Memory>
+    ensures { IfOk result (λ found. option_map (λ words. map characters words.items) found
+        ≡ whole marked_words text.now) }
 {
-    let mut word = String::new(alloc);
-    let mut rest = text;
-    while let Some((c, behind)) = piece(rest) {
-        push(&mut word, c)?;
-        rest = behind;
+    match marked_words(alloc, text)? {
+        Some((words, [])) => Ok(Some(words)),
+        _ => Ok(None),
     }
-    match behind_quote(rest) {
-        Some(behind) => Ok(Some((word, behind))),
+}
+
+// The words that are marked at the front of a text, and what stands behind them.
+fn marked_words(alloc: Global, text: &[char]) -> Result<Option<(Vec<String>, &[char])>, Memory>
+    ensures { IfOk result (λ found. option_map (λ parts. (map characters parts.0.items, parts.1.now)) found
+        ≡ marked_words.step text.now) }
+{
+    match past(text, &MARKED) {
+        Some(text) => some_strings(alloc, text),
         None => Ok(None),
     }
 }
 
-// What stands behind a double quote.
-fn behind_quote(text: &[char]) -> Option<&[char]>
-    ensures { option_map (λ rest. rest.now) result ≡ behind_quote text.now }
+// The words of the strings of a mark, where there is one and a parenthesis closes it.
+fn some_strings(alloc: Global, text: &[char]) -> Result<Option<(Vec<String>, &[char])>, Memory>
+    ensures { IfOk result (λ found. option_map (λ parts. (map characters parts.0.items, parts.1.now)) found
+        ≡ marked_strings.step text.now) }
 {
-    match text {
-        ['"', rest @ ..] => Some(rest),
-        _ => None,
+    match closed_strings(alloc, text)? {
+        Some((words, rest)) if !words.is_empty() => Ok(Some((words, rest))),
+        _ => Ok(None),
     }
 }
 
-// The character that the first piece of a string spells, and what stands behind the piece.
-#[tactic(auto, unfolding(crate::specs::Reading::piece_at))]
-fn piece(text: &[char]) -> Option<(char, &[char])>
-    ensures { option_map (λ parts. (parts.0, parts.1.now)) result ≡ piece_at text.now }
+// The words of the strings of a mark up to the parenthesis that closes it.
+#[tactic(auto, using(crate::proofs::Exactness::marked_string_exact))]
+fn closed_strings(alloc: Global, text: &[char]) -> Result<Option<(Vec<String>, &[char])>, Memory>
+    ensures { IfOk result (λ found. option_map (λ parts. (map characters parts.0.items, parts.1.now)) found
+        ≡ closed_strings.step text.now) }
 {
-    match text {
-        [] | ['"', ..] => None,
-        ['\\', escape, rest @ ..] => escaped_char(*escape, rest),
-        ['\\'] => None,
-        [c, rest @ ..] => Some((*c, rest)),
-    }
-}
-
-// The character that a backslash with another behind it spells.
-fn escaped_char(escape: char, rest: &[char]) -> Option<(char, &[char])>
-    ensures { option_map (λ parts. (parts.0, parts.1.now)) result ≡ escape_at (escape ∷ rest.now) }
-{
-    match escape {
-        '"' | '\\' => Some((escape, rest)),
-        'n' => Some(('\n', rest)),
-        'r' => Some(('\r', rest)),
-        _ => octal_digits(escape, rest),
-    }
-}
-
-// The character of an octal digit and the two behind it, and what stands behind those.
-fn octal_digits(first: char, rest: &[char]) -> Option<(char, &[char])>
-    ensures { option_map (λ parts. (parts.0, parts.1.now)) result ≡ octal_at first rest.now }
-{
+    let (words, rest) = read_many(alloc, &MarkedString, text)?;
     match rest {
-        [second, third, behind @ ..] => match octal(first, *second, *third) {
-            Some(c) => Some((c, behind)),
-            None => None,
-        },
-        _ => None,
+        [')', rest @ ..] => Ok(Some((words, rest))),
+        _ => Ok(None),
     }
 }
 
-// The character below 128 whose number three octal digits are.
-fn octal(first: char, second: char, third: char) -> Option<char>
-    ensures { result ≡ octal_of first second third }
-{
-    if !matches!(first, '0' | '1') || !is_octal(second) || !is_octal(third) {
-        return None;
+// A string of a mark, behind its space.
+struct MarkedString;
+
+impl Reader<char> for MarkedString {
+    type Value = String;
+
+    type Many = Vec<String>;
+
+    ghost Token = { ℕ };
+
+    ghost Item = { List ℕ };
+
+    ghost tokens = { λ text. text };
+
+    ghost item = { characters };
+
+    ghost items = { λ words. map characters words.items };
+
+    ghost format = { λ _. marked_string };
+
+    fn read<'t>(
+        &self,
+        alloc: Global,
+        text: &'t [char],
+    ) -> Result<Option<(String, &'t [char])>, Memory> {
+        match text {
+            [' ', '"', rest @ ..] => string(alloc, rest),
+            _ => Ok(None),
+        }
     }
-    let number = (first as u32 - 0x30) * 64 + (second as u32 - 0x30) * 8 + (third as u32 - 0x30);
-    char::from_u32(number)
+
+    fn none(alloc: Global) -> Vec<String> {
+        Vec::new(alloc)
+    }
+
+    fn push(words: &mut Vec<String>, word: String) -> Result<(), Memory> {
+        words.push(word)?;
+        Ok(())
+    }
 }
 
-// Whether a character is an octal digit.
-fn is_octal(c: char) -> bool
-    ensures { result ≡ is_octal c }
+// The word of a string up to its closing double quote, and what stands behind that, where there is one.
+#[tactic(auto, using(crate::proofs::Exactness::character_exact))]
+fn string(alloc: Global, text: &[char]) -> Result<Option<(String, &[char])>, Memory>
+    ensures { IfOk result (λ found. option_map (λ parts. (characters parts.0, parts.1.now)) found
+        ≡ string_behind.step text.now) }
 {
-    matches!(c, '0'..='7')
+    let (word, rest) = read_many(alloc, &StringCharacter, text)?;
+    match rest {
+        ['"', rest @ ..] => Ok(Some((word, rest))),
+        _ => Ok(None),
+    }
+}
+
+// A character of a string.
+struct StringCharacter;
+
+impl Reader<char> for StringCharacter {
+    type Value = char;
+
+    type Many = String;
+
+    ghost Token = { ℕ };
+
+    ghost Item = { ℕ };
+
+    ghost tokens = { λ text. text };
+
+    ghost item = { λ c. c };
+
+    ghost items = { characters };
+
+    ghost format = { λ _. string_character };
+
+    fn read<'t>(
+        &self,
+        _alloc: Global,
+        text: &'t [char],
+    ) -> Result<Option<(char, &'t [char])>, Memory> {
+        Ok(string_character(text))
+    }
+
+    fn none(alloc: Global) -> String {
+        new_string(alloc)
+    }
+
+    fn push(word: &mut String, c: char) -> Result<(), Memory> {
+        push(word, c)
+    }
+}
+
+// A string of no characters.
+fn new_string(alloc: Global) -> String
+    ensures { characters result ≡ [] }
+{
+    String::new(alloc)
 }
 
 // Adds a character.

@@ -1,7 +1,7 @@
 use Rattle.std.proofs.Common.{◌≡◌, ◌++◌, map, take}
 use Rattle.std.specs.List.{flat_map}
 use Rattle.skk_calls.specs.Canonical.{canonical}
-use Rattle.dict_format.specs.PrintedFiles.{with_line_end}
+use Rattle.exact_readers.specs.Lines.{with_line_end}
 use Rattle.dict_format.proofs.file_printing.push_lines.Given as goal
 
 -- what was added are the lines of the rows so far

@@ -2,7 +2,8 @@ use Rattle.std.proofs.Common.{◌≡◌, ◌++◌, ◌∷◌, [], ◌∙◌, ap,
 use Rattle.std.specs.List.{flat_map}
 use Rattle.std.proofs.lemmas.Result.{on_ok_weaker}
 use Rattle.skk_calls.specs.Canonical.{canonical}
-use Rattle.dict_format.specs.PrintedFiles.{part_in_order, part_line, with_line_end}
+use Rattle.exact_readers.specs.Lines.{with_line_end}
+use Rattle.dict_format.specs.PrintedFiles.{part_in_order, part_line}
 use Rattle.dict_format.proofs.Printed.{three_pieces}
 use Rattle.dict_format.proofs.file_printing.push_part.Goals as goal
 

@@ -1,6 +1,7 @@
 use Rattle.std.proofs.Common.{◌∙◌, ◌+◌, ℕ, List, sym, ap, subst, rules}
 use Rattle.skk_calls.specs.declared.part.Part.{Part}
-use Rattle.dict_format.specs.FileLines.{without_mark, TakeAll, entry_of, part_behind, kind_of}
+use Rattle.exact_readers.specs.Trimming.{without_mark}
+use Rattle.dict_format.specs.FileLines.{TakeAll, entry_of, part_behind, kind_of}
 use Rattle.dict_format.proofs.FileEntries.{IsReadTo, line-read}
 use Rattle.dict_format.proofs.file_reading.read_text.Goals as goal
 

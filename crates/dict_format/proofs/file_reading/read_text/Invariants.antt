@@ -1,7 +1,7 @@
 use Rattle.std.proofs.Common.{length}
 use denote.Text.{Utf8}
 use denote.Shadow.{shadow}
-use Rattle.dict_format.specs.FileLines.{without_mark}
+use Rattle.exact_readers.specs.Trimming.{without_mark}
 use Rattle.dict_format.proofs.FileEntries.{IsReadTo}
 use Rattle.dict_format.proofs.file_reading.read_text.Given as goal
 

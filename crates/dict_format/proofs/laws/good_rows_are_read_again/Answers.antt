@@ -4,4 +4,5 @@ use Rattle.dict_format.proofs.RowsBack.{row_back}
 use Rattle.dict_format.proofs.laws.good_rows_are_read_again.Goals as goal
 
 pub returns : goal.returns
-returns c row valid good = canonical_spells row valid good (row_back row valid (good_row row valid good).hides)
+returns c row valid good =
+    let is = good_row row valid good in canonical_spells row valid good (row_back row is.parts is.hides)

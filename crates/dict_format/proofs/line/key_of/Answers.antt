@@ -1,15 +1,15 @@
-use Rattle.std.proofs.Common.{◌≡◌, ◌∙◌, sym, ap, subst, List, ℕ, false, nat_lt, refl, arith}
+use Rattle.std.proofs.Common.{◌≡◌, ◌∙◌, sym, ap, subst, List, ℕ, true, false, nat_lt, refl, arith}
 use Rattle.std.proofs.lemmas.Bool.{not-false, le-ltb}
 use Rattle.skk_text.specs.Text.{byte_len}
 use Rattle.skk_calls.specs.Rows.{is_row_key, reading_limit}
 use Rattle.dict_format.specs.Reading.{key_at}
 use Rattle.dict_format.specs.Reasons.{is_bad_reading, lacks_letter}
-use Rattle.dict_format.proofs.KeyReading.{is_key-from}
+use Rattle.dict_format.proofs.KeyReading.{key_is}
 use Rattle.dict_format.proofs.line.key_of.Goals as goal
 
-pub returns-in-Err : goal.returns-in-Err
+pub returns-in-Err-clause-gives : goal.returns-in-Err-clause-gives
 unfolding key_at
-returns-in-Err c =
+returns-in-Err-clause-gives c =
     let part = c.args.part in
     let reading = c.args.reading.now in
     let same : c.of-text.result ≡ reading = c.of-text.ensures ∙ c.in_ok-plain.ensures in
@@ -21,6 +21,7 @@ returns-in-Err c =
     let invalid : is_row_key (record { part = part; reading = reading }) ≡ false =
     subst (λ (r : List ℕ). is_row_key (record { part = part; reading = r }) ≡ false) same
     (c.in-Err.ensures.invalid.0 refl) in
-    let letter =
-    not-false (lacks_letter part reading) (sym (is_key-from part reading c.requires good short) ∙ invalid) in
+    let letter : lacks_letter part reading ≡ true =
+    not-false (lacks_letter part reading)
+    (sym (key_is part reading c.requires false false _ good short refl) ∙ invalid) in
     rw (good, short, letter) refl
