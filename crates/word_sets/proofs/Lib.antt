@@ -1,3 +1,3 @@
 pub mod CandsMade
 pub mod RefSets
-pub mod StringSets
+pub mod WordMaps

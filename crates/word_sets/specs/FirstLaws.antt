@@ -2,10 +2,11 @@
 use Rattle.std.proofs.Common.{◌≡◌, ℕ, Bool, true, false, cond, not, ◌&&◌, ◌||◌, List, [], ◌∷◌, ◌++◌, map, refl, sym, ap}
 use Rattle.std.proofs.Common.{◌∙◌, append_assoc}
 use Rattle.std.specs.List.{filter, fold, list_all}
-use Rattle.std.proofs.lemmas.Bool.{and_from, and_parts, not-true}
+use Rattle.std.proofs.lemmas.Bool.{and_from, and_parts, cond_both, not-true}
 use Rattle.std.proofs.lemmas.List.{append-nil, map-append}
 use Rattle.std.proofs.lemmas.List.Folds.{list_all-append, list_any-append}
 use Rattle.std.proofs.lemmas.List.Sums.{fold-append}
+use Rattle.std.proofs.lemmas.Simd.{map-map}
 use Rattle.skk_calls.specs.DifferLaws.{differ_end}
 use Rattle.skk_calls.specs.Found.{first_of_each}
 pub use Rattle.skk_calls.specs.KeyLaws.{same_itself, same_equal, same_other}
@@ -27,7 +28,8 @@ or_last true false = refl
 or_last false true = refl
 or_last false false = refl
 
-or_none : (a : Bool) → (a || false) ≡ a
+-- a test or none is the test
+pub or_none : (a : Bool) → (a || false) ≡ a
 or_none true = refl
 or_none false = refl
 
@@ -51,18 +53,15 @@ module _ {X : Type 0} (text_of : X → List ℕ) where
   -- the texts with one more item are the same whether its text was new or not
   pub with_new-texts : (xs : List X) (y : X) (text : List ℕ) → has_text (map text_of (with_new text_of xs y)) text
       ≡ (same_text text (text_of y) || has_text (map text_of xs) text)
-  with_new-texts xs y text = by (has_text (map text_of xs) (text_of y)) refl
+  with_new-texts xs y text =
+      cond_both (has_text (map text_of xs) (text_of y)) xs (xs ++ y ∷ [])
+      (λ zs. has_text (map text_of zs) text ≡ (same_text text (text_of y) || has_text (map text_of xs) text))
+      (λ there. known there (same_text text (text_of y)) refl) (λ none. texts_pushed xs y text)
     where
       known : has_text (map text_of xs) (text_of y) ≡ true → (b : Bool) → same_text text (text_of y) ≡ b
           → has_text (map text_of xs) text ≡ (b || has_text (map text_of xs) text)
       known there true e = ap (has_text (map text_of xs)) (same_equal text (text_of y) e) ∙ there
       known there false e = refl
-
-      by : (b : Bool) → has_text (map text_of xs) (text_of y) ≡ b
-          → has_text (map text_of (cond b xs (xs ++ y ∷ []))) text
-          ≡ (same_text text (text_of y) || has_text (map text_of xs) text)
-      by true e = known e (same_text text (text_of y)) refl
-      by false e = texts_pushed xs y text
 
   -- the texts of items to which others were added one by one
   pub fold_new-texts : (xs ys : List X) (text : List ℕ) → has_text (map text_of (fold (with_new text_of) xs ys)) text
@@ -76,12 +75,10 @@ module _ {X : Type 0} (text_of : X → List ℕ) where
   -- the texts differ still
   pub with_new-differ : (xs : List X) (y : X) → texts_differ (map text_of xs) ≡ true
       → texts_differ (map text_of (with_new text_of xs y)) ≡ true
-  with_new-differ xs y differ = by (has_text (map text_of xs) (text_of y)) refl
-    where
-      by : (b : Bool) → has_text (map text_of xs) (text_of y) ≡ b
-          → texts_differ (map text_of (cond b xs (xs ++ y ∷ []))) ≡ true
-      by true e = differ
-      by false e = ap texts_differ (map-append text_of xs (y ∷ [])) ∙ differ_end (map text_of xs) (text_of y) differ e
+  with_new-differ xs y differ =
+      cond_both (has_text (map text_of xs) (text_of y)) xs (xs ++ y ∷ [])
+      (λ zs. texts_differ (map text_of zs) ≡ true) (λ there. differ)
+      (λ none. ap texts_differ (map-append text_of xs (y ∷ [])) ∙ differ_end (map text_of xs) (text_of y) differ none)
 
   pub fold_new-differ : (xs ys : List X) → texts_differ (map text_of xs) ≡ true
       → texts_differ (map text_of (fold (with_new text_of) xs ys)) ≡ true
@@ -91,12 +88,10 @@ module _ {X : Type 0} (text_of : X → List ℕ) where
   -- what holds of all holds of those that are added
   pub with_new-all : (p : X → Bool) (xs : List X) (y : X) → list_all p xs ≡ true → p y ≡ true
       → list_all p (with_new text_of xs y) ≡ true
-  with_new-all p xs y all one = by (has_text (map text_of xs) (text_of y))
-    where
-      by : (b : Bool) → list_all p (cond b xs (xs ++ y ∷ [])) ≡ true
-      by true = all
-      by false =
-          list_all-append p xs (y ∷ []) ∙ and_from (list_all p xs) (p y && true) all (and_from (p y) true one refl)
+  with_new-all p xs y all one =
+      cond_both (has_text (map text_of xs) (text_of y)) xs (xs ++ y ∷ []) (λ zs. list_all p zs ≡ true) (λ there. all)
+      (λ none. list_all-append p xs (y ∷ [])
+      ∙ and_from (list_all p xs) (p y && true) all (and_from (p y) true one refl))
 
   pub fold_new-all : (p : X → Bool) (xs ys : List X) → list_all p xs ≡ true → list_all p ys ≡ true
       → list_all p (fold (with_new text_of) xs ys) ≡ true
@@ -209,13 +204,6 @@ module _ {X : Type 0} (text_of : X → List ℕ) where
 
 -- Texts that are added one by one
 
--- texts differ still
-pub texts_with_new-differ : (texts : List (List ℕ)) (text : List ℕ) → texts_differ texts ≡ true
-    → texts_differ (with_new (λ t. t) texts text) ≡ true
-texts_with_new-differ texts text differ =
-    ap texts_differ (sym (texts_stay (with_new (λ t. t) texts text)))
-    ∙ with_new-differ (λ t. t) texts text (ap texts_differ (texts_stay texts) ∙ differ)
-
 -- the texts to which others were added one by one have those of both
 pub texts_fold_new : (texts others : List (List ℕ)) (text : List ℕ)
     → has_text (fold (with_new (λ t. t)) texts others) text ≡ (has_text texts text || has_text others text)
@@ -224,3 +212,15 @@ texts_fold_new texts others text =
     ∙ fold_new-texts (λ t. t) texts others text
     ∙ ap (λ ts. has_text ts text || has_text (map (λ t. t) others) text) (texts_stay texts)
     ∙ ap (λ ts. has_text texts text || has_text ts text) (texts_stay others)
+
+-- what is made of items with one more is what is made of each
+pub with_new-map : {X Y : Type 0} (f : X → Y) (text_of : Y → List ℕ) (xs : List X) (x : X)
+    → map f (with_new (λ y. text_of (f y)) xs x) ≡ with_new text_of (map f xs) (f x)
+with_new-map f text_of xs x =
+    by (has_text (map (λ y. text_of (f y)) xs) (text_of (f x)))
+    ∙ ap (λ texts. cond (has_text texts (text_of (f x))) (map f xs) (map f xs ++ f x ∷ []))
+    (sym (map-map text_of f xs))
+  where
+    by : (b : Bool) → map f (cond b xs (xs ++ x ∷ [])) ≡ cond b (map f xs) (map f xs ++ f x ∷ [])
+    by true = refl
+    by false = map-append f xs (x ∷ [])

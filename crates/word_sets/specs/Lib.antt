@@ -1,4 +1,5 @@
 pub mod FirstLaws
 pub mod Firsts
+pub mod Lent
 pub mod Strings
 pub mod WordRefs

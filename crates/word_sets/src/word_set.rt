@@ -1,4 +1,4 @@
-use indexmap::IndexSet;
+use crate::word_map::WordMap;
 use skk_text::{Memory, Text, Texts};
 use std::alloc::Global;
 use std::marker::Model;
@@ -6,26 +6,20 @@ use std::marker::Model;
 /// Words in the order in which they came, each once.
 #[derive(Drop)]
 pub struct WordSet {
-    words: IndexSet<String>,
+    words: WordMap<()>,
 }
 
 impl Model for WordSet {
-    ghost use Rattle.std.specs.Prelude.{◌≡◌, true, List, ℕ};
-    ghost use Rattle.skk_calls.specs.Rows.{texts_differ};
-    ghost use Rattle.word_sets.specs.Strings.{texts_in};
+    ghost use Rattle.std.specs.Prelude.{List, ℕ, map};
 
     ghost Value = { List (List ℕ) };
 
-    ghost view = { λ s. texts_in s.words };
-
-    ghost invariant = { λ s. texts_differ (texts_in s.words) ≡ true };
+    ghost view = { λ s. map (λ pair. pair.0) s.words };
 }
 
 impl WordSet {
     ghost use Rattle.std.specs.Prelude.{◌≡◌, [], true, not, IfOk, OnOk, OnErr};
-    ghost use Rattle.std.specs.List.{position_or_len};
-    ghost use Rattle.std.specs.Str.{chars};
-    ghost use Rattle.skk_calls.specs.Rows.{has_text, same_text, texts_differ};
+    ghost use Rattle.skk_calls.specs.Rows.{has_text, texts_differ};
     ghost use Rattle.word_sets.specs.Firsts.{with_new};
     ghost use Rattle.word_sets.specs.Strings.{characters};
 
@@ -34,7 +28,7 @@ impl WordSet {
         ensures { result ≡ [] }
     {
         WordSet {
-            words: IndexSet::new(alloc),
+            words: WordMap::new(alloc),
         }
     }
 
@@ -44,26 +38,8 @@ impl WordSet {
         ensures is_new { IfOk result (λ is_new. is_new ≡ not (has_text self.old (characters word))) }
         ensures err { OnErr result (self.new ≡ self.old) }
     {
-        let (_, is_new) = self.insert_full(word)?;
+        let is_new = self.words.insert(word, ())?;
         Ok(is_new)
-    }
-
-    /// Adds a word at the end unless it is there, and answers its place, counted from 0, and whether it is a new one.
-    pub fn insert_full(&mut self, word: String) -> Result<(usize, bool), Memory>
-        ensures ok { OnOk result (self.new ≡ with_new (λ text. text) self.old (characters word)) }
-        ensures place { IfOk result (λ parts. parts.0 ≡ position_or_len (same_text (characters word)) self.old) }
-        ensures is_new { IfOk result (λ parts. parts.1 ≡ not (has_text self.old (characters word))) }
-        ensures err { OnErr result (self.new ≡ self.old) }
-    {
-        let (place, is_new) = self.words.insert_full(word)?;
-        Ok((place, is_new))
-    }
-
-    /// Whether a word is there. Takes no memory.
-    pub fn contains(&self, word: &str) -> bool
-        ensures { result ≡ has_text self.now (chars word.now) }
-    {
-        self.words.contains(word)
     }
 
     /// The words as texts, which are moved.
@@ -72,7 +48,7 @@ impl WordSet {
         ensures differ { IfOk result (λ texts. texts_differ texts ≡ true) }
     {
         let mut texts = Texts::new(alloc);
-        for word in self.words {
+        for (word, _) in self.words {
             texts.push(Text::of(word))?;
         }
         Ok(texts)
