@@ -5,7 +5,7 @@ use Rattle.std.proofs.Common.{subst, arith, add-one}
 use Rattle.std.specs.Cmp.{IsStrictWeakOrder}
 use Rattle.std.specs.List.{insert, list_all}
 use Rattle.std.specs.List.Sorted.{IsPartitionedBy, IsPartitionPoint, IsPermutation, IsSortedBy}
-use Rattle.std.specs.Option.{option_and_then}
+use Rattle.std.specs.Option.{is_some, option_and_then}
 use Rattle.std.proofs.lemmas.Bool.{and_from, and_parts, not-true}
 use Rattle.std.proofs.lemmas.List.{length-map}
 use Rattle.std.proofs.lemmas.List.Sorted.{IsPermutation-cons, IsPermutation-to_front, IsPermutation-trans}
@@ -15,8 +15,8 @@ use Rattle.ordered_lists.specs.OrderLaws.{insert_ascends, insert_moves, item_ord
 use Rattle.ordered_lists.specs.OrderLaws.{items_ascend, same_in_order, sort_moves, sorted_once, list_all-sort_by, apart}
 use Rattle.ordered_lists.specs.Orders.{Order, insert_by, passes, sort_by, before, differ, item_above, item_of, HasAt}
 use Rattle.ordered_lists.specs.Orders.{IsIndex, IsPlace}
-use Rattle.ordered_lists.specs.PlaceLaws.{first_at, first_read, if_has, insert_at, item_at, item_read, partitioned}
-use Rattle.ordered_lists.specs.PlaceLaws.{point_read}
+use Rattle.ordered_lists.specs.PlaceLaws.{above_at, first_at, first_read, if_has, insert_at, item_at, item_read}
+use Rattle.ordered_lists.specs.PlaceLaws.{partitioned, point_read}
 
 -- ascending items are sorted
 pairs_sorted : {X : Type 0} (less : X → X → Bool) → IsStrictWeakOrder less → (xs : List X) → all_pairs less xs ≡ true
@@ -92,6 +92,16 @@ place_more {X} xs i low = ap (λ n. map Some (take n xs)) (add-one i) ∙ next x
     next (y ∷ ys) zero high = refl
     next (y ∷ ys) (suc k) high = ap (λ os. Some y ∷ os) (next ys k (omega (arith, high)))
 
+-- an item is found where it has the key
+had_by : {X K : Type 0} (key : X → K) (keys : Order K) (k : K) (here : Option X)
+    → is_some (option_and_then (if_has key keys k) here) ≡ passes (λ x. keys.same (key x) k) here
+had_by key keys k None = refl
+had_by key keys k (Some x) = by (keys.same (key x) k)
+  where
+    by : (b : Bool) → is_some (cond b (Some x) None) ≡ b
+    by true = refl
+    by false = refl
+
 -- a test that is turned twice
 twice : (b : Bool) → b ≡ not (not b)
 twice true = refl
@@ -146,6 +156,32 @@ module _ {X K : Type 0} (key : X → K) (keys : Order K) (all : List X) (places 
         ∙ item_at key keys k (sort_by (before key keys) items) i ascends place
         ∙ ap (option_and_then (if_has key keys k))
         (sym (item_read (slice_get all) places (sort_by (before key keys) items) i index.in_order))
+
+    -- so it is known by what stands there
+    pub near_item : (i : ℕ) (here : Option X) → here ≡ option_and_then (slice_get all) (slice_get places i)
+        → IsPlace key keys k (sort_by (before key keys) items) i
+        → option_and_then (if_has key keys k) here ≡ item_of key keys k items
+    near_item i here is place = ap (option_and_then (if_has key keys k)) is ∙ sym (item_found i place)
+
+    -- and the first whose key is greater stands behind it, or there
+    pub near_above : (i : ℕ) (here found : Option X) → here ≡ option_and_then (slice_get all) (slice_get places i)
+        → found ≡ option_and_then (if_has key keys k) here → IsPlace key keys k (sort_by (before key keys) items) i
+        → cond (is_some found) (option_and_then (slice_get all) (slice_get places (i + 1))) here
+        ≡ item_above key keys k (sort_by (before key keys) items)
+    near_above i here found is has place =
+        let ordered = sort_by (before key keys) items in
+        let same = λ (x : X). keys.same (key x) k in
+        let read = is ∙ item_read (slice_get all) places ordered i index.in_order in
+        ap (λ b. cond b (option_and_then (slice_get all) (slice_get places (i + 1))) here)
+        (ap is_some has ∙ had_by key keys k here ∙ ap (passes same) read)
+        ∙ by (passes same (slice_get ordered i)) ∙ sym (above_at key keys k ordered i ascends place)
+      where
+        by : (b : Bool) → cond b (option_and_then (slice_get all) (slice_get places (i + 1))) here
+            ≡ slice_get (sort_by (before key keys) items) (cond b (suc i) i)
+        by true =
+            ap (λ n. option_and_then (slice_get all) (slice_get places n)) (add-one i)
+            ∙ item_read (slice_get all) places (sort_by (before key keys) items) (suc i) index.in_order
+        by false = is ∙ item_read (slice_get all) places (sort_by (before key keys) items) i index.in_order
 
     -- and behind it the first whose key is greater
     pub above_found : (i : ℕ) → i ≤ length places

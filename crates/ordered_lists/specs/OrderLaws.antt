@@ -136,13 +136,13 @@ module _ {X : Type 0} (less : X → X → Bool) (order : IsStrictWeakOrder less)
       (sort_ascends xs parts.1)
 
   -- of a sorted list the rest is sorted, and no item of it is less than the first
-  rest_sorted : (y : X) (ys : List X) → IsSortedBy less (y ∷ ys) → IsSortedBy less ys
+  pub rest_sorted : (y : X) (ys : List X) → IsSortedBy less (y ∷ ys) → IsSortedBy less ys
   rest_sorted y ys sorted k d low high =
       let at = λ (n : ℕ). less (get_or (y ∷ ys) n d) (get_or ys k d) ≡ false in
       let next : suc k + 1 ≡ suc (k + 1) = omega arith in
       subst at next (sorted (suc k) d (omega arith) (omega (arith, high)))
 
-  none_less : (y z : X) (ys : List X) → IsSortedBy less (y ∷ ys) → Contains ys z → less z y ≡ false
+  pub none_less : (y z : X) (ys : List X) → IsSortedBy less (y ∷ ys) → Contains ys z → less z y ≡ false
   none_less y z ys sorted (k, low, is) =
       ap (λ w. less w y) (sym is) ∙ sorted_far less order (y ∷ ys) sorted 0 (suc k) z (omega arith) (omega (arith, low))
 

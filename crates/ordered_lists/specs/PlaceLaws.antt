@@ -9,7 +9,8 @@ use Rattle.std.proofs.lemmas.List.{get_or-map, length-map}
 use Rattle.skk_text.specs.Pairs.{all_pairs}
 use Rattle.skk_text.specs.PairsLaws.{list_all-weaker}
 use Rattle.skk_text.specs.FilterLaws.{filter_all, find_none}
-use Rattle.ordered_lists.specs.Orders.{Order, insert_by, passes, before, ascend, item_of, without, with_item, IsPlace}
+use Rattle.ordered_lists.specs.Orders.{Order, insert_by, passes, before, ascend, item_above, item_of, without}
+use Rattle.ordered_lists.specs.Orders.{with_item, IsPlace}
 use Rattle.ordered_lists.specs.OrderLaws.{greater, greater_differs, insert_first, less_differs, weak_order}
 
 -- Items that are read at places
@@ -108,6 +109,12 @@ point_made f p (x ∷ xs) i le point = (
   λ k d low high. let within : k < length (x ∷ xs) = omega (arith, high, length-map (x ∷ xs) f) in
       ap p (get_or-map f (x ∷ xs) k x d within) ∙ point.1 k x low within,
 )
+
+-- where all items pass, the first is found
+first_passes : {X : Type 0} (p : X → Bool) (xs : List X) → list_all p xs ≡ true → find p xs ≡ slice_get xs 0
+first_passes p [] all = refl
+first_passes p (x ∷ xs) all =
+    ap (λ b. cond b (Some x) (find p xs)) (and_parts (p x) (list_all p xs) all).0
 
 -- Items that ascend by their keys
 
@@ -254,6 +261,35 @@ module _ {X K : Type 0} (key : X → K) (keys : Order K) where
       ap (λ b. cond b (Some y) (item_of key keys k ys))
       (less_differs keys (key y) k (place.0 0 y (omega arith) (omega arith)))
       ∙ item_at k ys i parts.1 (place_behind k y ys i place)
+
+  -- the first greater item stands behind that of the key, or at its place
+  pub above_at : (k : K) (xs : List X) (i : ℕ) → ascend key keys xs ≡ true → IsPlace key keys k xs i
+      → item_above key keys k xs
+      ≡ slice_get xs (cond (passes (λ x. keys.same (key x) k) (slice_get xs i)) (suc i) i)
+  above_at k [] i pairs place = refl
+  above_at k (y ∷ ys) zero pairs place =
+      let parts = and_parts (list_all (before key keys y) ys) (ascend key keys ys) pairs in
+      by (keys.same (key y) k) refl parts.0
+    where
+      by : (b : Bool) → keys.same (key y) k ≡ b → list_all (before key keys y) ys ≡ true
+          → item_above key keys k (y ∷ ys) ≡ slice_get (y ∷ ys) (cond b 1 0)
+      by true e above =
+          let here : keys.less k (key y) ≡ false =
+          ap (keys.less k) (keys.equal (key y) k e) ∙ keys.irreflexive k in
+          rw here (first_passes (λ x. keys.less k (key x)) ys (behind_same k y ys e above))
+      by false e above =
+          ap (λ b. cond b (Some y) (item_above key keys k ys))
+          (greater keys (key y) k e (place.1 0 y (omega arith) (omega arith)))
+  above_at k (y ∷ ys) (suc i) pairs place =
+      let parts = and_parts (list_all (before key keys y) ys) (ascend key keys ys) pairs in
+      ap (λ b. cond b (Some y) (item_above key keys k ys))
+      ((weak_order keys).one_way (key y) k (place.0 0 y (omega arith) (omega arith)))
+      ∙ above_at k ys i parts.1 (place_behind k y ys i place)
+      ∙ by (passes (λ x. keys.same (key x) k) (slice_get ys i))
+    where
+      by : (b : Bool) → slice_get ys (cond b (suc i) i) ≡ slice_get (y ∷ ys) (cond b (suc (suc i)) (suc i))
+      by true = refl
+      by false = refl
 
   -- an item that takes the place of a key is found by it
   pub found_put : (k : K) (x : X) (xs : List X) (i : ℕ) → IsPlace key keys k xs i → i < length xs

@@ -20,7 +20,7 @@ pub fn item_of<'a, T: Keyed<S>, S>(items: &'a [T], sought: &S) -> Option<&'a T>
     requires { ascend T.key T.keys items.now ≡ true }
     ensures { option_copied result ≡ item_of T.key T.keys (T.sought_key sought.now) items.now }
 {
-    same_at(items, place_of(items, sought), sought)
+    where_same(item_at(items, place_of(items, sought)), sought)
 }
 
 /// Whether the item of a key stands at a place.
@@ -33,15 +33,11 @@ pub fn has_key_at<T: Keyed<S>, S>(items: &[T], place: usize, sought: &S) -> bool
     }
 }
 
-// The item at a place, where it has the key.
-fn same_at<'a, T: Keyed<S>, S>(items: &'a [T], place: usize, sought: &S) -> Option<&'a T>
-    ensures { option_copied result
-        ≡ option_and_then (if_has T.key T.keys (T.sought_key sought.now)) (slice_get items.now place) }
+// The item at a place.
+fn item_at<T>(items: &[T], place: usize) -> Option<&T>
+    ensures { option_copied result ≡ slice_get items.now place }
 {
-    match items.get(place) {
-        Some(item) if item.compare(sought).is_eq() => Some(item),
-        _ => None,
-    }
+    items.get(place)
 }
 
 // An item, where it has the key.

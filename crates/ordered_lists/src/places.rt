@@ -91,6 +91,26 @@ impl Places {
         where_same(item_at(items, &self.places, index), sought)
     }
 
+    /// The item of a key among those of an index, and the first in order whose key is greater, as `item_of` and
+    /// `item_above` give them, by one search.
+    pub fn item_and_above<'a, T: Keyed<S>, S>(
+        &self,
+        items: &'a [T],
+        sought: &S,
+    ) -> (Option<&'a T>, Option<&'a T>)
+        ensures item { (those : List T) → IsIndex T.key T.keys items.now self.now those
+            → option_copied result.0 ≡ item_of T.key T.keys (T.sought_key sought.now) those }
+        ensures above { (those : List T) → IsIndex T.key T.keys items.now self.now those → option_copied result.1
+            ≡ item_above T.key T.keys (T.sought_key sought.now) (sort_by (before T.key T.keys) those) }
+    {
+        let index = place_of(items, &self.places, sought);
+        let item = item_at(items, &self.places, index);
+        match where_same(item, sought) {
+            Some(same) => (Some(same), item_at(items, &self.places, index + 1)),
+            None => (None, item),
+        }
+    }
+
     /// The first in order of the items of an index whose key is greater. Takes a logarithm in their number, and no
     /// memory.
     pub fn item_above<'a, T: Keyed<S>, S>(&self, items: &'a [T], sought: &S) -> Option<&'a T>

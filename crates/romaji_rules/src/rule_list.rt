@@ -1,11 +1,15 @@
-ghost use Rattle.std.specs.Prelude.{◌≡◌, ◌∷◌, ◌++◌, [], true, None, length, position};
+ghost use Rattle.std.specs.Prelude.{◌≡◌, ◌∷◌, ◌++◌, [], true, None, length, nat_eq, position};
+ghost use Rattle.std.specs.List.{starts_with};
 ghost use Rattle.std.specs.Prelude.{IfOk};
 ghost use Rattle.std.specs.Option.{option_copied};
+ghost use Rattle.ordered_lists.specs.Orders.{passes};
 ghost use Rattle.romaji_rules.specs.Fitting.{inputs_differ};
 ghost use Rattle.romaji_rules.specs.RuleFiles.{has_bad_next};
+ghost use Rattle.romaji_rules.specs.Standing.{IsStanding};
 ghost use Rattle.romaji_rules.specs.Typed.{rule_of, begins_input};
 
 use crate::rule::Rule;
+use crate::standing::Standing;
 use ordered_lists::Places;
 use skk_text::Memory;
 use std::alloc::Global;
@@ -77,9 +81,20 @@ impl RuleList {
     pub fn begins_input(&self, text: &[u8]) -> bool
         ensures { result ≡ begins_input self.now text.now }
     {
-        match self.places.item_above(&self.rules, &text) {
-            Some(rule) => rule.input.as_slice().starts_with(text),
-            None => false,
+        begins(self.places.item_above(&self.rules, &text), text)
+    }
+
+    /// What the text is among the inputs. Takes time with a logarithm in the number of rules.
+    pub fn standing(&self, text: &[u8]) -> Standing<'_>
+        ensures { IsStanding self.now text.now result }
+    {
+        let (rule, above) = self.places.item_and_above(&self.rules, &text);
+        if begins(above, text) {
+            return Standing::Begins;
+        }
+        match rule {
+            Some(rule) => Standing::Input(rule),
+            None => Standing::Neither,
         }
     }
 
@@ -105,5 +120,15 @@ impl RuleList {
     {
         let next = rule.next.as_slice();
         !next.is_empty() && (!self.begins_input(next) || self.begins_input(rule.input.as_slice()))
+    }
+}
+
+// Whether there is a rule whose input begins with the text.
+fn begins(rule: Option<&Rule>, text: &[u8]) -> bool
+    ensures { result ≡ passes (λ rule. starts_with nat_eq rule.input text.now) (option_copied rule.entry) }
+{
+    match rule {
+        Some(rule) => rule.input.as_slice().starts_with(text),
+        None => false,
     }
 }

@@ -216,13 +216,7 @@ impl Rules {
         ensures standing { IsStanding self.now text.now result }
         ensures fits { is_rule_set self.now ≡ true }
     {
-        if self.rules.begins_input(text) {
-            return Standing::Begins;
-        }
-        match self.rules.rule_of(text) {
-            Some(rule) => Standing::Input(rule),
-            None => Standing::Neither,
-        }
+        self.rules.standing(text)
     }
 }
 
