@@ -16,8 +16,8 @@ use Rattle.dict_format.specs.declared.reason.LineReason.{LineReason}
 use Rattle.dict_format.specs.declared.reason.LineReason.TheVariants.{Twice}
 use Rattle.dict_format.specs.FileBuilding.{listed_with, refused_with}
 use Rattle.dict_format.specs.FileLines.{FileEntry, Takes, TakeAll, has_key, Lists, file_limit, none_listed}
-use Rattle.exact_readers.specs.Trimming.{trimmed_line}
-use Rattle.dict_format.specs.FileLines.{entries_from, entries_of, entry_of, part_behind, kind_of}
+use Rattle.dict_format.specs.FileLines.{entries_of}
+use Rattle.dict_format.specs.LeftLines.{LeftLines, entries_left}
 use Rattle.dict_format.specs.Lines.{SpellsRow}
 use Rattle.dict_format.specs.Reading.{line_reading}
 use Rattle.dict_format.proofs.LineReading.{row_or_reason, line_reading-row, line_reading-reason}
@@ -34,12 +34,12 @@ row-taken before entry row spells = by (has_key before.book row.key) refl
     by true again = inr (Twice, inr (refl, row, spells, again), rw again refl)
 
 -- what was listed before an entry, with what is read of it
-abbrev next_of : Listed → FileEntry → Result Row LineReason → Listed
+abbrev pub next_of : Listed → FileEntry → Result Row LineReason → Listed
 next_of before entry (Ok row) = listed_with before entry.number row
 next_of before entry (Err reason) = refused_with before entry.number reason
 
 -- an entry takes what was listed to that alone
-takes-is : (before : Listed) (entry : FileEntry) (after : Listed) → Takes before entry after
+pub takes-is : (before : Listed) (entry : FileEntry) (after : Listed) → Takes before entry after
     → after ≡ next_of before entry (line_reading entry.part entry.text)
 takes-is before entry after (inl (row, (spells, new), is)) =
     let same : listed_with before entry.number row
@@ -84,43 +84,35 @@ all-behind (entry ∷ entries) more before between after takes also =
 
 -- How far a file is read
 
--- the entries before the rest came to this; the line behind has the next number, and stands in this part
-pub record IsReadTo (bytes rest : List ℕ) (number : ℕ) (part : Part) (listed : Listed) : Type 0 where
+-- what is listed is that to which the entries before those that are left came
+pub record IsListed (bytes : List ℕ) (left : LeftLines) (listed : Listed) : Type 0 where
   pub before : List FileEntry
-  pub parts : entries_from 1 Nasi (lines_of bytes) ≡ before ++ entries_from (number + 1) part (lines_of rest)
+  pub parts : entries_of bytes ≡ before ++ entries_left left
   pub taken : TakeAll none_listed before listed
-  pub room : number + length rest ≤ length bytes
 
--- nothing of it
-pub none-read : (bytes : List ℕ) → IsReadTo bytes bytes 0 Nasi none_listed
-none-read bytes = record { before = []; parts = refl; taken = refl; room = omega arith }
+-- before any is read
+pub none-listed : (bytes : List ℕ) (left : LeftLines) → entries_left left ≡ entries_of bytes
+    → IsListed bytes left none_listed
+none-listed bytes left all = record { before = []; parts = sym all; taken = refl }
 
--- a line more
-pub line-read : (bytes rest line behind : List ℕ) (number : ℕ) (part : Part) (listed more : Listed)
-    → IsReadTo bytes rest number part listed → lines_of rest ≡ line ∷ lines_of behind
-    → length behind < length rest
-    → TakeAll listed (entry_of (kind_of (trimmed_line line)) (number + 1) part (trimmed_line line)) more
-    → IsReadTo bytes behind (number + 1) (part_behind (kind_of (trimmed_line line)) part) more
-line-read bytes rest line behind number part listed more read first less takes =
-    let entry = entry_of (kind_of (trimmed_line line)) (number + 1) part (trimmed_line line) in
-    let left = entries_from ((number + 1) + 1) (part_behind (kind_of (trimmed_line line)) part) (lines_of behind) in
-    record {
-      before = read.before ++ entry;
-      parts =
-          read.parts ∙ ap (λ lines. read.before ++ entries_from (number + 1) part lines) first
-          ∙ sym (append_assoc read.before entry left);
-      taken = all-behind read.before entry none_listed listed more read.taken takes;
-      room = omega (arith, read.room);
-    }
+-- behind those of a line
+pub line-listed : (bytes : List ℕ) (left next : LeftLines) (entries : List FileEntry) (listed more : Listed)
+    → IsListed bytes left listed → entries_left left ≡ entries ++ entries_left next → TakeAll listed entries more
+    → IsListed bytes next more
+line-listed bytes left next entries listed more so_far cut takes = record {
+  before = so_far.before ++ entries;
+  parts =
+      so_far.parts ∙ ap (λ later. so_far.before ++ later) cut
+      ∙ sym (append_assoc so_far.before entries (entries_left next));
+  taken = all-behind so_far.before entries none_listed listed more so_far.taken takes;
+}
 
 -- all of it
-pub all-read : (bytes rest : List ℕ) (number : ℕ) (part : Part) (listed : Listed)
-    → IsReadTo bytes rest number part listed → rest ≡ []
-    → TakeAll none_listed (entries_from 1 Nasi (lines_of bytes)) listed
-all-read bytes rest number part listed read end =
+pub all-listed : (bytes : List ℕ) (left : LeftLines) (listed : Listed) → IsListed bytes left listed
+    → entries_left left ≡ [] → TakeAll none_listed (entries_of bytes) listed
+all-listed bytes left listed so_far none =
     subst (λ (entries : List FileEntry). TakeAll none_listed entries listed)
-    (sym (read.parts ∙ ap (λ r. read.before ++ entries_from (number + 1) part (lines_of r)) end
-    ∙ append-nil read.before)) read.taken
+    (sym (so_far.parts ∙ ap (λ later. so_far.before ++ later) none ∙ append-nil so_far.before)) so_far.taken
 
 -- What a file lists
 

@@ -1,5 +1,6 @@
 -- The keys of the rows that are listed.
-use Rattle.std.proofs.Common.{◌≡◌, ℕ, Bool, true, false, not, ◌&&◌, ◌||◌, List, [], ◌∷◌, ◌++◌, refl, sym, ap, ◌∙◌}
+use Rattle.std.proofs.Common.{◌≡◌, ℕ, Bool, true, false, not, ◌&&◌, ◌||◌, if◌then◌else◌, List, [], ◌∷◌, ◌++◌, refl, sym}
+use Rattle.std.proofs.Common.{ap, ◌∙◌}
 use Rattle.std.specs.List.{list_all}
 use Rattle.std.proofs.lemmas.Bool.{and_from, or_parts, not-true, not-false, not_from_false}
 use Rattle.std.proofs.lemmas.List.Folds.{list_any-append}
@@ -8,15 +9,11 @@ use Rattle.skk_calls.specs.KeyLaws.{same_key_equal, same_other}
 use Rattle.skk_calls.specs.declared.part.Part.{Part}
 use Rattle.skk_calls.specs.declared.part.Part.TheVariants.{Nasi, Ari}
 use Rattle.skk_calls.specs.Rows.{Row, RowKey, same_text, same_part, same_key, has_text}
-use Rattle.word_sets.specs.FirstLaws.{texts_fold_new}
+use Rattle.word_sets.specs.FirstLaws.{or_none, texts_fold_new}
 use Rattle.word_sets.specs.Firsts.{with_new}
 use Rattle.dict_format.specs.FileBuilding.{KnowsKeys, known_in, knows}
 use Rattle.dict_format.specs.FileLines.{has_key}
 use Rattle.dict_format.specs.declared.readings.Readings.{Readings}
-
-or_false : (b : Bool) → (b || false) ≡ b
-or_false true = refl
-or_false false = refl
 
 -- a key that no row has differs from that of each
 key-apart : (rows : List Row) (key : RowKey) → has_key rows key ≡ false
@@ -31,50 +28,36 @@ key-more : (rows : List Row) (row : Row) (key : RowKey)
     → has_key (rows ++ row ∷ []) key ≡ (has_key rows key || same_key row.key key)
 key-more rows row key =
     list_any-append (λ other. same_key other.key key) rows (row ∷ [])
-    ∙ ap (λ b. has_key rows key || b) (or_false (same_key row.key key))
+    ∙ ap (λ b. has_key rows key || b) (or_none (same_key row.key key))
 
 -- a reading more, where it was not among them
 text-added : (texts : List (List ℕ)) (text other : List ℕ)
     → has_text (with_new (λ t. t) texts text) other ≡ (has_text texts other || same_text text other)
 text-added texts text other =
     texts_fold_new texts (text ∷ []) other
-    ∙ ap (λ b. has_text texts other || b) (or_false (same_text other text) ∙ same_other other text)
+    ∙ ap (λ b. has_text texts other || b) (or_none (same_text other text) ∙ same_other other text)
 
 -- the part beside a part
 abbrev pub other_part : Part → Part
 other_part Nasi = Ari
 other_part Ari = Nasi
 
--- what is known behind a reading that was added to those of a part
-pub knows-added : (part : Part) (before after : Readings) (key : RowKey) (reading : List ℕ) → key.part ≡ part
-    → reading ≡ key.reading
-    → known_in after part ≡ with_new (λ text. text) (known_in before part) reading
-    → known_in after (other_part part) ≡ known_in before (other_part part)
+-- what is known behind a reading that was added to those of its part
+pub knows-added : (part : Part) (before after : Readings) (key : RowKey) → key.part ≡ part
+    → ((other : Part) → (let known = known_in before other in
+    known_in after other ≡ (if same_part part other then with_new (λ text. text) known key.reading else known)))
     → (other : RowKey) → knows after other ≡ (knows before other || same_key key other)
-knows-added part before after key reading is same added kept other =
-    by part other.part added kept
-    ∙ ap (λ b. knows before other || b) (ap (λ p. same_part p other.part && same_text reading other.reading) (sym is)
-    ∙ ap (λ t. same_part key.part other.part && same_text t other.reading) same)
+knows-added part before after key is added other =
+    ap (λ texts. has_text texts other.reading) (added other.part) ∙ by (same_part part other.part)
+    ∙ ap (λ p. knows before other || (same_part p other.part && same_text key.reading other.reading)) (sym is)
   where
-    more : (p : Part) → known_in after p ≡ with_new (λ text. text) (known_in before p) reading
-        → has_text (known_in after p) other.reading
-        ≡ (has_text (known_in before p) other.reading || same_text reading other.reading)
-    more p added =
-        ap (λ texts. has_text texts other.reading) added ∙ text-added (known_in before p) reading other.reading
+    known : List (List ℕ)
+    known = known_in before other.part
 
-    still : (p : Part) → known_in after p ≡ known_in before p
-        → has_text (known_in after p) other.reading ≡ (has_text (known_in before p) other.reading || false)
-    still p kept =
-        ap (λ texts. has_text texts other.reading) kept ∙ sym (or_false (has_text (known_in before p) other.reading))
-
-    by : (p q : Part) → known_in after p ≡ with_new (λ text. text) (known_in before p) reading
-        → known_in after (other_part p) ≡ known_in before (other_part p)
-        → has_text (known_in after q) other.reading
-        ≡ (has_text (known_in before q) other.reading || (same_part p q && same_text reading other.reading))
-    by Nasi Nasi added kept = more Nasi added
-    by Ari Ari added kept = more Ari added
-    by Nasi Ari added kept = still Ari kept
-    by Ari Nasi added kept = still Nasi kept
+    by : (b : Bool) → has_text (if b then with_new (λ text. text) known key.reading else known) other.reading
+        ≡ (has_text known other.reading || (b && same_text key.reading other.reading))
+    by true = text-added known key.reading other.reading
+    by false = sym (or_none (has_text known other.reading))
 
 -- what is known behind the key of a line: it was a new one where no row has it
 module _ (rows : List Row) (before after : Readings) (key : RowKey) (is_new : Bool) (knew : KnowsKeys rows before)
@@ -110,4 +93,4 @@ module _ (rows : List Row) (before after : Readings) (key : RowKey) (is_new : Bo
           let there : has_key rows other ≡ true = ap (has_key rows) (sym (same_key_equal key other e))
           ∙ sym (knew.known key) ∙ not-false (knows before key) (sym tells ∙ old) in
           rw there refl
-      by other false e = or_false (has_key rows other)
+      by other false e = or_none (has_key rows other)

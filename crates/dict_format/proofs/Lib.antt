@@ -1,4 +1,5 @@
 pub mod Blocks
+pub mod EntryRows
 pub mod Exactness
 pub mod Examples
 pub mod FileEntries
@@ -6,14 +7,14 @@ pub mod FileExamples
 pub mod FileLineExamples
 pub mod FileRows
 pub mod FilesAgain
+pub mod Hints
 pub mod ItemsAgain
 pub mod KeyReading
 pub mod LineReading
 pub mod LineTexts
+pub mod LineWalk
 pub mod LinesAgain
 pub mod OnceMore
-pub mod Printed
-pub mod PrintedCharacters
 pub mod PrintingOrder
 pub mod RowParts
 pub mod RowsBack

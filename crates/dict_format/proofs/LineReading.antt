@@ -1,8 +1,9 @@
 -- Reading a line is the relation: it gives the row that the line spells, or else the first reason that fits it.
-use Rattle.std.proofs.Common.{◌≡◌, ◌≤◌, ℕ, Bool, true, false, not, ◌||◌, nat_lt, if◌then◌else◌, ◌⊎◌, inl, inr, Option}
-use Rattle.std.proofs.Common.{None, Some, Result, Ok, Err, IfOk, IsErrOf, List, [], ◌∷◌, ◌++◌, refl, sym, ap, ◌∙◌}
-use Rattle.std.proofs.Common.{subst, arith}
+use Rattle.std.proofs.Common.{◌≡◌, ◌↔◌, ◌≤◌, ℕ, Bool, true, false, not, ◌||◌, nat_lt, if◌then◌else◌, ◌⊎◌, inl, inr}
+use Rattle.std.proofs.Common.{Option, None, Some, Result, Ok, Err, IfOk, IsErrOf, List, [], ◌∷◌, ◌++◌, refl, sym, ap}
+use Rattle.std.proofs.Common.{◌∙◌, subst, arith}
 use Rattle.std.specs.List.{list_all, AllByRecursion}
+use Rattle.std.specs.Result.{result_ok}
 use Rattle.std.proofs.lemmas.Bool.{both_ways, cases_Bool, ltb-true, ltb-false, le-ltb}
 use Rattle.std.proofs.lemmas.Option.{none-some, same_Some, some_pair_parts}
 use Rattle.skk_text.specs.Text.{byte_len}
@@ -15,6 +16,7 @@ use Rattle.exact_readers.specs.CutLaws.{cut-none, cut-nowhere}
 use Rattle.exact_readers.specs.Exact.{AreAll}
 use Rattle.exact_readers.specs.Formats.{all}
 use Rattle.exact_readers.specs.ManyLaws.{all-are, all-once}
+use Rattle.dict_format.specs.EntryRows.{row_of_line}
 use Rattle.dict_format.specs.declared.reason.LineFault.{LineFault}
 use Rattle.dict_format.specs.declared.reason.LineFault.TheVariants.{Reason, Memory}
 use Rattle.dict_format.specs.declared.reason.LineReason.{LineReason}
@@ -390,6 +392,15 @@ module _ (part : Part) (line : List ℕ) where
       by : (read : Result Row LineReason) → Told part line reasons read → read ≡ Err first
       by (Ok other) tells = absurd (not_both other first (tells.spells other refl).0 is)
       by (Err other) tells = ap Err (reason_once other first (reason_told other (tells.first other refl)) is)
+
+  -- and the row that is read is the one that is spelled
+  pub read-exact : (row : Row) → SpellsRow part line row ↔ (row_of_line part line ≡ Some row)
+  read-exact row = (λ is. ap result_ok (line_reading-row row is), by (line_reading part line) refl)
+    where
+      by : (read : Result Row LineReason) → line_reading part line ≡ read → result_ok read ≡ Some row
+          → SpellsRow part line row
+      by (Ok other) e is = ((told part line).spells row (e ∙ ap Ok (same_Some other row is))).0
+      by (Err first) e is = cc
 
   -- a line spells a row or has a first reason
   pub row_or_reason : ((row : Row) × SpellsRow part line row) ⊎ ((first : LineReason) × IsReason part line first)

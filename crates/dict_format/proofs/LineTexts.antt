@@ -1,8 +1,9 @@
 -- The texts between the slashes of a line.
 use Rattle.std.proofs.Common.{◌≡◌, ◌≢◌, ◌≤◌, ℕ, zero, suc, Bool, true, false, not, ◌==◌, None, Some, List, [], ◌∷◌}
-use Rattle.std.proofs.Common.{◌++◌, codes, replicate, refl, sym, ap, ◌∙◌, subst, arith, append_assoc, append-nil}
+use Rattle.std.proofs.Common.{inl, inr, ◌++◌, codes, replicate, refl, sym, ap, ◌∙◌, subst, arith, append_assoc}
+use Rattle.std.proofs.Common.{append-nil}
 use Rattle.std.specs.List.{list_all}
-use Rattle.std.proofs.lemmas.Bool.{and_parts, and_from, eqb-true, both_ways, not-true, not_from_false}
+use Rattle.std.proofs.lemmas.Bool.{and_parts, and_from, cases_Bool, eqb-true, not-true, not_from_false}
 use Rattle.std.proofs.lemmas.Option.{none-some, same_Some}
 use Rattle.exact_readers.specs.Cuts.{cut, without_spaces}
 use Rattle.exact_readers.specs.CutLaws.{cut-at, cut-none, up_to-exact}
@@ -25,21 +26,20 @@ slashed_exact = up_to-exact is_slash
 spaces_split : (text : List ℕ)
     → (n : ℕ) × (text ≡ replicate n 0x20 ++ without_spaces text) × (begins_without_space (without_spaces text) ≡ true)
 spaces_split [] = (0, refl, refl)
-spaces_split (c ∷ text) = by (c == 0x20) refl (spaces_split text)
-  where
-    by : (b : Bool) → (c == 0x20) ≡ b → (n : ℕ) × (text ≡ replicate n 0x20 ++ without_spaces text)
-        × (begins_without_space (without_spaces text) ≡ true)
-        → (n : ℕ) × (c ∷ text ≡ replicate n 0x20 ++ without_spaces (c ∷ text))
-        × (begins_without_space (without_spaces (c ∷ text)) ≡ true)
-    by true e (n, is, good) =
-        rw e (suc n, ap (λ d. d ∷ text) (eqb-true c 0x20 e) ∙ ap (λ ys. 0x20 ∷ ys) is, good)
-    by false e (n, is, good) = rw e (0, refl, not_from_false (c == 0x20) e)
+spaces_split (c ∷ text) =
+    let more = spaces_split text in
+    elim (cases_Bool (c == 0x20)) [
+      | inl e ↦ rw e (suc more.0, ap (λ d. d ∷ text) (eqb-true c 0x20 e) ∙ ap (λ ys. 0x20 ∷ ys) more.1, more.2)
+      | inr e ↦ rw e (0, refl, not_from_false (c == 0x20) e)
+    ]
+
+no_spaces : (text : List ℕ) → begins_without_space text ≡ true → without_spaces text ≡ text
+no_spaces text good = grind arith
 
 -- spaces are left out before what begins with none
 without_spaces-spaces : (n : ℕ) (text : List ℕ) → begins_without_space text ≡ true
     → without_spaces (replicate n 0x20 ++ text) ≡ text
-without_spaces-spaces zero [] good = refl
-without_spaces-spaces zero (c ∷ text) good = rw (not-true (c == 0x20) good) refl
+without_spaces-spaces zero text good = no_spaces text good
 without_spaces-spaces (suc n) text good = without_spaces-spaces n text good
 
 -- a line that is cut at a space has its body behind the spaces
@@ -85,8 +85,7 @@ some-is [] ys e = absurd (none-some ys e)
 some-is (x ∷ xs) ys e = let same = same_Some (x ∷ xs) ys e in (same, λ none. let wrong = same ∙ none in cc)
 
 is-some : {X : Type 0} (xs : List X) → xs ≢ [] → if_some xs ≡ Some xs
-is-some [] some = absurd (some refl)
-is-some (x ∷ xs) some = refl
+is-some xs some = grind arith
 
 -- the texts that are read are those of the body
 pub texts-sound : (body : List ℕ) (texts : List (List ℕ)) → texts_at body ≡ Some texts → HasTexts body texts
@@ -116,7 +115,7 @@ pub texts_lack : (texts : List (List ℕ)) (behind : List ℕ) → SpellsMany sl
     → list_all (lacks 0x2F) texts ≡ true
 texts_lack [] behind is = refl
 texts_lack (text ∷ texts) behind (front, back, (end, passes, none, piece), more, is) =
-    and_from (lacks 0x2F text) (list_all (lacks 0x2F) texts) none (texts_lack texts back more)
+    and_from (lacks 0x2F text) _ none (texts_lack texts back more)
 
 -- Slashes at both ends
 
@@ -130,57 +129,39 @@ ends-lacks [] none = refl
 ends-lacks (c ∷ []) none = not-true (c == 0x2F) (and_parts (not (c == 0x2F)) true none).0
 ends-lacks (c ∷ d ∷ text) none = ends-lacks (d ∷ text) (and_parts (not (c == 0x2F)) (lacks 0x2F (d ∷ text)) none).1
 
+ends-behind : (front back : List ℕ) → ends_in_slash back ≡ true → ends_in_slash (front ++ back) ≡ true
+ends-behind [] back e = e
+ends-behind (c ∷ front) back e = grind (arith, ends-behind front back)
+
 -- texts end in a slash
 texts-end : (text : List ℕ) (texts : List (List ℕ)) (behind : List ℕ)
     → SpellsMany slashed_text.Spells (text ∷ texts) behind → ends_in_slash behind ≡ true
 texts-end text [] behind (front, back, (end, passes, none, piece), more, is) =
-    ap ends_in_slash (is ∙ ap (λ ys. front ++ ys) more ∙ append-nil front ∙ piece) ∙ ends-append text end [] ∙ passes
+    rw (is, more, append-nil, piece) (ends-behind text (end ∷ []) passes)
 texts-end text (next ∷ texts) behind (front, back, first, more, is) =
-    ap ends_in_slash is ∙ by back (texts-end next texts back more)
-  where
-    by : (ys : List ℕ) → ends_in_slash ys ≡ true → ends_in_slash (front ++ ys) ≡ true
-    by [] e = absurd (both_ways false refl e)
-    by (c ∷ ys) e = ends-append front c ys ∙ e
+    rw is (ends-behind front back (texts-end next texts back more))
 
 -- so a body with texts has slashes at both ends
 pub slashed-texts : (body : List ℕ) (texts : List (List ℕ)) → HasTexts body texts → is_slashed body ≡ true
 slashed-texts body [] has = absurd (has.some_text refl)
 slashed-texts body (text ∷ texts) has = ap is_slashed has.body_is ∙ texts-end text texts has.behind has.spelled
 
--- and what has slashes at both ends has texts
-slashed-some : (c : ℕ) (rest : List ℕ) → is_slashed (c ∷ rest) ≡ true
-    → (texts : List (List ℕ)) × HasTexts (c ∷ rest) texts
-slashed-some c rest slashed =
-    let tests = and_parts (is_slash c) (ends_in_slash rest) slashed in
-    by (eqb-true c 0x2F tests.0) tests.1 (taken slashed_text.step rest).0 (taken slashed_text.step rest).1
+-- and what is read as no texts has not
+pub slashed-none : (body : List ℕ) → texts_at body ≡ None → is_slashed body ≡ false
+unfolding texts_at
+slashed-none [] e = refl
+slashed-none (c ∷ rest) e =
+    by (c == 0x2F) refl (taken slashed_text.step rest).0 (taken slashed_text.step rest).1 refl
     (taken-sound slashed_text slashed_exact rest)
   where
-    by : c ≡ 0x2F → ends_in_slash rest ≡ true → (texts : List (List ℕ)) (left : List ℕ)
-        → AreTaken slashed_text rest texts left → (texts : List (List ℕ)) × HasTexts (c ∷ rest) texts
-    by slash ends texts (x ∷ left) is =
-        absurd (both_ways (ends_in_slash rest) (ap ends_in_slash is.tokens_are ∙ ends-append is.pieces x left
-        ∙ ends-lacks (x ∷ left) (cut-none is_slash (x ∷ left) is.ends)) ends)
-    by slash ends [] [] is =
-        absurd (both_ways (ends_in_slash rest)
-        (ap ends_in_slash (is.tokens_are ∙ append-nil is.pieces ∙ is.spelled)) ends)
-    by slash ends (text ∷ texts) [] is = (
-      text ∷ texts,
-      record {
-        some_text = λ e. cc;
-        behind = rest;
-        body_is = ap (λ d. d ∷ rest) slash;
-        spelled =
-            subst (SpellsMany slashed_text.Spells (text ∷ texts)) (sym (is.tokens_are ∙ append-nil is.pieces))
-            is.spelled;
-      },
-    )
-
-pub slashed-none : (body : List ℕ) → texts_at body ≡ None → is_slashed body ≡ false
-slashed-none [] e = refl
-slashed-none (c ∷ rest) e = by (is_slashed (c ∷ rest)) refl
-  where
-    by : (b : Bool) → is_slashed (c ∷ rest) ≡ b → b ≡ false
-    by true f =
-        let there = slashed-some c rest f in
-        absurd (none-some there.0 (sym e ∙ texts-complete (c ∷ rest) there.0 there.1))
-    by false f = refl
+    by : (b : Bool) → (c == 0x2F) ≡ b → (texts : List (List ℕ)) (left : List ℕ)
+        → taken slashed_text.step rest ≡ (texts, left) → AreTaken slashed_text rest texts left
+        → is_slashed (c ∷ rest) ≡ false
+    by false f texts left same is = rw f refl
+    by true f texts (x ∷ left) same is =
+        rw (f, is.tokens_are)
+        (ends-append is.pieces x left ∙ ends-lacks (x ∷ left) (cut-none is_slash (x ∷ left) is.ends))
+    by true f [] [] same is = rw (f, is.tokens_are, is.spelled) refl
+    by true f (text ∷ texts) [] same is =
+        let some : texts_at (c ∷ rest) ≡ Some (text ∷ texts) = rw (f, same) refl in
+        absurd (none-some (text ∷ texts) (sym e ∙ some))

@@ -1,18 +1,18 @@
 -- The rows of a part in the order in which they are printed.
-use Rattle.std.proofs.Common.{◌≡◌, Bool, true, false, cond, ◌&&◌, ◌||◌, not, List, [], ◌∷◌, ◌++◌, refl, sym, ap, ◌∙◌}
+use Rattle.std.proofs.Common.{◌≡◌, arith, Bool, true, false, ◌&&◌, not, ℕ, List, [], ◌∷◌, refl, sym, ap, ◌∙◌}
 use Rattle.std.specs.Cmp.{IsStrictWeakOrder}
 use Rattle.std.specs.List.{list_all, filter}
 use Rattle.std.specs.List.Sorted.{IsPermutation}
-use Rattle.std.proofs.lemmas.Bool.{and_from, and_parts}
+use Rattle.std.proofs.lemmas.Bool.{both_ways, false_from_ne_true}
 use Rattle.std.proofs.lemmas.List.{append-nil}
-use Rattle.std.proofs.lemmas.List.Elements.{filter-append, filter_passes}
+use Rattle.std.proofs.lemmas.List.Elements.{filter-append}
 use Rattle.std.proofs.lemmas.List.Sorted.{IsStrictWeakOrder-flip, IsPermutation-trans, IsPermutation-append}
 use Rattle.std.proofs.lemmas.List.Sorted.{IsPermutation-filter_both}
-use Rattle.std.proofs.lemmas.List.Sums.{list_all-from_AllPass}
-use Rattle.skk_text.specs.FilterLaws.{filter_all}
+use Rattle.skk_text.specs.FilterLaws.{filter_all, list_all_kept}
 use Rattle.skk_text.specs.Pairs.{all_pairs}
-use Rattle.skk_text.specs.PairsLaws.{list_all-weaker, pairs_appended, pairs_weaker}
-use Rattle.skk_calls.specs.KeyLaws.{same_equal}
+use Rattle.skk_text.specs.PairsLaws.{all_pairs-filter, list_all-filter, list_all-weaker, pairs_appended}
+use Rattle.skk_text.specs.PairsLaws.{pairs_weaker}
+use Rattle.skk_calls.specs.KeyLaws.{same_equal, same_other}
 use Rattle.skk_calls.specs.declared.part.Part.{Part}
 use Rattle.skk_calls.specs.declared.part.Part.TheVariants.{Nasi, Ari}
 use Rattle.skk_calls.specs.Orders.{sort_by, text_less}
@@ -21,6 +21,12 @@ use Rattle.dict_format.specs.PrintedFiles.{is_of, is_printed_before, part_in_ord
 use Rattle.skk_calls.specs.OrderLaws.{apart, holds_moved, not_itself, order_read, sort_moves, sort_ascends, sort_stays}
 use Rattle.skk_calls.specs.OrderLaws.{text_order, texts_apart}
 use Rattle.dict_format.proofs.FileRows.{other_part}
+
+-- a filter keeps nothing where none passes
+filter_none : {X : Type 0} (test : X → Bool) (xs : List X) → list_all (λ x. not (test x)) xs ≡ true
+    → filter test xs ≡ []
+filter_none test [] none = refl
+filter_none test (x ∷ xs) none = grind (arith, filter_none test xs)
 
 -- two rows differ in their keys
 abbrev pub differ_in_key : Row → Row → Bool
@@ -37,171 +43,114 @@ part_order Ari = IsStrictWeakOrder-flip (is_printed_before Nasi) by_readings
 -- of two rows of a part whose keys differ one is printed before the other
 rows_apart : (part : Part) (row other : Row) → is_of part row ≡ true → is_of part other ≡ true
     → differ_in_key row other ≡ true → apart (is_printed_before part) row other ≡ true
-rows_apart part row other = by part row.key.part other.key.part
-  where
-    reading : (b : Bool) → not b ≡ true → b ≡ false
-    reading true e = sym e
-    reading false e = refl
+rows_apart part row other here there differ =
+    grind (arith, texts_apart, same_other row.key.reading other.key.reading)
 
-    either : (a b : Bool) → (a || b) ≡ true → (b || a) ≡ true
-    either a true e = refl
-    either true false e = refl
-    either false false e = e
+-- of two rows of which one is printed before the other the keys differ
+texts_unlike : (text other : List ℕ) → text_less text other ≡ true → same_text text other ≡ false
+texts_unlike text other less =
+    false_from_ne_true (same_text text other) (λ e. both_ways (text_less text other)
+    (ap (text_less text) (sym (same_equal text other e)) ∙ not_itself text_less text_order text) less)
 
-    by : (part p q : Part) → same_part p part ≡ true → same_part q part ≡ true
-        → not (same_part p q && same_text row.key.reading other.key.reading) ≡ true
-        → apart (is_printed_before part) row other ≡ true
-    by Nasi Nasi Nasi e f differ =
-        texts_apart row.key.reading other.key.reading (reading (same_text row.key.reading other.key.reading) differ)
-    by Ari Ari Ari e f differ =
-        either (text_less row.key.reading other.key.reading) (text_less other.key.reading row.key.reading)
-        (texts_apart row.key.reading other.key.reading (reading (same_text row.key.reading other.key.reading) differ))
-    by Nasi Ari q e f differ = cc
-    by Nasi Nasi Ari e f differ = cc
-    by Ari Nasi q e f differ = cc
-    by Ari Ari Nasi e f differ = cc
+printed_apart : (part : Part) (row other : Row) → is_printed_before part row other ≡ true
+    → differ_in_key row other ≡ true
+printed_apart part row other before = grind (arith, texts_unlike, same_other row.key.reading other.key.reading)
+
+-- a row is of one part alone
+one_part : (part p : Part) → same_part p (other_part part) ≡ not (same_part p part)
+one_part part p = grind arith
+
+-- rows with okurigana differ from those without it
+parts_differ : (p q : Part) (same : Bool) → same_part p Ari ≡ true → same_part q Nasi ≡ true
+    → not (same_part p q && same) ≡ true
+parts_differ p q same e f = grind arith
 
 module _ (part : Part) where
-  one_apart : (row : Row) (rows : List Row) → is_of part row ≡ true → list_all (differ_in_key row) rows ≡ true
-      → list_all (apart (is_printed_before part) row) (filter (is_of part) rows) ≡ true
-  one_apart row [] here differ = refl
-  one_apart row (other ∷ rows) here differ =
-      let parts = and_parts (differ_in_key row other) (list_all (differ_in_key row) rows) differ in
-      by (is_of part other) refl parts.0 (one_apart row rows here parts.1)
-    where
-      by : (b : Bool) → is_of part other ≡ b → differ_in_key row other ≡ true
-          → list_all (apart (is_printed_before part) row) (filter (is_of part) rows) ≡ true
-          → list_all (apart (is_printed_before part) row)
-          (cond b (other ∷ filter (is_of part) rows) (filter (is_of part) rows)) ≡ true
-      by true there first rest =
-          and_from (apart (is_printed_before part) row other)
-          (list_all (apart (is_printed_before part) row) (filter (is_of part) rows))
-          (rows_apart part row other here there first) rest
-      by false there first rest = rest
+  one_apart : (row : Row) (rows : List Row) → is_of part row ≡ true → list_all (is_of part) rows ≡ true
+      → list_all (differ_in_key row) rows ≡ true → list_all (apart (is_printed_before part) row) rows ≡ true
+  one_apart row [] here of differ = refl
+  one_apart row (other ∷ rows) here of differ = grind (arith, rows_apart part row other, one_apart row rows)
+
+  all_apart : (rows : List Row) → list_all (is_of part) rows ≡ true → keys_differ rows ≡ true
+      → all_pairs (apart (is_printed_before part)) rows ≡ true
+  all_apart [] of differ = refl
+  all_apart (row ∷ rows) of differ = grind (arith, one_apart row rows, all_apart rows)
 
   -- of the rows of a part always one is printed before the other
   pub part_apart : (rows : List Row) → keys_differ rows ≡ true
       → all_pairs (apart (is_printed_before part)) (filter (is_of part) rows) ≡ true
-  part_apart [] differ = refl
-  part_apart (row ∷ rows) differ =
-      let parts = and_parts (list_all (differ_in_key row) rows) (keys_differ rows) differ in
-      by (is_of part row) refl parts.0 (part_apart rows parts.1)
-    where
-      by : (b : Bool) → is_of part row ≡ b → list_all (differ_in_key row) rows ≡ true
-          → all_pairs (apart (is_printed_before part)) (filter (is_of part) rows) ≡ true
-          → all_pairs (apart (is_printed_before part))
-          (cond b (row ∷ filter (is_of part) rows) (filter (is_of part) rows)) ≡ true
-      by true here others rest =
-          and_from (list_all (apart (is_printed_before part) row) (filter (is_of part) rows))
-          (all_pairs (apart (is_printed_before part)) (filter (is_of part) rows))
-          (one_apart row rows here others) rest
-      by false here others rest = rest
+  part_apart rows differ =
+      all_apart (filter (is_of part) rows) (list_all_kept (is_of part) rows)
+      (all_pairs-filter differ_in_key (is_of part) rows differ)
 
   -- in printing order they ascend
-  pub part_ascends : (rows : List Row) → keys_differ rows ≡ true
+  part_ascends : (rows : List Row) → keys_differ rows ≡ true
       → all_pairs (is_printed_before part) (part_in_order part rows) ≡ true
   part_ascends rows differ =
       sort_ascends (is_printed_before part) (part_order part) (filter (is_of part) rows) (part_apart rows differ)
 
-  -- they are of the part
-  pub part_holds : (rows : List Row) → list_all (is_of part) (part_in_order part rows) ≡ true
-  part_holds rows =
-      let kept = filter (is_of part) rows in
-      holds_moved (is_of part) kept (part_in_order part rows) (sort_moves (is_printed_before part) kept)
-      (list_all-from_AllPass (is_of part) kept (filter_passes (is_of part) rows))
+  -- so their keys differ, and they stay as they are
+  part_differs : (rows : List Row) → keys_differ rows ≡ true → keys_differ (part_in_order part rows) ≡ true
+  part_differs rows differ =
+      pairs_weaker (is_printed_before part) differ_in_key (printed_apart part) (part_in_order part rows)
+      (part_ascends rows differ)
 
-  -- and they stay as they are
-  pub part_stays : (rows : List Row) → keys_differ rows ≡ true
+  part_stays : (rows : List Row) → keys_differ rows ≡ true
       → sort_by (is_printed_before part) (part_in_order part rows) ≡ part_in_order part rows
   part_stays rows differ = sort_stays (is_printed_before part) (part_in_order part rows) (part_ascends rows differ)
 
-filter_none : {X : Type 0} (p q : X → Bool) → ((x : X) → q x ≡ not (p x)) → (xs : List X) → list_all q xs ≡ true
-    → filter p xs ≡ []
-filter_none p q other [] none = refl
-filter_none p q other (x ∷ xs) none =
-    let parts = and_parts (q x) (list_all q xs) none in
-    by (p x) (sym (other x) ∙ parts.0) (filter_none p q other xs parts.1)
-  where
-    by : (b : Bool) → not b ≡ true → filter p xs ≡ [] → cond b (x ∷ filter p xs) (filter p xs) ≡ []
-    by true e rest = cc
-    by false e rest = rest
+  -- what each row passes, each of them passes
+  pub part_passes : (test : Row → Bool) (rows : List Row) → list_all test rows ≡ true
+      → list_all test (part_in_order part rows) ≡ true
+  part_passes test rows all =
+      holds_moved test _ _ (sort_moves (is_printed_before part) (filter (is_of part) rows))
+      (list_all-filter test (is_of part) rows all)
 
--- a row is of one part alone
-one_part : (part : Part) (row : Row) → is_of (other_part part) row ≡ not (is_of part row)
-one_part part row = by part row.key.part
-  where
-    by : (p q : Part) → same_part q (other_part p) ≡ not (same_part q p)
-    by Nasi Nasi = refl
-    by Nasi Ari = refl
-    by Ari Nasi = refl
-    by Ari Ari = refl
+  -- they are of the part, and of no other
+  pub part_holds : (rows : List Row) → list_all (is_of part) (part_in_order part rows) ≡ true
+  part_holds rows =
+      holds_moved (is_of part) _ _ (sort_moves (is_printed_before part) (filter (is_of part) rows))
+      (list_all_kept (is_of part) rows)
+
+  own_part : (rows : List Row) → filter (is_of part) (part_in_order part rows) ≡ part_in_order part rows
+  own_part rows = filter_all (is_of part) (part_in_order part rows) (part_holds rows)
+
+other_none : (part : Part) (rows : List Row) → filter (is_of part) (part_in_order (other_part part) rows) ≡ []
+other_none part rows =
+    filter_none (is_of part) (part_in_order (other_part part) rows)
+    (list_all-weaker (is_of (other_part part)) (λ row. not (is_of part row))
+    (λ row e. sym (one_part part row.key.part) ∙ e) (part_in_order (other_part part) rows)
+    (part_holds (other_part part) rows))
 
 -- printing order moves rows
 pub order_moves : (rows : List Row) → IsPermutation rows (in_printing_order rows)
 order_moves rows =
-    let ari = filter (is_of Ari) rows in
-    let nasi = filter (is_of Nasi) rows in
-    IsPermutation-trans rows (ari ++ nasi) (in_printing_order rows)
-    (IsPermutation-filter_both (is_of Ari) (is_of Nasi) (one_part Ari) rows)
-    (IsPermutation-append ari (part_in_order Ari rows) nasi (part_in_order Nasi rows)
-    (sort_moves (is_printed_before Ari) ari) (sort_moves (is_printed_before Nasi) nasi))
-
--- of two rows of a part one of which is printed before the other, the keys differ
-printed_apart : (part : Part) (row other : Row) → is_printed_before part row other ≡ true
-    → differ_in_key row other ≡ true
-printed_apart part row other before = by (same_key row.key other.key) refl
-  where
-    itself : (part : Part) (first second : Row) → first.key.reading ≡ second.key.reading
-        → is_printed_before part first second ≡ false
-    itself Nasi first second same =
-        ap (text_less first.key.reading) (sym same) ∙ not_itself (is_printed_before Nasi) by_readings first
-    itself Ari first second same =
-        ap (λ text. text_less text first.key.reading) (sym same) ∙ not_itself (is_printed_before Nasi) by_readings first
-
-    by : (b : Bool) → same_key row.key other.key ≡ b → not b ≡ true
-    by true e =
-        let not_before = itself part row other (same_equal row.key.reading other.key.reading
-        (and_parts (same_part row.key.part other.key.part) (same_text row.key.reading other.key.reading) e).1) in cc
-    by false e = refl
-
--- of rows with okurigana and rows without it the keys differ
-parts_differ : (row other : Row) → is_of Ari row ≡ true → is_of Nasi other ≡ true → differ_in_key row other ≡ true
-parts_differ row other = by row.key.part other.key.part
-  where
-    by : (p q : Part) → same_part p Ari ≡ true → same_part q Nasi ≡ true
-        → not (same_part p q && same_text row.key.reading other.key.reading) ≡ true
-    by Ari Nasi e f = refl
-    by Nasi q e f = cc
-    by Ari Ari e f = cc
+    IsPermutation-trans _ _ _
+    (IsPermutation-filter_both (is_of Ari) (is_of Nasi) (λ row. one_part Ari row.key.part) rows)
+    (IsPermutation-append _ _ _ _ (sort_moves (is_printed_before Ari) (filter (is_of Ari) rows))
+    (sort_moves (is_printed_before Nasi) (filter (is_of Nasi) rows)))
 
 -- rows in printing order still have keys that differ
 pub order_keeps_keys : (rows : List Row) → keys_differ rows ≡ true → keys_differ (in_printing_order rows) ≡ true
 order_keeps_keys rows differ =
-    let ari = part_in_order Ari rows in
     let nasi = part_in_order Nasi rows in
-    pairs_appended differ_in_key ari nasi
-    (pairs_weaker (is_printed_before Ari) differ_in_key (printed_apart Ari) ari (part_ascends Ari rows differ))
-    (pairs_weaker (is_printed_before Nasi) differ_in_key (printed_apart Nasi) nasi (part_ascends Nasi rows differ))
-    (list_all-weaker (is_of Ari) (λ row. list_all (differ_in_key row) nasi)
-    (λ row here. list_all-weaker (is_of Nasi) (differ_in_key row) (λ other there. parts_differ row other here there)
-    nasi (part_holds Nasi rows)) ari (part_holds Ari rows))
+    pairs_appended differ_in_key (part_in_order Ari rows) nasi (part_differs Ari rows differ)
+    (part_differs Nasi rows differ) (list_all-weaker (is_of Ari) (λ row. list_all (differ_in_key row) nasi)
+    (λ row here. list_all-weaker (is_of Nasi) (differ_in_key row)
+    (λ other there. parts_differ row.key.part other.key.part _ here there) nasi (part_holds Nasi rows))
+    (part_in_order Ari rows) (part_holds Ari rows))
 
 -- rows in printing order stay in it
 pub order_stays : (rows : List Row) → keys_differ rows ≡ true
     → in_printing_order (in_printing_order rows) ≡ in_printing_order rows
 order_stays rows differ =
-    let ari = part_in_order Ari rows in
-    let nasi = part_in_order Nasi rows in
-    let first : filter (is_of Ari) (ari ++ nasi) ≡ ari =
-    filter-append (is_of Ari) ari nasi
-    ∙ ap (λ xs. xs ++ filter (is_of Ari) nasi) (filter_all (is_of Ari) ari (part_holds Ari rows))
-    ∙ ap (λ xs. ari ++ xs) (filter_none (is_of Ari) (is_of Nasi) (one_part Ari) nasi (part_holds Nasi rows))
-    ∙ append-nil ari in
-    let second : filter (is_of Nasi) (ari ++ nasi) ≡ nasi =
-    filter-append (is_of Nasi) ari nasi ∙ ap (λ xs. xs ++ filter (is_of Nasi) nasi)
-    (filter_none (is_of Nasi) (is_of Ari) (one_part Nasi) ari (part_holds Ari rows))
-    ∙ filter_all (is_of Nasi) nasi (part_holds Nasi rows) in
-    ap (λ xs. sort_by (is_printed_before Ari) xs ++ part_in_order Nasi (ari ++ nasi)) first
-    ∙ ap (λ xs. sort_by (is_printed_before Ari) ari ++ sort_by (is_printed_before Nasi) xs) second
-    ∙ ap (λ xs. xs ++ sort_by (is_printed_before Nasi) nasi) (part_stays Ari rows differ)
-    ∙ ap (λ xs. ari ++ xs) (part_stays Nasi rows differ)
+    simp (
+      filter-append,
+      own_part Ari rows,
+      own_part Nasi rows,
+      other_none Ari rows,
+      other_none Nasi rows,
+      append-nil,
+      part_stays Ari rows differ,
+      part_stays Nasi rows differ,
+    )

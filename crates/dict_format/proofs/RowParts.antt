@@ -6,7 +6,7 @@ use Rattle.std.proofs.lemmas.Bool.{and_parts, and_from, or_left, or_right, both_
 use Rattle.std.proofs.lemmas.List.Folds.{list_all-append, list_all-map, list_any-append}
 use Rattle.skk_text.specs.FilterLaws.{list_all_kept}
 use Rattle.skk_text.specs.Lists.{is_empty}
-use Rattle.skk_text.specs.PairsLaws.{all_pairs-filter, list_all-filter, list_all-weaker}
+use Rattle.skk_text.specs.PairsLaws.{all_pairs-filter, all_pairs-map, list_all-filter, list_all-weaker}
 use Rattle.skk_text.specs.Text.{byte_len}
 use Rattle.skk_calls.specs.KeyLaws.{same_itself}
 use Rattle.skk_calls.specs.RowLaws.{row_from_parts}
@@ -31,7 +31,7 @@ some-longer [] e = absurd (both_ways false refl e)
 some-longer (c ∷ text) e = le-leb 1 (length (c ∷ text)) (omega arith)
 
 -- of items that pass a test those are kept that pass another with it
-kept_all : {X : Type 0} (test keeps passes : X → Bool)
+pub kept_all : {X : Type 0} (test keeps passes : X → Bool)
     → ((x : X) → test x ≡ true → keeps x ≡ true → passes x ≡ true) → (xs : List X) → list_all test xs ≡ true
     → list_all passes (filter keeps xs) ≡ true
 kept_all test keeps passes both [] all = refl
@@ -179,24 +179,6 @@ joined_valid blocks firsts fit have =
         (and_from (list_all is_word (words_once words)) (texts_differ (words_once words))
         (words_valid words (words_with_fit b.okuri blocks fit)) (words_differ words))
 
--- the okurigana of the blocks that are kept
-kept_okuris : (words_of : List ℕ → List (List ℕ)) (firsts : List Block)
-    → map (λ (b : Block). b.okuri) (filter (λ (b : Block). is_okuri b.okuri)
-    (map (λ (first : Block). record { okuri = first.okuri; words = words_of first.okuri }) firsts))
-    ≡ filter is_okuri (map (λ (b : Block). b.okuri) firsts)
-kept_okuris words_of [] = refl
-kept_okuris words_of (first ∷ firsts) = by (is_okuri first.okuri) refl (kept_okuris words_of firsts)
-  where
-    by : (b : Bool) → is_okuri first.okuri ≡ b
-        → map (λ (b : Block). b.okuri) (filter (λ (b : Block). is_okuri b.okuri)
-        (map (λ (f : Block). record { okuri = f.okuri; words = words_of f.okuri }) firsts))
-        ≡ filter is_okuri (map (λ (b : Block). b.okuri) firsts)
-        → map (λ (b : Block). b.okuri) (filter (λ (b : Block). is_okuri b.okuri)
-        (map (λ (f : Block). record { okuri = f.okuri; words = words_of f.okuri }) (first ∷ firsts)))
-        ≡ filter is_okuri (map (λ (b : Block). b.okuri) (first ∷ firsts))
-    by true e rest = rw e (ap (λ os. first.okuri ∷ os) rest)
-    by false e rest = rw e rest
-
 -- Rows
 
 -- items that fit, with notes that may stand in items, make a row of a valid key,
@@ -208,6 +190,8 @@ row_of_items-valid key items valid fit noted part =
     let said = filter (λ (cand : Cand). not (is_empty cand.word)) (flat_map cand_in items) in
     let worded = filter has_word (flat_map block_in items) in
     let firsts = first_of_each (λ (b : Block). b.okuri) [] worded in
+    let blocks : List Block = map (joined worded) firsts in
+    let unlike : List ℕ → List ℕ → Bool = λ text other. not (same_text text other) in
     row_from_parts (row_of_items key items)
     (record {
       key = valid;
@@ -224,8 +208,10 @@ row_of_items-valid key items valid fit noted part =
           (first_of_each-all (λ (b : Block). b.okuri) (λ b. some_word (words_with b.okuri worded)) worded
           (each_has worded (list_all_kept has_word (flat_map block_in items))));
       okuri =
-          ap texts_differ (kept_okuris (λ okuri. words_once (words_with okuri worded)) firsts)
-          ∙ all_pairs-filter (λ text other. not (same_text text other)) is_okuri (map (λ (b : Block). b.okuri) firsts)
-          (first_of_each-differ (λ (b : Block). b.okuri) worded);
+          all_pairs-map (λ (b : Block). b.okuri) unlike (filter (λ (b : Block). is_okuri b.okuri) blocks)
+          ∙ all_pairs-filter (λ b c. unlike b.okuri c.okuri) (λ (b : Block). is_okuri b.okuri) blocks
+          (all_pairs-map (joined worded) (λ b c. unlike b.okuri c.okuri) firsts
+          ∙ sym (all_pairs-map (λ (b : Block). b.okuri) unlike firsts)
+          ∙ first_of_each-differ (λ (b : Block). b.okuri) worded);
       hides = words_differ (flat_map hidden_in items);
     })

@@ -1,5 +1,5 @@
 -- What is read of a line makes a row.
-use Rattle.std.proofs.Common.{◌≡◌, ℕ, Bool, true, false, not, ◌==◌, ◌||◌, if◌then◌else◌, inl, inr, Option, None, Some}
+use Rattle.std.proofs.Common.{◌≡◌, ℕ, true, not, ◌==◌, ◌||◌, if◌then◌else◌, inl, inr, Option, None, Some}
 use Rattle.std.proofs.Common.{Ok, Err, List, [], ◌∷◌, ◌++◌, refl, sym, ap, ◌∙◌, subst}
 use Rattle.std.specs.List.{flat_map, filter, list_all}
 use Rattle.std.specs.Option.{unwrap_or}
@@ -7,7 +7,7 @@ use Rattle.std.proofs.lemmas.Bool.{and_parts, and_from, not-true, not_from_false
 use Rattle.std.proofs.lemmas.List.Folds.{list_all-append}
 use Rattle.skk_calls.specs.declared.part.Part.{Part}
 use Rattle.skk_calls.specs.declared.part.Part.TheVariants.{Nasi, Ari}
-use Rattle.skk_calls.specs.Rows.{RowKey, is_row_key, is_note, is_note_char, is_row, fits_blocks, is_okuri}
+use Rattle.skk_calls.specs.Rows.{Row, RowKey, is_row_key, is_note, is_note_char, is_row, fits_blocks, is_okuri}
 use Rattle.exact_readers.specs.Cuts.{cut}
 use Rattle.exact_readers.specs.CutLaws.{up_to-exact}
 use Rattle.exact_readers.specs.ExactLaws.{chosen}
@@ -15,31 +15,25 @@ use Rattle.exact_readers.specs.Exact.{AreAll}
 use Rattle.exact_readers.specs.Formats.{all}
 use Rattle.exact_readers.specs.ManyLaws.{all-are}
 use Rattle.dict_format.specs.declared.reason.LineReason.TheVariants.{NoSlash, Block, LongCandidate}
+use Rattle.dict_format.specs.EntryRows.{HasKey}
+use Rattle.dict_format.specs.Lines.{SpellsRow}
 use Rattle.dict_format.specs.Items.{Item, SpellsItems, is_semicolon, note_of_text, item_format}
 use Rattle.dict_format.specs.Items.Item.{candidate, block, mark}
 use Rattle.exact_readers.specs.Lacking.{lacks}
 use Rattle.dict_format.specs.Reading.{texts_at, or_reason, and_then, fit_items_at}
 use Rattle.dict_format.specs.RowOfItems.{item_fits, block_in, has_word, joined_blocks, blocks_of_items, row_of_items}
 use Rattle.dict_format.proofs.Exactness.{item_exact}
-use Rattle.dict_format.proofs.LineTexts.{texts-sound, texts_lack}
-use Rattle.dict_format.proofs.RowParts.{has_note, row_of_items-valid}
+use Rattle.dict_format.proofs.LineTexts.{body-cut, texts-sound, texts_lack}
+use Rattle.dict_format.proofs.RowParts.{has_note, kept_all, row_of_items-valid}
 
 -- Notes
 
 -- a text without slashes has a note that may stand in an item
 note_chars : (text : List ℕ) → lacks 0x2F text ≡ true → is_note (filter (λ c. not (c == 13 || c == 10)) text) ≡ true
-note_chars [] none = refl
-note_chars (c ∷ text) none =
-    let parts = and_parts (not (c == 0x2F)) (lacks 0x2F text) none in
-    by (c == 13 || c == 10) refl (not-true (c == 0x2F) parts.0) (note_chars text parts.1)
-  where
-    by : (b : Bool) → (c == 13 || c == 10) ≡ b → (c == 0x2F) ≡ false
-        → is_note (filter (λ d. not (d == 13 || d == 10)) text) ≡ true
-        → is_note (filter (λ d. not (d == 13 || d == 10)) (c ∷ text)) ≡ true
-    by true e slash rest = rw e rest
-    by false e slash rest =
-        rw e (and_from (is_note_char c) _
-        (not_from_false (c == 0x2F || (c == 13 || c == 10)) (or_from (c == 0x2F) (c == 13 || c == 10) slash e)) rest)
+note_chars text none =
+    kept_all (λ c. not (c == 0x2F)) (λ c. not (c == 13 || c == 10)) is_note_char
+    (λ c slash end. not_from_false (c == 0x2F || (c == 13 || c == 10)) (or_from (c == 0x2F) (c == 13 || c == 10)
+    (not-true (c == 0x2F) slash) (not-true (c == 13 || c == 10) end))) text none
 
 note_valid : (text : List ℕ) → lacks 0x2F text ≡ true → is_note (note_of_text text) ≡ true
 note_valid text none = by (cut is_semicolon text) refl
@@ -120,3 +114,21 @@ row_read part body texts key items valid of between fitted =
               (items_noted part more texts are (texts_lack texts has.behind has.spelled))
               (ap (λ p. fits_blocks p (blocks_of_items more)) of ∙ fits_part part more texts are))
         ]
+
+-- and so does what a line spells
+pub spelled-valid : (part : Part) (line : List ℕ) (row : Row) → SpellsRow part line row → is_row row ≡ true
+spelled-valid part line row is =
+    subst (λ (made : Row). is_row made ≡ true) (sym is.row_is)
+    (row_of_items-valid (record { part = part; reading = is.reading }) is.items is.valid is.fit
+    (items_noted part is.items is.texts is.has_items (texts_lack is.texts is.has_texts.behind is.has_texts.spelled))
+    (fits_part part is.items is.texts is.has_items))
+
+-- with the key of the line
+pub spelled-key : (part : Part) (line : List ℕ) (row : Row) → SpellsRow part line row → HasKey part line row
+spelled-key part line row is =
+    let found = body-cut line is.reading is.body is.has_body in
+    record {
+      part_is = ap (λ (made : Row). made.key.part) is.row_is;
+      rest = found.0;
+      cut_is = found.1 ∙ ap (λ (made : Row). Some (made.key.reading, found.0)) (sym is.row_is);
+    }

@@ -96,3 +96,7 @@ pub record Lists (bytes : List ℕ) (listed : Listed) : Type 0 where
   pub not_long : length bytes ≤ file_limit
   pub valid : IsUtf8 bytes
   pub entries : TakeAll none_listed (entries_of bytes) listed
+
+-- bytes list these rows, whatever bad lines they have
+abbrev pub ListsRows : List ℕ → List Row → Type 0
+ListsRows bytes rows = (listed : Listed) × Lists bytes listed × (listed.book ≡ rows)

@@ -1,7 +1,9 @@
 pub mod Building
+pub mod EntryRows
 pub mod FileBuilding
 pub mod FileLines
 pub mod Items
+pub mod LeftLines
 pub mod Lines
 pub mod PrintedFiles
 pub mod Reading

@@ -36,6 +36,7 @@ pub fn print_file(alloc: Global, book: &Book) -> Result<Text, Memory>
 }
 
 // Adds the line of a part and those of its rows.
+#[tactic(auto, using(std::proofs::lemmas::Grind::common_steps))]
 fn push_part(alloc: Global, file: &mut Text, part: Part, book: &Book) -> Result<(), Memory>
     ensures printed { OnOk result (file.new ≡ file.old ++ printed_part part book.now) }
     ensures of_book { OnOk result (AreOfBook book.now) }
@@ -47,6 +48,7 @@ fn push_part(alloc: Global, file: &mut Text, part: Part, book: &Book) -> Result<
 }
 
 // The line that opens a part.
+#[tactic(auto, unfolding(crate::proofs::Hints::chars))]
 fn part_line(part: Part) -> &'static str
     ensures { chars result.now ≡ part_line part }
 {
@@ -57,6 +59,7 @@ fn part_line(part: Part) -> &'static str
 }
 
 // The rows of a part, in the order in which they are printed.
+#[tactic(auto, using(std::proofs::lemmas::Grind::common_steps))]
 fn rows_in_order(alloc: Global, part: Part, book: &Book) -> Result<Vec<&Row>, Memory>
     ensures order { IfOk result (λ rows. map (λ row. row.now) rows.items ≡ part_in_order part book.now) }
     ensures of_book { IfOk result (λ rows. AreOfBook book.now) }
@@ -67,6 +70,7 @@ fn rows_in_order(alloc: Global, part: Part, book: &Book) -> Result<Vec<&Row>, Me
 }
 
 // The rows of a part.
+#[tactic(auto, using(crate::proofs::Hints::one_more))]
 fn rows_of(alloc: Global, part: Part, rows: &[Row]) -> Result<Vec<&Row>, Memory>
     ensures kept { IfOk result (λ kept. map (λ row. row.now) kept.items ≡ filter (is_of part) rows.now) }
     ensures valid { IfOk result (λ kept. list_all is_row rows.now ≡ true) }

@@ -2,15 +2,14 @@ ghost use Rattle.std.specs.Prelude.{◌≡◌, ◌↔◌, IfOk, IfErr, Ok, Err};
 ghost use Rattle.skk_text.specs.Results.{AnswersUnless};
 ghost use Rattle.skk_text.specs.TextFiles.{IsTextFault};
 ghost use Rattle.skk_text.specs.declared.text_file.TextFault.{TextFault};
-ghost use Rattle.dict_format.specs.FileLines.{Lists, TakeAll, file_limit, none_listed};
-ghost use Rattle.dict_format.specs.FileLines.{entries_of, entry_of, part_behind, kind_of};
+ghost use Rattle.dict_format.specs.FileLines.{Lists, TakeAll, entries_of, file_limit, none_listed};
+ghost use Rattle.dict_format.specs.LeftLines.{entries_at};
 ghost use Rattle.dict_format.specs.declared.file.Listed.{Listed};
 
 use crate::file::{FileFault, Listed};
-use crate::file_lines::{LineKind, kind_of};
+use crate::file_lines::LineKind;
+use crate::lines::{FileLine, FileLines};
 use crate::listing::Listing;
-use exact_readers::{first_line, trimmed_line, without_mark};
-use skk_calls::Part;
 use skk_text::{Memory, text_within};
 use std::alloc::Global;
 
@@ -47,41 +46,19 @@ fn read_text(alloc: Global, text: &str) -> Result<Listed, Memory>
     ensures { IfOk result (TakeAll none_listed (entries_of text.now)) }
 {
     let mut listing = Listing::new(alloc);
-    let mut part = Part::Nasi;
-    let mut number: usize = 0;
-    let mut rest = without_mark(text);
-    while let Some((line, behind)) = first_line(rest) {
-        number += 1;
-        let read = trimmed_line(line);
-        listing = take_line(alloc, listing, number, part, read)?;
-        part = part_behind(read, part);
-        rest = behind;
+    let mut lines = FileLines::of(text);
+    while let Some(line) = lines.next_line() {
+        listing = take_line(alloc, listing, &line)?;
     }
     Ok(listing.into_listed())
 }
 
-// The part in which the lines behind a line stand, where that line stands in the other.
-fn part_behind(line: &str, part: Part) -> Part
-    ensures { result ≡ part_behind (kind_of line.now) part }
-{
-    match kind_of(line) {
-        LineKind::Opening(opened) => opened,
-        LineKind::Entry | LineKind::Skipped => part,
-    }
-}
-
 // Takes a line, where it is an entry.
-fn take_line(
-    alloc: Global,
-    listing: Listing,
-    number: usize,
-    part: Part,
-    line: &str,
-) -> Result<Listing, Memory>
-    ensures { IfOk result (TakeAll listing (entry_of (kind_of line.now) number part line.now)) }
+fn take_line(alloc: Global, listing: Listing, line: &FileLine<'_>) -> Result<Listing, Memory>
+    ensures { IfOk result (TakeAll listing (entries_at line.now)) }
 {
-    match kind_of(line) {
-        LineKind::Entry => listing.take_entry(alloc, number, part, line),
+    match line.kind {
+        LineKind::Entry => listing.take_entry(alloc, line.number, line.part, line.text),
         LineKind::Opening(_) | LineKind::Skipped => Ok(listing),
     }
 }

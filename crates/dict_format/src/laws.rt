@@ -1,4 +1,4 @@
-ghost use Rattle.std.specs.Prelude.{◌≡◌, ◌≤◌, ◌⊎◌, ℕ, true, List, [], map, length, encode_utf8_all};
+ghost use Rattle.std.specs.Prelude.{◌≡◌, ◌↔◌, ◌≤◌, ◌⊎◌, Some, ℕ, true, List, [], map, length, encode_utf8_all};
 ghost use Rattle.std.specs.List.{list_all};
 ghost use Rattle.std.specs.List.Sorted.{IsPermutation};
 ghost use Rattle.std.specs.Str.{IsUtf8};
@@ -7,7 +7,8 @@ ghost use Rattle.skk_calls.specs.Canonical.{canonical, is_good};
 ghost use Rattle.skk_calls.specs.Rows.{Row, is_row, keys_differ};
 ghost use Rattle.dict_format.specs.declared.file.Listed.{Listed};
 ghost use Rattle.dict_format.specs.declared.reason.LineReason.{LineReason};
-ghost use Rattle.dict_format.specs.FileLines.{Lists, file_limit};
+ghost use Rattle.dict_format.specs.EntryRows.{HasKey, listed_rows, row_of_line};
+ghost use Rattle.dict_format.specs.FileLines.{Lists, entries_of, file_limit};
 ghost use Rattle.dict_format.specs.Lines.{SpellsRow};
 ghost use Rattle.dict_format.specs.PrintedFiles.{in_printing_order, printed_file, without_stamp};
 ghost use Rattle.dict_format.specs.Reasons.{IsReason};
@@ -20,10 +21,14 @@ pub fn lines_spell_rows_or_have_reasons()
         → IsReason part line first → ⊥ }
 {}
 
-/// A line spells one row at most, and has one first reason at most.
+/// A line spells one row at most, which is a row and the one that is read of it, and has one first reason at most.
 pub fn lines_spell_one_row()
     ensures row { (part : Part) (line : List ℕ) (row other : Row) → SpellsRow part line row
         → SpellsRow part line other → row ≡ other }
+    ensures read { (part : Part) (line : List ℕ) (row : Row)
+        → SpellsRow part line row ↔ (row_of_line part line ≡ Some row) }
+    ensures valid { (part : Part) (line : List ℕ) (row : Row) → SpellsRow part line row → is_row row ≡ true }
+    ensures key { (part : Part) (line : List ℕ) (row : Row) → SpellsRow part line row → HasKey part line row }
     ensures reason { (part : Part) (line : List ℕ) (first other : LineReason) → IsReason part line first
         → IsReason part line other → first ≡ other }
 {}
@@ -53,9 +58,11 @@ pub fn printed_files_are_read_again()
 {}
 
 /// The bytes of a file list one thing at most, and those of each file that is not too long and is UTF-8 list something:
-/// what a file comes to is never open.
+/// what a file comes to is never open. Its rows are those that its entries spell, the first of each key.
 pub fn files_list_one_thing()
     ensures once { (bytes : List ℕ) (listed other : Listed) → Lists bytes listed → Lists bytes other → listed ≡ other }
     ensures some { (bytes : List ℕ) → length bytes ≤ file_limit → IsUtf8 bytes
         → (listed : Listed) × Lists bytes listed }
+    ensures rows { (bytes : List ℕ) (listed : Listed) → Lists bytes listed
+        → listed.book ≡ listed_rows (entries_of bytes) }
 {}

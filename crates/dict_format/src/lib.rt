@@ -19,6 +19,7 @@ mod file_reading;
 mod items;
 mod laws;
 mod line;
+mod lines;
 mod listing;
 mod printing;
 mod readings;
@@ -34,6 +35,7 @@ pub use laws::{
     files_list_one_thing, good_rows_are_read_again, lines_spell_one_row,
     lines_spell_rows_or_have_reasons, printed_files_are_read_again, printing_order_moves_rows,
 };
-pub use line::{read_key, read_line};
+pub use line::{read_key, read_line, row_of_line};
+pub use lines::{FileLine, FileLines};
 pub use printing::{print_item, print_line};
 pub use reason::{LineFault, LineReason};

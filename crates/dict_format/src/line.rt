@@ -13,6 +13,7 @@ ghost use Rattle.exact_readers.specs.Cuts.{cut};
 ghost use Rattle.exact_readers.specs.Formats.{taken, all};
 ghost use Rattle.exact_readers.specs.Lacking.{lacks};
 ghost use Rattle.dict_format.specs.Lines.{slashed_text, SpellsRow};
+ghost use Rattle.dict_format.specs.EntryRows.{row_of_line};
 ghost use Rattle.dict_format.specs.Reading.{and_then, is_space, or_reason, texts_at, key_at};
 ghost use Rattle.dict_format.specs.Reading.{row_reading, line_reading, key_reading, some_row_of};
 ghost use Rattle.dict_format.specs.Reasons.{is_control, is_bad_reading, IsReason};
@@ -71,6 +72,17 @@ fn reading_key(alloc: Global, part: Part, line: &[char]) -> Result<RowKey, LineF
     match cut_at(line, ' ') {
         Some((reading, _)) => key_of(alloc, part, reading),
         None => Err(LineFault::Reason(LineReason::NoSpace)),
+    }
+}
+
+/// The row that a line of a part spells, of stamp 0, if it spells one. Takes time in the length of the line.
+pub fn row_of_line(alloc: Global, part: Part, line: &str) -> Result<Option<Row>, Memory>
+    ensures { IfOk result (λ row. row ≡ row_of_line part (chars line.now)) }
+{
+    match read(alloc, part, line) {
+        Ok(row) => Ok(Some(row)),
+        Err(LineFault::Reason(_)) => Ok(None),
+        Err(LineFault::Memory) => Err(Memory),
     }
 }
 

@@ -13,6 +13,7 @@ use std::alloc::Global;
 
 /// The canonical line of a row, which says nothing of its stamp. That of a good row is read again as the row, with
 /// stamp 0.
+#[tactic(auto, using(std::proofs::lemmas::Grind::common_steps))]
 pub fn print_line(alloc: Global, row: &Row) -> Result<Text, Memory>
     ensures canonical { IfOk result (λ line. line ≡ canonical row.now) }
     ensures read_again { is_good row.now ≡ true
@@ -25,6 +26,7 @@ pub fn print_line(alloc: Global, row: &Row) -> Result<Text, Memory>
 }
 
 // Adds the canonical line of a row.
+#[tactic(auto, using(crate::proofs::Hints::line_is), unfolding(crate::proofs::Hints::chars))]
 pub fn push_line(text: &mut Text, row: &Row) -> Result<(), Memory>
     ensures ok { OnOk result (text.new ≡ text.old ++ canonical row.now) }
     ensures valid { is_row row.now ≡ true }
@@ -75,6 +77,7 @@ fn push_item(line: &mut Text, cand: &Cand) -> Result<(), Memory>
 }
 
 // Adds a note behind its semicolon, where there is one.
+#[tactic(auto, using(std::proofs::lemmas::Grind::common_steps))]
 fn push_note(line: &mut Text, note: &Text) -> Result<(), Memory>
     ensures { OnOk result (line.new ≡ line.old ++ written_note note.now) }
 {
@@ -137,7 +140,7 @@ impl Printer for BlockWord {
 }
 
 // Adds a word, quoted where it could not be read as it is.
-#[tactic(auto, using(crate::proofs::PrintedCharacters::forms))]
+#[tactic(auto, using(std::proofs::lemmas::Grind::common_steps), unfolding(crate::proofs::Hints::chars))]
 fn push_word(line: &mut Text, word: &Text) -> Result<(), Memory>
     ensures { OnOk result (line.new ≡ line.old ++ written_word word.now) }
 {
@@ -161,6 +164,7 @@ fn push_string(line: &mut Text, text: &Text) -> Result<(), Memory>
 }
 
 // Adds the characters of a text as they stand in a string.
+#[tactic(auto, using(std::proofs::lemmas::Grind::common_steps))]
 fn push_characters(line: &mut Text, text: &Text) -> Result<(), Memory>
     ensures { OnOk result (line.new ≡ line.old ++ flat_map char_in_string text.now) }
 {
@@ -171,7 +175,7 @@ fn push_characters(line: &mut Text, text: &Text) -> Result<(), Memory>
 }
 
 // Adds a character as it stands in a string.
-#[tactic(auto, using(crate::proofs::PrintedCharacters::escapes))]
+#[tactic(auto, unfolding(crate::proofs::Hints::chars))]
 fn push_character(line: &mut Text, c: char) -> Result<(), Memory>
     ensures { OnOk result (line.new ≡ line.old ++ char_in_string c) }
 {
@@ -187,7 +191,7 @@ fn push_character(line: &mut Text, c: char) -> Result<(), Memory>
 }
 
 // Adds one mark with all words that are hidden, and its slash, where there are any.
-#[tactic(auto, using(crate::proofs::PrintedCharacters::forms))]
+#[tactic(auto, using(crate::proofs::Hints::marks), unfolding(crate::proofs::Hints::chars))]
 fn push_mark(line: &mut Text, hides: &Texts) -> Result<(), Memory>
     ensures { OnOk result (line.new ≡ line.old ++ flat_map with_slash (mark_items hides.now)) }
 {

@@ -5,22 +5,21 @@ ghost use Rattle.skk_calls.specs.Rows.{Cand, Block, is_block, is_row};
 ghost use Rattle.word_sets.specs.Strings.{as_cand, characters};
 ghost use Rattle.dict_format.specs.Items.{Item as said_item};
 ghost use Rattle.dict_format.specs.RowOfItems.{row_of_items, words_once, has_word};
-ghost use Rattle.dict_format.specs.Building.{cands_once, made_blocks, JoinsBlocks, SaysItems};
+ghost use Rattle.dict_format.specs.Building.{cands_once, joined_words, valid_blocks, SaysItems};
 ghost use Rattle.dict_format.specs.Views.{item_said};
 
 use crate::items::Item;
 use skk_calls::{Block, Blocks, Okuri, Row, RowKey};
 use skk_text::{Memory, Text};
 use std::alloc::Global;
-use word_sets::{FirstCands, WordSet};
+use word_sets::{WordMap, WordSet};
 
-// What items say of a key, as far as they were gone through: the words of candidates with their notes, okurigana, the
-// words of each of these, and words that are hidden.
+// What items say of a key, as far as they were gone through: candidates, each a word with its note, okurigana with
+// their words, and words that are hidden.
 #[derive(Drop)]
 pub struct Parts {
-    cands: FirstCands,
-    okuris: WordSet,
-    words: Vec<WordSet>,
+    cands: WordMap<Text>,
+    blocks: WordMap<WordSet>,
     hides: WordSet,
 }
 
@@ -31,12 +30,11 @@ pub fn row_of(alloc: Global, key: RowKey, items: Vec<Item>) -> Result<Row, Memor
 {
     let Parts {
         cands,
-        okuris,
-        words,
+        blocks,
         hides,
     } = parts_of(alloc, items)?;
     let cands = cands.into_cands(alloc)?;
-    let blocks = blocks_of(alloc, okuris, words)?;
+    let blocks = blocks_of(alloc, blocks)?;
     let hides = hides.into_texts(alloc)?;
     Ok(Row::new(key, cands, blocks, hides, 0))
 }
@@ -46,9 +44,8 @@ fn parts_of(alloc: Global, items: Vec<Item>) -> Result<Parts, Memory>
     ensures { IfOk result (λ parts. SaysItems parts (map item_said items.items)) }
 {
     let mut parts = Parts {
-        cands: FirstCands::new(alloc),
-        okuris: WordSet::new(alloc),
-        words: Vec::new(alloc),
+        cands: WordMap::new(alloc),
+        blocks: WordMap::new(alloc),
         hides: WordSet::new(alloc),
     };
     for item in items {
@@ -64,24 +61,18 @@ fn add_item(alloc: Global, parts: &mut Parts, item: Item) -> Result<(), Memory>
 {
     match item {
         Item::Candidate { word, note } => add_cand(&mut parts.cands, word, note),
-        Item::Block { okuri, words } => add_block(
-            alloc,
-            &mut parts.okuris,
-            &mut parts.words,
-            okuri,
-            words,
-        ),
+        Item::Block { okuri, words } => add_block(alloc, &mut parts.blocks, okuri, words),
         Item::Mark { words } => add_words(&mut parts.hides, words),
     }
 }
 
 // Adds a candidate, unless its word is empty or came before.
-fn add_cand(cands: &mut FirstCands, word: String, note: String) -> Result<(), Memory>
-    ensures { OnOk result ((before : List Cand) → cands.old ≡ cands_once before
-        → cands.new ≡ cands_once (before ++ as_cand (word, note) ∷ [])) }
+fn add_cand(cands: &mut WordMap<Text>, word: String, note: String) -> Result<(), Memory>
+    ensures { OnOk result ((before : List Cand) → map as_cand cands.old ≡ cands_once before
+        → map as_cand cands.new ≡ cands_once (before ++ as_cand (characters word, characters note) ∷ [])) }
 {
     if !word.is_empty() {
-        cands.insert(word, note)?;
+        cands.insert(word, Text::of(note))?;
     }
     Ok(())
 }
@@ -111,27 +102,28 @@ fn add_word(known: &mut WordSet, word: String) -> Result<(), Memory>
 // Adds the words of a block to those of its okurigana, where it has a word.
 fn add_block(
     alloc: Global,
-    okuris: &mut WordSet,
-    words: &mut Vec<WordSet>,
+    blocks: &mut WordMap<WordSet>,
     okuri: String,
-    more: Vec<String>,
+    words: Vec<String>,
 ) -> Result<(), Memory>
-    ensures { OnOk result ((before : List Block) → JoinsBlocks okuris.old words.old.items before →
-        JoinsBlocks okuris.new words.new.items
-        (before ++ filter has_word (record { okuri = characters okuri; words = map characters more.items } ∷ []))) }
+    ensures { OnOk result ((before : List Block) → blocks.old ≡ joined_words before → blocks.new ≡ joined_words
+        (before ++ filter has_word (record { okuri = characters okuri; words = map characters words.items } ∷ []))) }
 {
-    if !has_word(&more) {
+    if !has_word(&words) {
         return Ok(());
     }
-    let (place, is_new) = okuris.insert_full(okuri)?;
-    if is_new {
-        let mut first = WordSet::new(alloc);
-        add_words(&mut first, more)?;
-        words.push(first)?;
-    } else if place < words.len() {
-        add_words(&mut words[place], more)?;
+    match blocks.value_mut(okuri.as_str()) {
+        Some(known) => {
+            add_words(known, words)?;
+            Ok(())
+        }
+        None => {
+            let mut first = WordSet::new(alloc);
+            add_words(&mut first, words)?;
+            blocks.insert(okuri, first)?;
+            Ok(())
+        }
     }
-    Ok(())
 }
 
 // Whether there is a word that is not empty.
@@ -147,26 +139,28 @@ fn has_word(words: &[String]) -> bool
 }
 
 // The blocks of the okurigana that are valid, with their words.
-fn blocks_of(alloc: Global, okuris: WordSet, words: Vec<WordSet>) -> Result<Blocks, Memory>
-    requires { list_all is_block (made_blocks okuris words.items) ≡ true }
-    ensures { IfOk result (λ blocks. blocks ≡ made_blocks okuris words.items) }
+fn blocks_of(alloc: Global, joined: WordMap<WordSet>) -> Result<Blocks, Memory>
+    requires { list_all is_block (valid_blocks joined) ≡ true }
+    ensures { IfOk result (λ blocks. blocks ≡ valid_blocks joined) }
 {
     let mut blocks = Blocks::new(alloc);
-    let mut left = words.into_iter();
-    for okuri in okuris.into_texts(alloc)?.into_vec() {
-        if let Some(words) = left.next() {
-            push_block(alloc, &mut blocks, okuri, words)?;
-        }
+    for (okuri, words) in joined {
+        push_block(alloc, &mut blocks, okuri, words)?;
     }
     Ok(blocks)
 }
 
 // Adds the block of an okurigana, where that is valid.
-fn push_block(alloc: Global, blocks: &mut Blocks, okuri: Text, words: WordSet) -> Result<(), Memory>
-    requires { list_all is_block (made_blocks (okuri ∷ []) (words ∷ [])) ≡ true }
-    ensures { OnOk result (blocks.new ≡ blocks.old ++ made_blocks (okuri ∷ []) (words ∷ [])) }
+fn push_block(
+    alloc: Global,
+    blocks: &mut Blocks,
+    okuri: String,
+    words: WordSet,
+) -> Result<(), Memory>
+    requires { list_all is_block (valid_blocks ((characters okuri, words) ∷ [])) ≡ true }
+    ensures { OnOk result (blocks.new ≡ blocks.old ++ valid_blocks ((characters okuri, words) ∷ [])) }
 {
-    if let Ok(okuri) = Okuri::new(okuri) {
+    if let Ok(okuri) = Okuri::new(Text::of(okuri)) {
         let words = words.into_texts(alloc)?;
         blocks.push(Block::new(okuri, words))?;
     }

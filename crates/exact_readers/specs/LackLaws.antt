@@ -5,9 +5,10 @@ use lib.Utf8.{encode}
 use Rattle.std.specs.List.{flat_map, list_all, AllByRecursion}
 use Rattle.std.proofs.lemmas.Bool.{and_parts, and_from, both_ways, not_from_false, ne_eqb}
 use Rattle.std.proofs.lemmas.Bool.Decides.{eqb_tells}
-use Rattle.std.proofs.lemmas.List.Folds.{list_all-append}
+use Rattle.std.proofs.lemmas.List.Folds.{list_all-append, list_all-map}
 use Rattle.std.proofs.lemmas.Str.{encodes-append}
 use Rattle.skk_text.specs.Lines.{lines_of}
+use Rattle.skk_text.specs.PairsLaws.{list_all-weaker}
 use Rattle.exact_readers.specs.Lacking.{lacks}
 use Rattle.exact_readers.specs.LineLaws.{line-ended}
 use Rattle.exact_readers.specs.Lines.{with_line_end}
@@ -19,11 +20,15 @@ pub both_lack : (code : ℕ) (xs ys : List ℕ) → lacks code xs ≡ true → l
 both_lack code xs ys first second =
     list_all-append (λ c. not (c == code)) xs ys ∙ and_from (lacks code xs) (lacks code ys) first second
 
--- and so do the texts of many values
-pub each_lacks : {X : Type 0} (code : ℕ) (f : X → List ℕ) → ((x : X) → lacks code (f x) ≡ true) → (xs : List X)
-    → lacks code (flat_map f xs) ≡ true
-each_lacks code f each [] = refl
-each_lacks code f each (x ∷ xs) = both_lack code (f x) (flat_map f xs) (each x) (each_lacks code f each xs)
+-- what is printed of each value that passes a test passes another, and so does what is printed of all
+pub each_passes : {X Y : Type 0} (test : X → Bool) (passes : Y → Bool) (print : X → List Y)
+    → ((x : X) → test x ≡ true → list_all passes (print x) ≡ true) → (xs : List X) → list_all test xs ≡ true
+    → list_all passes (flat_map print xs) ≡ true
+each_passes test passes print each [] all = refl
+each_passes test passes print each (x ∷ xs) all =
+    let parts = and_parts (test x) (list_all test xs) all in
+    list_all-append passes (print x) (flat_map print xs)
+    ∙ and_from (list_all passes (print x)) _ (each x parts.0) (each_passes test passes print each xs parts.1)
 
 -- a text whose characters pass a test lacks one that fails it
 pub lacks-failing : (test : ℕ → Bool) (code : ℕ) → test code ≡ false → (text : List ℕ) → list_all test text ≡ true
@@ -96,12 +101,12 @@ bytes_lack code low (c ∷ text) none =
 -- Lines
 
 -- the end of a line is one byte
-pub bytes_line_end : (text : List ℕ) → encode_utf8_all (text ++ 10 ∷ []) ≡ encode_utf8_all text ++ 10 ∷ []
+bytes_line_end : (text : List ℕ) → encode_utf8_all (text ++ 10 ∷ []) ≡ encode_utf8_all text ++ 10 ∷ []
 unfolding encode
 bytes_line_end text = encodes-append text (10 ∷ [])
 
 -- lines with their ends are cut into these lines
-pub lines_back : (lines : List (List ℕ)) → list_all (lacks 10) lines ≡ true
+lines_back : (lines : List (List ℕ)) → list_all (lacks 10) lines ≡ true
     → lines_of (flat_map with_line_end lines) ≡ lines
 lines_back [] none = refl
 lines_back (line ∷ lines) none =
@@ -111,10 +116,19 @@ lines_back (line ∷ lines) none =
     ∙ ap (λ more. line ∷ more) (lines_back lines parts.1)
 
 -- the bytes of lines with their ends
-pub lines_bytes : (texts : List (List ℕ))
+lines_bytes : (texts : List (List ℕ))
     → encode_utf8_all (flat_map with_line_end texts) ≡ flat_map with_line_end (map encode_utf8_all texts)
 lines_bytes [] = refl
 lines_bytes (text ∷ texts) =
     encodes-append (with_line_end text) (flat_map with_line_end texts)
     ∙ ap (λ bytes. bytes ++ encode_utf8_all (flat_map with_line_end texts)) (bytes_line_end text)
     ∙ ap (λ bytes. with_line_end (encode_utf8_all text) ++ bytes) (lines_bytes texts)
+
+-- texts without LF are the lines of what is printed of them, each with its end
+pub lines_again : (texts : List (List ℕ)) → list_all (lacks 10) texts ≡ true
+    → lines_of (encode_utf8_all (flat_map with_line_end texts)) ≡ map encode_utf8_all texts
+lines_again texts none =
+    ap lines_of (lines_bytes texts)
+    ∙ lines_back (map encode_utf8_all texts)
+    (list_all-map (lacks 10) encode_utf8_all texts
+    ∙ list_all-weaker (lacks 10) (λ text. lacks 10 (encode_utf8_all text)) (bytes_lack 10 (omega arith)) texts none)

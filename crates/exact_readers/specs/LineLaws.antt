@@ -64,6 +64,7 @@ first_cut text line behind e =
     all ∙ ap (λ d. (line ++ d ∷ []) ++ behind) (eqb-true end 10 passes) ∙ simp_append line behind in (
       ap lines_of split ∙ line-ended line behind none,
       omega (arith, ap length split, length-append line (10 ∷ behind)),
+      inl split,
     )
   where
     simp_append : (front back : List ℕ) → (front ++ 10 ∷ []) ++ back ≡ front ++ 10 ∷ back
@@ -73,7 +74,7 @@ first_cut text line behind e =
 -- and a text that is not cut is one line
 pub last_cut : (text : List ℕ) → cut is_line_feed text ≡ None → 0 < length text → IsFirstLine text text []
 last_cut [] e some = absurd (omega (arith, some))
-last_cut (c ∷ text) e some = (line-last c text (cut-none is_line_feed (c ∷ text) e), some)
+last_cut (c ∷ text) e some = (line-last c text (cut-none is_line_feed (c ∷ text) e), some, inr (refl, refl))
 
 -- The end of a line
 

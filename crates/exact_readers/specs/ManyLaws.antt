@@ -172,6 +172,11 @@ many-printed F test print printed (a ∷ values) pass =
       refl,
     )
 
+-- what spells a value alone
+pub many-one : {X A : Type 0} (R : A → List X → Type 0) (a : A) (tokens : List X) → R a tokens
+    → SpellsMany R (a ∷ []) tokens
+many-one R a tokens spelled = (tokens, [], spelled, refl, sym (append-nil tokens))
+
 -- what spells values, and behind it what spells others
 pub many-append : {X A : Type 0} (R : A → List X → Type 0) (values others : List A) (front back : List X)
     → SpellsMany R values front → SpellsMany R others back → SpellsMany R (values ++ others) (front ++ back)

@@ -1,7 +1,7 @@
 -- The mark at the beginning of a file, and the spaces and TABs at the end of a line.
 use Rattle.std.proofs.Common.{◌≡◌, ◌≢◌, ◌+◌, ◌==◌, ◌&&◌, ◌||◌, sym, ℕ, Bool, true, false, Option, Some, None, Bor}
-use Rattle.std.proofs.Common.{MatchOption, List, [], ◌∷◌, ◌++◌, length, drop, nat_eq, if◌then◌else◌, refl, ap, ◌∙◌, inl}
-use Rattle.std.proofs.Common.{inr}
+use Rattle.std.proofs.Common.{MatchOption, List, [], ◌∷◌, ◌++◌, length, take, drop, nat_eq, if◌then◌else◌, refl, ap}
+use Rattle.std.proofs.Common.{◌∙◌, inl, inr, append_assoc, take-append-drop}
 use lib.Utf8.{encode}
 use Rattle.std.specs.List.{list_all, starts_with}
 use Rattle.std.proofs.lemmas.Bool.{and_parts, both_ways, cases_Bool}
@@ -125,3 +125,40 @@ trimmed-kept front c no_return no_blank = ap without_blanks (returns front) ∙ 
         (list_all-append is_blank (d ∷ xs) (c ∷ []) ∙ ap (λ b. list_all is_blank (d ∷ xs) && (b && true)) no_blank
         ∙ and_false (list_all is_blank (d ∷ xs)))
         ∙ ap (λ ys. d ∷ ys) (blanks xs)
+
+-- What is read stands at the front of the line
+
+return-front : (line : List ℕ) → (more : List ℕ) × (line ≡ without_return line ++ more)
+return-front [] = ([], refl)
+return-front (c ∷ []) = by (c == 13)
+  where
+    by : (b : Bool) → (more : List ℕ) × (c ∷ [] ≡ (if b then [] else c ∷ []) ++ more)
+    by true = (c ∷ [], refl)
+    by false = ([], refl)
+return-front (c ∷ d ∷ line) = let rest = return-front (d ∷ line) in (rest.0, ap (λ l. c ∷ l) rest.1)
+
+blanks-front : (line : List ℕ) → (more : List ℕ) × (line ≡ without_blanks line ++ more)
+blanks-front [] = ([], refl)
+blanks-front (c ∷ line) = by (list_all is_blank (c ∷ line)) (blanks-front line)
+  where
+    by : (b : Bool) → (more : List ℕ) × (line ≡ without_blanks line ++ more)
+        → (more : List ℕ) × (c ∷ line ≡ (if b then [] else c ∷ without_blanks line) ++ more)
+    by true rest = (c ∷ line, refl)
+    by false rest = (rest.0, ap (λ l. c ∷ l) rest.1)
+
+pub trimmed-front : (line : List ℕ) → (more : List ℕ) × (line ≡ trimmed_line line ++ more)
+trimmed-front line =
+    let first = return-front line in
+    let second = blanks-front (without_return line) in (
+      second.0 ++ first.0,
+      first.1 ∙ ap (λ l. l ++ first.0) second.1 ∙ append_assoc (trimmed_line line) second.0 first.0,
+    )
+
+-- and what follows the mark at the end of the file
+pub mark-front : (bytes : List ℕ) → (front : List ℕ) × (bytes ≡ front ++ without_mark bytes)
+mark-front bytes = by (starts_with nat_eq bytes byte_order_mark)
+  where
+    by : (b : Bool) → (front : List ℕ)
+        × (bytes ≡ front ++ (if b then drop (length byte_order_mark) bytes else bytes))
+    by true = (take (length byte_order_mark) bytes, sym (take-append-drop (length byte_order_mark) bytes))
+    by false = ([], refl)

@@ -39,6 +39,13 @@ module _ {X : Type 0} (p : X → Bool) where
       by true passes found rest = let same : y ≡ x = cc in ap p (sym same) ∙ passes
       by false fails found rest = rest found
 
+-- tests that are the same keep the same
+pub filter_same : {X : Type 0} (p q : X → Bool) → ((x : X) → p x ≡ q x) → (xs : List X) → filter p xs ≡ filter q xs
+filter_same p q same [] = refl
+filter_same p q same (x ∷ xs) =
+    ap (λ b. cond b (x ∷ filter p xs) (filter p xs)) (same x)
+    ∙ ap (λ ys. cond (q x) (x ∷ ys) ys) (filter_same p q same xs)
+
 -- what holds of each element holds of what is found
 pub list_all_found : {X : Type 0} (p q : X → Bool) (xs : List X) (x : X) → list_all p xs ≡ true
     → find q xs ≡ Some x → p x ≡ true

@@ -1,10 +1,8 @@
-use Rattle.std.proofs.Common.{rules, ◌≡◌, List, ap, sym, ◌∙◌, map, subst, Bor}
-use Rattle.std.specs.List.{filter, list_all}
-use Rattle.std.specs.List.Sorted.{IsPermutation, IsSortedBy}
+use Rattle.std.proofs.Common.{rules, ◌≡◌, ap, ◌∙◌, map, Bor}
+use Rattle.std.specs.List.{filter}
 use Rattle.std.proofs.lemmas.Fn.{always_returns_same}
 use Rattle.std.proofs.lemmas.List.Sorted.{IsPermutation-map}
-use Rattle.skk_calls.specs.declared.row.Row.{Row as DeclaredRow}
-use Rattle.skk_calls.specs.Rows.{Row, is_row}
+use Rattle.skk_calls.specs.declared.row.Row.{Row}
 use Rattle.dict_format.specs.PrintedFiles.{is_of, is_printed_before}
 use Rattle.skk_calls.specs.OrderLaws.{order_read, sorted_once, sorted_read}
 use Rattle.dict_format.proofs.PrintingOrder.{part_order, part_apart}
@@ -15,23 +13,13 @@ pub returns-clause-order : goal.returns-clause-order
 returns-clause-order c =
     let part = c.args.part in
     let before = is_printed_before part in
-    let kept = filter (is_of part) c.args.book.now in
     let sorted = c.sort_unstable_by.new.self.items in
-    let printed = map (λ row. row.now) sorted in
-    let are_kept : map (λ row. row.now) c.in_ok-rows.rows.items ≡ kept =
+    let kept : map (λ row. row.now) c.in_ok-rows.rows.items ≡ filter (is_of part) c.args.book.now =
     c.in_ok-rows.ensures.kept ∙ ap (filter (is_of part)) (c.as_slice.ensures ∙ c.rows.ensures.value) in
-    let by_reading = λ (row other : Bor DeclaredRow). before row.now other.now in
-    let ascends : IsSortedBy by_reading sorted =
-    c.sort_unstable_by.ensures.sorted by_reading (order_read (λ row. row.now) before (part_order part))
-    (always_returns_same _ _ _ (λ a r q k. search rules)) in
-    sorted_once before (part_order part) kept printed (part_apart part c.args.book.now c.rows.ensures.valid)
-    (subst (λ (rows : List Row). IsPermutation rows printed) are_kept
+    sorted_once before (part_order part) (filter (is_of part) c.args.book.now) (map (λ row. row.now) sorted)
+    (part_apart part c.args.book.now c.rows.ensures.valid)
+    (rw kept at
     (IsPermutation-map (λ row. row.now) c.in_ok-rows.rows.items sorted c.sort_unstable_by.ensures.permutation))
-    (sorted_read (λ row. row.now) before sorted ascends)
-
-pub returns-clause-of_book : goal.returns-clause-of_book
-returns-clause-of_book c =
-    record {
-      differ = c.rows.ensures.valid;
-      valid = ap (list_all is_row) (sym (c.as_slice.ensures ∙ c.rows.ensures.value)) ∙ c.in_ok-rows.ensures.valid;
-    }
+    (sorted_read (λ row. row.now) before sorted
+    (c.sort_unstable_by.ensures.sorted (λ (row other : Bor Row). before row.now other.now)
+    (order_read (λ row. row.now) before (part_order part)) (always_returns_same _ _ _ (λ a r q k. search rules))))

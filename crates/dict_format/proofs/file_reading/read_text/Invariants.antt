@@ -1,13 +1,10 @@
 use Rattle.std.proofs.Common.{length}
-use denote.Text.{Utf8}
-use denote.Shadow.{shadow}
-use Rattle.exact_readers.specs.Trimming.{without_mark}
-use Rattle.dict_format.proofs.FileEntries.{IsReadTo}
+use Rattle.dict_format.proofs.FileEntries.{IsListed}
 use Rattle.dict_format.proofs.file_reading.read_text.Given as goal
 
--- the entries before the rest are taken
+-- the entries before those that are left are taken
 abbrev pub invariant-loop-line : goal.invariant-loop-line
-invariant-loop-line l = shadow (Utf8 l.rest) × IsReadTo (without_mark l.text) l.rest l.number l.part l.listing
+invariant-loop-line l = IsListed l.text l.lines l.listing
 
 abbrev pub decreases-loop-line : goal.decreases-loop-line
-decreases-loop-line l = length l.rest
+decreases-loop-line l = length l.lines.lines

@@ -2,6 +2,7 @@ use Rattle.std.proofs.Common.{◌≡◌, ◌∙◌, ap, map, refl}
 use Rattle.std.specs.List.{list_all, filter, flat_map}
 use Rattle.skk_calls.specs.RowLaws.{row_parts}
 use Rattle.skk_calls.specs.Rows.{Row, is_block, is_cand, is_row}
+use Rattle.dict_format.specs.Building.{valid_blocks}
 use Rattle.dict_format.specs.RowOfItems.{row_of_items, has_word, block_in}
 use Rattle.dict_format.specs.Views.{item_said}
 use Rattle.dict_format.proofs.Blocks.{joined-made}
@@ -16,9 +17,8 @@ into_cands-requires c =
 pub blocks_of-requires : goal.blocks_of-requires
 blocks_of-requires c =
     let items = map item_said c.args.items.items in
-    let parts = c.in_ok-cands.field-0 in
-    ap (list_all is_block) (joined-made parts.okuris parts.words.items (filter has_word (flat_map block_in items))
-    c.in_ok-cands.ensures.blocks)
+    ap (list_all is_block) (ap valid_blocks c.in_ok-cands.ensures.blocks
+    ∙ joined-made (filter has_word (flat_map block_in items)))
     ∙ (row_parts (row_of_items c.args.key items) c.requires).blocks
 
 -- the parts are those of the row
@@ -32,11 +32,10 @@ made : (c : In_ok-hides)
     } in
     row ≡ row_of_items c.args.key (map item_said c.args.items.items))
 made c =
-    let parts = c.in_ok-cands.field-0 in
     let says = c.in_ok-cands.ensures in
     let cands = c.in_ok-cands-2.ensures.value ∙ says.cands in
-    let blocks = c.in_ok-blocks.ensures ∙ joined-made parts.okuris parts.words.items
-    (filter has_word (flat_map block_in (map item_said c.args.items.items))) says.blocks in
+    let blocks = c.in_ok-blocks.ensures ∙ ap valid_blocks says.blocks
+    ∙ joined-made (filter has_word (flat_map block_in (map item_said c.args.items.items))) in
     let hides = c.in_ok-hides.ensures.value ∙ says.hides in
     rw (cands, blocks, hides) refl
 
