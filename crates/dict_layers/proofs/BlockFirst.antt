@@ -8,7 +8,7 @@ use Rattle.std.proofs.lemmas.List.{length-map}
 use Rattle.std.proofs.lemmas.List.Elements.{filter-append}
 use Rattle.std.proofs.lemmas.List.Quantifiers.{position-Some}
 use Rattle.std.proofs.lemmas.Option.{slice_get_read}
-use Rattle.skk_text.specs.FilterLaws.{list_all_found}
+use Rattle.skk_text.specs.FilterLaws.{list_all_found, filter_same}
 use Rattle.skk_calls.specs.Found.{block_of, note_of, with_block_first, without_hidden, ordered}
 use Rattle.skk_calls.specs.KeyLaws.{same_equal, same_other}
 use Rattle.skk_calls.specs.RowLaws.{block_parts, row_parts}
@@ -17,7 +17,6 @@ use Rattle.word_sets.specs.FirstLaws.{fold_new-apart, fold_new-differ, fold_new-
 use Rattle.word_sets.specs.FirstLaws.{texts_stay}
 use Rattle.word_sets.specs.Firsts.{with_new}
 use Rattle.dict_layers.specs.Blocks.{block_for, with_notes}
-use Rattle.dict_layers.proofs.Lists.{filter_same}
 
 abbrev word_of : Cand → List ℕ
 word_of cand = cand.word

@@ -1,9 +1,2 @@
 pub mod BlockFirst
-pub mod Completing
-pub mod Index
-pub mod Indexes
 pub mod LayersAdded
-pub mod Lists
-pub mod Places
-pub mod Walking
-pub mod Zipped

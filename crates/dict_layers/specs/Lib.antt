@@ -1,4 +1,2 @@
 pub mod Blocks
-pub mod Files
-pub mod InOrder
-pub mod WalkLaws
+pub mod SystemFiles

@@ -4,11 +4,13 @@ ghost use Rattle.skk_calls.specs.Found.{merged};
 
 use crate::layer::{add_layer, pass_layer};
 use crate::ordering::block_for;
-use crate::system::RowList;
 use skk_calls::{Cands, DistinctCands, Okuri, Row};
-use skk_text::Memory;
+use skk_text::{Memory, Sequence};
 use std::alloc::Global;
 use word_sets::WordRefs;
+
+/// Rows in order, which stand elsewhere.
+pub type RowList<'a> = Sequence<&'a Row>;
 
 /// The candidates of layers, the upper ones first: of each layer those of the okurigana first, without the words that
 /// layers above it hide, and the first of each word. Takes time in the length of the layers. Candidates are copied

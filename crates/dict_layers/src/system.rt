@@ -1,52 +1,66 @@
-use crate::file_index::FileIndex;
-use skk_calls::{Books, Row, RowKey, Walk};
-use skk_text::{Copies, Memory, Sequence, Text};
+ghost use Rattle.std.specs.Prelude.{◌≡◌, IfOk};
+ghost use Rattle.std.specs.Option.{option_copied};
+ghost use Rattle.skk_calls.specs.States.{row_in};
+ghost use Rattle.skk_calls.specs.Walks.{next_above};
+ghost use Rattle.dict_files.specs.Walked.{walked_readings};
+ghost use Rattle.dict_layers.specs.SystemFiles.{rows_in};
+
+use crate::system_file::SystemFile;
+use dict_files::{DictionaryFiles, RowFile};
+use skk_calls::{Books, Row, RowKey, Rows, Walk};
+use skk_text::{Copies, Memory, Text};
 use std::alloc::Global;
 use std::marker::Model;
-
-/// Rows in order, which stand elsewhere.
-pub type RowList<'a> = Sequence<&'a Row>;
 
 /// The system files: the rows of each, in the files' order. No file has two rows of one key.
 #[derive(Drop)]
 pub struct System {
-    books: Books,
-    indexes: Vec<FileIndex>,
+    files: Vec<SystemFile>,
 }
 
 impl Model for System {
-    ghost use Rattle.std.specs.Prelude.{◌≡◌, true, List};
-    ghost use Rattle.std.specs.List.{AllZip, list_all};
+    ghost use Rattle.std.specs.Prelude.{◌≡◌, true, List, map};
+    ghost use Rattle.std.specs.List.{list_all};
     ghost use Rattle.skk_calls.specs.Rows.{Row};
-    ghost use Rattle.dict_layers.specs.Files.{is_file};
-    ghost use Rattle.dict_layers.specs.InOrder.{IsFileIndex};
+    ghost use Rattle.dict_files.specs.Files.{is_file};
+    ghost use Rattle.dict_layers.specs.SystemFiles.{rows_in};
 
     ghost Value = { List (List Row) };
 
-    ghost view = { λ s. s.books };
+    ghost view = { λ s. map rows_in s.files.items };
 
-    ghost invariant = { λ s.
-        AllZip (λ rows index. IsFileIndex rows index.by_key index.walked) s.books s.indexes.items
-        × (list_all is_file s.books ≡ true) };
+    ghost invariant = { λ s. list_all is_file (map rows_in s.files.items) ≡ true };
 }
 
 impl System {
-    ghost use Rattle.std.specs.Prelude.{◌≡◌, ◌<◌, true, length, get_or, [], map, IfOk};
+    ghost use Rattle.std.specs.Prelude.{◌≡◌, true, length, IfOk};
     ghost use Rattle.std.specs.List.{filter_map, list_all};
-    ghost use Rattle.std.specs.Option.{option_copied};
     ghost use Rattle.skk_calls.specs.States.{row_in};
-    ghost use Rattle.dict_layers.specs.Files.{is_file};
+    ghost use Rattle.dict_files.specs.Files.{is_file};
 
-    /// The system files with these rows, which are moved. Takes time in the number of rows,
-    /// and with one logarithm in it.
+    /// The system files with the rows of these books, which are moved. Takes time in the number of rows, and with one
+    /// logarithm in it where they are not in order.
     pub fn of_books(alloc: Global, books: Books) -> Result<System, Memory>
         ensures { IfOk result (λ system. system ≡ books) }
     {
-        let mut indexes = Vec::new(alloc);
-        for book in books.as_slice() {
-            indexes.push(FileIndex::of_rows(alloc, book.rows().as_slice())?)?;
+        let mut files = Vec::new(alloc);
+        for book in books.into_vec() {
+            files.push(SystemFile::Rows(RowFile::of_book(alloc, book)?))?;
         }
-        Ok(System { books, indexes })
+        Ok(System { files })
+    }
+
+    /// The system files as they lie, which are moved. Takes time in the number of files.
+    pub fn of_files(alloc: Global, files: DictionaryFiles) -> Result<System, Memory>
+        ensures { IfOk result (λ system. system ≡ files) }
+    {
+        let mut system = Vec::new(alloc);
+        for file in files.into_vec() {
+            // Its rows are those of a file, as its type says.
+            let _bytes = file.bytes();
+            system.push(SystemFile::Bytes(file))?;
+        }
+        Ok(System { files: system })
     }
 
     /// How many files there are. Takes no memory.
@@ -54,37 +68,28 @@ impl System {
         ensures value { result ≡ length self.now }
         ensures valid { list_all is_file self.now ≡ true }
     {
-        self.books.len()
+        self.files.len()
     }
 
-    /// The rows of a key, in the order of the files that have one. Takes time in the number of files, and in each with
-    /// a logarithm in the number of rows.
-    pub fn find(&self, alloc: Global, key: &RowKey) -> Result<RowList<'_>, Memory>
-        ensures { IfOk result (λ rows. map (λ row. row.now) rows ≡ filter_map (row_in key.now) self.now) }
+    /// The rows of a key, in the order of the files that have one. Takes time in the number of files, in each a
+    /// logarithm in the number of its entries, and time in the lines with the key's reading.
+    pub fn find(&self, alloc: Global, key: &RowKey) -> Result<Rows, Memory>
+        ensures { IfOk result (λ rows. rows ≡ filter_map (row_in key.now) self.now) }
     {
-        let mut found = Sequence::new(alloc);
-        for file in 0..self.books.len() {
-            if let Some(row) = self.row_of(file, key) {
+        let mut found = Rows::new(alloc);
+        for file in &self.files {
+            if let Some(row) = row_of(alloc, file, key)? {
                 found.push(row)?;
             }
         }
         Ok(found)
     }
-
-    // The row of a key in a file.
-    fn row_of(&self, file: usize, key: &RowKey) -> Option<&Row>
-        requires { file < length self.now }
-        ensures { option_copied result ≡ row_in key.now (get_or self.now file []) }
-    {
-        let rows = self.books.at(file).rows().as_slice();
-        self.indexes[file].row_of(rows, key)
-    }
 }
 
 impl Walk for System {
     ghost use Rattle.std.specs.Prelude.{map};
-    ghost use Rattle.dict_layers.specs.InOrder.{walked_readings};
-    ghost use Rattle.dict_layers.specs.WalkLaws.{all_walked_ascend};
+    ghost use Rattle.dict_files.specs.Walked.{walked_readings};
+    ghost use Rattle.dict_files.specs.WalkLaws.{all_walked_ascend};
 
     ghost files = { map walked_readings };
 
@@ -94,12 +99,38 @@ impl Walk for System {
         self.file_count()
     }
 
-    /// Takes time with a logarithm in the number of the file's rows.
+    /// Takes a logarithm in the number of the file's entries, and time in the lines up to the reading that is found.
     fn above(&self, alloc: Global, file: usize, low: &Text) -> Result<Option<Text>, Memory> {
-        let rows = self.books.at(file).rows().as_slice();
-        match self.indexes[file].reading_above(rows, low) {
-            Some(reading) => Ok(Some(reading.copy(alloc)?)),
-            None => Ok(None),
-        }
+        reading_above(alloc, &self.files[file], low)
+    }
+}
+
+// The row of a key in a file, if there is one.
+fn row_of(alloc: Global, file: &SystemFile, key: &RowKey) -> Result<Option<Row>, Memory>
+    ensures { IfOk result (λ row. row ≡ row_in key.now (rows_in file.now)) }
+{
+    match file {
+        SystemFile::Rows(rows) => copy_of(alloc, rows.row_of(key)),
+        SystemFile::Bytes(file) => file.row_of(alloc, key),
+    }
+}
+
+// The least reading of a file's walk that is greater than another.
+fn reading_above(alloc: Global, file: &SystemFile, low: &Text) -> Result<Option<Text>, Memory>
+    ensures { IfOk result (λ next. next ≡ next_above (walked_readings (rows_in file.now)) low.now) }
+{
+    match file {
+        SystemFile::Rows(rows) => copy_of(alloc, rows.reading_above(low)),
+        SystemFile::Bytes(file) => file.reading_above(alloc, low),
+    }
+}
+
+// A copy of what may not be there.
+fn copy_of<T: Copies>(alloc: Global, item: Option<&T>) -> Result<Option<T>, Memory>
+    ensures { IfOk result (λ copy. copy ≡ option_copied item.entry) }
+{
+    match item {
+        Some(item) => Ok(Some(item.copy(alloc)?)),
+        None => Ok(None),
     }
 }

@@ -4,7 +4,7 @@ ghost use Rattle.skk_calls.specs.Rows.{same_text, same_key, texts_differ, words_
 ghost use Rattle.skk_calls.specs.Rows.{is_cand, is_block, is_row};
 
 use crate::making::text;
-use dict_layers::{RowList, System, cands_in_order, merge, walks_go_over_completions};
+use dict_layers::{RowList, System, cands_in_order, merge};
 use skk_calls::{
     Block, Blocks, Book, Books, Cand, Cands, DistinctCands, Okuri, Part, Row, RowKey, Rows, Walk,
 };
@@ -298,7 +298,6 @@ fn layers_are_merged(rt: HostRuntime) -> Result<(), Fail> {
     let lower = [("漢字", ""), ("幹事", "宴会の"), ("感じ", "")];
     let cands = cands_of_two_layers(alloc, "き", &[], &["漢字"], &lower)?;
     expect(&rt, cands.cands(), &[("幹事", "宴会の"), ("感じ", "")]);
-    walks_go_over_completions();
     Ok(())
 }
 

@@ -66,7 +66,8 @@ impl Index {
     {
         match call {
             Call::Lookup { who, key, okuri } => {
-                let layers = layers(self, alloc, system, *who, key)?;
+                let found = system.find(alloc, key)?;
+                let layers = layers(self, alloc, &found, *who, key)?;
                 Ok(Reply::Found(merge(alloc, &layers, okuri.as_ref())?))
             }
             _ => unreachable!(),

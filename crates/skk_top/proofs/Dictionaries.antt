@@ -6,7 +6,8 @@ use Rattle.std.proofs.lemmas.List.{drop_more, length-map, length-take-le, map-ap
 use Rattle.std.proofs.lemmas.List.Elements.{All-from_recursion}
 use Rattle.skk_outside.specs.Moved.{Told}
 use Rattle.skk_calls.specs.Rows.{Row}
-use Rattle.skk_top.specs.Dictionaries.{AreDictionaries, AreRowsOf, HasDictionaryFlaw, IsFirst, IsDictionary, ListsRows}
+use Rattle.dict_format.specs.FileLines.{ListsRows}
+use Rattle.skk_top.specs.Dictionaries.{AreDictionaries, AreRowsOf, HasDictionaryFlaw, IsFirst, IsDictionary}
 use Rattle.skk_top.specs.Dictionaries.{RefusesDictionaries}
 use Rattle.skk_top.specs.RunFiles.{RefusesFile}
 use Rattle.skk_top.specs.declared.fault.RunFault.{RunFault}

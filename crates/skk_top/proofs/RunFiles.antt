@@ -12,7 +12,6 @@ use Rattle.skk_text.specs.declared.text_file.TextFault.TheVariants as texts
 use Rattle.dict_format.specs.FileLines.{file_limit}
 use Rattle.dict_format.specs.declared.file.FileFault.{FileFault}
 use Rattle.dict_format.specs.declared.file.FileFault.TheVariants as files
-use Rattle.dict_format.specs.declared.file.Listed.{Listed}
 use Rattle.skk_top.specs.Dictionaries.{HasDictionaryFlaw, RefusesDictionaries, fault_of_file}
 use Rattle.skk_top.specs.RunFiles.{RefusesFile, RefusesBytes, IsLonger}
 use Rattle.skk_top.specs.RunRules.{AreRules, HasRulesFlaw, RefusesRules, fault_of_rules}
@@ -66,8 +65,8 @@ refuses-bytes HasFlaw file bytes told faults faults' Memory is out = tt
 refuses-bytes HasFlaw file bytes told faults faults' fault is none = absurd none
 
 -- why the bytes of a dictionary are refused
-pub refuses-listed : (number : ℕ) (bytes : List ℕ) (fault : FileFault) → ((text : TextFault)
-    → ◌≡◌ {A = Result Listed FileFault} (Err fault) (Err (files.NoText text)) → IsTextFault file_limit bytes text)
+pub refuses-listed : {T : Type 0} (number : ℕ) (bytes : List ℕ) (fault : FileFault) → ((text : TextFault)
+    → ◌≡◌ {A = Result T FileFault} (Err fault) (Err (files.NoText text)) → IsTextFault file_limit bytes text)
     → RefusesBytes (Dictionary number) HasDictionaryFlaw bytes (fault_of_file number fault)
 refuses-listed number bytes (files.NoText (texts.TooLong count)) no_text =
     (refl, (no_text (texts.TooLong count) refl).0)

@@ -3,7 +3,7 @@ use Rattle.std.specs.Prelude.{◌≡◌, ⊤, ◌+◌, ℕ, List, [], ◌∷◌,
 use Rattle.skk_outside.specs.Faults.{Rose}
 use Rattle.skk_outside.specs.Moved.{Told}
 use Rattle.skk_calls.specs.Rows.{Row}
-use Rattle.dict_format.specs.FileLines.{Lists, file_limit}
+use Rattle.dict_format.specs.FileLines.{Lists, ListsRows, file_limit}
 use Rattle.dict_format.specs.declared.file.FileFault.{FileFault}
 use Rattle.dict_format.specs.declared.file.FileFault.TheVariants as files
 use Rattle.dict_format.specs.declared.file.Listed.{Listed}
@@ -45,10 +45,6 @@ RefusesDictionaries files faults faults' (Refused (Dictionary number) flaw) =
 RefusesDictionaries files faults faults' Outside = Rose faults faults'
 RefusesDictionaries files faults faults' Memory = ⊤
 RefusesDictionaries files faults faults' fault = ⊥
-
--- bytes list these rows, whatever bad lines they have
-abbrev pub ListsRows : List ℕ → List Row → Type 0
-ListsRows bytes rows = (listed : Listed) × Lists bytes listed × (listed.book ≡ rows)
 
 -- books are the rows that files list, one each in their order, as far as they are told
 abbrev pub AreRowsOf : List (List Row) → List Told → Type 0

@@ -1,34 +1,72 @@
 ghost use Rattle.std.specs.Prelude.{◌≡◌, ◌≤◌, IfOk, IfErr, IfSome, map};
-ghost use Rattle.dict_format.specs.FileLines.{Lists};
+ghost use Rattle.dict_format.specs.FileLines.{Lists, ListsRows};
 ghost use Rattle.skk_top.specs.Dictionaries.{AreRowsOf, HasDictionaryFlaw, RefusesDictionaries, fault_of_file};
 ghost use Rattle.skk_top.specs.RunFiles.{RefusesFile, RefusesBytes};
 
 use crate::fault::RunFault;
 use crate::run_file::{RunFile, read_run_file};
 use crate::word::Word;
+use dict_files::{DictionaryFile, DictionaryFiles};
 use dict_format::{FILE_LIMIT, FileFault, Listed, read_file};
-use skk_calls::Books;
 use skk_outside::Shelf;
+use skk_text::Bytes;
 use std::alloc::Global;
 
-/// Reads the dictionaries of these names in their order, up to the first that is refused.
+/// Opens the dictionaries of these names in their order, up to the first that is refused.
 /// Their bad lines are passed over.
-pub fn read_dictionaries<H: Shelf>(
+pub fn open_dictionaries<H: Shelf>(
     alloc: Global,
     shelf: &mut H,
     names: &[Word],
-) -> Result<Books, RunFault>
-    ensures rows { IfOk result (λ books. AreRowsOf books (map (H.file shelf.old) names.now)) }
+) -> Result<DictionaryFiles, RunFault>
+    ensures rows { IfOk result (λ files. AreRowsOf files (map (H.file shelf.old) names.now)) }
     ensures refused { IfErr result (RefusesDictionaries (map (H.file shelf.old) names.now)
         (H.faults shelf.old) (H.faults shelf.new)) }
     ensures counted { H.faults shelf.old ≤ H.faults shelf.new }
 {
-    let mut books = Books::new(alloc);
+    let mut files = DictionaryFiles::new(alloc);
     for name in names {
-        let listed = read_dictionary(alloc, shelf, name, books.len() + 1)?;
-        books.push(listed.book)?;
+        let file = open_dictionary(alloc, shelf, name, files.len() + 1)?;
+        files.push(file)?;
     }
-    Ok(books)
+    Ok(files)
+}
+
+// Opens the dictionary with this number, counted from 1, from the file of this name.
+fn open_dictionary<H: Shelf>(
+    alloc: Global,
+    shelf: &mut H,
+    name: &Word,
+    number: usize,
+) -> Result<DictionaryFile, RunFault>
+    ensures rows { IfOk result (λ file. IfSome (H.file shelf.old name.now) (λ bytes. ListsRows bytes file)) }
+    ensures refused { IfErr result
+        (RefusesFile (RunFile.Dictionary number) HasDictionaryFlaw (H.file shelf.old name.now)
+        (H.faults shelf.old) (H.faults shelf.new)) }
+    ensures counted { H.faults shelf.old ≤ H.faults shelf.new }
+    ensures kept { H.file shelf.new ≡ H.file shelf.old }
+{
+    match read_run_file(
+        alloc,
+        shelf,
+        name,
+        RunFile::Dictionary { number },
+        FILE_LIMIT,
+    ) {
+        Ok(bytes) => file_of(alloc, bytes, number),
+        Err(fault) => Err(fault),
+    }
+}
+
+// The file of the bytes of the dictionary with this number.
+fn file_of(alloc: Global, bytes: Bytes, number: usize) -> Result<DictionaryFile, RunFault>
+    ensures rows { IfOk result (ListsRows bytes) }
+    ensures refused { IfErr result (RefusesBytes (RunFile.Dictionary number) HasDictionaryFlaw bytes) }
+{
+    match DictionaryFile::open(alloc, bytes) {
+        Ok(file) => Ok(file),
+        Err(fault) => Err(fault_of_file(number, fault)),
+    }
 }
 
 /// Reads the dictionary with this number, counted from 1, from the file of this name.

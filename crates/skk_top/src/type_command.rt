@@ -14,7 +14,7 @@ ghost use Rattle.skk_top.specs.TypeCommand.{LeavesScript, LeavesTyped};
 
 use crate::answering::RunCaller;
 use crate::command::TypeOptions;
-use crate::dictionary::read_dictionaries;
+use crate::dictionary::open_dictionaries;
 use crate::fault::RunFault;
 use crate::finish::Run;
 use crate::rule_file::read_rules;
@@ -76,8 +76,8 @@ fn read_table<H: Shelf>(
     ensures counted { H.faults shelf.old ≤ H.faults shelf.new }
 {
     let rules = read_rules(alloc, shelf, &options.rules)?;
-    let books = read_dictionaries(alloc, shelf, options.dictionaries.as_slice())?;
-    let system = System::of_books(alloc, books)?;
+    let files = open_dictionaries(alloc, shelf, options.dictionaries.as_slice())?;
+    let system = System::of_files(alloc, files)?;
     Ok(Table { rules, system })
 }
 

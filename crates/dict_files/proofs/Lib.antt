@@ -1,0 +1,11 @@
+pub mod Completing
+pub mod FileWalk
+pub mod InOrder
+pub mod Index
+pub mod ListedRows
+pub mod Lists
+pub mod Places
+pub mod Readings
+pub mod Scanned
+pub mod Walking
+pub mod WholeFiles

@@ -1,0 +1,6 @@
+pub mod FilePlaces
+pub mod Files
+pub mod PlacesOfParts
+pub mod Scanning
+pub mod WalkLaws
+pub mod Walked

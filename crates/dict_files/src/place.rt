@@ -1,0 +1,50 @@
+ghost use Rattle.std.specs.Prelude.{◌≡◌, IfOk};
+ghost use Rattle.std.specs.Str.{IsUtf8};
+ghost use Rattle.dict_files.specs.FilePlaces.{line_at, piece_at, reading_at, row_at};
+
+use dict_format::row_of_line;
+use skk_calls::{Part, Row};
+use skk_text::Memory;
+use std::alloc::Global;
+use std::str;
+
+/// Where an entry stands in the bytes of a file.
+#[derive(Clone, Copy, Debug)]
+pub struct Place {
+    /// Where its line begins.
+    pub start: u32,
+    /// How many bytes its reading has.
+    pub reading: u32,
+    /// How many bytes are read of its line.
+    pub line: u32,
+}
+
+/// The reading of an entry.
+pub fn reading_at<'b>(bytes: &'b [u8], place: &Place) -> &'b [u8]
+    ensures { result.now ≡ reading_at bytes.now place.now }
+{
+    piece_at(bytes, place.start, place.reading)
+}
+
+/// The row that an entry of a part spells, if it spells one. Takes time in the length of its line.
+pub fn row_at(alloc: Global, part: Part, bytes: &[u8], place: &Place) -> Result<Option<Row>, Memory>
+    requires { IsUtf8 (line_at bytes.now place.now) }
+    ensures { IfOk result (λ row. row ≡ row_at part bytes.now place.now) }
+{
+    match str::from_utf8(piece_at(bytes, place.start, place.line)) {
+        Ok(line) => row_of_line(alloc, part, line),
+        Err(_) => unreachable!(),
+    }
+}
+
+// So many bytes from one of them on, where they are there.
+fn piece_at(bytes: &[u8], start: u32, len: u32) -> &[u8]
+    ensures { result.now ≡ piece_at bytes.now start len }
+{
+    let start = start as usize;
+    let len = len as usize;
+    match bytes.get(start..start + len) {
+        Some(piece) => piece,
+        None => &[],
+    }
+}

@@ -1,0 +1,71 @@
+ghost use Rattle.std.specs.Prelude.{◌≡◌, ◌<◌, ◌≤◌, ◌+◌, ◌++◌, [], List, ℕ, length, position, IfOk, IfSome};
+ghost use Rattle.exact_readers.specs.Lines.{StandsAt};
+ghost use Rattle.dict_format.specs.FileLines.{FileEntry, file_limit};
+ghost use Rattle.dict_format.specs.LeftLines.{entries_at};
+ghost use Rattle.dict_format.specs.Reading.{is_space};
+ghost use Rattle.dict_files.specs.FilePlaces.{IsFile};
+ghost use Rattle.dict_files.specs.Scanning.{AreOfFile};
+
+use crate::part_places::PartPlaces;
+use crate::place::Place;
+use crate::sorting::sort_places;
+use dict_format::{FileLine, FileLines, LineKind, files_list_one_thing, lines_spell_one_row};
+use skk_text::Memory;
+use std::alloc::Global;
+
+/// The places of the entries of a text, those of each part in order by their readings. Takes time in the length of the
+/// text where the readings of a part ascend or descend, else with one logarithm in the number of entries.
+pub fn places_of(alloc: Global, text: &str) -> Result<PartPlaces, Memory>
+    requires { length text.now ≤ file_limit }
+    ensures { IfOk result (IsFile text.now) }
+{
+    lines_spell_one_row();
+    files_list_one_thing();
+    let PartPlaces { mut nasi, mut ari } = places_in_text(alloc, text)?;
+    sort_places(text.as_bytes(), &mut nasi)?;
+    sort_places(text.as_bytes(), &mut ari)?;
+    Ok(PartPlaces { nasi, ari })
+}
+
+// The places of the entries of a text, as they come.
+fn places_in_text(alloc: Global, text: &str) -> Result<PartPlaces, Memory>
+    requires { length text.now ≤ file_limit }
+    ensures { IfOk result (λ places. AreOfFile text.now places []) }
+{
+    let mut places = PartPlaces::new(alloc);
+    let mut lines = FileLines::of(text);
+    while let Some(line) = lines.next_line() {
+        places = with_line(places, &line)?;
+    }
+    Ok(places)
+}
+
+// Places with that of a line, where it is an entry with a reading.
+fn with_line(places: PartPlaces, line: &FileLine<'_>) -> Result<PartPlaces, Memory>
+    requires { line.now.start + length line.now.text.now ≤ file_limit }
+    ensures { IfOk result (λ after. (text : List ℕ) (left : List FileEntry)
+        → StandsAt text line.now.start line.now.text.now → AreOfFile text places (entries_at line.now ++ left)
+        → AreOfFile text after left) }
+{
+    lines_spell_one_row();
+    let LineKind::Entry = line.kind else {
+        return Ok(places);
+    };
+    let Some(reading) = first_space(line.text.as_bytes()) else {
+        return Ok(places);
+    };
+    let place = Place {
+        start: line.start as u32,
+        reading: reading as u32,
+        line: line.text.len() as u32,
+    };
+    places.with(line.part, place)
+}
+
+// Where the first space of bytes stands.
+fn first_space(bytes: &[u8]) -> Option<usize>
+    ensures value { result ≡ position is_space bytes.now }
+    ensures within { IfSome result (λ at. at < length bytes.now) }
+{
+    bytes.iter().position(|byte| *byte == b' ')
+}

@@ -1,9 +1,0 @@
-use Rattle.dict_layers.proofs.Completing.{readings_complete}
-use Rattle.dict_layers.proofs.Walking.{walked_plain}
-use Rattle.dict_layers.proofs.laws.walks_go_over_completions.Goals as goal
-
-pub returns-clause-readings : goal.returns-clause-readings
-returns-clause-readings c = walked_plain
-
-pub returns-clause-completions : goal.returns-clause-completions
-returns-clause-completions c = readings_complete
