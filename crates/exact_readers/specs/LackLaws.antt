@@ -1,14 +1,18 @@
 -- What lacks a character, and the bytes and lines of texts that do.
 use Rattle.std.proofs.Common.{◌≡◌, ◌⊎◌, inl, inr, ℕ, ◌+◌, ◌/◌, ◌%◌, ◌≤◌, ◌<◌, ◌==◌, Bool, true, false, cond, not, List}
-use Rattle.std.proofs.Common.{[], ◌∷◌, ◌++◌, map, encode_utf8_all, refl, ap, ◌∙◌, arith, append_assoc}
+use Rattle.std.proofs.Common.{[], ◌∷◌, ◌++◌, Option, None, Some, map, encode_utf8_all, refl, sym, ap, ◌∙◌, arith}
+use Rattle.std.proofs.Common.{append_assoc}
 use lib.Utf8.{encode}
 use Rattle.std.specs.List.{flat_map, list_all, AllByRecursion}
-use Rattle.std.proofs.lemmas.Bool.{and_parts, and_from, both_ways, not_from_false, ne_eqb}
+use Rattle.std.specs.Option.{option_map}
+use Rattle.std.proofs.lemmas.Bool.{and_parts, and_from, both_ways, eqb-true, not_from_false, ne_eqb}
 use Rattle.std.proofs.lemmas.Bool.Decides.{eqb_tells}
 use Rattle.std.proofs.lemmas.List.Folds.{list_all-append, list_all-map}
-use Rattle.std.proofs.lemmas.Str.{encodes-append}
+use Rattle.std.proofs.lemmas.Str.{encode_ascii, encodes-append}
 use Rattle.skk_text.specs.Lines.{lines_of}
 use Rattle.skk_text.specs.PairsLaws.{list_all-weaker}
+use Rattle.exact_readers.specs.Cuts.{cut}
+use Rattle.exact_readers.specs.CutLaws.{cut-at, cut-none, cut-nowhere, up_to-exact}
 use Rattle.exact_readers.specs.Lacking.{lacks}
 use Rattle.exact_readers.specs.LineLaws.{line-ended}
 use Rattle.exact_readers.specs.Lines.{with_line_end}
@@ -132,3 +136,34 @@ lines_again texts none =
     ∙ lines_back (map encode_utf8_all texts)
     (list_all-map (lacks 10) encode_utf8_all texts
     ∙ list_all-weaker (lacks 10) (λ text. lacks 10 (encode_utf8_all text)) (bytes_lack 10 (omega arith)) texts none)
+
+-- Cuts
+
+-- the bytes of an ASCII character and of what stands around it
+bytes_around : (code : ℕ) → code < 128 → (front rest : List ℕ)
+    → encode_utf8_all (front ++ code ∷ rest) ≡ encode_utf8_all front ++ code ∷ encode_utf8_all rest
+bytes_around code low front rest =
+    encodes-append front (code ∷ rest)
+    ∙ ap (λ bytes. encode_utf8_all front ++ (bytes ++ encode_utf8_all rest)) (encode_ascii code low)
+
+-- a text and its bytes are cut at the same one
+pub cut-bytes : (code : ℕ) → code < 128 → (text : List ℕ) → cut (λ c. c == code) (encode_utf8_all text)
+    ≡ option_map (λ parts. (encode_utf8_all parts.0, encode_utf8_all parts.1)) (cut (λ c. c == code) text)
+cut-bytes code low text = by (cut (λ c. c == code) text) refl
+  where
+    by : (found : Option (List ℕ × List ℕ)) → cut (λ c. c == code) text ≡ found
+        → cut (λ c. c == code) (encode_utf8_all text)
+        ≡ option_map (λ parts. (encode_utf8_all parts.0, encode_utf8_all parts.1)) found
+    by None e =
+        cut-nowhere (λ c. c == code) (encode_utf8_all text)
+        (bytes_lack code low text (cut-none (λ c. c == code) text e))
+    by (Some (front, rest)) e =
+        let is = (up_to-exact (λ c. c == code)).sound text front rest e in
+        let (end, passes, none, piece) = is.spelled in
+        let split : text ≡ front ++ end ∷ rest =
+        is.tokens_are ∙ ap (λ ys. ys ++ rest) piece ∙ append_assoc front (end ∷ []) rest in
+        let same = eqb-true end code passes in
+        ap (λ cs. cut (λ c. c == code) (encode_utf8_all cs)) (split ∙ ap (λ c. front ++ c ∷ rest) same)
+        ∙ ap (cut (λ c. c == code)) (bytes_around code low front rest)
+        ∙ cut-at (λ c. c == code) (encode_utf8_all front) code (encode_utf8_all rest) (bytes_lack code low front none)
+        (ap (λ c. c == code) (sym same) ∙ passes)

@@ -1,15 +1,17 @@
 -- What is found by an index of items, and one item more.
-use Rattle.std.proofs.Common.{◌≡◌, ℕ, zero, suc, ◌+◌, ◌<◌, ◌≤◌, Bool, true, false, not, ◌&&◌, ◌||◌, Option, None, Some}
-use Rattle.std.proofs.Common.{List, [], ◌∷◌, ◌++◌, cond, find, length, get_or, map, take, slice_get, refl, sym, ap, ◌∙◌}
-use Rattle.std.proofs.Common.{subst, arith, add-one}
+use Rattle.std.proofs.Common.{◌≡◌, ℕ, zero, suc, ◌+◌, ◌<◌, ◌≤◌, Bool, true, false, not, Option, None, Some}
+use Rattle.std.proofs.Common.{List, [], ◌∷◌, ◌++◌, length, map, take, slice_get, refl, sym, ap, ◌∙◌}
+use Rattle.std.proofs.Common.{arith, add-one}
 use Rattle.std.specs.Cmp.{IsStrictWeakOrder}
+use Rattle.std.specs.Int.{from_bool}
 use Rattle.std.specs.List.{insert, list_all}
 use Rattle.std.specs.List.Sorted.{IsPartitionedBy, IsPartitionPoint, IsPermutation, IsSortedBy}
 use Rattle.std.specs.Option.{is_some, option_and_then}
-use Rattle.std.proofs.lemmas.Bool.{and_from, and_parts, not-true}
+use Rattle.std.proofs.lemmas.Bool.{and_from, and_parts}
 use Rattle.std.proofs.lemmas.List.{length-map}
 use Rattle.std.proofs.lemmas.List.Sorted.{IsPermutation-cons, IsPermutation-to_front, IsPermutation-trans}
 use Rattle.skk_text.specs.Pairs.{all_pairs}
+use Rattle.skk_text.specs.FilterLaws.{none_found}
 use Rattle.skk_text.specs.PairsLaws.{list_all-weaker, pairs_appended}
 use Rattle.ordered_lists.specs.OrderLaws.{insert_ascends, insert_moves, item_order, items_apart}
 use Rattle.ordered_lists.specs.OrderLaws.{items_ascend, same_in_order, sort_moves, sorted_once, list_all-sort_by, apart}
@@ -23,43 +25,25 @@ pairs_sorted : {X : Type 0} (less : X → X → Bool) → IsStrictWeakOrder less
     → IsSortedBy less xs
 pairs_sorted less order [] pairs k d low high = absurd (omega (arith, high))
 pairs_sorted less order (x ∷ []) pairs k d low high = absurd (omega (arith, high))
-pairs_sorted less order (x ∷ y ∷ ys) pairs zero d low high =
-    let parts = and_parts (list_all (less x) (y ∷ ys)) (all_pairs less (y ∷ ys)) pairs in
-    order.one_way x y (and_parts (less x y) (list_all (less x) ys) parts.0).0
+pairs_sorted less order (x ∷ y ∷ ys) pairs zero d low high = grind (arith, order.one_way x y)
 pairs_sorted less order (x ∷ y ∷ ys) pairs (suc k) d low high =
     let parts = and_parts (list_all (less x) (y ∷ ys)) (all_pairs less (y ∷ ys)) pairs in
-    let next : k + 1 + 1 ≡ suc k + 1 = omega arith in
-    let at = λ (n : ℕ). less (get_or (x ∷ y ∷ ys) n d) (get_or (y ∷ ys) k d) ≡ false in
-    subst at next (shifted (pairs_sorted less order (y ∷ ys) parts.1 k d (omega arith) (omega (arith, high))))
-  where
-    shifted : less (get_or (y ∷ ys) (k + 1) d) (get_or (y ∷ ys) k d) ≡ false
-        → less (get_or (x ∷ y ∷ ys) (k + 1 + 1) d) (get_or (y ∷ ys) k d) ≡ false
-    shifted e = let more : k + 1 + 1 ≡ suc (k + 1) = omega arith in rw more e
-
--- where nothing is found, each fails the test
-none_passes : {X : Type 0} (p : X → Bool) (xs : List X) → find p xs ≡ None → list_all (λ x. not (p x)) xs ≡ true
-none_passes p [] e = refl
-none_passes p (x ∷ xs) e = by (p x) e (none_passes p xs)
-  where
-    by : (b : Bool) → cond b (Some x) (find p xs) ≡ None → (find p xs ≡ None → list_all (λ y. not (p y)) xs ≡ true)
-        → (not b && list_all (λ y. not (p y)) xs) ≡ true
-    by true found rest = cc
-    by false found rest = rest found
+    simp add-one (simp add-one at (pairs_sorted less order (y ∷ ys) parts.1 k d (omega arith) (omega (arith, high))))
 
 -- what stands in a list stands at the same places once there is one item more behind it
+there : {X : Type 0} (xs : List X) (x : X) (k : ℕ) (y : X) → slice_get xs k ≡ Some y
+    → slice_get (xs ++ x ∷ []) k ≡ Some y
+there [] x k y here = cc
+there (z ∷ zs) x zero y here = here
+there (z ∷ zs) x (suc k) y here = there zs x k y here
+
 read_longer : {X : Type 0} (all : List X) (x : X) (places : List ℕ) (xs : List X)
     → HasAt all places xs → HasAt (all ++ x ∷ []) places xs
 read_longer all x [] xs e = e
 read_longer all x (place ∷ places) [] e = cc
-read_longer {X} all x (place ∷ places) (y ∷ ys) e =
+read_longer all x (place ∷ places) (y ∷ ys) e =
     let first = first_read (slice_get all) place places y ys e in
-    ap (λ o. o ∷ map (slice_get (all ++ x ∷ [])) places) (there all place first.0)
-    ∙ ap (λ os. Some y ∷ os) (read_longer all x places ys first.1)
-  where
-    there : (zs : List X) (k : ℕ) → slice_get zs k ≡ Some y → slice_get (zs ++ x ∷ []) k ≡ Some y
-    there [] k here = cc
-    there (z ∷ zs) zero here = here
-    there (z ∷ zs) (suc k) here = there zs k here
+    grind (arith, first.0, there all x place y, read_longer all x places ys first.1)
 
 -- that one item stands behind it
 read_last : {X : Type 0} (all : List X) (x : X) → slice_get (all ++ x ∷ []) (length all) ≡ Some x
@@ -74,19 +58,17 @@ inserted read [] [] zero place x e here = ap (λ o. o ∷ []) here
 inserted read [] [] (suc i) place x e here = ap (λ o. o ∷ []) here
 inserted read [] (y ∷ ys) i place x e here = cc
 inserted read (other ∷ places) [] i place x e here = cc
-inserted read (other ∷ places) (y ∷ ys) zero place x e here =
-    ap (λ o. o ∷ map read (other ∷ places)) here ∙ ap (λ os. Some x ∷ os) e
+inserted read (other ∷ places) (y ∷ ys) zero place x e here = grind arith
 inserted read (other ∷ places) (y ∷ ys) (suc i) place x e here =
     let first = first_read read other places y ys e in
-    ap (λ o. o ∷ map read (insert places i place)) first.0
-    ∙ ap (λ os. Some y ∷ os) (inserted read places ys i place x first.1 here)
+    grind (arith, first.0, inserted read places ys i place x first.1)
 
 -- the place of the next item
 pub place_more : {X : Type 0} (xs : List X) (i : ℕ) → i < length xs
     → map Some (take (i + 1) xs) ≡ map Some (take i xs) ++ slice_get xs i ∷ []
-place_more {X} xs i low = ap (λ n. map Some (take n xs)) (add-one i) ∙ next xs i low
+place_more xs i low = rw add-one (next xs i low)
   where
-    next : (ys : List X) (k : ℕ) → k < length ys
+    next : {X : Type 0} (ys : List X) (k : ℕ) → k < length ys
         → map Some (take (suc k) ys) ≡ map Some (take k ys) ++ slice_get ys k ∷ []
     next [] k high = absurd (omega (arith, high))
     next (y ∷ ys) zero high = refl
@@ -96,16 +78,7 @@ place_more {X} xs i low = ap (λ n. map Some (take n xs)) (add-one i) ∙ next x
 had_by : {X K : Type 0} (key : X → K) (keys : Order K) (k : K) (here : Option X)
     → is_some (option_and_then (if_has key keys k) here) ≡ passes (λ x. keys.same (key x) k) here
 had_by key keys k None = refl
-had_by key keys k (Some x) = by (keys.same (key x) k)
-  where
-    by : (b : Bool) → is_some (cond b (Some x) None) ≡ b
-    by true = refl
-    by false = refl
-
--- a test that is turned twice
-twice : (b : Bool) → b ≡ not (not b)
-twice true = refl
-twice false = refl
+had_by key keys k (Some x) = grind arith
 
 module _ {X K : Type 0} (key : X → K) (keys : Order K) (all : List X) (places : List ℕ) (items : List X)
     (index : IsIndex key keys all places items) where
@@ -129,14 +102,7 @@ module _ {X K : Type 0} (key : X → K) (keys : Order K) (all : List X) (places 
         -- an item that is not greater has no lesser one that is
         still_low : (x y : X) → keys.less (key x) (key y) ≡ true → not (keys.less k (key y)) ≡ true
             → not (keys.less k (key x)) ≡ true
-        still_low x y e f = by (keys.less k (key x)) refl
-          where
-            by : (b : Bool) → keys.less k (key x) ≡ b → not b ≡ true
-            by true g =
-                let greater = keys.transitive k (key x) (key y) g e in
-                let not_greater = not-true (keys.less k (key y)) f in
-                cc
-            by false g = refl
+        still_low x y e f = grind (arith, keys.transitive k (key x) (key y))
 
     -- the place of the key among the places is that among the items in order
     pub place_found : (i : ℕ) → i ≤ length places
@@ -157,33 +123,18 @@ module _ {X K : Type 0} (key : X → K) (keys : Order K) (all : List X) (places 
         ∙ ap (option_and_then (if_has key keys k))
         (sym (item_read (slice_get all) places (sort_by (before key keys) items) i index.in_order))
 
-    -- so it is known by what stands there
-    pub near_item : (i : ℕ) (here : Option X) → here ≡ option_and_then (slice_get all) (slice_get places i)
-        → IsPlace key keys k (sort_by (before key keys) items) i
-        → option_and_then (if_has key keys k) here ≡ item_of key keys k items
-    near_item i here is place = ap (option_and_then (if_has key keys k)) is ∙ sym (item_found i place)
-
-    -- and the first whose key is greater stands behind it, or there
-    pub near_above : (i : ℕ) (here found : Option X) → here ≡ option_and_then (slice_get all) (slice_get places i)
-        → found ≡ option_and_then (if_has key keys k) here → IsPlace key keys k (sort_by (before key keys) items) i
-        → cond (is_some found) (option_and_then (slice_get all) (slice_get places (i + 1))) here
+    -- and behind it, or there where it is none, the first whose key is greater
+    pub near_above : (i : ℕ) → IsPlace key keys k (sort_by (before key keys) items) i
+        → option_and_then (slice_get all) (slice_get places (i + from_bool (is_some (item_of key keys k items))))
         ≡ item_above key keys k (sort_by (before key keys) items)
-    near_above i here found is has place =
+    near_above i place =
         let ordered = sort_by (before key keys) items in
-        let same = λ (x : X). keys.same (key x) k in
-        let read = is ∙ item_read (slice_get all) places ordered i index.in_order in
-        ap (λ b. cond b (option_and_then (slice_get all) (slice_get places (i + 1))) here)
-        (ap is_some has ∙ had_by key keys k here ∙ ap (passes same) read)
-        ∙ by (passes same (slice_get ordered i)) ∙ sym (above_at key keys k ordered i ascends place)
-      where
-        by : (b : Bool) → cond b (option_and_then (slice_get all) (slice_get places (i + 1))) here
-            ≡ slice_get (sort_by (before key keys) items) (cond b (suc i) i)
-        by true =
-            ap (λ n. option_and_then (slice_get all) (slice_get places n)) (add-one i)
-            ∙ item_read (slice_get all) places (sort_by (before key keys) items) (suc i) index.in_order
-        by false = is ∙ item_read (slice_get all) places (sort_by (before key keys) items) i index.in_order
+        let at = λ (n : ℕ). item_read (slice_get all) places ordered n index.in_order in
+        let found = item_found i place ∙ ap (option_and_then (if_has key keys k)) (at i) in
+        let had = ap is_some found ∙ had_by key keys k (slice_get ordered i) in
+        rw had (grind (arith, at i, at (suc i), above_at key keys k ordered i ascends place))
 
-    -- and behind it the first whose key is greater
+    -- and behind all that are not greater
     pub above_found : (i : ℕ) → i ≤ length places
         → IsPartitionPoint (λ place. passes (λ x. not (keys.less k (key x))) (slice_get all place) ≡ true)
         (λ place. passes (λ x. not (keys.less k (key x))) (slice_get all place) ≡ false) places i
@@ -192,13 +143,13 @@ module _ {X K : Type 0} (key : X → K) (keys : Order K) (all : List X) (places 
     above_found i le point =
         let ordered = sort_by (before key keys) items in
         item_read (slice_get all) places ordered i index.in_order
-        ∙ first_at (λ x. keys.less k (key x)) (λ x. not (keys.less k (key x))) (λ x. twice (keys.less k (key x)))
+        ∙ first_at (λ x. keys.less k (key x)) (λ x. not (keys.less k (key x))) (λ x. grind arith)
         ordered i (point_read (slice_get all) (λ x. not (keys.less k (key x))) places ordered i index.in_order le point)
 
   -- with the place of one item more, which has another key and comes behind all
   module _ (x : X) (new : item_of key keys (key x) items ≡ None) where
     others : list_all (λ y. not (keys.same (key y) (key x))) items ≡ true
-    others = none_passes (λ y. keys.same (key y) (key x)) items new
+    others = none_found (λ y. keys.same (key y) (key x)) items new
 
     differ_more : differ key keys (items ++ x ∷ []) ≡ true
     differ_more =
@@ -212,15 +163,7 @@ module _ {X K : Type 0} (key : X → K) (keys : Order K) (all : List X) (places 
         (list_all-weaker (λ y. not (keys.same (key y) (key x))) (apart (before key keys) x) one items others)
       where
         one : (y : X) → not (keys.same (key y) (key x)) ≡ true → apart (before key keys) x y ≡ true
-        one y e =
-            turned (keys.less (key y) (key x)) (keys.less (key x) (key y))
-            (keys.apart (key y) (key x) (not-true (keys.same (key y) (key x)) e))
-          where
-            turned : (a b : Bool) → (a || b) ≡ true → (b || a) ≡ true
-            turned true true e = refl
-            turned true false e = refl
-            turned false true e = refl
-            turned false false e = e
+        one y e = grind (arith, keys.apart (key y) (key x))
 
     pub index_with : (i : ℕ) → i ≤ length places → IsPlace key keys (key x) (sort_by (before key keys) items) i
         → IsIndex key keys (all ++ x ∷ []) (insert places i (length all)) (items ++ x ∷ [])

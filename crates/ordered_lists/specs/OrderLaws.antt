@@ -1,19 +1,20 @@
 -- What holds of orders and of lists in order: what moves their items, and that there is one order of items of which
 -- always one is less.
 use Rattle.std.proofs.Common.{◌≡◌, ◌⊎◌, inl, inr, ℕ, zero, suc, ◌+◌, ◌<◌, ◌≤◌, Bool, true, false, cond, not, ◌&&◌, ◌||◌}
-use Rattle.std.proofs.Common.{Some, List, [], ◌∷◌, map, length, get_or, find, refl, sym, ap, ◌∙◌, subst, arith}
+use Rattle.std.proofs.Common.{List, [], ◌∷◌, map, length, get_or, find, refl, sym, ap, ◌∙◌, subst, arith}
 use Rattle.std.specs.Cmp.{IsStrictWeakOrder}
-use Rattle.std.specs.List.{list_all, Contains}
-use Rattle.std.specs.List.Sorted.{IsPermutation, IsSortedBy}
-use Rattle.std.proofs.lemmas.Bool.{and_from, and_parts, not-true}
+use Rattle.std.specs.List.{filter, list_all, list_any, Contains}
+use Rattle.std.specs.List.Sorted.{IsPermutation, IsSortedBy, IsStableBy, ties}
+use Rattle.std.proofs.lemmas.Bool.{and_from, and_parts, cases_Bool, not-true}
 use Rattle.std.proofs.lemmas.List.{get_or-map, length-map}
 use Rattle.std.proofs.lemmas.List.Elements.{All-contains, Contains-append_right}
-use Rattle.std.proofs.lemmas.List.Sorted.{All-permutation, sorted_far, length_permutation}
+use Rattle.std.proofs.lemmas.List.Sorted.{All-permutation, sorted_far, length_permutation, list_any-IsPermutation}
 use Rattle.std.proofs.lemmas.List.Sorted.{Contains-permutation, IsPermutation-refl, IsPermutation-sym}
 use Rattle.std.proofs.lemmas.List.Sorted.{IsPermutation-trans, IsPermutation-cons, IsPermutation-middle}
 use Rattle.std.proofs.lemmas.List.Sums.{AllPass-from_list_all, list_all-from_AllPass}
+use Rattle.skk_text.specs.FilterLaws.{filter_same, none_kept, some_passes}
 use Rattle.skk_text.specs.Pairs.{all_pairs}
-use Rattle.skk_text.specs.PairsLaws.{pairs_weaker}
+use Rattle.skk_text.specs.PairsLaws.{list_all-filter, pairs_weaker}
 use Rattle.ordered_lists.specs.Orders.{Order, insert_by, sort_by, before, differ, item_of}
 
 -- Items that move
@@ -28,15 +29,12 @@ holds_moved p xs ys moved all =
 pub insert_moves : {X : Type 0} (before : X → X → Bool) (x : X) (xs : List X)
     → IsPermutation (x ∷ xs) (insert_by before x xs)
 insert_moves before x [] = IsPermutation-refl (x ∷ [])
-insert_moves before x (y ∷ ys) = by (before x y) (insert_moves before x ys)
-  where
-    by : (b : Bool) → IsPermutation (x ∷ ys) (insert_by before x ys)
-        → IsPermutation (x ∷ y ∷ ys) (cond b (x ∷ y ∷ ys) (y ∷ insert_by before x ys))
-    by true rest = IsPermutation-refl (x ∷ y ∷ ys)
-    by false rest =
-        IsPermutation-trans (x ∷ y ∷ ys) (y ∷ x ∷ ys) (y ∷ insert_by before x ys)
-        (IsPermutation-sym (y ∷ x ∷ ys) (x ∷ y ∷ ys) (IsPermutation-middle (y ∷ []) x ys))
-        (IsPermutation-cons y (x ∷ ys) (insert_by before x ys) rest)
+insert_moves before x (y ∷ ys) =
+    let stays = IsPermutation-refl (x ∷ y ∷ ys) in
+    let behind = IsPermutation-trans (x ∷ y ∷ ys) (y ∷ x ∷ ys) (y ∷ insert_by before x ys)
+    (IsPermutation-sym (y ∷ x ∷ ys) (x ∷ y ∷ ys) (IsPermutation-middle (y ∷ []) x ys))
+    (IsPermutation-cons y (x ∷ ys) (insert_by before x ys) (insert_moves before x ys)) in
+    grind arith
 
 -- what holds of an item and of each other holds of each once it is at its place
 pub list_all-insert_by : {X : Type 0} (before : X → X → Bool) (p : X → Bool) (x : X) (xs : List X) → p x ≡ true
@@ -60,15 +58,14 @@ list_all-sort_by before p xs all = holds_moved p xs (sort_by before xs) (sort_mo
 pub insert_first : {X : Type 0} (before : X → X → Bool) (x : X) (xs : List X) → list_all (before x) xs ≡ true
     → insert_by before x xs ≡ x ∷ xs
 insert_first before x [] all = refl
-insert_first before x (y ∷ ys) all = rw ((and_parts (before x y) (list_all (before x) ys) all).0) refl
+insert_first before x (y ∷ ys) all = grind arith
 
 -- a list that is in order stays as it is
 pub sort_stays : {X : Type 0} (before : X → X → Bool) (xs : List X) → all_pairs before xs ≡ true
     → sort_by before xs ≡ xs
 sort_stays before [] pairs = refl
 sort_stays before (x ∷ xs) pairs =
-    let parts = and_parts (list_all (before x) xs) (all_pairs before xs) pairs in
-    ap (insert_by before x) (sort_stays before xs parts.1) ∙ insert_first before x xs parts.0
+    grind (arith, sort_stays before xs, insert_first before x xs)
 
 -- Items that stand in a list
 
@@ -85,55 +82,30 @@ apart less x y = less x y || less y x
 module _ {X : Type 0} (less : X → X → Bool) (order : IsStrictWeakOrder less) where
   -- no item is less than itself
   pub not_itself : (x : X) → less x x ≡ false
-  not_itself x = by (less x x) refl
-    where
-      by : (b : Bool) → less x x ≡ b → less x x ≡ false
-      by true e = order.one_way x x e
-      by false e = e
+  not_itself x = grind (arith, order.one_way x x)
 
   -- of three items in order the first is less than the last
   pub less_trans : (x y z : X) → less x y ≡ true → less y z ≡ true → less x z ≡ true
-  less_trans x y z xy yz = by (less x z) refl
-    where
-      by : (b : Bool) → less x z ≡ b → less x z ≡ true
-      by true e = e
-      by false e = let not_less : less x y ≡ false = order.chain x z y e (order.one_way y z yz) in cc
+  less_trans x y z xy yz = grind (arith, order.chain x z y, order.one_way y z)
 
   -- an item that is less than one is less than all that this is less than
   pub less_than_all : (x y : X) (ys : List X) → less x y ≡ true → list_all (less y) ys ≡ true
       → list_all (less x) ys ≡ true
   less_than_all x y [] first all = refl
-  less_than_all x y (z ∷ zs) first all =
-      let parts = and_parts (less y z) (list_all (less y) zs) all in
-      and_from (less x z) (list_all (less x) zs) (less_trans x y z first parts.0) (less_than_all x y zs first parts.1)
+  less_than_all x y (z ∷ zs) first all = grind (arith, less_trans x y z, less_than_all x y zs)
 
   -- ascending items still do with one more at its place
   pub insert_ascends : (x : X) (xs : List X) → list_all (apart less x) xs ≡ true → all_pairs less xs ≡ true
       → all_pairs less (insert_by less x xs) ≡ true
   insert_ascends x [] others pairs = refl
   insert_ascends x (y ∷ ys) others pairs =
-      let other = and_parts (apart less x y) (list_all (apart less x) ys) others in
-      let parts = and_parts (list_all (less y) ys) (all_pairs less ys) pairs in
-      by (less x y) refl other.0 parts.0 (insert_ascends x ys other.1 parts.1)
-    where
-      by : (b : Bool) → less x y ≡ b → (b || less y x) ≡ true → list_all (less y) ys ≡ true
-          → all_pairs less (insert_by less x ys) ≡ true
-          → all_pairs less (cond b (x ∷ y ∷ ys) (y ∷ insert_by less x ys)) ≡ true
-      by true first other above rest =
-          and_from (list_all (less x) (y ∷ ys)) (all_pairs less (y ∷ ys))
-          (and_from (less x y) (list_all (less x) ys) first (less_than_all x y ys first above)) pairs
-      by false first other above rest =
-          and_from (list_all (less y) (insert_by less x ys)) (all_pairs less (insert_by less x ys))
-          (holds_moved (less y) (x ∷ ys) (insert_by less x ys) (insert_moves less x ys)
-          (and_from (less y x) (list_all (less y) ys) other above)) rest
+      grind (arith, less_than_all x y ys, list_all-insert_by less (less y) x ys, insert_ascends x ys)
 
   -- items of which always one is less ascend once they are in order
   pub sort_ascends : (xs : List X) → all_pairs (apart less) xs ≡ true → all_pairs less (sort_by less xs) ≡ true
   sort_ascends [] others = refl
   sort_ascends (x ∷ xs) others =
-      let parts = and_parts (list_all (apart less x) xs) (all_pairs (apart less) xs) others in
-      insert_ascends x (sort_by less xs) (holds_moved (apart less x) xs (sort_by less xs) (sort_moves less xs) parts.0)
-      (sort_ascends xs parts.1)
+      grind (arith, insert_ascends x (sort_by less xs), list_all-sort_by less (apart less x) xs, sort_ascends xs)
 
   -- of a sorted list the rest is sorted, and no item of it is less than the first
   pub rest_sorted : (y : X) (ys : List X) → IsSortedBy less (y ∷ ys) → IsSortedBy less ys
@@ -145,6 +117,15 @@ module _ {X : Type 0} (less : X → X → Bool) (order : IsStrictWeakOrder less)
   pub none_less : (y z : X) (ys : List X) → IsSortedBy less (y ∷ ys) → Contains ys z → less z y ≡ false
   none_less y z ys sorted (k, low, is) =
       ap (λ w. less w y) (sym is) ∙ sorted_far less order (y ∷ ys) sorted 0 (suc k) z (omega arith) (omega (arith, low))
+
+  -- it falls from no item to a later one
+  pub sorted_rises : (xs : List X) → IsSortedBy less xs → all_pairs (λ x y. not (less y x)) xs ≡ true
+  sorted_rises [] sorted = refl
+  sorted_rises (x ∷ xs) sorted =
+      and_from (list_all (λ y. not (less y x)) xs) (all_pairs (λ y z. not (less z y)) xs)
+      (list_all-from_AllPass (λ y. not (less y x)) xs
+      (λ k d low. ap not (sorted_far less order (x ∷ xs) sorted 0 (suc k) d (omega arith) (omega (arith, low)))))
+      (sorted_rises xs (rest_sorted x xs sorted))
 
   -- of ascending items that stand in a sorted list, those behind the first stand behind the first of that
   behind_first : (z y : X) (zs ys : List X) → list_all (less z) zs ≡ true → IsSortedBy less (y ∷ ys)
@@ -161,7 +142,6 @@ module _ {X : Type 0} (less : X → X → Bool) (order : IsStrictWeakOrder less)
       by (inl same) not_less =
           let greater : less z x ≡ true =
           All-contains (λ w. less z w ≡ true) zs x (AllPass-from_list_all (less z) zs above) found in
-          let not_greater : less z x ≡ false = sym (ap (less z) same) ∙ not_less in
           cc
       by (inr behind) not_less = behind
 
@@ -212,6 +192,20 @@ module _ {X : Type 0} (less : X → X → Bool) (order : IsStrictWeakOrder less)
       (Contains-permutation (sort_by less xs) xs x (IsPermutation-sym xs (sort_by less xs) placed) found))
       (length_permutation xs ys moved ∙ sym (length_permutation xs (sort_by less xs) placed))
 
+-- what was moved in a stable way keeps what a test keeps in order, where those tie that pass it
+pub stable_keeps : {X : Type 0} (less : X → X → Bool) (p : X → Bool)
+    → ((x y : X) → p x ≡ true → ties less x y ≡ p y) → (xs ys : List X) → IsPermutation xs ys → IsStableBy less xs ys
+    → filter p ys ≡ filter p xs
+stable_keeps less p tied xs ys moved stable =
+    elim (cases_Bool (list_any p xs)) [
+      | inl some ↦
+          let (x, passes) = some_passes p xs some in
+          sym (filter_same (ties less x) p (λ y. tied x y passes) ys) ∙ stable x
+          ∙ filter_same (ties less x) p (λ y. tied x y passes) xs
+      | inr none ↦
+          none_kept p ys (sym (list_any-IsPermutation p xs ys moved) ∙ none) ∙ sym (none_kept p xs none)
+    ]
+
 -- what is sorted by what is read of each item, is sorted once it is read
 pub sorted_read : {X Y : Type 0} (read : Y → X) (less : X → X → Bool) (ys : List Y)
     → IsSortedBy (λ y z. less (read y) (read z)) ys → IsSortedBy less (map read ys)
@@ -235,60 +229,28 @@ order_read read less order = record {
 module _ {K : Type 0} (keys : Order K) where
   -- a key that is less than another is not that
   pub less_differs : (key other : K) → keys.less key other ≡ true → keys.same key other ≡ false
-  less_differs key other less = by (keys.same key other) refl
-    where
-      by : (b : Bool) → keys.same key other ≡ b → b ≡ false
-      by true e =
-          let not_less : keys.less key other ≡ false =
-          ap (keys.less key) (sym (keys.equal key other e)) ∙ keys.irreflexive key in
-          cc
-      by false e = refl
+  less_differs key other less = grind (arith, keys.equal key other, keys.irreflexive key)
 
   -- nor is one that is greater
   pub greater_differs : (key other : K) → keys.less key other ≡ true → keys.same other key ≡ false
-  greater_differs key other less = by (keys.same other key) refl
-    where
-      by : (b : Bool) → keys.same other key ≡ b → b ≡ false
-      by true e =
-          let not_less : keys.less key other ≡ false =
-          ap (keys.less key) (keys.equal other key e) ∙ keys.irreflexive key in
-          cc
-      by false e = refl
+  greater_differs key other less = grind (arith, keys.equal other key, keys.irreflexive key)
 
   -- a key that is not another and not less is greater
   pub greater : (key other : K) → keys.same key other ≡ false → keys.less key other ≡ false
       → keys.less other key ≡ true
-  greater key other differs not_less =
-      ap (λ b. b || keys.less other key) (sym not_less) ∙ keys.apart key other differs
+  greater key other differs not_less = grind (arith, keys.apart key other)
 
   -- so the order is a weak one
   pub weak_order : IsStrictWeakOrder keys.less
   weak_order = record { one_way = one_way; chain = chain }
     where
       one_way : (key other : K) → keys.less key other ≡ true → keys.less other key ≡ false
-      one_way key other e = by (keys.less other key) refl
-        where
-          by : (b : Bool) → keys.less other key ≡ b → b ≡ false
-          by true f =
-              let twice = keys.transitive key other key e f in
-              let never = keys.irreflexive key in
-              cc
-          by false f = refl
+      one_way key other e = grind (arith, keys.transitive key other key, keys.irreflexive key)
 
       chain : (key next last : K) → keys.less key next ≡ false → keys.less next last ≡ false
           → keys.less key last ≡ false
-      chain key next last e f = by (keys.less key last) (keys.same key next) refl refl
-        where
-          by : (a b : Bool) → keys.less key last ≡ a → keys.same key next ≡ b → a ≡ false
-          by false b g h = refl
-          by true true g h =
-              let less : keys.less next last ≡ true =
-              ap (λ k. keys.less k last) (sym (keys.equal key next h)) ∙ g in
-              cc
-          by true false g h =
-              let less : keys.less next last ≡ true =
-              keys.transitive next key last (greater key next h e) g in
-              cc
+      chain key next last e f =
+          grind (arith, keys.equal key next, greater key next, keys.transitive next key last)
 
 -- Items by their keys
 
@@ -301,28 +263,13 @@ module _ {X : Type 0} (p : X → Bool) (less : X → X → Bool) where
   insert_finds : (x : X) (ys : List X) → list_all (not_both p x) ys ≡ true
       → find p (insert_by less x ys) ≡ find p (x ∷ ys)
   insert_finds x [] none = refl
-  insert_finds x (y ∷ ys) none =
-      let parts = and_parts (not_both p x y) (list_all (not_both p x) ys) none in
-      by (less x y) (insert_finds x ys parts.1) parts.0
-    where
-      swapped : (a b : Bool) → not (a && b) ≡ true
-          → cond b (Some y) (cond a (Some x) (find p ys)) ≡ cond a (Some x) (cond b (Some y) (find p ys))
-      swapped true true e = cc
-      swapped true false e = refl
-      swapped false b e = refl
-
-      by : (b : Bool) → find p (insert_by less x ys) ≡ find p (x ∷ ys) → not (p x && p y) ≡ true
-          → find p (cond b (x ∷ y ∷ ys) (y ∷ insert_by less x ys)) ≡ find p (x ∷ y ∷ ys)
-      by true rest e = refl
-      by false rest e = ap (λ found. cond (p y) (Some y) found) rest ∙ swapped (p x) (p y) e
+  insert_finds x (y ∷ ys) none = grind (arith, insert_finds x ys)
 
   -- and where all are put in order
   sort_finds : (xs : List X) → all_pairs (not_both p) xs ≡ true → find p (sort_by less xs) ≡ find p xs
   sort_finds [] pairs = refl
   sort_finds (x ∷ xs) pairs =
-      let parts = and_parts (list_all (not_both p x) xs) (all_pairs (not_both p) xs) pairs in
-      insert_finds x (sort_by less xs) (holds_moved (not_both p x) xs (sort_by less xs) (sort_moves less xs) parts.0)
-      ∙ ap (λ found. cond (p x) (Some x) found) (sort_finds xs parts.1)
+      grind (arith, insert_finds x (sort_by less xs), list_all-sort_by less (not_both p x) xs, sort_finds xs)
 
 module _ {X K : Type 0} (key : X → K) (keys : Order K) where
   -- the order of items by their keys is a weak one
@@ -348,16 +295,33 @@ module _ {X K : Type 0} (key : X → K) (keys : Order K) where
       (pairs_weaker (λ x y. not (keys.same (key x) (key y))) (not_both (λ x. keys.same (key x) k)) one xs differs)
     where
       one : (x y : X) → not (keys.same (key x) (key y)) ≡ true → not (keys.same (key x) k && keys.same (key y) k) ≡ true
-      one x y e = by (keys.same (key x) k) (keys.same (key y) k) refl refl
-        where
-          by : (a b : Bool) → keys.same (key x) k ≡ a → keys.same (key y) k ≡ b → not (a && b) ≡ true
-          by true true f g =
-              let apart = keys.apart (key x) (key y) (not-true (keys.same (key x) (key y)) e) in
-              let equal : key x ≡ key y = keys.equal (key x) k f ∙ sym (keys.equal (key y) k g) in
-              let never = keys.irreflexive (key y) in
-              let neither : (keys.less (key x) (key y) || keys.less (key y) (key x)) ≡ false =
-              ap (λ l. keys.less l (key y) || keys.less (key y) l) equal
-              ∙ ap (λ b. b || keys.less (key y) (key y)) never ∙ never in
-              cc
-          by true false f g = refl
-          by false b f g = refl
+      one x y e =
+          grind (arith, keys.equal (key x) k, keys.equal (key y) k, keys.apart (key x) (key y), keys.irreflexive k)
+
+-- what is read of items that pass a test is put in order as they are, where these stand in order by it
+module _ {X Y : Type 0} (f : X → Y) (before : X → X → Bool) (less : Y → Y → Bool) (p : X → Bool)
+    (same : (x y : X) → p x ≡ true → p y ≡ true → less (f x) (f y) ≡ before x y) where
+  insert-map : (x : X) (xs : List X) → p x ≡ true → list_all p xs ≡ true
+      → insert_by less (f x) (map f xs) ≡ map f (insert_by before x xs)
+  insert-map x [] here all = refl
+  insert-map x (y ∷ ys) here all = grind (arith, same x y, insert-map x ys)
+
+  pub sort-map : (xs : List X) → list_all p xs ≡ true → sort_by less (map f xs) ≡ map f (sort_by before xs)
+  sort-map [] all = refl
+  sort-map (x ∷ xs) all =
+      grind (arith, insert-map x (sort_by before xs), list_all-sort_by before p xs, sort-map xs)
+
+-- what is kept of ascending items with one more at its place, and of items once they are in order
+module _ {X : Type 0} (less : X → X → Bool) (order : IsStrictWeakOrder less) (p : X → Bool) where
+  filter_insert : (x : X) (ys : List X) → all_pairs less ys ≡ true
+      → filter p (insert_by less x ys) ≡ cond (p x) (insert_by less x (filter p ys)) (filter p ys)
+  filter_insert x [] pairs = refl
+  filter_insert x (y ∷ ys) pairs =
+      let above = list_all-filter (less x) p ys in
+      grind (arith, less_than_all less order x y ys, above, insert_first less x (filter p ys), filter_insert x ys)
+
+  pub filter_sort : (xs : List X) → all_pairs (apart less) xs ≡ true
+      → filter p (sort_by less xs) ≡ sort_by less (filter p xs)
+  filter_sort [] others = refl
+  filter_sort (x ∷ xs) others =
+      grind (arith, filter_insert x (sort_by less xs), sort_ascends less order xs, filter_sort xs)

@@ -1,11 +1,12 @@
 -- Where a search by halves ends among items in order, and what is found, put or left out there.
 use Rattle.std.proofs.Common.{◌≡◌, ℕ, zero, suc, ◌<◌, ◌≤◌, Bool, true, false, cond, not, Option, None, Some, List, []}
-use Rattle.std.proofs.Common.{◌∷◌, length, get_or, set, map, find, slice_get, refl, sym, ap, ◌∙◌, subst, arith}
-use Rattle.std.specs.List.{list_all, insert, remove}
+use Rattle.std.proofs.Common.{◌∷◌, ◌-◌, drop, length, length-drop, slice_range, get_or, set, map, find, slice_get}
+use Rattle.std.proofs.Common.{refl, sym, ap, ◌∙◌, subst, arith}
+use Rattle.std.specs.List.{filter, list_all, insert, remove}
 use Rattle.std.specs.List.Sorted.{IsPartitionedBy, IsPartitionPoint}
 use Rattle.std.specs.Option.{option_and_then}
-use Rattle.std.proofs.lemmas.Bool.{and_from, and_parts, not-true, not_from_false}
-use Rattle.std.proofs.lemmas.List.{get_or-map, length-map}
+use Rattle.std.proofs.lemmas.Bool.{and_parts, not_from_false}
+use Rattle.std.proofs.lemmas.List.{get_or-map, length-map, take_all}
 use Rattle.skk_text.specs.Pairs.{all_pairs}
 use Rattle.skk_text.specs.PairsLaws.{list_all-weaker}
 use Rattle.skk_text.specs.FilterLaws.{filter_all, find_none}
@@ -63,11 +64,10 @@ module _ {P X : Type 0} (read : P → Option X) where
     earlier x [] xs e above k d low passing = absurd (omega (arith, low))
     earlier x (place ∷ places) [] e above k d low passing = cc
     earlier x (place ∷ places) (y ∷ ys) e above zero d low passing =
-        let parts = and_parts (less x y) (list_all (less x) ys) above in
-        closed x y parts.0 (sym (ap (passes q) (first_read place places y ys e).0) ∙ passing)
+        grind (arith, closed x y, (first_read place places y ys e).0)
     earlier x (place ∷ places) (y ∷ ys) e above (suc k) d low passing =
-        let parts = and_parts (less x y) (list_all (less x) ys) above in
-        earlier x places ys (first_read place places y ys e).1 parts.1 k d (omega (arith, low)) passing
+        earlier x places ys (first_read place places y ys e).1 (and_parts (less x y) (list_all (less x) ys) above).1 k d
+        (omega (arith, low)) passing
 
     -- parts the places of ascending items
     pub partitioned : (places : List P) (xs : List X) → map read places ≡ map Some xs → all_pairs less xs ≡ true
@@ -77,26 +77,49 @@ module _ {P X : Type 0} (read : P → Option X) where
     partitioned (place ∷ places) (x ∷ xs) e pairs zero zero d le low passing = passing
     partitioned (place ∷ places) (x ∷ xs) e pairs zero (suc j) d le low passing =
         let first = first_read place places x xs e in
-        let parts = and_parts (list_all (less x) xs) (all_pairs less xs) pairs in
-        ap (passes q) first.0 ∙ earlier x places xs first.1 parts.0 j d (omega (arith, low)) passing
+        let within : j < length places = omega (arith, low) in
+        grind (arith, first.0, earlier x places xs first.1 (and_parts (list_all (less x) xs) _ pairs).0 j d within)
     partitioned (place ∷ places) (x ∷ xs) e pairs (suc i) zero d le low passing = absurd (omega (arith, le))
     partitioned (place ∷ places) (x ∷ xs) e pairs (suc i) (suc j) d le low passing =
-        let parts = and_parts (list_all (less x) xs) (all_pairs less xs) pairs in
-        partitioned places xs (first_read place places x xs e).1 parts.1 i j d (omega (arith, le))
-        (omega (arith, low)) passing
+        partitioned places xs (first_read place places x xs e).1
+        (and_parts (list_all (less x) xs) (all_pairs less xs) pairs).1 i j d (omega (arith, le)) (omega (arith, low))
+        passing
 
 -- at the place where a test parts items the first stands that fails it
 pub first_at : {X : Type 0} (p q : X → Bool) → ((x : X) → p x ≡ not (q x)) → (xs : List X) (i : ℕ)
     → IsPartitionPoint (λ x. q x ≡ true) (λ x. q x ≡ false) xs i → slice_get xs i ≡ find p xs
 first_at p q other [] i point = refl
 first_at p q other (x ∷ xs) zero point =
-    sym (ap (λ b. cond b (Some x) (find p xs)) (other x ∙ ap not (point.1 0 x (omega arith) (omega arith))))
+    let here = point.1 0 x (omega arith) (omega arith) in grind (arith, other x)
 first_at p q other (x ∷ xs) (suc i) point =
-    first_at p q other xs i (
+    let rest = first_at p q other xs i (
       λ k d low high. point.0 (suc k) d (omega arith) (omega (arith, high)),
       λ k d low high. point.1 (suc k) d (omega (arith, low)) (omega (arith, high)),
-    )
-    ∙ sym (ap (λ b. cond b (Some x) (find p xs)) (other x ∙ ap not (point.0 0 x (omega arith) (omega arith))))
+    ) in
+    let here = point.0 0 x (omega arith) (omega arith) in grind (arith, other x)
+
+-- what stands from there on is all that fails it
+point_drop : {X : Type 0} (p q : X → Bool) → ((x : X) → p x ≡ not (q x)) → (xs : List X) (i : ℕ) → i ≤ length xs
+    → IsPartitionPoint (λ x. q x ≡ true) (λ x. q x ≡ false) xs i → drop i xs ≡ filter p xs
+point_drop p q other [] zero le point = refl
+point_drop p q other [] (suc i) le point = absurd (omega (arith, le))
+point_drop p q other (x ∷ xs) zero le point =
+    let rest = point_drop p q other xs zero (omega arith) (
+      λ k d low high. absurd (omega (arith, high)),
+      λ k d low high. point.1 (suc k) d (omega arith) (omega (arith, high)),
+    ) in
+    let here = point.1 0 x (omega arith) (omega arith) in grind (arith, other x)
+point_drop p q other (x ∷ xs) (suc i) le point =
+    let rest = point_drop p q other xs i (omega (arith, le)) (
+      λ k d low high. point.0 (suc k) d (omega arith) (omega (arith, high)),
+      λ k d low high. point.1 (suc k) d (omega (arith, low)) (omega (arith, high)),
+    ) in
+    let here = point.0 0 x (omega arith) (omega arith) in grind (arith, other x)
+
+pub point_behind : {X : Type 0} (p q : X → Bool) → ((x : X) → p x ≡ not (q x)) → (xs : List X) (i : ℕ) → i ≤ length xs
+    → IsPartitionPoint (λ x. q x ≡ true) (λ x. q x ≡ false) xs i → slice_range xs i (length xs) ≡ filter p xs
+point_behind p q other xs i le point =
+    take_all (length xs - i) (drop i xs) (omega (arith, length-drop i xs)) ∙ point_drop p q other xs i le point
 
 -- the place of a list is that of what is made of it
 pub point_made : {X Y : Type 0} (f : X → Y) (p : Y → Bool) (xs : List X) (i : ℕ) → i ≤ length xs
@@ -113,8 +136,7 @@ point_made f p (x ∷ xs) i le point = (
 -- where all items pass, the first is found
 first_passes : {X : Type 0} (p : X → Bool) (xs : List X) → list_all p xs ≡ true → find p xs ≡ slice_get xs 0
 first_passes p [] all = refl
-first_passes p (x ∷ xs) all =
-    ap (λ b. cond b (Some x) (find p xs)) (and_parts (p x) (list_all p xs) all).0
+first_passes p (x ∷ xs) all = grind arith
 
 -- Items that ascend by their keys
 
@@ -156,31 +178,21 @@ module _ {X K : Type 0} (key : X → K) (keys : Order K) where
   -- an item with a lesser key stays, and the change comes behind it
   stays : (k : K) (x : X) (xs : List X) → keys.less (key x) k ≡ true
       → without key keys k (x ∷ xs) ≡ x ∷ without key keys k xs
-  stays k x xs low =
-      ap (λ b. cond (not b) (x ∷ without key keys k xs) (without key keys k xs)) (less_differs keys (key x) k low)
+  stays k x xs low = grind (arith, less_differs keys (key x) k)
 
   put_behind : (x y : X) (ys : List X) → keys.less (key y) (key x) ≡ true
       → with_item key keys x (y ∷ ys) ≡ y ∷ with_item key keys x ys
-  put_behind x y ys low =
-      ap (insert_by (before key keys) x) (stays (key x) y ys low)
-      ∙ ap (λ b. cond b (x ∷ y ∷ without key keys (key x) ys) (y ∷ with_item key keys x ys))
-      ((weak_order keys).one_way (key y) (key x) low)
+  put_behind x y ys low = grind (arith, stays (key x) y ys, (weak_order keys).one_way (key y) (key x))
 
   -- an item in place of that of its key
   pub put_set : (x : X) (xs : List X) (i : ℕ) → ascend key keys xs ≡ true → IsPlace key keys (key x) xs i
       → passes (λ y. keys.same (key y) (key x)) (slice_get xs i) ≡ true → with_item key keys x xs ≡ set xs i x
   put_set x [] i pairs place here = cc
   put_set x (y ∷ ys) zero pairs place here =
-      let parts = and_parts (list_all (before key keys y) ys) (ascend key keys ys) pairs in
-      let above = behind_same (key x) y ys here parts.0 in
-      ap (λ b. insert_by (before key keys) x
-      (cond (not b) (y ∷ without key keys (key x) ys) (without key keys (key x) ys))) here
-      ∙ ap (insert_by (before key keys) x) (none_left_out (key x) ys above)
-      ∙ insert_first (before key keys) x ys above
+      grind (arith, behind_same (key x) y ys, none_left_out (key x) ys, insert_first (before key keys) x ys)
   put_set x (y ∷ ys) (suc i) pairs place here =
-      let parts = and_parts (list_all (before key keys y) ys) (ascend key keys ys) pairs in
-      put_behind x y ys (place.0 0 y (omega arith) (omega arith))
-      ∙ ap (λ zs. y ∷ zs) (put_set x ys i parts.1 (place_behind (key x) y ys i place) here)
+      let low = place.0 0 y (omega arith) (omega arith) in
+      grind (arith, put_behind x y ys low, put_set x ys i, place_behind (key x) y ys i place)
 
   -- where the item at its place has not the key, none has it
   absent : (k : K) (xs : List X) (i : ℕ) → ascend key keys xs ≡ true → IsPlace key keys k xs i
@@ -188,15 +200,11 @@ module _ {X K : Type 0} (key : X → K) (keys : Order K) where
       → list_all (λ y. not (keys.same (key y) k)) xs ≡ true
   absent k [] i pairs place here = refl
   absent k (y ∷ ys) zero pairs place here =
-      let parts = and_parts (list_all (before key keys y) ys) (ascend key keys ys) pairs in
-      let more = greater keys (key y) k here (place.1 0 y (omega arith) (omega arith)) in
-      none_same k (y ∷ ys) (and_from (keys.less k (key y)) (list_all (λ z. keys.less k (key z)) ys) more
-      (all_greater k y ys more parts.0))
+      let high = place.1 0 y (omega arith) (omega arith) in
+      grind (arith, greater keys (key y) k, all_greater k y ys, none_same k (y ∷ ys))
   absent k (y ∷ ys) (suc i) pairs place here =
-      let parts = and_parts (list_all (before key keys y) ys) (ascend key keys ys) pairs in
-      and_from (not (keys.same (key y) k)) (list_all (λ z. not (keys.same (key z) k)) ys)
-      (not_from_false (keys.same (key y) k) (less_differs keys (key y) k (place.0 0 y (omega arith) (omega arith))))
-      (absent k ys i parts.1 (place_behind k y ys i place) here)
+      let low = place.0 0 y (omega arith) (omega arith) in
+      grind (arith, less_differs keys (key y) k low, absent k ys i, place_behind k y ys i place)
 
   -- so it leaves nothing out
   pub not_there : (k : K) (xs : List X) (i : ℕ) → ascend key keys xs ≡ true → IsPlace key keys k xs i
@@ -210,17 +218,11 @@ module _ {X K : Type 0} (key : X → K) (keys : Order K) where
   insert_at x [] zero le none place = refl
   insert_at x [] (suc i) le none place = absurd (omega (arith, le))
   insert_at x (y ∷ ys) zero le none place =
-      let parts = and_parts (not (keys.same (key y) (key x)))
-      (list_all (λ z. not (keys.same (key z) (key x))) ys) none in
-      ap (λ b. cond b (x ∷ y ∷ ys) (y ∷ insert_by (before key keys) x ys))
-      (greater keys (key y) (key x) (not-true (keys.same (key y) (key x)) parts.0)
-      (place.1 0 y (omega arith) (omega arith)))
+      let high = place.1 0 y (omega arith) (omega arith) in
+      grind (arith, greater keys (key y) (key x))
   insert_at x (y ∷ ys) (suc i) le none place =
-      let parts = and_parts (not (keys.same (key y) (key x)))
-      (list_all (λ z. not (keys.same (key z) (key x))) ys) none in
-      ap (λ b. cond b (x ∷ y ∷ ys) (y ∷ insert_by (before key keys) x ys))
-      ((weak_order keys).one_way (key y) (key x) (place.0 0 y (omega arith) (omega arith)))
-      ∙ ap (λ zs. y ∷ zs) (insert_at x ys i (omega (arith, le)) parts.1 (place_behind (key x) y ys i place))
+      let low = (weak_order keys).one_way (key y) (key x) (place.0 0 y (omega arith) (omega arith)) in
+      grind (arith, insert_at x ys i, place_behind (key x) y ys i place)
 
   pub put_insert : (x : X) (xs : List X) (i : ℕ) → i ≤ length xs → ascend key keys xs ≡ true
       → IsPlace key keys (key x) xs i → passes (λ y. keys.same (key y) (key x)) (slice_get xs i) ≡ false
@@ -233,34 +235,22 @@ module _ {X K : Type 0} (key : X → K) (keys : Order K) where
   pub left_out : (k : K) (xs : List X) (i : ℕ) → ascend key keys xs ≡ true → IsPlace key keys k xs i
       → passes (λ y. keys.same (key y) k) (slice_get xs i) ≡ true → without key keys k xs ≡ remove xs i
   left_out k [] i pairs place here = cc
-  left_out k (y ∷ ys) zero pairs place here =
-      let parts = and_parts (list_all (before key keys y) ys) (ascend key keys ys) pairs in
-      ap (λ b. cond (not b) (y ∷ without key keys k ys) (without key keys k ys)) here
-      ∙ none_left_out k ys (behind_same k y ys here parts.0)
+  left_out k (y ∷ ys) zero pairs place here = grind (arith, behind_same k y ys, none_left_out k ys)
   left_out k (y ∷ ys) (suc i) pairs place here =
-      let parts = and_parts (list_all (before key keys y) ys) (ascend key keys ys) pairs in
-      stays k y ys (place.0 0 y (omega arith) (omega arith))
-      ∙ ap (λ zs. y ∷ zs) (left_out k ys i parts.1 (place_behind k y ys i place) here)
+      let low = place.0 0 y (omega arith) (omega arith) in
+      grind (arith, stays k y ys low, left_out k ys i, place_behind k y ys i place)
 
   -- the item of a key is the one at its place, where that has the key
   pub item_at : (k : K) (xs : List X) (i : ℕ) → ascend key keys xs ≡ true → IsPlace key keys k xs i
       → item_of key keys k xs ≡ option_and_then (if_has k) (slice_get xs i)
   item_at k [] i pairs place = refl
   item_at k (y ∷ ys) zero pairs place =
-      let parts = and_parts (list_all (before key keys y) ys) (ascend key keys ys) pairs in
-      by (keys.same (key y) k) refl parts.0
-    where
-      by : (b : Bool) → keys.same (key y) k ≡ b → list_all (before key keys y) ys ≡ true
-          → cond b (Some y) (item_of key keys k ys) ≡ cond b (Some y) None
-      by true e above = refl
-      by false e above =
-          let more = greater keys (key y) k e (place.1 0 y (omega arith) (omega arith)) in
-          find_none (λ z. keys.same (key z) k) ys (none_same k ys (all_greater k y ys more above))
+      let high = place.1 0 y (omega arith) (omega arith) in
+      let none = find_none (λ z. keys.same (key z) k) ys in
+      grind (arith, greater keys (key y) k, all_greater k y ys, none_same k ys, none)
   item_at k (y ∷ ys) (suc i) pairs place =
-      let parts = and_parts (list_all (before key keys y) ys) (ascend key keys ys) pairs in
-      ap (λ b. cond b (Some y) (item_of key keys k ys))
-      (less_differs keys (key y) k (place.0 0 y (omega arith) (omega arith)))
-      ∙ item_at k ys i parts.1 (place_behind k y ys i place)
+      let low = place.0 0 y (omega arith) (omega arith) in
+      grind (arith, less_differs keys (key y) k low, item_at k ys i, place_behind k y ys i place)
 
   -- the first greater item stands behind that of the key, or at its place
   pub above_at : (k : K) (xs : List X) (i : ℕ) → ascend key keys xs ≡ true → IsPlace key keys k xs i
@@ -268,38 +258,21 @@ module _ {X K : Type 0} (key : X → K) (keys : Order K) where
       ≡ slice_get xs (cond (passes (λ x. keys.same (key x) k) (slice_get xs i)) (suc i) i)
   above_at k [] i pairs place = refl
   above_at k (y ∷ ys) zero pairs place =
-      let parts = and_parts (list_all (before key keys y) ys) (ascend key keys ys) pairs in
-      by (keys.same (key y) k) refl parts.0
-    where
-      by : (b : Bool) → keys.same (key y) k ≡ b → list_all (before key keys y) ys ≡ true
-          → item_above key keys k (y ∷ ys) ≡ slice_get (y ∷ ys) (cond b 1 0)
-      by true e above =
-          let here : keys.less k (key y) ≡ false =
-          ap (keys.less k) (keys.equal (key y) k e) ∙ keys.irreflexive k in
-          rw here (first_passes (λ x. keys.less k (key x)) ys (behind_same k y ys e above))
-      by false e above =
-          ap (λ b. cond b (Some y) (item_above key keys k ys))
-          (greater keys (key y) k e (place.1 0 y (omega arith) (omega arith)))
+      let high = place.1 0 y (omega arith) (omega arith) in
+      let first = first_passes (λ x. keys.less k (key x)) ys in
+      grind (arith, keys.equal (key y) k, keys.irreflexive k, behind_same k y ys, first, greater keys (key y) k)
   above_at k (y ∷ ys) (suc i) pairs place =
-      let parts = and_parts (list_all (before key keys y) ys) (ascend key keys ys) pairs in
-      ap (λ b. cond b (Some y) (item_above key keys k ys))
-      ((weak_order keys).one_way (key y) k (place.0 0 y (omega arith) (omega arith)))
-      ∙ above_at k ys i parts.1 (place_behind k y ys i place)
-      ∙ by (passes (λ x. keys.same (key x) k) (slice_get ys i))
-    where
-      by : (b : Bool) → slice_get ys (cond b (suc i) i) ≡ slice_get (y ∷ ys) (cond b (suc (suc i)) (suc i))
-      by true = refl
-      by false = refl
+      let low = (weak_order keys).one_way (key y) k (place.0 0 y (omega arith) (omega arith)) in
+      grind (arith, above_at k ys i, place_behind k y ys i place)
 
   -- an item that takes the place of a key is found by it
   pub found_put : (k : K) (x : X) (xs : List X) (i : ℕ) → IsPlace key keys k xs i → i < length xs
       → keys.same (key x) k ≡ true → item_of key keys k (set xs i x) ≡ Some x
   found_put k x [] i place within has = absurd (omega (arith, within))
-  found_put k x (y ∷ ys) zero place within has = ap (λ b. cond b (Some x) (item_of key keys k ys)) has
+  found_put k x (y ∷ ys) zero place within has = grind arith
   found_put k x (y ∷ ys) (suc i) place within has =
-      ap (λ b. cond b (Some y) (item_of key keys k (set ys i x)))
-      (less_differs keys (key y) k (place.0 0 y (omega arith) (omega arith)))
-      ∙ found_put k x ys i (place_behind k y ys i place) (omega (arith, within)) has
+      let low = less_differs keys (key y) k (place.0 0 y (omega arith) (omega arith)) in
+      grind (arith, found_put k x ys i, place_behind k y ys i place)
 
   -- ascending items are parted at a key
   pub parted : (k : K) (xs : List X) → ascend key keys xs ≡ true

@@ -104,11 +104,9 @@ impl Places {
             ≡ item_above T.key T.keys (T.sought_key sought.now) (sort_by (before T.key T.keys) those) }
     {
         let index = place_of(items, &self.places, sought);
-        let item = item_at(items, &self.places, index);
-        match where_same(item, sought) {
-            Some(same) => (Some(same), item_at(items, &self.places, index + 1)),
-            None => (None, item),
-        }
+        let item = where_same(item_at(items, &self.places, index), sought);
+        let behind = index + usize::from(item.is_some());
+        (item, item_at(items, &self.places, behind))
     }
 
     /// The first in order of the items of an index whose key is greater. Takes a logarithm in their number, and no

@@ -1,4 +1,4 @@
-use Rattle.std.proofs.Common.{◌≡◌, ◌∙◌, ap, refl, sym, Ordering, Less, Equal, Greater}
+use Rattle.std.proofs.Common.{◌≡◌, ◌∙◌, ap, arith, sym, Ordering}
 use Rattle.std.specs.Cmp.Lexicographic.{slice_cmp}
 use Rattle.std.specs.Ordering.{is_lt, is_eq, is_gt, nat_cmp, ordering_reverse}
 use Rattle.std.proofs.lemmas.Cmp.{nat_list_cmp_total}
@@ -9,9 +9,7 @@ pub returns-clause-same : goal.returns-clause-same
 returns-clause-same c = ap is_eq c.cmp.ensures ∙ is_eq-slice_cmp c.args.bytes.now c.args.other.now
 
 reversed : (order : Ordering) → is_lt (ordering_reverse order) ≡ is_gt order
-reversed Less = refl
-reversed Equal = refl
-reversed Greater = refl
+reversed order = grind arith
 
 pub returns-clause-greater : goal.returns-clause-greater
 returns-clause-greater c =

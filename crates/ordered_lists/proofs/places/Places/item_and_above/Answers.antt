@@ -1,55 +1,21 @@
-use Rattle.std.proofs.Common.{◌∙◌, ◌+◌, ℕ, List, ap, slice_get, subst, sym}
-use Rattle.std.specs.Option.{option_and_then}
-use Rattle.ordered_lists.specs.Orders.{IsIndex}
-use Rattle.ordered_lists.proofs.Indexes.{near_above, near_item}
+use Rattle.std.proofs.Common.{◌≡◌, ◌∙◌, Option, Bor, ap, arith, sym}
+use Rattle.std.specs.Option.{is_some, option_copied}
+use Rattle.ordered_lists.proofs.Indexes.{item_found, near_above}
 use Rattle.ordered_lists.proofs.places.Places.item_and_above.Goals as goal
 
-pub returns-in-Some-clause-item : goal.returns-in-Some-clause-item
-returns-in-Some-clause-item g c those index =
-    let items = c.args.items.now in
-    let place = c.place_of-index.result in
-    let seen = subst (λ (places : List ℕ). IsIndex g.T.Keyed.key g.T.Keyed.keys items places those)
-    (sym c.self.view_is) index in
-    c.in-Some.ensures
-    ∙ near_item g.T.Keyed.key g.T.Keyed.keys items c.self.inside.places.items those seen
-    (g.T.Keyed.sought_key c.args.sought.now) place _
-    (c.item_at-item.ensures ∙ ap (λ places. option_and_then (slice_get items) (slice_get places place))
-    c.deref-2.ensures.value) (c.place_of-index.ensures.place those (rw c.deref.ensures.value seen))
+pub returns-clause-item : goal.returns-clause-item
+returns-clause-item g c those index =
+    let point = (rw (c.deref.ensures.value, c.self.view_is) at c.place_of-index.ensures.place) those index in
+    let here = rw (c.deref-2.ensures.value, c.self.view_is) at c.item_at.ensures in
+    rw (c.where_same-item.ensures, here)
+    (sym (item_found g.T.Keyed.key g.T.Keyed.keys c.args.items.now c.args.self.now those index _ _ point))
 
-pub returns-in-Some-clause-above : goal.returns-in-Some-clause-above
-returns-in-Some-clause-above g c those index =
-    let items = c.args.items.now in
-    let place = c.place_of-index.result in
-    let seen = subst (λ (places : List ℕ). IsIndex g.T.Keyed.key g.T.Keyed.keys items places those)
-    (sym c.self.view_is) index in
-    c.item_at.ensures
-    ∙ ap (λ places. option_and_then (slice_get items) (slice_get places (place + 1))) c.deref-in-Some.ensures.value
-    ∙ near_above g.T.Keyed.key g.T.Keyed.keys items c.self.inside.places.items those seen
-    (g.T.Keyed.sought_key c.args.sought.now) place _ _
-    (c.item_at-item.ensures ∙ ap (λ places. option_and_then (slice_get items) (slice_get places place))
-    c.deref-2.ensures.value) c.in-Some.ensures
-    (c.place_of-index.ensures.place those (rw c.deref.ensures.value seen))
+there_as_copied : {X : Type 0} (item : Option (Bor X)) → is_some item ≡ is_some (option_copied item)
+there_as_copied item = grind arith
 
-pub returns-in-None-clause-item : goal.returns-in-None-clause-item
-returns-in-None-clause-item g c those index =
-    let items = c.args.items.now in
-    let place = c.place_of-index.result in
-    let seen = subst (λ (places : List ℕ). IsIndex g.T.Keyed.key g.T.Keyed.keys items places those)
-    (sym c.self.view_is) index in
-    c.in-None.ensures
-    ∙ near_item g.T.Keyed.key g.T.Keyed.keys items c.self.inside.places.items those seen
-    (g.T.Keyed.sought_key c.args.sought.now) place _
-    (c.item_at-item.ensures ∙ ap (λ places. option_and_then (slice_get items) (slice_get places place))
-    c.deref-2.ensures.value) (c.place_of-index.ensures.place those (rw c.deref.ensures.value seen))
-
-pub returns-in-None-clause-above : goal.returns-in-None-clause-above
-returns-in-None-clause-above g c those index =
-    let items = c.args.items.now in
-    let place = c.place_of-index.result in
-    let seen = subst (λ (places : List ℕ). IsIndex g.T.Keyed.key g.T.Keyed.keys items places those)
-    (sym c.self.view_is) index in
-    near_above g.T.Keyed.key g.T.Keyed.keys items c.self.inside.places.items those seen
-    (g.T.Keyed.sought_key c.args.sought.now) place _ _
-    (c.item_at-item.ensures ∙ ap (λ places. option_and_then (slice_get items) (slice_get places place))
-    c.deref-2.ensures.value) c.in-None.ensures
-    (c.place_of-index.ensures.place those (rw c.deref.ensures.value seen))
+pub returns-clause-above : goal.returns-clause-above
+returns-clause-above g c those index =
+    let point = (rw (c.deref.ensures.value, c.self.view_is) at c.place_of-index.ensures.place) those index in
+    let there = c.is_some.ensures ∙ there_as_copied _ ∙ ap is_some (returns-clause-item g c those index) in
+    let behind = rw (c.deref-3.ensures.value, c.self.view_is, c.from.ensures, there) at c.item_at-2.ensures in
+    behind ∙ near_above g.T.Keyed.key g.T.Keyed.keys c.args.items.now c.args.self.now those index _ _ point
