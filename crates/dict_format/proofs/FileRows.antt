@@ -13,15 +13,8 @@ use Rattle.word_sets.specs.FirstLaws.{or_none, texts_fold_new}
 use Rattle.word_sets.specs.Firsts.{with_new}
 use Rattle.dict_format.specs.FileBuilding.{KnowsKeys, known_in, knows}
 use Rattle.dict_format.specs.FileLines.{has_key}
+use Rattle.dict_format.specs.ListedLaws.{keys-with}
 use Rattle.dict_format.specs.declared.readings.Readings.{Readings}
-
--- a key that no row has differs from that of each
-key-apart : (rows : List Row) (key : RowKey) → has_key rows key ≡ false
-    → list_all (λ row. not (same_key row.key key)) rows ≡ true
-key-apart [] key none = refl
-key-apart (row ∷ rows) key none =
-    let parts = or_parts (same_key row.key key) (has_key rows key) none in
-    and_from (not (same_key row.key key)) _ (not_from_false (same_key row.key key) parts.0) (key-apart rows key parts.1)
 
 -- a row more
 key-more : (rows : List Row) (row : Row) (key : RowKey)
@@ -69,11 +62,7 @@ module _ (rows : List Row) (before after : Readings) (key : RowKey) (is_new : Bo
       let none : has_key rows row.key ≡ false =
       ap (has_key rows) is ∙ sym (knew.known key) ∙ not-true (knows before key) (sym tells ∙ new) in
       record {
-        differ =
-            pairs_appended (λ one other. not (same_key one.key other.key)) rows (row ∷ []) knew.differ refl
-            (list_all-weaker (λ one. not (same_key one.key row.key))
-            (λ one. list_all (λ other. not (same_key one.key other.key)) (row ∷ []))
-            (λ one e. and_from (not (same_key one.key row.key)) true e refl) rows (key-apart rows row.key none));
+        differ = keys-with rows row knew.differ none;
         known =
             λ other. added other ∙ ap (λ b. b || same_key key other) (knew.known other)
             ∙ ap (λ k. has_key rows other || same_key k other) (sym is) ∙ sym (key-more rows row other);

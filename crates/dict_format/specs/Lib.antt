@@ -5,6 +5,7 @@ pub mod FileLines
 pub mod Items
 pub mod LeftLines
 pub mod Lines
+pub mod ListedLaws
 pub mod PrintedFiles
 pub mod Reading
 pub mod Reasons

@@ -14,7 +14,7 @@ ghost use Rattle.dict_format.specs.Views.{item_said, texts_seen, Gives};
 ghost use Rattle.dict_format.specs.Words.{said};
 
 use crate::reason::{LineFault, LineReason};
-use crate::words::{plain, whole_marked, word_of};
+use crate::words::{plain, push, room_for, whole_marked, word_of};
 use exact_readers::{Reader, cut_at, read_many};
 use skk_calls::{Part, WORD_LIMIT};
 use skk_text::Memory;
@@ -267,12 +267,13 @@ fn candidate(alloc: Global, text: &[char]) -> Result<Item, Memory>
 fn without_line_ends(alloc: Global, text: &[char]) -> Result<String, Memory>
     ensures { IfOk result (λ note. characters note ≡ filter (λ c. not (c == 13 || c == 10)) text.now) }
 {
-    Ok(
-        text.iter()
-            .copied()
-            .filter(|c| !(*c == '\r' || *c == '\n'))
-            .collect(alloc)?,
-    )
+    let mut note = room_for(alloc, text)?;
+    for c in text {
+        if !(*c == '\r' || *c == '\n') {
+            push(&mut note, *c)?;
+        }
+    }
+    Ok(note)
 }
 
 // Whether no word of the items is too long.

@@ -44,7 +44,7 @@ fn parts_of(alloc: Global, items: Vec<Item>) -> Result<Parts, Memory>
     ensures { IfOk result (λ parts. SaysItems parts (map item_said items.items)) }
 {
     let mut parts = Parts {
-        cands: WordMap::new(alloc),
+        cands: WordMap::with_capacity(alloc, items.len())?,
         blocks: WordMap::new(alloc),
         hides: WordSet::new(alloc),
     };

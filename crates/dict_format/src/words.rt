@@ -23,7 +23,21 @@ const MARKED: [char; 20] = [
 pub fn plain(alloc: Global, text: &[char]) -> Result<String, Memory>
     ensures { IfOk result (λ string. characters string ≡ text.now) }
 {
-    Ok(text.iter().copied().collect(alloc)?)
+    let mut string = room_for(alloc, text)?;
+    for c in text {
+        push(&mut string, *c)?;
+    }
+    Ok(string)
+}
+
+// A string of no characters, with room for these.
+pub fn room_for(alloc: Global, text: &[char]) -> Result<String, Memory>
+    ensures { IfOk result (λ string. characters string ≡ []) }
+{
+    let bytes = text
+        .iter()
+        .fold(0usize, |bytes, c| bytes.saturating_add(c.len_utf8()));
+    Ok(String::with_capacity(alloc, bytes)?)
 }
 
 // The word that a text says: the one that it quotes, or itself.
@@ -205,7 +219,7 @@ fn new_string(alloc: Global) -> String
 }
 
 // Adds a character.
-fn push(word: &mut String, c: char) -> Result<(), Memory>
+pub fn push(word: &mut String, c: char) -> Result<(), Memory>
     ensures { OnOk result (characters word.new ≡ characters word.old ++ c ∷ []) }
 {
     word.push(c)?;

@@ -32,6 +32,11 @@ pub ordered_by_block : (row : Row) (okuri : Option (List ℕ))
 ordered_by_block row None = refl
 ordered_by_block row (Some okuri) = refl
 
+-- the other way round, where the block was found
+pub by_block : (row : Row) (okuri : Option (List ℕ)) (block : Option Block) → block ≡ block_for okuri row.blocks
+    → with_block_first row block ≡ ordered row okuri
+by_block row okuri block is = ap (with_block_first row) is ∙ sym (ordered_by_block row okuri)
+
 -- behind the words of a block stand those candidates that are new there
 block_added : (row : Row) (block : Block) → texts_differ (words_of row.cands) ≡ true
     → fold (with_new word_of) (with_notes row.cands block.words) row.cands ≡ with_block_first row (Some block)

@@ -9,20 +9,17 @@ use Rattle.skk_text.specs.PairsLaws.{all_pairs-filter, all_pairs-map}
 use Rattle.skk_calls.specs.Found.{cands_of_layers, merged, ordered, without_hidden}
 use Rattle.skk_calls.specs.KeyLaws.{same_equal}
 use Rattle.skk_calls.specs.Rows.{Cand, Row, same_text, has_text, is_row, texts_differ, words_of}
-use Rattle.word_sets.specs.FirstLaws.{first_of_each-fold, fold_new-apart, fold_new-texts}
+use Rattle.word_sets.specs.FirstLaws.{first_of_each-differ, first_of_each-fold, fold_new-apart, fold_new-texts}
 use Rattle.word_sets.specs.Firsts.{with_new}
+use Rattle.dict_layers.specs.Merging.{Merging}
 use Rattle.dict_layers.proofs.BlockFirst.{ordered_differ}
 
 abbrev word_of : Cand → List ℕ
 word_of cand = cand.word
 
--- The layers so far gave these candidates, and these words are passed: with what comes of the layers that are left the
--- candidates are those of all.
-pub record Merging (all : List Row) (okuri : Option (List ℕ)) (cands : List Cand) (passed : List (List ℕ))
-    (left : List Row) : Type 0 where
-  pub hidden : List (List ℕ)
-  pub comes : fold (with_new (λ (cand : Cand). cand.word)) cands (cands_of_layers hidden left okuri) ≡ merged all okuri
-  pub alike : (text : List ℕ) → has_text passed text ≡ (has_text (words_of cands) text || has_text hidden text)
+-- no word stands twice
+pub merged_differ : (layers : List Row) (okuri : Option (List ℕ)) → texts_differ (words_of (merged layers okuri)) ≡ true
+merged_differ layers okuri = first_of_each-differ word_of (cands_of_layers [] layers okuri)
 
 -- Tests
 

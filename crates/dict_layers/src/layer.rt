@@ -35,7 +35,7 @@ pub(crate) fn add_layer(
 
 // Adds the words of a block with the notes that they have in a row, and copies of the row's other candidates, but for
 // those whose words are passed.
-fn add_block_first(
+pub(crate) fn add_block_first(
     alloc: Global,
     cands: &mut Cands,
     passed: &WordRefs<'_>,

@@ -10,7 +10,7 @@
 
 use dict_files::{DictionaryFile, DictionaryFiles};
 use dict_format::FILE_LIMIT;
-use dict_layers::{RowList, System, merge};
+use dict_layers::{RowList, System, merge_onto};
 use skk_calls::{Part, RowKey, Walk};
 use skk_outside::{HostShelf, Shelf, read_named_file};
 use skk_text::Text;
@@ -71,12 +71,15 @@ fn open<H: Shelf>(alloc: Global, shelf: &mut H, name: &Text) -> Option<Dictionar
 // How many candidates a reading has.
 fn count_found(alloc: Global, system: &System, reading: Text) -> Option<u64> {
     let key = RowKey::new(Part::Nasi, reading).ok()?;
-    let found = system.find(alloc, &key).ok()?;
-    let mut layers = RowList::new(alloc);
-    for row in found.iter() {
-        layers.push(row).ok()?;
+    let mut rows = system.find(alloc, &key).ok()?.into_vec();
+    let Some(last) = rows.pop() else {
+        return Some(0);
+    };
+    let mut upper = RowList::new(alloc);
+    for row in &rows {
+        upper.push(row).ok()?;
     }
-    let cands = merge(alloc, &layers, None).ok()?;
+    let cands = merge_onto(alloc, &upper, last, None).ok()?;
     Some(cands.cands().len() as u64)
 }
 

@@ -67,6 +67,14 @@ impl Cand {
         Ok(Cand { word, note })
     }
 
+    /// The candidate of a word and a note, moved in. Takes no memory and constant time.
+    pub fn of_parts(word: Text, note: Text) -> Cand
+        requires { is_cand (record { word = word; note = note }) ≡ true }
+        ensures { result ≡ record { word = word; note = note } }
+    {
+        Cand { word, note }
+    }
+
     /// The candidate of a word, without a note. Takes no memory: the note keeps the allocator.
     pub fn of_word(alloc: Global, word: Text) -> Cand
         requires { is_word word ≡ true }

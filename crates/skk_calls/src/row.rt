@@ -125,6 +125,14 @@ impl Row {
         &self.cands
     }
 
+    /// The candidates, moved out. Takes no memory.
+    pub fn into_cands(self) -> Cands
+        ensures value { result ≡ self.cands }
+        ensures valid { is_row self ≡ true }
+    {
+        self.cands
+    }
+
     /// The blocks.
     pub fn blocks(&self) -> &Blocks
         ensures value { result.now ≡ self.now.blocks }

@@ -28,8 +28,5 @@ fn cand_of(word: String, note: Text) -> Cand
     requires { is_cand (as_cand (characters word, note)) ≡ true }
     ensures { result ≡ as_cand (characters word, note) }
 {
-    match Cand::new(Text::of(word), note) {
-        Ok(cand) => cand,
-        Err(_) => unreachable!(),
-    }
+    Cand::of_parts(Text::of(word), note)
 }

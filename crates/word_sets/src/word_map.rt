@@ -20,7 +20,7 @@ impl<V> Model for WordMap<V> {
 }
 
 impl<V> WordMap<V> {
-    ghost use Rattle.std.specs.Prelude.{◌≡◌, []};
+    ghost use Rattle.std.specs.Prelude.{◌≡◌, [], IfOk};
 
     /// No words. Takes no memory: the map keeps the allocator for what is inserted later.
     pub fn new(alloc: Global) -> WordMap<V>
@@ -29,6 +29,15 @@ impl<V> WordMap<V> {
         WordMap {
             values: IndexMap::new(alloc),
         }
+    }
+
+    /// No words, with room for so many.
+    pub fn with_capacity(alloc: Global, count: usize) -> Result<WordMap<V>, Memory>
+        ensures { IfOk result (λ words. words ≡ []) }
+    {
+        Ok(WordMap {
+            values: IndexMap::with_capacity(alloc, count)?,
+        })
     }
 }
 
