@@ -1,11 +1,5 @@
-pub mod Completing
 pub mod FileWalk
 pub mod InOrder
-pub mod Index
-pub mod ListedRows
-pub mod Lists
 pub mod Places
-pub mod Readings
 pub mod Scanned
 pub mod Walking
-pub mod WholeFiles

@@ -1,38 +1,18 @@
--- Places of a list that are gone over: one place more.
-use Rattle.std.proofs.Common.{◌≡◌, ℕ, zero, suc, ◌+◌, Bool, true, false, cond, Some, List, [], ◌∷◌, ◌++◌, map}
-use Rattle.std.proofs.Common.{take, slice_get, refl, ap, ◌∙◌, add-one}
+-- Places of a list that are gone over.
+use Rattle.std.proofs.Common.{◌≡◌, ℕ, ◌+◌, ◌<◌, Bool, Some, List, [], ◌∷◌, ◌++◌, if◌then◌else◌, length, map, get_or}
+use Rattle.std.proofs.Common.{append-nil, arith, slice_get, sym, take}
 use Rattle.std.specs.List.{filter}
+use Rattle.std.proofs.lemmas.List.{map-append}
+use Rattle.std.proofs.lemmas.List.Elements.{filter_more}
+use Rattle.std.proofs.lemmas.Option.{slice_get-get_or}
 
--- the place of the next item that passes
-pub kept_more : {X : Type 0} (p : X → Bool) (xs : List X) (i : ℕ) (x : X) → slice_get xs i ≡ Some x → p x ≡ true
-    → map Some (filter p (take (i + 1) xs)) ≡ map Some (filter p (take i xs)) ++ slice_get xs i ∷ []
-kept_more {X} p xs i x here passing = ap (λ n. map Some (filter p (take n xs))) (add-one i) ∙ next xs i here
-  where
-    next : (ys : List X) (k : ℕ) → slice_get ys k ≡ Some x
-        → map Some (filter p (take (suc k) ys)) ≡ map Some (filter p (take k ys)) ++ slice_get ys k ∷ []
-    next [] k e = cc
-    next (y ∷ ys) zero e = let same : y ≡ x = cc in rw (ap p same ∙ passing) refl
-    next (y ∷ ys) (suc k) e = by (p y) (next ys k e)
-      where
-        by : (b : Bool) → map Some (filter p (take (suc k) ys)) ≡ map Some (filter p (take k ys)) ++ slice_get ys k ∷ []
-            → map Some (cond b (y ∷ filter p (take (suc k) ys)) (filter p (take (suc k) ys)))
-            ≡ map Some (cond b (y ∷ filter p (take k ys)) (filter p (take k ys))) ++ slice_get ys k ∷ []
-        by true rest = ap (λ os. Some y ∷ os) rest
-        by false rest = rest
-
--- one that does not pass has none
-pub kept_same : {X : Type 0} (p : X → Bool) (xs : List X) (i : ℕ) (x : X) → slice_get xs i ≡ Some x → p x ≡ false
-    → map Some (filter p (take (i + 1) xs)) ≡ map Some (filter p (take i xs))
-kept_same {X} p xs i x here failing = ap (λ n. map Some (filter p (take n xs))) (add-one i) ∙ next xs i here
-  where
-    next : (ys : List X) (k : ℕ) → slice_get ys k ≡ Some x
-        → map Some (filter p (take (suc k) ys)) ≡ map Some (filter p (take k ys))
-    next [] k e = cc
-    next (y ∷ ys) zero e = let same : y ≡ x = cc in rw (ap p same ∙ failing) refl
-    next (y ∷ ys) (suc k) e = by (p y) (next ys k e)
-      where
-        by : (b : Bool) → map Some (filter p (take (suc k) ys)) ≡ map Some (filter p (take k ys))
-            → map Some (cond b (y ∷ filter p (take (suc k) ys)) (filter p (take (suc k) ys)))
-            ≡ map Some (cond b (y ∷ filter p (take k ys)) (filter p (take k ys)))
-        by true rest = ap (λ os. Some y ∷ os) rest
-        by false rest = rest
+-- with the place of the next item, where it passes
+pub kept_more : {X : Type 0} (p : X → Bool) (xs : List X) (places after : List ℕ) (i : ℕ) (x : X) → i < length xs
+    → x ≡ get_or xs i x → map (slice_get xs) places ≡ map Some (filter p (take i xs))
+    → after ≡ (if p x then places ++ i ∷ [] else places)
+    → map (slice_get xs) after ≡ map Some (filter p (take (i + 1) xs))
+kept_more p xs places after i x low is so_far added =
+    let kept = filter p (take i xs) in
+    let here = slice_get-get_or xs i x low in
+    rw (added, filter_more p xs i x low, sym is)
+    (grind (arith, append-nil kept, map-append Some kept (x ∷ []), map-append (slice_get xs) places (i ∷ [])))

@@ -61,16 +61,20 @@ rise bytes places = all_pairs (rises bytes) places
 abbrev pub file_rows : List ℕ → List Row
 file_rows bytes = listed_rows (entries_of bytes)
 
--- what is read of an entry is UTF-8, and its reading is a text
-pub record IsEntry (bytes : List ℕ) (place : Place) : Type 0 where
-  pub valid : IsUtf8 (line_at bytes place)
-  pub text : List ℕ
-  pub reading_is : reading_at bytes place ≡ encode_utf8_all text
+-- what is read of an entry is UTF-8
+abbrev pub IsValid : List ℕ → Place → Type 0
+IsValid bytes place = IsUtf8 (line_at bytes place)
+
+-- so it is for an entry of a part, and the row that it spells has that part and its reading
+pub record IsEntry (part : Part) (bytes : List ℕ) (place : Place) : Type 0 where
+  pub valid : IsValid bytes place
+  pub keyed : (row : Row) → row_at part bytes place ≡ Some row
+      → (row.key.part ≡ part) × (reading_at bytes place ≡ encode_utf8_all row.key.reading)
 
 -- places of entries of a part, in order by their readings: among those with a reading the first row that one of them
 -- spells is the file's row of that key
 pub record IsPart (part : Part) (bytes : List ℕ) (places : List Place) : Type 0 where
-  pub entries : All (IsEntry bytes) places
+  pub entries : All (IsEntry part bytes) places
   pub rise : rise bytes places ≡ true
   pub rows : (reading : List ℕ) → first_row part bytes (filter (has_reading bytes (encode_utf8_all reading)) places)
       ≡ row_in (record { part = part; reading = reading }) (file_rows bytes)

@@ -97,7 +97,7 @@ impl DictionaryFile {
         let bytes = self.bytes.as_slice();
         let nasi = self.places.of(Part::Nasi);
         let mut places = behind_equal(bytes, nasi, low.as_str().as_bytes());
-        while let [place, later @ ..] = places {
+        while let Some((place, later)) = places.split_first() {
             let reading = reading_at(bytes, place);
             let row = first_row(alloc, Part::Nasi, bytes, places, reading)?;
             if let Some(next) = walked_reading(alloc, row)? {

@@ -1,4 +1,4 @@
-ghost use Rattle.std.specs.Prelude.{◌≡◌, true, IfOk, OnOk};
+ghost use Rattle.std.specs.Prelude.{◌≡◌, ◌∷◌, ◌++◌, [], if◌then◌else◌, true, IfOk, OnOk};
 ghost use Rattle.std.specs.List.{filter, list_all};
 ghost use Rattle.ordered_lists.specs.Orders.{HasAt};
 ghost use Rattle.skk_calls.specs.Rows.{is_row};
@@ -82,11 +82,21 @@ fn walked_places(alloc: Global, rows: &[Row]) -> Result<Places, Memory>
 {
     let mut places = Places::new(alloc);
     for (place, row) in rows.iter().enumerate() {
-        if is_walked(row) {
-            places.push(place)?;
-        }
+        add_walked(&mut places, place, row)?;
     }
     Ok(places)
+}
+
+// Adds the place of a row, where a walk comes by it.
+fn add_walked(places: &mut Places, place: usize, row: &Row) -> Result<(), Memory>
+    ensures places { OnOk result
+        (places.new ≡ (if is_walked row.now then places.old ++ place ∷ [] else places.old)) }
+    ensures valid { is_row row.now ≡ true }
+{
+    if is_walked(row) {
+        places.push(place)?;
+    }
+    Ok(())
 }
 
 // Whether a walk comes by a row.

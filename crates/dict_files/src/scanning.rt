@@ -1,4 +1,5 @@
-ghost use Rattle.std.specs.Prelude.{◌≡◌, ◌<◌, ◌≤◌, ◌+◌, ◌++◌, [], List, ℕ, length, position, IfOk, IfSome};
+ghost use Rattle.std.specs.Prelude.{◌≡◌, ◌<◌, ◌≤◌, ◌+◌, ◌++◌, ◌∷◌, [], List, ℕ, length, position, IfOk, IfSome};
+ghost use Rattle.std.specs.Str.{chars};
 ghost use Rattle.exact_readers.specs.Lines.{StandsAt};
 ghost use Rattle.dict_format.specs.FileLines.{FileEntry, file_limit};
 ghost use Rattle.dict_format.specs.LeftLines.{entries_at};
@@ -10,6 +11,7 @@ use crate::part_places::PartPlaces;
 use crate::place::Place;
 use crate::sorting::sort_places;
 use dict_format::{FileLine, FileLines, LineKind, files_list_one_thing, lines_spell_one_row};
+use skk_calls::Part;
 use skk_text::Memory;
 use std::alloc::Global;
 
@@ -40,26 +42,41 @@ fn places_in_text(alloc: Global, text: &str) -> Result<PartPlaces, Memory>
     Ok(places)
 }
 
-// Places with that of a line, where it is an entry with a reading.
+// Places with that of a line, where it is an entry.
 fn with_line(places: PartPlaces, line: &FileLine<'_>) -> Result<PartPlaces, Memory>
     requires { line.now.start + length line.now.text.now ≤ file_limit }
     ensures { IfOk result (λ after. (text : List ℕ) (left : List FileEntry)
         → StandsAt text line.now.start line.now.text.now → AreOfFile text places (entries_at line.now ++ left)
         → AreOfFile text after left) }
 {
+    match line.kind {
+        LineKind::Entry => with_entry(places, line.part, line.start, line.text),
+        LineKind::Opening(_) | LineKind::Skipped => Ok(places),
+    }
+}
+
+// Places with that of an entry of a part, whose line begins at this byte, where it has a reading.
+fn with_entry(
+    places: PartPlaces,
+    part: Part,
+    start: usize,
+    line: &str,
+) -> Result<PartPlaces, Memory>
+    requires { start + length line.now ≤ file_limit }
+    ensures { IfOk result (λ after. (text : List ℕ) (number : ℕ) (left : List FileEntry) → StandsAt text start line.now
+        → AreOfFile text places (record { number = number; part = part; text = chars line.now } ∷ left)
+        → AreOfFile text after left) }
+{
     lines_spell_one_row();
-    let LineKind::Entry = line.kind else {
-        return Ok(places);
-    };
-    let Some(reading) = first_space(line.text.as_bytes()) else {
+    let Some(reading) = first_space(line.as_bytes()) else {
         return Ok(places);
     };
     let place = Place {
-        start: line.start as u32,
+        start: start as u32,
         reading: reading as u32,
-        line: line.text.len() as u32,
+        line: line.len() as u32,
     };
-    places.with(line.part, place)
+    places.with(part, place)
 }
 
 // Where the first space of bytes stands.

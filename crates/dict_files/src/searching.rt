@@ -1,6 +1,6 @@
 ghost use Rattle.std.specs.Prelude.{◌≡◌, true, not, All, IfOk};
 ghost use Rattle.std.specs.List.{filter, list_all};
-ghost use Rattle.dict_files.specs.FilePlaces.{IsEntry, first_row, has_reading, is_above, is_below, rise};
+ghost use Rattle.dict_files.specs.FilePlaces.{IsValid, first_row, has_reading, is_above, is_below, rise};
 
 use crate::place::{Place, reading_at, row_at};
 use ordered_lists::order_bytes;
@@ -17,7 +17,7 @@ pub fn row_of(
     places: &[Place],
     reading: &[u8],
 ) -> Result<Option<Row>, Memory>
-    requires entries { All (IsEntry bytes.now) places.now }
+    requires valid { All (IsValid bytes.now) places.now }
     requires rise { rise bytes.now places.now ≡ true }
     ensures { IfOk result
         (λ row. row ≡ first_row part bytes.now (filter (has_reading bytes.now reading.now) places.now)) }
@@ -40,7 +40,7 @@ pub fn first_row(
     places: &[Place],
     reading: &[u8],
 ) -> Result<Option<Row>, Memory>
-    requires entries { All (IsEntry bytes.now) places.now }
+    requires valid { All (IsValid bytes.now) places.now }
     requires rise { rise bytes.now places.now ≡ true }
     requires least { list_all (λ place. not (is_below bytes.now reading.now place)) places.now ≡ true }
     ensures { IfOk result

@@ -1,5 +1,4 @@
-use Rattle.dict_files.proofs.Completing.{readings_complete}
-use Rattle.dict_files.proofs.Walking.{walked_plain}
+use Rattle.dict_files.proofs.Walking.{readings_complete, walked_plain}
 use Rattle.dict_files.proofs.laws.walks_go_over_completions.Goals as goal
 
 pub returns-clause-readings : goal.returns-clause-readings

@@ -1,9 +1,6 @@
-use Rattle.std.proofs.Common.{◌≡◌, ◌∙◌, ◌++◌, [], ap, arith, length, length-append, subst, sym}
-use Rattle.exact_readers.specs.Lines.{StandsAt}
-use Rattle.dict_format.specs.FileLines.{FileEntry}
-use Rattle.dict_format.specs.LeftLines.{entries_at, entries_left}
+use Rattle.std.proofs.Common.{◌∙◌, subst}
+use Rattle.dict_format.specs.LeftLines.{entries_left}
 use Rattle.dict_files.specs.Scanning.{AreOfFile}
-use Rattle.dict_files.proofs.Scanned.{none-yet}
 use Rattle.dict_files.proofs.scanning.places_in_text.Goals as goal
 
 pub loop-line-preserved : goal.loop-line-preserved

@@ -1,5 +1,4 @@
-use Rattle.std.proofs.Common.{◌≡◌, ◌∙◌, false, ap, sym}
-use Rattle.std.specs.Str.{bytes_eq}
+use Rattle.std.proofs.Common.{◌∙◌, ap, sym}
 use Rattle.std.proofs.lemmas.Bool.{not-true}
 use Rattle.dict_files.specs.FilePlaces.{first_row}
 use Rattle.dict_files.proofs.InOrder.{none_from}
@@ -10,6 +9,4 @@ returns-then-ne c =
     sym (c.loop-place.invariant
     ∙ ap (first_row c.args.part c.args.bytes.now)
     (none_from c.args.bytes.now c.args.reading.now c.args.places.now c.loop-place.place-index _ c.loop-place-test.true
-    c.requires.rise c.requires.least
-    (ap (λ reading. bytes_eq reading c.args.reading.now) (sym c.reading_at.ensures)
-    ∙ not-true (bytes_eq c.reading_at.result.now c.args.reading.now) (sym c.ne.ensures ∙ c.if-ne.true))))
+    c.requires.rise c.requires.least (rw c.reading_at.ensures at (not-true _ (sym c.ne.ensures ∙ c.if-ne.true)))))

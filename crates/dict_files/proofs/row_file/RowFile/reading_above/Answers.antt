@@ -4,7 +4,7 @@ use Rattle.std.specs.Option.{option_copied, option_map}
 use Rattle.skk_calls.specs.Completions.{reading_of}
 use Rattle.skk_calls.specs.Walks.{next_above}
 use Rattle.dict_files.specs.Walked.{is_walked, walked_readings}
-use Rattle.dict_files.proofs.Index.{reading_found}
+use Rattle.dict_files.proofs.Walking.{reading_found}
 use Rattle.dict_files.proofs.row_file.RowFile.reading_above.Goals as goal
 use Rattle.dict_files.proofs.row_file.RowFile.reading_above.Goals.{After-item_above}
 
