@@ -17,6 +17,7 @@ impl Session {
     ghost use Rattle.std.specs.Str.{chars};
     ghost use Rattle.skk_text.specs.Text.{byte_len};
     ghost use Rattle.session_machine.specs.Session.{before_key, choice_at, has_room, noting, shortened, with_choice};
+    ghost use Rattle.session_machine.specs.declared.frame.State.TheVariants.{Plain};
     ghost use Rattle.session_machine.specs.Session.{with_insertion, with_state};
 
     // Takes the state of the frame out, which is plain then, and the notice of the key before away.
@@ -26,6 +27,30 @@ impl Session {
     {
         self.notice = SessionNotice::Step(Notice::Empty);
         mem::replace(&mut self.frame.state, State::Plain(Pending::new()))
+    }
+
+    // Takes the letters that wait out of a frame in the plain state, and the notice of the key before away: what
+    // `take_state` does, without a move of the whole state.
+    pub(crate) fn take_pending(&mut self) -> Option<Pending>
+        ensures { MatchOption result (self.new ≡ self.old)
+            (λ pending. (self.old.frame.state ≡ Plain pending) × (self.new ≡ before_key self.old)) }
+    {
+        let State::Plain(pending) = &mut self.frame.state else {
+            return None;
+        };
+        let taken = mem::replace(pending, Pending::new());
+        self.notice = SessionNotice::Step(Notice::Empty);
+        Some(taken)
+    }
+
+    // Puts letters that wait into the frame, which is in the plain state then.
+    pub(crate) fn put_pending(&mut self, pending: Pending)
+        ensures { self.new ≡ with_state self.old (Plain pending) }
+    {
+        match &mut self.frame.state {
+            State::Plain(waiting) => *waiting = pending,
+            state => *state = State::Plain(pending),
+        }
     }
 
     // Puts another state into the frame.

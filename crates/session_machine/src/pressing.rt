@@ -31,6 +31,9 @@ pub(crate) fn press_key<C: Caller>(
     ensures { Says (pressed rules.now session.old key) (after result session.new)
         (spoken C.number C.said caller.old) (spoken C.number C.said caller.new) }
 {
+    if let Some(pending) = session.take_pending() {
+        return press_in_plain(session, alloc, rules, pending, key, caller);
+    }
     match session.take_state() {
         State::Plain(pending) => press_in_plain(session, alloc, rules, pending, key, caller),
         State::Reading(reading) => press_in_reading(session, alloc, rules, reading, key, caller),
@@ -73,7 +76,7 @@ fn type_plain(
     };
     let PlainDo { insert, then } = press_plain(alloc, &mut plain, rules, key)?;
     session.frame.mode = plain.mode;
-    session.put_state(State::Plain(plain.pending));
+    session.put_pending(plain.pending);
     session.insert(insert.as_str())?;
     Ok(then)
 }

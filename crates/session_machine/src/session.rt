@@ -125,7 +125,7 @@ impl Session {
     {
         let mut session = self;
         for key in keys {
-            session = session.press(alloc, rules, *key, caller)?;
+            press_key(&mut session, alloc, rules, *key, caller)?;
         }
         Ok(session)
     }

@@ -2,28 +2,31 @@ use Rattle.std.proofs.Common.{◌≡◌, ◌∙◌, ◌+◌, ◌++◌, sym, ap, 
 use Rattle.std.proofs.Math.ListN.{drop_of_length-le}
 use Rattle.std.proofs.lemmas.List.{at_drop_more}
 use Rattle.session_machine.specs.Pressed.{all_pressed}
-use Rattle.session_machine.specs.Said.{Says, spoken}
+use Rattle.session_machine.specs.Said.{Says, after, spoken}
 use Rattle.session_machine.proofs.Saying.{Goes, goes-on, goes-first, says-on, says-first, says-session}
 use Rattle.session_machine.proofs.session.Session.play.Goals as goal
 
-pub returns-in_err-session : goal.returns-in_err-session
-returns-in_err-session g c =
+pub returns-in_err-press_key : goal.returns-in_err-press_key
+returns-in_err-press_key g c =
     let rules = c.args.rules.now in
     let session = c.loop-key.session in
+    let reached = c.press_key.new.session in
     let behind = drop (c.loop-key.key-index + 1) c.args.keys.now in
     says-on _ _ c.loop-key.invariant.dialog _ _ _ _ c.loop-key.invariant.goes c.loop-key.invariant.number
     c.loop-key.invariant.grows
     (subst (λ meaning. Says meaning c.from_residual.result (spoken g.C.Caller.number g.C.Caller.said c.loop-key.caller)
-    (spoken g.C.Caller.number g.C.Caller.said c.press.new.caller))
+    (spoken g.C.Caller.number g.C.Caller.said c.press_key.new.caller))
     (sym (at_drop_more (all_pressed rules session) c.args.keys.now c.loop-key.key-index _ c.loop-key-test.true))
-    (says-first rules session _ behind c.press.result c.from_residual.result c.in_err-session.field-0.0 _ _
-    c.press.ensures c.in_err-session.was c.from_residual.ensures.1))
+    (says-first rules session _ behind (after c.press_key.result reached) c.from_residual.result
+    c.in_err-press_key.field-0.0 _ _ c.press_key.ensures (ap (λ r. after r reached) c.in_err-press_key.was)
+    c.from_residual.ensures.1))
 
 pub loop-key-preserved : goal.loop-key-preserved
 loop-key-preserved g c =
     let rules = c.args.rules.now in
     let session = c.loop-key.session in
-    let says = c.in_ok-session.ensures in
+    let reached = c.press_key.new.session in
+    let says = c.in_ok-press_key.ensures in
     let behind = drop (c.loop-key.key-index + 1) c.args.keys.now in
     record {
       dialog = c.loop-key.invariant.dialog ++ says.dialog;
@@ -31,9 +34,9 @@ loop-key-preserved g c =
           says.grows ∙ ap (λ d. d ++ says.dialog) c.loop-key.invariant.grows
           ∙ append_assoc (g.C.Caller.said c.args.caller.now) c.loop-key.invariant.dialog says.dialog;
       goes = goes-on _ _ _ c.loop-key.invariant.dialog says.dialog c.loop-key.invariant.goes
-          (subst (λ meaning. Goes meaning says.dialog (all_pressed rules c.in_ok-session.session behind))
+          (subst (λ meaning. Goes meaning says.dialog (all_pressed rules reached behind))
           (sym (at_drop_more (all_pressed rules session) c.args.keys.now c.loop-key.key-index _ c.loop-key-test.true))
-          (goes-first rules session _ behind c.in_ok-session.session says.dialog says.ok));
+          (goes-first rules session _ behind reached says.dialog says.ok));
       number = says.number ∙ c.loop-key.invariant.number;
     }
 
