@@ -1,5 +1,5 @@
-//! Tests of the public calls of the crates of the mode machine, lowest first: rules, plain kana, the reading state, the
-//! candidate state, and sessions.
+//! Tests of the public calls of the crates of the mode machine, lowest first: rules, plain kana, the reading state,
+//! numbers in entries, the candidate state, and sessions.
 //!
 //! They stand above those crates, so that none of these is proved once with its tests and once without. It has no
 //! public item.
@@ -9,6 +9,8 @@
 mod candidates;
 #[cfg(test)]
 mod distinct;
+#[cfg(test)]
+mod numbers;
 #[cfg(test)]
 mod plain;
 #[cfg(test)]
