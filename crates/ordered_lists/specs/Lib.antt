@@ -2,3 +2,4 @@ pub mod KeyOrders
 pub mod OrderLaws
 pub mod Orders
 pub mod PlaceLaws
+pub mod PrefixLaws

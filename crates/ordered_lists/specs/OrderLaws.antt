@@ -5,7 +5,7 @@ use Rattle.std.proofs.Common.{List, [], ◌∷◌, map, length, get_or, find, re
 use Rattle.std.specs.Cmp.{IsStrictWeakOrder}
 use Rattle.std.specs.List.{filter, list_all, list_any, Contains}
 use Rattle.std.specs.List.Sorted.{IsPermutation, IsSortedBy, IsStableBy, ties}
-use Rattle.std.proofs.lemmas.Bool.{and_from, and_parts, cases_Bool, not-true}
+use Rattle.std.proofs.lemmas.Bool.{and_from, and_parts, cases_Bool, not-true, not_from_false}
 use Rattle.std.proofs.lemmas.List.{get_or-map, length-map}
 use Rattle.std.proofs.lemmas.List.Elements.{All-contains, Contains-append_right}
 use Rattle.std.proofs.lemmas.List.Sorted.{All-permutation, sorted_far, length_permutation, list_any-IsPermutation}
@@ -14,7 +14,7 @@ use Rattle.std.proofs.lemmas.List.Sorted.{IsPermutation-trans, IsPermutation-con
 use Rattle.std.proofs.lemmas.List.Sums.{AllPass-from_list_all, list_all-from_AllPass}
 use Rattle.skk_text.specs.FilterLaws.{filter_same, none_kept, some_passes}
 use Rattle.skk_text.specs.Pairs.{all_pairs}
-use Rattle.skk_text.specs.PairsLaws.{list_all-filter, pairs_weaker}
+use Rattle.skk_text.specs.PairsLaws.{list_all-filter, list_all-weaker, pairs_weaker}
 use Rattle.ordered_lists.specs.Orders.{Order, insert_by, sort_by, before, differ, item_of}
 
 -- Items that move
@@ -54,6 +54,33 @@ pub list_all-sort_by : {X : Type 0} (before : X → X → Bool) (p : X → Bool)
     → list_all p (sort_by before xs) ≡ true
 list_all-sort_by before p xs all = holds_moved p xs (sort_by before xs) (sort_moves before xs) all
 
+-- what each two items pass, whichever of them comes first, they pass with one more at its place
+pub all_pairs-insert_by : {X : Type 0} (before test : X → X → Bool)
+    → ((x y : X) → test x y ≡ true → test y x ≡ true) → (x : X) (xs : List X) → list_all (test x) xs ≡ true
+    → all_pairs test xs ≡ true → all_pairs test (insert_by before x xs) ≡ true
+all_pairs-insert_by before test turned x [] all pairs = refl
+all_pairs-insert_by {X} before test turned x (y ∷ ys) all pairs =
+    let others = and_parts (test x y) (list_all (test x) ys) all in
+    let parts = and_parts (list_all (test y) ys) (all_pairs test ys) pairs in
+    by (before x y) (turned x y others.0) parts.0 (all_pairs-insert_by before test turned x ys others.1 parts.1)
+  where
+    by : (b : Bool) → test y x ≡ true → list_all (test y) ys ≡ true → all_pairs test (insert_by before x ys) ≡ true
+        → all_pairs test (cond b (x ∷ y ∷ ys) (y ∷ insert_by before x ys)) ≡ true
+    by true one above rest = and_from (list_all (test x) (y ∷ ys)) (all_pairs test (y ∷ ys)) all pairs
+    by false one above rest =
+        and_from (list_all (test y) (insert_by before x ys)) (all_pairs test (insert_by before x ys))
+        (list_all-insert_by before (test y) x ys one above) rest
+
+-- and once they are in order
+pub all_pairs-sort_by : {X : Type 0} (before test : X → X → Bool)
+    → ((x y : X) → test x y ≡ true → test y x ≡ true) → (xs : List X) → all_pairs test xs ≡ true
+    → all_pairs test (sort_by before xs) ≡ true
+all_pairs-sort_by before test turned [] pairs = refl
+all_pairs-sort_by before test turned (x ∷ xs) pairs =
+    let parts = and_parts (list_all (test x) xs) (all_pairs test xs) pairs in
+    all_pairs-insert_by before test turned x (sort_by before xs) (list_all-sort_by before (test x) xs parts.0)
+    (all_pairs-sort_by before test turned xs parts.1)
+
 -- an item that is before all others is put at their front
 pub insert_first : {X : Type 0} (before : X → X → Bool) (x : X) (xs : List X) → list_all (before x) xs ≡ true
     → insert_by before x xs ≡ x ∷ xs
@@ -66,6 +93,20 @@ pub sort_stays : {X : Type 0} (before : X → X → Bool) (xs : List X) → all_
 sort_stays before [] pairs = refl
 sort_stays before (x ∷ xs) pairs =
     grind (arith, sort_stays before xs, insert_first before x xs)
+
+-- Items that pass a test
+
+-- of items that all fail none is kept
+none_of_all : {X : Type 0} (p : X → Bool) (xs : List X) → list_all (λ x. not (p x)) xs ≡ true → filter p xs ≡ []
+none_of_all p [] none = refl
+none_of_all p (x ∷ xs) none = grind (arith, none_of_all p xs)
+
+-- of an item that fails and those behind it none is kept, where all that it is before fail
+pub none_behind : {X : Type 0} (before : X → X → Bool) (p : X → Bool) (x : X) (xs : List X) → p x ≡ false
+    → ((y : X) → before x y ≡ true → p y ≡ false) → list_all (before x) xs ≡ true → filter p (x ∷ xs) ≡ []
+none_behind before p x xs fails later all =
+    rw fails (none_of_all p xs (list_all-weaker (before x) (λ y. not (p y))
+    (λ y e. not_from_false (p y) (later y e)) xs all))
 
 -- Items that stand in a list
 

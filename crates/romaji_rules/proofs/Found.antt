@@ -1,7 +1,7 @@
 -- The first element that a test finds, and what a test says of each element.
 use Rattle.std.proofs.Common.{◌≡◌, ℕ, ◌<◌, Bool, true, false, cond, ◌||◌, None, Some, List, [], ◌∷◌, refl, sym, ◌∙◌, ap}
 use Rattle.std.proofs.Common.{subst, inl, inr, ◌⊎◌, length, arith, find, zero, suc, slice_index_or}
-use Rattle.std.specs.List.{list_any, list_all, Contains}
+use Rattle.std.specs.List.{filter, list_any, list_all, Contains}
 use Rattle.std.proofs.lemmas.List.Elements.{Contains-append_right, Contains-get_or}
 use Rattle.std.proofs.lemmas.List.Folds.{list_any_at, list_all_at}
 use Rattle.std.proofs.lemmas.Bool.{both_ways}
@@ -53,3 +53,14 @@ module _ {X : Type 0} (p : X → Bool) where
           → (b || list_any p ys) ≡ false
       by true found rest = cc
       by false found rest = rest found
+
+  -- what is found among those that a filter keeps is what is found among all, where it keeps each that passes
+  pub find-filter : (keeps : X → Bool) → ((x : X) → keeps x ≡ false → p x ≡ false) → (xs : List X)
+      → find p (filter keeps xs) ≡ find p xs
+  find-filter keeps so [] = refl
+  find-filter keeps so (x ∷ xs) = by (keeps x) refl (find-filter keeps so xs)
+    where
+      by : (b : Bool) → keeps x ≡ b → find p (filter keeps xs) ≡ find p xs
+          → find p (cond b (x ∷ filter keeps xs) (filter keeps xs)) ≡ cond (p x) (Some x) (find p xs)
+      by true e rest = ap (λ o. cond (p x) (Some x) o) rest
+      by false e rest = rw (so x e) rest

@@ -1,57 +1,26 @@
 -- Which rule of those in order by their inputs begins with a text and goes on.
-use Rattle.std.proofs.Common.{◌≡◌, ℕ, ◌<◌, Bool, true, false, cond, ◌&&◌, ◌||◌, nat_lt, nat_eq, Some, List, [], ◌∷◌}
-use Rattle.std.proofs.Common.{◌++◌, length, drop, refl, sym, ap, subst, ◌∙◌, Ordering, Less, Equal, Greater}
+use Rattle.std.proofs.Common.{◌≡◌, ℕ, Bool, true, false, cond, ◌&&◌, ◌||◌, nat_lt, nat_eq, Some, List, [], ◌∷◌}
+use Rattle.std.proofs.Common.{◌++◌, length, drop, refl, sym, ap, ◌∙◌}
 use Rattle.std.specs.List.{list_all, starts_with}
-use Rattle.std.specs.Ordering.{nat_cmp, ordering_reverse, MatchOrdering}
 use Rattle.std.proofs.lemmas.Bool.{and_parts, and_right, both_ways, false_from_ne_true}
 use Rattle.std.proofs.lemmas.Bool.Decides.{Decides-eqb, same_from_decides}
-use Rattle.std.proofs.lemmas.Cmp.{nat_cmp_total, ranked, tied_itself}
 use Rattle.std.proofs.lemmas.List.{append-nil}
 use Rattle.std.proofs.lemmas.List.Sorted.{Contains-permutation, IsPermutation-sym}
 use Rattle.std.proofs.lemmas.Slice.Eq.{starts_is}
 use Rattle.ordered_lists.specs.KeyOrders.{bytes_less, byte_keys}
 use Rattle.ordered_lists.specs.OrderLaws.{items_ascend, sort_moves}
 use Rattle.ordered_lists.specs.Orders.{ascend, before, item_above, passes, sort_by}
+use Rattle.ordered_lists.specs.PrefixLaws.{between, longer_less}
 use Rattle.romaji_rules.specs.declared.rule.Rule.{Rule}
 use Rattle.romaji_rules.specs.Fed.{IsProperPrefix}
 use Rattle.romaji_rules.specs.Fitting.{inputs_differ}
+use Rattle.romaji_rules.specs.RuleIndexes.{above_in, input}
 use Rattle.romaji_rules.specs.Typed.{begins_input}
 use Rattle.romaji_rules.proofs.Begins.{begins_input-Decides, prefix-Decides}
 use Rattle.romaji_rules.proofs.Found.{list_all-Contains}
 
--- the input of a rule
-abbrev pub input : Rule → List ℕ
-input rule = rule.input
-
--- Beginnings
-
--- a text stands before what goes on from it
-longer_less : (text : List ℕ) (c : ℕ) (rest : List ℕ) → bytes_less text (text ++ c ∷ rest) ≡ true
-longer_less [] c rest = refl
-longer_less (t ∷ text) c rest = rw (tied_itself nat_cmp_total t) (longer_less text c rest)
-
--- between them stands only what goes on from it
-between : (text x ys : List ℕ) → bytes_less text x ≡ true → bytes_less x (text ++ ys) ≡ true
-    → (xs : List ℕ) × (x ≡ text ++ xs)
-between [] x ys low high = (x, refl)
-between (t ∷ text) [] ys low high = absurd (both_ways false refl low)
-between (t ∷ text) (c ∷ x) ys low high = by (nat_cmp t c) refl (between text x ys)
-  where
-    by : (o : Ordering) → nat_cmp t c ≡ o
-        → (bytes_less text x ≡ true → bytes_less x (text ++ ys) ≡ true → (xs : List ℕ) × (x ≡ text ++ xs))
-        → (xs : List ℕ) × ((c ∷ x) ≡ (t ∷ text) ++ xs)
-    by Less e later =
-        let other : nat_cmp c t ≡ Greater = nat_cmp_total.antisymm c t ∙ ap ordering_reverse e in
-        absurd (both_ways (bytes_less (c ∷ x) ((t ∷ text) ++ ys)) (rw other refl) high)
-    by Equal e later =
-        let same : t ≡ c = subst (λ o. MatchOrdering o (t < c) (t ≡ c) (c < t)) e (ranked t c (nat_cmp t c) refl) in
-        let other : nat_cmp c t ≡ Equal = nat_cmp_total.antisymm c t ∙ ap ordering_reverse e in
-        let rest = later (rw e at low) (rw other at high) in
-        (rest.0, ap (λ n. n ∷ x) (sym same) ∙ ap (λ bs. t ∷ bs) rest.1)
-    by Greater e later = absurd (both_ways (bytes_less (t ∷ text) (c ∷ x)) (rw e refl) low)
-
 -- whether the input of a rule begins with the text and goes on
-abbrev begins : List ℕ → Rule → Bool
+abbrev pub begins : List ℕ → Rule → Bool
 begins text rule = nat_lt (length text) (length rule.input) && starts_with nat_eq rule.input text
 
 -- Rules that ascend
@@ -131,8 +100,8 @@ module _ (rules : List Rule) (differ : inputs_differ rules ≡ true) (text : Lis
       )
 
   -- it begins one where the first that is greater begins with it
-  pub begins_in_order : begins_input rules text ≡ passes (λ rule. starts_with nat_eq rule.input text)
-      (item_above input byte_keys text (sort_by (before input byte_keys) rules))
+  pub begins_in_order : begins_input rules text
+      ≡ passes (λ rule. starts_with nat_eq rule.input text) (above_in rules text)
   begins_in_order =
       same_begins
       ∙ begins_ascending text (sort_by (before input byte_keys) rules) (items_ascend input byte_keys rules differ)

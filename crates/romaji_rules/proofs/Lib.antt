@@ -8,4 +8,5 @@ pub mod Found
 pub mod InOrder
 pub mod ReadLines
 pub mod Rows
+pub mod Slots
 pub mod Step

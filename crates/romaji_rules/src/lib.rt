@@ -6,8 +6,8 @@
 //! define, which `one_step` says is the only one, and `Rules::flush` gives out what is pending, of which `one_flush`
 //! says the same. `feed` is two calls, which may be made one by one: `Rules::extend` reads a letter that goes on with
 //! what is pending, and `Rules::feed_anew` one that does not. `Rules::goes_on` is the test of that alone. Each of them
-//! looks for a text by halves, among the places of the rules in order by their inputs, and takes no memory: an
-//! `OutRef` is what comes out, where it stands in the rules, and is copied in the kana that it is asked for.
+//! looks for a text by halves among few rules, those whose inputs have its slot, and takes no memory: an `OutRef` is
+//! what comes out, where it stands in the rules, and is copied in the kana that it is asked for.
 #![tactic(auto)]
 
 mod kana;
@@ -19,6 +19,7 @@ mod piece;
 mod rule;
 mod rule_fault;
 mod rule_file;
+mod rule_index;
 mod rule_line;
 mod rule_list;
 mod rules;

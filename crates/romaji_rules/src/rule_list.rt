@@ -1,39 +1,36 @@
-ghost use Rattle.std.specs.Prelude.{◌≡◌, ◌∷◌, ◌++◌, [], true, None, length, nat_eq, position};
-ghost use Rattle.std.specs.List.{starts_with};
+ghost use Rattle.std.specs.Prelude.{◌≡◌, ◌∷◌, ◌++◌, [], true, None, length, position};
 ghost use Rattle.std.specs.Prelude.{IfOk};
 ghost use Rattle.std.specs.Option.{option_copied};
-ghost use Rattle.ordered_lists.specs.Orders.{passes};
 ghost use Rattle.romaji_rules.specs.Fitting.{inputs_differ};
 ghost use Rattle.romaji_rules.specs.RuleFiles.{has_bad_next};
 ghost use Rattle.romaji_rules.specs.Standing.{IsStanding};
 ghost use Rattle.romaji_rules.specs.Typed.{rule_of, begins_input};
 
 use crate::rule::Rule;
+use crate::rule_index::RuleIndex;
 use crate::standing::Standing;
-use ordered_lists::Places;
 use skk_text::Memory;
 use std::alloc::Global;
 use std::marker::Model;
 
-/// Rules in the order in which they came, of which no two have one input. Beside them stand the places of all of
-/// them in order by their inputs, so that a text is looked for by halves.
+/// Rules in the order in which they came, of which no two have one input. Beside them stands an index, so that a text
+/// is looked for by halves among few of them.
 #[derive(Debug, Drop)]
 pub struct RuleList {
     rules: Vec<Rule>,
-    places: Places,
+    index: RuleIndex,
 }
 
 impl Model for RuleList {
     ghost use Rattle.std.specs.Prelude.{List};
-    ghost use Rattle.ordered_lists.specs.KeyOrders.{byte_keys};
-    ghost use Rattle.ordered_lists.specs.Orders.{IsIndex};
     ghost use Rattle.romaji_rules.specs.declared.rule.Rule.{Rule};
+    ghost use Rattle.romaji_rules.specs.RuleIndexes.{IsRuleIndex};
 
     ghost Value = { List Rule };
 
     ghost view = { λ l. l.rules.items };
 
-    ghost invariant = { λ l. IsIndex (λ (rule : Rule). rule.input) byte_keys l.rules.items l.places l.rules.items };
+    ghost invariant = { λ l. IsRuleIndex l.rules.items l.index };
 }
 
 impl RuleList {
@@ -43,17 +40,18 @@ impl RuleList {
     {
         RuleList {
             rules: Vec::new(alloc),
-            places: Places::new(alloc),
+            index: RuleIndex::new(alloc),
         }
     }
 
-    /// These rules.
+    /// These rules. Takes time in their number with one logarithm in it, and for each the move of the places behind its
+    /// own in its slot.
     pub fn of(alloc: Global, rules: Vec<Rule>) -> Result<RuleList, Memory>
         requires { inputs_differ rules.items ≡ true }
         ensures { IfOk result (λ list. list ≡ rules.items) }
     {
-        let places = Places::of(alloc, &rules)?;
-        Ok(RuleList { rules, places })
+        let index = RuleIndex::of(alloc, &rules)?;
+        Ok(RuleList { rules, index })
     }
 
     /// The rules and one more behind them.
@@ -63,38 +61,35 @@ impl RuleList {
     {
         let RuleList {
             mut rules,
-            mut places,
+            mut index,
         } = self;
-        places.add(&rules, &rule.input.as_slice())?;
+        index.add(&rules, &rule)?;
         rules.push(rule)?;
-        Ok(RuleList { rules, places })
+        Ok(RuleList { rules, index })
     }
 
     /// The rule whose input is the text. Takes time with a logarithm in the number of rules.
     pub fn rule_of(&self, text: &[u8]) -> Option<&Rule>
         ensures { option_copied result ≡ rule_of self.now text.now }
     {
-        self.places.item_of(&self.rules, &text)
+        self.index.look_up(&self.rules, text).0
     }
 
     /// Whether some input begins with the text and goes on. Takes time with a logarithm in the number of rules.
     pub fn begins_input(&self, text: &[u8]) -> bool
         ensures { result ≡ begins_input self.now text.now }
     {
-        begins(self.places.item_above(&self.rules, &text), text)
+        self.index.look_up(&self.rules, text).1
     }
 
     /// What the text is among the inputs. Takes time with a logarithm in the number of rules.
     pub fn standing(&self, text: &[u8]) -> Standing<'_>
         ensures { IsStanding self.now text.now result }
     {
-        let (rule, above) = self.places.item_and_above(&self.rules, &text);
-        if begins(above, text) {
-            return Standing::Begins;
-        }
-        match rule {
-            Some(rule) => Standing::Input(rule),
-            None => Standing::Neither,
+        match self.index.look_up(&self.rules, text) {
+            (_, true) => Standing::Begins,
+            (Some(rule), false) => Standing::Input(rule),
+            (None, false) => Standing::Neither,
         }
     }
 
@@ -120,15 +115,5 @@ impl RuleList {
     {
         let next = rule.next.as_slice();
         !next.is_empty() && (!self.begins_input(next) || self.begins_input(rule.input.as_slice()))
-    }
-}
-
-// Whether there is a rule whose input begins with the text.
-fn begins(rule: Option<&Rule>, text: &[u8]) -> bool
-    ensures { result ≡ passes (λ rule. starts_with nat_eq rule.input text.now) (option_copied rule.entry) }
-{
-    match rule {
-        Some(rule) => rule.input.as_slice().starts_with(text),
-        None => false,
     }
 }
