@@ -130,19 +130,11 @@ inside_exact = one_by-exact SaysInBlock word_inside inside_finds
 
 -- what closes a block is no text in it
 closed : (text end : List ℕ) → block_end text ≡ Some end → word_inside text ≡ None
-closed text end e =
-    elim (chosen (closes_block text) _ _ _ e) [
-      | inl closes ↦ rw closes.0 refl
-      | inr inside ↦ absurd (none-some end inside.1)
-    ]
+closed text end e = grind arith
 
 -- and what opens one is no text alone
 opened : (part : Part) (text okuri : List ℕ) → okuri_opened part text ≡ Some okuri → if_single part text ≡ None
-opened part text okuri e =
-    elim (chosen (opens_block part text) _ _ _ e) [
-      | inl opens ↦ rw opens.0 refl
-      | inr alone ↦ absurd (none-some okuri alone.1)
-    ]
+opened part text okuri e = grind arith
 
 block_exact : (part : Part) → IsExact (whole_block part)
 block_exact part =

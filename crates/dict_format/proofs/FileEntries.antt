@@ -1,13 +1,11 @@
 -- The entries of a file, one after another.
-use Rattle.std.proofs.Common.{◌≡◌, ◌≤◌, ◌<◌, ◌+◌, ◌∙◌, sym, ap, subst, ℕ, Bool, true, false, List, [], ◌∷◌, ◌++◌}
+use Rattle.std.proofs.Common.{◌≡◌, ◌≤◌, ◌∙◌, sym, ap, subst, ℕ, List, [], ◌∷◌, ◌++◌}
 use Rattle.std.proofs.Common.{length, Result, Ok, Err, IfOk, IfErr, refl, arith, inl, inr}
+use Rattle.std.proofs.lemmas.Bool.{cases_Bool}
 use Rattle.std.proofs.lemmas.List.{append_assoc, append-nil}
 use Rattle.std.specs.Str.{IsUtf8}
-use Rattle.skk_text.specs.Lines.{lines_of}
 use Rattle.skk_text.specs.Results.{AnswersUnless}
 use Rattle.skk_text.specs.declared.text_file.TextFault.{TextFault}
-use Rattle.skk_calls.specs.declared.part.Part.{Part}
-use Rattle.skk_calls.specs.declared.part.Part.TheVariants.{Nasi}
 use Rattle.skk_calls.specs.Rows.{Row}
 use Rattle.dict_format.specs.declared.file.FileFault.{FileFault}
 use Rattle.dict_format.specs.declared.file.FileFault.TheVariants.{Memory, NoText}
@@ -15,8 +13,7 @@ use Rattle.dict_format.specs.declared.file.Listed.{Listed}
 use Rattle.dict_format.specs.declared.reason.LineReason.{LineReason}
 use Rattle.dict_format.specs.declared.reason.LineReason.TheVariants.{Twice}
 use Rattle.dict_format.specs.FileBuilding.{listed_with, refused_with}
-use Rattle.dict_format.specs.FileLines.{FileEntry, Takes, TakeAll, has_key, Lists, file_limit, none_listed}
-use Rattle.dict_format.specs.FileLines.{entries_of}
+use Rattle.dict_format.specs.FileLines.{FileEntry, Takes, TakeAll, has_key, Lists, file_limit, none_listed, entries_of}
 use Rattle.dict_format.specs.LeftLines.{LeftLines, entries_left}
 use Rattle.dict_format.specs.Lines.{SpellsRow}
 use Rattle.dict_format.specs.Reading.{line_reading}
@@ -27,11 +24,11 @@ use Rattle.dict_format.proofs.LineReading.{row_or_reason, line_reading-row, line
 -- an entry that spells a row
 pub row-taken : (before : Listed) (entry : FileEntry) (row : Row) → SpellsRow entry.part entry.text row
     → Takes before entry (listed_with before entry.number row)
-row-taken before entry row spells = by (has_key before.book row.key) refl
-  where
-    by : (b : Bool) → has_key before.book row.key ≡ b → Takes before entry (listed_with before entry.number row)
-    by false new = inl (row, (spells, new), rw new refl)
-    by true again = inr (Twice, inr (refl, row, spells, again), rw again refl)
+row-taken before entry row spells =
+    elim (cases_Bool (has_key before.book row.key)) [
+      | inl again ↦ inr (Twice, inr (refl, row, spells, again), rw again refl)
+      | inr new ↦ inl (row, (spells, new), rw new refl)
+    ]
 
 -- what was listed before an entry, with what is read of it
 abbrev pub next_of : Listed → FileEntry → Result Row LineReason → Listed
@@ -42,15 +39,11 @@ next_of before entry (Err reason) = refused_with before entry.number reason
 pub takes-is : (before : Listed) (entry : FileEntry) (after : Listed) → Takes before entry after
     → after ≡ next_of before entry (line_reading entry.part entry.text)
 takes-is before entry after (inl (row, (spells, new), is)) =
-    let same : listed_with before entry.number row
-    ≡ record { book = before.book ++ row ∷ []; bad = before.bad } = rw new refl in
-    is ∙ sym same ∙ sym (ap (next_of before entry) (line_reading-row entry.part entry.text row spells))
+    grind (arith, line_reading-row entry.part entry.text row spells)
 takes-is before entry after (inr (reason, inl first, is)) =
-    is ∙ sym (ap (next_of before entry) (line_reading-reason entry.part entry.text reason first))
+    grind (arith, line_reading-reason entry.part entry.text reason first)
 takes-is before entry after (inr (reason, inr (twice, row, spells, again), is)) =
-    let same : listed_with before entry.number row ≡ refused_with before entry.number Twice = rw again refl in
-    is ∙ ap (refused_with before entry.number) twice ∙ sym same
-    ∙ sym (ap (next_of before entry) (line_reading-row entry.part entry.text row spells))
+    grind (arith, line_reading-row entry.part entry.text row spells)
 
 -- so do all entries
 pub all-once : (entries : List FileEntry) (before after other : Listed) → TakeAll before entries after
@@ -139,5 +132,4 @@ only-listed bytes text (Err fault) same takes memory listed lists = inl (ap Err 
 -- an answer whose only fault is the want of memory tells no fault of a text
 pub memory-alone : (answer : Result Listed FileFault) (fault : TextFault)
     → IfErr answer (λ told. told ≡ Memory) → answer ≡ Err (NoText fault) → ⊥
-memory-alone (Ok found) fault memory told = cc
-memory-alone (Err given) fault memory told = cc
+memory-alone answer fault memory told = grind arith

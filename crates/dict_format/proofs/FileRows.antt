@@ -1,10 +1,8 @@
 -- The keys of the rows that are listed.
-use Rattle.std.proofs.Common.{◌≡◌, ℕ, Bool, true, false, not, ◌&&◌, ◌||◌, if◌then◌else◌, List, [], ◌∷◌, ◌++◌, refl, sym}
-use Rattle.std.proofs.Common.{ap, ◌∙◌}
-use Rattle.std.specs.List.{list_all}
-use Rattle.std.proofs.lemmas.Bool.{and_from, or_parts, not-true, not-false, not_from_false}
+use Rattle.std.proofs.Common.{◌≡◌, ℕ, Bool, true, false, not, ◌||◌, if◌then◌else◌, List, [], ◌∷◌, ◌++◌, refl}
+use Rattle.std.proofs.Common.{sym, ap, ◌∙◌, arith}
+use Rattle.std.proofs.lemmas.Bool.{not-true}
 use Rattle.std.proofs.lemmas.List.Folds.{list_any-append}
-use Rattle.skk_text.specs.PairsLaws.{list_all-weaker, pairs_appended}
 use Rattle.skk_calls.specs.KeyLaws.{same_key_equal, same_other}
 use Rattle.skk_calls.specs.declared.part.Part.{Part}
 use Rattle.skk_calls.specs.declared.part.Part.TheVariants.{Nasi, Ari}
@@ -41,16 +39,7 @@ pub knows-added : (part : Part) (before after : Readings) (key : RowKey) → key
     known_in after other ≡ (if same_part part other then with_new (λ text. text) known key.reading else known)))
     → (other : RowKey) → knows after other ≡ (knows before other || same_key key other)
 knows-added part before after key is added other =
-    ap (λ texts. has_text texts other.reading) (added other.part) ∙ by (same_part part other.part)
-    ∙ ap (λ p. knows before other || (same_part p other.part && same_text key.reading other.reading)) (sym is)
-  where
-    known : List (List ℕ)
-    known = known_in before other.part
-
-    by : (b : Bool) → has_text (if b then with_new (λ text. text) known key.reading else known) other.reading
-        ≡ (has_text known other.reading || (b && same_text key.reading other.reading))
-    by true = text-added known key.reading other.reading
-    by false = sym (or_none (has_text known other.reading))
+    grind (arith, added other.part, text-added (known_in before other.part) key.reading other.reading)
 
 -- what is known behind the key of a line: it was a new one where no row has it
 module _ (rows : List Row) (before after : Readings) (key : RowKey) (is_new : Bool) (knew : KnowsKeys rows before)
@@ -78,8 +67,4 @@ module _ (rows : List Row) (before after : Readings) (key : RowKey) (is_new : Bo
   }
     where
       by : (other : RowKey) (b : Bool) → same_key key other ≡ b → (has_key rows other || b) ≡ has_key rows other
-      by other true e =
-          let there : has_key rows other ≡ true = ap (has_key rows) (sym (same_key_equal key other e))
-          ∙ sym (knew.known key) ∙ not-false (knows before key) (sym tells ∙ old) in
-          rw there refl
-      by other false e = or_none (has_key rows other)
+      by other b e = grind (arith, e, same_key_equal key other, knew.known key, tells)

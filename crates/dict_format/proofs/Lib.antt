@@ -7,6 +7,7 @@ pub mod FileExamples
 pub mod FileLineExamples
 pub mod FileRows
 pub mod FilesAgain
+pub mod Forms
 pub mod Hints
 pub mod ItemsAgain
 pub mod KeyReading

@@ -1,5 +1,5 @@
 -- Reading a line is the relation: it gives the row that the line spells, or else the first reason that fits it.
-use Rattle.std.proofs.Common.{◌≡◌, ◌↔◌, ◌≤◌, ℕ, Bool, true, false, not, ◌||◌, nat_lt, if◌then◌else◌, ◌⊎◌, inl, inr}
+use Rattle.std.proofs.Common.{◌≡◌, ◌↔◌, ◌≤◌, ℕ, Bool, true, false, nat_lt, if◌then◌else◌, ◌⊎◌, inl, inr}
 use Rattle.std.proofs.Common.{Option, None, Some, Result, Ok, Err, IfOk, IsErrOf, List, [], ◌∷◌, ◌++◌, refl, sym, ap}
 use Rattle.std.proofs.Common.{◌∙◌, subst, arith}
 use Rattle.std.specs.List.{list_all, AllByRecursion}
@@ -15,14 +15,13 @@ use Rattle.exact_readers.specs.Cuts.{cut, without_spaces}
 use Rattle.exact_readers.specs.CutLaws.{cut-none, cut-nowhere}
 use Rattle.exact_readers.specs.Exact.{AreAll}
 use Rattle.exact_readers.specs.Formats.{all}
-use Rattle.exact_readers.specs.ManyLaws.{all-are, all-once}
+use Rattle.exact_readers.specs.ManyLaws.{all-are, all-complete, all-once}
 use Rattle.dict_format.specs.EntryRows.{row_of_line}
 use Rattle.dict_format.specs.declared.reason.LineFault.{LineFault}
 use Rattle.dict_format.specs.declared.reason.LineFault.TheVariants.{Reason, Memory}
 use Rattle.dict_format.specs.declared.reason.LineReason.{LineReason}
 use Rattle.dict_format.specs.declared.reason.LineReason.TheVariants.{LongLine, NoSpace, BadReading, LongReading}
 use Rattle.dict_format.specs.declared.reason.LineReason.TheVariants.{OkuriKey, NoSlash, Block, LongCandidate, Empty}
-use Rattle.dict_format.specs.declared.reason.LineReason.TheVariants.{Twice}
 use Rattle.dict_format.specs.Items.{Item, SpellsItems, item_format}
 use Rattle.exact_readers.specs.Lacking.{lacks}
 use Rattle.dict_format.specs.Lines.{HasBody, HasTexts, SpellsRow}
@@ -38,7 +37,7 @@ use Rattle.dict_format.proofs.LineTexts.{body-sound, body-cut, texts-sound, text
 -- One of each
 
 -- a line has one reading and body at most
-pub body_once : {line reading body r b : List ℕ} → HasBody line reading body → HasBody line r b
+body_once : {line reading body r b : List ℕ} → HasBody line reading body → HasBody line r b
     → (reading ≡ r) × (body ≡ b)
 body_once {line = line} {reading = reading} {body = body} {r = r} {b = b} has other =
     let (rest, at, is) = body-cut line reading body has in
@@ -46,115 +45,19 @@ body_once {line = line} {reading = reading} {body = body} {r = r} {b = b} has ot
     let same = some_pair_parts reading r rest more (sym at ∙ again) in
     (same.0, sym is ∙ ap without_spaces same.1 ∙ also)
 
--- the parts of a line up to its items, and that they are the only ones
-record HasItems (part : Part) (line reading body : List ℕ) (texts : List (List ℕ)) (items : List Item) : Type 0 where
-  has_body : HasBody line reading body
-  has_texts : HasTexts body texts
-  has_items : SpellsItems part texts items
-
-module _ (part : Part) (line : List ℕ) where
-  texts_once : {reading body r b : List ℕ} {texts ts : List (List ℕ)} → HasBody line reading body
-      → HasTexts body texts → HasBody line r b → HasTexts b ts → texts ≡ ts
-  texts_once {body = body} {b = b} {texts = texts} {ts = ts} has between other more =
-      same_Some texts ts (sym (texts-complete body texts between) ∙ ap texts_at (body_once has other).1
-      ∙ texts-complete b ts more)
-
-  items_once : {reading body r b : List ℕ} {texts ts : List (List ℕ)} {items others : List Item}
-      → HasItems part line reading body texts items → HasItems part line r b ts others
-      → (reading ≡ r) × (items ≡ others)
-  items_once {ts = ts} {items = items} {others = others} is also = (
-    (body_once is.has_body also.has_body).0,
-    all-once (item_format part) (item_exact part) items others ts
-        (subst (λ us. SpellsItems part us items)
-        (texts_once is.has_body is.has_texts also.has_body also.has_texts) is.has_items)
-        also.has_items,
-  )
-
-  parts_of : (row : Row) → (is : SpellsRow part line row) → HasItems part line is.reading is.body is.texts is.items
-  parts_of row is = record { has_body = is.has_body; has_texts = is.has_texts; has_items = is.has_items }
-
-  same_row : {reading body r b : List ℕ} {texts ts : List (List ℕ)} {items others : List Item}
-      → HasItems part line reading body texts items → HasItems part line r b ts others
-      → row_of_items (record { part = part; reading = reading }) items
-      ≡ row_of_items (record { part = part; reading = r }) others
-  same_row {r = r} {items = items} is also =
-      let same = items_once is also in
-      ap (λ t. row_of_items (record { part = part; reading = t }) items) same.0
-      ∙ ap (row_of_items (record { part = part; reading = r })) same.1
-
-  -- a line spells one row at most
-  pub row_once : (row other : Row) → SpellsRow part line row → SpellsRow part line other → row ≡ other
-  row_once row other is also =
-      is.row_is ∙ same_row (parts_of row is) (parts_of other also) ∙ sym also.row_is
-
-  -- its key is valid
-  key_none : (row : Row) → SpellsRow part line row → (r b : List ℕ) → HasBody line r b
-      → is_row_key (record { part = part; reading = r }) ≡ false → ⊥
-  key_none row is r b has invalid =
-      both_ways (is_row_key (record { part = part; reading = r })) invalid
-      (ap (λ t. is_row_key (record { part = part; reading = t })) (sym (body_once is.has_body has).0) ∙ is.valid)
-
-  -- and no reason fits one that spells a row
-  pub fits-none : (row : Row) → SpellsRow part line row → (reason : LineReason) → Fits part line reason → ⊥
-  fits-none row is LongLine long = absurd (omega (arith, is.not_long, long))
-  fits-none row is NoSpace none =
-      let (rest, at, _) = body-cut line is.reading is.body is.has_body in
-      none-some _ (sym (cut-nowhere is_space line none) ∙ at)
-  fits-none row is BadReading (r, b, has, bad) =
-      key_none row is r b has (key_is part r has.before true _ _ bad refl refl)
-  fits-none row is LongReading (r, b, has, long) =
-      key_none row is r b has (by (is_bad_reading r) (key_is part r has.before _ true _ refl long refl))
-    where
-      by : (c : Bool) → is_row_key (record { part = part; reading = r }) ≡ not (c || true)
-          → is_row_key (record { part = part; reading = r }) ≡ false
-      by true e = e
-      by false e = e
-  fits-none row is OkuriKey (r, b, has, lacking) =
-      key_none row is r b has (by (is_bad_reading r) (nat_lt (reading_limit part) (byte_len r))
-      (key_is part r has.before _ _ true refl refl lacking))
-    where
-      by : (c d : Bool) → is_row_key (record { part = part; reading = r }) ≡ not (c || (d || true))
-          → is_row_key (record { part = part; reading = r }) ≡ false
-      by true d e = e
-      by false true e = e
-      by false false e = e
-  fits-none row is NoSlash (r, b, has, not_so) =
-      both_ways (is_slashed b) not_so
-      (ap is_slashed (sym (body_once is.has_body has).1) ∙ slashed-texts is.body is.texts is.has_texts)
-  fits-none row is Block (r, b, ts, ari, has, between, none) =
-      none is.items (subst (λ us. SpellsItems part us is.items)
-      (texts_once is.has_body is.has_texts has between) is.has_items)
-  fits-none row is LongCandidate (r, b, ts, items, has, between, spelled, unfit) =
-      let these : HasItems part line r b ts items =
-      record { has_body = has; has_texts = between; has_items = spelled } in
-      let same = (items_once (parts_of row is) these).1 in
-      both_ways (list_all item_fits items) unfit (ap (list_all item_fits) (sym same) ∙ is.fit)
-  fits-none row is Empty (r, b, ts, items, has, between, spelled, silent) =
-      let these : HasItems part line r b ts items =
-      record { has_body = has; has_texts = between; has_items = spelled } in
-      both_ways (says_something row)
-      (ap says_something (is.row_is ∙ same_row (parts_of row is) these) ∙ silent) is.something
-  fits-none row is Twice never = never
-
 -- the key of a valid reading is read
 key_at-valid : (part : Part) (reading : List ℕ) → lacks 0x20 reading ≡ true
     → is_row_key (record { part = part; reading = reading }) ≡ true
     → key_at part reading ≡ Ok (record { part = part; reading = reading })
 unfolding key_at
 key_at-valid part reading none valid =
-    by (is_bad_reading reading) (nat_lt (reading_limit part) (byte_len reading)) (lacks_letter part reading)
-    (sym (key_is part reading none _ _ _ refl refl refl) ∙ valid)
-  where
-    by : (bad long lacking : Bool) → not (bad || (long || lacking)) ≡ true
-        → ◌≡◌ {A = Result RowKey LineReason} (if bad then Err BadReading
-        else if long then Err LongReading
-        else if lacking then Err OkuriKey
-        else Ok (record { part = part; reading = reading }))
-        (Ok (record { part = part; reading = reading }))
-    by true long lacking e = absurd (both_ways false refl e)
-    by false true lacking e = absurd (both_ways false refl e)
-    by false false true e = absurd (both_ways false refl e)
-    by false false false e = refl
+    grind (arith, key_is part reading none _ _ _ refl refl refl)
+
+-- what follows on what followed
+and_then-again : {X Y Z : Type 0} (read : Result X LineReason) (f : X → Result Y LineReason)
+    (g : Y → Result Z LineReason) → and_then (and_then read f) g ≡ and_then read (λ x. and_then (f x) g)
+and_then-again (Ok x) f g = refl
+and_then-again (Err reason) f g = refl
 
 -- What reading tells
 
@@ -163,45 +66,68 @@ abbrev pub NoneFits : Part → List ℕ → List LineReason → Type 0
 NoneFits part line others = AllByRecursion (λ other. Fits part line other → ⊥) others
 
 -- the first of the reasons in a list that fits
-pub record IsFirst (part : Part) (line : List ℕ) (tried : List LineReason) (first : LineReason) : Type 0 where
-  pub earlier : List LineReason
-  pub later : List LineReason
-  pub order : tried ≡ earlier ++ first ∷ later
-  pub fits : Fits part line first
-  pub none_before : NoneFits part line earlier
+abbrev IsFirst : Part → List ℕ → List LineReason → LineReason → Type 0
+IsFirst part line tried first =
+    (earlier later : List LineReason) × (tried ≡ earlier ++ first ∷ later) × Fits part line first
+    × NoneFits part line earlier
 
--- what is told of a line by some reasons: the row that it spells, where none of them fits, or the first that does
-pub record Told (part : Part) (line : List ℕ) (tried : List LineReason) (read : Result Row LineReason) : Type 0 where
-  pub spells : (row : Row) → read ≡ Ok row → SpellsRow part line row × NoneFits part line tried
-  pub first : (reason : LineReason) → read ≡ Err reason → IsFirst part line tried reason
+-- what is told of a line by some reasons, one after another: the first that fits it, or the row that it spells
+Told : Part → List ℕ → List LineReason → Result Row LineReason → Type 0
+Told part line [] read = (row : Row) × SpellsRow part line row × (read ≡ Ok row)
+Told part line (reason ∷ tried) read =
+    (Fits part line reason × (read ≡ Err reason)) ⊎ ((Fits part line reason → ⊥) × Told part line tried read)
 
 module _ (part : Part) (line : List ℕ) where
-  -- a reason that fits is the first
+  -- so a row that is read is spelled
+  told-row : (tried : List LineReason) (read : Result Row LineReason) (row : Row) → Told part line tried read
+      → read ≡ Ok row → SpellsRow part line row
+  unfolding Told
+  told-row [] read row (other, spells, is) e = let same : other ≡ row = cc in subst (SpellsRow part line) same spells
+  told-row (reason ∷ tried) read row (inl (fits, is)) e = cc
+  told-row (reason ∷ tried) read row (inr (unfit, tells)) e = told-row tried read row tells e
+
+  -- and a reason that is read is the first that fits
+  told-first : (tried : List LineReason) (read : Result Row LineReason) (first : LineReason)
+      → Told part line tried read → read ≡ Err first → IsFirst part line tried first
+  unfolding Told
+  told-first [] read first (row, spells, is) e = cc
+  told-first (reason ∷ tried) read first (inl (fits, is)) e =
+      let same : reason ≡ first = cc in
+      ([], tried, ap (λ r. r ∷ tried) same, subst (Fits part line) same fits, tt)
+  told-first (reason ∷ tried) read first (inr (unfit, tells)) e =
+      let (earlier, more, order, fits, none) = told-first tried read first tells e in
+      (reason ∷ earlier, more, ap (λ rs. reason ∷ rs) order, fits, (unfit, none))
+
+  -- and the first that fits is read
+  told-reason : (tried earlier : List LineReason) (first : LineReason) (more : List LineReason)
+      (read : Result Row LineReason) → Told part line tried read → tried ≡ earlier ++ first ∷ more
+      → Fits part line first → NoneFits part line earlier → read ≡ Err first
+  unfolding Told
+  told-reason [] [] first more read tells e fits none = cc
+  told-reason [] (x ∷ earlier) first more read tells e fits none = cc
+  told-reason (reason ∷ tried) [] first more read (inl (so, is)) e fits none = cc
+  told-reason (reason ∷ tried) [] first more read (inr (unfit, tells)) e fits none =
+      let same : first ≡ reason = cc in absurd (unfit (subst (Fits part line) same fits))
+  told-reason (reason ∷ tried) (x ∷ earlier) first more read (inl (so, is)) e fits none =
+      let same : reason ≡ x = cc in absurd (none.0 (subst (Fits part line) same so))
+  told-reason (reason ∷ tried) (x ∷ earlier) first more read (inr (unfit, tells)) e fits none =
+      let rest : tried ≡ earlier ++ first ∷ more = cc in
+      told-reason tried earlier first more read tells rest fits none.1
+
+  -- a reason that fits is told, and else what those behind it tell
   here : (reason : LineReason) (tried : List LineReason) → Fits part line reason
       → Told part line (reason ∷ tried) (Err reason)
-  here reason tried fits = record {
-    spells = λ row e. cc;
-    first = λ other e.
-        let same : reason ≡ other = cc in
-        subst (IsFirst part line (reason ∷ tried)) same
-        (record { earlier = []; later = tried; order = refl; fits = fits; none_before = tt });
-  }
+  unfolding Told
+  here reason tried fits = inl (fits, refl)
 
-  -- where it doesn't, those behind it tell
   later : (reason : LineReason) (tried : List LineReason) (read : Result Row LineReason)
       → (Fits part line reason → ⊥) → Told part line tried read → Told part line (reason ∷ tried) read
-  later reason tried read not_so tells = record {
-    spells = λ row e. let is = tells.spells row e in (is.0, (not_so, is.1));
-    first = λ other e.
-        let is = tells.first other e in
-        record {
-          earlier = reason ∷ is.earlier;
-          later = is.later;
-          order = ap (λ rs. reason ∷ rs) is.order;
-          fits = is.fits;
-          none_before = (not_so, is.none_before);
-        };
-  }
+  unfolding Told
+  later reason tried read unfit rest = inr (unfit, rest)
+
+  told_ok : (row : Row) → SpellsRow part line row → Told part line [] (Ok row)
+  unfolding Told
+  told_ok row is = (row, is, refl)
 
   -- so by a test that the reason makes
   by_test : {X : Type 0} (reason : LineReason) (tried : List LineReason) (b : Bool) (more : Result X LineReason)
@@ -209,13 +135,13 @@ module _ (part : Part) (line : List ℕ) where
       → (b ≡ false → Fits part line reason → ⊥) → (b ≡ false → Told part line tried (and_then more f))
       → Told part line (reason ∷ tried) (and_then (if b then Err reason else more) f)
   by_test reason tried true more f fits other rest = here reason tried (fits refl)
-  by_test reason tried false more f fits other rest = later reason tried (and_then more f) (other refl) (rest refl)
+  by_test reason tried false more f fits other rest = later reason tried _ (other refl) (rest refl)
 
   by_pass : {X : Type 0} (reason : LineReason) (tried : List LineReason) (b : Bool) (more : Result X LineReason)
       (f : X → Result Row LineReason) → (b ≡ false → Fits part line reason)
       → (b ≡ true → Fits part line reason → ⊥) → (b ≡ true → Told part line tried (and_then more f))
       → Told part line (reason ∷ tried) (and_then (if b then more else Err reason) f)
-  by_pass reason tried true more f fits other rest = later reason tried (and_then more f) (other refl) (rest refl)
+  by_pass reason tried true more f fits other rest = later reason tried _ (other refl) (rest refl)
   by_pass reason tried false more f fits other rest = here reason tried (fits refl)
 
   -- or by a value that is there where it doesn't fit
@@ -224,30 +150,39 @@ module _ (part : Part) (line : List ℕ) where
       → ((x : X) → o ≡ Some x → Fits part line reason → ⊥) → ((x : X) → o ≡ Some x → Told part line tried (f x))
       → Told part line (reason ∷ tried) (and_then (or_reason reason o) f)
   by_value reason tried None f fits other rest = here reason tried (fits refl)
-  by_value reason tried (Some x) f fits other rest = later reason tried (f x) (other x refl) (rest x refl)
+  by_value reason tried (Some x) f fits other rest = later reason tried _ (other x refl) (rest x refl)
 
   module _ (short : byte_len line ≤ line_limit) (reading body : List ℕ) (has : HasBody line reading body) where
     not_reading : (test : List ℕ → Bool) → test reading ≡ false → ReadingIs test line → ⊥
     not_reading test not_so (r, b, other, so) =
         both_ways (test reading) not_so (ap test (body_once has other).0 ∙ so)
 
-    -- by the row
-    told_row : (texts : List (List ℕ)) (items : List Item) → HasItems part line reading body texts items
-        → is_row_key (record { part = part; reading = reading }) ≡ true → list_all item_fits items ≡ true
-        → Told part line (Empty ∷ []) (some_row_of (record { part = part; reading = reading }) items)
-    unfolding some_row_of
-    told_row texts items is valid fit =
-        elim (cases_Bool (says_something (row_of_items (record { part = part; reading = reading }) items))) [
-          | inl something ↦ rw something
-              (later Empty [] (Ok (row_of_items (record { part = part; reading = reading }) items))
-              (λ (r, b, ts, others, other, between, spelled, silent).
-              let these : HasItems part line r b ts others =
-              record { has_body = other; has_texts = between; has_items = spelled } in
-              both_ways (says_something (row_of_items (record { part = part; reading = reading }) items))
-              (ap says_something (same_row part line is these) ∙ silent) something)
-              (record {
-                spells = λ row e. (
-                  record {
+    -- so its texts are the only ones
+    module _ (texts : List (List ℕ)) (between : HasTexts body texts) where
+      only_texts : (r b : List ℕ) (ts : List (List ℕ)) → HasBody line r b → HasTexts b ts → texts ≡ ts
+      only_texts r b ts other more =
+          same_Some texts ts (sym (texts-complete body texts between) ∙ ap texts_at (body_once has other).1
+          ∙ texts-complete b ts more)
+
+      -- and so are its items
+      module _ (items : List Item) (said : SpellsItems part texts items) where
+        only_items : (r b : List ℕ) (ts : List (List ℕ)) (others : List Item) → HasBody line r b → HasTexts b ts
+            → SpellsItems part ts others → items ≡ others
+        only_items r b ts others other more also =
+            all-once (item_format part) (item_exact part) items others ts
+            (subst (λ us. SpellsItems part us items) (only_texts r b ts other more) said) also
+
+        -- by the row
+        told_row : is_row_key (record { part = part; reading = reading }) ≡ true → list_all item_fits items ≡ true
+            → Told part line (Empty ∷ []) (some_row_of (record { part = part; reading = reading }) items)
+        unfolding some_row_of
+        told_row valid fit =
+            let row = row_of_items (record { part = part; reading = reading }) items in
+            elim (cases_Bool (says_something row)) [
+              | inl something ↦ rw something
+                  (later Empty [] _ (λ (r, b, ts, others, other, more, also, silent).
+                  both_ways (says_something row) (rw (only_items r b ts others other more also) silent) something)
+                  (told_ok row (record {
                     reading = reading;
                     body = body;
                     texts = texts;
@@ -255,20 +190,14 @@ module _ (part : Part) (line : List ℕ) where
                     not_long = short;
                     has_body = has;
                     valid = valid;
-                    has_texts = is.has_texts;
-                    has_items = is.has_items;
+                    has_texts = between;
+                    has_items = said;
                     fit = fit;
-                    row_is = cc;
-                    something = let same : row_of_items (record { part = part; reading = reading }) items ≡ row = cc in
-                        ap says_something (sym same) ∙ something;
-                  },
-                  tt,
-                );
-                first = λ reason e. cc;
-              }))
-          | inr silent ↦ rw silent
-              (here Empty [] (reading, body, texts, items, has, is.has_texts, is.has_items, silent))
-        ]
+                    row_is = refl;
+                    something = something;
+                  })))
+              | inr silent ↦ rw silent (here Empty [] (reading, body, texts, items, has, between, said, silent))
+            ]
 
     -- by the items
     told_items : (texts : List (List ℕ)) → HasTexts body texts
@@ -277,39 +206,24 @@ module _ (part : Part) (line : List ℕ) where
         (some_row_of (record { part = part; reading = reading })))
     unfolding fit_items_at
     told_items texts between valid =
-        subst (Told part line (Block ∷ LongCandidate ∷ Empty ∷ [])) (joined (all (item_format part) texts))
+        rw and_then-again
         (by_value Block (LongCandidate ∷ Empty ∷ []) (all (item_format part) texts)
         (λ items. and_then (if list_all item_fits items then Ok items else Err LongCandidate)
         (some_row_of (record { part = part; reading = reading })))
         (λ none. (reading, body, texts, items-none part texts none, has, between, are none))
         (λ items e (r, b, ts, ari, other, more, none).
-        none items (subst (λ us. SpellsItems part us items)
-        (texts_once part line has between other more) (are e)))
+        none items (subst (λ us. SpellsItems part us items) (only_texts texts between r b ts other more) (are e)))
         (λ items e.
-        let is : HasItems part line reading body texts items =
-        record { has_body = has; has_texts = between; has_items = are e } in
         by_pass LongCandidate (Empty ∷ []) (list_all item_fits items) (Ok items)
         (some_row_of (record { part = part; reading = reading }))
-        (λ unfit. (reading, body, texts, items, has, between, is.has_items, unfit))
-        (λ fit (r, b, ts, others, other, more, spelled, unfit).
-        let these : HasItems part line r b ts others =
-        record { has_body = other; has_texts = more; has_items = spelled } in
+        (λ unfit. (reading, body, texts, items, has, between, are e, unfit))
+        (λ fit (r, b, ts, others, other, more, also, unfit).
         both_ways (list_all item_fits items)
-        (ap (list_all item_fits) (items_once part line is these).1 ∙ unfit) fit)
-        (told_row texts items is valid)))
+        (ap (list_all item_fits) (only_items texts between items (are e) r b ts others other more also) ∙ unfit) fit)
+        (told_row texts between items (are e) valid)))
       where
         are : {o : Option (List Item)} → all (item_format part) texts ≡ o → AreAll (item_format part) texts o
         are e = subst (AreAll (item_format part) texts) e (all-are (item_format part) (item_exact part) texts)
-
-        joined : (o : Option (List Item))
-            → and_then (or_reason Block o)
-            (λ items. and_then (if list_all item_fits items then Ok items else Err LongCandidate)
-            (some_row_of (record { part = part; reading = reading })))
-            ≡ and_then (and_then (or_reason Block o)
-            (λ items. if list_all item_fits items then Ok items else Err LongCandidate))
-            (some_row_of (record { part = part; reading = reading }))
-        joined None = refl
-        joined (Some items) = refl
 
     -- by the reading and the texts
     told_key : Told part line (BadReading ∷ LongReading ∷ OkuriKey ∷ NoSlash ∷ Block ∷ LongCandidate ∷ Empty ∷ [])
@@ -331,7 +245,7 @@ module _ (part : Part) (line : List ℕ) where
         (key_is part reading has.before false false false good fits letter)))))
 
 -- what reading gives is told of the line
-pub told : (part : Part) (line : List ℕ) → Told part line reasons (line_reading part line)
+told : (part : Part) (line : List ℕ) → Told part line reasons (line_reading part line)
 unfolding line_reading row_reading
 told part line =
     elim (cases_Bool (nat_lt line_limit (byte_len line))) [
@@ -341,57 +255,48 @@ told part line =
           rw fits (later part line LongLine _ _ (λ long. absurd (omega (arith, short, long)))
           (by_value part line NoSpace _ (cut is_space line) _ (cut-none is_space line)
           (λ parts e none. none-some parts (sym (cut-nowhere is_space line none) ∙ e))
-          (λ parts e. told_key part line short parts.0 (without_spaces parts.1) (body-sound line parts.0 parts.1 e))))
+          (λ parts e. told_key part line short parts.0 _ (body-sound line parts.0 parts.1 e))))
     ]
 
 -- What is told is all
 
 module _ (part : Part) (line : List ℕ) where
-  -- the first of the reasons that fits is one alone
-  first_once : (earlier : List LineReason) (first : LineReason) (later others : List LineReason) (other : LineReason)
-      (more : List LineReason) → earlier ++ first ∷ later ≡ others ++ other ∷ more → Fits part line first
-      → Fits part line other → NoneFits part line earlier → NoneFits part line others → first ≡ other
-  first_once [] first later [] other more e fits also none nor = cc
-  first_once [] first later (o ∷ others) other more e fits also none nor =
-      let same : first ≡ o = cc in absurd (nor.0 (subst (Fits part line) same fits))
-  first_once (x ∷ earlier) first later [] other more e fits also none nor =
-      let same : other ≡ x = cc in absurd (none.0 (subst (Fits part line) same also))
-  first_once (x ∷ earlier) first later (o ∷ others) other more e fits also none nor =
-      let rest : earlier ++ first ∷ later ≡ others ++ other ∷ more = cc in
-      first_once earlier first later others other more rest fits also none.1 nor.1
+  -- reading gives a row that is spelled, or the first reason
+  spelled : (row : Row) → line_reading part line ≡ Ok row → SpellsRow part line row
+  spelled row e = told-row part line reasons _ row (told part line) e
 
-  pub reason_once : (first other : LineReason) → IsReason part line first → IsReason part line other → first ≡ other
-  reason_once first other is also =
-      first_once is.earlier first is.later also.earlier other also.later (sym is.order ∙ also.order) is.fits
-      also.fits is.none_before also.none_before
+  reasoned : (first : LineReason) → line_reading part line ≡ Err first → IsReason part line first
+  reasoned first e =
+      let (earlier, more, order, fits, none) = told-first part line reasons _ first (told part line) e in
+      record { earlier = earlier; later = more; order = order; fits = fits; none_before = none }
 
-  reason_told : (first : LineReason) → IsFirst part line reasons first → IsReason part line first
-  reason_told first is = record {
-    earlier = is.earlier;
-    later = is.later;
-    order = is.order;
-    fits = is.fits;
-    none_before = is.none_before;
-  }
-
-  -- none of the reasons fits where the line spells a row
-  pub not_both : (row : Row) (first : LineReason) → SpellsRow part line row → IsReason part line first → ⊥
-  not_both row first is why = fits-none part line row is first why.fits
-
-  -- so reading gives each row that is spelled, and each first reason
+  -- it gives each row that is spelled
   pub line_reading-row : (row : Row) → SpellsRow part line row → line_reading part line ≡ Ok row
-  line_reading-row row is = by (line_reading part line) (told part line)
-    where
-      by : (read : Result Row LineReason) → Told part line reasons read → read ≡ Ok row
-      by (Ok other) tells = ap Ok (row_once part line other row (tells.spells other refl).0 is)
-      by (Err first) tells = absurd (fits-none part line row is first (tells.first first refl).fits)
+  unfolding line_reading row_reading fit_items_at some_row_of
+  line_reading-row row is =
+      let (rest, at, body) = body-cut line is.reading is.body is.has_body in
+      let short = le-ltb line_limit (byte_len line) is.not_long in
+      let key = key_at-valid part is.reading is.has_body.before is.valid in
+      let texts = texts-complete is.body is.texts is.has_texts in
+      let items = all-complete (item_format part) (item_exact part) is.items is.texts is.has_items in
+      let something = rw is.row_is at is.something in
+      rw (short, at, key, body, texts, items, is.fit, something) (ap Ok (sym is.row_is))
 
+  -- so a line spells one at most
+  pub row_once : (row other : Row) → SpellsRow part line row → SpellsRow part line other → row ≡ other
+  row_once row other is also = cc (line_reading-row row is, line_reading-row other also)
+
+  -- and it gives each first reason
   pub line_reading-reason : (first : LineReason) → IsReason part line first → line_reading part line ≡ Err first
-  line_reading-reason first is = by (line_reading part line) (told part line)
-    where
-      by : (read : Result Row LineReason) → Told part line reasons read → read ≡ Err first
-      by (Ok other) tells = absurd (not_both other first (tells.spells other refl).0 is)
-      by (Err other) tells = ap Err (reason_once other first (reason_told other (tells.first other refl)) is)
+  line_reading-reason first is =
+      told-reason part line reasons is.earlier first is.later _ (told part line) is.order is.fits is.none_before
+
+  -- so a line has one at most, and none where it spells a row
+  pub reason_once : (first other : LineReason) → IsReason part line first → IsReason part line other → first ≡ other
+  reason_once first other is also = cc (line_reading-reason first is, line_reading-reason other also)
+
+  pub not_both : (row : Row) (first : LineReason) → SpellsRow part line row → IsReason part line first → ⊥
+  not_both row first is why = cc (line_reading-row row is, line_reading-reason first why)
 
   -- and the row that is read is the one that is spelled
   pub read-exact : (row : Row) → SpellsRow part line row ↔ (row_of_line part line ≡ Some row)
@@ -399,48 +304,36 @@ module _ (part : Part) (line : List ℕ) where
     where
       by : (read : Result Row LineReason) → line_reading part line ≡ read → result_ok read ≡ Some row
           → SpellsRow part line row
-      by (Ok other) e is = ((told part line).spells row (e ∙ ap Ok (same_Some other row is))).0
+      by (Ok other) e is = spelled row (e ∙ ap Ok (same_Some other row is))
       by (Err first) e is = cc
 
   -- a line spells a row or has a first reason
   pub row_or_reason : ((row : Row) × SpellsRow part line row) ⊎ ((first : LineReason) × IsReason part line first)
-  row_or_reason = by (line_reading part line) (told part line)
+  row_or_reason = by (line_reading part line) refl
     where
-      by : (read : Result Row LineReason) → Told part line reasons read
+      by : (read : Result Row LineReason) → line_reading part line ≡ read
           → ((row : Row) × SpellsRow part line row) ⊎ ((first : LineReason) × IsReason part line first)
-      by (Ok row) tells = inl (row, (tells.spells row refl).0)
-      by (Err first) tells = inr (first, reason_told first (tells.first first refl))
+      by (Ok row) e = inl (row, spelled row e)
+      by (Err first) e = inr (first, reasoned first e)
 
   -- Answers
 
   pub answers_ok : (answer : Result Row LineFault) → Gives (λ row. row) answer (line_reading part line)
       → IfOk answer (SpellsRow part line)
-  answers_ok (Ok other) e = ((told part line).spells other e).0
+  answers_ok (Ok row) e = spelled row e
   answers_ok (Err fault) e = tt
 
-  pub answers_only : (answer : Result Row LineFault) → Gives (λ row. row) answer (line_reading part line) → (row : Row)
-      → SpellsRow part line row → AnswersUnless Memory answer (Ok row)
-  answers_only (Ok other) e row is =
-      let same : ◌≡◌ {A = Result Row LineReason} (Ok other) (Ok row) = sym e ∙ line_reading-row row is in
-      let one : other ≡ row = cc in inr (ap Ok one)
-  answers_only (Err Memory) e row is = inl refl
-  answers_only (Err (Reason first)) e row is =
-      let same : ◌≡◌ {A = Result Row LineReason} (Err first) (Ok row) = sym e ∙ line_reading-row row is in cc
+  module _ (answer : Result Row LineFault) (gives : Gives (λ row. row) answer (line_reading part line)) where
+    pub answers_only : (row : Row) → SpellsRow part line row → AnswersUnless Memory answer (Ok row)
+    answers_only row is = grind (arith, line_reading-row row is)
 
-  pub answers_reason : (answer : Result Row LineFault) → Gives (λ row. row) answer (line_reading part line)
-      → (first : LineReason) → IsErrOf answer (Reason first) → IsReason part line first
-  answers_reason answer e first is =
-      reason_told first ((told part line).first first
-      (subst (λ (a : Result Row LineFault). Gives (λ row. row) a (line_reading part line)) is e))
+    pub answers_reason : (first : LineReason) → IsErrOf answer (Reason first) → IsReason part line first
+    answers_reason first is =
+        reasoned first (subst (λ (a : Result Row LineFault). Gives (λ row. row) a (line_reading part line)) is gives)
 
-  pub answers_only_reason : (answer : Result Row LineFault) → Gives (λ row. row) answer (line_reading part line)
-      → (first : LineReason) → IsReason part line first → AnswersUnless Memory answer (Err (Reason first))
-  answers_only_reason (Ok other) e first is =
-      let same : ◌≡◌ {A = Result Row LineReason} (Ok other) (Err first) = sym e ∙ line_reading-reason first is in cc
-  answers_only_reason (Err Memory) e first is = inl refl
-  answers_only_reason (Err (Reason given)) e first is =
-      let same : ◌≡◌ {A = Result Row LineReason} (Err given) (Err first) = sym e ∙ line_reading-reason first is in
-      let one : given ≡ first = cc in inr (ap (λ r. Err (Reason r)) one)
+    pub answers_only_reason : (first : LineReason) → IsReason part line first
+        → AnswersUnless Memory answer (Err (Reason first))
+    answers_only_reason first is = grind (arith, line_reading-reason first is)
 
   -- The key alone
 
@@ -456,28 +349,13 @@ module _ (part : Part) (line : List ℕ) where
   -- and each reason of it is that of the line
   key_reading-reason : (first : LineReason) → key_reading part line ≡ Err first → line_reading part line ≡ Err first
   unfolding key_reading line_reading row_reading
-  key_reading-reason first e = by (nat_lt line_limit (byte_len line)) (cut is_space line) e
-    where
-      by : (b : Bool) (o : Option (List ℕ × List ℕ))
-          → (if b then Err LongLine else and_then (or_reason NoSpace o) (λ parts. key_at part parts.0)) ≡ Err first
-          → (if b then Err LongLine else and_then (or_reason NoSpace o) (row_reading part)) ≡ Err first
-      by true o f = cc
-      by false None f = cc
-      by false (Some parts) f =
-          ap (λ k. and_then k (λ key. and_then (or_reason NoSlash (texts_at (without_spaces parts.1)))
-          (λ texts. and_then (fit_items_at part texts) (some_row_of key)))) f
+  key_reading-reason first e = grind arith
 
-  pub key_answers : (answer : Result RowKey LineFault) → Gives (λ key. key) answer (key_reading part line)
-      → (row : Row) → SpellsRow part line row → AnswersUnless Memory answer (Ok row.key)
-  key_answers (Ok key) e row is =
-      let same : ◌≡◌ {A = Result RowKey LineReason} (Ok key) (Ok row.key) = sym e ∙ key_reading-row row is in
-      let one : key ≡ row.key = cc in inr (ap Ok one)
-  key_answers (Err Memory) e row is = inl refl
-  key_answers (Err (Reason first)) e row is =
-      let same : ◌≡◌ {A = Result RowKey LineReason} (Err first) (Ok row.key) = sym e ∙ key_reading-row row is in cc
+  module _ (answer : Result RowKey LineFault) (gives : Gives (λ key. key) answer (key_reading part line)) where
+    pub key_answers : (row : Row) → SpellsRow part line row → AnswersUnless Memory answer (Ok row.key)
+    key_answers row is = grind (arith, key_reading-row row is)
 
-  pub key_answers_reason : (answer : Result RowKey LineFault) → Gives (λ key. key) answer (key_reading part line)
-      → (first : LineReason) → IsErrOf answer (Reason first) → IsReason part line first
-  key_answers_reason answer e first is =
-      reason_told first ((told part line).first first (key_reading-reason first
-      (subst (λ (a : Result RowKey LineFault). Gives (λ key. key) a (key_reading part line)) is e)))
+    pub key_answers_reason : (first : LineReason) → IsErrOf answer (Reason first) → IsReason part line first
+    key_answers_reason first is =
+        reasoned first (key_reading-reason first
+        (subst (λ (a : Result RowKey LineFault). Gives (λ key. key) a (key_reading part line)) is gives))

@@ -1,15 +1,16 @@
 -- The texts between the slashes of a line.
-use Rattle.std.proofs.Common.{◌≡◌, ◌≢◌, ◌≤◌, ℕ, zero, suc, Bool, true, false, not, ◌==◌, None, Some, List, [], ◌∷◌}
+use Rattle.std.proofs.Common.{◌≡◌, ◌≢◌, ◌≤◌, ℕ, zero, suc, Bool, true, false, ◌==◌, None, Some, List, [], ◌∷◌}
 use Rattle.std.proofs.Common.{inl, inr, ◌++◌, codes, replicate, refl, sym, ap, ◌∙◌, subst, arith, append_assoc}
-use Rattle.std.proofs.Common.{append-nil}
+use Rattle.std.proofs.Common.{append-nil, if◌then◌else◌}
 use Rattle.std.specs.List.{list_all}
-use Rattle.std.proofs.lemmas.Bool.{and_parts, and_from, cases_Bool, eqb-true, not-true, not_from_false}
+use Rattle.std.proofs.lemmas.Bool.{and_from, cases_Bool, eqb-true, not_from_false}
 use Rattle.std.proofs.lemmas.Option.{none-some, same_Some}
+use Rattle.skk_text.specs.Lists.{is_empty}
 use Rattle.exact_readers.specs.Cuts.{cut, without_spaces}
 use Rattle.exact_readers.specs.CutLaws.{cut-at, cut-none, up_to-exact}
 use Rattle.exact_readers.specs.Exact.{IsExact, AreAll}
 use Rattle.exact_readers.specs.ExactLaws.{then_at-some, past-sound}
-use Rattle.exact_readers.specs.Formats.{SpellsMany, past, then_at, taken, all}
+use Rattle.exact_readers.specs.Formats.{SpellsMany, past, then_at, taken, if_whole, all}
 use Rattle.exact_readers.specs.ManyLaws.{AreTaken, taken-sound, all-are, all-complete}
 use Rattle.exact_readers.specs.Lacking.{lacks}
 use Rattle.dict_format.specs.Lines.{begins_without_space, HasBody, is_slash, slashed_text, HasTexts}
@@ -41,6 +42,11 @@ without_spaces-spaces : (n : ℕ) (text : List ℕ) → begins_without_space tex
     → without_spaces (replicate n 0x20 ++ text) ≡ text
 without_spaces-spaces zero text good = no_spaces text good
 without_spaces-spaces (suc n) text good = without_spaces-spaces n text good
+
+-- what stands before the first space of a line holds none
+pub before_space : (line reading rest : List ℕ) → cut is_space line ≡ Some (reading, rest) → lacks 0x20 reading ≡ true
+before_space line reading rest e =
+    let (end, passes, none, piece) = ((up_to-exact is_space).sound line reading rest e).spelled in none
 
 -- a line that is cut at a space has its body behind the spaces
 pub body-sound : (line reading rest : List ℕ) → cut is_space line ≡ Some (reading, rest)
@@ -87,6 +93,12 @@ some-is (x ∷ xs) ys e = let same = same_Some (x ∷ xs) ys e in (same, λ none
 is-some : {X : Type 0} (xs : List X) → xs ≢ [] → if_some xs ≡ Some xs
 is-some xs some = grind arith
 
+-- by whether anything is left
+pub whole_if : (texts : List (List ℕ)) (rest : List ℕ)
+    → if_whole (texts, rest) ≡ (if is_empty rest then Some texts else None)
+whole_if texts [] = refl
+whole_if texts (c ∷ rest) = refl
+
 -- the texts that are read are those of the body
 pub texts-sound : (body : List ℕ) (texts : List (List ℕ)) → texts_at body ≡ Some texts → HasTexts body texts
 unfolding texts_at
@@ -126,8 +138,8 @@ ends-append (d ∷ e ∷ front) c back = ends-append (e ∷ front) c back
 
 ends-lacks : (text : List ℕ) → lacks 0x2F text ≡ true → ends_in_slash text ≡ false
 ends-lacks [] none = refl
-ends-lacks (c ∷ []) none = not-true (c == 0x2F) (and_parts (not (c == 0x2F)) true none).0
-ends-lacks (c ∷ d ∷ text) none = ends-lacks (d ∷ text) (and_parts (not (c == 0x2F)) (lacks 0x2F (d ∷ text)) none).1
+ends-lacks (c ∷ []) none = grind arith
+ends-lacks (c ∷ d ∷ text) none = grind (arith, ends-lacks (d ∷ text))
 
 ends-behind : (front back : List ℕ) → ends_in_slash back ≡ true → ends_in_slash (front ++ back) ≡ true
 ends-behind [] back e = e

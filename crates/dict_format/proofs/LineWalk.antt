@@ -16,41 +16,36 @@ none-read bytes rest is = record {
 
 module _ (bytes rest line behind : List ℕ) (number : ℕ) (so_far : IsReadTo bytes rest number)
     (first : IsFirstLine rest line behind) where
+  -- what stands behind a line, and before what is left
+  behind_line : (end : List ℕ) × (rest ≡ (line ++ end) ++ behind)
+  behind_line = by first.2
+    where
+      by : IsCutOff rest line behind → (end : List ℕ) × (rest ≡ (line ++ end) ++ behind)
+      by (inl split) = (10 ∷ [], split ∙ sym (append_assoc line (10 ∷ []) behind))
+      by (inr (same, none)) = ([], rw (none, append-nil, append-nil) same)
+
   -- a line more is read
   pub line-read : IsReadTo bytes behind (number + 1)
-  line-read = by first.2
-    where
-      by : IsCutOff rest line behind → IsReadTo bytes behind (number + 1)
-      by (inl split) = record {
-        front = so_far.front ++ (line ++ 10 ∷ []);
+  line-read =
+      let (end, split) = behind_line in
+      let long = length-append so_far.front (line ++ end) in
+      record {
+        front = so_far.front ++ (line ++ end);
         parts =
-            so_far.parts ∙ ap (λ r. so_far.front ++ r) (split ∙ sym (append_assoc line (10 ∷ []) behind))
-            ∙ sym (append_assoc so_far.front (line ++ 10 ∷ []) behind);
-        few =
-            omega (arith, so_far.few, length-append so_far.front (line ++ 10 ∷ []), length-append line (10 ∷ []));
-      }
-      by (inr (same, none)) = record {
-        front = so_far.front ++ line;
-        parts =
-            so_far.parts ∙ ap (λ r. so_far.front ++ r) same ∙ sym (append-nil (so_far.front ++ line))
-            ∙ ap (λ b. (so_far.front ++ line) ++ b) (sym none);
-        few =
-            omega (arith, so_far.few, length-append so_far.front line, first.1, ap length same, ap length none);
+            so_far.parts ∙ ap (λ r. so_far.front ++ r) split ∙ sym (append_assoc so_far.front (line ++ end) behind);
+        few = omega (arith, so_far.few, long, first.1, ap length split, length-append (line ++ end) behind);
       }
 
   -- what is read of it stands where the rest began
   pub line-stands : StandsAt bytes (length bytes - length rest) (trimmed_line line)
   line-stands =
-      let more = trimmed-front line in
-      let later = by first.2 in (
+      let (more, trimmed) = trimmed-front line in
+      let (end, split) = behind_line in (
         so_far.front,
-        more.0 ++ later.0,
+        more ++ (end ++ behind),
         so_far.parts
             ∙ ap (λ r. so_far.front ++ r)
-            (later.1 ∙ ap (λ l. l ++ later.0) more.1 ∙ append_assoc (trimmed_line line) more.0 later.0),
+            (split ∙ append_assoc line end behind ∙ ap (λ l. l ++ (end ++ behind)) trimmed
+            ∙ append_assoc (trimmed_line line) more (end ++ behind)),
         omega (arith, ap length so_far.parts, length-append so_far.front rest),
       )
-    where
-      by : IsCutOff rest line behind → (later : List ℕ) × (rest ≡ line ++ later)
-      by (inl split) = (10 ∷ behind, split)
-      by (inr (same, none)) = ([], same ∙ sym (append-nil line))

@@ -1,5 +1,5 @@
 -- The rows of a part in the order in which they are printed.
-use Rattle.std.proofs.Common.{◌≡◌, arith, Bool, true, false, ◌&&◌, not, ℕ, List, [], ◌∷◌, refl, sym, ap, ◌∙◌}
+use Rattle.std.proofs.Common.{◌≡◌, arith, Bool, true, false, ◌&&◌, not, ℕ, List, [], sym, ap, ◌∙◌}
 use Rattle.std.specs.Cmp.{IsStrictWeakOrder}
 use Rattle.std.specs.List.{list_all, filter}
 use Rattle.std.specs.List.Sorted.{IsPermutation}
@@ -8,10 +8,10 @@ use Rattle.std.proofs.lemmas.List.{append-nil}
 use Rattle.std.proofs.lemmas.List.Elements.{filter-append}
 use Rattle.std.proofs.lemmas.List.Sorted.{IsStrictWeakOrder-flip, IsPermutation-trans, IsPermutation-append}
 use Rattle.std.proofs.lemmas.List.Sorted.{IsPermutation-filter_both}
-use Rattle.skk_text.specs.FilterLaws.{filter_all, list_all_kept}
+use Rattle.skk_text.specs.FilterLaws.{filter_all, filter_none, list_all_kept}
 use Rattle.skk_text.specs.Pairs.{all_pairs}
 use Rattle.skk_text.specs.PairsLaws.{all_pairs-filter, list_all-filter, list_all-weaker, pairs_appended}
-use Rattle.skk_text.specs.PairsLaws.{pairs_weaker}
+use Rattle.skk_text.specs.PairsLaws.{pairs_weaker, pairs_within}
 use Rattle.skk_calls.specs.KeyLaws.{same_equal, same_other}
 use Rattle.skk_calls.specs.declared.part.Part.{Part}
 use Rattle.skk_calls.specs.declared.part.Part.TheVariants.{Nasi, Ari}
@@ -21,12 +21,6 @@ use Rattle.dict_format.specs.PrintedFiles.{is_of, is_printed_before, part_in_ord
 use Rattle.skk_calls.specs.OrderLaws.{apart, holds_moved, not_itself, order_read, sort_moves, sort_ascends, sort_stays}
 use Rattle.skk_calls.specs.OrderLaws.{text_order, texts_apart}
 use Rattle.dict_format.proofs.FileRows.{other_part}
-
--- a filter keeps nothing where none passes
-filter_none : {X : Type 0} (test : X → Bool) (xs : List X) → list_all (λ x. not (test x)) xs ≡ true
-    → filter test xs ≡ []
-filter_none test [] none = refl
-filter_none test (x ∷ xs) none = grind (arith, filter_none test xs)
 
 -- two rows differ in their keys
 abbrev pub differ_in_key : Row → Row → Bool
@@ -66,21 +60,12 @@ parts_differ : (p q : Part) (same : Bool) → same_part p Ari ≡ true → same_
 parts_differ p q same e f = grind arith
 
 module _ (part : Part) where
-  one_apart : (row : Row) (rows : List Row) → is_of part row ≡ true → list_all (is_of part) rows ≡ true
-      → list_all (differ_in_key row) rows ≡ true → list_all (apart (is_printed_before part) row) rows ≡ true
-  one_apart row [] here of differ = refl
-  one_apart row (other ∷ rows) here of differ = grind (arith, rows_apart part row other, one_apart row rows)
-
-  all_apart : (rows : List Row) → list_all (is_of part) rows ≡ true → keys_differ rows ≡ true
-      → all_pairs (apart (is_printed_before part)) rows ≡ true
-  all_apart [] of differ = refl
-  all_apart (row ∷ rows) of differ = grind (arith, one_apart row rows, all_apart rows)
-
   -- of the rows of a part always one is printed before the other
   pub part_apart : (rows : List Row) → keys_differ rows ≡ true
       → all_pairs (apart (is_printed_before part)) (filter (is_of part) rows) ≡ true
   part_apart rows differ =
-      all_apart (filter (is_of part) rows) (list_all_kept (is_of part) rows)
+      pairs_within (is_of part) differ_in_key (apart (is_printed_before part)) (rows_apart part)
+      (filter (is_of part) rows) (list_all_kept (is_of part) rows)
       (all_pairs-filter differ_in_key (is_of part) rows differ)
 
   -- in printing order they ascend

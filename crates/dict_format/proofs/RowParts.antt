@@ -1,12 +1,13 @@
 -- The row that items make is a row.
-use Rattle.std.proofs.Common.{◌≡◌, ℕ, ◌+◌, Bool, true, false, not, ◌&&◌, ◌||◌, nat_le, if◌then◌else◌, List, [], ◌∷◌}
+use Rattle.std.proofs.Common.{◌≡◌, ℕ, ◌+◌, Bool, true, false, not, ◌&&◌, nat_le, List, [], ◌∷◌}
 use Rattle.std.proofs.Common.{map, length, refl, sym, ap, ◌∙◌, arith}
 use Rattle.std.specs.List.{list_all, list_any, filter, flat_map}
-use Rattle.std.proofs.lemmas.Bool.{and_parts, and_from, or_left, or_right, both_ways, le-leb}
+use Rattle.std.proofs.lemmas.Bool.{and_parts, and_from, both_ways, le-leb}
+use Rattle.std.proofs.lemmas.Bool.Decides.{nat_tests}
 use Rattle.std.proofs.lemmas.List.Folds.{list_all-append, list_all-map, list_any-append}
 use Rattle.skk_text.specs.FilterLaws.{list_all_kept}
 use Rattle.skk_text.specs.Lists.{is_empty}
-use Rattle.skk_text.specs.PairsLaws.{all_pairs-filter, all_pairs-map, list_all-filter, list_all-weaker}
+use Rattle.skk_text.specs.PairsLaws.{all_pairs-filter, all_pairs-map, list_all-filter, list_all-kept, list_all-weaker}
 use Rattle.skk_text.specs.Text.{byte_len}
 use Rattle.skk_calls.specs.KeyLaws.{same_itself}
 use Rattle.skk_calls.specs.RowLaws.{row_from_parts}
@@ -27,22 +28,8 @@ has_note (mark words) = true
 
 -- a text that is not empty has a character
 pub some-longer : (text : List ℕ) → not (is_empty text) ≡ true → nat_le 1 (length text) ≡ true
-some-longer [] e = absurd (both_ways false refl e)
+some-longer [] e = cc
 some-longer (c ∷ text) e = le-leb 1 (length (c ∷ text)) (omega arith)
-
--- of items that pass a test those are kept that pass another with it
-pub kept_all : {X : Type 0} (test keeps passes : X → Bool)
-    → ((x : X) → test x ≡ true → keeps x ≡ true → passes x ≡ true) → (xs : List X) → list_all test xs ≡ true
-    → list_all passes (filter keeps xs) ≡ true
-kept_all test keeps passes both [] all = refl
-kept_all test keeps passes both (x ∷ xs) all =
-    let parts = and_parts (test x) (list_all test xs) all in
-    by (keeps x) refl parts.0 (kept_all test keeps passes both xs parts.1)
-  where
-    by : (b : Bool) → keeps x ≡ b → test x ≡ true → list_all passes (filter keeps xs) ≡ true
-        → list_all passes (filter keeps (x ∷ xs)) ≡ true
-    by true e here rest = rw e (and_from (passes x) (list_all passes (filter keeps xs)) (both x here e) rest)
-    by false e here rest = rw e rest
 
 -- Candidates
 
@@ -53,15 +40,7 @@ has_rest c = is_note c.note && nat_le (byte_len c.word + byte_len c.note) word_l
 cands_rest : (items : List Item) → list_all item_fits items ≡ true → list_all has_note items ≡ true
     → list_all has_rest (flat_map cand_in items) ≡ true
 cands_rest [] fit noted = refl
-cands_rest (candidate word note ∷ items) fit noted =
-    let fits_all = and_parts (item_fits (candidate word note)) (list_all item_fits items) fit in
-    let notes_all = and_parts (is_note note) (list_all has_note items) noted in
-    and_from (has_rest (record { word = word; note = note })) _ (and_from (is_note note) _ notes_all.0 fits_all.0)
-    (cands_rest items fits_all.1 notes_all.1)
-cands_rest (block okuri words ∷ items) fit noted =
-    cands_rest items (and_parts (list_all fits words) (list_all item_fits items) fit).1 noted
-cands_rest (mark words ∷ items) fit noted =
-    cands_rest items (and_parts (list_all fits words) (list_all item_fits items) fit).1 noted
+cands_rest (item ∷ items) fit noted = grind (arith, cands_rest items)
 
 -- Words
 
@@ -72,7 +51,7 @@ some_word words = list_any (λ word. not (is_empty word)) words
 words_valid : (words : List (List ℕ)) → list_all fits words ≡ true → list_all is_word (words_once words) ≡ true
 words_valid words fit =
     first_of_each-all (λ word. word) is_word (filter (λ word. not (is_empty word)) words)
-    (kept_all fits (λ word. not (is_empty word)) is_word
+    (list_all-kept fits (λ word. not (is_empty word)) is_word
     (λ word short some. and_from (nat_le 1 (length word)) (fits word) (some-longer word some) short) words fit)
 
 words_differ : (words : List (List ℕ)) → texts_differ (words_once words) ≡ true
@@ -82,14 +61,7 @@ words_differ words =
 
 words_some : (words : List (List ℕ)) → some_word words ≡ true → nat_le 1 (length (words_once words)) ≡ true
 words_some [] e = absurd (both_ways false refl e)
-words_some (w ∷ words) e = by (not (is_empty w)) refl (λ h. words_some words h) e
-  where
-    by : (b : Bool) → not (is_empty w) ≡ b → (some_word words ≡ true → nat_le 1 (length (words_once words)) ≡ true)
-        → (not (is_empty w) || some_word words) ≡ true → nat_le 1 (length (words_once (w ∷ words))) ≡ true
-    by true f later h =
-        rw f (le-leb 1 (length (first_of_each (λ word. word) [] (w ∷ filter (λ word. not (is_empty word)) words)))
-        (omega arith))
-    by false f later h = rw f (later (rw f at h))
+words_some (w ∷ words) e = grind (arith, some-longer, words_some words, nat_tests)
 
 -- Blocks
 
@@ -100,13 +72,7 @@ block_fits b = list_all fits b.words
 blocks_fit : (items : List Item) → list_all item_fits items ≡ true
     → list_all block_fits (flat_map block_in items) ≡ true
 blocks_fit [] fit = refl
-blocks_fit (candidate word note ∷ items) fit =
-    blocks_fit items (and_parts (item_fits (candidate word note)) (list_all item_fits items) fit).1
-blocks_fit (block okuri words ∷ items) fit =
-    let parts = and_parts (list_all fits words) (list_all item_fits items) fit in
-    and_from (list_all fits words) (list_all block_fits (flat_map block_in items)) parts.0 (blocks_fit items parts.1)
-blocks_fit (mark words ∷ items) fit =
-    blocks_fit items (and_parts (list_all fits words) (list_all item_fits items) fit).1
+blocks_fit (item ∷ items) fit = grind (arith, blocks_fit items)
 
 -- the words with an okurigana fit
 words_with_fit : (okuri : List ℕ) (blocks : List Block) → list_all block_fits blocks ≡ true
@@ -117,40 +83,24 @@ words_with_fit okuri blocks fit =
   where
     joined : (bs : List Block) → list_all block_fits bs ≡ true → list_all fits (flat_map (λ b. b.words) bs) ≡ true
     joined [] all = refl
-    joined (b ∷ bs) all =
-        let parts = and_parts (block_fits b) (list_all block_fits bs) all in
-        list_all-append fits b.words (flat_map (λ c. c.words) bs)
-        ∙ and_from (list_all fits b.words) _ parts.0 (joined bs parts.1)
-
--- the words with an okurigana and those of a block, by whether it is that of the block
-abbrev with_block : Block → List Block → List ℕ → Bool → List (List ℕ)
-with_block b blocks okuri same =
-    flat_map (λ (c : Block). c.words) (if same
-    then b ∷ filter (λ (c : Block). same_text c.okuri okuri) blocks
-    else filter (λ (c : Block). same_text c.okuri okuri) blocks)
+    joined (b ∷ bs) all = grind (arith, list_all-append fits b.words (flat_map (λ c. c.words) bs), joined bs)
 
 -- each block that has a word gives its okurigana one
+more_words : (b : Block) (blocks : List Block) (okuri : List ℕ) → some_word (words_with okuri blocks) ≡ true
+    → some_word (words_with okuri (b ∷ blocks)) ≡ true
+more_words b blocks okuri some =
+    grind (arith, list_any-append (λ word. not (is_empty word)) b.words (words_with okuri blocks))
+
 each_has : (blocks : List Block) → list_all has_word blocks ≡ true
     → list_all (λ b. some_word (words_with b.okuri blocks)) blocks ≡ true
 each_has [] all = refl
 each_has (b ∷ blocks) all =
     let parts = and_parts (has_word b) (list_all has_word blocks) all in
-    and_from (some_word (words_with b.okuri (b ∷ blocks))) _ (own parts.0)
-    (list_all-weaker (λ c. some_word (words_with c.okuri blocks)) (λ c. some_word (words_with c.okuri (b ∷ blocks)))
-    (λ c here. more c.okuri (same_text b.okuri c.okuri) here) blocks (each_has blocks parts.1))
-  where
-    own : has_word b ≡ true → some_word (words_with b.okuri (b ∷ blocks)) ≡ true
-    own has =
-        ap (λ same. some_word (with_block b blocks b.okuri same)) (same_itself b.okuri)
-        ∙ list_any-append (λ word. not (is_empty word)) b.words (words_with b.okuri blocks)
-        ∙ or_left (some_word b.words) (some_word (words_with b.okuri blocks)) has
-
-    more : (okuri : List ℕ) (same : Bool) → some_word (words_with okuri blocks) ≡ true
-        → some_word (with_block b blocks okuri same) ≡ true
-    more okuri true here =
-        list_any-append (λ word. not (is_empty word)) b.words (words_with okuri blocks)
-        ∙ or_right (some_word b.words) (some_word (words_with okuri blocks)) here
-    more okuri false here = here
+    let rest = list_all-weaker (λ c. some_word (words_with c.okuri blocks))
+    (λ c. some_word (words_with c.okuri (b ∷ blocks))) (λ c. more_words b blocks c.okuri) blocks
+    (each_has blocks parts.1) in
+    let own = list_any-append (λ word. not (is_empty word)) b.words (words_with b.okuri blocks) in
+    grind (arith, own, same_itself b.okuri)
 
 -- a block as it is joined with the others of its okurigana
 abbrev pub joined : List Block → Block → Block
@@ -166,7 +116,7 @@ joined_valid : (blocks firsts : List Block) → list_all block_fits blocks ≡ t
     → list_all is_block (filter (λ b. is_okuri b.okuri)
     (map (λ first. record { okuri = first.okuri; words = words_once (words_with first.okuri blocks) }) firsts)) ≡ true
 joined_valid blocks firsts fit have =
-    kept_all has_words (λ b. is_okuri b.okuri) is_block (λ b words okuri. and_from (is_okuri b.okuri) _ okuri words)
+    list_all-kept has_words (λ b. is_okuri b.okuri) is_block (λ b words okuri. and_from _ (has_words b) okuri words)
     (map (joined blocks) firsts)
     (list_all-map has_words (joined blocks) firsts
     ∙ list_all-weaker (λ b. some_word (words_with b.okuri blocks)) (λ b. has_words (joined blocks b)) words_are
@@ -175,9 +125,8 @@ joined_valid blocks firsts fit have =
     words_are : (b : Block) → some_word (words_with b.okuri blocks) ≡ true → has_words (joined blocks b) ≡ true
     words_are b some =
         let words = words_with b.okuri blocks in
-        and_from (nat_le 1 (length (words_once words))) _ (words_some words some)
-        (and_from (list_all is_word (words_once words)) (texts_differ (words_once words))
-        (words_valid words (words_with_fit b.okuri blocks fit)) (words_differ words))
+        let valid = words_valid words (words_with_fit b.okuri blocks fit) in
+        grind (arith, words_some words some, valid, words_differ words)
 
 -- Rows
 
@@ -197,7 +146,7 @@ row_of_items-valid key items valid fit noted part =
       key = valid;
       cands =
           first_of_each-all (λ (cand : Cand). cand.word) is_cand said
-          (kept_all has_rest (λ cand. not (is_empty cand.word)) is_cand
+          (list_all-kept has_rest (λ cand. not (is_empty cand.word)) is_cand
           (λ cand rest some. and_from (nat_le 1 (length cand.word)) _ (some-longer cand.word some) rest)
           (flat_map cand_in items) (cands_rest items fit noted));
       words = first_of_each-differ (λ (cand : Cand). cand.word) said;

@@ -1,6 +1,7 @@
 -- What the values of the code are to the definitions.
 use Rattle.std.specs.Borrow.{Bor}
 use Rattle.std.specs.Prelude.{◌≡◌, ℕ, Result, Ok, Err, List, map}
+use Rattle.std.specs.Str.{chars}
 use Rattle.word_sets.specs.Strings.{characters}
 use Rattle.dict_format.specs.declared.items.Item.{Item as MadeItem}
 use Rattle.dict_format.specs.declared.items.Item.TheVariants.{Candidate, Block, Mark}
@@ -12,7 +13,7 @@ use Rattle.dict_format.specs.Items.Item.{candidate, block, mark}
 
 -- the characters of texts
 abbrev pub texts_seen : List (Bor (List ℕ)) → List (List ℕ)
-texts_seen texts = map (λ text. text.now) texts
+texts_seen texts = map (λ text. chars text.now) texts
 
 -- what an item of the code says
 abbrev pub item_said : MadeItem → Item

@@ -1,21 +1,21 @@
-ghost use Rattle.std.specs.Prelude.{◌≡◌, ◌∷◌, ◌++◌, ◌+◌, ◌≤◌, ◌==◌, ◌||◌, [], ℕ, List, not, if◌then◌else◌, Some, None};
+ghost use Rattle.std.specs.Prelude.{◌≡◌, ◌∷◌, ◌++◌, ◌+◌, ◌==◌, ◌||◌, [], ℕ, List, not, if◌then◌else◌, Some, None};
 ghost use Rattle.std.specs.Prelude.{map, drop, IfOk, OnOk};
 ghost use Rattle.std.specs.List.{filter, list_all};
 ghost use Rattle.std.specs.Option.{option_map};
+ghost use Rattle.std.specs.Str.{chars};
 ghost use Rattle.exact_readers.specs.Formats.{mapped, all};
 ghost use Rattle.word_sets.specs.Strings.{characters};
 ghost use Rattle.dict_format.specs.Items.{Item as said_item};
 ghost use Rattle.dict_format.specs.Items.Item.{block};
-ghost use Rattle.dict_format.specs.Items.{at_note, before_note, opens_block, closes_block, mark_or_candidate};
+ghost use Rattle.dict_format.specs.Items.{at_note, opens_block, closes_block, mark_or_candidate};
 ghost use Rattle.dict_format.specs.Items.{single_item, inside_block, block_words, item_format};
 ghost use Rattle.dict_format.specs.Reading.{fit_items_at};
 ghost use Rattle.dict_format.specs.RowOfItems.{fits, item_fits};
 ghost use Rattle.dict_format.specs.Views.{item_said, texts_seen, Gives};
-ghost use Rattle.dict_format.specs.Words.{said};
 
 use crate::reason::{LineFault, LineReason};
-use crate::words::{plain, push, room_for, whole_marked, word_of};
-use exact_readers::{Reader, cut_at, read_many};
+use crate::words::{characters_of, marked_by_form, plain, word_of};
+use exact_readers::{Reader, cut_at, past_char, read_many};
 use skk_calls::{Part, WORD_LIMIT};
 use skk_text::Memory;
 use std::alloc::Global;
@@ -32,8 +32,8 @@ pub enum Item {
 }
 
 // The items that texts spell, none of which is too long.
-#[tactic(auto, unfolding(crate::specs::Reading::fit_items_at))]
-pub fn items_of(alloc: Global, part: Part, texts: &[&[char]]) -> Result<Vec<Item>, LineFault>
+#[tactic(auto, using(crate::proofs::Hints::items_fit), unfolding(crate::specs::Reading::fit_items_at))]
+pub fn items_of(alloc: Global, part: Part, texts: &[&str]) -> Result<Vec<Item>, LineFault>
     ensures { Gives (λ items. map item_said items.items) result (fit_items_at part (texts_seen texts.now)) }
 {
     let Some(items) = whole_items(alloc, part, texts)? else {
@@ -47,7 +47,7 @@ pub fn items_of(alloc: Global, part: Part, texts: &[&[char]]) -> Result<Vec<Item
 
 // The items that all texts spell, unless a block is not closed.
 #[tactic(auto, using(crate::proofs::Exactness::item_exact))]
-fn whole_items(alloc: Global, part: Part, texts: &[&[char]]) -> Result<Option<Vec<Item>>, Memory>
+fn whole_items(alloc: Global, part: Part, texts: &[&str]) -> Result<Option<Vec<Item>>, Memory>
     ensures { IfOk result (λ found. option_map (λ items. map item_said items.items) found
         ≡ all (item_format part) (texts_seen texts.now)) }
 {
@@ -63,7 +63,7 @@ struct Items {
     part: Part,
 }
 
-impl<'c> Reader<&'c [char]> for Items {
+impl<'c> Reader<&'c str> for Items {
     type Value = Item;
 
     type Many = Vec<Item>;
@@ -83,8 +83,8 @@ impl<'c> Reader<&'c [char]> for Items {
     fn read<'t>(
         &self,
         alloc: Global,
-        texts: &'t [&'c [char]],
-    ) -> Result<Option<(Item, &'t [&'c [char]])>, Memory>
+        texts: &'t [&'c str],
+    ) -> Result<Option<(Item, &'t [&'c str])>, Memory>
         ensures { IfOk result (λ found. option_map (λ parts. (item_said parts.0, texts_seen parts.1.now)) found
             ≡ (item_format self.now.part).step (texts_seen texts.now)) }
     {
@@ -109,8 +109,8 @@ impl<'c> Reader<&'c [char]> for Items {
 fn first_item<'t, 'c>(
     alloc: Global,
     part: Part,
-    texts: &'t [&'c [char]],
-) -> Result<Option<(Item, &'t [&'c [char]])>, Memory>
+    texts: &'t [&'c str],
+) -> Result<Option<(Item, &'t [&'c str])>, Memory>
     ensures { IfOk result (λ found. option_map (λ parts. (item_said parts.0, texts_seen parts.1.now)) found
         ≡ (item_format part).step (texts_seen texts.now)) }
 {
@@ -124,24 +124,25 @@ fn first_item<'t, 'c>(
 }
 
 // What stands behind the bracket that opens a block, where a text begins with it.
-fn okuri_of(part: Part, text: &[char]) -> Option<&[char]>
-    ensures { option_map (λ okuri. okuri.now) result
-        ≡ (if opens_block part text.now then Some (drop 1 text.now) else None) }
+#[tactic(auto, using(crate::proofs::Forms::behind_bracket))]
+fn okuri_of(part: Part, text: &str) -> Option<&str>
+    ensures { option_map (λ okuri. chars okuri.now) result
+        ≡ (if opens_block part (chars text.now) then Some (drop 1 (chars text.now)) else None) }
 {
-    match (part, text) {
-        (Part::Ari, ['[', okuri @ ..]) => Some(okuri),
-        _ => None,
+    match part {
+        Part::Nasi => None,
+        Part::Ari => past_char(text, '['),
     }
 }
 
 // The block that texts behind its first one close, and the texts behind it.
 fn block_behind<'t, 'c>(
     alloc: Global,
-    okuri: &[char],
-    texts: &'t [&'c [char]],
-) -> Result<Option<(Item, &'t [&'c [char]])>, Memory>
+    okuri: &str,
+    texts: &'t [&'c str],
+) -> Result<Option<(Item, &'t [&'c str])>, Memory>
     ensures { IfOk result (λ found. option_map (λ parts. (item_said parts.0, texts_seen parts.1.now)) found
-        ≡ (mapped (block okuri.now) block_words).step (texts_seen texts.now)) }
+        ≡ (mapped (block (chars okuri.now)) block_words).step (texts_seen texts.now)) }
 {
     let Some((words, rest)) = closed_words(alloc, texts)? else {
         return Ok(None);
@@ -154,8 +155,8 @@ fn block_behind<'t, 'c>(
 #[tactic(auto, using(crate::proofs::Exactness::inside_exact))]
 fn closed_words<'t, 'c>(
     alloc: Global,
-    texts: &'t [&'c [char]],
-) -> Result<Option<(Vec<String>, &'t [&'c [char]])>, Memory>
+    texts: &'t [&'c str],
+) -> Result<Option<(Vec<String>, &'t [&'c str])>, Memory>
     ensures { IfOk result (λ found. option_map (λ parts. (map characters parts.0.items, texts_seen parts.1.now)) found
         ≡ block_words.step (texts_seen texts.now)) }
 {
@@ -169,7 +170,7 @@ fn closed_words<'t, 'c>(
 // A word in a block.
 struct WordInside;
 
-impl<'c> Reader<&'c [char]> for WordInside {
+impl<'c> Reader<&'c str> for WordInside {
     type Value = String;
 
     type Many = Vec<String>;
@@ -189,14 +190,14 @@ impl<'c> Reader<&'c [char]> for WordInside {
     fn read<'t>(
         &self,
         alloc: Global,
-        texts: &'t [&'c [char]],
-    ) -> Result<Option<(String, &'t [&'c [char]])>, Memory>
+        texts: &'t [&'c str],
+    ) -> Result<Option<(String, &'t [&'c str])>, Memory>
         ensures { IfOk result (λ found. option_map (λ parts. (characters parts.0, texts_seen parts.1.now)) found
             ≡ inside_block.step (texts_seen texts.now)) }
     {
         match texts {
             [text, behind @ ..] if !closes_block(text) => {
-                Ok(Some((word_of(alloc, before_note(text))?, behind)))
+                Ok(Some((word_of(alloc, at_note(text).0)?, behind)))
             }
             _ => Ok(None),
         }
@@ -218,62 +219,74 @@ impl<'c> Reader<&'c [char]> for WordInside {
 }
 
 // Whether a text is the bracket that closes a block.
-fn closes_block(text: &[char]) -> bool
-    ensures { result ≡ closes_block text.now }
+fn closes_block(text: &str) -> bool
+    ensures { result ≡ closes_block (chars text.now) }
 {
-    matches!(text, [']'])
+    text == "]"
 }
 
-// A text without its note.
-fn before_note(text: &[char]) -> &[char]
-    ensures { result.now ≡ before_note text.now }
+// A text without its note, and the note, which stands behind the first semicolon.
+#[tactic(auto, using(crate::proofs::Hints::no_text))]
+fn at_note(text: &str) -> (&str, &str)
+    ensures { at_note (chars text.now) ≡ (chars result.0.now, chars result.1.now) }
 {
     match cut_at(text, ';') {
-        Some((word, _)) => word,
-        None => text,
-    }
-}
-
-// What stands behind the first semicolon.
-fn behind_semicolon(text: &[char]) -> &[char]
-    ensures { result.now ≡ (at_note text.now).1 }
-{
-    match cut_at(text, ';') {
-        Some((_, note)) => note,
-        None => &[],
+        Some((word, note)) => (word, note),
+        None => (text, ""),
     }
 }
 
 // The item that a text outside of blocks is: a mark, or else a candidate.
-fn single_item(alloc: Global, text: &[char]) -> Result<Item, Memory>
-    ensures { IfOk result (λ item. item_said item ≡ single_item text.now) }
+fn single_item(alloc: Global, text: &str) -> Result<Item, Memory>
+    ensures { IfOk result (λ item. item_said item ≡ single_item (chars text.now)) }
 {
-    match whole_marked(alloc, text)? {
+    match marked_by_form(alloc, text)? {
         Some(words) => Ok(Item::Mark { words }),
         None => candidate(alloc, text),
     }
 }
 
 // The candidate that a text is.
-fn candidate(alloc: Global, text: &[char]) -> Result<Item, Memory>
-    ensures { IfOk result (λ item. item_said item ≡ mark_or_candidate text.now None) }
+fn candidate(alloc: Global, text: &str) -> Result<Item, Memory>
+    ensures { IfOk result (λ item. item_said item ≡ mark_or_candidate (chars text.now) None) }
 {
-    let word = word_of(alloc, before_note(text))?;
-    let note = without_line_ends(alloc, behind_semicolon(text))?;
+    let (word, note) = at_note(text);
+    let word = word_of(alloc, word)?;
+    let note = without_line_ends(alloc, note)?;
     Ok(Item::Candidate { word, note })
 }
 
-// The characters that are no ends of lines.
-fn without_line_ends(alloc: Global, text: &[char]) -> Result<String, Memory>
+// The string of a text without ends of lines.
+#[tactic(auto, using(skk_text::specs::FilterLaws::filter_all))]
+fn without_line_ends(alloc: Global, text: &str) -> Result<String, Memory>
+    ensures { IfOk result (λ note. characters note ≡ filter (λ c. not (c == 13 || c == 10)) (chars text.now)) }
+{
+    if lacks_line_ends(text) {
+        let note = plain(alloc, text)?;
+        Ok(note)
+    } else {
+        no_line_ends(alloc, &characters_of(alloc, text)?)
+    }
+}
+
+// The string of the characters that are no ends of lines.
+#[tactic(auto, using(crate::proofs::Strings::characters_encoded))]
+fn no_line_ends(alloc: Global, text: &[char]) -> Result<String, Memory>
     ensures { IfOk result (λ note. characters note ≡ filter (λ c. not (c == 13 || c == 10)) text.now) }
 {
-    let mut note = room_for(alloc, text)?;
-    for c in text {
-        if !(*c == '\r' || *c == '\n') {
-            push(&mut note, *c)?;
-        }
-    }
-    Ok(note)
+    Ok(
+        text.iter()
+            .copied()
+            .filter(|c| !(*c == '\r' || *c == '\n'))
+            .collect(alloc)?,
+    )
+}
+
+// Whether no character ends a line.
+fn lacks_line_ends(text: &str) -> bool
+    ensures { result ≡ list_all (λ c. not (c == 13 || c == 10)) (chars text.now) }
+{
+    text.chars().all(|c| !(c == '\r' || c == '\n'))
 }
 
 // Whether no word of the items is too long.
@@ -284,6 +297,7 @@ fn are_fit(items: &[Item]) -> bool
 }
 
 // Whether no word of an item is too long.
+#[tactic(auto, using(crate::proofs::Hints::words_fit))]
 fn is_fit(item: &Item) -> bool
     ensures { result ≡ item_fits (item_said item.now) }
 {

@@ -1,11 +1,11 @@
-ghost use Rattle.std.specs.Prelude.{◌≡◌, map, true, ℕ, nat_lt, IfOk, IsErrOf, Ok, Err};
+ghost use Rattle.std.specs.Prelude.{◌≡◌, map, true, nat_lt, IfOk, IsErrOf, Ok, Err};
 ghost use Rattle.skk_text.specs.Lists.{is_empty};
 ghost use Rattle.skk_text.specs.Results.{AnswersUnless};
 ghost use Rattle.skk_text.specs.Text.{byte_len};
 ghost use Rattle.skk_calls.specs.Canonical.{line_limit};
-ghost use Rattle.std.specs.List.{list_any, list_all};
+ghost use Rattle.std.specs.List.{list_any};
 ghost use Rattle.std.specs.Str.{chars};
-ghost use Rattle.skk_calls.specs.Rows.{Row, begins_well, is_row, is_row_key};
+ghost use Rattle.skk_calls.specs.Rows.{Row, is_row, is_row_key};
 ghost use Rattle.dict_format.specs.declared.reason.LineReason.{LineReason};
 ghost use Rattle.dict_format.specs.declared.reason.LineReason.TheVariants as reasons;
 ghost use Rattle.std.specs.Option.{option_map};
@@ -24,8 +24,8 @@ use crate::items::{Item, items_of};
 use crate::reason::{LineFault, LineReason};
 use crate::row::row_of;
 use crate::words::plain;
-use exact_readers::{behind_spaces, cut_at};
-use skk_calls::{LINE_LIMIT, Part, Row, RowKey, may_begin_reading};
+use exact_readers::{behind_spaces, cut_at, past_char};
+use skk_calls::{LINE_LIMIT, Part, Row, RowKey, begins_well};
 use skk_text::{Memory, Text};
 use std::alloc::Global;
 
@@ -60,14 +60,13 @@ fn key_before_space(alloc: Global, part: Part, line: &str) -> Result<RowKey, Lin
     if is_long(line) {
         return Err(LineFault::Reason(LineReason::LongLine));
     }
-    let characters = characters_of(alloc, line)?;
-    reading_key(alloc, part, &characters)
+    reading_key(alloc, part, line)
 }
 
-// The key of what stands before the first space of characters.
-fn reading_key(alloc: Global, part: Part, line: &[char]) -> Result<RowKey, LineFault>
+// The key of what stands before the first space of a line.
+fn reading_key(alloc: Global, part: Part, line: &str) -> Result<RowKey, LineFault>
     ensures { Gives (λ key. key) result
-        (and_then (or_reason reasons.NoSpace (cut is_space line.now)) (λ parts. key_at part parts.0)) }
+        (and_then (or_reason reasons.NoSpace (cut is_space (chars line.now))) (λ parts. key_at part parts.0)) }
 {
     match cut_at(line, ' ') {
         Some((reading, _)) => key_of(alloc, part, reading),
@@ -94,28 +93,21 @@ pub fn read(alloc: Global, part: Part, line: &str) -> Result<Row, LineFault>
     if is_long(line) {
         return Err(LineFault::Reason(LineReason::LongLine));
     }
-    let characters = characters_of(alloc, line)?;
-    read_characters(alloc, part, &characters)
+    read_cut(alloc, part, line)
 }
 
 // Whether a line is too long.
+#[tactic(auto, using(crate::proofs::Hints::bytes))]
 fn is_long(line: &str) -> bool
     ensures { result ≡ nat_lt line_limit (byte_len (chars line.now)) }
 {
     line.len() > LINE_LIMIT
 }
 
-// The characters of a text.
-fn characters_of(alloc: Global, text: &str) -> Result<Vec<char>, Memory>
-    ensures { IfOk result (λ characters. characters.items ≡ chars text.now) }
-{
-    Ok(text.chars().collect(alloc)?)
-}
-
-// Reads the characters of a line that is not too long.
-fn read_characters(alloc: Global, part: Part, line: &[char]) -> Result<Row, LineFault>
+// Reads a line that is not too long, cut at its first space.
+fn read_cut(alloc: Global, part: Part, line: &str) -> Result<Row, LineFault>
     ensures { Gives (λ row. row) result
-        (and_then (or_reason reasons.NoSpace (cut is_space line.now)) (row_reading part)) }
+        (and_then (or_reason reasons.NoSpace (cut is_space (chars line.now))) (row_reading part)) }
 {
     match cut_at(line, ' ') {
         Some((reading, rest)) => read_parts(alloc, part, reading, rest),
@@ -125,9 +117,9 @@ fn read_characters(alloc: Global, part: Part, line: &[char]) -> Result<Row, Line
 
 // Reads what stands before and behind the first space of a line.
 #[tactic(auto, unfolding(crate::specs::Reading::row_reading))]
-fn read_parts(alloc: Global, part: Part, reading: &[char], rest: &[char]) -> Result<Row, LineFault>
-    requires { lacks 0x20 reading.now ≡ true }
-    ensures { Gives (λ row. row) result (row_reading part (reading.now, rest.now)) }
+fn read_parts(alloc: Global, part: Part, reading: &str, rest: &str) -> Result<Row, LineFault>
+    requires { lacks 0x20 (chars reading.now) ≡ true }
+    ensures { Gives (λ row. row) result (row_reading part (chars reading.now, chars rest.now)) }
 {
     let key = key_of(alloc, part, reading)?;
     let texts = texts_between(alloc, behind_spaces(rest))?;
@@ -158,9 +150,9 @@ fn says_something(row: &Row) -> bool
 
 // The key of a reading, which holds no space.
 #[tactic(auto, unfolding(crate::specs::Reading::key_at))]
-fn key_of(alloc: Global, part: Part, reading: &[char]) -> Result<RowKey, LineFault>
-    requires { lacks 0x20 reading.now ≡ true }
-    ensures gives { Gives (λ key. key) result (key_at part reading.now) }
+fn key_of(alloc: Global, part: Part, reading: &str) -> Result<RowKey, LineFault>
+    requires { lacks 0x20 (chars reading.now) ≡ true }
+    ensures gives { Gives (λ key. key) result (key_at part (chars reading.now)) }
     ensures valid { IfOk result (λ key. (is_row_key key ≡ true) × (key.part ≡ part)) }
 {
     if is_bad_reading(reading) {
@@ -177,36 +169,26 @@ fn key_of(alloc: Global, part: Part, reading: &[char]) -> Result<RowKey, LineFau
 }
 
 // Whether a reading is empty, begins with `;`, or holds a control character.
-fn is_bad_reading(reading: &[char]) -> bool
-    ensures { result ≡ is_bad_reading reading.now }
+fn is_bad_reading(reading: &str) -> bool
+    ensures { result ≡ is_bad_reading (chars reading.now) }
 {
     !begins_well(reading) || holds_control(reading)
 }
 
-// Whether a text begins as a reading does.
-fn begins_well(text: &[char]) -> bool
-    ensures { result ≡ begins_well text.now }
-{
-    match text {
-        [] => false,
-        [first, ..] => may_begin_reading(*first),
-    }
-}
-
 // Whether a text holds a control character.
-fn holds_control(text: &[char]) -> bool
-    ensures { result ≡ list_any is_control text.now }
+fn holds_control(text: &str) -> bool
+    ensures { result ≡ list_any is_control (chars text.now) }
 {
-    text.iter().any(|c| *c < ' ' || *c == '\u{7F}')
+    text.chars().any(|c| c < ' ' || c == '\u{7F}')
 }
 
 // The texts between the slashes of a body that begins and ends with one.
 #[tactic(auto, unfolding(crate::specs::Reading::texts_at))]
-fn texts_between(alloc: Global, body: &[char]) -> Result<Vec<&[char]>, LineFault>
+fn texts_between(alloc: Global, body: &str) -> Result<Vec<&str>, LineFault>
     ensures { Gives (λ texts. texts_seen texts.items) result
-        (or_reason reasons.NoSlash (texts_at body.now)) }
+        (or_reason reasons.NoSlash (texts_at (chars body.now))) }
 {
-    let ['/', behind @ ..] = body else {
+    let Some(behind) = past_char(body, '/') else {
         return Err(LineFault::Reason(LineReason::NoSlash));
     };
     match whole_texts(alloc, behind)? {
@@ -216,20 +198,31 @@ fn texts_between(alloc: Global, body: &[char]) -> Result<Vec<&[char]>, LineFault
 }
 
 // The texts that a whole text is, each ended by a slash.
-fn whole_texts(alloc: Global, text: &[char]) -> Result<Option<Vec<&[char]>>, Memory>
+#[tactic(auto, using(crate::proofs::LineTexts::whole_if))]
+fn whole_texts(alloc: Global, text: &str) -> Result<Option<Vec<&str>>, Memory>
     ensures { IfOk result (λ found. option_map (λ texts. texts_seen texts.items) found
-        ≡ all slashed_text text.now) }
+        ≡ all slashed_text (chars text.now)) }
 {
-    match all_texts(alloc, text)? {
-        (texts, []) => Ok(Some(texts)),
-        _ => Ok(None),
+    let (texts, rest) = all_texts(alloc, text)?;
+    if is_empty(rest) {
+        Ok(Some(texts))
+    } else {
+        Ok(None)
     }
 }
 
+// Whether a text has no character.
+#[tactic(auto, using(crate::proofs::Strings::empty_text))]
+fn is_empty(text: &str) -> bool
+    ensures { result ≡ is_empty (chars text.now) }
+{
+    text.is_empty()
+}
+
 // The texts that are ended by a slash, and what stands behind the last of them.
-fn all_texts(alloc: Global, text: &[char]) -> Result<(Vec<&[char]>, &[char]), Memory>
-    ensures { IfOk result (λ parts. taken slashed_text.step text.now
-        ≡ (texts_seen parts.0.items, parts.1.now)) }
+fn all_texts(alloc: Global, text: &str) -> Result<(Vec<&str>, &str), Memory>
+    ensures { IfOk result (λ parts. taken slashed_text.step (chars text.now)
+        ≡ (texts_seen parts.0.items, chars parts.1.now)) }
 {
     let mut texts = Vec::new(alloc);
     let mut rest = text;

@@ -67,6 +67,7 @@ fn add_item(alloc: Global, parts: &mut Parts, item: Item) -> Result<(), Memory>
 }
 
 // Adds a candidate, unless its word is empty or came before.
+#[tactic(auto, using(crate::proofs::OnceMore::cands_once_more))]
 fn add_cand(cands: &mut WordMap<Text>, word: String, note: String) -> Result<(), Memory>
     ensures { OnOk result ((before : List Cand) → map as_cand cands.old ≡ cands_once before
         → map as_cand cands.new ≡ cands_once (before ++ as_cand (characters word, characters note) ∷ [])) }
@@ -89,6 +90,7 @@ fn add_words(known: &mut WordSet, words: Vec<String>) -> Result<(), Memory>
 }
 
 // Adds a word, unless it is empty or came before.
+#[tactic(auto, using(crate::proofs::OnceMore::words_once_more))]
 fn add_word(known: &mut WordSet, word: String) -> Result<(), Memory>
     ensures { OnOk result ((before : List (List ℕ)) → known.old ≡ words_once before
         → known.new ≡ words_once (before ++ characters word ∷ [])) }

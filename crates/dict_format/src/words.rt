@@ -1,12 +1,13 @@
 ghost use Rattle.std.specs.Prelude.{◌≡◌, ◌∷◌, ◌++◌, [], ℕ, List, map, IfOk, OnOk};
 ghost use Rattle.std.specs.Option.{option_map};
+ghost use Rattle.std.specs.Str.{chars};
 ghost use Rattle.exact_readers.specs.Formats.{whole};
 ghost use Rattle.word_sets.specs.Strings.{characters};
 ghost use Rattle.dict_format.specs.Words.{string_character, string_behind, quoted_word, marked_string, closed_strings};
 ghost use Rattle.dict_format.specs.Words.{marked_strings, marked_words, said};
 
 use crate::characters::string_character;
-use exact_readers::{Reader, past, read_many};
+use exact_readers::{Reader, past, past_char, read_many};
 use skk_text::Memory;
 use std::alloc::Global;
 
@@ -19,35 +20,52 @@ const MARKED: [char; 20] = [
     'd',
 ];
 
-// The text of characters.
-pub fn plain(alloc: Global, text: &[char]) -> Result<String, Memory>
-    ensures { IfOk result (λ string. characters string ≡ text.now) }
+// The string of a text.
+pub fn plain(alloc: Global, text: &str) -> Result<String, Memory>
+    ensures { IfOk result (λ string. characters string ≡ chars text.now) }
 {
-    let mut string = room_for(alloc, text)?;
-    for c in text {
-        push(&mut string, *c)?;
-    }
-    Ok(string)
-}
-
-// A string of no characters, with room for these.
-pub fn room_for(alloc: Global, text: &[char]) -> Result<String, Memory>
-    ensures { IfOk result (λ string. characters string ≡ []) }
-{
-    let bytes = text
-        .iter()
-        .fold(0usize, |bytes, c| bytes.saturating_add(c.len_utf8()));
-    Ok(String::with_capacity(alloc, bytes)?)
+    Ok(String::from_str(alloc, text)?)
 }
 
 // The word that a text says: the one that it quotes, or itself.
-pub fn word_of(alloc: Global, text: &[char]) -> Result<String, Memory>
-    ensures { IfOk result (λ word. characters word ≡ said text.now) }
+pub fn word_of(alloc: Global, text: &str) -> Result<String, Memory>
+    ensures { IfOk result (λ word. characters word ≡ said (chars text.now)) }
 {
-    match whole_quoted(alloc, text)? {
+    match said_by_form(alloc, text)? {
         Some(word) => Ok(word),
         None => plain(alloc, text),
     }
+}
+
+// The word that a whole text quotes, which is looked for where the text begins as a form does.
+#[tactic(auto, using(crate::proofs::Forms::past_none))]
+fn said_by_form(alloc: Global, text: &str) -> Result<Option<String>, Memory>
+    ensures { IfOk result (λ found. option_map characters found ≡ whole quoted_word (chars text.now)) }
+{
+    match past_char(text, '(') {
+        Some(_) => whole_quoted(alloc, &characters_of(alloc, text)?),
+        None => Ok(None),
+    }
+}
+
+// The words that a whole text marks, which are looked for where the text begins as a form does.
+#[tactic(auto, using(crate::proofs::Forms::past_none))]
+pub fn marked_by_form(alloc: Global, text: &str) -> Result<Option<Vec<String>>, Memory>
+    ensures { IfOk result (λ found. option_map (λ words. map characters words.items) found
+        ≡ whole marked_words (chars text.now)) }
+{
+    match past_char(text, '(') {
+        Some(_) => whole_marked(alloc, &characters_of(alloc, text)?),
+        None => Ok(None),
+    }
+}
+
+// The characters of a text.
+#[tactic(auto, using(std::proofs::lemmas::Str::chars_from_encodes))]
+pub fn characters_of(alloc: Global, text: &str) -> Result<Vec<char>, Memory>
+    ensures { IfOk result (λ characters. characters.items ≡ chars text.now) }
+{
+    Ok(text.chars().collect(alloc)?)
 }
 
 // The word that a whole text quotes.
@@ -75,7 +93,7 @@ fn quoted_word(alloc: Global, text: &[char]) -> Result<Option<(String, &[char])>
 }
 
 // The words that a whole text marks.
-pub fn whole_marked(alloc: Global, text: &[char]) -> Result<Option<Vec<String>>, Memory>
+fn whole_marked(alloc: Global, text: &[char]) -> Result<Option<Vec<String>>, Memory>
     ensures { IfOk result (λ found. option_map (λ words. map characters words.items) found
         ≡ whole marked_words text.now) }
 {
@@ -212,6 +230,7 @@ impl Reader<char> for StringCharacter {
 }
 
 // A string of no characters.
+#[tactic(auto, using(crate::proofs::Strings::no_characters))]
 fn new_string(alloc: Global) -> String
     ensures { characters result ≡ [] }
 {
@@ -219,7 +238,8 @@ fn new_string(alloc: Global) -> String
 }
 
 // Adds a character.
-pub fn push(word: &mut String, c: char) -> Result<(), Memory>
+#[tactic(auto, using(crate::proofs::Strings::another_character))]
+fn push(word: &mut String, c: char) -> Result<(), Memory>
     ensures { OnOk result (characters word.new ≡ characters word.old ++ c ∷ []) }
 {
     word.push(c)?;

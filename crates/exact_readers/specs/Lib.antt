@@ -1,3 +1,4 @@
+pub mod CharLaws
 pub mod CutLaws
 pub mod Cuts
 pub mod Exact

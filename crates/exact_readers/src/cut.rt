@@ -1,32 +1,30 @@
-ghost use Rattle.std.specs.Prelude.{◌≡◌, ◌==◌, ◌<◌, length, position, IfSome};
+ghost use Rattle.std.specs.Prelude.{◌≡◌, ◌==◌, ◌∷◌, []};
 ghost use Rattle.std.specs.Option.{option_map};
+ghost use Rattle.std.specs.Str.{chars};
 ghost use Rattle.exact_readers.specs.Cuts.{cut, without_spaces};
 ghost use Rattle.exact_readers.specs.Formats.{past};
 
 /// What stands before the first such character and what stands behind it, where there is one.
-pub fn cut_at(text: &[char], end: char) -> Option<(&[char], &[char])>
-    ensures { option_map (λ parts. (parts.0.now, parts.1.now)) result ≡ cut (λ c. c == end) text.now }
+pub fn cut_at(text: &str, end: char) -> Option<(&str, &str)>
+    ensures { option_map (λ parts. (chars parts.0.now, chars parts.1.now)) result
+        ≡ cut (λ c. c == end) (chars text.now) }
 {
-    match place_of(text, end) {
-        Some(at) => Some((&text[..at], &text[at + 1..])),
-        None => None,
-    }
+    text.split_once(end)
 }
 
-// Where the first such character stands.
-fn place_of(text: &[char], end: char) -> Option<usize>
-    ensures value { result ≡ position (λ c. c == end) text.now }
-    ensures within { IfSome result (λ at. at < length text.now) }
+/// What stands behind a character, where the text begins with it.
+pub fn past_char(text: &str, c: char) -> Option<&str>
+    ensures { option_map (λ rest. chars rest.now) result ≡ past (c ∷ []) (chars text.now) }
 {
-    text.iter().position(|c| *c == end)
+    text.strip_prefix(c)
 }
 
 /// The text behind its leading spaces.
-pub fn behind_spaces(text: &[char]) -> &[char]
-    ensures { result.now ≡ without_spaces text.now }
+pub fn behind_spaces(text: &str) -> &str
+    ensures { chars result.now ≡ without_spaces (chars text.now) }
 {
     let mut rest = text;
-    while let [' ', behind @ ..] = rest {
+    while let Some(behind) = past_char(rest, ' ') {
         rest = behind;
     }
     rest

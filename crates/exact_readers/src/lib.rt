@@ -13,7 +13,7 @@ mod printing;
 mod reading;
 mod trimming;
 
-pub use cut::{behind_spaces, cut_at, past};
+pub use cut::{behind_spaces, cut_at, past, past_char};
 pub use lines::{cut_line, first_byte_line, first_line, without_return};
 pub use printing::{Printer, print_each};
 pub use reading::{Reader, read_many};

@@ -4,24 +4,12 @@ use Rattle.std.proofs.Common.{List, [], ◌∷◌, ◌++◌, ◌∙◌, sym, ap,
 use Rattle.std.proofs.Common.{length-append, subst, arith}
 use Rattle.std.specs.String.{string_len}
 use Rattle.std.specs.Str.{chars, IsUtf8, IsCharBoundary}
-use Rattle.std.specs.Char.{IsScalar}
 use Rattle.std.proofs.Math.Seq.{drop-append_seam, take-append_seam}
 use Rattle.std.proofs.lemmas.List.{nil_from_length, append-nil, take-append-drop, length_push}
 use Rattle.skk_text.specs.Text.{without_last}
-use Rattle.std.proofs.lemmas.Str.{chars-append, chars-nil, chars_past_char, encodes-append, encodes-chars, encodes_same}
-use Rattle.std.proofs.lemmas.Str.{IsCharBoundary-from_take, IsUtf8-encode, IsUtf8-string_bytes}
-
--- a character alone
-pub chars-encode : (c : ℕ) → IsScalar c → chars (encode_utf8 c) ≡ c ∷ []
-chars-encode c scalar =
-    chars_past_char (encode_utf8 c) [] c (IsUtf8-encode c scalar) (sym (append-nil (encode_utf8 c)))
-    ∙ ap (λ cs. c ∷ cs) chars-nil
-
--- one more character
-pub chars-push : (bytes : List ℕ) (c : ℕ) → IsUtf8 bytes → IsScalar c
-    → chars (bytes ++ encode_utf8 c) ≡ chars bytes ++ c ∷ []
-chars-push bytes c utf8 scalar =
-    chars-append bytes (encode_utf8 c) utf8 ∙ ap (λ cs. chars bytes ++ cs) (chars-encode c scalar)
+pub use Rattle.skk_text.specs.TextLaws.{chars-encode, chars-push}
+use Rattle.std.proofs.lemmas.Str.{chars-nil, encodes-append, encodes-chars, encodes_same}
+use Rattle.std.proofs.lemmas.Str.{IsCharBoundary-from_take, IsUtf8-string_bytes}
 
 -- the last character of a text
 pub chars-last : (bytes rest : List ℕ) (c : ℕ) → IsUtf8 bytes → IsUtf8 rest → bytes ≡ rest ++ encode_utf8 c

@@ -25,6 +25,14 @@ module _ {X : Type 0} (test : X → Bool) where
   list_all-weaker weaker so [] all = refl
   list_all-weaker weaker so (x ∷ xs) all = grind (arith, so x, list_all-weaker weaker so xs)
 
+-- of items that pass a test those are kept that pass another with it
+pub list_all-kept : {X : Type 0} (test keeps passes : X → Bool)
+    → ((x : X) → test x ≡ true → keeps x ≡ true → passes x ≡ true) → (xs : List X) → list_all test xs ≡ true
+    → list_all passes (filter keeps xs) ≡ true
+list_all-kept test keeps passes both [] all = refl
+list_all-kept test keeps passes both (x ∷ xs) all =
+    grind (arith, both x, list_all-kept test keeps passes both xs)
+
 module _ {X : Type 0} (test : X → X → Bool) where
   -- of a list of which every two items stand in a relation, so do those that a filter keeps
   pub all_pairs-filter : (keeps : X → Bool) (xs : List X) → all_pairs test xs ≡ true

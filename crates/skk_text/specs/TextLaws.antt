@@ -1,12 +1,13 @@
 -- What holds of the lengths of texts, and of their characters before and behind an ASCII byte.
 use Rattle.std.specs.Prelude.{◌≡◌, ◌<◌, ℕ, ◌+◌, ◌==◌, List, [], ◌∷◌, ◌++◌, length, take, drop, get_or, encode_utf8_all}
 use lib.Utf8.{encode}
+use Rattle.std.specs.Char.{IsScalar}
 use Rattle.std.specs.Str.{chars, IsUtf8}
-use Rattle.std.proofs.Common.{◌∙◌, sym, ap, refl, arith, length-append}
+use Rattle.std.proofs.Common.{◌∙◌, sym, ap, refl, arith, encode_utf8, append-nil, length-append}
 use Rattle.std.proofs.lemmas.Bool.{ne_eqb}
 use Rattle.std.proofs.lemmas.List.{take-append-drop, at_drop_more}
 use Rattle.std.proofs.lemmas.Str.{encodes-append, chars-append, chars_past_char, encode_ascii, length-le-encodes}
-use Rattle.std.proofs.lemmas.Str.{IsCharBoundary-before_ascii, IsUtf8-drop, IsUtf8-take}
+use Rattle.std.proofs.lemmas.Str.{IsCharBoundary-before_ascii, IsUtf8-drop, IsUtf8-encode, IsUtf8-take, chars-nil}
 use Rattle.skk_text.specs.Lists.{is_empty}
 use Rattle.skk_text.specs.Text.{byte_len}
 
@@ -38,3 +39,15 @@ chars-split text place utf8 within small =
       ap chars (sym (take-append-drop place text)) ∙ chars-append front (drop place text) front_utf8
           ∙ ap (λ cs. chars front ++ cs) rest_chars,
     )
+
+-- a character alone
+pub chars-encode : (c : ℕ) → IsScalar c → chars (encode_utf8 c) ≡ c ∷ []
+chars-encode c scalar =
+    chars_past_char (encode_utf8 c) [] c (IsUtf8-encode c scalar) (sym (append-nil (encode_utf8 c)))
+    ∙ ap (λ cs. c ∷ cs) chars-nil
+
+-- and behind others
+pub chars-push : (bytes : List ℕ) (c : ℕ) → IsUtf8 bytes → IsScalar c
+    → chars (bytes ++ encode_utf8 c) ≡ chars bytes ++ c ∷ []
+chars-push bytes c utf8 scalar =
+    chars-append bytes (encode_utf8 c) utf8 ∙ ap (λ cs. chars bytes ++ cs) (chars-encode c scalar)

@@ -36,6 +36,18 @@ module _ {V : Type 0} where
   found bytes utf8 [] = refl
   found bytes utf8 (entry ∷ entries) = rw (same_bytes bytes utf8 entry.0, found bytes utf8 entries) refl
 
+  -- it has a word where that is one of its words
+  pub has_word : (text : List ℕ) (words : List (List ℕ × V))
+      → is_some (lookup (same_text text) words) ≡ has_text (map (λ pair. pair.0) words) text
+  has_word text [] = refl
+  has_word text (word ∷ words) = by (same_text text word.0) (has_word text words)
+    where
+      by : (b : Bool) → is_some (lookup (same_text text) words) ≡ has_text (map (λ pair. pair.0) words) text
+          → is_some (cond b (Some word.1) (lookup (same_text text) words))
+          ≡ (b || has_text (map (λ pair. pair.0) words) text)
+      by true rest = refl
+      by false rest = rest
+
   -- and sets it there
   pub written : (bytes : List ℕ) → IsUtf8 bytes → (entries : List (String Global × V)) (value : V)
       → map worded (set_value (λ key. bytes_eq bytes (string_bytes key)) entries value)

@@ -148,7 +148,7 @@ module _ {X : Type 0} (text_of : X → List ℕ) where
   -- The first of each
 
   -- what is first among the texts that were not seen is added to items of these texts
-  first_unseen : (seen : List (List ℕ)) (xs ys : List X)
+  pub first_unseen : (seen : List (List ℕ)) (xs ys : List X)
       → ((text : List ℕ) → has_text seen text ≡ has_text (map text_of xs) text)
       → xs ++ first_of_each text_of seen ys ≡ fold (with_new text_of) xs ys
   first_unseen seen xs [] same = append-nil xs

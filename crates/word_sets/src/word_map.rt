@@ -42,7 +42,7 @@ impl<V> WordMap<V> {
 }
 
 impl<V: Drop> WordMap<V> {
-    ghost use Rattle.std.specs.Prelude.{◌≡◌, map, not, IfOk, OnOk, OnErr};
+    ghost use Rattle.std.specs.Prelude.{◌≡◌, length, map, not, IfOk, OnOk, OnErr};
     ghost use Rattle.std.specs.Borrow.{sem};
     ghost use Rattle.std.specs.Map.{lookup};
     ghost use Rattle.std.specs.Option.{option_copied_mut};
@@ -62,6 +62,20 @@ impl<V: Drop> WordMap<V> {
         let before = self.values.len();
         self.values.entry(word)?.or_insert(value);
         Ok(before < self.values.len())
+    }
+
+    /// How many words there are. Takes no memory.
+    pub fn len(&self) -> usize
+        ensures { result ≡ length self.now }
+    {
+        self.values.len()
+    }
+
+    /// Whether a word is there. Takes no memory.
+    pub fn contains(&self, word: &str) -> bool
+        ensures { result ≡ has_text (map (λ pair. pair.0) self.now) (chars word.now) }
+    {
+        self.values.contains_key(word)
     }
 
     /// The value of a word that is there, to be changed in place. Takes no memory.

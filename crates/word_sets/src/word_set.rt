@@ -18,7 +18,7 @@ impl Model for WordSet {
 }
 
 impl WordSet {
-    ghost use Rattle.std.specs.Prelude.{◌≡◌, [], true, not, IfOk, OnOk, OnErr};
+    ghost use Rattle.std.specs.Prelude.{◌≡◌, [], length, true, not, IfOk, OnOk, OnErr};
     ghost use Rattle.skk_calls.specs.Rows.{has_text, texts_differ};
     ghost use Rattle.word_sets.specs.Firsts.{with_new};
     ghost use Rattle.word_sets.specs.Strings.{characters};
@@ -40,6 +40,20 @@ impl WordSet {
     {
         let is_new = self.words.insert(word, ())?;
         Ok(is_new)
+    }
+
+    /// How many words there are. Takes no memory.
+    pub fn len(&self) -> usize
+        ensures { result ≡ length self.now }
+    {
+        self.words.len()
+    }
+
+    /// Whether a word is there. Takes no memory.
+    pub fn contains(&self, word: &Text) -> bool
+        ensures { result ≡ has_text self.now word.now }
+    {
+        self.words.contains(word.as_str())
     }
 
     /// The words as texts, which are moved.

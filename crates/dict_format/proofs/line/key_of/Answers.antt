@@ -1,5 +1,6 @@
 use Rattle.std.proofs.Common.{◌≡◌, ◌∙◌, sym, ap, subst, List, ℕ, true, false, nat_lt, refl, arith}
 use Rattle.std.proofs.lemmas.Bool.{not-false, le-ltb}
+use Rattle.std.specs.Str.{chars}
 use Rattle.skk_text.specs.Text.{byte_len}
 use Rattle.skk_calls.specs.Rows.{is_row_key, reading_limit}
 use Rattle.dict_format.specs.Reading.{key_at}
@@ -11,7 +12,7 @@ pub returns-in-Err-clause-gives : goal.returns-in-Err-clause-gives
 unfolding key_at
 returns-in-Err-clause-gives c =
     let part = c.args.part in
-    let reading = c.args.reading.now in
+    let reading = chars c.args.reading.now in
     let same : c.of-text.result ≡ reading = c.of-text.ensures ∙ c.in_ok-plain.ensures in
     let good : is_bad_reading reading ≡ false = sym c.is_bad_reading.ensures ∙ c.if-is_bad_reading.false in
     let bytes : c.byte_len.result ≡ byte_len reading = c.byte_len.ensures ∙ ap byte_len same in
