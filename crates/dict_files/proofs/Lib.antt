@@ -1,5 +1,7 @@
+mod Examples
 pub mod FileWalk
 pub mod InOrder
 pub mod Places
+pub mod PlainLines
 pub mod Scanned
 pub mod Walking

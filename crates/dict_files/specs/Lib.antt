@@ -1,6 +1,7 @@
 pub mod FilePlaces
 pub mod Files
 pub mod PlacesOfParts
+pub mod PlainLines
 pub mod Scanning
 pub mod WalkLaws
 pub mod Walked

@@ -1,12 +1,15 @@
-ghost use Rattle.std.specs.Prelude.{◌≡◌, ◌↔◌, IfOk, Err};
+ghost use Rattle.std.specs.Prelude.{◌≡◌, ◌↔◌, ◌∷◌, true, All, List, IfOk, Err};
+ghost use Rattle.std.specs.List.{filter};
+ghost use Rattle.skk_calls.specs.declared.part.Part.TheVariants.{Nasi};
 ghost use Rattle.skk_text.specs.TextFiles.{IsTextFault, IsTextWithin};
 ghost use Rattle.skk_text.specs.declared.text_file.TextFault.{TextFault};
 ghost use Rattle.dict_format.specs.FileLines.{file_limit};
-ghost use Rattle.dict_files.specs.FilePlaces.{IsFile};
+ghost use Rattle.dict_files.specs.FilePlaces.{IsFile, IsValid, first_row, has_reading, reading_at, rise};
 ghost use Rattle.dict_files.specs.Walked.{walked_reading};
+ghost use Rattle.dict_files.specs.declared.place.Place.{Place as PlaceValue};
 
 use crate::part_places::PartPlaces;
-use crate::place::reading_at;
+use crate::place::{Place, plain_at, reading_at};
 use crate::scanning::places_of;
 use crate::searching::{behind_equal, first_row, row_of};
 use dict_format::{FILE_LIMIT, FileFault, files_list_one_thing};
@@ -98,12 +101,10 @@ impl DictionaryFile {
         let nasi = self.places.of(Part::Nasi);
         let mut places = behind_equal(bytes, nasi, low.as_str().as_bytes());
         while let Some((place, later)) = places.split_first() {
-            let reading = reading_at(bytes, place);
-            let row = first_row(alloc, Part::Nasi, bytes, places, reading)?;
-            if let Some(next) = walked_reading(alloc, row)? {
+            if let Some(next) = walked_at(alloc, bytes, place, places)? {
                 return Ok(Some(next));
             }
-            places = behind_equal(bytes, later, reading);
+            places = behind_equal(bytes, later, reading_at(bytes, place));
         }
         Ok(None)
     }
@@ -123,6 +124,27 @@ fn places_in(alloc: Global, bytes: &[u8]) -> Result<PartPlaces, FileFault>
         },
         Err(fault) => Err(FileFault::NoText(fault)),
     }
+}
+
+// The reading of the first of entries in order, where its row has a candidate. Takes no more than its line where that
+// is plain.
+fn walked_at(
+    alloc: Global,
+    bytes: &[u8],
+    place: &Place,
+    places: &[Place],
+) -> Result<Option<Text>, Memory>
+    requires first { (later : List PlaceValue) × (places.now ≡ place.now ∷ later) }
+    requires valid { All (IsValid bytes.now) places.now }
+    requires rise { rise bytes.now places.now ≡ true }
+    ensures { IfOk result (λ next. next ≡ walked_reading
+        (first_row Nasi bytes.now (filter (has_reading bytes.now (reading_at bytes.now place.now)) places.now))) }
+{
+    if let Some(reading) = plain_at(bytes, place) {
+        return Ok(Some(Text::of(String::from_str(alloc, reading)?)));
+    }
+    let row = first_row(alloc, Part::Nasi, bytes, places, reading_at(bytes, place))?;
+    walked_reading(alloc, row)
 }
 
 // The reading of a row, where there is one that has a candidate.

@@ -12,6 +12,7 @@ mod dictionary_file;
 mod laws;
 mod part_places;
 mod place;
+mod plain_lines;
 mod row_file;
 mod scanning;
 mod searching;

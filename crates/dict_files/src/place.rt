@@ -1,12 +1,15 @@
-ghost use Rattle.std.specs.Prelude.{◌≡◌, IfOk};
-ghost use Rattle.std.specs.Str.{IsUtf8};
+ghost use Rattle.std.specs.Prelude.{◌≡◌, Some, IfOk, IfSome};
+ghost use Rattle.std.specs.Str.{IsUtf8, chars};
+ghost use Rattle.skk_calls.specs.declared.part.Part.TheVariants.{Nasi};
 ghost use Rattle.dict_files.specs.FilePlaces.{line_at, piece_at, reading_at, row_at};
+ghost use Rattle.dict_files.specs.Walked.{walked_reading};
 
+use crate::plain_lines::plain_reading;
 use dict_format::row_of_line;
+use simdutf8::basic::from_utf8;
 use skk_calls::{Part, Row};
 use skk_text::Memory;
 use std::alloc::Global;
-use std::str;
 
 /// Where an entry stands in the bytes of a file.
 #[derive(Clone, Copy, Debug)]
@@ -31,8 +34,20 @@ pub fn row_at(alloc: Global, part: Part, bytes: &[u8], place: &Place) -> Result<
     requires { IsUtf8 (line_at bytes.now place.now) }
     ensures { IfOk result (λ row. row ≡ row_at part bytes.now place.now) }
 {
-    match str::from_utf8(piece_at(bytes, place.start, place.line)) {
+    match from_utf8(piece_at(bytes, place.start, place.line)) {
         Ok(line) => row_of_line(alloc, part, line),
+        Err(_) => unreachable!(),
+    }
+}
+
+/// The reading of an entry whose line plainly spells a row of the okuri-nasi part with a candidate. Takes time in the
+/// length of its line, and no memory.
+pub fn plain_at<'b>(bytes: &'b [u8], place: &Place) -> Option<&'b str>
+    requires { IsUtf8 (line_at bytes.now place.now) }
+    ensures { IfSome result (λ reading. walked_reading (row_at Nasi bytes.now place.now) ≡ Some (chars reading.now)) }
+{
+    match from_utf8(piece_at(bytes, place.start, place.line)) {
+        Ok(line) => plain_reading(line),
         Err(_) => unreachable!(),
     }
 }

@@ -1,12 +1,12 @@
-use Rattle.std.proofs.Common.{◌∙◌, arith, sym}
+use Rattle.std.proofs.Common.{◌∙◌, arith, refl, sym}
 use Rattle.std.proofs.lemmas.Bool.{and_parts}
 use Rattle.std.proofs.lemmas.List.{nil_from_length}
 use Rattle.std.proofs.lemmas.List.Sums.{count_by-le-length, length-filter}
 use Rattle.skk_calls.specs.Rows.{keys_differ}
 use Rattle.skk_calls.specs.declared.part.Part.TheVariants.{Nasi}
-use Rattle.dict_files.specs.FilePlaces.{file_rows, is_above}
+use Rattle.dict_files.specs.FilePlaces.{file_rows, is_above, reading_at}
 use Rattle.dict_files.specs.PlacesOfParts.{places_in}
-use Rattle.dict_files.proofs.FileWalk.{first_least, walk_comes, walk_ended, walk_next, walk_starts}
+use Rattle.dict_files.proofs.FileWalk.{walk_comes, walk_ended, walk_next, walk_starts}
 use Rattle.dict_files.proofs.InOrder.{entries_valid}
 use Rattle.dict_files.proofs.dictionary_file.DictionaryFile.reading_above.Goals as goal
 
@@ -21,34 +21,33 @@ loop-place-init c =
     (walk_starts bytes c.args.low.now (places_in c.self.inside.places Nasi) (c.self.invariant.parts Nasi)
     (and_parts _ (keys_differ (file_rows bytes)) c.self.invariant.rows).1)
 
-pub first_row-requires-clause-valid : goal.first_row-requires-clause-valid
-first_row-requires-clause-valid c = entries_valid Nasi c.as_slice-bytes.result.now _ c.loop-place.invariant.entries
+pub walked_at-requires-clause-first : goal.walked_at-requires-clause-first
+walked_at-requires-clause-first c = (c.in-Some.later.now, c.in-Some.ensures.cases.0)
 
-pub first_row-requires-clause-least : goal.first_row-requires-clause-least
-first_row-requires-clause-least c =
-    rw c.in-Some.ensures.cases.0
-    (first_least c.as_slice-bytes.result.now _ c.in-Some.place.now c.in-Some.later.now c.reading_at-reading.ensures
-    (rw c.in-Some.ensures.cases.0 at c.loop-place.invariant.rise))
+pub walked_at-requires-clause-valid : goal.walked_at-requires-clause-valid
+walked_at-requires-clause-valid c = entries_valid Nasi c.as_slice-bytes.result.now _ c.loop-place.invariant.entries
 
 pub returns-in-Some-2 : goal.returns-in-Some-2
 returns-in-Some-2 c =
     walk_comes c.args.self.now c.as_slice-bytes.result.now c.args.low.now c.in-Some.place.now c.in-Some.later.now
-    (rw c.in-Some.ensures.cases.0 at c.loop-place.invariant) _ c.reading_at-reading.ensures c.in_ok-row.row
-    c.in-Some-2.next (rw c.in-Some.ensures.cases.0 at c.in_ok-row.ensures) (sym c.in-Some-2.is ∙ c.in_ok-next.ensures)
+    (rw c.in-Some.ensures.cases.0 at c.loop-place.invariant)
+    (reading_at c.as_slice-bytes.result.now c.in-Some.place.now) refl _ c.in-Some-2.next refl
+    (rw c.in-Some.ensures.cases.0 at (sym c.in-Some-2.is ∙ c.in_ok-next.ensures))
 
 pub loop-place-smaller : goal.loop-place-smaller
 loop-place-smaller c =
-    let above = is_above c.as_slice-bytes.result.now c.reading_at-reading.result.now in
+    let above = is_above c.as_slice-bytes.result.now c.reading_at.result.now in
     let later = c.in-Some.later.now in
     rw c.behind_equal-places-in-Some.ensures
     (omega (arith, c.in-Some.ensures.cases.1, length-filter above later, count_by-le-length above later))
 
 pub loop-place-preserved : goal.loop-place-preserved
 loop-place-preserved c =
-    rw c.behind_equal-places-in-Some.ensures
+    rw (c.behind_equal-places-in-Some.ensures, c.reading_at.ensures)
     (walk_next c.args.self.now c.as_slice-bytes.result.now c.args.low.now c.in-Some.place.now c.in-Some.later.now
-    (rw c.in-Some.ensures.cases.0 at c.loop-place.invariant) _ c.reading_at-reading.ensures c.in_ok-row.row
-    (rw c.in-Some.ensures.cases.0 at c.in_ok-row.ensures) (sym c.in_ok-next.ensures ∙ c.in_default-2.is))
+    (rw c.in-Some.ensures.cases.0 at c.loop-place.invariant)
+    (reading_at c.as_slice-bytes.result.now c.in-Some.place.now) refl _ refl
+    (rw c.in-Some.ensures.cases.0 at (sym c.in_ok-next.ensures ∙ c.in_default-2.is)))
 
 pub returns : goal.returns
 returns c =

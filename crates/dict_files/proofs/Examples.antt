@@ -1,0 +1,117 @@
+-- The definitions at small files, each worked out by hand.
+use Rattle.std.proofs.Common.{◌≡◌, ℕ, true, false, None, Some, List, [], ◌∷◌, codes, map, refl}
+use Prim.Native.String.{String}
+use Rattle.std.specs.Str.{chars}
+use Rattle.skk_calls.specs.declared.part.Part.{Part}
+use Rattle.skk_calls.specs.declared.part.Part.TheVariants.{Nasi, Ari}
+use Rattle.skk_calls.specs.Rows.{Row}
+use Rattle.exact_readers.specs.Formats.{taken}
+use Rattle.dict_format.specs.FileLines.{FileEntry}
+use Rattle.dict_format.specs.Reading.{texts_at, key_at, fit_items_at, some_row_of, row_reading, line_reading}
+use Rattle.dict_files.specs.declared.place.Place.{Place}
+use Rattle.dict_files.specs.FilePlaces.{piece_at, line_at, reading_at, first_row, has_reading, is_below, is_above}
+use Rattle.dict_files.specs.FilePlaces.{rise, rises}
+use Rattle.dict_files.specs.Files.{is_file}
+use Rattle.dict_files.specs.Scanning.{rows_in}
+use Rattle.dict_files.specs.Walked.{is_walked, walked_reading, walked_readings}
+
+-- Places
+
+-- pieces at the front, in the middle and at the end, and pieces that are not there
+pieces : map (λ (piece : ℕ × ℕ). piece_at (codes "abcd") piece.0 piece.1)
+    ((0, 2) ∷ (1, 2) ∷ (2, 2) ∷ (0, 4) ∷ (1, 0) ∷ (4, 0) ∷ (3, 2) ∷ (0, 5) ∷ (5, 0) ∷ [])
+    ≡ codes "ab" ∷ codes "bc" ∷ codes "cd" ∷ codes "abcd" ∷ [] ∷ [] ∷ [] ∷ [] ∷ [] ∷ []
+pieces = refl
+
+abbrev place : ℕ → ℕ → ℕ → Place
+place start reading line = record { start = start; reading = reading; line = line }
+
+-- lines behind one another: the second spells no row
+abbrev lines : List ℕ
+lines = codes "ab /x/ab aa /x/aa /y/"
+
+reading : reading_at lines (place 0 2 6) ≡ codes "ab"
+reading = refl
+
+line : line_at lines (place 0 2 6) ≡ codes "ab /x/"
+line = refl
+
+abbrev letter : ℕ → Place
+letter start = place start 1 1
+
+with_reading : map (λ start. has_reading (codes "abc") (codes "b") (letter start)) (0 ∷ 1 ∷ 2 ∷ [])
+    ≡ false ∷ true ∷ false ∷ []
+with_reading = refl
+
+below : map (λ start. is_below (codes "abc") (codes "b") (letter start)) (0 ∷ 1 ∷ 2 ∷ []) ≡ true ∷ false ∷ false ∷ []
+below = refl
+
+above : map (λ start. is_above (codes "abc") (codes "b") (letter start)) (0 ∷ 1 ∷ 2 ∷ []) ≡ false ∷ false ∷ true ∷ []
+above = refl
+
+rising : map (λ start. rises (codes "abc") (letter 1) (letter start)) (0 ∷ 1 ∷ 2 ∷ []) ≡ false ∷ true ∷ true ∷ []
+rising = refl
+
+all_rise : map (λ starts. rise (codes "abc") (map letter starts))
+    ([] ∷ (2 ∷ []) ∷ (0 ∷ 1 ∷ 2 ∷ []) ∷ (0 ∷ 0 ∷ 1 ∷ []) ∷ (0 ∷ 2 ∷ 1 ∷ []) ∷ (1 ∷ 2 ∷ 0 ∷ []) ∷ [])
+    ≡ true ∷ true ∷ true ∷ true ∷ false ∷ false ∷ []
+all_rise = refl
+
+-- Rows
+
+abbrev row : Part → String → List String → Row
+row part reading words = record {
+  key = record { part = part; reading = codes reading };
+  cands = map (λ word. record { word = codes word; note = [] }) words;
+  blocks = [];
+  hides = [];
+  stamp = 0;
+}
+
+-- the first entry that spells a row gives it, behind one that spells none too
+first_rows : map (first_row Nasi lines) (
+    [] ∷ (place 6 2 3 ∷ []) ∷ (place 6 2 3 ∷ place 9 2 6 ∷ place 15 2 6 ∷ []) ∷ (place 15 2 6 ∷ place 9 2 6 ∷ [])
+    ∷ [])
+    ≡ None ∷ None ∷ Some (row Nasi "aa" ("x" ∷ [])) ∷ Some (row Nasi "aa" ("y" ∷ [])) ∷ []
+unfolding chars lib.Utf8.encode taken texts_at key_at fit_items_at some_row_of row_reading line_reading
+first_rows = refl
+
+abbrev entry : Part → String → FileEntry
+entry part text = record { number = 1; part = part; text = codes text }
+
+-- of entries of both parts, of which one spells no row, the rows of each part
+rows_of_parts : map (λ part. rows_in part
+    (entry Nasi "a /x/" ∷ entry Ari "いr /y/" ∷ entry Nasi "b" ∷ entry Nasi "a /z/" ∷ [])) (Nasi ∷ Ari ∷ [])
+    ≡ (row Nasi "a" ("x" ∷ []) ∷ row Nasi "a" ("z" ∷ []) ∷ []) ∷ (row Ari "いr" ("y" ∷ []) ∷ []) ∷ []
+unfolding lib.Utf8.encode taken texts_at key_at fit_items_at some_row_of row_reading line_reading
+rows_of_parts = refl
+
+-- rows of one key, and a row with no reading, are those of no file
+files : map is_file (
+    [] ∷ (row Nasi "a" ("x" ∷ []) ∷ row Nasi "b" ("x" ∷ []) ∷ []) ∷ (row Nasi "ar" [] ∷ row Ari "ar" [] ∷ [])
+    ∷ (row Nasi "a" ("x" ∷ []) ∷ row Nasi "a" ("y" ∷ []) ∷ []) ∷ (row Nasi "" ("x" ∷ []) ∷ [])
+    ∷ [])
+    ≡ true ∷ true ∷ true ∷ false ∷ false ∷ []
+unfolding lib.Utf8.encode
+files = refl
+
+-- Walks
+
+walked : map is_walked (
+    row Nasi "a" ("x" ∷ []) ∷ row Nasi "a" [] ∷ row Ari "ar" ("x" ∷ []) ∷ row Ari "ar" []
+    ∷ [])
+    ≡ true ∷ false ∷ false ∷ false ∷ []
+walked = refl
+
+readings : map walked_reading (None ∷ Some (row Nasi "a" []) ∷ Some (row Nasi "a" ("x" ∷ [])) ∷ [])
+    ≡ None ∷ None ∷ Some (codes "a") ∷ []
+readings = refl
+
+-- each reading once, in order, but for those of rows with okurigana and of rows without a candidate
+walk : walked_readings (
+    row Nasi "b" ("x" ∷ []) ∷ row Ari "dr" ("x" ∷ []) ∷ row Nasi "a" ("x" ∷ []) ∷ row Nasi "c" []
+    ∷ row Nasi "b" ("y" ∷ []) ∷ row Nasi "か" ("x" ∷ [])
+    ∷ [])
+    ≡ codes "a" ∷ codes "b" ∷ codes "か" ∷ []
+unfolding lib.Utf8.encode
+walk = refl
