@@ -11,7 +11,9 @@ use Rattle.candidate_state.specs.declared.cands_do.CandsDo.{CandsDo}
 use Rattle.candidate_state.specs.declared.cands_do.CandsDo.TheVariants.{Stay, Back, Register, Purge, Choose}
 use Rattle.candidate_state.specs.Picking.{Picking, PickingStep, is_single, begins_view, is_picking, new_picking}
 use Rattle.candidate_state.specs.Picking.{place_named, says_yes, picking_step}
-use Rattle.candidate_state.specs.Shown.{Shown, shown_word, first_shown, shown_plain}
+use Rattle.candidate_state.specs.declared.shown.Found.{Found}
+use Rattle.candidate_state.specs.declared.shown.ShownCands.TheVariants.{Numbered}
+use Rattle.candidate_state.specs.Shown.{Shown, shown_word, first_shown, shown_plain, shown_numbers, shown_cands}
 
 -- Candidates that are shown
 
@@ -35,14 +37,42 @@ first_kept : first_shown (shown_as (codes "#0") [] (codes "1") ∷ shown_as (cod
     ≡ shown_as (codes "#0") [] (codes "1") ∷ shown_as (codes "#1") [] (codes "１") ∷ []
 first_kept = refl
 
+-- what was found of a key
+abbrev found : List ℕ → List Cand → Found
+found reading cands = record { key = record { part = Nasi; reading = reading }; cands = cands }
+
 -- of two candidates with one word the first is shown, with its note
-plain_shown : shown_plain kanji
-    (cand (codes "漢字") [] ∷ cand (codes "幹事") (codes "宴会の") ∷ cand (codes "漢字") (codes "x") ∷ [])
+plain_shown : shown_plain (found (codes "かんじ")
+    (cand (codes "漢字") [] ∷ cand (codes "幹事") (codes "宴会の") ∷ cand (codes "漢字") (codes "x") ∷ []))
     ≡ shown_as (codes "漢字") [] (codes "漢字") ∷ shown_as (codes "幹事") (codes "宴会の") (codes "幹事") ∷ []
 plain_shown = refl
 
-none_shown : shown_plain kanji [] ≡ []
+none_shown : shown_plain (found (codes "かんじ") []) ≡ []
 none_shown = refl
+
+-- candidates of the reading are shown with their words, and those of its number key filled; of equal texts the first is
+-- shown, as it was found
+numbers_shown :
+    map {B = List ℕ × List ℕ × List ℕ} (λ (s : Shown). (s.key.reading, s.cand.word, s.text)) (shown_numbers
+    (record {
+      plain = found (codes "2回") (cand (codes "#0") [] ∷ cand (codes "二") (codes "n") ∷ []);
+      numbered = found (codes "#回") (cand (codes "#0") [] ∷ cand (codes "#2") [] ∷ cand (codes "#4") []
+          ∷ cand (codes "#1") (codes "m") ∷ cand (codes "2") [] ∷ []);
+    })
+    (codes "2" ∷ []) (codes "ふたつ" ∷ []))
+    ≡ (codes "2回", codes "#0", codes "#0") ∷ (codes "2回", codes "二", codes "二")
+    ∷ (codes "#回", codes "#0", codes "2") ∷ (codes "#回", codes "#4", codes "ふたつ")
+    ∷ (codes "#回", codes "#1", codes "２") ∷ []
+numbers_shown = refl
+
+-- each candidate of a list has the key that it was found under
+list_shown : map {B = List ℕ × List ℕ} (λ (s : Shown). (s.key.reading, s.text)) (shown_cands (Numbered (record {
+  key = record { part = Nasi; reading = codes "a" };
+  number_key = record { part = Nasi; reading = codes "b" };
+  cands = record { cand = cand (codes "x") []; text = codes "x"; is_numbered = false }
+      ∷ record { cand = cand (codes "#0") []; text = codes "1"; is_numbered = true } ∷ [];
+}))) ≡ (codes "a", codes "x") ∷ (codes "b", codes "1") ∷ []
+list_shown = refl
 
 -- Pickings
 

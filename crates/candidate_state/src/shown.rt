@@ -1,24 +1,47 @@
-ghost use Rattle.std.specs.Prelude.{◌≡◌};
-ghost use Rattle.candidate_state.specs.Shown.{shown_plain};
+ghost use Rattle.std.specs.Prelude.{◌≡◌, ◌<◌, true, length, map, slice_get, Some, IfOk};
+ghost use Rattle.numeric_entries.specs.Numbers.{are_numbers};
+ghost use Rattle.candidate_state.specs.Shown.{shown_plain, shown_numbers, shown_word};
 
+use crate::numbered::{NumberedList, numbered_list};
 use skk_calls::{Cand, Cands, DistinctCands, RowKey};
-use skk_text::Text;
+use skk_text::{Memory, Text, Texts};
+use std::alloc::Global;
 use std::marker::Model;
 
-/// Candidates of a key as they are shown, in order: contracts see the list of them.
+/// What was found of a key.
+#[derive(Drop)]
+pub struct Found {
+    pub key: RowKey,
+    pub cands: DistinctCands,
+}
+
+/// What was found of a reading with numbers: as it is, and by its number key.
+#[derive(Drop)]
+pub struct BothFound {
+    pub plain: Found,
+    pub numbered: Found,
+}
+
+/// Candidates as they are shown, in order: contracts see the list of them.
 #[derive(Drop)]
 pub struct ShownList {
-    key: RowKey,
-    found: Cands,
+    cands: ShownCands,
+}
+
+/// The candidates that are shown for a reading: of one key with their words, or of both keys with their texts.
+#[derive(Drop)]
+pub enum ShownCands {
+    Words { key: RowKey, cands: Cands },
+    Numbered(NumberedList),
 }
 
 impl Model for ShownList {
-    ghost use Rattle.std.specs.Prelude.{List, map};
-    ghost use Rattle.candidate_state.specs.Shown.{Shown, shown_word};
+    ghost use Rattle.std.specs.Prelude.{List};
+    ghost use Rattle.candidate_state.specs.Shown.{Shown, shown_cands};
 
     ghost Value = { List Shown };
 
-    ghost view = { λ s. map (shown_word s.key) s.found };
+    ghost view = { λ s. shown_cands s.cands };
 }
 
 /// A candidate that is shown: the key that it was found under, the candidate as it was found,
@@ -33,13 +56,35 @@ pub struct Shown<'a> {
 /// The candidates that are shown for what was found of a key, the first of each word: what was found has no word
 /// twice, and is moved. Takes no memory and constant time.
 #[tactic(auto, using(crate::proofs::ShownWords::shown_words))]
-pub fn shown_plain(key: RowKey, found: DistinctCands) -> ShownList
-    ensures { result ≡ shown_plain key found }
+pub fn shown_plain(found: Found) -> ShownList
+    ensures { result ≡ shown_plain found }
 {
     ShownList {
-        key,
-        found: found.into_cands(),
+        cands: ShownCands::Words {
+            key: found.key,
+            cands: found.cands.into_cands(),
+        },
     }
+}
+
+/// The candidates that are shown for a reading with numbers, the first of each text: those that were found of it as it
+/// is, and those of its number key, filled with the numbers and with the first words that were found for them. What
+/// was found is moved. Takes time in the length of its words and of the texts.
+#[tactic(auto, using(crate::proofs::ShownWords::shown_texts))]
+pub fn shown_numbers(
+    alloc: Global,
+    found: BothFound,
+    numbers: &Texts,
+    firsts: &Texts,
+) -> Result<ShownList, Memory>
+    requires digits { are_numbers numbers.now ≡ true }
+    requires firsts { length firsts.now ≡ length numbers.now }
+    ensures { IfOk result (λ shown. shown ≡ shown_numbers found numbers.now firsts.now) }
+{
+    let list = numbered_list(alloc, found, numbers, firsts)?;
+    Ok(ShownList {
+        cands: ShownCands::Numbered(list),
+    })
 }
 
 impl ShownList {
@@ -49,7 +94,10 @@ impl ShownList {
     pub fn len(&self) -> usize
         ensures { result ≡ length self.now }
     {
-        self.found.len()
+        match &self.cands {
+            ShownCands::Words { cands, .. } => cands.len(),
+            ShownCands::Numbered(list) => list.cands.len(),
+        }
     }
 
     /// The candidate of a place, counted from 0. Takes constant time.
@@ -58,11 +106,23 @@ impl ShownList {
         ensures { slice_get self.now place
             ≡ Some (record { key = result.key.now; cand = result.cand.now; text = result.text.now }) }
     {
-        let cand = self.found.at(place);
-        Shown {
-            key: &self.key,
-            cand,
-            text: cand.word(),
+        match &self.cands {
+            ShownCands::Words { key, cands } => word_at(key, cands, place),
+            ShownCands::Numbered(list) => list.at(place),
         }
+    }
+}
+
+// The candidate of a place, counted from 0, with its word.
+fn word_at<'a>(key: &'a RowKey, cands: &'a Cands, place: usize) -> Shown<'a>
+    requires { place < length cands.now }
+    ensures { slice_get (map (shown_word key.now) cands.now) place
+        ≡ Some (record { key = result.key.now; cand = result.cand.now; text = result.text.now }) }
+{
+    let cand = cands.at(place);
+    Shown {
+        key,
+        cand,
+        text: cand.word(),
     }
 }

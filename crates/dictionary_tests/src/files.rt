@@ -79,7 +79,7 @@ const KEYS: [(Part, &str); 24] = [
     (Part::Nasi, "\u{10FFFF}"),
 ];
 
-fn bytes(alloc: Global, content: &[u8]) -> Result<Bytes, Fail> {
+pub fn bytes(alloc: Global, content: &[u8]) -> Result<Bytes, Fail> {
     let mut bytes = Vec::new(alloc);
     bytes.extend_from_slice(content)?;
     Ok(Bytes::of(bytes))

@@ -49,6 +49,17 @@ fn lines_are_read_and_printed(rt: HostRuntime) -> Result<(), Fail> {
             "おおk /大/多/[く/多/]/[き/大/]/",
         ),
         (Part::Ari, "いt /言/行/[った/言/]/", "いt /言/行/[った/言/]/"),
+        // kanji, notes in kanji and kana, of which one begins as a form does, and forms: a note keeps each of its bytes
+        (
+            Part::Nasi,
+            "OMG /the Object Management Group;CORBA策定のための組織/(concat \"http:\\057\\057www.omg.org\\057\")/",
+            "OMG /the Object Management Group;CORBA策定のための組織/(concat \"http:\\057\\057www.omg.org\\057\")/",
+        ),
+        (
+            Part::Nasi,
+            "りっそく /律速;(concat \"複要素が絡み合う事柄\\057\")の要素/入出力;イオ/(concat \"I\\057Oポート\")/",
+            "りっそく /律速;(concat \"複要素が絡み合う事柄\\057\")の要素/入出力;イオ/(concat \"I\\057Oポート\")/",
+        ),
         // several spaces, an empty word, a word that came before
         (Part::Nasi, "か   /蚊//蚊;むし/", "か /蚊/"),
         // a bracket in the okuri-nasi part, and a closing one alone

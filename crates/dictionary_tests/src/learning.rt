@@ -5,7 +5,6 @@ ghost use Rattle.skk_text.specs.Lists.{is_empty};
 ghost use Rattle.skk_calls.specs.Dictionary.{is_fit};
 ghost use Rattle.skk_calls.specs.Rows.{is_word};
 ghost use Rattle.skk_calls.specs.States.{fits_count, has_stamp};
-ghost use Rattle.learn_index.specs.Plans.{is_lookup, is_question};
 
 use dict_layers::System;
 use dict_rows::line_length;
@@ -155,7 +154,7 @@ fn states_are_rebuilt(rt: HostRuntime) -> Result<(), Fail> {
 }
 
 // Runs a script: on each line stands a command, a `=`, and what it tells.
-fn run(rt: &impl Abort, alloc: Global, script: &str) -> Result<(), Fail> {
+pub fn run(rt: &impl Abort, alloc: Global, script: &str) -> Result<(), Fail> {
     let mut desk = Desk::new(alloc)?;
     desk.run_lines(rt, alloc, script)
 }
@@ -219,7 +218,8 @@ impl Desk {
             "forge" => self.forge(alloc, line),
             "unlearn" => self.unlearn(alloc, line.number),
             "find" => self.find(alloc, line),
-            "file" => self.file(alloc, line.number),
+            "complete" => self.complete(alloc, line),
+            "file" => self.file(alloc, line),
             "block" => self.block(alloc, line),
             "put" => self.put(alloc, line),
             "drop" => self.drop_row(alloc, line),
@@ -231,8 +231,7 @@ impl Desk {
 
     // Asks a call, tells its reply, and keeps what was learnt.
     fn ask(&mut self, alloc: Global, call: Call) -> Result<String, Fail>
-        requires known { is_question call ≡ is_lookup call }
-        requires fit { is_fit call ≡ true }
+        requires { is_fit call ≡ true }
     {
         let reply = self.reply(alloc, call)?;
         let told = reply_text(alloc, &reply)?;
@@ -244,17 +243,15 @@ impl Desk {
 
     // The reply to a call. Calls are let go here alone: each place where one is takes long to prove.
     fn reply(&mut self, alloc: Global, call: Call) -> Result<Reply, Memory>
-        requires known { is_question call ≡ is_lookup call }
-        requires fit { is_fit call ≡ true }
+        requires { is_fit call ≡ true }
     {
         self.reply_to(alloc, &call)
     }
 
     fn reply_to(&mut self, alloc: Global, call: &Call) -> Result<Reply, Memory>
-        requires known { is_question call.now ≡ is_lookup call.now }
-        requires fit { is_fit call.now ≡ true }
+        requires { is_fit call.now ≡ true }
     {
-        if let Call::Lookup { .. } = call {
+        if matches!(call, Call::Lookup { .. } | Call::Complete { .. }) {
             return self.index.answer(alloc, &self.system, call);
         }
         let plan = self.index.plan(alloc, call)?;
@@ -307,10 +304,21 @@ impl Desk {
         self.ask(alloc, call)
     }
 
-    // Makes a book the one system file.
-    fn file(&mut self, alloc: Global, number: u16) -> Result<String, Fail> {
+    fn complete(&mut self, alloc: Global, line: &Line) -> Result<String, Fail> {
+        let call = Call::Complete {
+            who: line.number,
+            prefix: text(alloc, line.reading)?,
+        };
+        self.ask(alloc, call)
+    }
+
+    // Makes a book the one system file, or this and another the two.
+    fn file(&mut self, alloc: Global, line: &Line) -> Result<String, Fail> {
         let mut books = Books::new(alloc);
-        books.push(self.index.book(alloc, number)?)?;
+        books.push(self.index.book(alloc, line.number)?)?;
+        if !line.reading.is_empty() {
+            books.push(self.index.book(alloc, line.reading.parse()?)?)?;
+        }
         self.system = System::of_books(alloc, books)?;
         done_text(alloc)
     }
@@ -327,13 +335,14 @@ impl Desk {
         put_into(&mut self.index, alloc, line.number, count, row)
     }
 
-    // Copies a row into what is rebuilt.
+    // Copies a row into what is rebuilt: into its book, or into another.
     fn put(&mut self, alloc: Global, line: &Line) -> Result<String, Fail> {
         let key = key(alloc, line.reading)?;
         let row = self.index.row(line.number, &key).ok_or("no row")?;
         let row = row.copy(alloc)?;
         let count = self.index.count(line.number);
-        put_into(&mut self.rebuilt, alloc, line.number, count, row)
+        let book = line.word.parse().unwrap_or(line.number);
+        put_into(&mut self.rebuilt, alloc, book, count, row)
     }
 
     fn drop_row(&mut self, alloc: Global, line: &Line) -> Result<String, Fail> {
@@ -400,7 +409,7 @@ fn reply_text(alloc: Global, reply: &Reply) -> Result<String, Fail> {
         Reply::Overtaken(stamp) => format!(in alloc; "overtaken {stamp}")?,
         Reply::TooBig(bytes) => format!(in alloc; "too big {bytes}")?,
         Reply::StampsEnd => String::from_str(alloc, "stamps end")?,
-        Reply::Readings(_) => String::from_str(alloc, "readings")?,
+        Reply::Readings(readings) => return texts_text(alloc, readings),
     };
     Ok(told)
 }
@@ -449,6 +458,13 @@ fn words_text(alloc: Global, cands: &Cands) -> Result<String, Fail> {
     trim(alloc, &told)
 }
 
+// Texts.
+fn texts_text(alloc: Global, texts: &Texts) -> Result<String, Fail> {
+    let mut told = String::new(alloc);
+    add_texts(&mut told, texts)?;
+    trim(alloc, &told)
+}
+
 // The readings of a book.
 fn readings_text(alloc: Global, book: &Book) -> Result<String, Fail> {
     let mut told = String::new(alloc);
@@ -469,7 +485,7 @@ fn add_words(told: &mut String, cands: &Cands) -> Result<(), AllocError> {
 }
 
 // Texts, each with a space before it.
-fn add_texts(told: &mut String, texts: &Texts) -> Result<(), AllocError> {
+pub fn add_texts(told: &mut String, texts: &Texts) -> Result<(), AllocError> {
     for text in texts.as_slice() {
         told.push(' ')?;
         told.push_str(text.as_str())?;

@@ -1,5 +1,5 @@
 //! Tests of the public calls of the crates of the dictionary, lowest first: texts and keys, traces, calls, sets of
-//! words, rows, dictionary files, layers, learning, and the format of a dictionary file.
+//! words, rows, dictionary files, layers, completion, learning, and the format of a dictionary file.
 //!
 //! They stand above those crates, so that none of these is proved once with its tests and once without. It has no
 //! public item.
@@ -7,6 +7,8 @@
 
 #[cfg(test)]
 mod calls;
+#[cfg(test)]
+mod completion;
 #[cfg(test)]
 mod files;
 #[cfg(test)]

@@ -8,7 +8,7 @@ use Rattle.skk_calls.specs.Rows.{RowKey, Row}
 use Rattle.skk_calls.specs.States.{State}
 use Rattle.learn_index.specs.Index.{Index, spare_of}
 use Rattle.learn_index.specs.Kept.{changed, has_changed, has_count, is_held, keeps_book}
-use Rattle.learn_index.specs.Plans.{is_lookup, is_question}
+use Rattle.learn_index.specs.Plans.{is_question}
 use Rattle.learn_index.specs.Records.{state_counted, state_without}
 
 -- a key, and a row of it with a stamp
@@ -25,9 +25,6 @@ calls =
     ∷ Learn 1 (key (codes "a")) None (record { word = codes "b"; note = [] })
     ∷ Purge 1 (key (codes "a")) (codes "b")
     ∷ Unlearn (record { book = 1; key = key (codes "a"); stamp = 2; before = None }) ∷ []
-
-lookups : map is_lookup calls ≡ true ∷ false ∷ false ∷ false ∷ false ∷ []
-lookups = refl
 
 questions : map is_question calls ≡ true ∷ true ∷ false ∷ false ∷ false ∷ []
 questions = refl

@@ -1,5 +1,7 @@
 mod Books
 mod Changes
+mod Completions
 mod Examples
 mod FoundBook
+mod NewestFirst
 mod Planned

@@ -32,8 +32,3 @@ IsMade state plan =
 abbrev pub HasRoom : Index → Plan → Type 0
 HasRoom index (Still reply) = ⊤
 HasRoom index (Move book count key row reply) = 0 < spare_of index book
-
--- a call looks up
-abbrev pub is_lookup : Call → Bool
-is_lookup (Lookup who key okuri) = true
-is_lookup call = false

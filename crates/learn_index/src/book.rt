@@ -1,12 +1,10 @@
-ghost use Rattle.std.specs.Prelude.{◌≡◌, ◌<◌, true, [], Some, IfOk};
-ghost use Rattle.std.specs.Option.{option_copied};
+ghost use Rattle.std.specs.Prelude.{◌≡◌, ◌<◌, true, [], Some};
 ghost use Rattle.std.specs.Vec.{vec_len, vec_capacity};
-ghost use Rattle.skk_calls.specs.States.{row_in, with_row, without_row, rows_ascend};
+ghost use Rattle.skk_calls.specs.States.{with_row, without_row, rows_ascend};
 
 use crate::kept_row::KeptRow;
-use ordered_lists::{Keyed, has_key_at, item_of, place_of};
-use skk_calls::{Row, RowKey, Rows};
-use skk_text::{Copies, Memory};
+use ordered_lists::{Keyed, has_key_at, place_of};
+use skk_calls::RowKey;
 use std::alloc::Global;
 use std::cmp::Ordering;
 
@@ -31,15 +29,6 @@ impl LearnedBook {
             count: 0,
             rows: Vec::new(alloc),
         }
-    }
-
-    /// The row of a key. Takes a logarithm in the number of rows.
-    pub fn row(&self, key: &RowKey) -> Option<&Row>
-        requires { rows_ascend self.now.rows.items ≡ true }
-        ensures { option_copied result ≡ row_in key.now self.now.rows.items }
-    {
-        let kept = item_of(&self.rows, key)?;
-        Some(kept.row())
     }
 
     /// Gives the key of a row this row. Takes a logarithm in the number of rows to find its place, moves the rows
@@ -71,17 +60,6 @@ impl LearnedBook {
         if has_key_at(&self.rows, place, key) {
             let _row = self.rows.remove(place);
         }
-    }
-
-    /// The rows, copied.
-    pub fn copied_rows(&self, alloc: Global) -> Result<Rows, Memory>
-        ensures { IfOk result (λ rows. rows ≡ self.now.rows.items) }
-    {
-        let mut rows = Rows::new(alloc);
-        for kept in &self.rows {
-            rows.push(kept.row().copy(alloc)?)?;
-        }
-        Ok(rows)
     }
 }
 

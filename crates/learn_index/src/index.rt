@@ -1,28 +1,30 @@
-ghost use Rattle.std.specs.Prelude.{◌≡◌, ◌<◌, ◌≤◌, true, false, min, map, Some, None, List, IfOk, OnOk, OnErr};
+ghost use Rattle.std.specs.Prelude.{◌≡◌, ◌<◌, ◌≤◌, true, false, min, Some, None, List, IfOk, OnOk, OnErr};
 ghost use Rattle.std.specs.Option.{option_copied};
 ghost use Rattle.skk_text.specs.Counts.{last_count};
 ghost use Rattle.skk_calls.specs.declared.call.Call.{Call};
-ghost use Rattle.skk_calls.specs.Dictionary.{answer, after, is_call, is_fit};
+ghost use Rattle.skk_calls.specs.Dictionary.{answer, after, is_call, is_fit, may_reply};
 ghost use Rattle.skk_calls.specs.Rows.{Row as row_value};
-ghost use Rattle.skk_calls.specs.States.{empty_state, row_at, rows_of, count_of, state_with, is_valid, fits_count};
+ghost use Rattle.skk_calls.specs.States.{empty_state, row_at, rows_ascend, rows_of, count_of, state_with};
+ghost use Rattle.skk_calls.specs.States.{is_valid, fits_count};
 ghost use Rattle.skk_calls.specs.Tallies.{count_rows};
 ghost use Rattle.learn_index.specs.Index.{spare_of};
 ghost use Rattle.learn_index.specs.Kept.{keeps_book};
-ghost use Rattle.learn_index.specs.Plans.{is_lookup, is_question, IsPlanned, IsMade, HasRoom};
+ghost use Rattle.learn_index.specs.Plans.{is_question, IsPlanned, IsMade, HasRoom};
 ghost use Rattle.learn_index.specs.Records.{state_counted, state_without};
 
 use crate::book::LearnedBook;
+use crate::completing::completions;
 use crate::kept_books::{book_of, place_of};
-use crate::kept_row::KeptRow;
-use crate::layering::layers;
+use crate::kept_row::{KeptRow, copied_rows};
+use crate::layering::found_cands;
 use crate::plan::Plan;
 use crate::planning::{
     learning_is_call, plan_learn, plan_purge, plan_unlearn, purge_is_call, unlearning_is_call,
 };
 use dict_laws::changes_keep_states_valid;
-use dict_layers::{System, merge};
-use ordered_lists::has_key_at;
-use skk_calls::{Book, Call, Reply, Row, RowKey, Rows};
+use dict_layers::System;
+use ordered_lists::{has_key_at, item_of};
+use skk_calls::{Book, Call, Reply, Row, RowKey};
 use skk_text::Memory;
 use std::alloc::Global;
 use std::marker::Model;
@@ -58,17 +60,23 @@ impl Index {
         }
     }
 
-    /// What a look-up is answered over these system files. Takes a logarithm in the rows of a book and of a file, and
-    /// time in the candidates that it gives.
+    /// What a look-up or a completion is answered over these system files. A look-up takes a logarithm in the rows of a
+    /// book and of a file, and time in the candidates that it gives; a completion takes these logarithms too, time in
+    /// the rows of a book with a reading that begins with the prefix, with one logarithm in their number, and a step of
+    /// a walk for each reading that it goes over in a file.
     pub fn answer(&self, alloc: Global, system: &System, call: &Call) -> Result<Reply, Memory>
-        requires { is_lookup call.now ≡ true }
-        ensures { IfOk result (λ reply. reply ≡ answer system.now self.now.state call.now) }
+        requires { is_question call.now ≡ true }
+        ensures value { IfOk result (λ reply. reply ≡ answer system.now self.now.state call.now) }
+        ensures may { IfOk result (λ reply. may_reply call.now reply ≡ true) }
     {
         match call {
             Call::Lookup { who, key, okuri } => {
-                let found = system.find(alloc, key)?;
-                let layers = layers(self, alloc, &found, *who, key)?;
-                Ok(Reply::Found(merge(alloc, &layers, okuri.as_ref())?))
+                let rows = system.find(alloc, key)?;
+                let cands = found_cands(self, alloc, rows, *who, key, okuri.as_ref())?;
+                Ok(Reply::Found(cands))
+            }
+            Call::Complete { who, prefix } => {
+                Ok(Reply::Readings(completions(self, alloc, system, *who, prefix)?))
             }
             _ => unreachable!(),
         }
@@ -194,10 +202,8 @@ impl Index {
     pub fn row(&self, book: u16, key: &RowKey) -> Option<&Row>
         ensures { option_copied result ≡ row_at self.now.state book key.now }
     {
-        match book_of(&self.books, book) {
-            Some(book) => book.row(key),
-            None => None,
-        }
+        let kept = item_of(self.rows_of(book), key)?;
+        Some(kept.row())
     }
 
     /// The count of a book, 0 where there is none. Takes no memory.
@@ -222,9 +228,18 @@ impl Index {
     pub fn book(&self, alloc: Global, number: u16) -> Result<Book, Memory>
         ensures { IfOk result (λ book. book ≡ rows_of self.now.state number) }
     {
+        Ok(Book::new(copied_rows(alloc, self.rows_of(number))?))
+    }
+
+    // The rows of a book, ascending by their keys. Takes a logarithm in the number of books, and no memory.
+    pub(crate) fn rows_of(&self, number: u16) -> &[KeptRow]
+        ensures rows { result.now ≡ rows_of self.now.state number }
+        ensures ascend { rows_ascend result.now ≡ true }
+        ensures valid { is_valid self.now.state ≡ true }
+    {
         match book_of(&self.books, number) {
-            Some(book) => Ok(Book::new(book.copied_rows(alloc)?)),
-            None => Ok(Book::new(Rows::new(alloc))),
+            Some(book) => &book.rows,
+            None => &[],
         }
     }
 

@@ -1,6 +1,8 @@
+ghost use Rattle.std.specs.Prelude.{◌≡◌, IfOk};
+
 use ordered_lists::Keyed;
-use skk_calls::{Row, RowKey};
-use skk_text::Memory;
+use skk_calls::{Row, RowKey, Rows};
+use skk_text::{Copies, Memory, Text};
 use std::alloc::Global;
 use std::cmp::Ordering;
 use std::marker::Model;
@@ -57,4 +59,34 @@ impl Keyed<RowKey> for KeptRow {
     fn compare(&self, key: &RowKey) -> Ordering {
         self.row().key().order(key)
     }
+}
+
+/// A reading stands for its key without okurigana.
+impl Keyed<Text> for KeptRow {
+    ghost use Rattle.skk_calls.specs.OrderLaws.{row_keys};
+    ghost use Rattle.skk_calls.specs.Orders.{plain_key};
+    ghost use Rattle.skk_calls.specs.Rows.{RowKey};
+
+    ghost Key = { RowKey };
+
+    ghost keys = { row_keys };
+
+    ghost key = { λ row. row.key };
+
+    ghost sought_key = { plain_key };
+
+    fn compare(&self, reading: &Text) -> Ordering {
+        self.row().compare(reading)
+    }
+}
+
+/// Copies of rows.
+pub fn copied_rows(alloc: Global, rows: &[KeptRow]) -> Result<Rows, Memory>
+    ensures { IfOk result (λ copies. copies ≡ rows.now) }
+{
+    let mut copies = Rows::new(alloc);
+    for kept in rows {
+        copies.push(kept.row().copy(alloc)?)?;
+    }
+    Ok(copies)
 }

@@ -1,32 +1,74 @@
 ghost use Rattle.std.specs.Prelude.{◌≡◌, ◌++◌, ◌==◌, List, [], map, IfOk, OnOk, if◌then◌else◌};
 ghost use Rattle.std.specs.List.{filter_map};
-ghost use Rattle.std.specs.Option.{option_copied};
-ghost use Rattle.skk_calls.specs.Found.{layers, optional_row};
+ghost use Rattle.std.specs.Option.{option_copied, option_to_list};
+ghost use Rattle.skk_calls.specs.Found.{found, merged, optional_row};
 ghost use Rattle.skk_calls.specs.Rows.{Row as RowValue};
 ghost use Rattle.skk_calls.specs.States.{row_at, row_in};
 
 use crate::index::Index;
-use dict_layers::RowList;
-use skk_calls::{Row, RowKey, Rows};
+use dict_layers::{RowList, merge, merge_onto};
+use skk_calls::{DistinctCands, Okuri, Row, RowKey, Rows};
 use skk_text::{Memory, Sequence};
 use std::alloc::Global;
 
-/// The rows of a key for a typist: in the typist's book, in the shared book where that is another, and those that were
-/// found in system files.
-pub fn layers<'a>(
+/// The candidates of a key for a typist: of the row in the typist's book, of that in the shared book where that is
+/// another, and of the rows that were found in system files, the last of which is moved.
+pub fn found_cands(
+    index: &Index,
+    alloc: Global,
+    rows: Rows,
+    who: u16,
+    key: &RowKey,
+    okuri: Option<&Okuri>,
+) -> Result<DistinctCands, Memory>
+    ensures { IfOk result (λ cands. (files : List (List RowValue)) → rows ≡ filter_map (row_in key.now) files
+        → cands ≡ found files index.now.state who key.now (option_copied okuri.entry)) }
+{
+    let (above, last) = split_last(rows);
+    let upper = upper_layers(index, alloc, &above, who, key)?;
+    merge_with(alloc, &upper, last, okuri)
+}
+
+// Rows without the last of them, and that.
+fn split_last(rows: Rows) -> (Vec<Row>, Option<Row>)
+    ensures { rows ≡ result.0.items ++ option_to_list result.1 }
+{
+    let mut above = rows.into_vec();
+    let last = above.pop();
+    (above, last)
+}
+
+// The candidates of layers and of one more below them, where there is one, which is moved.
+fn merge_with(
+    alloc: Global,
+    upper: &RowList,
+    last: Option<Row>,
+    okuri: Option<&Okuri>,
+) -> Result<DistinctCands, Memory>
+    ensures { IfOk result (λ cands. cands
+        ≡ merged (map (λ row. row.now) upper.now ++ option_to_list last) (option_copied okuri.entry)) }
+{
+    match last {
+        Some(last) => merge_onto(alloc, upper, last, okuri),
+        None => merge(alloc, upper, okuri),
+    }
+}
+
+// The rows of a key for a typist: in the typist's book, in the shared book where that is another, and these below them.
+fn upper_layers<'a>(
     index: &'a Index,
     alloc: Global,
-    found: &'a Rows,
+    below: &'a [Row],
     who: u16,
     key: &RowKey,
 ) -> Result<RowList<'a>, Memory>
-    ensures { IfOk result (λ rows. (files : List (List RowValue)) → found.now ≡ filter_map (row_in key.now) files
-        → map (λ row. row.now) rows ≡ layers files index.now.state who key.now) }
+    ensures { IfOk result (λ rows. map (λ row. row.now) rows ≡ optional_row (row_at index.now.state who key.now)
+        ++ (if who == 0 then [] else optional_row (row_at index.now.state 0 key.now)) ++ below.now) }
 {
     let mut rows = Sequence::new(alloc);
     add_row(&mut rows, index.row(who, key))?;
     add_row(&mut rows, shared_row(index, who, key))?;
-    add_rows(&mut rows, found.as_slice())?;
+    add_rows(&mut rows, below)?;
     Ok(rows)
 }
 
@@ -64,4 +106,4 @@ fn add_rows<'a>(rows: &mut RowList<'a>, more: &'a [Row]) -> Result<(), Memory>
 }
 
 // The number of the book that all typists share.
-const SHARED: u16 = 0;
+pub(crate) const SHARED: u16 = 0;

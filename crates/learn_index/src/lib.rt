@@ -1,12 +1,14 @@
 //! All learned books in memory: the dictionary of one thread.
 //!
-//! It stands on `skk_text`, `skk_calls`, `dict_laws`, `dict_rows` and `dict_layers`. An `Index` stands for a state of
-//! `skk_calls`. It answers look-ups over its books and the system files. A change is planned first, which takes all
-//! memory that the change needs and changes nothing, and then applied, which takes none and can't fail: a layer above
-//! writes the change to a disk in between. `put`, `drop_row` and `set_count` rebuild a state from what was written.
+//! It stands on `skk_text`, `ordered_lists`, `skk_calls`, `dict_laws`, `dict_rows`, `dict_files`, `dict_layers` and
+//! `dict_complete`. An `Index` stands for a state of `skk_calls`. It answers look-ups and completions over its books
+//! and the system files. A change is planned first, which takes all memory that the change needs and changes nothing,
+//! and then applied, which takes none and can't fail: a layer above writes the change to a disk in between. `put`,
+//! `drop_row` and `set_count` rebuild a state from what was written.
 #![tactic(auto)]
 
 mod book;
+mod completing;
 mod index;
 mod kept_books;
 mod kept_row;

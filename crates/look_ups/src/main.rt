@@ -1,19 +1,24 @@
 //! Times what dictionaries are asked: it opens those that the words behind the first name, asks them for each line of
 //! standard input, and prints how much they gave.
 //!
-//! It stands on `skk_text`, `skk_outside`, `skk_calls`, `dict_format`, `dict_files` and `dict_layers`.
-//! With `find` as the first word
-//! each line is a reading without okurigana that is looked up, and its candidates are counted; with `walk` it is a
-//! reading from which a walk goes over the first dictionary, and the readings that this comes by are counted, 256 at
-//! most. It is no part of the input method, and promises nothing but to end.
+//! It stands on `skk_text`, `skk_outside`, `skk_calls`, `dict_format`, `dict_files`, `dict_layers` and `learn_index`.
+//! With `find` as the first word each line is a reading without okurigana that is looked up for a typist, and its
+//! candidates are counted; with `walk` it is a reading from which a walk goes over the first dictionary, and the
+//! readings that this comes by are counted, 256 at most; with `complete` it is a prefix that is completed for the
+//! typist, and the readings that are given are counted. A reading behind a `+` is learnt by the typist. It is no part
+//! of the input method, and promises nothing but to end.
 #![tactic(auto)]
+
+ghost use Rattle.std.specs.Prelude.{◌≡◌, true, IfSome};
+ghost use Rattle.skk_calls.specs.Dictionary.{is_fit};
 
 use dict_files::{DictionaryFile, DictionaryFiles};
 use dict_format::FILE_LIMIT;
-use dict_layers::{RowList, System, merge_onto};
-use skk_calls::{Part, RowKey, Walk};
+use dict_layers::System;
+use learn_index::Index;
+use skk_calls::{Call, Cand, Part, Reply, RowKey, Walk};
 use skk_outside::{HostShelf, Shelf, read_named_file};
-use skk_text::Text;
+use skk_text::{Memory, Text};
 use std::alloc::Global;
 use std::io::Write;
 use std::process::ExitCode;
@@ -21,6 +26,9 @@ use std::{env, io};
 
 /// The most readings that a walk goes over.
 const STEPS: usize = 256;
+
+/// The number of the typist that learns and completes, and of the book.
+const TYPIST: u16 = 1;
 
 fn main(rt: HostRuntime) -> ExitCode {
     match count_all(&rt) {
@@ -49,17 +57,7 @@ fn count_all(rt: &HostRuntime) -> Option<u64> {
     }
     let system = System::of_files(alloc, files).ok()?;
     let lines = io::read_to_string(alloc, rt.reader()).ok()?;
-    let mut count = 0u64;
-    for line in lines.lines() {
-        let reading = Text::of(String::from_str(alloc, line).ok()?);
-        let given = match kind.as_str() {
-            "find" => count_found(alloc, &system, reading)?,
-            "walk" => count_walked(alloc, &system, reading)?,
-            _ => return None,
-        };
-        count = count.saturating_add(given);
-    }
-    Some(count)
+    count_lines(alloc, &system, &kind, &lines)
 }
 
 // Opens a dictionary.
@@ -68,19 +66,99 @@ fn open<H: Shelf>(alloc: Global, shelf: &mut H, name: &Text) -> Option<Dictionar
     DictionaryFile::open(alloc, bytes).ok()
 }
 
-// How many candidates a reading has.
-fn count_found(alloc: Global, system: &System, reading: Text) -> Option<u64> {
-    let key = RowKey::new(Part::Nasi, reading).ok()?;
-    let mut rows = system.find(alloc, &key).ok()?.into_vec();
-    let Some(last) = rows.pop() else {
-        return Some(0);
-    };
-    let mut upper = RowList::new(alloc);
-    for row in &rows {
-        upper.push(row).ok()?;
+// How much the dictionaries give for lines.
+fn count_lines(alloc: Global, system: &System, kind: &str, lines: &str) -> Option<u64> {
+    let mut index = Index::new(alloc);
+    let mut count = 0u64;
+    for line in lines.lines() {
+        count = count.saturating_add(count_line(alloc, system, &mut index, kind, line)?);
     }
-    let cands = merge_onto(alloc, &upper, last, None).ok()?;
-    Some(cands.cands().len() as u64)
+    Some(count)
+}
+
+// How much is given for a line: nothing where its reading is learnt.
+fn count_line(
+    alloc: Global,
+    system: &System,
+    index: &mut Index,
+    kind: &str,
+    line: &str,
+) -> Option<u64> {
+    if kind == "walk" {
+        return count_walked(alloc, system, text(alloc, line)?);
+    }
+    let call = call_of(alloc, kind, line)?;
+    count_answered(alloc, system, index, &call)
+}
+
+// The call that a line says.
+fn call_of(alloc: Global, kind: &str, line: &str) -> Option<Call>
+    ensures { IfSome result (λ call. is_fit call ≡ true) }
+{
+    if let Some(reading) = line.strip_prefix('+') {
+        return learning(alloc, text(alloc, reading)?);
+    }
+    question(kind, text(alloc, line)?)
+}
+
+// The call that learns a word for a reading.
+fn learning(alloc: Global, reading: Text) -> Option<Call>
+    ensures { IfSome result (λ call. is_fit call ≡ true) }
+{
+    let key = RowKey::new(Part::Nasi, reading).ok()?;
+    let cand = Cand::new(text(alloc, "字")?, Text::new(alloc)).ok()?;
+    Some(Call::Learn {
+        book: TYPIST,
+        key,
+        okuri: None,
+        cand,
+    })
+}
+
+// The call that a reading is asked by.
+fn question(kind: &str, reading: Text) -> Option<Call>
+    ensures { IfSome result (λ call. is_fit call ≡ true) }
+{
+    match kind {
+        "find" => Some(Call::Lookup {
+            who: TYPIST,
+            key: RowKey::new(Part::Nasi, reading).ok()?,
+            okuri: None,
+        }),
+        "complete" => Some(Call::Complete {
+            who: TYPIST,
+            prefix: reading,
+        }),
+        _ => None,
+    }
+}
+
+// How many candidates or readings the answer to a call gives.
+fn count_answered(alloc: Global, system: &System, index: &mut Index, call: &Call) -> Option<u64>
+    requires { is_fit call.now ≡ true }
+{
+    let reply = reply_to(alloc, system, index, call).ok()?;
+    Some(count_in(&reply))
+}
+
+// The reply to a call.
+fn reply_to(alloc: Global, system: &System, index: &mut Index, call: &Call) -> Result<Reply, Memory>
+    requires { is_fit call.now ≡ true }
+{
+    if matches!(call, Call::Lookup { .. } | Call::Complete { .. }) {
+        return index.answer(alloc, system, call);
+    }
+    let plan = index.plan(alloc, call)?;
+    Ok(index.apply(plan))
+}
+
+// How many candidates or readings a reply has.
+fn count_in(reply: &Reply) -> u64 {
+    match reply {
+        Reply::Found(found) => found.cands().len() as u64,
+        Reply::Readings(readings) => readings.len() as u64,
+        _ => 0,
+    }
 }
 
 // How many readings a walk goes over behind a reading.
@@ -96,4 +174,9 @@ fn count_walked(alloc: Global, system: &System, from: Text) -> Option<u64> {
         }
     }
     Some(STEPS as u64)
+}
+
+// The text of a string.
+fn text(alloc: Global, content: &str) -> Option<Text> {
+    Some(Text::of(String::from_str(alloc, content).ok()?))
 }

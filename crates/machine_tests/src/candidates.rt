@@ -1,7 +1,10 @@
 use crate::distinct::distinct;
-use candidate_state::{CandsDo, Picking, ShownList, press_cands, shown_plain};
+use candidate_state::{
+    BothFound, CandsDo, Found, Picking, ShownList, press_cands, shown_numbers, shown_plain,
+};
+use numeric_entries::number_key;
 use skk_calls::{Cand, Cands, Part, RowKey};
-use skk_text::{Notice, Text, read_keys};
+use skk_text::{Copies, Notice, Text, read_keys};
 use std::alloc::Global;
 use std::process::Abort;
 use std::test::Fail;
@@ -13,15 +16,23 @@ fn text(alloc: Global, content: &str) -> Result<Text, Fail> {
     Ok(Text::of(String::from_str(alloc, content)?))
 }
 
-// The candidates that are shown for the first of these words, each with a `/` and its note behind it.
-fn shown_list(alloc: Global, words: &str, count: usize) -> Result<ShownList, Fail> {
-    let mut found = Cands::new(alloc);
+// What is found of a reading: the first of these words, each with a `/` and its note behind it.
+fn found(alloc: Global, reading: Text, words: &str, count: usize) -> Result<Found, Fail> {
+    let mut cands = Cands::new(alloc);
     for entry in words.split_whitespace().take(count) {
         let (word, note) = entry.split_once('/').ok_or("no `/`")?;
-        found.push(Cand::new(text(alloc, word)?, text(alloc, note)?)?)?;
+        cands.push(Cand::new(text(alloc, word)?, text(alloc, note)?)?)?;
     }
-    let key = RowKey::new(Part::Nasi, text(alloc, "すう")?)?;
-    Ok(shown_plain(key, distinct(alloc, found)?))
+    Ok(Found {
+        key: RowKey::new(Part::Nasi, reading)?,
+        cands: distinct(alloc, cands)?,
+    })
+}
+
+// The candidates that are shown for the first of these words.
+fn shown_list(alloc: Global, words: &str, count: usize) -> Result<ShownList, Fail> {
+    let found = found(alloc, text(alloc, "すう")?, words, count)?;
+    Ok(shown_plain(found))
 }
 
 // What keys make of so many candidates, and what is done behind the last key.
@@ -93,6 +104,39 @@ fn the_first_of_each_word_is_shown(rt: HostRuntime) -> Result<(), Fail> {
         assert_eq!(rt;
             (shown.text.as_str(), shown.cand.note().as_str()),
             (*word, *note)
+        );
+    }
+    Ok(())
+}
+
+// A word as it was found stands before a number that is filled, and of equal texts the first is shown.
+#[test]
+fn words_of_both_keys_are_shown(rt: HostRuntime) -> Result<(), Fail> {
+    let alloc = rt.alloc();
+    let reading = text(alloc, "9ねん")?;
+    let number_key = number_key(alloc, &reading)?.ok_or("no number")?;
+    let (key, numbers) = number_key.into_parts();
+    let both = BothFound {
+        plain: found(alloc, reading, "九年/ 9年/数字", 2)?,
+        numbered: found(alloc, key, "#0年/ #1年/ #3年/漢字 #4/#4", 4)?,
+    };
+    let firsts = numbers.copy(alloc)?;
+    assert_eq!(rt; firsts.len(), numbers.len());
+    let list = shown_numbers(alloc, both, &numbers, &firsts)?;
+    let wanted = [
+        ("9ねん", "九年", "九年", ""),
+        ("9ねん", "9年", "9年", "数字"),
+        ("#ねん", "#1年", "９年", ""),
+        ("#ねん", "#4", "9", "#4"),
+    ];
+    assert_eq!(rt; list.len(), wanted.len());
+    for (place, (reading, word, text, note)) in wanted.iter().enumerate() {
+        let shown = list.at(place);
+        assert_eq!(rt; shown.key.reading().as_str(), *reading);
+        assert_eq!(rt; shown.cand.word().as_str(), *word);
+        assert_eq!(rt;
+            (shown.text.as_str(), shown.cand.note().as_str()),
+            (*text, *note)
         );
     }
     Ok(())

@@ -1,13 +1,14 @@
-ghost use Rattle.std.specs.Prelude.{◌≡◌, true, ℕ, List, Option};
-ghost use Rattle.skk_calls.specs.Dictionary.{may_answer};
+ghost use Rattle.std.specs.Prelude.{◌≡◌, true, ℕ, List, Option, IfOk};
+ghost use Rattle.std.specs.List.{list_all};
+ghost use Rattle.skk_calls.specs.Dictionary.{is_plain_reading, may_answer};
 ghost use Rattle.skk_calls.specs.Rows.{Cand, Learned, RowKey};
 ghost use Rattle.skk_calls.specs.declared.call.Call.TheVariants as calls;
 
 use crate::distinct::distinct;
 use romaji_rules::Rules;
 use session_machine::{PressFault, Session};
-use skk_calls::{Answer, Call, Caller, Cand, Cands, Learned, Refusal, Reply, RowKey};
-use skk_text::{Copies, Memory, Mode, Text, read_keys};
+use skk_calls::{Answer, Call, Caller, Cand, Cands, Learned, Part, Refusal, Reply, RowKey};
+use skk_text::{Copies, Memory, Mode, Text, Texts, read_keys};
 use skk_trace::{Shows, Trace};
 use std::alloc::Global;
 use std::test::Fail;
@@ -29,8 +30,9 @@ const FOUND: &[(&str, &str)] = &[
 ];
 
 // A dictionary that answers each call by the next of these words, which a space stands between: a look-up that has a
-// number for its word finds the first so many of them, and one that has `long` a long candidate. Its trace notes
-// nothing first, and then each call.
+// number for its word finds the first so many of the candidates above, one that has `long` a long candidate, and every
+// other the words between its commas, as a completion finds the readings between them. Its trace notes nothing first,
+// and then each call.
 #[derive(Drop)]
 struct Finder<'a> {
     words: &'a str,
@@ -89,7 +91,7 @@ fn answer_by(alloc: Global, word: &str, call: &Call) -> Answer
 {
     match call {
         Call::Lookup { .. } => lookup_answer(alloc, word),
-        Call::Complete { .. } => Answer::Refused(Refusal::Memory),
+        Call::Complete { .. } => completion_answer(alloc, word),
         Call::Learn { book, key, .. } => learning_answer(alloc, word, *book, key),
         Call::Purge { .. } => purge_answer(word),
         Call::Unlearn { .. } => unlearning_answer(word),
@@ -101,12 +103,27 @@ fn lookup_answer(alloc: Global, word: &str) -> Answer
     ensures { (who : ℕ) (key : RowKey) (okuri : Option (List ℕ))
         → may_answer (calls.Lookup who key okuri) result ≡ true }
 {
-    let found = match word.parse() {
-        Ok(count) => first_cands(alloc, count),
-        Err(_) => long_cands(alloc, word),
+    let found = match (word.parse(), word) {
+        (Ok(count), _) => first_cands(alloc, count),
+        (_, "long") => long_cands(alloc),
+        (_, "memory") => Err(Memory),
+        _ => listed_cands(alloc, word),
     };
     match found.and_then(|cands| distinct(alloc, cands)) {
         Ok(cands) => Answer::Done(Reply::Found(cands)),
+        Err(_) => Answer::Refused(Refusal::Memory),
+    }
+}
+
+// What a completion is answered.
+fn completion_answer(alloc: Global, word: &str) -> Answer
+    ensures { (who : ℕ) (prefix : List ℕ) → may_answer (calls.Complete who prefix) result ≡ true }
+{
+    if word == "memory" {
+        return Answer::Refused(Refusal::Memory);
+    }
+    match listed_readings(alloc, word) {
+        Ok(readings) => Answer::Done(Reply::Readings(readings)),
         Err(_) => Answer::Refused(Refusal::Memory),
     }
 }
@@ -192,17 +209,40 @@ const LONG: usize = 2_048;
 // How many of them a text has just room for.
 const MANY: usize = 512;
 
-// A long candidate, where that is asked for.
-fn long_cands(alloc: Global, word: &str) -> Result<Cands, Memory> {
-    if word != "long" {
-        return Err(Memory);
-    }
+// A long candidate.
+fn long_cands(alloc: Global) -> Result<Cands, Memory> {
     let mut cands = Cands::new(alloc);
     let word = Text::of("x".repeat(alloc, LONG)?);
     if let Ok(cand) = Cand::new(word, Text::new(alloc)) {
         cands.push(cand)?;
     }
     Ok(cands)
+}
+
+// The candidates of the words that commas stand between, without notes.
+fn listed_cands(alloc: Global, words: &str) -> Result<Cands, Memory> {
+    let mut cands = Cands::new(alloc);
+    for word in words.split(',') {
+        let word = Text::of(String::from_str(alloc, word)?);
+        if let Ok(cand) = Cand::new(word, Text::new(alloc)) {
+            cands.push(cand)?;
+        }
+    }
+    Ok(cands)
+}
+
+// The readings that commas stand between.
+fn listed_readings(alloc: Global, words: &str) -> Result<Texts, Memory>
+    ensures { IfOk result (λ readings. list_all is_plain_reading readings ≡ true) }
+{
+    let mut readings = Texts::new(alloc);
+    for word in words.split(',') {
+        let reading = Text::of(String::from_str(alloc, word)?);
+        if let Ok(key) = RowKey::new(Part::Nasi, reading) {
+            readings.push(key.reading().copy(alloc)?)?;
+        }
+    }
+    Ok(readings)
 }
 
 // The session after the keys, where `_` is the space. It begins in hiragana mode,
@@ -329,11 +369,45 @@ Kan><cg> 12=▽かん>|
 Ka_> 12 learned=甲▽>|
 Ka_/ 12 learned=甲▽|
 Ka> memory=▽か>|refused memory
-Ka<tab> =~
-Q1_ =~
-Q1> =~
-Q1A =~
-/a1_ =~
+Q1995nen_ 0 #1年,#3年,#0年=▼１９９５年|
+Q1995nen__ 0 #1年,#3年,#0年=▼千九百九十五年|
+Q1995nen__x 0 #1年,#3年,#0年=▼１９９５年|
+Q1995nen_x 0 #1年=▽1995ねん|
+Q1995nen_ memory=▽1995ねん|refused memory
+Q1995nen_ 0 memory=▽1995ねん|refused memory
+Q9nen_ 九年 #0年,#1年=▼九年|
+Q9nen__ 9年 #0年,#1年=▼９年|
+Q9nen_____ 1年,2年 #1年,#0年,#3年,#9=▼[A:九年 S:9 残り 0]|
+Q7nen_<cj> 0 #1年 learned=７年|
+Q7nen_<cj><undo> 0 #1年 learned restored=▼７年|undone
+Q7nen_Xy 0 #1年 purged=|purged
+Q7nen_X 0 #1年=▼７年[削除 Y/N]|
+Q2baiSi 0 #3倍,#1倍=▼二倍し|
+Q2baiSi<cj> 0 #3倍,#1倍 learned=二倍し|
+Q1> 0 #1=▼１|
+/p125_ 0 #4 東京=▼東京|
+/p125_ 0 #4 東京,京都=▼東京|
+/p125_ 0 #4 0=▼125|
+/p125_ 0 #4 memory=▽p125|refused memory
+/p1to2_ 0 #4と#4 東京 京都=▼東京と京都|
+/p1to2_ 0 #4と#1,#1と#4 0 京都=▼1と２|
+/p1to2__ 0 #4と#1,#1と#4 0 京都=▼１と京都|
+/p1to2_ 0 #4と#4 東京 memory=▽p1to2|refused memory
+Ka<tab> かんじ,かに=▽かんじ|
+Ka<tab> =▽か|no-completion
+Ka<tab> memory=▽か|refused memory
+Q<tab> か=▽か|
+KaK<tab> =▽か*k|no-completion
+Ka<tab>. かんじ,かに=▽かに|
+Ka<tab><tab> かんじ,かに=▽かに|
+Ka<tab>., かんじ,かに=▽かんじ|
+Ka<tab>, かんじ,かに=▽かんじ|no-more
+Ka<tab>.. かんじ,かに=▽かに|no-more
+Ka<tab>a. かんじ,かに=▽かんじあ。|
+Ka<tab>_ かんじ 12=▼甲|
+Ka<tab>_x. かんじ 12=▽かんじ。|
+Ka<tab><cj> かんじ=かんじ|
+Q1_ 0 0=~
 KaKu 0=~
 Ka_ 0=~
 Ka__ 1=~
@@ -354,7 +428,7 @@ fn case_text(alloc: Global, ended: Result<Session, PressFault>) -> Result<String
 #[test]
 fn sessions_are_shown(rt: HostRuntime) -> Result<(), Fail> {
     let alloc = rt.alloc();
-    assert_eq!(rt; CASES.lines().count(), 117);
+    assert_eq!(rt; CASES.lines().count(), 151);
     for case in CASES.lines().skip(1) {
         let (typing, wanted) = case.split_once('=').ok_or("no `=`")?;
         let (keys, words) = typing.split_once(' ').ok_or("no space")?;

@@ -1,11 +1,12 @@
 -- The definitions at small texts, each worked out by hand.
 use Rattle.std.proofs.Common.{◌≡◌, ℕ, true, false, Option, None, Some, List, [], ◌∷◌, codes, map, refl}
 use Prim.Native.String.{String}
+use Rattle.std.specs.Char.{is_ascii_digit}
 use Rattle.numeric_entries.specs.declared.form.Form.{Form}
 use Rattle.numeric_entries.specs.declared.form.Form.TheVariants.{Digits, Wide, Kanji, Places, Lookup, Formal, Commas}
 use Rattle.numeric_entries.specs.declared.form.Form.TheVariants.{Square}
-use Rattle.numeric_entries.specs.Forms.{asks_lookup, fill, form_text, parts_of, stays, stands}
-use Rattle.numeric_entries.specs.Numbers.{NumberKey, are_numbers, is_number, number_key, runs_of}
+use Rattle.numeric_entries.specs.Forms.{Holds, asks_lookup, fill, form_text, parts_of, stays, stands}
+use Rattle.numeric_entries.specs.Numbers.{NumberKey, are_numbers, begins, is_number, number_key, runs_of}
 use Rattle.numeric_entries.specs.Numerals.{groups_of}
 
 -- the texts that are written so
@@ -37,6 +38,10 @@ runs = refl
 numbers : map is_number (texts ("0" ∷ "9" ∷ "00" ∷ "12" ∷ "" ∷ "a" ∷ "1a" ∷ "a1" ∷ "/" ∷ ":" ∷ "１" ∷ []))
     ≡ true ∷ true ∷ true ∷ true ∷ false ∷ false ∷ false ∷ false ∷ false ∷ false ∷ false ∷ []
 numbers = refl
+
+digits_first : map (λ text. begins is_ascii_digit text) (texts ("" ∷ "1" ∷ "1a" ∷ "a" ∷ "a1" ∷ []))
+    ≡ false ∷ true ∷ true ∷ false ∷ false ∷ []
+digits_first = refl
 
 many_numbers : map (λ list. are_numbers (texts list)) ([] ∷ ("1" ∷ "02" ∷ []) ∷ ("1" ∷ "" ∷ []) ∷ ("a" ∷ "1" ∷ []) ∷ [])
     ≡ true ∷ true ∷ false ∷ false ∷ []
@@ -162,3 +167,13 @@ lookups = refl
 no_lookups : map asks_lookup (texts ("" ∷ "4" ∷ "#" ∷ "4#" ∷ "#3" ∷ "#34" ∷ "#x4" ∷ "＃4" ∷ "#５" ∷ []))
     ≡ false ∷ false ∷ false ∷ false ∷ false ∷ false ∷ false ∷ false ∷ false ∷ []
 no_lookups = refl
+
+-- a piece is held between what stands before it and what stands behind it
+held_at_front : Holds (codes "#4") (codes "#4y")
+held_at_front = ([], codes "y", refl)
+
+held_between : Holds (codes "#4") (codes "x#4y")
+held_between = (codes "x", codes "y", refl)
+
+held_at_end : Holds (codes "#4") (codes "x#4")
+held_at_end = (codes "x", [], refl)

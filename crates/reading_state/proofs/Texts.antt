@@ -1,6 +1,7 @@
 -- Texts that may stand in an open reading: what is behind them, and what is before.
-use Rattle.std.proofs.Common.{◌≡◌, zero, suc, Some, slice_get, ◌≤◌, ◌<◌, ℕ, ◌+◌, ◌-◌, Bool, true, false, ◌&&◌, ◌||◌}
-use Rattle.std.proofs.Common.{not, nat_le, nat_lt, List, [], ◌∷◌, ◌++◌, ◌∙◌, sym, ap, subst, refl, length, take, drop}
+use Rattle.std.proofs.Common.{◌≡◌, ◌≢◌, zero, suc, Some, slice_get, ◌≤◌, ◌<◌, ℕ, ◌+◌, ◌-◌, Bool, true, false}
+use Rattle.std.proofs.Common.{◌&&◌, ◌||◌}
+use Rattle.std.proofs.Common.{not, nat_le, List, [], ◌∷◌, ◌++◌, ◌∙◌, sym, ap, refl, length, drop}
 use Rattle.std.proofs.Common.{length-append, append_assoc, arith}
 use Rattle.std.specs.List.{list_all}
 use Rattle.std.specs.Option.{option_map_or}
@@ -129,12 +130,16 @@ last_chars-behind text c =
     let place : length (text ++ c ∷ []) - 1 ≡ length text = omega (arith, length-append text (c ∷ [])) in
     ap (λ n. drop n (text ++ c ∷ [])) place ∙ drop-append_seam text (c ∷ [])
 
+-- a text that may stand in a reading and is not empty is a reading
+pub plain_of_may : (text : List ℕ) → may_read text ≡ true → text ≢ [] → is_plain_reading text ≡ true
+plain_of_may [] may some = absurd (some refl)
+plain_of_may (c ∷ text) may some = may
+
 -- a reading with a letter behind it is valid with okurigana
-pub with_letter_valid : (text : List ℕ) (letter : ℕ) → may_read text ≡ true → is_letter (letter ∷ []) ≡ true
-    → is_empty text ≡ false
+pub with_letter_valid : (text : List ℕ) (letter : ℕ) → is_plain_reading text ≡ true → is_letter (letter ∷ []) ≡ true
     → is_row_key (record { part = Ari; reading = text ++ letter ∷ [] }) ≡ true
-with_letter_valid [] letter may is some = cc
-with_letter_valid (t ∷ text) letter may is some =
+with_letter_valid [] letter plain is = cc
+with_letter_valid (t ∷ text) letter may is =
     let parts = and_parts (begins_well (t ∷ text)) _ may in
     let rest = and_parts (list_all is_reading_char (t ∷ text)) _ parts.1 in
     let range = and_parts (nat_le 0x61 letter) _ is in

@@ -1,7 +1,8 @@
-ghost use Rattle.std.specs.Prelude.{◌≡◌, ◌≢◌, [], IfOk};
+ghost use Rattle.std.specs.Prelude.{◌≡◌, ◌≢◌, [], true, IfOk};
 ghost use Rattle.std.specs.Option.{option_copied, option_map};
 ghost use Rattle.reading_state.specs.Puts.{new_reading, new_abbrev, suffix_reading};
-ghost use Rattle.reading_state.specs.Keys.{key_of, okuri_of};
+ghost use Rattle.skk_calls.specs.Dictionary.{is_plain_reading};
+ghost use Rattle.reading_state.specs.Keys.{key_of, key_with, okuri_of};
 
 mod completing;
 mod deletes;
@@ -103,9 +104,11 @@ impl Reading {
         Ok(reading)
     }
 
-    /// The reading without its okurigana.
+    /// The reading without its okurigana. It is valid without okurigana, unless it is empty.
+    #[tactic(auto, using(crate::proofs::Texts::plain_of_may))]
     pub fn text(&self) -> &Text
-        ensures { result.now ≡ self.now.text }
+        ensures value { result.now ≡ self.now.text }
+        ensures plain { self.now.text ≢ [] → is_plain_reading self.now.text ≡ true }
     {
         &self.text
     }
@@ -135,12 +138,21 @@ impl Reading {
     }
 
     /// The key that the reading is converted by. Takes time in the reading's length.
-    #[tactic(auto, using(crate::proofs::Texts::with_letter_valid))]
+    #[tactic(auto, using(crate::proofs::Texts::plain_of_may))]
     pub fn key(&self, alloc: Global) -> Result<RowKey, Memory>
         requires { self.now.text ≢ [] }
         ensures { IfOk result (λ key. key ≡ key_of self.now) }
     {
-        let mut text = self.text.copy(alloc)?;
+        self.key_of(self.text.copy(alloc)?)
+    }
+
+    /// The key that another reading is converted by in the place of this one, with its okurigana: the text gets the
+    /// letter of that, where it was begun.
+    pub fn key_of(&self, text: Text) -> Result<RowKey, Memory>
+        requires { is_plain_reading text ≡ true }
+        ensures { IfOk result (λ key. key ≡ key_with text self.now.okuri) }
+    {
+        let mut text = text;
         match &self.okuri {
             Some(begun) => {
                 text.push(begun.letter as char)?;

@@ -3,7 +3,7 @@ use Rattle.std.proofs.Common.{◌≡◌, refl, arith, ℕ, Bool, true, false, ma
 use Rattle.std.proofs.Common.{◌∷◌, ◌++◌, codes, replicate}
 use lib.Utf8.{encode}
 use Rattle.skk_text.specs.declared.key.Key.{Key}
-use Rattle.skk_text.specs.declared.key.Key.TheVariants.{Char, Cj, Cg, Bs, Ret, Tab, Undo}
+use Rattle.skk_text.specs.declared.key.Key.TheVariants.{Char, Cj, Cg, Bs, Ret, Undo}
 use Rattle.skk_text.specs.declared.mode.Mode.{Mode}
 use Rattle.skk_text.specs.declared.mode.Mode.TheVariants.{Hira, Kata, Ascii, Wide}
 use Rattle.skk_text.specs.Text.{byte_len}
@@ -32,14 +32,14 @@ use Rattle.session_machine.specs.Session.{Session, FrameFits, frames_of, is_sess
 use Rattle.session_machine.specs.Session.{choice_within, choice_at, without_chars, has_room}
 
 -- a table of two inputs, あ and ん
-abbrev rules : List Rule
+abbrev pub rules : List Rule
 rules =
     record { input = codes "a"; next = []; out = record { hira = codes "あ"; kata = codes "ア" } }
     ∷ record { input = codes "n"; next = []; out = record { hira = codes "ん"; kata = codes "ン" } }
     ∷ record { input = codes "nn"; next = []; out = record { hira = codes "ん"; kata = codes "ン" } } ∷ []
 
 -- a session of typist 3, who learns in the shared book, with a text, a mode, a state and a notice
-abbrev at : List ℕ → Mode → State → SessionNotice → Session
+abbrev pub at : List ℕ → Mode → State → SessionNotice → Session
 at text mode state notice =
     record {
       typist = 3;
@@ -49,28 +49,28 @@ at text mode state notice =
       notice = notice;
     }
 
-abbrev none : SessionNotice
+abbrev pub none : SessionNotice
 none = told.Step notices.Empty
 
-abbrev plain : State
+abbrev pub plain : State
 plain = states.Plain []
 
 -- an open reading, with what is pending
-abbrev reading : List ℕ → List ℕ → Reading
+abbrev pub reading : List ℕ → List ℕ → Reading
 reading text pending = record { text = text; is_abbrev = false; okuri = None; pending = pending; completions = None }
 
-abbrev unfinished : List ℕ → State
+abbrev pub unfinished : List ℕ → State
 unfinished text = states.Reading (reading text [])
 
 -- an abbreviation that is open
-abbrev abbreviation : List ℕ → State
+abbrev pub abbreviation : List ℕ → State
 abbreviation text = states.Reading (record (reading text []) { is_abbrev = true })
 
 -- an open reading with an okurigana that was begun: its letter, and its kana
-abbrev with_begun : List ℕ → ℕ → List ℕ → Reading
+abbrev pub with_begun : List ℕ → ℕ → List ℕ → Reading
 with_begun text letter kana = record (reading text []) { okuri = Some (record { letter = letter; text = kana }) }
 
-abbrev cand : List ℕ → List ℕ → Cand
+abbrev pub cand : List ℕ → List ℕ → Cand
 cand word note = record { word = word; note = note }
 
 abbrev shown : List ℕ → Cand → Shown
@@ -94,7 +94,7 @@ abbrev picking : ℕ → State
 picking place = states.Picking (conversion place false)
 
 -- what a key comes to where its calls get these answers: the session, or that it is not built
-abbrev after : Session → Key → List Answer → Option (Option Session)
+abbrev pub after : Session → Key → List Answer → Option (Option Session)
 after session key answers = end_of (pressed rules session key) answers
 
 abbrev found_two : List Answer
@@ -235,16 +235,6 @@ ended = refl
 with_okuri : reading_piece Kata (with_begun (codes "おお") 107 (codes "く")) false ≡ codes "オオク"
 unfolding encode
 with_okuri = refl
-
-not_built_in_reading :
-    (after (at [] Hira (unfinished (codes "あ")) none) Tab [] ≡ Some None)
-    × (after (at [] Hira (unfinished (codes "あ0")) none) (Char 32) [] ≡ Some None)
-    × (after (at [] Hira (unfinished (codes "9あ")) none) (Char 32) [] ≡ Some None)
-    × (after (at [] Hira (unfinished (codes "あ0")) none) (Char 62) [] ≡ Some None)
-    × (after (at [] Hira (unfinished (codes "0")) none) (Char 65) [] ≡ Some None)
-    × (after (at [] Hira (abbreviation (codes "p125")) none) (Char 32) [] ≡ Some None)
-unfolding encode
-not_built_in_reading = (refl, refl, refl, refl, refl, refl)
 
 -- an upper-case letter is read in an empty reading, and begins an okurigana behind another, which may refuse it
 upper_case : map (λ (text : List ℕ). after (at [] Hira (unfinished text) none) (Char 75) []) ([] ∷ codes "あ" ∷ [])
@@ -714,6 +704,7 @@ several : end_of (all_pressed rules (at [] Hira plain none) (Char 65 ∷ Char 32
 unfolding encode
 several = refl
 
-stopped : end_of (all_pressed rules (at [] Hira plain none) (Char 65 ∷ Tab ∷ Char 97 ∷ [])) [] ≡ Some None
+stopped : end_of (all_pressed rules (at [] Hira plain none) (Char 65 ∷ Char 32 ∷ Char 97 ∷ []))
+    (Done (replies.Found []) ∷ []) ≡ Some None
 unfolding encode
 stopped = refl

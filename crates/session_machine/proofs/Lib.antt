@@ -1,7 +1,9 @@
+mod ConversionExamples
 mod DisplayExamples
 mod Escapes
 mod Examples
 mod Forms
 mod Limits
+mod NumberReadings
 mod Saying
 mod Words

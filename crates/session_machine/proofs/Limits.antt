@@ -1,10 +1,14 @@
 -- No text of a session's frames passes its limit.
 use Rattle.std.proofs.Common.{◌≡◌, ◌≤◌, ◌+◌, ◌-◌, ◌==◌, ◌∙◌, sym, ap, ℕ, slice_get, Bool, true, false, Option, Some}
-use Rattle.std.proofs.Common.{None, List, [], ◌∷◌, length, drop, leb-true, subst, arith, refl, if◌then◌else◌}
+use Rattle.std.proofs.Common.{None, Result, Ok, Err, List, [], ◌∷◌, ◌++◌, length, drop, leb-true, subst, arith, refl}
+use Rattle.std.proofs.Common.{if◌then◌else◌}
 use Rattle.std.specs.Prelude.{⊤}
 use Rattle.std.proofs.lemmas.List.{take-append-drop}
+use Rattle.std.specs.Char.{is_ascii_digit}
 use Rattle.std.specs.List.{All, list_any}
 use Rattle.std.specs.Option.{option_map_or}
+use Rattle.numeric_entries.specs.Forms.{asks_lookup}
+use Rattle.numeric_entries.specs.Numbers.{numbers_of}
 use Rattle.skk_text.specs.TextLaws.{byte_len-append}
 use Rattle.skk_text.specs.Text.{byte_len, without_last}
 use Rattle.skk_text.specs.declared.key.Key.{Key}
@@ -14,9 +18,10 @@ use Rattle.skk_text.specs.declared.notice.Notice.TheVariants as notices
 use Rattle.romaji_rules.specs.declared.rule.Rule.{Rule}
 use Rattle.skk_calls.specs.declared.answer.Answer.{Answer}
 use Rattle.skk_calls.specs.declared.answer.Answer.TheVariants.{Done, Refused}
+use Rattle.skk_calls.specs.declared.answer.Refusal.{Refusal}
 use Rattle.skk_calls.specs.declared.answer.Reply.TheVariants as replies
 use Rattle.skk_calls.specs.Interactions.{ends, asks, prints, followed_by, Dialog, Comes}
-use Rattle.skk_calls.specs.Rows.{Learned}
+use Rattle.skk_calls.specs.Rows.{Cand, Learned, RowKey}
 use Rattle.kana_input.specs.declared.plain.PlainThen.{PlainThen}
 use Rattle.kana_input.specs.declared.plain.PlainThen.TheVariants as plain
 use Rattle.kana_input.specs.Plain.{plain_step}
@@ -26,11 +31,13 @@ use Rattle.reading_state.specs.declared.reading_do.ReadingThen.{ReadingThen}
 use Rattle.reading_state.specs.declared.reading_do.ReadingThen.TheVariants as effects
 use Rattle.reading_state.specs.Keys.{key_of}
 use Rattle.reading_state.specs.Puts.{Reading, new_reading}
-use Rattle.reading_state.specs.Reading.{reading_step}
+use Rattle.reading_state.specs.Reading.{completed, reading_step}
 use Rattle.candidate_state.specs.declared.cands_do.AfterChoose.{AfterChoose}
 use Rattle.candidate_state.specs.declared.cands_do.AfterChoose.TheVariants as choices
 use Rattle.candidate_state.specs.declared.cands_do.CandsDo.{CandsDo}
 use Rattle.candidate_state.specs.declared.cands_do.CandsDo.TheVariants as cands
+use Rattle.candidate_state.specs.declared.shown.BothFound.{BothFound}
+use Rattle.candidate_state.specs.declared.shown.Found.{Found}
 use Rattle.candidate_state.specs.Picking.{picking_step}
 use Rattle.candidate_state.specs.Shown.{Shown, shown_plain}
 use Rattle.session_machine.specs.declared.frame.Choice.{Choice}
@@ -38,11 +45,17 @@ use Rattle.session_machine.specs.declared.frame.Conversion.{Conversion}
 use Rattle.session_machine.specs.declared.frame.State.{State}
 use Rattle.session_machine.specs.declared.frame.State.TheVariants as states
 use Rattle.session_machine.specs.Answered.{says_purged}
-use Rattle.session_machine.specs.Pressed.{Meaning, not_built, pick, looked_up, converted, reading_piece}
+use Rattle.session_machine.specs.Converted.{pick, found_by, key_found, with_found, looked_up, first_word}
+use Rattle.session_machine.specs.Converted.{number_looked_up, first_words, filled, both_found, plain_found, converted}
+use Rattle.session_machine.specs.Converted.{number_key_of, completions_answered, completing}
+use Rattle.session_machine.specs.declared.first_words.FirstWords.{FirstWords}
+use Rattle.session_machine.specs.declared.first_words.FirstWords.TheVariants.{Words, Stopped}
+use Rattle.session_machine.specs.Meanings.{Meaning, not_built}
+use Rattle.session_machine.specs.Pressed.{reading_piece}
 use Rattle.session_machine.specs.Pressed.{after_confirmed, confirmed, reading_effect, reading_pressed, before_choice}
 use Rattle.session_machine.specs.Pressed.{unlearnt, undone, plain_effect, plain_pressed, of_candidate, choice_piece}
 use Rattle.session_machine.specs.Pressed.{after_learning, choice_effect, choosing, after_purge, purging, picking_effect}
-use Rattle.session_machine.specs.Pressed.{picking_pressed, state_pressed, pressed, all_pressed, is_digit, with_plain}
+use Rattle.session_machine.specs.Pressed.{picking_pressed, state_pressed, pressed, all_pressed, with_plain}
 use Rattle.session_machine.specs.Session.{Session, FrameFits, text_limit, choice_at, without_chars, has_room}
 use Rattle.session_machine.specs.Session.{with_piece, with_insertion, noting, before_key, with_state}
 
@@ -128,25 +141,76 @@ pick-fit session reading shown fits = by (length shown == 0) refl
     by true e = rw e tt
     by false e = rw e fits
 
-looked-fit : (session : Session) (reading : Reading) (answer : Answer) → Fits session
-    → AllFit (looked_up session reading answer)
-looked-fit session reading (Done (replies.Found found)) fits =
-    pick-fit session reading (shown_plain (key_of reading) found) fits
-looked-fit session reading (Done reply) fits = fits
-looked-fit session reading (Refused refusal) fits = fits
+looked-fit : (session : Session) (reading : Reading) (key : RowKey) (behind : Found → Meaning) → Fits session
+    → ((found : Found) → AllFit (behind found)) → AllFit (looked_up session reading key behind)
+looked-fit session reading key behind fits all = λ answer. by (found_by answer)
+  where
+    by : (found : Result (List Cand) (Option Refusal))
+        → AllFit (with_found session reading behind (key_found key found))
+    by (Ok cands) = all (record { key = key; cands = cands })
+    by (Err None) = fits
+    by (Err (Some refusal)) = fits
+
+filled-fit : (session : Session) (reading : Reading) (found : BothFound) (words : FirstWords) → Fits session
+    → AllFit (filled session reading found words)
+filled-fit session reading found (Words words) fits = pick-fit session reading _ fits
+filled-fit session reading found (Stopped None) fits = fits
+filled-fit session reading found (Stopped (Some refusal)) fits = fits
+
+words-fit : (session : Session) (reading : Reading) (found : BothFound) (words numbers : List (List ℕ)) → Fits session
+    → AllFit (followed_by (first_words session.typist words numbers) (filled session reading found))
+words-fit session reading found words [] fits = pick-fit session reading _ fits
+words-fit session reading found words (number ∷ numbers) fits =
+    λ answer. by (found_by answer) (λ more. words-fit session reading found more numbers fits)
+  where
+    by : (found_number : Result (List Cand) (Option Refusal))
+        → ((more : List (List ℕ))
+        → AllFit (followed_by (first_words session.typist more numbers) (filled session reading found)))
+        → AllFit (followed_by (number_looked_up number (λ word.
+        first_words session.typist (words ++ word ∷ []) numbers) found_number) (filled session reading found))
+    by (Ok cands) rest = rest (words ++ first_word number cands ∷ [])
+    by (Err None) rest = fits
+    by (Err (Some refusal)) rest = fits
+
+both-fit : (session : Session) (reading : Reading) (found : BothFound) → Fits session
+    → AllFit (both_found session reading found)
+both-fit session reading found fits = by (list_any (λ cand. asks_lookup cand.word) found.numbered.cands) refl
+  where
+    by : (asks : Bool) → list_any (λ (cand : Cand). asks_lookup cand.word) found.numbered.cands ≡ asks
+        → AllFit (both_found session reading found)
+    by true e = rw e (words-fit session reading found [] (numbers_of reading.text) fits)
+    by false e = rw e (pick-fit session reading _ fits)
+
+read-fit : (session : Session) (reading : Reading) (plain : Found) → Fits session
+    → AllFit (plain_found session reading plain)
+read-fit session reading plain fits = by (list_any is_ascii_digit reading.text) refl
+  where
+    by : (digits : Bool) → list_any is_ascii_digit reading.text ≡ digits → AllFit (plain_found session reading plain)
+    by true e = rw e (looked-fit session reading (number_key_of reading)
+        (λ numbered. both_found session reading (record { plain = plain; numbered = numbered })) fits
+        (λ numbered. both-fit session reading (record { plain = plain; numbered = numbered }) fits))
+    by false e = rw e (pick-fit session reading (shown_plain plain) fits)
 
 converted-fit : (session : Session) (reading : Reading) → Fits session → AllFit (converted session reading)
-converted-fit session reading fits = by (list_any is_digit reading.text) refl
+converted-fit session reading fits =
+    looked-fit session reading (key_of reading) (plain_found session reading) fits
+    (λ plain. read-fit session reading plain fits)
+
+completing-fit : (session : Session) (reading : Reading) → Fits session → AllFit (completing session reading)
+completing-fit session reading fits answer = by answer
   where
-    by : (digits : Bool) → list_any is_digit reading.text ≡ digits → AllFit (converted session reading)
-    by true e = rw e tt
-    by false e = rw e (λ answer. looked-fit session reading answer fits)
+    by : (answer : Answer) → AllFit (completions_answered session reading answer)
+    by (Done (replies.Readings readings)) =
+        let done = completed reading readings in
+        noted-fits (with_state session (states.Reading done.reading)) done.notice fits
+    by (Done reply) = fits
+    by (Refused refusal) = fits
 
 reading-effect-fit : (session : Session) (reading : Reading) (effect : ReadingThen) → Fits session
     → AllFit (reading_effect session reading effect)
 reading-effect-fit session reading effects.Stay fits = fits
 reading-effect-fit session reading effects.Convert fits = converted-fit session reading fits
-reading-effect-fit session reading effects.AskCompletions fits = tt
+reading-effect-fit session reading effects.AskCompletions fits = completing-fit session reading fits
 reading-effect-fit session reading effects.Drop fits = fits
 reading-effect-fit session reading (effects.Confirm other after) fits = confirmed-fits session reading other after fits
 

@@ -1,18 +1,20 @@
 -- What a caller has said where nothing was asked, and where one thing was asked behind another.
 use Rattle.std.proofs.Common.{◌≡◌, ◌∙◌, sym, ap, refl, ℕ, slice_get, Result, Ok, Err, Option, Some, None, List, [], ◌∷◌}
-use Rattle.std.proofs.Common.{◌++◌, IfOk, IsErrAnd, append_assoc, rules, subst}
+use Rattle.std.proofs.Common.{◌++◌, IfOk, OnErr, IsErrAnd, append_assoc, rules, subst}
+use Rattle.skk_text.specs.declared.memory.Memory.{Memory}
 use Rattle.std.proofs.lemmas.List.{append-nil}
 use Rattle.skk_calls.specs.declared.answer.Answer.{Answer}
 use Rattle.skk_calls.specs.declared.call.Call.{Call}
-use Rattle.skk_calls.specs.Interactions.{Dialog, Comes, Begins, asks, followed_by}
+use Rattle.skk_calls.specs.Interactions.{Interaction, Dialog, Comes, Begins, ends, asks, followed_by}
 use Rattle.skk_calls.specs.InteractionLaws.{begins-followed, comes-behind, begins-behind}
 use Rattle.std.specs.Option.{option_map_or}
 use Rattle.skk_text.specs.declared.key.Key.{Key}
 use Rattle.romaji_rules.specs.declared.rule.Rule.{Rule}
 use Rattle.candidate_state.specs.Shown.{Shown}
 use Rattle.session_machine.specs.declared.frame.Conversion.{Conversion}
-use Rattle.session_machine.specs.Pressed.{Meaning, becomes, not_built, of_candidate, pressed, all_pressed}
-use Rattle.session_machine.specs.Said.{Spoken, Says, Becomes, after}
+use Rattle.session_machine.specs.Meanings.{Meaning, becomes, not_built}
+use Rattle.session_machine.specs.Pressed.{of_candidate, pressed, all_pressed}
+use Rattle.session_machine.specs.Said.{Spoken, Says, Becomes, Asked, after}
 use Rattle.session_machine.specs.Session.{Session}
 use Rattle.session_machine.specs.declared.session.PressFault.{PressFault}
 use Rattle.session_machine.specs.declared.session.PressFault.TheVariants as faults
@@ -78,18 +80,18 @@ says-becomes meaning (Ok session) caller becomes = says-session meaning session 
 says-becomes meaning (Err faults.NotBuilt) caller becomes = says-not_built meaning caller (becomes.not_built refl)
 says-becomes meaning (Err faults.Memory) caller becomes = says-memory meaning caller
 
--- a meaning goes on by a dialog as another: what comes of that comes of it
-pub record Goes (from : Meaning) (dialog : Dialog) (to : Meaning) : Type 0 where
-  pub comes : (rest : Dialog) (end : Option Session) → Comes to rest end → Comes from (dialog ++ rest) end
+-- an interaction goes on by a dialog as another: what comes of that comes of it
+pub record Goes {S : Type 0} (from : Interaction S) (dialog : Dialog) (to : Interaction S) : Type 0 where
+  pub comes : (rest : Dialog) (end : S) → Comes to rest end → Comes from (dialog ++ rest) end
   pub begins : (rest : Dialog) → Begins to rest → Begins from (dialog ++ rest)
 
 -- nothing was asked yet
-pub goes-here : (meaning : Meaning) → Goes meaning [] meaning
-goes-here meaning = record { comes = λ rest end comes. comes; begins = λ rest begins. begins }
+pub goes-here : {S : Type 0} (interaction : Interaction S) → Goes interaction [] interaction
+goes-here interaction = record { comes = λ rest end comes. comes; begins = λ rest begins. begins }
 
 -- two dialogs, one behind the other
-pub goes-on : (from middle to : Meaning) (dialog more : Dialog) → Goes from dialog middle → Goes middle more to
-    → Goes from (dialog ++ more) to
+pub goes-on : {S : Type 0} (from middle to : Interaction S) (dialog more : Dialog) → Goes from dialog middle
+    → Goes middle more to → Goes from (dialog ++ more) to
 goes-on from middle to dialog more first second = record {
   comes =
       λ rest end comes. subst (λ d. Comes from d end) (sym (append_assoc dialog more rest))
@@ -99,12 +101,21 @@ goes-on from middle to dialog more first second = record {
       (first.begins (more ++ rest) (second.begins rest begins));
 }
 
--- what a meaning comes to goes on as what follows behind it
-pub goes-followed : (meaning : Meaning) (dialog : Dialog) (end : Option Session) (behind : Option Session → Meaning)
-    → Comes meaning dialog end → Goes (followed_by meaning behind) dialog (behind end)
-goes-followed meaning dialog end behind comes = record {
-  comes = λ rest last more. comes-behind meaning dialog end behind comes rest last more;
-  begins = λ rest more. begins-behind meaning dialog end behind comes rest more;
+-- what an interaction comes to goes on as what follows behind it
+pub goes-followed : {S T : Type 0} (interaction : Interaction S) (dialog : Dialog) (end : S)
+    (behind : S → Interaction T)
+    → Comes interaction dialog end → Goes (followed_by interaction behind) dialog (behind end)
+goes-followed interaction dialog end behind comes = record {
+  comes = λ rest last more. comes-behind interaction dialog end behind comes rest last more;
+  begins = λ rest more. begins-behind interaction dialog end behind comes rest more;
+}
+
+-- a call was made with its answer, and it goes on by that
+pub goes-asked : {S : Type 0} (call called : Call) (next : Answer → Interaction S) (answer : Answer) → called ≡ call
+    → Goes (asks call next) ((called, answer) ∷ []) (next answer)
+goes-asked call called next answer is = record {
+  comes = λ rest end comes. (sym is, comes);
+  begins = λ rest begins. (sym is, begins);
 }
 
 -- what was said behind a dialog is said with it
@@ -127,7 +138,7 @@ pub says-asked : (call called : Call) (next : Answer → Meaning) (answer : Answ
     → Says (next answer) result middle last → Says (asks call next) result start last
 says-asked call called next answer result start middle last is number grows says =
     says-on (asks call next) (next answer) ((called, answer) ∷ []) result start middle last
-    (record { comes = λ rest end comes. (sym is, comes); begins = λ rest begins. (sym is, begins) }) number grows says
+    (goes-asked call called next answer is) number grows says
 
 -- what is said for a candidate is what is said of its place
 pub says-candidate : (conversion : Conversion) (place : ℕ) (meaning : Shown → Meaning) (shown : Shown)
@@ -191,5 +202,63 @@ pub goes-first : (rules : List Rule) (session : Session) (key : Key) (keys : Lis
 goes-first rules session key keys next dialog comes =
     goes-followed (pressed rules session key) dialog (Some next)
     (λ o. option_map_or (λ after. all_pressed rules after keys) o not_built) comes
+
+-- what was asked so far is all where it leads to an end
+pub asked-end : {S : Type 0} (from to : Interaction S) (dialog : Dialog) (end : S) (start last : Spoken)
+    → Goes from dialog to → to ≡ ends end → last.number ≡ start.number → last.said ≡ start.said ++ dialog
+    → Asked from (Ok end) start last
+asked-end from to dialog end start last goes is number grows = record {
+  dialog = dialog;
+  number = number;
+  grows = grows;
+  ok = subst (λ d. Comes from d end) (append-nil dialog)
+      (goes.comes [] end (subst (λ i. Comes i [] end) (sym is) refl));
+  memory = search rules;
+}
+
+-- and the first of what is asked where memory is out
+pub asked-out : {S : Type 0} (from to : Interaction S) (dialog : Dialog) (result : Result S Memory)
+    (P : Memory → Type 0) (start last : Spoken)
+    → Goes from dialog to → IsErrAnd result P → last.number ≡ start.number → last.said ≡ start.said ++ dialog
+    → Asked from result start last
+asked-out from to dialog (Ok end) P start last goes out number grows = absurd (search (rules, out))
+asked-out from to dialog (Err fault) P start last goes out number grows = record {
+  dialog = dialog;
+  number = number;
+  grows = grows;
+  ok = search rules;
+  memory = subst (λ d. Begins from d) (append-nil dialog) (goes.begins [] tt);
+}
+
+-- what follows an interaction that came to its end is said behind it
+pub says-behind : {S : Type 0} (interaction : Interaction S) (behind : S → Meaning) (end : S) (asked : Result S Memory)
+    (result : Result Session PressFault) (start middle last : Spoken)
+    → Asked interaction asked start middle → asked ≡ Ok end → Says (behind end) result middle last
+    → Says (followed_by interaction behind) result start last
+says-behind {S} interaction behind end asked result start middle last told is says =
+    let came : Comes interaction told.dialog end =
+    subst (λ (r : Result S Memory). IfOk r (λ e. Comes interaction told.dialog e)) is told.ok in
+    says-on (followed_by interaction behind) (behind end) told.dialog result start middle last
+    (goes-followed interaction told.dialog end behind came) told.number told.grows says
+
+-- and where memory was out within it nothing follows
+pub says-stopped : {S : Type 0} (interaction : Interaction S) (behind : S → Meaning) (asked : Result S Memory)
+    (fault : Memory) (result : Result (Unit {0}) PressFault) (session : Session) (start last : Spoken)
+    → Asked interaction asked start last → asked ≡ Err fault → IsErrAnd result (λ told. told ≡ faults.Memory)
+    → Says (followed_by interaction behind) (after result session) start last
+says-stopped interaction behind asked fault (Ok unit) session start last told is lacks =
+    absurd (search (rules, lacks))
+says-stopped {S} interaction behind asked fault (Err other) session start last told is lacks =
+    let memory : other ≡ faults.Memory = search (rules, lacks) in
+    let begins : Begins interaction told.dialog =
+    subst (λ (r : Result S Memory). OnErr r (Begins interaction told.dialog)) is told.memory in
+    subst (λ f. Says (followed_by interaction behind) (Err f) start last) (sym memory) (record {
+      dialog = told.dialog;
+      number = told.number;
+      grows = told.grows;
+      ok = search rules;
+      not_built = λ e. cc;
+      memory = λ e. begins-followed interaction told.dialog behind begins;
+    })
 
 pub ruleset says = (says-memory, says-fault, says-lacking, says-not_built, says-session, says-becomes)

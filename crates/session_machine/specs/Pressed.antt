@@ -1,9 +1,6 @@
 -- The meaning of a key: what a session asks the dictionary, and the session after it.
-use Rattle.std.specs.Prelude.{ℕ, Bool, ◌&&◌, ◌==◌, nat_le, if◌then◌else◌, Option, None, Some, List}
-use Rattle.std.specs.Prelude.{[], ◌∷◌, ◌++◌, length, slice_get}
-use Rattle.std.specs.List.{list_any}
+use Rattle.std.specs.Prelude.{ℕ, Bool, if◌then◌else◌, Option, None, Some, List, [], ◌∷◌, ◌++◌, length, slice_get}
 use Rattle.std.specs.Option.{option_map_or}
-use Rattle.skk_text.specs.Characters.{code}
 use Rattle.skk_text.specs.Lines.{line_feed}
 use Rattle.skk_text.specs.Modes.{other_kana, in_kana_of}
 use Rattle.skk_text.specs.Text.{byte_len}
@@ -14,10 +11,8 @@ use Rattle.skk_text.specs.declared.mode.Mode.TheVariants.{Ascii, Wide}
 use Rattle.skk_text.specs.declared.notice.Notice.TheVariants as notices
 use Rattle.romaji_rules.specs.declared.rule.Rule.{Rule}
 use Rattle.skk_calls.specs.declared.answer.Answer.{Answer}
-use Rattle.skk_calls.specs.declared.answer.Answer.TheVariants.{Done, Refused}
-use Rattle.skk_calls.specs.declared.answer.Reply.TheVariants.{Found}
-use Rattle.skk_calls.specs.declared.call.Call.TheVariants.{Lookup, Learn, Purge, Unlearn}
-use Rattle.skk_calls.specs.Interactions.{Interaction, ends, asks, followed_by}
+use Rattle.skk_calls.specs.declared.call.Call.TheVariants.{Learn, Purge, Unlearn}
+use Rattle.skk_calls.specs.Interactions.{asks, followed_by}
 use Rattle.skk_calls.specs.Rows.{Learned}
 use Rattle.kana_input.specs.declared.plain.Plain.{Plain}
 use Rattle.kana_input.specs.declared.plain.PlainThen.{PlainThen}
@@ -27,63 +22,28 @@ use Rattle.reading_state.specs.declared.reading_do.AfterConfirm.{AfterConfirm}
 use Rattle.reading_state.specs.declared.reading_do.AfterConfirm.TheVariants as behind
 use Rattle.reading_state.specs.declared.reading_do.ReadingThen.{ReadingThen}
 use Rattle.reading_state.specs.declared.reading_do.ReadingThen.TheVariants as effects
-use Rattle.reading_state.specs.Keys.{key_of, okuri_of}
+use Rattle.reading_state.specs.Keys.{okuri_of}
 use Rattle.reading_state.specs.Puts.{Begun, Reading, new_reading, new_abbrev, suffix_reading}
 use Rattle.reading_state.specs.Reading.{reading_step}
 use Rattle.candidate_state.specs.declared.cands_do.AfterChoose.{AfterChoose}
 use Rattle.candidate_state.specs.declared.cands_do.AfterChoose.TheVariants as choices
 use Rattle.candidate_state.specs.declared.cands_do.CandsDo.{CandsDo}
 use Rattle.candidate_state.specs.declared.cands_do.CandsDo.TheVariants as cands
-use Rattle.candidate_state.specs.Picking.{new_picking, picking_step}
-use Rattle.candidate_state.specs.Shown.{Shown, shown_plain}
+use Rattle.candidate_state.specs.Picking.{picking_step}
+use Rattle.candidate_state.specs.Shown.{Shown}
 use Rattle.session_machine.specs.Answered.{answer_notice, learnt_by, says_purged}
+use Rattle.session_machine.specs.Converted.{converted, completing}
 use Rattle.session_machine.specs.declared.frame.Choice.{Choice}
 use Rattle.session_machine.specs.declared.frame.Conversion.{Conversion}
 use Rattle.session_machine.specs.declared.frame.State.{State}
 use Rattle.session_machine.specs.declared.frame.State.TheVariants as states
 use Rattle.session_machine.specs.declared.session_notice.SessionNotice.TheVariants as told
+use Rattle.session_machine.specs.Meanings.{Meaning, becomes, not_built}
 use Rattle.session_machine.specs.Session.{Session, with_state, with_text, with_mode, with_choice, choice_at}
 use Rattle.session_machine.specs.Session.{without_chars, shortened, noting, before_key, has_room, with_piece}
 use Rattle.session_machine.specs.Session.{with_insertion}
 
--- what a key comes to: what it asks one after another, and the session after it, where all that it does is built
-abbrev pub Meaning : Type 0
-Meaning = Interaction (Option Session)
-
--- a key comes to a session, and asks no more
-abbrev pub becomes : Session → Meaning
-becomes session = ends (Some session)
-
--- a key does what is not built
-abbrev pub not_built : Meaning
-not_built = ends None
-
 -- Reading state
-
--- whether a character is a digit
-abbrev pub is_digit : ℕ → Bool
-is_digit c = nat_le (code "0") c && nat_le c (code "9")
-
--- what candidates come to that were found for a reading: the first of them is shown; where there are none a
--- registration would open, which is not built
-abbrev pub pick : Session → Reading → List Shown → Meaning
-pick session reading shown =
-    if length shown == 0 then not_built
-    else becomes (with_state session (states.Picking (record { reading = reading; picking = new_picking shown })))
-
--- what the answer to a reading's look-up comes to: its candidates are shown;
--- where it was refused the reading stays open
-abbrev pub looked_up : Session → Reading → Answer → Meaning
-looked_up session reading (Done (Found found)) = pick session reading (shown_plain (key_of reading) found)
-looked_up session reading (Done reply) = becomes (with_state session (states.Reading reading))
-looked_up session reading (Refused refusal) =
-    becomes (record (with_state session (states.Reading reading)) { notice = told.Refused refusal })
-
--- what the conversion of a reading comes to: its key is looked up with its okurigana; one with numbers is not built
-abbrev pub converted : Session → Reading → Meaning
-converted session reading =
-    if list_any is_digit reading.text then not_built
-    else asks (Lookup session.typist (key_of reading) (okuri_of reading)) (looked_up session reading)
 
 -- the kana of an okurigana that was begun, none where it was not
 abbrev pub kana_begun : Option Begun → List ℕ
@@ -110,11 +70,11 @@ confirmed session reading other behind =
     if has_room session piece then after_confirmed (with_piece session piece) behind
     else noting (with_state session (states.Reading reading)) notices.Limit
 
--- what a key's effect on an open reading comes to; completions are not built
+-- what a key's effect on an open reading comes to
 abbrev pub reading_effect : Session → Reading → ReadingThen → Meaning
 reading_effect session reading effects.Stay = becomes (with_state session (states.Reading reading))
 reading_effect session reading effects.Convert = converted session reading
-reading_effect session reading effects.AskCompletions = not_built
+reading_effect session reading effects.AskCompletions = completing session reading
 reading_effect session reading effects.Drop = becomes session
 reading_effect session reading (effects.Confirm other behind) = becomes (confirmed session reading other behind)
 

@@ -1,7 +1,8 @@
 -- What a call on a session leaves: what its caller has said, by the session or the fault.
-use Rattle.std.specs.Prelude.{◌≡◌, ℕ, Result, Ok, Err, Some, None, ◌++◌, IfOk, IsErrOf}
-use Rattle.skk_calls.specs.Interactions.{Dialog, Comes, Begins}
-use Rattle.session_machine.specs.Pressed.{Meaning, becomes, not_built}
+use Rattle.std.specs.Prelude.{◌≡◌, ℕ, Result, Ok, Err, Some, None, ◌++◌, IfOk, OnErr, IsErrOf}
+use Rattle.skk_text.specs.declared.memory.Memory.{Memory}
+use Rattle.skk_calls.specs.Interactions.{Interaction, Dialog, Comes, Begins}
+use Rattle.session_machine.specs.Meanings.{Meaning, becomes, not_built}
 use Rattle.session_machine.specs.Session.{Session}
 use Rattle.session_machine.specs.declared.session.PressFault.{PressFault}
 use Rattle.session_machine.specs.declared.session.PressFault.TheVariants as faults
@@ -35,3 +36,13 @@ pub record Becomes (meaning : Meaning) (result : Result Session PressFault) : Ty
 abbrev pub after : Result (Unit {0}) PressFault → Session → Result Session PressFault
 after (Ok unit) session = Ok session
 after (Err fault) session = Err fault
+
+-- a caller has said what an interaction asks, and nothing else: all of it where it comes to its end, and the first
+-- of it where memory is out; its number stays
+pub record Asked {S : Type 0} (interaction : Interaction S) (result : Result S Memory) (before after : Spoken) : Type 0
+  where
+    pub dialog : Dialog
+    pub number : after.number ≡ before.number
+    pub grows : after.said ≡ before.said ++ dialog
+    pub ok : IfOk result (λ end. Comes interaction dialog end)
+    pub memory : OnErr result (Begins interaction dialog)

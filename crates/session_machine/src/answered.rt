@@ -1,8 +1,9 @@
 ghost use Rattle.std.specs.Prelude.{◌≡◌};
 ghost use Rattle.session_machine.specs.Answered.{answer_notice, learnt_by, reply_notice, says_purged};
+ghost use Rattle.session_machine.specs.Converted.{found_by};
 
 use crate::session_notice::SessionNotice;
-use skk_calls::{Answer, Learned, Reply};
+use skk_calls::{Answer, DistinctCands, Learned, Refusal, Reply};
 use skk_text::Notice;
 
 // What an answer tells.
@@ -47,4 +48,15 @@ pub(crate) fn says_purged(answer: &Answer) -> bool
     ensures { result ≡ says_purged answer.now }
 {
     matches!(answer, Answer::Done(Reply::Purged | Reply::Unchanged))
+}
+
+// The candidates that an answer found; or else the refusal, where it is one.
+pub(crate) fn found_by(answer: Answer) -> Result<DistinctCands, Option<Refusal>>
+    ensures { result ≡ found_by answer }
+{
+    match answer {
+        Answer::Done(Reply::Found(found)) => Ok(found),
+        Answer::Done(_) => Err(None),
+        Answer::Refused(refusal) => Err(Some(refusal)),
+    }
 }

@@ -1,22 +1,26 @@
-ghost use Rattle.std.specs.Prelude.{◌≡◌, ◌≢◌, ℕ, Option, List, [], IfOk};
-ghost use Rattle.std.specs.List.{list_any};
-ghost use Rattle.std.specs.Str.{chars};
-ghost use Rattle.skk_calls.specs.declared.call.Call.TheVariants.{Lookup};
-ghost use Rattle.skk_calls.specs.Rows.{RowKey as row_key};
-ghost use Rattle.reading_state.specs.Keys.{key_of, okuri_of};
-ghost use Rattle.session_machine.specs.Pressed.{converted, looked_up, pick, is_digit};
-ghost use Rattle.session_machine.specs.Said.{Becomes, Says, after, spoken};
+ghost use Rattle.std.specs.Prelude.{◌≡◌, ◌≢◌, [], ℕ, List, true, length};
+ghost use Rattle.std.specs.List.{list_all, list_any};
+ghost use Rattle.numeric_entries.specs.Forms.{asks_lookup};
+ghost use Rattle.numeric_entries.specs.Numbers.{are_numbers, numbers_of};
+ghost use Rattle.numeric_entries.specs.Numbers as numeric;
+ghost use Rattle.skk_calls.specs.Dictionary.{is_plain_reading};
+ghost use Rattle.session_machine.specs.Converted.{converted, plain_found, numbered, both_found, filled, pick};
+ghost use Rattle.session_machine.specs.Converted.{key_asked, key_found};
+ghost use Rattle.session_machine.specs.Said.{Asked, Becomes, Says, after, spoken};
 
+use crate::answered::found_by;
+use crate::first_words::{FirstWords, look_numbers_up};
 use crate::frame::{Conversion, State};
+use crate::opening::leave_open;
 use crate::session::{PressFault, Session};
-use crate::session_notice::SessionNotice;
-use candidate_state::{Picking, ShownList, shown_plain};
+use candidate_state::{BothFound, Found, Picking, ShownList, shown_numbers, shown_plain};
+use numeric_entries::{NumberKey, asks_lookup, number_key};
 use reading_state::Reading;
-use skk_calls::{Answer, Call, Caller, Reply, RowKey};
-use skk_text::Memory;
+use skk_calls::{Call, Caller, Cands, DistinctCands, Refusal, RowKey};
+use skk_text::{Copies, Memory, Texts};
 use std::alloc::Global;
 
-// Looks a reading up, and shows what is found.
+// Converts a reading: looks it up, and shows what is found.
 #[tactic(auto, using(crate::proofs::Saying::says))]
 pub(crate) fn convert<C: Caller>(
     session: &mut Session,
@@ -28,60 +32,157 @@ pub(crate) fn convert<C: Caller>(
     ensures { Says (converted session.old reading) (after result session.new)
         (spoken C.number C.said caller.old) (spoken C.number C.said caller.new) }
 {
-    if has_digit(reading.text().as_str()) {
-        return Err(PressFault::NotBuilt);
-    }
-    let call = look_up(alloc, session.typist, &reading)?;
-    let answer = caller.call(alloc, &call);
-    take_answer(session, reading, looked_up_key(call), answer)
-}
-
-// The call that looks a reading up for a typist.
-fn look_up(alloc: Global, typist: u16, reading: &Reading) -> Result<Call, Memory>
-    requires { reading.now.text ≢ [] }
-    ensures { IfOk result (λ call. call ≡ Lookup typist (key_of reading.now) (okuri_of reading.now)) }
-{
-    Ok(Call::Lookup {
-        who: typist,
-        key: reading.key(alloc)?,
-        okuri: reading.okuri(alloc)?,
-    })
-}
-
-// The key of a look-up, moved out of its call.
-fn looked_up_key(call: Call) -> RowKey
-    requires { (who : ℕ) × (key : row_key) × (okuri : Option (List ℕ)) × (call ≡ Lookup who key okuri) }
-    ensures { (who : ℕ) (key : row_key) (okuri : Option (List ℕ)) → call ≡ Lookup who key okuri → result ≡ key }
-{
-    match call {
-        Call::Lookup {
-            who: _,
-            key,
-            okuri: _,
-        } => key,
-        _ => unreachable!(),
-    }
-}
-
-// Takes the answer to a reading's look-up by its key.
-fn take_answer(
-    session: &mut Session,
-    reading: Reading,
-    key: RowKey,
-    answer: Answer,
-) -> Result<(), PressFault>
-    requires { key ≡ key_of reading }
-    ensures { Becomes (looked_up session.old reading answer) (after result session.new) }
-{
-    match answer {
-        Answer::Done(Reply::Found(found)) => {
-            return pick(session, reading, shown_plain(key, found));
+    let key = reading.key(alloc)?;
+    match look_key_up(alloc, session.typist, &reading, key, caller)? {
+        Ok(plain) => convert_plain(session, alloc, reading, plain, caller),
+        Err(refusal) => {
+            leave_open(session, reading, refusal);
+            Ok(())
         }
-        Answer::Done(_) => {}
-        Answer::Refused(refusal) => session.notice = SessionNotice::Refused(refusal),
     }
-    session.put_state(State::Reading(reading));
-    Ok(())
+}
+
+// Looks a key up with a reading's okurigana.
+#[tactic(auto, using(crate::proofs::Saying::says))]
+fn look_key_up<C: Caller>(
+    alloc: Global,
+    typist: u16,
+    reading: &Reading,
+    key: RowKey,
+    caller: &mut C,
+) -> Result<Result<Found, Option<Refusal>>, Memory>
+    ensures { Asked (key_asked typist reading.now key) result
+        (spoken C.number C.said caller.old) (spoken C.number C.said caller.new) }
+{
+    let call = Call::Lookup {
+        who: typist,
+        key: key.copy(alloc)?,
+        okuri: reading.okuri(alloc)?,
+    };
+    let answer = caller.call(alloc, &call);
+    Ok(key_found(key, found_by(answer)))
+}
+
+// What was found of a key, or else the refusal.
+fn key_found(
+    key: RowKey,
+    found: Result<DistinctCands, Option<Refusal>>,
+) -> Result<Found, Option<Refusal>>
+    ensures { result ≡ key_found key found }
+{
+    match found {
+        Ok(cands) => Ok(Found { key, cands }),
+        Err(refusal) => Err(refusal),
+    }
+}
+
+// Goes on with what was found of a reading as it is: looks its number key up where it has numbers, or else shows it.
+#[tactic(auto, using(crate::proofs::Saying::says))]
+fn convert_plain<C: Caller>(
+    session: &mut Session,
+    alloc: Global,
+    reading: Reading,
+    plain: Found,
+    caller: &mut C,
+) -> Result<(), PressFault>
+    requires { reading.text ≢ [] }
+    ensures { Says (plain_found session.old reading plain) (after result session.new)
+        (spoken C.number C.said caller.old) (spoken C.number C.said caller.new) }
+{
+    match number_key(alloc, reading.text())? {
+        Some(number_key) => convert_numbered(session, alloc, reading, number_key, plain, caller),
+        None => pick(session, reading, shown_plain(plain)),
+    }
+}
+
+// Goes on with what was found as it is of a reading with this number key, which is looked up too.
+#[tactic(auto, using(crate::proofs::Saying::says))]
+fn convert_numbered<C: Caller>(
+    session: &mut Session,
+    alloc: Global,
+    reading: Reading,
+    number_key: NumberKey,
+    plain: Found,
+    caller: &mut C,
+) -> Result<(), PressFault>
+    requires plain { is_plain_reading reading.text ≡ true }
+    requires key { number_key.key ≡ numeric.key_of reading.text }
+    requires numbers { number_key.numbers ≡ numbers_of reading.text }
+    ensures { Says (numbered session.old reading plain) (after result session.new)
+        (spoken C.number C.said caller.old) (spoken C.number C.said caller.new) }
+{
+    let (key, numbers) = number_key.into_parts();
+    let key = reading.key_of(key)?;
+    match look_key_up(alloc, session.typist, &reading, key, caller)? {
+        Ok(numbered) => {
+            let found = BothFound { plain, numbered };
+            convert_both(session, alloc, reading, numbers, found, caller)
+        }
+        Err(refusal) => {
+            leave_open(session, reading, refusal);
+            Ok(())
+        }
+    }
+}
+
+// Goes on with what was found of a reading with numbers: looks each number up where a word asks for it, and shows what
+// was found.
+#[tactic(auto, using(crate::proofs::Saying::says))]
+fn convert_both<C: Caller>(
+    session: &mut Session,
+    alloc: Global,
+    reading: Reading,
+    numbers: Texts,
+    found: BothFound,
+    caller: &mut C,
+) -> Result<(), PressFault>
+    requires numbers { numbers ≡ numbers_of reading.text }
+    requires digits { are_numbers numbers ≡ true }
+    requires plain { list_all is_plain_reading numbers ≡ true }
+    ensures { Says (both_found session.old reading found) (after result session.new)
+        (spoken C.number C.said caller.old) (spoken C.number C.said caller.new) }
+{
+    if some_asks_lookup(found.numbered.cands.cands()) {
+        let words = look_numbers_up(alloc, session.typist, numbers.as_slice(), caller)?;
+        return fill(session, alloc, reading, &numbers, found, words);
+    }
+    let shown = shown_numbers(alloc, found, &numbers, &numbers)?;
+    pick(session, reading, shown)
+}
+
+// Shows what was found of a reading with numbers, filled with the words that were looked up for them; or leaves the
+// reading open where they stopped.
+fn fill(
+    session: &mut Session,
+    alloc: Global,
+    reading: Reading,
+    numbers: &Texts,
+    found: BothFound,
+    words: FirstWords,
+) -> Result<(), PressFault>
+    requires numbers { numbers.now ≡ numbers_of reading.text }
+    requires digits { are_numbers numbers.now ≡ true }
+    requires count { (all : List (List ℕ)) → words ≡ FirstWords.Words all → length all ≡ length numbers.now }
+    ensures { Becomes (filled session.old reading found words) (after result session.new) }
+{
+    match words {
+        FirstWords::Words(words) => pick(
+            session,
+            reading,
+            shown_numbers(alloc, found, numbers, &words)?,
+        ),
+        FirstWords::Stopped(refusal) => {
+            leave_open(session, reading, refusal);
+            Ok(())
+        }
+    }
+}
+
+// Whether a word of candidates asks for a look-up of the numbers.
+fn some_asks_lookup(cands: &Cands) -> bool
+    ensures { result ≡ list_any (λ cand. asks_lookup cand.word) cands.now }
+{
+    cands.iter().any(|cand| asks_lookup(cand.word()))
 }
 
 // Shows the first of the candidates of a reading.
@@ -94,18 +195,4 @@ fn pick(session: &mut Session, reading: Reading, shown: ShownList) -> Result<(),
     let picking = Picking::new(shown);
     session.put_state(State::Picking(Conversion { reading, picking }));
     Ok(())
-}
-
-// Whether a digit is somewhere in a text.
-fn has_digit(text: &str) -> bool
-    ensures { result ≡ list_any is_digit (chars text.now) }
-{
-    text.chars().any(is_digit)
-}
-
-// Whether a character is a digit.
-fn is_digit(c: char) -> bool
-    ensures { result ≡ is_digit c }
-{
-    matches!(c, '0'..='9')
 }

@@ -10,13 +10,16 @@
 
 mod answered;
 mod choosing;
+mod completing;
 mod confirming;
 mod converting;
 mod editing;
 mod escaping;
+mod first_words;
 mod frame;
 mod kana;
 mod laws;
+mod opening;
 mod pressing;
 mod printing;
 mod purging;

@@ -5,6 +5,7 @@ ghost use Rattle.session_machine.specs.Pressed.{reading_effect, picking_pressed,
 ghost use Rattle.session_machine.specs.Said.{Says, after, spoken};
 
 use crate::choosing::choose;
+use crate::completing::complete;
 use crate::confirming::confirm;
 use crate::converting::convert;
 use crate::frame::{Conversion, State};
@@ -143,7 +144,7 @@ fn apply_reading<C: Caller>(
     match then {
         ReadingThen::Stay => session.put_state(State::Reading(reading)),
         ReadingThen::Convert => return convert(session, alloc, reading, caller),
-        ReadingThen::AskCompletions => return Err(PressFault::NotBuilt),
+        ReadingThen::AskCompletions => return complete(session, alloc, reading, caller),
         ReadingThen::Drop => {}
         ReadingThen::Confirm { other, then } => confirm(session, alloc, reading, other, then)?,
     }

@@ -7,7 +7,7 @@ use Rattle.std.specs.Fmt.{digits}
 use Rattle.skk_outside.specs.declared.source.ReadFault.TheVariants as reading
 use Rattle.skk_text.specs.declared.text_file.TextFault.TheVariants as texts
 use Rattle.skk_text.specs.declared.key.Key.{Key}
-use Rattle.skk_text.specs.declared.key.Key.TheVariants.{Char, Tab, Undo}
+use Rattle.skk_text.specs.declared.key.Key.TheVariants.{Char, Undo}
 use Rattle.romaji_rules.specs.declared.rule.Rule.{Rule}
 use Rattle.romaji_rules.specs.declared.rule_fault.RuleFault.TheVariants as rules
 use Rattle.romaji_rules.specs.Standard.{rule}
@@ -74,17 +74,24 @@ three_sessions : printed (typing table [] (Keys 3 (letters "a") ∷ Keys 1 (lett
 unfolding encode digits
 three_sessions = refl
 
--- a script with a key that is not built in its middle: what is printed before it
+-- a script with a key that is not built in its middle: a conversion that finds nothing
 abbrev stopped : List lines.Line
-stopped = Keys 1 (letters "a") ∷ Keys 1 (letters "aQ" ++ Tab ∷ []) ∷ Keys 1 (letters "a") ∷ []
+stopped = Keys 1 (letters "a") ∷ Keys 1 (letters "aKa ") ∷ Keys 1 (letters "a") ∷ []
 
-typed_so_far : map (λ lines. printed (typing table [] lines) []) ([] ∷ stopped ∷ []) ≡ [] ∷ fields "1" "かな" "あ" "" ∷ []
+abbrev nothing_found : List Answer
+nothing_found = answers.Done (Found []) ∷ []
+
+-- what is printed before it
+typed_so_far : map (λ lines. printed (typing table [] lines) nothing_found) ([] ∷ stopped ∷ [])
+    ≡ [] ∷ fields "1" "かな" "あ" "" ∷ []
 unfolding encode digits
 typed_so_far = refl
 
-ended_or_not : map (λ lines. end_of (typing table [] lines) [])
-    ([] ∷ (Opening 1 1 0 ∷ Keys 2 (letters "aq") ∷ []) ∷ stopped ∷ (Keys 1 (letters "Ka ") ∷ []) ∷ [])
-    ≡ Some true ∷ Some true ∷ Some false ∷ None ∷ []
+ended_or_not : map (λ (run : List lines.Line × List Answer). end_of (typing table [] run.0) run.1)
+    (([], []) ∷ (Opening 1 1 0 ∷ Keys 2 (letters "aq") ∷ [], []) ∷ (stopped, nothing_found) ∷ (stopped, [])
+    ∷ (Keys 1 (letters "Ka ") ∷ [], [])
+    ∷ [])
+    ≡ Some true ∷ Some true ∷ Some false ∷ None ∷ None ∷ []
 unfolding encode
 ended_or_not = refl
 

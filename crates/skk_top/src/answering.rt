@@ -2,7 +2,7 @@ ghost use Rattle.std.specs.Prelude.{◌≡◌, true, false, List};
 ghost use Rattle.skk_calls.specs.Dictionary.{is_fit, may_answer};
 ghost use Rattle.skk_calls.specs.Histories.{after_answer};
 ghost use Rattle.skk_calls.specs.Rows.{Row};
-ghost use Rattle.learn_index.specs.Plans.{is_lookup, is_question};
+ghost use Rattle.learn_index.specs.Plans.{is_question};
 ghost use Rattle.skk_calls.specs.Openings.{is_reply};
 ghost use Rattle.skk_top.specs.Answering.{IsAnsweredAt};
 
@@ -14,8 +14,9 @@ use skk_trace::{Shows, Trace};
 use std::alloc::Global;
 use std::marker::{Model, PhantomData};
 
-/// The one caller of a run, whose number is 0: it looks up in the learned books and the system files, learns and purges
-/// in the books, which are in memory alone and empty at first, and notes what it answers. Contracts see its chronicle.
+/// The one caller of a run, whose number is 0: it looks up and completes over the learned books and the system files,
+/// learns and purges in the books, which are in memory alone and empty at first, and notes what it answers. Contracts
+/// see its chronicle.
 #[derive(Drop)]
 pub struct RunCaller<N: OpeningName> {
     system: System,
@@ -83,7 +84,6 @@ impl<N: OpeningName> Caller for RunCaller<N> {
         0
     }
 
-    /// A completion is refused as out of memory, for as long as none is made.
     fn call(&mut self, alloc: Global, call: &Call) -> Answer {
         let answer = answer(alloc, &self.system, &mut self.index, call);
         self.has_refused = self.has_refused || !is_reply(&answer);
@@ -129,17 +129,16 @@ fn answer(alloc: Global, system: &System, index: &mut Index, call: &Call) -> Ans
     ensures may { may_answer call.now result ≡ true }
 {
     match call {
-        Call::Lookup { .. } => look_up(alloc, system, index, call),
-        Call::Complete { .. } => Answer::Refused(Refusal::Memory),
+        Call::Lookup { .. } | Call::Complete { .. } => ask(alloc, system, index, call),
         Call::Learn { .. } | Call::Purge { .. } | Call::Unlearn { .. } => {
             change(alloc, index, call)
         }
     }
 }
 
-// What a look-up is answered.
-fn look_up(alloc: Global, system: &System, index: &Index, call: &Call) -> Answer
-    requires { is_lookup call.now ≡ true }
+// What a look-up or a completion is answered.
+fn ask(alloc: Global, system: &System, index: &Index, call: &Call) -> Answer
+    requires { is_question call.now ≡ true }
     ensures answered { IsAnsweredAt system.now index.now.state call.now result }
     ensures may { may_answer call.now result ≡ true }
 {

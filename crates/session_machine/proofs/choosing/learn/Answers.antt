@@ -1,7 +1,8 @@
 use Rattle.std.proofs.Common.{◌≡◌, ◌∙◌, ap, subst}
 use Rattle.skk_calls.specs.declared.answer.Answer.{Answer}
 use Rattle.candidate_state.specs.Shown.{Shown}
-use Rattle.session_machine.specs.Pressed.{Meaning, after_learning, choice_effect, learning}
+use Rattle.session_machine.specs.Meanings.{Meaning}
+use Rattle.session_machine.specs.Pressed.{after_learning, choice_effect, learning}
 use Rattle.session_machine.specs.Said.{Says, after, spoken}
 use Rattle.session_machine.specs.Session.{Session, with_piece}
 use Rattle.session_machine.proofs.Saying.{says-asked, says-candidate}

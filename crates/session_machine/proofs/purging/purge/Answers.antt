@@ -2,7 +2,8 @@ use Rattle.std.proofs.Common.{◌∙◌, ap, sym}
 use Rattle.skk_calls.specs.declared.answer.Answer.{Answer}
 use Rattle.skk_calls.specs.declared.call.Call.TheVariants.{Purge}
 use Rattle.candidate_state.specs.Shown.{Shown}
-use Rattle.session_machine.specs.Pressed.{Meaning, after_purge, becomes, purging}
+use Rattle.session_machine.specs.Meanings.{Meaning, becomes}
+use Rattle.session_machine.specs.Pressed.{after_purge, purging}
 use Rattle.session_machine.specs.Session.{Session}
 use Rattle.session_machine.proofs.Saying.{says-asked, says-candidate, says-session}
 use Rattle.session_machine.proofs.purging.purge.Goals as goal

@@ -1,0 +1,3 @@
+pub mod FirstReadings
+pub mod Joined
+pub mod PrefixLaws

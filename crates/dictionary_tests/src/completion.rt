@@ -1,0 +1,157 @@
+use crate::files::bytes;
+use crate::learning::{add_texts, run};
+use crate::making::text;
+use dict_complete::complete;
+use dict_files::{DictionaryFile, DictionaryFiles};
+use dict_layers::System;
+use skk_text::{Text, Texts};
+use std::alloc::Global;
+use std::test::Fail;
+
+const WORDS: &str = ";; okuri-ari entries.\nおおk /大/多/[く/多/]/[き/大/]/\nうごk /動/[く/動/]/\n\
+    いt /言/行/[った/言/]/\n;; okuri-nasi entries.\n#ねん /#1年/#3年/#0年/\n125 /東京都葛飾区/\np# /#4/\n\
+    かんじ /漢字/幹事;宴会の/感じ/\nちょう> /超/\n";
+
+const CRAB: &str = "かに /蟹/\nかい /貝/\nきく /菊/\nかわ /(skk-ignore-dic-word \"川\")/\n";
+
+const TURTLE: &str = "かい /貝/\nかめ /亀/\nか /蚊/\nかるた /歌留多/\n";
+
+// Readings of two books, two files, a prefix, and what is given.
+const JOINED: [(&str, &str, &str, &str, &str, &str); 11] = [
+    ("", "", WORDS, "", "か", "かんじ"),
+    ("", "", WORDS, "", "かんじ", ""),
+    ("", "", WORDS, "", "", "#ねん 125 p# かんじ ちょう>"),
+    ("", "", WORDS, "", "おお", ""),
+    ("かさ かき", "かに かき", "", "", "か", "かさ かき かに"),
+    ("かさ かき", "かき かさ", CRAB, TURTLE, "か", "かさ かき かい かに かめ かるた"),
+    ("かめ", "", TURTLE, CRAB, "か", "かめ かい かるた かに"),
+    ("", "", CRAB, TURTLE, "かい", ""),
+    ("", "", CRAB, TURTLE, "き", "きく"),
+    ("", "", CRAB, TURTLE, "が", ""),
+    ("", "", "", "", "", ""),
+];
+
+// How many readings the typist's book has and how many the file, how many are given, and the last of them.
+const COUNTED: [(usize, usize, usize, &str); 8] = [
+    (0, 255, 255, "あ254"),
+    (0, 256, 256, "あ255"),
+    (0, 257, 256, "あ255"),
+    (255, 0, 255, "あ254"),
+    (257, 0, 256, "あ255"),
+    (250, 10, 250, "あ249"),
+    (255, 257, 256, "あ255"),
+    (257, 257, 256, "あ255"),
+];
+
+// The prefix itself, another reading, a key with okurigana and a purged row do not complete, and what was learnt last
+// comes first. The shared book comes second, once, and then each file.
+const BOOKS: &str = "
+learn 1 かき 柿 = learned 1 after 0
+learn 1 かん 缶 = learned 2 after 0
+learn 1 か 蚊 = learned 3 after 0
+learn 1 かさ 傘 = learned 4 after 0
+learn 1 きく 菊 = learned 5 after 0
+learn 1 かk 書 = learned 6 after 0
+learn 1 かい 貝 = learned 7 after 0
+purge 1 かい 貝 = purged
+complete 1 か = かさ かん かき
+learn 1 かき 火気 = learned 9 after 1
+complete 1 か = かき かさ かん
+complete 1 = かき きく かさ か かん
+complete 1 かき =
+complete 1 が =
+learn 0 かん 感 = learned 1 after 0
+learn 0 かに 蟹 = learned 2 after 0
+complete 1 か = かき かさ かん かに
+complete 2 か = かに かん
+complete 0 か = かに かん
+learn 7 かに 蟹 = learned 1 after 0
+learn 7 かめ 亀 = learned 2 after 0
+learn 7 かい 貝 = learned 3 after 0
+learn 7 かk 書 = learned 4 after 0
+learn 8 かめ 瓶 = learned 1 after 0
+learn 8 かお 顔 = learned 2 after 0
+learn 8 かわ 川 = learned 3 after 0
+purge 8 かわ 川 = purged
+file 7 8 = done
+complete 1 か = かき かさ かん かに かい かめ かお
+complete 2 = かに かん かい かめ かお
+complete 0 か = かに かん かい かめ かお
+";
+
+// Of rows with one stamp the one whose reading is less by its bytes comes first.
+const ONE_STAMP: &str = "
+learn 1 かん 缶 = learned 1 after 0
+learn 2 かき 柿 = learned 1 after 0
+learn 3 かさ 傘 = learned 1 after 0
+learn 3 かに 蟹 = learned 2 after 0
+put 1 かん 5 = done
+put 2 かき 5 = done
+put 3 かさ 5 = done
+put 3 かに 5 = done
+swap = done
+complete 5 か = かに かき かさ かん
+";
+
+#[test]
+fn readings_are_joined(rt: HostRuntime) -> Result<(), Fail> {
+    let alloc = rt.alloc();
+    for (newest, shared, file, other, prefix, wanted) in JOINED {
+        let system = files_of(alloc, file, other)?;
+        let (newest, shared) = (texts(alloc, newest)?, texts(alloc, shared)?);
+        let given = complete(alloc, &newest, &shared, &system, &text(alloc, prefix)?)?;
+        let mut told = String::new(alloc);
+        add_texts(&mut told, &given)?;
+        assert_eq!(rt; told.trim(), wanted, "behind {prefix}");
+    }
+    Ok(())
+}
+
+#[test]
+fn readings_are_256_at_most(rt: HostRuntime) -> Result<(), Fail> {
+    let alloc = rt.alloc();
+    let (none, prefix) = (Texts::new(alloc), text(alloc, "あ")?);
+    for (in_book, in_file, count, last) in COUNTED {
+        let newest = texts(alloc, &numbered(alloc, in_book, " ")?)?;
+        let system = files_of(alloc, &numbered(alloc, in_file, " /亜/\n")?, "")?;
+        let given = complete(alloc, &newest, &none, &system, &prefix)?;
+        assert_eq!(rt; given.len(), count);
+        assert_eq!(rt;
+            given.as_slice().last().map(|text| text.as_str()),
+            Some(last)
+        );
+    }
+    Ok(())
+}
+
+#[test]
+fn books_are_completed(rt: HostRuntime) -> Result<(), Fail> {
+    run(&rt, rt.alloc(), BOOKS)?;
+    run(&rt, rt.alloc(), ONE_STAMP)
+}
+
+// The texts of words.
+fn texts(alloc: Global, words: &str) -> Result<Texts, Fail> {
+    let mut texts = Texts::new(alloc);
+    for word in words.split_whitespace() {
+        texts.push(text(alloc, word)?)?;
+    }
+    Ok(texts)
+}
+
+// Numbered readings, each with this behind it.
+fn numbered(alloc: Global, count: usize, behind: &str) -> Result<String, Fail> {
+    let mut readings = String::new(alloc);
+    for number in 0..count {
+        readings.push_str(&format!(in alloc; "あ{number:03}{behind}")?)?;
+    }
+    Ok(readings)
+}
+
+// Two files as they lie.
+fn files_of(alloc: Global, file: &str, other: &str) -> Result<System, Fail> {
+    let mut files = DictionaryFiles::new(alloc);
+    files.push(DictionaryFile::open(alloc, bytes(alloc, file.as_bytes())?)?)?;
+    files.push(DictionaryFile::open(alloc, bytes(alloc, other.as_bytes())?)?)?;
+    Ok(System::of_files(alloc, files)?)
+}

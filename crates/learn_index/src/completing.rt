@@ -1,0 +1,152 @@
+ghost use Rattle.std.specs.Prelude.{◌≡◌, ◌==◌, ◌&&◌, true, [], map, nat_eq, take, IfOk, if◌then◌else◌};
+ghost use Rattle.std.specs.Prelude.{encode_utf8_all, not};
+ghost use Rattle.std.specs.List.{filter, list_all, starts_with};
+ghost use Rattle.std.specs.Ordering.{is_lt};
+ghost use Rattle.skk_text.specs.Pairs.{all_pairs};
+ghost use Rattle.ordered_lists.specs.OrderLaws.{apart};
+ghost use Rattle.skk_calls.specs.declared.part.Part.TheVariants.{Nasi};
+ghost use Rattle.skk_calls.specs.Completions.{completes, completion_limit, completions, newest_readings, reading_of};
+ghost use Rattle.skk_calls.specs.Dictionary.{is_plain_reading};
+ghost use Rattle.skk_calls.specs.Orders.{is_newer, key_less, plain_key, sort_by};
+ghost use Rattle.skk_calls.specs.Rows.{same_part};
+ghost use Rattle.skk_calls.specs.States.{rows_ascend, rows_of};
+
+use crate::index::Index;
+use crate::kept_row::KeptRow;
+use crate::layering::SHARED;
+use dict_complete::{COMPLETION_LIMIT, begins_with, complete};
+use dict_files::walks_go_over_completions;
+use dict_layers::System;
+use ordered_lists::{order_bytes, place_of};
+use skk_calls::{Part, Row};
+use skk_text::{Copies, Memory, Text, Texts};
+use std::alloc::Global;
+use std::cmp::Ordering;
+
+/// The readings that complete a prefix for a typist: of the typist's book, of the shared one where that is another, and
+/// of the system files.
+pub fn completions(
+    index: &Index,
+    alloc: Global,
+    system: &System,
+    who: u16,
+    prefix: &Text,
+) -> Result<Texts, Memory>
+    ensures value { IfOk result (λ readings. readings ≡ completions system.now index.now.state who prefix.now) }
+    ensures valid { IfOk result (λ readings. list_all is_plain_reading readings ≡ true) }
+{
+    walks_go_over_completions();
+    // What is counted tells that each file has rows of which no two have one key.
+    let _files = system.file_count();
+    let newest = newest_readings(alloc, index.rows_of(who), prefix)?;
+    let shared = shared_readings(index, alloc, who, prefix)?;
+    complete(alloc, &newest, &shared, system, prefix)
+}
+
+// The newest readings of the shared book, where that is not the typist's.
+fn shared_readings(index: &Index, alloc: Global, who: u16, prefix: &Text) -> Result<Texts, Memory>
+    ensures { IfOk result (λ readings. readings ≡ (if who == 0 then []
+        else take completion_limit (newest_readings prefix.now (rows_of index.now.state 0)))) }
+{
+    if who == SHARED {
+        Ok(Texts::new(alloc))
+    } else {
+        newest_readings(alloc, index.rows_of(SHARED), prefix)
+    }
+}
+
+// The readings of the rows of a book that complete a prefix, copied: the newest, up to as many as a completion gives.
+// Takes a logarithm in the number of rows, and time in the number of those with a reading that begins with the prefix,
+// with one logarithm in that.
+fn newest_readings(alloc: Global, rows: &[KeptRow], prefix: &Text) -> Result<Texts, Memory>
+    requires { rows_ascend rows.now ≡ true }
+    ensures { IfOk result (λ readings. readings ≡ take completion_limit (newest_readings prefix.now rows.now)) }
+{
+    let mut completing = completing_rows(alloc, rows, prefix)?;
+    sort_newest(&mut completing);
+    first_readings(alloc, &completing)
+}
+
+// The rows that complete a prefix, in the order of their keys: they stand together, where the readings begin with it.
+fn completing_rows<'a>(
+    alloc: Global,
+    rows: &'a [KeptRow],
+    prefix: &Text,
+) -> Result<Vec<&'a Row>, Memory>
+    requires { rows_ascend rows.now ≡ true }
+    ensures { IfOk result (λ found. map (λ row. row.now) found.items ≡ filter (completes prefix.now) rows.now) }
+{
+    let mut completing = Vec::new(alloc);
+    for kept in rows_from(rows, prefix) {
+        let row = kept.row();
+        if !begins(row, prefix) {
+            break;
+        }
+        if completes(row, prefix) {
+            completing.push(row)?;
+        }
+    }
+    Ok(completing)
+}
+
+// The rows from the first on whose key is not less than that of a prefix: each that completes it is among them.
+fn rows_from<'a>(rows: &'a [KeptRow], prefix: &Text) -> &'a [KeptRow]
+    requires { rows_ascend rows.now ≡ true }
+    ensures ascend { rows_ascend result.now ≡ true }
+    ensures high { list_all (λ row. not (key_less row.key (plain_key prefix.now))) result.now ≡ true }
+    ensures completing { filter (completes prefix.now) result.now ≡ filter (completes prefix.now) rows.now }
+{
+    &rows[place_of(rows, prefix)..]
+}
+
+// Whether a row has no okurigana, and a reading that begins with a prefix.
+fn begins(row: &Row, prefix: &Text) -> bool
+    ensures { result ≡ (same_part row.now.key.part Nasi && starts_with nat_eq row.now.key.reading prefix.now) }
+{
+    row.key().part() == Part::Nasi && begins_with(row.key().reading(), prefix)
+}
+
+// Whether a row that has no okurigana, and a reading that begins with a prefix, completes it.
+fn completes(row: &Row, prefix: &Text) -> bool
+    requires { (same_part row.now.key.part Nasi && starts_with nat_eq row.now.key.reading prefix.now) ≡ true }
+    ensures { result ≡ completes prefix.now row.now }
+{
+    !row.cands().is_empty() && row.key().reading().as_str() != prefix.as_str()
+}
+
+// Puts rows in order, the newest first.
+fn sort_newest(rows: &mut Vec<&Row>)
+    requires { all_pairs (apart is_newer) (map (λ row. row.now) rows.old.items) ≡ true }
+    ensures { map (λ row. row.now) rows.new.items ≡ sort_by is_newer (map (λ row. row.now) rows.old.items) }
+{
+    rows.sort_unstable_by(|row, other| order_by_age(row, other));
+}
+
+// Which of two rows is newer.
+fn order_by_age(row: &Row, other: &Row) -> Ordering
+    ensures { is_lt result ≡ is_newer row.now other.now }
+{
+    match other.stamp().cmp(&row.stamp()) {
+        Ordering::Equal => order_bytes(reading_of(row), reading_of(other)),
+        order => order,
+    }
+}
+
+// The bytes of the reading of a row.
+fn reading_of(row: &Row) -> &[u8]
+    ensures { result.now ≡ encode_utf8_all row.now.key.reading }
+{
+    row.key().reading().as_str().as_bytes()
+}
+
+// Copies of the readings of rows, up to as many as a completion gives.
+fn first_readings(alloc: Global, rows: &[&Row]) -> Result<Texts, Memory>
+    ensures { IfOk result
+        (λ readings. readings ≡ take completion_limit (map reading_of (map (λ row. row.now) rows.now))) }
+{
+    let mut readings = Texts::new(alloc);
+    for row in &rows[..rows.len().min(COMPLETION_LIMIT)] {
+        readings.push(row.key().reading().copy(alloc)?)?;
+    }
+    Ok(readings)
+}
