@@ -1,6 +1,6 @@
 -- The definitions at small texts, each worked out by hand.
 use Rattle.std.proofs.Common.{◌≡◌, ℕ, ◌==◌, Bool, true, false, ◌&&◌, nat_le, cond, inl, inr, Option, None, Some}
-use Rattle.std.proofs.Common.{suc, List, [], ◌∷◌, codes, map, refl, arith}
+use Rattle.std.proofs.Common.{suc, List, [], ◌∷◌, ◌++◌, codes, map, refl, ap, ◌∙◌, arith}
 use Rattle.exact_readers.specs.Cuts.{cut, up_to, without_spaces}
 use Rattle.exact_readers.specs.Exact.{AreAll, IsWhole}
 use Rattle.exact_readers.specs.Formats.{Format, SpellsMany, all, before, behind, both, checked, either, ended_by}
@@ -45,8 +45,11 @@ slashes_lack = refl
 -- Formats
 
 -- a letter from `a` to `z`
+abbrev letter_of : ℕ → Option ℕ
+letter_of c = cond (nat_le 0x61 c && nat_le c 0x7A) (Some c) None
+
 abbrev letter : Format ℕ ℕ
-letter = one_as (λ c. cond (nat_le 0x61 c && nat_le c 0x7A) (Some c) None)
+letter = one_as letter_of
 
 -- a digit as its value, and the value of a digit that is less than 5
 abbrev digit : Format ℕ ℕ
@@ -174,6 +177,18 @@ letter_whole = (0x61, refl, refl)
 
 letters_all : AreAll letter (codes "a") (Some (codes "a"))
 letters_all = (codes "a", [], (0x61, refl, refl), refl, refl)
+
+-- what spells no value
+no_letter_whole : IsWhole letter (codes "1") None
+no_letter_whole a (x, made, refl) = cc
+
+no_letters_all : AreAll letter (codes "1") None
+no_letters_all [] is = cc
+no_letters_all (a ∷ more) (front, back, (x, made, here), rest, is) =
+    by x back made (is ∙ ap (λ tokens. tokens ++ back) here)
+  where
+    by : (x : ℕ) (back : List ℕ) → letter_of x ≡ Some a → codes "1" ≡ x ∷ back → ⊥
+    by x back made refl = cc
 
 -- Lines
 

@@ -1,14 +1,17 @@
 -- Examples of what is seen of an index, of the calls that it answers and plans, and of the states that are rebuilt.
-use Rattle.std.proofs.Common.{◌≡◌, ℕ, true, false, List, [], ◌∷◌, map, codes, refl, None}
+use Rattle.std.proofs.Common.{◌≡◌, ℕ, true, false, List, [], ◌∷◌, map, codes, refl, None, Some, arith}
+use Rattle.skk_calls.specs.declared.answer.Reply.TheVariants as replies
 use Rattle.skk_calls.specs.declared.book.NumberedBook.{NumberedBook}
 use Rattle.skk_calls.specs.declared.call.Call.{Call}
 use Rattle.skk_calls.specs.declared.call.Call.TheVariants.{Lookup, Complete, Learn, Purge, Unlearn}
 use Rattle.skk_calls.specs.declared.part.Part.TheVariants.{Nasi}
 use Rattle.skk_calls.specs.Rows.{RowKey, Row}
 use Rattle.skk_calls.specs.States.{State}
+use Rattle.learn_index.specs.declared.plan.Plan.{Plan}
+use Rattle.learn_index.specs.declared.plan.Plan.TheVariants.{Still, Move}
 use Rattle.learn_index.specs.Index.{Index, spare_of}
 use Rattle.learn_index.specs.Kept.{changed, has_changed, has_count, is_held, keeps_book}
-use Rattle.learn_index.specs.Plans.{is_question}
+use Rattle.learn_index.specs.Plans.{HasRoom, IsMade, IsPlanned, is_question}
 use Rattle.learn_index.specs.Records.{state_counted, state_without}
 
 -- a key, and a row of it with a stamp
@@ -102,3 +105,57 @@ states_without : map (λ (line : ℕ × ℕ × List ℕ). state_without two_book
     ∷ two_books ∷ []
 unfolding lib.Utf8.encode
 states_without = refl
+
+-- Plans
+
+-- a candidate that is learnt moves the count, and leaves a row with the new stamp
+abbrev learnt_b : Plan
+learnt_b =
+    Move 1 3 (key (codes "a"))
+    (Some (record {
+      key = key (codes "a");
+      cands = record { word = codes "b"; note = [] } ∷ [];
+      blocks = [];
+      hides = [];
+      stamp = 3;
+    }))
+    (replies.Learned (record { book = 1; key = key (codes "a"); stamp = 3; before = None }))
+
+learning_planned : IsPlanned two_books (Learn 1 (key (codes "a")) None (record { word = codes "b"; note = [] }))
+    learnt_b
+unfolding lib.Utf8.encode
+learning_planned = (refl, refl, refl, refl, refl)
+
+-- what is taken back keeps the count, and leaves the row that was there before
+unlearning_planned : IsPlanned two_books
+    (Unlearn (record { book = 1; key = key (codes "b"); stamp = 2; before = None }))
+    (Move 1 2 (key (codes "b")) None replies.Restored)
+unlearning_planned = (refl, refl, refl, refl, refl)
+
+-- what changes nothing is only answered: a word that is hidden already, and a row that was changed since
+purging_planned : IsPlanned two_books (Purge 1 (key (codes "b")) (codes "x")) (Still replies.Unchanged)
+purging_planned = (refl, refl)
+
+overtaken_planned : IsPlanned two_books
+    (Unlearn (record { book = 3; key = key (codes "c"); stamp = 4; before = None })) (Still (replies.Overtaken 5))
+overtaken_planned = (refl, refl)
+
+-- a plan of a call that changes something
+learning_made : IsMade two_books learnt_b
+unfolding lib.Utf8.encode
+learning_made =
+    (Learn 1 (key (codes "a")) None (record { word = codes "b"; note = [] }), refl, refl, refl, learning_planned)
+
+-- one change has room where there is room for one, and none where there is room for none; what is only answered needs
+-- no room
+abbrev last_room : Index
+last_room = record roomy { spare = record { number = 1; changes = 1 } ∷ record { number = 7; changes = 0 } ∷ [] }
+
+room_for_plan : HasRoom last_room learnt_b
+room_for_plan = omega arith
+
+no_room_for_plan : HasRoom last_room (Move 7 3 (key (codes "a")) None replies.Restored) → ⊥
+no_room_for_plan room = absurd (omega (arith, room))
+
+no_room_needed : HasRoom last_room (Still replies.Unchanged)
+no_room_needed = tt

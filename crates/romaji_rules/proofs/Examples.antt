@@ -1,8 +1,9 @@
 -- The definitions at a small rule set, each worked out by hand.
-use Rattle.std.proofs.Common.{◌≡◌, ℕ, true, false, List, [], ◌∷◌, ◌++◌, refl, map, codes}
+use Rattle.std.proofs.Common.{◌≡◌, ℕ, true, false, None, Some, List, [], ◌∷◌, ◌++◌, refl, map, option_map, codes}
 use Rattle.romaji_rules.specs.declared.rule.Rule.{Rule}
 use Rattle.romaji_rules.specs.Fitting.{is_input_char, is_input_text, is_next_text, inputs_differ, is_rule_set}
 use Rattle.romaji_rules.specs.Output.{nothing}
+use Rattle.romaji_rules.specs.RuleIndexes.{above_in, input, slot_of, slot_rules}
 use Rattle.romaji_rules.specs.Standard.{rule, row, contracted, single, doubled}
 use Rattle.romaji_rules.specs.Typed.{Step, begins_input, goes_on, flushed, fed}
 
@@ -93,3 +94,20 @@ single_n : single "n" "ん" ++ doubled 0x6B ∷ []
     ≡ record { input = codes "n"; next = []; out = record { hira = codes "ん"; kata = codes "ン" } }
     ∷ record { input = codes "kk"; next = codes "k"; out = record { hira = codes "っ"; kata = codes "ッ" } } ∷ []
 single_n = refl
+
+-- slots: of no byte, of each byte alone, and of two bytes by both, whatever stands behind them
+slots : map slot_of ([] ∷ codes "a" ∷ codes "z" ∷ codes "ka" ∷ codes "kya" ∷ codes "kyu" ∷ codes "ak" ∷ [])
+    ≡ 0 ∷ 97 ∷ 122 ∷ 292 ∷ 316 ∷ 316 ∷ 468 ∷ []
+slots = refl
+
+-- the inputs of the rules of a slot
+rules_of_slots : map (λ slot. map input (slot_rules slot rules)) (0 ∷ 110 ∷ 107 ∷ 292 ∷ 302 ∷ 319 ∷ [])
+    ≡ [] ∷ (codes "n" ∷ []) ∷ [] ∷ (codes "ka" ∷ []) ∷ (codes "kk" ∷ []) ∷ (codes "na" ∷ []) ∷ []
+rules_of_slots = refl
+
+-- the input behind a text in order, though the rules do not stand in it
+inputs_above : map (λ text. option_map input (above_in rules text))
+    ([] ∷ codes "k" ∷ codes "ka" ∷ codes "kb" ∷ codes "kk" ∷ codes "n" ∷ codes "na" ∷ codes "z" ∷ [])
+    ≡ Some (codes "ka") ∷ Some (codes "ka") ∷ Some (codes "kk") ∷ Some (codes "kk") ∷ Some (codes "n")
+    ∷ Some (codes "na") ∷ None ∷ None ∷ []
+inputs_above = refl

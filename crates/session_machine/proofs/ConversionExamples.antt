@@ -72,6 +72,16 @@ asks_numbers :
 unfolding encode
 asks_numbers = refl
 
+-- a number is looked up without the okurigana of its reading
+asks_number_without_okuri :
+    space_asks (states.Reading (with_begun (codes "2倍") 115 (codes "し")))
+    (nothing ∷ found (word (codes "#4倍") ∷ []) ∷ nothing ∷ [])
+    ≡ Lookup 3 (record { part = Ari; reading = codes "2倍s" }) (Some (codes "し"))
+    ∷ Lookup 3 (record { part = Ari; reading = codes "#倍s" }) (Some (codes "し"))
+    ∷ Lookup 3 (plain_key (codes "2")) None ∷ []
+unfolding encode
+asks_number_without_okuri = refl
+
 asks_no_number :
     space_asks (abbreviation (codes "9")) (found (word (codes "#4") ∷ []) ∷ found (word (codes "#1") ∷ []) ∷ [])
     ≡ Lookup 3 (plain_key (codes "9")) None ∷ Lookup 3 (plain_key (codes "#")) None ∷ []
@@ -109,6 +119,15 @@ stays : map (λ answers. after (at [] Hira (abbreviation (codes "1x2")) none) (C
 unfolding encode
 stays = refl
 
+-- an answer of another kind leaves the reading too, with no notice
+answered_otherwise : map (λ answers. after (at [] Hira (abbreviation (codes "1x2")) none) (Char 32) answers)
+    ((Done replies.Purged ∷ []) ∷ (nothing ∷ Done replies.Purged ∷ [])
+    ∷ (nothing ∷ found (word (codes "#4") ∷ []) ∷ Done replies.Purged ∷ [])
+    ∷ (nothing ∷ found (word (codes "#4") ∷ []) ∷ nothing ∷ Done replies.Purged ∷ []) ∷ [])
+    ≡ map (λ (n : ℕ). Some (Some (at [] Hira (abbreviation (codes "1x2")) none))) (1 ∷ 2 ∷ 3 ∷ 4 ∷ [])
+unfolding encode
+answered_otherwise = refl
+
 -- nothing is found by either
 none_found : after (at [] Hira (unfinished (codes "9")) none) (Char 32) (nothing ∷ nothing ∷ []) ≡ Some None
 unfolding encode
@@ -140,12 +159,14 @@ asks_completions : asked (pressed rules (at [] Kata (states.Reading (reading (co
 unfolding encode
 asks_completions = refl
 
--- the first is shown and all are kept; where there are none, and where it is refused, the reading stays
+-- the first is shown and all are kept; where there are none, where it is refused, and where it is answered otherwise,
+-- the reading stays
 completions : map (λ answer. after (at (codes "x") Hira (unfinished (codes "あ")) none) Tab (answer ∷ []))
-    (readings (codes "あん" ∷ codes "ああ" ∷ []) ∷ readings [] ∷ lacking ∷ [])
+    (readings (codes "あん" ∷ codes "ああ" ∷ []) ∷ readings [] ∷ lacking ∷ Done replies.Purged ∷ [])
     ≡ Some (Some (at (codes "x") Hira (completed (codes "あん" ∷ codes "ああ" ∷ []) 0 (codes "あん")) none))
     ∷ Some (Some (at (codes "x") Hira (unfinished (codes "あ")) (told.Step notices.NoCompletion)))
-    ∷ Some (Some (at (codes "x") Hira (unfinished (codes "あ")) (told.Refused refusals.Memory))) ∷ []
+    ∷ Some (Some (at (codes "x") Hira (unfinished (codes "あ")) (told.Refused refusals.Memory)))
+    ∷ Some (Some (at (codes "x") Hira (unfinished (codes "あ")) none)) ∷ []
 unfolding encode
 completions = refl
 
