@@ -1,12 +1,15 @@
 -- The characters of strings.
 use Rattle.std.proofs.Common.{◌≡◌, ℕ, String, string_bytes, encode_utf8, encode_utf8_all, List, [], ◌∷◌, ◌++◌, ◌∙◌, sym}
-use Rattle.std.proofs.Common.{ap, refl, length, ◌==◌, arith, rules}
+use Rattle.std.proofs.Common.{ap, refl, length, ◌==◌, ◌||◌, not, arith, rules}
 use Rattle.std.specs.declared.alloc.Global.{Global}
 use Rattle.std.specs.Char.{IsScalar}
+use Rattle.std.specs.List.{list_all}
 use Rattle.std.specs.Str.{IsUtf8, chars}
 use Rattle.std.specs.String.{string_len}
 use Rattle.std.proofs.lemmas.Str.{chars-nil, length-le-encodes, encodes-chars, encodes_same, IsUtf8-string_bytes}
 use Rattle.std.proofs.lemmas.Bool.{ne_eqb}
+use Rattle.std.proofs.lemmas.Bool.Decides.{nat_tests}
+use Rattle.exact_readers.specs.LackLaws.{bytes_pass}
 use Rattle.skk_text.specs.Lists.{is_empty}
 use Rattle.skk_text.specs.Text.{byte_len}
 use Rattle.skk_text.specs.TextLaws.{chars-push}
@@ -43,3 +46,10 @@ empty_text text valid = by (chars text) (sym (encodes-chars text valid))
 pub empty_string : (string : String Global) → (string_len string == 0) ≡ is_empty (characters string)
 empty_string string =
     ap (λ n. n == 0) (search rules) ∙ empty_text (string_bytes string) (IsUtf8-string_bytes string)
+
+-- whether characters end a line is told by the bytes
+pub line_ends_are_bytes : (text : List ℕ) → IsUtf8 text
+    → list_all (λ c. not (c == 13 || c == 10)) text ≡ list_all (λ c. not (c == 13 || c == 10)) (chars text)
+line_ends_are_bytes text valid =
+    ap (list_all (λ c. not (c == 13 || c == 10))) (sym (encodes-chars text valid))
+    ∙ bytes_pass (λ c. not (c == 13 || c == 10)) (λ byte high. grind (arith, nat_tests, high)) (chars text)

@@ -282,11 +282,19 @@ fn no_line_ends(alloc: Global, text: &[char]) -> Result<String, Memory>
     )
 }
 
-// Whether no character ends a line.
+// Whether no character ends a line: no byte of another character is CR or LF.
+#[tactic(auto, using(crate::proofs::Strings::line_ends_are_bytes))]
 fn lacks_line_ends(text: &str) -> bool
     ensures { result ≡ list_all (λ c. not (c == 13 || c == 10)) (chars text.now) }
 {
-    text.chars().all(|c| !(c == '\r' || c == '\n'))
+    no_byte_ends_a_line(text.as_bytes())
+}
+
+// Whether no byte is CR or LF.
+fn no_byte_ends_a_line(bytes: &[u8]) -> bool
+    ensures { result ≡ list_all (λ byte. not (byte == 13 || byte == 10)) bytes.now }
+{
+    bytes.iter().all(|byte| !(*byte == b'\r' || *byte == b'\n'))
 }
 
 // Whether no word of the items is too long.

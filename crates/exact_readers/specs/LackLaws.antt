@@ -1,13 +1,14 @@
 -- What lacks a character, and the bytes and lines of texts that do.
 use Rattle.std.proofs.Common.{◌≡◌, ◌⊎◌, inl, inr, ℕ, ◌+◌, ◌/◌, ◌%◌, ◌≤◌, ◌<◌, ◌==◌, Bool, true, false, cond, not, List}
 use Rattle.std.proofs.Common.{[], ◌∷◌, ◌++◌, Option, None, Some, map, encode_utf8_all, refl, sym, ap, ◌∙◌, arith}
-use Rattle.std.proofs.Common.{append_assoc}
+use Rattle.std.proofs.Common.{append_assoc, leb, ◌&&◌}
 use lib.Utf8.{encode}
 use Rattle.std.specs.List.{flat_map, list_all, AllByRecursion}
 use Rattle.std.specs.Option.{option_map}
 use Rattle.std.proofs.lemmas.Bool.{and_parts, and_from, both_ways, eqb-true, not_from_false, ne_eqb}
-use Rattle.std.proofs.lemmas.Bool.Decides.{eqb_tells}
+use Rattle.std.proofs.lemmas.Bool.Decides.{eqb_tells, leb_tells}
 use Rattle.std.proofs.lemmas.List.Folds.{list_all-append, list_all-map}
+use Rattle.std.proofs.Math.Bool.{and-true}
 use Rattle.std.proofs.lemmas.Str.{encode_ascii, encodes-append}
 use Rattle.skk_text.specs.Lines.{lines_of}
 use Rattle.skk_text.specs.PairsLaws.{list_all-weaker}
@@ -83,24 +84,37 @@ bytes_are c = by _ _ _
 
 -- Their texts
 
+-- the bytes of a text pass a test that all bytes from 128 on pass where its characters do
+pub bytes_pass : (passes : ℕ → Bool) → ((byte : ℕ) → 128 ≤ byte → passes byte ≡ true) → (text : List ℕ)
+    → list_all passes (encode_utf8_all text) ≡ list_all passes text
+bytes_pass passes above [] = refl
+bytes_pass passes above (c ∷ text) =
+    list_all-append passes (encode c) (encode_utf8_all text)
+    ∙ ap (λ b. b && list_all passes (encode_utf8_all text)) (of_char (leb_tells 128 c))
+    ∙ ap (λ b. passes c && b) (bytes_pass passes above text)
+  where
+    all_above : (bytes : List ℕ) → AllByRecursion (λ byte. 128 ≤ byte) bytes → list_all passes bytes ≡ true
+    all_above [] all = refl
+    all_above (byte ∷ bytes) all =
+        and_from (passes byte) (list_all passes bytes) (above byte all.0) (all_above bytes all.1)
+
+    itself : encode c ≡ c ∷ [] → list_all passes (encode c) ≡ passes c
+    itself e = ap (list_all passes) e ∙ and-true (passes c)
+
+    of_high : 128 ≤ c → AreOf c (encode c) → list_all passes (encode c) ≡ passes c
+    of_high high (inl same) = itself same
+    of_high high (inr (first, rest, are, all)) =
+        ap (list_all passes) are ∙ all_above (first ∷ rest) all ∙ sym (above c high)
+
+    of_char : ((leb 128 c ≡ true) × (128 ≤ c)) ⊎ ((leb 128 c ≡ false) × (c < 128))
+        → list_all passes (encode c) ≡ passes c
+    of_char (inl high) = of_high high.1 (bytes_are c)
+    of_char (inr low) = itself (encode_ascii c low.1)
+
 -- the bytes of a text that lacks an ASCII character lack it
 pub bytes_lack : (code : ℕ) → code < 128 → (text : List ℕ) → lacks code text ≡ true
     → lacks code (encode_utf8_all text) ≡ true
-bytes_lack code low [] none = refl
-bytes_lack code low (c ∷ text) none =
-    let parts = and_parts (not (c == code)) (lacks code text) none in
-    list_all-append (λ d. not (d == code)) (encode c) (encode_utf8_all text)
-    ∙ and_from (lacks code (encode c)) (lacks code (encode_utf8_all text)) (by (bytes_are c) parts.0)
-    (bytes_lack code low text parts.1)
-  where
-    all_above : (bytes : List ℕ) → AllByRecursion (λ byte. 128 ≤ byte) bytes → lacks code bytes ≡ true
-    all_above [] all = refl
-    all_above (byte ∷ bytes) all =
-        and_from (not (byte == code)) (lacks code bytes) (above_ascii code low byte all.0) (all_above bytes all.1)
-
-    by : AreOf c (encode c) → not (c == code) ≡ true → lacks code (encode c) ≡ true
-    by (inl itself) other = ap (lacks code) itself ∙ and_from (not (c == code)) true other refl
-    by (inr (first, rest, are, all)) other = ap (lacks code) are ∙ all_above (first ∷ rest) all
+bytes_lack code low text none = bytes_pass (λ byte. not (byte == code)) (above_ascii code low) text ∙ none
 
 -- Lines
 
