@@ -6,7 +6,7 @@ ghost use Rattle.skk_calls.specs.declared.call.Call.TheVariants as calls;
 
 use crate::distinct::distinct;
 use romaji_rules::Rules;
-use session_machine::{PressFault, Session};
+use session_machine::Session;
 use skk_calls::{Answer, Call, Caller, Cand, Cands, Learned, Part, Refusal, Reply, RowKey};
 use skk_text::{Copies, Memory, Mode, Text, Texts, read_keys};
 use skk_trace::{Shows, Trace};
@@ -247,20 +247,16 @@ fn listed_readings(alloc: Global, words: &str) -> Result<Texts, Memory>
 
 // The session after the keys, where `_` is the space. It begins in hiragana mode,
 // and its calls are answered by these words.
-fn session_after(
-    alloc: Global,
-    keys: &str,
-    words: &str,
-) -> Result<Result<Session, PressFault>, Fail> {
+fn session_after(alloc: Global, keys: &str, words: &str) -> Result<Session, Fail> {
     let rules = Rules::standard(alloc)?;
     let keys = read_keys(alloc, keys.replace(alloc, "_", " ")?.as_bytes())?;
     let trace = Trace::new(alloc, &Silence)?;
     let mut caller = Finder { words, trace };
-    Ok(Session::new(alloc, 7, 0).play(alloc, &rules, keys.as_slice(), &mut caller))
+    Ok(Session::new(alloc, 7, 0).play(alloc, &rules, keys.as_slice(), &mut caller)?)
 }
 
-// What is typed; the words that its calls are answered by; `=`; and the display and the notice behind it. Where `~`
-// stands there, what was typed is not built.
+// What is typed; the words that its calls are answered by; `=`; and the display and the notice behind it. A call for
+// which no word is left finds nothing, or is refused for want of memory.
 const CASES: &str = "
 kitte =きって|
 kya<bs> =き|
@@ -407,18 +403,96 @@ Ka<tab>a. かんじ,かに=▽かんじあ。|
 Ka<tab>_ かんじ 12=▼甲|
 Ka<tab>_x. かんじ 12=▽かんじ。|
 Ka<tab><cj> かんじ=かんじ|
-Q1_ 0 0=~
-KaKu 0=~
-Ka_ 0=~
-Ka__ 1=~
-Ka______ 11=~
+Ka_ 0=[辞書登録] か: |
+qKa_ 0=[辞書登録] カ: |
+KaKu 0=[辞書登録] か*く: |
+qKaKu 0=[辞書登録] カ*ク: |
+Q1_ 0 0=[辞書登録] #: |
+Q1_ 0 memory=▽1|refused memory
+Ka__ 1=[辞書登録] か: |
+Ka______ 11=[辞書登録] か: |
+aKa_ik 0=[辞書登録] か: いk|
+Ka_kya<bs> 0=[辞書登録] か: き|
+Ka_<undo> 0=[辞書登録] か: |no-undo
+aKa_<cg> 0=あ▽か|
+aKa_ik<cg> 0=[辞書登録] か: い|
+aKa_i<cg> 0=あ▽か|
+aKa_<ret> 0=あ▽か|
+aKa_i<bs><ret> 0=あ▽か|
+KaKu<cg> 0=▽か*く|
+Q1_<cg> 0 0=▽1|
+Ka__<cg> 1=▼甲|
+Ka___<cg> 2=▼乙|;二
+Ka______<ret> 11=▼[A:戊 S:己 D:庚 F:辛 J:壬 K:癸 L:子 残り 0]|
+Ka_lx<cg> 0=[辞書登録] か: x|
+Ka_Lx<cg> 0=[辞書登録] か: ｘ|
+Ka_L<cg> 0=[辞書登録] か: |
+Ka_L<ret> 0=▽か|
+Ka_lx<ret> 0 learned=x|
+Ka_lx<ret> 0 too-big=x|too-big 65537
+Ka_lx<ret> 0 stamps-end=x|stamps-end
+Ka_lx<ret> 0 memory=x|refused memory
+Ka_lx<ret> 0 disk=x|refused disk
+Ka_lx<ret> 0 full=x|refused full 18 90 100
+Ka_lx<ret>i 0 disk=xい|
+qKa_Lx<ret>i 0 learned=ｘイ|
+aKa_in<ret> 0 learned=あいん|
+aKa_Ain<ret> 0 learned=ああいん|
+aKa_qAi<ret> 0 learned=あアイ|
+Ka__lx<ret> 1 learned=x|
+KaKulx<ret> 0 disk=xく|refused disk
+qKaKulx<ret> 0 learned=xク|
+Q7nen_l#1<ret> 0 0 disk=７|refused disk
+Q7nenMel#3<ret> 0 0 learned=七め|
+/p125_l#4<ret> 0 0 learned=125|
+/p125__l#4<ret> 0 1 learned=125|
+Ko_Ka_<ret> 0 12 learned learned=甲|
+Ko_Ka_<ret> 0 12 too-big learned=甲|too-big 65537
+Ko_Ka_<ret> 0 12 stamps-end learned=甲|stamps-end
+Ko_Ka_<ret> 0 12 memory learned=甲|refused memory
+Ko_Ka_<ret> 0 12 disk learned=甲|refused disk
+Ko_Ka_<ret> 0 12 full learned=甲|refused full 18 90 100
+Ko_Ka_<ret> 0 12 learned too-big=甲|too-big 65537
+Ko_Ka_<ret> 0 12 learned stamps-end=甲|stamps-end
+Ko_Ka_<ret> 0 12 learned memory=甲|refused memory
+Ko_Ka_<ret> 0 12 learned disk=甲|refused disk
+Ko_Ka_<ret> 0 12 learned full=甲|refused full 18 90 100
+Ko_Ka_<ret> 0 12 full memory=甲|refused memory
+Ko_Ka_<ret> 0 12 memory disk=甲|refused disk
+Ko_Ka_<ret> 0 12 disk too-big=甲|too-big 65537
+Ko_Ka_<ret> 0 12 too-big stamps-end=甲|stamps-end
+Ko_Ka_<ret> 0 12 stamps-end full=甲|refused full 18 90 100
+Ko_Ka_<ret> 0 memory learned=か|
+Ko_Ka_<cj><ret> 0 12 disk learned=甲|
+Ko_Ki_Ka_<ret> 0 0 12 learned disk=[辞書登録] こ: 甲|refused disk
+Ko_Ki_Ka_<ret><ret> 0 0 12 learned disk learned=甲|
+Ko_Ki_<ret>_ 0 0 0=[[辞書登録]] き: |
+Ko_Ki_<cg><cg><cg> 0 0=▽こ|
+Ko_Ka_ 0 memory=[辞書登録] こ: ▽か|refused memory
+Ko_Ka_X 0 12=[辞書登録] こ: ▼甲[削除 Y/N]|
+Ko_Ka_Xy 0 12 disk=[辞書登録] こ: ▼甲|refused disk
+Ko_Ka_XY 0 12 purged=[辞書登録] こ: |purged
+Ko_Ka<tab> 0 かんじ,かに=[辞書登録] こ: ▽かんじ|
+Ko_Ka_<cj><undo> 0 12 disk=[辞書登録] こ: ▼甲|undone
+Ko_Ka_<cj><undo> 0 12 learned restored=[辞書登録] こ: ▼甲|undone
+Ko_Ka_<cj><undo> 0 12 learned memory=[辞書登録] こ: ▼甲|refused memory
+Ka_<cj>Ko_<undo> 12 learned 0=[辞書登録] こ: |no-undo
+Ka_<cj>Ko_<cg><cg><undo> 12 learned 0 restored=▼甲|undone
+Ka_<cj>Ko_<ret><cg><undo> 12 learned 0 overtaken=▼甲|overtaken 2
+Ka_<cj>Ko_lx<ret><bs><undo> 12 learned 0 learned=甲|no-undo
+Ka_<cj>Ko_lx<ret><bs><undo> 12 learned 0 disk=甲|no-undo
+Ko_Ka_<ret><undo> 0 12 learned learned=甲|no-undo
+A_I_U_E_O_A_I_Ka_ 0 0 0 0 0 0 0 0=[[[[[[[[辞書登録]]]]]]]] か: |
+A_I_U_E_O_A_I_Ka_A_ 0 0 0 0 0 0 0 0 0=[[[[[[[[辞書登録]]]]]]]] か: ▽あ|depth 8
+A_I_U_E_O_A_I_Ka_Q1_ 0 0 0 0 0 0 0 0 0 0=[[[[[[[[辞書登録]]]]]]]] か: ▽1|depth 8
+A_I_U_E_O_A_I_Ka_A___ 0 0 0 0 0 0 0 0 2=[[[[[[[[辞書登録]]]]]]]] か: ▼乙|depth 8
+A_I_U_E_O_A_I_Ka_A_______ 0 0 0 0 0 0 0 0 12=[[[[[[[[辞書登録]]]]]]]] か: ▼[A:丑 残り 0]|depth 8
+A_I_U_E_O_A_I_Ka_A_<cg><cg>_ 0 0 0 0 0 0 0 0 0 0=[[[[[[[[辞書登録]]]]]]]] か: |
+A_I_U_E_O_A_I_Ka_lx<ret><ret> 0 0 0 0 0 0 0 0 learned disk=[[[[[[辞書登録]]]]]] あ: x|refused disk
 ";
 
 // What a case has of a session.
-fn case_text(alloc: Global, ended: Result<Session, PressFault>) -> Result<String, Fail> {
-    let Ok(session) = ended else {
-        return Ok(String::from_str(alloc, "~")?);
-    };
+fn case_text(alloc: Global, session: Session) -> Result<String, Fail> {
     let display = session.display(alloc)?;
     let notice = session.notice(alloc)?;
     let display = display.as_str();
@@ -428,41 +502,103 @@ fn case_text(alloc: Global, ended: Result<Session, PressFault>) -> Result<String
 #[test]
 fn sessions_are_shown(rt: HostRuntime) -> Result<(), Fail> {
     let alloc = rt.alloc();
-    assert_eq!(rt; CASES.lines().count(), 151);
+    assert_eq!(rt; CASES.lines().count(), 232);
     for case in CASES.lines().skip(1) {
         let (typing, wanted) = case.split_once('=').ok_or("no `=`")?;
         let (keys, words) = typing.split_once(' ').ok_or("no space")?;
-        let ended = session_after(alloc, keys, words)?;
-        assert_eq!(rt; case_text(alloc, ended)?.as_str(), wanted, "typed {typing}");
+        let session = session_after(alloc, keys, words)?;
+        assert_eq!(rt;
+            case_text(alloc, session)?.as_str(),
+            wanted,
+            "typed {typing}"
+        );
     }
     Ok(())
 }
 
-// The session after the choices of so many long candidates, one after another.
-fn session_after_long(alloc: Global, count: usize) -> Result<Result<Session, PressFault>, Fail> {
-    let keys = "Ka_<cj>".repeat(alloc, count)?;
-    let words = "long learned ".repeat(alloc, count)?;
+// The session after the choices of so many long candidates, one after another, and then these keys, whose calls are
+// answered by these words.
+fn session_after_long(
+    alloc: Global,
+    count: usize,
+    keys: &str,
+    words: &str,
+) -> Result<Session, Fail> {
+    let choices = "Ka_<cj>".repeat(alloc, count)?;
+    let answers = "long learned ".repeat(alloc, count)?;
+    let keys = format!(in alloc; "{}{keys}", choices.as_str())?;
+    let words = format!(in alloc; "{}{words}", answers.as_str())?;
     session_after(alloc, keys.as_str(), words.as_str())
 }
 
+// Choices fit just up to the limit of a text: one more does not, nor does the word of a registration.
 #[test]
-fn choices_fit_up_to_the_limit(rt: HostRuntime) -> Result<(), Fail> {
+fn what_is_inserted_fits_up_to_the_limit(rt: HostRuntime) -> Result<(), Fail> {
     let alloc = rt.alloc();
-    let session = session_after_long(alloc, MANY + 1)??;
-    assert_eq!(rt; session.text().byte_len(), MANY * LONG);
-    assert_eq!(rt; session.notice(alloc)?.as_str(), "limit");
+    for (keys, words) in [("Ka_<cj>", "long learned"), ("Ko_lx<ret>", "0 learned")] {
+        let session = session_after_long(alloc, MANY, keys, words)?;
+        assert_eq!(rt; session.text().byte_len(), MANY * LONG, "typed {keys}");
+        assert_eq!(rt; session.notice(alloc)?.as_str(), "limit", "typed {keys}");
+    }
+    Ok(())
+}
+
+// A word of more than 4,095 bytes stays in its registration, also where its last choice was learnt or refused.
+#[test]
+fn registered_words_have_a_limit(rt: HostRuntime) -> Result<(), Fail> {
+    let alloc = rt.alloc();
+    for (keys, words, length, notice) in [
+        (
+            "Ko_Ka_<cj>Ka_<ret>",
+            "0 long learned long learned",
+            0,
+            "limit",
+        ),
+        ("Ko_Ka_<cj>Ka_<ret>", "0 long learned long disk", 0, "limit"),
+        (
+            "Ko_Ka_<cj>Ka_<cj><bs><ret>",
+            "0 long learned long disk learned",
+            4_095,
+            "",
+        ),
+        (
+            "Ko_Ka_<cj>Ka_<ret><bs><ret>",
+            "0 long learned long learned disk",
+            4_095,
+            "refused disk",
+        ),
+    ] {
+        let session = session_after(alloc, keys, words)?;
+        assert_eq!(rt; session.text().byte_len(), length, "typed {keys}");
+        assert_eq!(rt; session.notice(alloc)?.as_str(), notice, "typed {keys}");
+    }
     Ok(())
 }
 
 #[test]
 fn sessions_have_a_mode_and_a_text(rt: HostRuntime) -> Result<(), Fail> {
     let alloc = rt.alloc();
-    let session = session_after(alloc, "KanaL<tab>Ka", "")??;
+    let session = session_after(alloc, "KanaL<tab>Ka", "")?;
     assert_eq!(rt; session.mode(), Mode::Wide);
     assert_eq!(rt; session.text().as_str(), "かなＫａ");
     let mut page = Text::new(alloc);
     session.push_line(alloc, &mut page)?;
     session.push_text(&mut page)?;
     assert_eq!(rt; page.as_str(), "全英\tかなＫａ\t\nかなＫａ");
+    Ok(())
+}
+
+#[test]
+fn sessions_in_a_registration_have_the_mode_inside_and_the_text_outside(
+    rt: HostRuntime,
+) -> Result<(), Fail> {
+    let alloc = rt.alloc();
+    let session = session_after(alloc, "aKo_iKi_lu", "0 0")?;
+    assert_eq!(rt; session.mode(), Mode::Ascii);
+    assert_eq!(rt; session.text().as_str(), "あ");
+    let mut page = Text::new(alloc);
+    session.push_line(alloc, &mut page)?;
+    session.push_text(&mut page)?;
+    assert_eq!(rt; page.as_str(), "SKK\t[[辞書登録]] き: u\t\nあ");
     Ok(())
 }

@@ -17,9 +17,11 @@ use Rattle.reading_state.specs.Puts.{Reading}
 use Rattle.candidate_state.specs.Shown.{Shown}
 use Rattle.session_machine.specs.declared.frame.State.{State}
 use Rattle.session_machine.specs.declared.frame.State.TheVariants as states
+use Rattle.session_machine.specs.declared.frame.Waiting.TheVariants as waits
 use Rattle.session_machine.specs.declared.session_notice.SessionNotice.TheVariants as told
 use Rattle.session_machine.specs.Pressed.{pressed}
-use Rattle.session_machine.proofs.Examples.{rules, at, none, reading, unfinished, abbreviation, with_begun, cand}
+use Rattle.session_machine.proofs.Examples.{abbreviation, at, cand, none, plain, reading, registering_in, rules}
+use Rattle.session_machine.proofs.Examples.{unfinished, with_begun}
 use Rattle.session_machine.proofs.Examples.{after}
 
 -- a key without okurigana
@@ -93,11 +95,11 @@ shows_both :
     after (at [] Hira (unfinished (codes "9")) none) (Char 32)
     (found (word (codes "九") ∷ word (codes "#1") ∷ [])
     ∷ found (word (codes "#0") ∷ cand (codes "#2") (codes "n") ∷ word (codes "##2") ∷ word (codes "9") ∷ []) ∷ [])
-    ≡ Some (Some (at [] Hira (shown_for (reading (codes "9") [])
+    ≡ Some (at [] Hira (shown_for (reading (codes "9") [])
     (record { key = plain_key (codes "9"); cand = word (codes "九"); text = codes "九" }
     ∷ record { key = plain_key (codes "9"); cand = word (codes "#1"); text = codes "#1" }
     ∷ record { key = plain_key (codes "#"); cand = word (codes "#0"); text = codes "9" }
-    ∷ record { key = plain_key (codes "#"); cand = word (codes "##2"); text = codes "#九" } ∷ [])) none))
+    ∷ record { key = plain_key (codes "#"); cand = word (codes "##2"); text = codes "#九" } ∷ [])) none)
 unfolding encode
 shows_both = refl
 
@@ -105,8 +107,8 @@ shows_both = refl
 shows_firsts :
     after (at [] Hira (abbreviation (codes "1x2")) none) (Char 32)
     (nothing ∷ found (word (codes "#4と#4") ∷ []) ∷ nothing ∷ found (word (codes "二") ∷ word (codes "弐") ∷ []) ∷ [])
-    ≡ Some (Some (at [] Hira (shown_for (record (reading (codes "1x2") []) { is_abbrev = true })
-    (record { key = plain_key (codes "#x#"); cand = word (codes "#4と#4"); text = codes "1と二" } ∷ [])) none))
+    ≡ Some (at [] Hira (shown_for (record (reading (codes "1x2") []) { is_abbrev = true })
+    (record { key = plain_key (codes "#x#"); cand = word (codes "#4と#4"); text = codes "1と二" } ∷ [])) none)
 unfolding encode
 shows_firsts = refl
 
@@ -114,7 +116,7 @@ shows_firsts = refl
 stays : map (λ answers. after (at [] Hira (abbreviation (codes "1x2")) none) (Char 32) answers)
     ((lacking ∷ []) ∷ (nothing ∷ lacking ∷ []) ∷ (nothing ∷ found (word (codes "#4") ∷ []) ∷ lacking ∷ [])
     ∷ (nothing ∷ found (word (codes "#4") ∷ []) ∷ nothing ∷ lacking ∷ []) ∷ [])
-    ≡ map (λ (n : ℕ). Some (Some (at [] Hira (abbreviation (codes "1x2")) (told.Refused refusals.Memory))))
+    ≡ map (λ (n : ℕ). Some (at [] Hira (abbreviation (codes "1x2")) (told.Refused refusals.Memory)))
     (1 ∷ 2 ∷ 3 ∷ 4 ∷ [])
 unfolding encode
 stays = refl
@@ -124,12 +126,13 @@ answered_otherwise : map (λ answers. after (at [] Hira (abbreviation (codes "1x
     ((Done replies.Purged ∷ []) ∷ (nothing ∷ Done replies.Purged ∷ [])
     ∷ (nothing ∷ found (word (codes "#4") ∷ []) ∷ Done replies.Purged ∷ [])
     ∷ (nothing ∷ found (word (codes "#4") ∷ []) ∷ nothing ∷ Done replies.Purged ∷ []) ∷ [])
-    ≡ map (λ (n : ℕ). Some (Some (at [] Hira (abbreviation (codes "1x2")) none))) (1 ∷ 2 ∷ 3 ∷ 4 ∷ [])
+    ≡ map (λ (n : ℕ). Some (at [] Hira (abbreviation (codes "1x2")) none)) (1 ∷ 2 ∷ 3 ∷ 4 ∷ [])
 unfolding encode
 answered_otherwise = refl
 
 -- nothing is found by either
-none_found : after (at [] Hira (unfinished (codes "9")) none) (Char 32) (nothing ∷ nothing ∷ []) ≡ Some None
+none_found : after (at [] Hira (unfinished (codes "9")) none) (Char 32) (nothing ∷ nothing ∷ [])
+    ≡ Some (registering_in (at [] Hira plain none) (waits.Reading (reading (codes "9") [])))
 unfolding encode
 none_found = refl
 
@@ -163,15 +166,15 @@ asks_completions = refl
 -- the reading stays
 completions : map (λ answer. after (at (codes "x") Hira (unfinished (codes "あ")) none) Tab (answer ∷ []))
     (readings (codes "あん" ∷ codes "ああ" ∷ []) ∷ readings [] ∷ lacking ∷ Done replies.Purged ∷ [])
-    ≡ Some (Some (at (codes "x") Hira (completed (codes "あん" ∷ codes "ああ" ∷ []) 0 (codes "あん")) none))
-    ∷ Some (Some (at (codes "x") Hira (unfinished (codes "あ")) (told.Step notices.NoCompletion)))
-    ∷ Some (Some (at (codes "x") Hira (unfinished (codes "あ")) (told.Refused refusals.Memory)))
-    ∷ Some (Some (at (codes "x") Hira (unfinished (codes "あ")) none)) ∷ []
+    ≡ Some (at (codes "x") Hira (completed (codes "あん" ∷ codes "ああ" ∷ []) 0 (codes "あん")) none)
+    ∷ Some (at (codes "x") Hira (unfinished (codes "あ")) (told.Step notices.NoCompletion))
+    ∷ Some (at (codes "x") Hira (unfinished (codes "あ")) (told.Refused refusals.Memory))
+    ∷ Some (at (codes "x") Hira (unfinished (codes "あ")) none) ∷ []
 unfolding encode
 completions = refl
 
 -- the next one asks nothing
 next_completion : after (at [] Hira (completed (codes "あん" ∷ codes "ああ" ∷ []) 0 (codes "あん")) none) Tab []
-    ≡ Some (Some (at [] Hira (completed (codes "あん" ∷ codes "ああ" ∷ []) 1 (codes "ああ")) none))
+    ≡ Some (at [] Hira (completed (codes "あん" ∷ codes "ああ" ∷ []) 1 (codes "ああ")) none)
 unfolding encode
 next_completion = refl

@@ -14,12 +14,14 @@ use Rattle.candidate_state.specs.Picking.{Picking}
 use Rattle.candidate_state.specs.Shown.{Shown}
 use Rattle.session_machine.specs.declared.frame.Conversion.{Conversion}
 use Rattle.session_machine.specs.declared.frame.Frame.{Frame}
+use Rattle.session_machine.specs.declared.frame.OuterFrame.{OuterFrame}
 use Rattle.session_machine.specs.declared.frame.State.{State}
 use Rattle.session_machine.specs.declared.frame.State.TheVariants as states
+use Rattle.session_machine.specs.declared.frame.Waiting.TheVariants as waits
 use Rattle.session_machine.specs.declared.session_notice.SessionNotice.{SessionNotice}
 use Rattle.session_machine.specs.declared.session_notice.SessionNotice.TheVariants.{Step, Refused, Purged, Unchanged}
 use Rattle.session_machine.specs.declared.session_notice.SessionNotice.TheVariants.{Undone, Overtaken, TooBig}
-use Rattle.session_machine.specs.declared.session_notice.SessionNotice.TheVariants.{StampsEnd}
+use Rattle.session_machine.specs.declared.session_notice.SessionNotice.TheVariants.{StampsEnd, Depth}
 use Rattle.session_machine.specs.Session.{Session}
 use Rattle.session_machine.specs.Display.{escaped, has_escape, printed_form, shown_characters, okuri_shown}
 use Rattle.session_machine.specs.Display.{reading_shown, question_shown, first_text, first_note, single_shown}
@@ -182,19 +184,54 @@ frame_in_katakana : frame_shown (frame (codes "あい") Kata (states.Reading (re
 frame_in_katakana = refl
 
 -- a session of a frame in frames, with a notice
-abbrev session : Frame → List Frame → SessionNotice → Session
+abbrev session : Frame → List OuterFrame → SessionNotice → Session
 session frame outer told = record { typist = 1; book = 0; frame = frame; outer = outer; notice = told }
 
 -- a frame in the plain state
 abbrev plain : List ℕ → Frame
 plain text = frame text Hira (states.Plain [])
 
+-- a frame outside, which waits for a word of a reading
+abbrev outer : List ℕ → Mode → Reading → OuterFrame
+outer text mode reading = record { text = text; mode = mode; waiting = waits.Reading reading; last_choice = None }
+
+-- a frame outside that waits in hiragana mode for a word of の
+abbrev outside : List ℕ → OuterFrame
+outside text = outer text Hira (reading "の" None "")
+
 -- what is shown is printed, of the text as of the state
-displays : map (λ f. display (session f (plain (codes "外") ∷ []) (Step notices.Limit))) (
+displays : map (λ f. display (session f [] (Step notices.Limit))) (
     plain [] ∷ plain (code "あ" ∷ 10 ∷ codes "い") ∷ frame (92 ∷ []) Kata (states.Reading (reading "か" None ""))
     ∷ frame [] Hira (states.Plain (92 ∷ [])) ∷ [])
     ≡ [] ∷ (code "あ" ∷ 92 ∷ codes "nい") ∷ (92 ∷ 92 ∷ codes "▽カ") ∷ (92 ∷ 92 ∷ []) ∷ []
 displays = refl
+
+-- the prompt of one registration and of two: the reading of the innermost in the kana outside it, with its okurigana,
+-- and with a # in the place of each number
+prompts : map (λ frames. display (session (frame (codes "内") Kata (states.Reading (reading "か" None ""))) frames
+    (Step notices.Empty)))
+    ((outside (codes "外") ∷ []) ∷ (outer [] Kata (reading "ぬの" None "") ∷ [])
+    ∷ (outside (codes "外") ∷ outer (codes "中") Hira (reading "はし" (begun "る") "") ∷ [])
+    ∷ (outside [] ∷ outer [] Kata (reading "まが" (begun "") "r") ∷ [])
+    ∷ (outer [] Hira (reading "12か3" None "") ∷ []) ∷ (outer [] Ascii (reading "a" None "") ∷ []) ∷ [])
+    ≡ codes "[辞書登録] の: 内▽カ" ∷ codes "[辞書登録] ヌノ: 内▽カ" ∷ codes "[[辞書登録]] はし*る: 内▽カ"
+    ∷ codes "[[辞書登録]] マガ*: 内▽カ" ∷ codes "[辞書登録] #か#: 内▽カ" ∷ codes "[辞書登録] a: 内▽カ" ∷ []
+prompts = refl
+
+-- a prompt is printed, with its escapes
+prompt_printed : display (session (plain [])
+    (outer [] Hira (record (reading "" None "") { text = 92 ∷ []; is_abbrev = true }) ∷ []) (Step notices.Empty))
+    ≡ codes "[辞書登録] " ++ 92 ∷ 92 ∷ codes ": "
+prompt_printed = refl
+
+-- a word is waited for too where candidates were shown
+prompt_of_candidates : display (session (plain []) (record (outside []) {
+  waiting = waits.Picking (record {
+    reading = reading "かんじ" None "";
+    picking = record { shown = three; place = 1; question = false };
+  });
+} ∷ []) (Step notices.Empty)) ≡ codes "[辞書登録] かんじ: "
+prompt_of_candidates = refl
 
 -- so many line feeds as they are printed
 abbrev printed_feeds : ℕ → List ℕ
@@ -238,10 +275,10 @@ notices_told : map (λ (l : SessionNotice × State). notice_text l.0 l.1) (
     ∷ (Refused Disk, picked three 1) ∷ (Purged, states.Plain [])
     ∷ (Unchanged, states.Plain []) ∷ (Undone, picked three 1) ∷ (Overtaken 0, picked three 1)
     ∷ (Overtaken 18, picked three 0) ∷ (TooBig 65537, picked three 1)
-    ∷ (StampsEnd, picked three 1) ∷ [])
+    ∷ (StampsEnd, picked three 1) ∷ (Depth, picked three 1) ∷ [])
     ≡ [] ∷ [] ∷ codes ";宴会の" ∷ codes "limit" ∷ codes "no-candidate" ∷ codes "refused disk" ∷ codes "purged"
     ∷ codes "unchanged" ∷ codes "undone" ∷ codes "overtaken 0" ∷ codes "overtaken 18" ∷ codes "too-big 65537"
-    ∷ codes "stamps-end" ∷ []
+    ∷ codes "stamps-end" ∷ codes "depth 8" ∷ []
 unfolding digits
 notices_told = refl
 
@@ -269,11 +306,11 @@ indicators = refl
 -- lines of sessions: with nothing to show, with a text of two lines and a reading, and with a candidate that has a note
 lines : map line (session (plain []) [] (Step notices.Empty)
     ∷ session (frame (code "あ" ∷ 10 ∷ []) Kata (states.Reading (reading "か" None "k"))) [] (Step notices.Reading)
-    ∷ session (frame (codes "a") Hira (picked three 1)) (plain (codes "外") ∷ []) (Step notices.Empty)
+    ∷ session (frame (codes "a") Hira (picked three 1)) (outside (codes "外") ∷ []) (Step notices.Empty)
     ∷ session (frame [] Wide (states.Plain [])) [] (Refused Memory) ∷ [])
     ≡ (codes "かな" ++ 9 ∷ 9 ∷ 10 ∷ [])
     ∷ (codes "カナ" ++ 9 ∷ code "あ" ∷ 92 ∷ codes "n▽カk" ++ 9 ∷ codes "reading" ++ 10 ∷ [])
-    ∷ (codes "かな" ++ 9 ∷ codes "a▼幹事" ++ 9 ∷ codes ";宴会の" ++ 10 ∷ [])
+    ∷ (codes "かな" ++ 9 ∷ codes "[辞書登録] の: a▼幹事" ++ 9 ∷ codes ";宴会の" ++ 10 ∷ [])
     ∷ (codes "全英" ++ 9 ∷ 9 ∷ codes "refused memory" ++ 10 ∷ []) ∷ []
 lines = refl
 
@@ -281,7 +318,7 @@ lines = refl
 -- without what is shown of a state
 texts : map (λ outer.
     text_printed (session (frame (codes "内" ++ 10 ∷ []) Hira (states.Plain (codes "k"))) outer (Step notices.Empty)))
-    ([] ∷ (plain (codes "外" ++ 9 ∷ []) ∷ []) ∷ (plain (codes "外") ∷ plain (codes "中") ∷ [])
-    ∷ (plain (characters 12400 65) ∷ []) ∷ [])
+    ([] ∷ (outside (codes "外" ++ 9 ∷ []) ∷ []) ∷ (outside (codes "外") ∷ outside (codes "中") ∷ [])
+    ∷ (outside (characters 12400 65) ∷ []) ∷ [])
     ≡ (code "内" ∷ 92 ∷ codes "n") ∷ (code "外" ∷ 92 ∷ codes "t") ∷ codes "外" ∷ characters 12400 65 ∷ []
 texts = refl

@@ -22,14 +22,17 @@ use Rattle.candidate_state.specs.Shown.{Shown}
 use Rattle.session_machine.specs.Answered.{reply_notice, answer_notice, learnt_by, says_purged}
 use Rattle.session_machine.specs.declared.frame.Choice.{Choice}
 use Rattle.session_machine.specs.declared.frame.Conversion.{Conversion}
-use Rattle.session_machine.specs.declared.frame.Frame.{Frame}
+use Rattle.session_machine.specs.declared.frame.OuterFrame.{OuterFrame}
 use Rattle.session_machine.specs.declared.frame.State.{State}
 use Rattle.session_machine.specs.declared.frame.State.TheVariants as states
+use Rattle.session_machine.specs.declared.frame.Waiting.{Waiting}
+use Rattle.session_machine.specs.declared.frame.Waiting.TheVariants as waits
 use Rattle.session_machine.specs.declared.session_notice.SessionNotice.{SessionNotice}
 use Rattle.session_machine.specs.declared.session_notice.SessionNotice.TheVariants as told
 use Rattle.session_machine.specs.Pressed.{pressed, all_pressed, reading_piece, choice_piece, after_learning}
-use Rattle.session_machine.specs.Session.{Session, FrameFits, frames_of, is_session, text_limit, new_session, text_of}
-use Rattle.session_machine.specs.Session.{choice_within, choice_at, without_chars, has_room}
+use Rattle.session_machine.specs.Registrations.{outside}
+use Rattle.session_machine.specs.Session.{Session, TextFits, may_learn_in, new_frame, new_session, text_limit, text_of}
+use Rattle.session_machine.specs.Session.{choice_within, choice_at, without_chars, has_room, texts_of}
 
 -- a table of two inputs, あ and ん
 abbrev pub rules : List Rule
@@ -80,7 +83,7 @@ shown key cand = record { key = record { part = Nasi; reading = key }; cand = ca
 abbrev found : List Cand
 found = cand (codes "亜") [] ∷ cand (codes "阿") (codes "二") ∷ []
 
-abbrev conversion : ℕ → Bool → Conversion
+abbrev pub conversion : ℕ → Bool → Conversion
 conversion place question = record {
   reading = reading (codes "あ") [];
   picking = record {
@@ -93,9 +96,14 @@ conversion place question = record {
 abbrev picking : ℕ → State
 picking place = states.Picking (conversion place false)
 
--- what a key comes to where its calls get these answers: the session, or that it is not built
-abbrev pub after : Session → Key → List Answer → Option (Option Session)
+-- what a key comes to where its calls get these answers
+abbrev pub after : Session → Key → List Answer → Option Session
 after session key answers = end_of (pressed rules session key) answers
+
+-- a session in which a registration was opened for what waits
+abbrev pub registering_in : Session → Waiting → Session
+registering_in session waiting =
+    record session { frame = new_frame; outer = session.outer ++ outside session.frame waiting ∷ [] }
 
 abbrev found_two : List Answer
 found_two = Done (replies.Found found) ∷ []
@@ -110,7 +118,7 @@ new : (new_session 3 3 ≡ record {
 new = refl
 
 -- a session learns in the shared book or in its typist's
-books : map (λ (l : ℕ × ℕ). is_session (new_session l.0 l.1)) ((3, 0) ∷ (3, 3) ∷ (3, 2) ∷ (3, 1) ∷ (0, 0) ∷ (0, 1) ∷ [])
+books : map (λ (l : ℕ × ℕ). may_learn_in l.0 l.1) ((3, 0) ∷ (3, 3) ∷ (3, 2) ∷ (3, 1) ∷ (0, 0) ∷ (0, 1) ∷ [])
     ≡ true ∷ true ∷ false ∷ false ∷ true ∷ false ∷ []
 books = refl
 
@@ -118,11 +126,11 @@ limit : text_limit ≡ 1048576
 limit = refl
 
 -- a text has at most so many bytes, and room for a piece up to there
-within_limit : (frame : Frame) → byte_len frame.text ≡ 1048576 → FrameFits frame
-within_limit frame full = omega (arith, full)
+within_limit : (text : List ℕ) → byte_len text ≡ 1048576 → TextFits text
+within_limit text full = omega (arith, full)
 
-past_the_limit : (frame : Frame) → byte_len frame.text ≡ 1048577 → FrameFits frame → ⊥
-past_the_limit frame full fits = omega (arith, full, fits)
+past_the_limit : (text : List ℕ) → byte_len text ≡ 1048577 → TextFits text → ⊥
+past_the_limit text full fits = omega (arith, full, fits)
 
 room_to_limit : (text : List ℕ) → byte_len text ≡ 1048573
     → map (λ piece. has_room (at text Hira plain none) piece)
@@ -132,103 +140,104 @@ unfolding encode
 room_to_limit text full = rw full refl
 
 -- frames that stand in one another, the innermost last, and the text of the outermost
-abbrev inner_frame : List ℕ → Frame
-inner_frame text = record { text = text; mode = Kata; state = plain; last_choice = None }
+abbrev outer_frame : List ℕ → OuterFrame
+outer_frame text =
+    record { text = text; mode = Kata; waiting = waits.Reading (reading (codes "あ") []); last_choice = None }
 
 abbrev nested : Session
-nested = record (at (codes "内") Hira plain none) { outer = inner_frame (codes "外") ∷ inner_frame (codes "中") ∷ [] }
+nested = record (at (codes "内") Hira plain none) { outer = outer_frame (codes "外") ∷ outer_frame (codes "中") ∷ [] }
 
 outermost : text_of nested ≡ codes "外"
 outermost = refl
 
-in_order : map (λ (frame : Frame). frame.text) (frames_of nested) ≡ codes "外" ∷ codes "中" ∷ codes "内" ∷ []
+in_order : texts_of nested ≡ codes "外" ∷ codes "中" ∷ codes "内" ∷ []
 in_order = refl
 
 -- in the plain state
 typed : after (at (codes "x") Kata plain (told.Refused refusals.Memory)) (Char 97) []
-    ≡ Some (Some (at (codes "xア") Kata plain none))
+    ≡ Some (at (codes "xア") Kata plain none)
 unfolding encode
 typed = refl
 
-deleted : after (at (codes "xy") Hira plain none) Bs [] ≡ Some (Some (at (codes "x") Hira plain none))
+deleted : after (at (codes "xy") Hira plain none) Bs [] ≡ Some (at (codes "x") Hira plain none)
 unfolding encode
 deleted = refl
 
 newline : after (at (codes "x") Hira (states.Plain (codes "n")) none) Ret []
-    ≡ Some (Some (at (codes "xん" ++ 10 ∷ []) Hira plain none))
+    ≡ Some (at (codes "xん" ++ 10 ∷ []) Hira plain none)
 unfolding encode
 newline = refl
 
 opened : after (at (codes "x") Hira (states.Plain (codes "n")) none) (Char 81) []
-    ≡ Some (Some (at (codes "xん") Hira (unfinished []) none))
+    ≡ Some (at (codes "xん") Hira (unfinished []) none)
 unfolding encode
 opened = refl
 
 opened_with : after (at (codes "x") Kata (states.Plain (codes "n")) none) (Char 65) []
-    ≡ Some (Some (at (codes "xン") Kata (unfinished (codes "あ")) none))
+    ≡ Some (at (codes "xン") Kata (unfinished (codes "あ")) none)
 unfolding encode
 opened_with = refl
 
 abbreviated : after (at (codes "x") Hira (states.Plain (codes "n")) none) (Char 47) []
-    ≡ Some (Some (at (codes "xん") Hira (abbreviation []) none))
+    ≡ Some (at (codes "xん") Hira (abbreviation []) none)
 unfolding encode
 abbreviated = refl
 
-cancelled : after (at (codes "x") Hira plain none) Cg [] ≡ Some (Some (at (codes "x") Hira plain none))
+cancelled : after (at (codes "x") Hira plain none) Cg [] ≡ Some (at (codes "x") Hira plain none)
 unfolding encode
 cancelled = refl
 
 nothing_back : after (at (codes "x") Hira (states.Plain (codes "n")) none) Undo []
-    ≡ Some (Some (at (codes "x") Hira (states.Plain (codes "n")) (told.Step notices.NoUndo)))
+    ≡ Some (at (codes "x") Hira (states.Plain (codes "n")) (told.Step notices.NoUndo))
 unfolding encode
 nothing_back = refl
 
 -- in the reading state
 put : after (at (codes "x") Kata (unfinished (codes "あ")) none) (Char 97) []
-    ≡ Some (Some (at (codes "x") Kata (unfinished (codes "ああ")) none))
+    ≡ Some (at (codes "x") Kata (unfinished (codes "ああ")) none)
 unfolding encode
 put = refl
 
 refused : after (at [] Hira (unfinished []) none) (Char 59) []
-    ≡ Some (Some (at [] Hira (unfinished []) (told.Step notices.Reading)))
+    ≡ Some (at [] Hira (unfinished []) (told.Step notices.Reading))
 unfolding encode
 refused = refl
 
-closed : after (at (codes "x") Hira (unfinished (codes "あ")) none) Cg [] ≡ Some (Some (at (codes "x") Hira plain none))
+closed : after (at (codes "x") Hira (unfinished (codes "あ")) none) Cg [] ≡ Some (at (codes "x") Hira plain none)
 unfolding encode
 closed = refl
 
 confirmed_in : after (at (codes "x") Kata (states.Reading (reading (codes "あ") (codes "n"))) none) Cj []
-    ≡ Some (Some (at (codes "xアン") Kata plain none))
+    ≡ Some (at (codes "xアン") Kata plain none)
 unfolding encode
 confirmed_in = refl
 
 confirmed_other : after (at (codes "x") Hira (unfinished (codes "あ")) none) (Char 113) []
-    ≡ Some (Some (at (codes "xア") Hira plain none))
+    ≡ Some (at (codes "xア") Hira plain none)
 unfolding encode
 confirmed_other = refl
 
 confirmed_back : after (at (codes "x") Kata (unfinished (codes "あ")) none) (Char 113) []
-    ≡ Some (Some (at (codes "xあ") Kata plain none))
+    ≡ Some (at (codes "xあ") Kata plain none)
 unfolding encode
 confirmed_back = refl
 
 to_ascii : after (at [] Hira (unfinished (codes "あ")) none) (Char 108) []
-    ≡ Some (Some (at (codes "あ") Ascii plain none))
+    ≡ Some (at (codes "あ") Ascii plain none)
 unfolding encode
 to_ascii = refl
 
-to_wide : after (at [] Hira (unfinished (codes "あ")) none) (Char 76) [] ≡ Some (Some (at (codes "あ") Wide plain none))
+to_wide : after (at [] Hira (unfinished (codes "あ")) none) (Char 76) [] ≡ Some (at (codes "あ") Wide plain none)
 unfolding encode
 to_wide = refl
 
 opened_again : after (at [] Hira (unfinished (codes "あ")) none) (Char 81) []
-    ≡ Some (Some (at (codes "あ") Hira (unfinished []) none))
+    ≡ Some (at (codes "あ") Hira (unfinished []) none)
 unfolding encode
 opened_again = refl
 
 ended : after (at [] Hira (unfinished (codes "あ")) none) Ret []
-    ≡ Some (Some (at (codes "あ" ++ 10 ∷ []) Hira plain none))
+    ≡ Some (at (codes "あ" ++ 10 ∷ []) Hira plain none)
 unfolding encode
 ended = refl
 
@@ -238,17 +247,17 @@ with_okuri = refl
 
 -- an upper-case letter is read in an empty reading, and begins an okurigana behind another, which may refuse it
 upper_case : map (λ (text : List ℕ). after (at [] Hira (unfinished text) none) (Char 75) []) ([] ∷ codes "あ" ∷ [])
-    ≡ Some (Some (at [] Hira (unfinished (codes "k")) none))
-    ∷ Some (Some (at [] Hira (states.Reading (with_begun (codes "あ") 107 [])) (told.Step notices.Reading))) ∷ []
+    ≡ Some (at [] Hira (unfinished (codes "k")) none)
+    ∷ Some (at [] Hira (states.Reading (with_begun (codes "あ") 107 [])) (told.Step notices.Reading)) ∷ []
 unfolding encode
 upper_case = refl
 
 -- characters beside the letters and the digits
 beside_letters :
     (after (at [] Hira (unfinished (codes "あ")) none) (Char 64) []
-    ≡ Some (Some (at [] Hira (unfinished (codes "あ@")) none)))
+    ≡ Some (at [] Hira (unfinished (codes "あ@")) none))
     × (after (at [] Hira (unfinished (codes "あ")) none) (Char 91) []
-    ≡ Some (Some (at [] Hira (unfinished (codes "あ[")) none)))
+    ≡ Some (at [] Hira (unfinished (codes "あ[")) none))
     × (asked (pressed rules (at [] Hira (unfinished (codes "あ/:")) none) (Char 32)) found_two
     ≡ Lookup 3 (record { part = Nasi; reading = codes "あ/:" }) None ∷ [])
 unfolding encode
@@ -281,12 +290,10 @@ asked_for = refl
 -- a notice of the key stays where its reading is converted
 converted_with_notice : (after (at (codes "x") Hira (states.Reading (with_begun (codes "あ") 107 (codes "く"))) none)
     (Char 49) (Refused refusals.Disk ∷ [])
-    ≡ Some
-    (Some (at (codes "x") Hira (states.Reading (with_begun (codes "あ") 107 (codes "く"))) (told.Refused refusals.Disk))))
+    ≡ Some (at (codes "x") Hira (states.Reading (with_begun (codes "あ") 107 (codes "く"))) (told.Refused refusals.Disk)))
     × (after (at (codes "x") Hira (states.Reading (with_begun (codes "あ") 107 (codes "く"))) none) (Char 49)
     (Done replies.Purged ∷ [])
-    ≡ Some
-    (Some (at (codes "x") Hira (states.Reading (with_begun (codes "あ") 107 (codes "く"))) (told.Step notices.Reading))))
+    ≡ Some (at (codes "x") Hira (states.Reading (with_begun (codes "あ") 107 (codes "く"))) (told.Step notices.Reading)))
 unfolding encode
 converted_with_notice = (refl, refl)
 
@@ -295,7 +302,7 @@ unfolding encode
 unanswered = refl
 
 shown_first : after (at (codes "x") Hira (unfinished (codes "あ")) (told.Step notices.Reading)) (Char 32) found_two
-    ≡ Some (Some (at (codes "x") Hira (picking 0) none))
+    ≡ Some (at (codes "x") Hira (picking 0) none)
 unfolding encode
 shown_first = refl
 
@@ -304,18 +311,19 @@ no_more_asked : after (at (codes "x") Hira (unfinished (codes "あ")) none) (Cha
 unfolding encode
 no_more_asked = refl
 
-none_found : after (at [] Hira (unfinished (codes "あ")) none) (Char 32) (Done (replies.Found []) ∷ []) ≡ Some None
+none_found : after (at (codes "x") Kata (unfinished (codes "あ")) none) (Char 32) (Done (replies.Found []) ∷ [])
+    ≡ Some (registering_in (at (codes "x") Kata plain none) (waits.Reading (reading (codes "あ") [])))
 unfolding encode
 none_found = refl
 
 refused_look_up : after (at (codes "x") Hira (states.Reading (reading (codes "あ") (codes "n"))) none) (Char 32)
     (Refused refusals.Memory ∷ [])
-    ≡ Some (Some (at (codes "x") Hira (unfinished (codes "あん")) (told.Refused refusals.Memory)))
+    ≡ Some (at (codes "x") Hira (unfinished (codes "あん")) (told.Refused refusals.Memory))
 unfolding encode
 refused_look_up = refl
 
 answered_otherwise : after (at [] Hira (unfinished (codes "あ")) none) (Char 32) (Done replies.Purged ∷ [])
-    ≡ Some (Some (at [] Hira (unfinished (codes "あ")) none))
+    ≡ Some (at [] Hira (unfinished (codes "あ")) none)
 unfolding encode
 answered_otherwise = refl
 
@@ -329,7 +337,7 @@ past_limit text mode state = at text mode state (told.Step notices.Limit)
 flush_past_limit : (text : List ℕ) → has_room (at text Hira plain none) (codes "ん") ≡ false
     → map (pressed rules (at text Hira (states.Plain (codes "n")) none))
     (Char 81 ∷ Char 47 ∷ Char 65 ∷ Char 113 ∷ Char 108 ∷ Char 76 ∷ Cj ∷ [])
-    ≡ map (λ (left : Mode × State). ends (Some (past_limit text left.0 left.1)))
+    ≡ map (λ (left : Mode × State). ends (past_limit text left.0 left.1))
     ((Hira, unfinished []) ∷ (Hira, abbreviation []) ∷ (Hira, unfinished (codes "あ")) ∷ (Kata, plain) ∷ (Ascii, plain)
     ∷ (Wide, plain) ∷ (Hira, plain) ∷ [])
 unfolding encode
@@ -339,14 +347,14 @@ flush_past_limit text full = rw full refl
 newline_past_limit : (text : List ℕ) → has_room (at text Hira plain none) (codes "ん") ≡ false
     → has_room (at text Hira plain none) (10 ∷ []) ≡ true
     → pressed rules (at text Hira (states.Plain (codes "n")) none) Ret
-    ≡ ends (Some (past_limit (text ++ 10 ∷ []) Hira plain))
+    ≡ ends (past_limit (text ++ 10 ∷ []) Hira plain)
 unfolding encode
 newline_past_limit text full room = rw (full, room) refl
 
 flush_up_to_limit : (text : List ℕ) → has_room (at text Hira plain none) (codes "ん") ≡ true
     → has_room (at (text ++ codes "ん") Hira plain none) (10 ∷ []) ≡ false
     → pressed rules (at text Hira (states.Plain (codes "n")) none) Ret
-    ≡ ends (Some (past_limit (text ++ codes "ん") Hira plain))
+    ≡ ends (past_limit (text ++ codes "ん") Hira plain)
 unfolding encode
 flush_up_to_limit text room full = rw (room, full) refl
 
@@ -359,28 +367,28 @@ flushing = at (codes "x") Hira (states.Reading (reading full (codes "n"))) none
 
 -- a reading that is confirmed tells what its flush told, whatever comes behind it
 confirmed_with_notice : map (λ key. after flushing key []) (Cj ∷ Ret ∷ Char 108 ∷ Char 76 ∷ Char 81 ∷ [])
-    ≡ Some (Some (past_limit (codes "x" ++ full) Hira plain))
-    ∷ Some (Some (past_limit (codes "x" ++ full ++ 10 ∷ []) Hira plain))
-    ∷ Some (Some (past_limit (codes "x" ++ full) Ascii plain))
-    ∷ Some (Some (past_limit (codes "x" ++ full) Wide plain))
-    ∷ Some (Some (past_limit (codes "x" ++ full) Hira (unfinished []))) ∷ []
+    ≡ Some (past_limit (codes "x" ++ full) Hira plain)
+    ∷ Some (past_limit (codes "x" ++ full ++ 10 ∷ []) Hira plain)
+    ∷ Some (past_limit (codes "x" ++ full) Ascii plain)
+    ∷ Some (past_limit (codes "x" ++ full) Wide plain)
+    ∷ Some (past_limit (codes "x" ++ full) Hira (unfinished [])) ∷ []
 unfolding encode
 confirmed_with_notice = refl
 
 -- so does one that is converted, unless its look-up is refused
 converted_past_limit : map (λ answer. after flushing (Char 32) (answer ∷ []))
     (Done replies.Purged ∷ Refused refusals.Disk ∷ [])
-    ≡ Some (Some (past_limit (codes "x") Hira (unfinished full)))
-    ∷ Some (Some (at (codes "x") Hira (unfinished full) (told.Refused refusals.Disk))) ∷ []
+    ≡ Some (past_limit (codes "x") Hira (unfinished full))
+    ∷ Some (at (codes "x") Hira (unfinished full) (told.Refused refusals.Disk)) ∷ []
 unfolding encode
 converted_past_limit = refl
 
 -- candidates that are found leave the notice of their key
 found_with_notice : after flushing (Char 32) (Done (replies.Found (cand (codes "亜") [] ∷ [])) ∷ [])
-    ≡ Some (Some (past_limit (codes "x") Hira (states.Picking (record {
+    ≡ Some (past_limit (codes "x") Hira (states.Picking (record {
       reading = reading full [];
       picking = record { shown = shown full (cand (codes "亜") []) ∷ []; place = 0; question = false };
-    }))))
+    })))
 unfolding encode
 found_with_notice = refl
 
@@ -394,15 +402,15 @@ with_semicolon =
 closed_with_notice :
     map (λ reading. end_of (pressed with_semicolon (at (codes "y") Hira (states.Reading reading) none) (Char 32)) [])
     (reading [] (codes "x") ∷ record (with_begun (codes "あ") 120 []) { pending = codes "x" } ∷ [])
-    ≡ Some (Some (at (codes "y") Hira plain (told.Step notices.Reading)))
-    ∷ Some (Some (at (codes "y") Hira (unfinished (codes "あ")) (told.Step notices.Reading))) ∷ []
+    ≡ Some (at (codes "y") Hira plain (told.Step notices.Reading))
+    ∷ Some (at (codes "y") Hira (unfinished (codes "あ")) (told.Step notices.Reading)) ∷ []
 unfolding encode
 closed_with_notice = refl
 
 -- a reading that does not fit stays open, and what comes behind it is not done
 not_confirmed : (text : List ℕ) → has_room (at text Hira plain none) (codes "あ") ≡ false
     → map (pressed rules (at text Hira (unfinished (codes "あ")) none)) (Cj ∷ Ret ∷ Char 108 ∷ Char 81 ∷ [])
-    ≡ replicate 4 (ends (Some (past_limit text Hira (unfinished (codes "あ")))))
+    ≡ replicate 4 (ends (past_limit text Hira (unfinished (codes "あ"))))
 unfolding encode
 not_confirmed text full = rw full refl
 
@@ -410,7 +418,7 @@ not_confirmed text full = rw full refl
 flushed_not_confirmed : (text : List ℕ) → has_room (at text Hira plain none) (codes "あん") ≡ false
     → map (pressed rules (at text Hira (states.Reading (reading (codes "あ") (codes "n"))) none))
     (Cj ∷ Ret ∷ Char 108 ∷ Char 81 ∷ [])
-    ≡ replicate 4 (ends (Some (past_limit text Hira (unfinished (codes "あん")))))
+    ≡ replicate 4 (ends (past_limit text Hira (unfinished (codes "あん"))))
 unfolding encode
 flushed_not_confirmed text full = rw full refl
 
@@ -418,32 +426,33 @@ flushed_not_confirmed text full = rw full refl
 confirmed_up_to_limit : (text : List ℕ) → has_room (at text Hira plain none) (codes "あ") ≡ true
     → has_room (at (text ++ codes "あ") Hira plain none) (10 ∷ []) ≡ false
     → pressed rules (at text Hira (unfinished (codes "あ")) none) Ret
-    ≡ ends (Some (past_limit (text ++ codes "あ") Hira plain))
+    ≡ ends (past_limit (text ++ codes "あ") Hira plain)
 unfolding encode
 confirmed_up_to_limit text room full = rw (room, full) refl
 
 -- in the candidate state
-gone_on : after (at (codes "x") Hira (picking 0) none) (Char 32) [] ≡ Some (Some (at (codes "x") Hira (picking 1) none))
+gone_on : after (at (codes "x") Hira (picking 0) none) (Char 32) [] ≡ Some (at (codes "x") Hira (picking 1) none)
 unfolding encode
 gone_on = refl
 
 gone_back : after (at (codes "x") Hira (picking 0) none) (Char 120) []
-    ≡ Some (Some (at (codes "x") Hira (unfinished (codes "あ")) none))
+    ≡ Some (at (codes "x") Hira (unfinished (codes "あ")) none)
 unfolding encode
 gone_back = refl
 
 none_named : after (at [] Hira (states.Picking
     (record { reading = reading (codes "あ") []; picking = record { shown = []; place = 4; question = false } })) none)
     (Char 97) []
-    ≡ Some (Some (at [] Hira (states.Picking
+    ≡ Some (at [] Hira (states.Picking
     (record { reading = reading (codes "あ") []; picking = record { shown = []; place = 4; question = false } }))
-    (told.Step notices.NoCandidate)))
+    (told.Step notices.NoCandidate))
 unfolding encode
 none_named = refl
 
-not_built_in_picking : after (at [] Hira (picking 1) none) (Char 32) [] ≡ Some None
+none_left : after (at [] Hira (picking 1) none) (Char 32) []
+    ≡ Some (registering_in (at [] Hira plain none) (waits.Picking (conversion 1 false)))
 unfolding encode
-not_built_in_picking = refl
+none_left = refl
 
 -- Choices
 
@@ -540,23 +549,23 @@ of_first = choice 1 4 Hira 0 (Some learned)
 
 keys_choose : map (λ key. after (at (codes "x") Hira (picking 0) (told.Step notices.Reading)) key learnt)
     (Cj ∷ Ret ∷ Bs ∷ Char 97 ∷ Char 110 ∷ Char 81 ∷ Char 113 ∷ Char 62 ∷ Char 47 ∷ [])
-    ≡ Some (Some (chosen (codes "x亜") Hira plain none of_first))
-    ∷ Some (Some (chosen (codes "x亜" ++ 10 ∷ []) Hira plain none of_first))
-    ∷ Some (Some (at (codes "x") Hira plain none)) ∷ Some (Some (chosen (codes "x亜あ") Hira plain none of_first))
-    ∷ Some (Some (chosen (codes "x亜") Hira (states.Plain (codes "n")) none of_first))
-    ∷ Some (Some (chosen (codes "x亜") Hira (unfinished []) none of_first))
-    ∷ Some (Some (chosen (codes "x亜") Kata plain none of_first))
-    ∷ Some (Some (chosen (codes "x亜") Hira (unfinished (codes ">")) none of_first))
-    ∷ Some (Some (chosen (codes "x亜") Hira (abbreviation []) none of_first)) ∷ []
+    ≡ Some (chosen (codes "x亜") Hira plain none of_first)
+    ∷ Some (chosen (codes "x亜" ++ 10 ∷ []) Hira plain none of_first)
+    ∷ Some (at (codes "x") Hira plain none) ∷ Some (chosen (codes "x亜あ") Hira plain none of_first)
+    ∷ Some (chosen (codes "x亜") Hira (states.Plain (codes "n")) none of_first)
+    ∷ Some (chosen (codes "x亜") Hira (unfinished []) none of_first)
+    ∷ Some (chosen (codes "x亜") Kata plain none of_first)
+    ∷ Some (chosen (codes "x亜") Hira (unfinished (codes ">")) none of_first)
+    ∷ Some (chosen (codes "x亜") Hira (abbreviation []) none of_first) ∷ []
 unfolding encode
 keys_choose = refl
 
 -- a learning that is not done, of the second candidate: the choice is made, and what it was answered is told
 not_learnt : map (λ answer. after (at (codes "x") Kata (picking 1) none) Cj (answer ∷ []))
     (Done (replies.TooBig 9) ∷ Done replies.StampsEnd ∷ Refused refusals.Disk ∷ [])
-    ≡ Some (Some (chosen (codes "x阿") Kata plain (told.TooBig 9) (choice 1 4 Kata 1 None)))
-    ∷ Some (Some (chosen (codes "x阿") Kata plain told.StampsEnd (choice 1 4 Kata 1 None)))
-    ∷ Some (Some (chosen (codes "x阿") Kata plain (told.Refused refusals.Disk) (choice 1 4 Kata 1 None))) ∷ []
+    ≡ Some (chosen (codes "x阿") Kata plain (told.TooBig 9) (choice 1 4 Kata 1 None))
+    ∷ Some (chosen (codes "x阿") Kata plain told.StampsEnd (choice 1 4 Kata 1 None))
+    ∷ Some (chosen (codes "x阿") Kata plain (told.Refused refusals.Disk) (choice 1 4 Kata 1 None)) ∷ []
 unfolding encode
 not_learnt = refl
 
@@ -564,12 +573,12 @@ not_learnt = refl
 behind_not_learnt :
     map (λ key. after (at (codes "x") Hira (picking 1) none) key (Done (replies.TooBig 9) ∷ []))
     (Ret ∷ Bs ∷ Char 97 ∷ Char 81 ∷ Char 62 ∷ Char 113 ∷ [])
-    ≡ Some (Some (chosen (codes "x阿" ++ 10 ∷ []) Hira plain (told.TooBig 9) (choice 1 4 Hira 1 None)))
-    ∷ Some (Some (at (codes "x") Hira plain (told.TooBig 9)))
-    ∷ Some (Some (chosen (codes "x阿あ") Hira plain (told.TooBig 9) (choice 1 4 Hira 1 None)))
-    ∷ Some (Some (chosen (codes "x阿") Hira (unfinished []) (told.TooBig 9) (choice 1 4 Hira 1 None)))
-    ∷ Some (Some (chosen (codes "x阿") Hira (unfinished (codes ">")) (told.TooBig 9) (choice 1 4 Hira 1 None)))
-    ∷ Some (Some (chosen (codes "x阿") Kata plain (told.TooBig 9) (choice 1 4 Hira 1 None))) ∷ []
+    ≡ Some (chosen (codes "x阿" ++ 10 ∷ []) Hira plain (told.TooBig 9) (choice 1 4 Hira 1 None))
+    ∷ Some (at (codes "x") Hira plain (told.TooBig 9))
+    ∷ Some (chosen (codes "x阿あ") Hira plain (told.TooBig 9) (choice 1 4 Hira 1 None))
+    ∷ Some (chosen (codes "x阿") Hira (unfinished []) (told.TooBig 9) (choice 1 4 Hira 1 None))
+    ∷ Some (chosen (codes "x阿") Hira (unfinished (codes ">")) (told.TooBig 9) (choice 1 4 Hira 1 None))
+    ∷ Some (chosen (codes "x阿") Kata plain (told.TooBig 9) (choice 1 4 Hira 1 None)) ∷ []
 unfolding encode
 behind_not_learnt = refl
 
@@ -578,7 +587,7 @@ choice_up_to_limit : (text : List ℕ) → has_room (at text Hira plain none) (c
     → has_room (at (text ++ codes "亜") Hira plain none) (10 ∷ []) ≡ false
     → end_of (pressed rules (at text Hira (picking 0) none) Ret) (Refused refusals.Disk ∷ [])
     ≡ (let whole = text ++ codes "亜" in
-    Some (Some (chosen whole Hira plain (told.Step notices.Limit) (choice 1 (byte_len whole) Hira 0 None))))
+    Some (chosen whole Hira plain (told.Step notices.Limit) (choice 1 (byte_len whole) Hira 0 None)))
 unfolding encode
 choice_up_to_limit text room full = rw (room, full) refl
 
@@ -594,12 +603,11 @@ pages = states.Picking (record {
 })
 
 -- a session, and the state of it after a key with an answer to its call
-abbrev text_after : Session → Key → List Answer → Option (Option (List ℕ × State))
-text_after session key answers =
-    option_map (λ end. option_map (λ (s : Session). (text_of s, s.frame.state)) end) (after session key answers)
+abbrev text_after : Session → Key → List Answer → Option (List ℕ × State)
+text_after session key answers = option_map (λ (s : Session). (text_of s, s.frame.state)) (after session key answers)
 
 page_chooses : map (λ key. text_after (at (codes "x") Kata pages none) key learnt) (Char 97 ∷ Char 115 ∷ [])
-    ≡ Some (Some (codes "x５りリ", plain)) ∷ Some (Some (codes "x六リ", plain)) ∷ []
+    ≡ Some (codes "x５りリ", plain) ∷ Some (codes "x六リ", plain) ∷ []
 unfolding encode
 page_chooses = refl
 
@@ -622,7 +630,7 @@ asks_once = (refl, refl, refl)
 -- a choice that does not fit asks nothing, and the candidates stay
 no_room : (text : List ℕ) → has_room (at text Hira plain none) (codes "亜") ≡ false
     → map (pressed rules (at text Hira (picking 0) none)) (Char 97 ∷ Cj ∷ Ret ∷ Bs ∷ Char 62 ∷ Char 81 ∷ [])
-    ≡ replicate 6 (ends (Some (past_limit text Hira (picking 0))))
+    ≡ replicate 6 (ends (past_limit text Hira (picking 0)))
 unfolding encode
 no_room text full = rw full refl
 
@@ -631,7 +639,7 @@ no_room text full = rw full refl
 abbrev question : State
 question = states.Picking (conversion 1 true)
 
-purge_asked : after (at [] Hira (picking 1) none) (Char 88) [] ≡ Some (Some (at [] Hira question none))
+purge_asked : after (at [] Hira (picking 1) none) (Char 88) [] ≡ Some (at [] Hira question none)
 unfolding encode
 purge_asked = refl
 
@@ -640,20 +648,20 @@ abbrev word_purged : List Answer
 word_purged = Done replies.Purged ∷ []
 
 purged : (map (λ key. after (at (codes "x") Hira question none) key word_purged) (Char 121 ∷ Char 89 ∷ [])
-    ≡ Some (Some (at (codes "x") Hira plain told.Purged)) ∷ Some (Some (at (codes "x") Hira plain told.Purged)) ∷ [])
+    ≡ Some (at (codes "x") Hira plain told.Purged) ∷ Some (at (codes "x") Hira plain told.Purged) ∷ [])
     × (map (λ key. after (at (codes "x") Hira question none) key []) (Char 110 ∷ Char 88 ∷ Cj ∷ Undo ∷ [])
-    ≡ Some (Some (at (codes "x") Hira (picking 1) none)) ∷ Some (Some (at (codes "x") Hira (picking 1) none))
-    ∷ Some (Some (at (codes "x") Hira (picking 1) none)) ∷ Some (Some (at (codes "x") Hira (picking 1) none)) ∷ [])
+    ≡ Some (at (codes "x") Hira (picking 1) none) ∷ Some (at (codes "x") Hira (picking 1) none)
+    ∷ Some (at (codes "x") Hira (picking 1) none) ∷ Some (at (codes "x") Hira (picking 1) none) ∷ [])
 unfolding encode
 purged = (refl, refl)
 
 -- the candidates are closed where there was nothing to purge, and stay where the purge was not done
 purge_answered : map (λ answer. after (at (codes "x") Hira question none) (Char 121) (answer ∷ []))
     (Done replies.Unchanged ∷ Done (replies.TooBig 9) ∷ Done replies.StampsEnd ∷ Refused refusals.Memory ∷ [])
-    ≡ Some (Some (at (codes "x") Hira plain told.Unchanged))
-    ∷ Some (Some (at (codes "x") Hira (picking 1) (told.TooBig 9)))
-    ∷ Some (Some (at (codes "x") Hira (picking 1) told.StampsEnd))
-    ∷ Some (Some (at (codes "x") Hira (picking 1) (told.Refused refusals.Memory))) ∷ []
+    ≡ Some (at (codes "x") Hira plain told.Unchanged)
+    ∷ Some (at (codes "x") Hira (picking 1) (told.TooBig 9))
+    ∷ Some (at (codes "x") Hira (picking 1) told.StampsEnd)
+    ∷ Some (at (codes "x") Hira (picking 1) (told.Refused refusals.Memory)) ∷ []
 unfolding encode
 purge_answered = refl
 
@@ -672,9 +680,9 @@ asks_purge = refl
 taken_back : map
     (λ answer. after (chosen (codes "x亜リ") Hira (states.Plain (codes "n")) none last_choice) Undo (answer ∷ []))
     (Done replies.Restored ∷ Done (replies.Overtaken 2) ∷ Refused refusals.Memory ∷ [])
-    ≡ Some (Some (at (codes "x") Kata (picking 0) told.Undone))
-    ∷ Some (Some (at (codes "x") Kata (picking 0) (told.Overtaken 2)))
-    ∷ Some (Some (at (codes "x") Kata (picking 0) (told.Refused refusals.Memory))) ∷ []
+    ≡ Some (at (codes "x") Kata (picking 0) told.Undone)
+    ∷ Some (at (codes "x") Kata (picking 0) (told.Overtaken 2))
+    ∷ Some (at (codes "x") Kata (picking 0) (told.Refused refusals.Memory)) ∷ []
 unfolding encode
 taken_back = refl
 
@@ -685,26 +693,30 @@ asks_taking_back = refl
 
 -- where nothing was learnt nothing is asked
 back_unlearnt : after (chosen (codes "x亜リ") Hira plain none (choice 2 7 Kata 1 None)) Undo []
-    ≡ Some (Some (at (codes "x") Kata (picking 1) told.Undone))
+    ≡ Some (at (codes "x") Kata (picking 1) told.Undone)
 unfolding encode
 back_unlearnt = refl
 
 -- where more was typed it can't be taken back, until that is deleted again; where less is left it is given up
 longer : (after (chosen (codes "x亜リy") Hira plain none last_choice) Undo []
-    ≡ Some (Some (chosen (codes "x亜リy") Hira plain (told.Step notices.NoUndo) last_choice)))
+    ≡ Some (chosen (codes "x亜リy") Hira plain (told.Step notices.NoUndo) last_choice))
     × (after (chosen (codes "x亜リy") Hira plain none last_choice) Bs []
-    ≡ Some (Some (chosen (codes "x亜リ") Hira plain none last_choice)))
-    × (after (chosen (codes "x亜リ") Hira plain none last_choice) Bs [] ≡ Some (Some (at (codes "x亜") Hira plain none)))
+    ≡ Some (chosen (codes "x亜リ") Hira plain none last_choice))
+    × (after (chosen (codes "x亜リ") Hira plain none last_choice) Bs [] ≡ Some (at (codes "x亜") Hira plain none))
 unfolding encode
 longer = (refl, refl, refl)
 
--- keys one after another, up to the first that is not built
+-- keys one after another
 several : end_of (all_pressed rules (at [] Hira plain none) (Char 65 ∷ Char 32 ∷ Char 32 ∷ [])) found_two
-    ≡ Some (Some (at [] Hira (picking 1) none))
+    ≡ Some (at [] Hira (picking 1) none)
 unfolding encode
 several = refl
 
-stopped : end_of (all_pressed rules (at [] Hira plain none) (Char 65 ∷ Char 32 ∷ Char 97 ∷ []))
-    (Done (replies.Found []) ∷ []) ≡ Some None
+-- a word is typed where nothing was found
+registered_a : end_of (all_pressed rules (at [] Hira plain none) (Char 65 ∷ Char 32 ∷ Char 97 ∷ []))
+    (Done (replies.Found []) ∷ [])
+    ≡ Some (record (registering_in (at [] Hira plain none) (waits.Reading (reading (codes "あ") []))) {
+      frame = record new_frame { text = codes "あ" };
+    })
 unfolding encode
-stopped = refl
+registered_a = refl

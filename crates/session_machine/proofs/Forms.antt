@@ -1,12 +1,12 @@
 -- How parts of what is shown are printed.
 use Rattle.std.proofs.Common.{◌≡◌, ◌<◌, ◌≤◌, ◌+◌, ◌%◌, ◌^◌, ◌∙◌, sym, ap, ℕ, true, false, Some, Result, Ok, Err, List}
-use Rattle.std.proofs.Common.{◌++◌, ◌∷◌, [], length, drop, get_or, refl, arith, append_assoc, inl, inr}
+use Rattle.std.proofs.Common.{◌++◌, ◌∷◌, [], length, drop, get_or, refl, arith, append_assoc, inl, inr, zero, suc}
 use Rattle.std.proofs.Transfers.{starts_with_of_append, starts_with_of_eq, starts_with_trans}
 use Rattle.std.specs.Fmt.{decimal}
 use Rattle.std.specs.Io.{StartsWith}
-use Rattle.std.specs.List.{slice_get}
+use Rattle.std.specs.List.{repeat, slice_get}
 use Rattle.std.specs.Result.{OnErr, OnOk}
-use Rattle.std.specs.Str.{chars}
+use Rattle.std.specs.Str.{IsUtf8, chars}
 use Rattle.std.proofs.lemmas.Bool.{cases_Bool}
 use Rattle.std.proofs.lemmas.Bool.Decides.{nat_tests}
 use Rattle.std.proofs.lemmas.Fmt.{decimal_by_steps, IsAscii-decimal}
@@ -14,7 +14,7 @@ use Rattle.std.proofs.lemmas.List.{drop_more, drop_all}
 use Rattle.std.proofs.lemmas.List.Concat.{flat_map-append}
 use Rattle.std.proofs.lemmas.List.Folds.{list_any_at}
 use Rattle.std.proofs.lemmas.Option.{slice_get_within, get_or_from_slice_get}
-use Rattle.std.proofs.lemmas.Str.{chars-IsAscii}
+use Rattle.std.proofs.lemmas.Str.{chars-append, chars-IsAscii, chars-nil}
 use Rattle.skk_text.specs.Characters.{code}
 use Rattle.skk_text.specs.Lists.{is_empty}
 use Rattle.candidate_state.specs.Shown.{Shown}
@@ -32,6 +32,12 @@ pub more : (page text behind : List ℕ) {one two : List ℕ} → one ≡ page +
 more page text behind e f =
     f ∙ ap (λ cs. cs ++ printed_form behind) e ∙ append_assoc page (printed_form text) (printed_form behind)
     ∙ ap (λ cs. page ++ cs) (sym (form-append text behind))
+
+-- the characters of a text that stands several times
+pub chars_repeat : (text : List ℕ) → IsUtf8 text → (times : ℕ) → chars (repeat times text) ≡ repeat times (chars text)
+chars_repeat text valid zero = chars-nil
+chars_repeat text valid (suc times) =
+    chars-append text (repeat times text) valid ∙ ap (λ cs. chars text ++ cs) (chars_repeat text valid times)
 
 -- a digit is printed as it is
 digit-plain : (n : ℕ) → n < 10 → printed_form ((48 + n) ∷ []) ≡ (48 + n) ∷ []

@@ -5,5 +5,6 @@ mod Examples
 mod Forms
 mod Limits
 mod NumberReadings
+mod RegistrationExamples
 mod Saying
 mod Words

@@ -1,8 +1,9 @@
 -- No text of a session's frames passes its limit.
 use Rattle.std.proofs.Common.{◌≡◌, ◌≤◌, ◌+◌, ◌-◌, ◌==◌, ◌∙◌, sym, ap, ℕ, slice_get, Bool, true, false, Option, Some}
 use Rattle.std.proofs.Common.{None, Result, Ok, Err, List, [], ◌∷◌, ◌++◌, length, drop, leb-true, subst, arith, refl}
-use Rattle.std.proofs.Common.{if◌then◌else◌}
-use Rattle.std.specs.Prelude.{⊤}
+use Rattle.std.proofs.Common.{if◌then◌else◌, ◌&&◌, zero, suc}
+use Rattle.std.proofs.lemmas.Bool.{and_parts}
+use Rattle.std.proofs.lemmas.List.Elements.{All-append, All-cons, All-head, All-nil, All-tail, All-take}
 use Rattle.std.proofs.lemmas.List.{take-append-drop}
 use Rattle.std.specs.Char.{is_ascii_digit}
 use Rattle.std.specs.List.{All, list_any}
@@ -44,37 +45,52 @@ use Rattle.session_machine.specs.declared.frame.Choice.{Choice}
 use Rattle.session_machine.specs.declared.frame.Conversion.{Conversion}
 use Rattle.session_machine.specs.declared.frame.State.{State}
 use Rattle.session_machine.specs.declared.frame.State.TheVariants as states
+use Rattle.session_machine.specs.declared.frame.OuterFrame.{OuterFrame}
+use Rattle.session_machine.specs.declared.frame.Waiting.{Waiting}
+use Rattle.session_machine.specs.declared.frame.Waiting.TheVariants as waits
+use Rattle.session_machine.specs.declared.session_notice.SessionNotice.{SessionNotice}
+use Rattle.session_machine.specs.declared.session_notice.SessionNotice.TheVariants as told
+use Rattle.skk_calls.specs.Rows.{is_word}
+use Rattle.skk_text.specs.Lists.{is_empty}
+use Rattle.session_machine.specs.Answered.{answer_notice}
 use Rattle.session_machine.specs.Answered.{says_purged}
 use Rattle.session_machine.specs.Converted.{pick, found_by, key_found, with_found, looked_up, first_word}
 use Rattle.session_machine.specs.Converted.{number_looked_up, first_words, filled, both_found, plain_found, converted}
-use Rattle.session_machine.specs.Converted.{number_key_of, completions_answered, completing}
+use Rattle.session_machine.specs.Converted.{completions_answered, completing}
+use Rattle.session_machine.specs.ReadingParts.{number_key_of}
 use Rattle.session_machine.specs.declared.first_words.FirstWords.{FirstWords}
 use Rattle.session_machine.specs.declared.first_words.FirstWords.TheVariants.{Words, Stopped}
-use Rattle.session_machine.specs.Meanings.{Meaning, not_built}
+use Rattle.session_machine.specs.Meanings.{Meaning, becomes}
+use Rattle.session_machine.specs.Registrations.{back_in, cancelled, depth_limit, ended_in, innermost, outside}
+use Rattle.session_machine.specs.Registrations.{registered, registered_piece, registering, registration, returned}
+use Rattle.session_machine.specs.Registrations.{waiting_reading}
 use Rattle.session_machine.specs.Pressed.{reading_piece}
-use Rattle.session_machine.specs.Pressed.{after_confirmed, confirmed, reading_effect, reading_pressed, before_choice}
+use Rattle.session_machine.specs.Pressed.{confirmed_effect, confirmed, reading_effect, reading_pressed, before_choice}
 use Rattle.session_machine.specs.Pressed.{unlearnt, undone, plain_effect, plain_pressed, of_candidate, choice_piece}
 use Rattle.session_machine.specs.Pressed.{after_learning, choice_effect, choosing, after_purge, purging, picking_effect}
 use Rattle.session_machine.specs.Pressed.{picking_pressed, state_pressed, pressed, all_pressed, with_plain}
-use Rattle.session_machine.specs.Session.{Session, FrameFits, text_limit, choice_at, without_chars, has_room}
-use Rattle.session_machine.specs.Session.{with_piece, with_insertion, noting, before_key, with_state}
+use Rattle.session_machine.specs.Session.{Session, TextFits, choice_at, fits_behind, has_room, text_limit}
+use Rattle.session_machine.specs.Session.{without_chars}
+use Rattle.session_machine.specs.Session.{with_piece, with_insertion, noting, before_key, telling, with_state}
+
+-- the text of a frame outside is within its limit
+abbrev pub OuterFits : OuterFrame → Type 0
+OuterFits frame = TextFits frame.text
 
 -- the text of each frame is within its limit: of the one that keys go to, and of those outside it
 abbrev pub Fits : Session → Type 0
-Fits session = FrameFits session.frame × All FrameFits session.outer
+Fits session = TextFits session.frame.text × All OuterFits session.outer
 
 -- each session that a meaning may come to fits, whatever it is answered
 abbrev pub AllFit : Meaning → Type 0
-AllFit (ends None) = ⊤
-AllFit (ends (Some session)) = Fits session
+AllFit (ends session) = Fits session
 AllFit (asks call next) = (answer : Answer) → AllFit (next answer)
 AllFit (prints text rest) = AllFit rest
 
 -- so it does by the answers that it was given
 pub comes-fits : (meaning : Meaning) (dialog : Dialog) (session : Session) → AllFit meaning
-    → Comes meaning dialog (Some session) → Fits session
-comes-fits (ends None) [] session fit comes = cc
-comes-fits (ends (Some end)) [] session fit comes = let same : end ≡ session = cc in subst Fits same fit
+    → Comes meaning dialog session → Fits session
+comes-fits (ends end) [] session fit same = subst Fits same fit
 comes-fits (ends end) (pair ∷ dialog) session fit comes = absurd comes
 comes-fits (asks call next) [] session fit comes = absurd comes
 comes-fits (asks call next) (pair ∷ dialog) session fit comes =
@@ -113,24 +129,102 @@ inserted-fits session piece fits = by (has_room session piece) refl
     by true e = piece-fits session piece fits e
     by false e = fits
 
-after-fits : (session : Session) (after : AfterConfirm) → Fits session → Fits (after_confirmed session after)
-after-fits session behind.Nothing fits = fits
-after-fits session behind.ToAscii fits = fits
-after-fits session behind.ToWide fits = fits
-after-fits session behind.OpenReading fits = fits
-after-fits session behind.Newline fits = inserted-fits session (10 ∷ []) fits
+-- a piece that fits behind a text leaves that within its limit
+behind-fits : (text piece : List ℕ) → fits_behind text piece ≡ true → TextFits (text ++ piece)
+behind-fits text piece room =
+    omega (arith, byte_len-append text piece, leb-true (byte_len text + byte_len piece) text_limit room)
 
-confirmed-fits : (session : Session) (reading : Reading) (other : Bool) (after : AfterConfirm) → Fits session
-    → Fits (confirmed session reading other after)
-confirmed-fits session reading other after fits =
+-- what an answer tells changes no text
+told-fits : (session : Session) (notice : SessionNotice) → Fits session → Fits (telling session notice)
+told-fits session (told.Step notice) fits = noted-fits session notice fits
+told-fits session notice fits = fits
+
+-- the innermost of the frames outside fits where all do
+innermost-fits : (frames : List OuterFrame) (n : ℕ) (frame : OuterFrame) → slice_get frames n ≡ Some frame
+    → All OuterFits frames → OuterFits frame
+innermost-fits [] n frame is fits = cc
+innermost-fits (first ∷ frames) zero frame is fits =
+    let same : first ≡ frame = cc in subst OuterFits same (All-head OuterFits first frames fits)
+innermost-fits (first ∷ frames) (suc n) frame is fits =
+    innermost-fits frames n frame is (All-tail OuterFits first frames fits)
+
+-- a session within its limits stays so where it goes back to a frame outside
+back-fits : (session : Session) (frame : OuterFrame) → innermost session.outer ≡ Some frame → Fits session
+    → Fits (back_in session frame)
+back-fits session frame is fits = (
+  innermost-fits session.outer (length session.outer - 1) frame is fits.1,
+  All-take OuterFits (length session.outer - 1) session.outer fits.1,
+)
+
+cancelled-fits : (session : Session) → Fits session → Fits (cancelled session)
+cancelled-fits session fits = by (innermost session.outer) refl
+  where
+    by : (found : Option OuterFrame) → innermost session.outer ≡ found
+        → Fits (option_map_or (back_in session) found session)
+    by None e = fits
+    by (Some frame) e = back-fits session frame e fits
+
+registering-fits : (session : Session) (waiting : Waiting) → Fits session → Fits (registering session waiting)
+registering-fits session waiting fits = by (length session.outer == depth_limit) refl
+  where
+    by : (full : Bool) → (length session.outer == depth_limit) ≡ full → Fits (registering session waiting)
+    by true e = rw e fits
+    by false e = rw e (
+      omega arith,
+      All-append OuterFits session.outer (outside session.frame waiting ∷ []) fits.1
+          (All-cons OuterFits (outside session.frame waiting) [] fits.0 (All-nil OuterFits)),
+    )
+
+ended-fit : (session : Session) (frame : OuterFrame) → innermost session.outer ≡ Some frame → Fits session
+    → AllFit (ended_in session frame)
+ended-fit session frame is fits = by_word (is_empty session.frame.text) refl
+  where
+    piece : List ℕ
+    piece = registered_piece frame.mode (waiting_reading frame.waiting) session.frame.text
+
+    learnt : fits_behind frame.text piece ≡ true → (answer : Answer) → Fits (registered session frame piece answer)
+    learnt room answer =
+        told-fits _ (answer_notice answer)
+        (behind-fits frame.text piece room, All-take OuterFits (length session.outer - 1) session.outer fits.1)
+
+    by_room : (room : Bool) → (is_word session.frame.text && fits_behind frame.text piece) ≡ room
+        → AllFit (if room then asks (registration session.book (waiting_reading frame.waiting) session.frame.text)
+        (λ answer. becomes (registered session frame piece answer))
+        else becomes (noting session notices.Limit))
+    by_room true e = learnt (and_parts (is_word session.frame.text) (fits_behind frame.text piece) e).1
+    by_room false e = fits
+
+    by_word : (none : Bool) → is_empty session.frame.text ≡ none → AllFit (ended_in session frame)
+    by_word true e = rw e (back-fits session frame is fits)
+    by_word false e = rw e (by_room (is_word session.frame.text && fits_behind frame.text piece) refl)
+
+returned-fit : (session : Session) → Fits session → AllFit (returned session)
+returned-fit session fits = by (innermost session.outer) refl
+  where
+    by : (found : Option OuterFrame) → innermost session.outer ≡ found
+        → AllFit (option_map_or (ended_in session) found (becomes (with_insertion session (10 ∷ []))))
+    by None e = inserted-fits session (10 ∷ []) fits
+    by (Some frame) e = ended-fit session frame e fits
+
+after-fit : (session : Session) (after : AfterConfirm) → Fits session → AllFit (confirmed_effect session after)
+after-fit session behind.Nothing fits = fits
+after-fit session behind.ToAscii fits = fits
+after-fit session behind.ToWide fits = fits
+after-fit session behind.OpenReading fits = fits
+after-fit session behind.Newline fits = returned-fit session fits
+
+confirmed-fit : (session : Session) (reading : Reading) (other : Bool) (after : AfterConfirm) → Fits session
+    → AllFit (confirmed session reading other after)
+confirmed-fit session reading other after fits =
     by (has_room session (reading_piece session.frame.mode reading other)) refl
   where
     by : (room : Bool) → has_room session (reading_piece session.frame.mode reading other) ≡ room
-        → Fits (if room then after_confirmed (with_piece session (reading_piece session.frame.mode reading other)) after
-        else noting (with_state session (states.Reading reading)) notices.Limit)
+        → AllFit (if room
+        then confirmed_effect (with_piece session (reading_piece session.frame.mode reading other)) after
+        else becomes (noting (with_state session (states.Reading reading)) notices.Limit))
     by true e =
         let piece = reading_piece session.frame.mode reading other in
-        after-fits (with_piece session piece) after (piece-fits session piece fits e)
+        after-fit (with_piece session piece) after (piece-fits session piece fits e)
     by false e = fits
 
 pick-fit : (session : Session) (reading : Reading) (shown : List Shown) → Fits session
@@ -138,7 +232,7 @@ pick-fit : (session : Session) (reading : Reading) (shown : List Shown) → Fits
 pick-fit session reading shown fits = by (length shown == 0) refl
   where
     by : (none : Bool) → (length shown == 0) ≡ none → AllFit (pick session reading shown)
-    by true e = rw e tt
+    by true e = rw e (registering-fits session (waits.Reading reading) fits)
     by false e = rw e fits
 
 looked-fit : (session : Session) (reading : Reading) (key : RowKey) (behind : Found → Meaning) → Fits session
@@ -212,7 +306,7 @@ reading-effect-fit session reading effects.Stay fits = fits
 reading-effect-fit session reading effects.Convert fits = converted-fit session reading fits
 reading-effect-fit session reading effects.AskCompletions fits = completing-fit session reading fits
 reading-effect-fit session reading effects.Drop fits = fits
-reading-effect-fit session reading (effects.Confirm other after) fits = confirmed-fits session reading other after fits
+reading-effect-fit session reading (effects.Confirm other after) fits = confirmed-fit session reading other after fits
 
 reading-fit : (rules : List Rule) (session : Session) (reading : Reading) (key : Key) → Fits session
     → AllFit (reading_pressed rules session reading key)
@@ -236,12 +330,12 @@ plain-effect-fit : (rules : List Rule) (session : Session) (effect : PlainThen) 
     → AllFit (plain_effect rules session effect)
 plain-effect-fit rules session plain.Stay fits = fits
 plain-effect-fit rules session plain.DeleteLast fits = (omega (arith, fits.0, shorter session.frame.text), fits.1)
-plain-effect-fit rules session plain.Newline fits = inserted-fits session (10 ∷ []) fits
+plain-effect-fit rules session plain.Newline fits = returned-fit session fits
 plain-effect-fit rules session (plain.OpenReading None) fits = fits
 plain-effect-fit rules session (plain.OpenReading (Some letter)) fits =
     reading-fit rules session new_reading (Char letter) fits
 plain-effect-fit rules session plain.OpenAbbrev fits = fits
-plain-effect-fit rules session plain.Cancel fits = fits
+plain-effect-fit rules session plain.Cancel fits = cancelled-fits session fits
 plain-effect-fit rules session plain.AskUndo fits =
     undone-fit session (choice_at (byte_len session.frame.text) session.frame.last_choice) fits
 
@@ -256,7 +350,7 @@ choice-effect-fit : (rules : List Rule) (session : Session) (effect : AfterChoos
     → AllFit (choice_effect rules session effect)
 choice-effect-fit rules session choices.Nothing fits = fits
 choice-effect-fit rules session choices.Delete fits = (omega (arith, fits.0, shorter session.frame.text), fits.1)
-choice-effect-fit rules session choices.Newline fits = inserted-fits session (10 ∷ []) fits
+choice-effect-fit rules session choices.Newline fits = returned-fit session fits
 choice-effect-fit rules session choices.OpenSuffix fits = fits
 choice-effect-fit rules session (choices.Read key) fits = plain-fit rules session [] key fits
 
@@ -281,12 +375,13 @@ purging-fit session conversion shown fits = λ answer. by answer (says_purged an
     by answer true e = rw e fits
     by answer false e = rw e fits
 
-candidate-fit : (conversion : Conversion) (place : ℕ) (meaning : Shown → Meaning)
-    → ((shown : Shown) → AllFit (meaning shown)) → AllFit (of_candidate conversion place meaning)
-candidate-fit conversion place meaning fit = by (slice_get conversion.picking.shown place)
+candidate-fit : (session : Session) (conversion : Conversion) (place : ℕ) (meaning : Shown → Meaning) → Fits session
+    → ((shown : Shown) → AllFit (meaning shown)) → AllFit (of_candidate session conversion place meaning)
+candidate-fit session conversion place meaning fits fit = by (slice_get conversion.picking.shown place)
   where
-    by : (found : Option Shown) → AllFit (option_map_or meaning found not_built)
-    by None = tt
+    by : (found : Option Shown)
+        → AllFit (option_map_or meaning found (becomes (with_state session (states.Picking conversion))))
+    by None = fits
     by (Some shown) = fit shown
 
 picking-effect-fit : (rules : List Rule) (session : Session) (conversion : Conversion) (effect : CandsDo) → Fits session
@@ -294,12 +389,13 @@ picking-effect-fit : (rules : List Rule) (session : Session) (conversion : Conve
 picking-effect-fit rules session conversion (cands.Stay notice) fits =
     noted-fits (with_state session (states.Picking conversion)) notice fits
 picking-effect-fit rules session conversion cands.Back fits = fits
-picking-effect-fit rules session conversion cands.Register fits = tt
+picking-effect-fit rules session conversion cands.Register fits =
+    registering-fits session (waits.Picking conversion) fits
 picking-effect-fit rules session conversion cands.Purge fits =
-    candidate-fit conversion conversion.picking.place (purging session conversion)
+    candidate-fit session conversion conversion.picking.place (purging session conversion) fits
     (λ shown. purging-fit session conversion shown fits)
 picking-effect-fit rules session conversion (cands.Choose place effect) fits =
-    candidate-fit conversion place (choosing rules session conversion effect)
+    candidate-fit session conversion place (choosing rules session conversion effect) fits
     (λ shown. choosing-fit rules session conversion effect shown fits)
 
 picking-fit : (rules : List Rule) (session : Session) (conversion : Conversion) (key : Key) → Fits session
@@ -314,19 +410,17 @@ state-fit rules session (states.Plain pending) key fits = plain-fit rules sessio
 state-fit rules session (states.Reading reading) key fits = reading-fit rules session reading key fits
 state-fit rules session (states.Picking conversion) key fits = picking-fit rules session conversion key fits
 
-followed-fit : (meaning : Meaning) (behind : Option Session → Meaning) → AllFit meaning → AllFit (behind None)
-    → ((session : Session) → Fits session → AllFit (behind (Some session))) → AllFit (followed_by meaning behind)
-followed-fit (ends None) behind fit none some = none
-followed-fit (ends (Some session)) behind fit none some = some session fit
-followed-fit (asks call next) behind fit none some = λ answer. followed-fit (next answer) behind (fit answer) none some
-followed-fit (prints text rest) behind fit none some = followed-fit rest behind fit none some
+followed-fit : (meaning : Meaning) (behind : Session → Meaning) → AllFit meaning
+    → ((session : Session) → Fits session → AllFit (behind session)) → AllFit (followed_by meaning behind)
+followed-fit (ends session) behind fit all = all session fit
+followed-fit (asks call next) behind fit all = λ answer. followed-fit (next answer) behind (fit answer) all
+followed-fit (prints text rest) behind fit all = followed-fit rest behind fit all
 
 -- whatever keys are pressed, and however they are answered
 pub all-fit : (rules : List Rule) (session : Session) (keys : List Key) → Fits session
     → AllFit (all_pressed rules session keys)
 all-fit rules session [] fits = fits
 all-fit rules session (key ∷ keys) fits =
-    followed-fit (pressed rules session key)
-    (λ next. option_map_or (λ after. all_pressed rules after keys) next (ends None))
-    (state-fit rules (before_key session) session.frame.state key fits) tt
+    followed-fit (pressed rules session key) (λ after. all_pressed rules after keys)
+    (state-fit rules (before_key session) session.frame.state key fits)
     (λ after after_fits. all-fit rules after keys after_fits)

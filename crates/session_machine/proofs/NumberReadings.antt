@@ -1,11 +1,12 @@
 -- The number key of a reading is a reading, and so is each of its numbers.
 use Rattle.std.proofs.Common.{◌≡◌, ◌∙◌, ◌≤◌, ℕ, Bool, true, false, cond, Option, Some, None, if◌then◌else◌, not, nat_le}
-use Rattle.std.proofs.Common.{List, [], ◌∷◌, refl, sym, ap, arith}
+use Rattle.std.proofs.Common.{List, [], ◌∷◌, ◌&&◌, ◌||◌, refl, sym, ap, arith, rules}
 use Rattle.std.specs.Char.{is_ascii_digit}
-use Rattle.std.specs.List.{list_all, list_any}
+use Rattle.std.specs.List.{filter, list_all, list_any}
 use Rattle.std.proofs.lemmas.Bool.{and_from, and_parts, le-leb, leb-true, lt-ltb, ne_eqb}
 use Rattle.numeric_entries.specs.KeyLaws.{key_begins, key_passes, key_bytes, numbers_pass, number_passes}
-use Rattle.numeric_entries.specs.Numbers.{NumberKey, begins, is_number, key_of, number_key, numbers_of}
+use Rattle.numeric_entries.specs.Numbers.{NumberKey, begins, is_number, key_of, number_key, numbers_of, runs_of}
+use Rattle.numeric_entries.specs.Numbers.{with_character}
 use Rattle.skk_calls.specs.Dictionary.{is_plain_reading}
 use Rattle.skk_calls.specs.Rows.{begins_well, is_reading_char, may_begin_reading}
 use Rattle.skk_text.specs.Text.{byte_len}
@@ -79,3 +80,33 @@ digits-none text is = by (list_any is_ascii_digit text) refl is
         → list_any is_ascii_digit text ≡ false
     by true e same = cc
     by false e same = e
+
+-- and has no numbers
+pub no_numbers : (text : List ℕ) → list_any is_ascii_digit text ≡ false → numbers_of text ≡ []
+no_numbers [] none = refl
+no_numbers (c ∷ text) none = by (is_ascii_digit c) refl none (no_numbers text)
+  where
+    skipped : (run : List ℕ) (runs : List (List ℕ)) → is_number run ≡ false
+        → filter is_number (run ∷ runs) ≡ filter is_number runs
+    skipped run runs e = rw e refl
+
+    other_run : (run : List ℕ) → is_ascii_digit c ≡ false → is_number (c ∷ run) ≡ false
+    other_run run other = ap (λ b. b && list_all is_ascii_digit run) other
+
+    first : is_ascii_digit c ≡ false → (runs : List (List ℕ)) → filter is_number runs ≡ []
+        → filter is_number (with_character c runs) ≡ []
+    first other [] empty = skipped (c ∷ []) [] (other_run [] other)
+    first other (run ∷ runs) empty = number (is_number run) refl
+      where
+        number : (is : Bool) → is_number run ≡ is → filter is_number (with_character c (run ∷ runs)) ≡ []
+        number true e = absurd (search (rules, rw e at empty))
+        number false e = rw (other, e) (skipped (c ∷ run) runs (other_run run other) ∙ (rw e at empty))
+
+    by : (digit : Bool) → is_ascii_digit c ≡ digit → (digit || list_any is_ascii_digit text) ≡ false
+        → (list_any is_ascii_digit text ≡ false → numbers_of text ≡ []) → numbers_of (c ∷ text) ≡ []
+    by true e none rest = absurd (search (rules, none))
+    by false e none rest = first e (runs_of text) (rest none)
+
+-- so a reading without a number key has none
+pub no_key : (text : List ℕ) → number_key text ≡ None → numbers_of text ≡ []
+no_key text is = no_numbers text (digits-none text is)

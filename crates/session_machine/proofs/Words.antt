@@ -102,6 +102,10 @@ pub stamps_end : chars (codes "stamps-end") ≡ codes "stamps-end"
 unfolding chars
 stamps_end = refl
 
+pub depth : chars (codes "depth 8") ≡ codes "depth 8"
+unfolding chars
+depth = refl
+
 pub ruleset words = (
   hira,
   kata,
@@ -128,4 +132,5 @@ pub ruleset words = (
   overtaken,
   too_big,
   stamps_end,
+  depth,
 )

@@ -4,7 +4,6 @@ use Rattle.std.specs.Char.{is_ascii_digit}
 use Rattle.std.specs.List.{list_any}
 use Rattle.numeric_entries.specs.Forms.{asks_lookup}
 use Rattle.numeric_entries.specs.Numbers.{numbers_of}
-use Rattle.numeric_entries.specs.Numbers as numeric
 use Rattle.skk_calls.specs.declared.answer.Answer.{Answer}
 use Rattle.skk_calls.specs.declared.answer.Answer.TheVariants.{Done, Refused}
 use Rattle.skk_calls.specs.declared.answer.Refusal.{Refusal}
@@ -14,7 +13,7 @@ use Rattle.skk_calls.specs.declared.call.Call.TheVariants.{Lookup, Complete}
 use Rattle.skk_calls.specs.declared.part.Part.TheVariants.{Nasi}
 use Rattle.skk_calls.specs.Interactions.{Interaction, ends, asks, followed_by}
 use Rattle.skk_calls.specs.Rows.{Cand, RowKey}
-use Rattle.reading_state.specs.Keys.{key_of, key_with, okuri_of}
+use Rattle.reading_state.specs.Keys.{key_of, okuri_of}
 use Rattle.reading_state.specs.Puts.{Reading}
 use Rattle.reading_state.specs.Reading.{completed}
 use Rattle.candidate_state.specs.declared.shown.BothFound.{BothFound}
@@ -25,7 +24,10 @@ use Rattle.session_machine.specs.declared.first_words.FirstWords.{FirstWords}
 use Rattle.session_machine.specs.declared.first_words.FirstWords.TheVariants.{Words, Stopped}
 use Rattle.session_machine.specs.declared.frame.State.TheVariants as states
 use Rattle.session_machine.specs.declared.session_notice.SessionNotice.TheVariants as told
-use Rattle.session_machine.specs.Meanings.{Meaning, becomes, not_built}
+use Rattle.session_machine.specs.declared.frame.Waiting.TheVariants as waits
+use Rattle.session_machine.specs.Meanings.{Meaning, becomes}
+use Rattle.session_machine.specs.ReadingParts.{number_key_of}
+use Rattle.session_machine.specs.Registrations.{registering}
 use Rattle.session_machine.specs.Session.{Session, with_state, noting}
 
 -- a session whose reading stays open, with the refusal of what it asked, where it was refused
@@ -37,10 +39,10 @@ left_open session reading (Some refusal) =
 -- Conversion
 
 -- what candidates come to that were found for a reading: the first of them is shown; where there are none a
--- registration would open, which is not built
+-- registration opens
 abbrev pub pick : Session → Reading → List Shown → Meaning
 pick session reading shown =
-    if length shown == 0 then not_built
+    if length shown == 0 then becomes (registering session (waits.Reading reading))
     else becomes (with_state session (states.Picking (record { reading = reading; picking = new_picking shown })))
 
 -- the candidates that an answer found; or else the refusal, where it is one
@@ -106,10 +108,6 @@ both_found session reading found =
     if list_any (λ cand. asks_lookup cand.word) found.numbered.cands
     then followed_by (first_words session.typist [] numbers) (filled session reading found)
     else pick session reading (shown_numbers found numbers numbers)
-
--- the number key of a reading: with a `#` in the place of each number, and with the letter of its okurigana
-abbrev pub number_key_of : Reading → RowKey
-number_key_of reading = key_with (numeric.key_of reading.text) reading.okuri
 
 -- what comes to be of a reading with numbers, of which this was found as it is: its number key is looked up too
 abbrev pub numbered : Session → Reading → Found → Meaning

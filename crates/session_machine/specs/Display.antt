@@ -2,7 +2,8 @@
 use Rattle.std.specs.Prelude.{ℕ, ◌+◌, ◌-◌, Bool, ◌==◌, ◌||◌, if◌then◌else◌, Option, None, Some, List, [], ◌∷◌, ◌++◌}
 use Rattle.std.specs.Prelude.{codes, drop, length}
 use Rattle.std.specs.Fmt.{decimal}
-use Rattle.std.specs.List.{flat_map}
+use Rattle.std.specs.List.{flat_map, repeat}
+use Rattle.std.specs.Option.{option_map_or}
 use Rattle.skk_text.specs.Characters.{code, carriage_return, tab, backslash}
 use Rattle.skk_text.specs.Lines.{line_feed}
 use Rattle.skk_text.specs.Modes.{in_kana_of}
@@ -22,7 +23,9 @@ use Rattle.session_machine.specs.declared.frame.State.{State}
 use Rattle.session_machine.specs.declared.frame.State.TheVariants as states
 use Rattle.session_machine.specs.declared.session_notice.SessionNotice.{SessionNotice}
 use Rattle.session_machine.specs.declared.session_notice.SessionNotice.TheVariants as told
-use Rattle.session_machine.specs.Pressed.{kana_begun}
+use Rattle.session_machine.specs.declared.frame.OuterFrame.{OuterFrame}
+use Rattle.session_machine.specs.ReadingParts.{kana_begun, registered_text}
+use Rattle.session_machine.specs.Registrations.{innermost, waiting_reading}
 use Rattle.session_machine.specs.Session.{Session, text_of}
 
 -- Characters
@@ -108,9 +111,19 @@ state_shown mode (states.Picking conversion) = picking_shown mode conversion
 abbrev pub frame_shown : Frame → List ℕ
 frame_shown frame = last_chars shown_characters frame.text ++ state_shown frame.mode frame.state
 
--- the display of a session, as it is printed
+-- the prompt of a registration: as many brackets around its name as there are registrations, and the reading that a
+-- word is waited for, as it is learnt, with its okurigana in the kana of the mode outside
+abbrev pub prompt : ℕ → OuterFrame → List ℕ
+prompt depth frame =
+    let reading = waiting_reading frame.waiting in
+    repeat depth (codes "[") ++ codes "辞書登録" ++ repeat depth (codes "]") ++ codes " "
+    ++ in_kana_of frame.mode (registered_text reading) ++ okuri_shown frame.mode reading.okuri ++ codes ": "
+
+-- the display of a session, as it is printed: the prompt of its innermost registration, and the innermost frame
 abbrev pub display : Session → List ℕ
-display session = printed_form (frame_shown session.frame)
+display session =
+    let prompted = option_map_or (prompt (length session.outer)) (innermost session.outer) [] in
+    printed_form (prompted ++ frame_shown session.frame)
 
 -- Notice
 
@@ -160,6 +173,7 @@ notice_text told.Undone state = codes "undone"
 notice_text (told.Overtaken stamp) state = codes "overtaken " ++ decimal stamp
 notice_text (told.TooBig length) state = codes "too-big " ++ decimal length
 notice_text told.StampsEnd state = codes "stamps-end"
+notice_text told.Depth state = codes "depth 8"
 
 -- the notice of a session, as it is printed
 abbrev pub notice : Session → List ℕ

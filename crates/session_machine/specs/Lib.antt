@@ -3,5 +3,7 @@ pub mod Converted
 pub mod Display
 pub mod Meanings
 pub mod Pressed
+pub mod ReadingParts
+pub mod Registrations
 pub mod Said
 pub mod Session

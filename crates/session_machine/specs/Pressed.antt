@@ -1,7 +1,6 @@
 -- The meaning of a key: what a session asks the dictionary, and the session after it.
 use Rattle.std.specs.Prelude.{ℕ, Bool, if◌then◌else◌, Option, None, Some, List, [], ◌∷◌, ◌++◌, length, slice_get}
 use Rattle.std.specs.Option.{option_map_or}
-use Rattle.skk_text.specs.Lines.{line_feed}
 use Rattle.skk_text.specs.Modes.{other_kana, in_kana_of}
 use Rattle.skk_text.specs.Text.{byte_len}
 use Rattle.skk_text.specs.declared.key.Key.{Key}
@@ -23,7 +22,7 @@ use Rattle.reading_state.specs.declared.reading_do.AfterConfirm.TheVariants as b
 use Rattle.reading_state.specs.declared.reading_do.ReadingThen.{ReadingThen}
 use Rattle.reading_state.specs.declared.reading_do.ReadingThen.TheVariants as effects
 use Rattle.reading_state.specs.Keys.{okuri_of}
-use Rattle.reading_state.specs.Puts.{Begun, Reading, new_reading, new_abbrev, suffix_reading}
+use Rattle.reading_state.specs.Puts.{Reading, new_reading, new_abbrev, suffix_reading}
 use Rattle.reading_state.specs.Reading.{reading_step}
 use Rattle.candidate_state.specs.declared.cands_do.AfterChoose.{AfterChoose}
 use Rattle.candidate_state.specs.declared.cands_do.AfterChoose.TheVariants as choices
@@ -38,37 +37,35 @@ use Rattle.session_machine.specs.declared.frame.Conversion.{Conversion}
 use Rattle.session_machine.specs.declared.frame.State.{State}
 use Rattle.session_machine.specs.declared.frame.State.TheVariants as states
 use Rattle.session_machine.specs.declared.session_notice.SessionNotice.TheVariants as told
-use Rattle.session_machine.specs.Meanings.{Meaning, becomes, not_built}
+use Rattle.session_machine.specs.declared.frame.Waiting.TheVariants as waits
+use Rattle.session_machine.specs.Meanings.{Meaning, becomes}
+use Rattle.session_machine.specs.ReadingParts.{kana_begun}
+use Rattle.session_machine.specs.Registrations.{cancelled, registering, returned}
 use Rattle.session_machine.specs.Session.{Session, with_state, with_text, with_mode, with_choice, choice_at}
 use Rattle.session_machine.specs.Session.{without_chars, shortened, noting, before_key, has_room, with_piece}
 use Rattle.session_machine.specs.Session.{with_insertion}
 
 -- Reading state
 
--- the kana of an okurigana that was begun, none where it was not
-abbrev pub kana_begun : Option Begun → List ℕ
-kana_begun None = []
-kana_begun (Some begun) = begun.text
-
 -- a reading with its okurigana as it is inserted: in the kana of a mode, or in the other
 abbrev pub reading_piece : Mode → Reading → Bool → List ℕ
 reading_piece mode reading other =
     in_kana_of (if other then other_kana mode else mode) (reading.text ++ kana_begun reading.okuri)
 
--- a session after a reading was inserted, and after what comes behind that
-abbrev pub after_confirmed : Session → AfterConfirm → Session
-after_confirmed session behind.Nothing = session
-after_confirmed session behind.ToAscii = with_mode session Ascii
-after_confirmed session behind.ToWide = with_mode session Wide
-after_confirmed session behind.OpenReading = with_state session (states.Reading new_reading)
-after_confirmed session behind.Newline = with_insertion session (line_feed ∷ [])
+-- what comes behind a reading that was inserted
+abbrev pub confirmed_effect : Session → AfterConfirm → Meaning
+confirmed_effect session behind.Nothing = becomes session
+confirmed_effect session behind.ToAscii = becomes (with_mode session Ascii)
+confirmed_effect session behind.ToWide = becomes (with_mode session Wide)
+confirmed_effect session behind.OpenReading = becomes (with_state session (states.Reading new_reading))
+confirmed_effect session behind.Newline = returned session
 
--- a session after a reading is confirmed, which stays open where it does not fit
-abbrev pub confirmed : Session → Reading → Bool → AfterConfirm → Session
+-- what it comes to that a reading is confirmed: it is inserted, and stays open where it does not fit
+abbrev pub confirmed : Session → Reading → Bool → AfterConfirm → Meaning
 confirmed session reading other behind =
     let piece = reading_piece session.frame.mode reading other in
-    if has_room session piece then after_confirmed (with_piece session piece) behind
-    else noting (with_state session (states.Reading reading)) notices.Limit
+    if has_room session piece then confirmed_effect (with_piece session piece) behind
+    else becomes (noting (with_state session (states.Reading reading)) notices.Limit)
 
 -- what a key's effect on an open reading comes to
 abbrev pub reading_effect : Session → Reading → ReadingThen → Meaning
@@ -76,7 +73,7 @@ reading_effect session reading effects.Stay = becomes (with_state session (state
 reading_effect session reading effects.Convert = converted session reading
 reading_effect session reading effects.AskCompletions = completing session reading
 reading_effect session reading effects.Drop = becomes session
-reading_effect session reading (effects.Confirm other behind) = becomes (confirmed session reading other behind)
+reading_effect session reading (effects.Confirm other behind) = confirmed session reading other behind
 
 -- what a key comes to where a reading is open
 abbrev pub reading_pressed : List Rule → Session → Reading → Key → Meaning
@@ -104,15 +101,15 @@ abbrev pub undone : Session → Option Choice → Meaning
 undone session None = becomes (noting session notices.NoUndo)
 undone session (Some choice) = unlearnt (before_choice session choice) choice.learned
 
--- what a key's effect comes to behind its insertion; there is no registration to cancel
+-- what a key's effect comes to behind its insertion
 abbrev pub plain_effect : List Rule → Session → PlainThen → Meaning
 plain_effect rules session plain.Stay = becomes session
 plain_effect rules session plain.DeleteLast = becomes (shortened session)
-plain_effect rules session plain.Newline = becomes (with_insertion session (line_feed ∷ []))
+plain_effect rules session plain.Newline = returned session
 plain_effect rules session (plain.OpenReading None) = becomes (with_state session (states.Reading new_reading))
 plain_effect rules session (plain.OpenReading (Some letter)) = reading_pressed rules session new_reading (Char letter)
 plain_effect rules session plain.OpenAbbrev = becomes (with_state session (states.Reading new_abbrev))
-plain_effect rules session plain.Cancel = becomes session
+plain_effect rules session plain.Cancel = becomes (cancelled session)
 plain_effect rules session plain.AskUndo =
     undone session (choice_at (byte_len session.frame.text) session.frame.last_choice)
 
@@ -135,9 +132,11 @@ plain_pressed rules session pending key =
 
 -- Candidate state
 
--- what something comes to that is done with the candidate of a place, where there is one
-abbrev pub of_candidate : Conversion → ℕ → (Shown → Meaning) → Meaning
-of_candidate conversion place meaning = option_map_or meaning (slice_get conversion.picking.shown place) not_built
+-- what something comes to that is done with the candidate of a place; where there is none the candidates stay
+abbrev pub of_candidate : Session → Conversion → ℕ → (Shown → Meaning) → Meaning
+of_candidate session conversion place meaning =
+    option_map_or meaning (slice_get conversion.picking.shown place)
+    (becomes (with_state session (states.Picking conversion)))
 
 -- what is inserted for a candidate: its text as it is shown, and the okurigana in the kana of a mode
 abbrev pub choice_piece : Mode → Reading → Shown → List ℕ
@@ -158,7 +157,7 @@ after_learning session conversion piece answer =
 abbrev pub choice_effect : List Rule → Session → AfterChoose → Meaning
 choice_effect rules session choices.Nothing = becomes session
 choice_effect rules session choices.Delete = becomes (shortened session)
-choice_effect rules session choices.Newline = becomes (with_insertion session (line_feed ∷ []))
+choice_effect rules session choices.Newline = returned session
 choice_effect rules session choices.OpenSuffix = becomes (with_state session (states.Reading suffix_reading))
 choice_effect rules session (choices.Read key) = plain_pressed rules session [] key
 
@@ -189,16 +188,16 @@ abbrev pub purging : Session → Conversion → Shown → Meaning
 purging session conversion shown =
     asks (Purge session.book shown.key shown.cand.word) (λ answer. becomes (after_purge session conversion answer))
 
--- what a key's effect on candidates comes to; registrations are not built
+-- what a key's effect on candidates comes to
 abbrev pub picking_effect : List Rule → Session → Conversion → CandsDo → Meaning
 picking_effect rules session conversion (cands.Stay notice) =
     becomes (noting (with_state session (states.Picking conversion)) notice)
 picking_effect rules session conversion cands.Back = becomes (with_state session (states.Reading conversion.reading))
-picking_effect rules session conversion cands.Register = not_built
+picking_effect rules session conversion cands.Register = becomes (registering session (waits.Picking conversion))
 picking_effect rules session conversion cands.Purge =
-    of_candidate conversion conversion.picking.place (purging session conversion)
+    of_candidate session conversion conversion.picking.place (purging session conversion)
 picking_effect rules session conversion (cands.Choose place behind) =
-    of_candidate conversion place (choosing rules session conversion behind)
+    of_candidate session conversion place (choosing rules session conversion behind)
 
 -- what a key comes to where candidates are shown
 abbrev pub picking_pressed : List Rule → Session → Conversion → Key → Meaning
@@ -222,5 +221,4 @@ pressed rules session key = state_pressed rules (before_key session) session.fra
 abbrev pub all_pressed : List Rule → Session → List Key → Meaning
 all_pressed rules session [] = becomes session
 all_pressed rules session (key ∷ keys) =
-    followed_by (pressed rules session key)
-    (λ next. option_map_or (λ after. all_pressed rules after keys) next not_built)
+    followed_by (pressed rules session key) (λ after. all_pressed rules after keys)

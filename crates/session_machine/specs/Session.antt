@@ -1,6 +1,6 @@
 -- A session: a typist's frames, and the changes that keys make of them.
 use Rattle.std.specs.Prelude.{ℕ, ◌+◌, Bool, ◌||◌, ◌==◌, nat_le, nat_lt, if◌then◌else◌, Option, None, Some, List, []}
-use Rattle.std.specs.Prelude.{◌∷◌, ◌++◌, ◌-◌, ◌≤◌, length, take}
+use Rattle.std.specs.Prelude.{◌∷◌, ◌++◌, ◌-◌, ◌≤◌, length, map, take}
 use Rattle.skk_text.specs.Text.{byte_len, without_last}
 use Rattle.skk_text.specs.declared.mode.Mode.{Mode}
 use Rattle.skk_text.specs.declared.mode.Mode.TheVariants.{Hira}
@@ -8,6 +8,7 @@ use Rattle.skk_text.specs.declared.notice.Notice.{Notice}
 use Rattle.skk_text.specs.declared.notice.Notice.TheVariants as notices
 use Rattle.session_machine.specs.declared.frame.Choice.{Choice}
 use Rattle.session_machine.specs.declared.frame.Frame.{Frame}
+use Rattle.session_machine.specs.declared.frame.OuterFrame.{OuterFrame}
 use Rattle.session_machine.specs.declared.frame.State.{State}
 use Rattle.session_machine.specs.declared.frame.State.TheVariants.{Plain}
 use Rattle.session_machine.specs.declared.session_notice.SessionNotice.{SessionNotice}
@@ -19,24 +20,24 @@ pub record Session : Type 0 where
   pub typist : ℕ
   pub book : ℕ
   pub frame : Frame
-  pub outer : List Frame
+  pub outer : List OuterFrame
   pub notice : SessionNotice
 
--- a session is one that may be: it learns in the shared book, or in its typist's
-abbrev pub is_session : Session → Bool
-is_session session = session.book == 0 || session.book == session.typist
+-- a session of a typist may learn in a book: in the shared one, or in the typist's own
+abbrev pub may_learn_in : ℕ → ℕ → Bool
+may_learn_in typist book = book == 0 || book == typist
 
 -- the most bytes of a frame's text
 abbrev pub text_limit : ℕ
 text_limit = 1048576
 
 -- a frame's text is within its limit
-abbrev pub FrameFits : Frame → Type 0
-FrameFits frame = byte_len frame.text ≤ text_limit
+abbrev pub TextFits : List ℕ → Type 0
+TextFits text = byte_len text ≤ text_limit
 
--- the frames of a session, each inside the one before it
-abbrev pub frames_of : Session → List Frame
-frames_of session = session.outer ++ session.frame ∷ []
+-- the texts of a session's frames, each inside the one before it
+abbrev pub texts_of : Session → List (List ℕ)
+texts_of session = map (λ frame. frame.text) session.outer ++ session.frame.text ∷ []
 
 -- a new frame: hiragana mode, an empty text, nothing pending, and nothing chosen
 abbrev pub new_frame : Frame
@@ -51,13 +52,17 @@ abbrev pub new_session : ℕ → ℕ → Session
 new_session typist book = record { typist = typist; book = book; frame = new_frame; outer = []; notice = no_notice }
 
 -- the text of a session's typist, which is that of the outermost frame
-abbrev pub text_among : List Frame → Frame → List ℕ
+abbrev pub text_among : List OuterFrame → Frame → List ℕ
 text_among [] frame = frame.text
 text_among (outermost ∷ frames) frame = outermost.text
 
 -- the text of a session
 abbrev pub text_of : Session → List ℕ
 text_of session = text_among session.outer session.frame
+
+-- a session with another frame in the place of the one that takes the keys
+abbrev pub with_frame : Session → Frame → Session
+with_frame session frame = record session { frame = frame }
 
 -- a session with another state of its frame
 abbrev pub with_state : Session → State → Session
@@ -100,13 +105,22 @@ abbrev pub noting : Session → Notice → Session
 noting session notices.Empty = session
 noting session notice = record session { notice = Step notice }
 
+-- a session with what an answer tells, where it tells something
+abbrev pub telling : Session → SessionNotice → Session
+telling session (Step notice) = noting session notice
+telling session notice = record session { notice = notice }
+
 -- a session as a key finds it: without a notice, and with the state of its frame taken out, which is plain then
 abbrev pub before_key : Session → Session
 before_key session = with_state (record session { notice = no_notice }) (Plain [])
 
+-- whether a piece fits behind a text
+abbrev pub fits_behind : List ℕ → List ℕ → Bool
+fits_behind text piece = nat_le (byte_len text + byte_len piece) text_limit
+
 -- whether a piece fits behind the text of a session's frame
 abbrev pub has_room : Session → List ℕ → Bool
-has_room session piece = nat_le (byte_len session.frame.text + byte_len piece) text_limit
+has_room session piece = fits_behind session.frame.text piece
 
 -- a session with a piece put at the end of its frame's text
 abbrev pub with_piece : Session → List ℕ → Session

@@ -11,7 +11,8 @@ use crate::answered::{learnt_by, notice_of};
 use crate::frame::{Choice, Conversion, State};
 use crate::kana::in_kana_of;
 use crate::pressing::press_in_plain;
-use crate::session::{PressFault, Session};
+use crate::returning::put_return;
+use crate::session::Session;
 use candidate_state::{AfterChoose, Shown};
 use reading_state::Reading;
 use romaji_rules::{Pending, Rules};
@@ -30,13 +31,18 @@ pub(crate) fn choose<C: Caller>(
     place: usize,
     then: AfterChoose,
     caller: &mut C,
-) -> Result<(), PressFault>
+) -> Result<(), Memory>
     requires { place < length conversion.picking.shown }
-    ensures { Says (of_candidate conversion place (choosing rules.now session.old conversion (then)))
+    ensures { Says (of_candidate session.old conversion place (choosing rules.now session.old conversion (then)))
         (after result session.new) (spoken C.number C.said caller.old) (spoken C.number C.said caller.new) }
 {
     let shown = conversion.picking.shown_list().at(place);
-    let piece = choice_piece(alloc, session.frame.mode, &conversion.reading, shown)?;
+    let piece = choice_piece(
+        alloc,
+        session.frame.mode,
+        conversion.reading.reading(),
+        shown,
+    )?;
     if !session.has_room(piece.as_str()) {
         session.put_state(State::Picking(conversion));
         session.note(Notice::Limit);
@@ -77,13 +83,14 @@ fn learn<C: Caller>(
     piece: &Text,
     then: AfterChoose,
     caller: &mut C,
-) -> Result<(), PressFault>
+) -> Result<(), Memory>
     requires { place < length conversion.picking.shown }
-    ensures { Says (of_candidate conversion place (learning rules.now session.old conversion piece.now (then)))
-        (after result session.new) (spoken C.number C.said caller.old) (spoken C.number C.said caller.new) }
+    ensures { Says (of_candidate session.old conversion place
+        (learning rules.now session.old conversion piece.now (then))) (after result session.new)
+        (spoken C.number C.said caller.old) (spoken C.number C.said caller.new) }
 {
     let shown = conversion.picking.shown_list().at(place);
-    let call = insert_choice(session, alloc, &conversion.reading, shown, piece)?;
+    let call = insert_choice(session, alloc, conversion.reading.reading(), shown, piece)?;
     let answer = caller.call(alloc, &call);
     take_learning(session, conversion, piece, answer);
     apply_choice(session, alloc, rules, then, caller)
@@ -147,14 +154,14 @@ fn apply_choice<C: Caller>(
     rules: &Rules,
     then: AfterChoose,
     caller: &mut C,
-) -> Result<(), PressFault>
+) -> Result<(), Memory>
     ensures { Says (choice_effect rules.now session.old (then)) (after result session.new)
         (spoken C.number C.said caller.old) (spoken C.number C.said caller.new) }
 {
     match then {
         AfterChoose::Nothing => {}
         AfterChoose::Delete => session.shorten(),
-        AfterChoose::Newline => session.insert("\n")?,
+        AfterChoose::Newline => return put_return(session, alloc, caller),
         AfterChoose::OpenSuffix => session.put_state(State::Reading(Reading::suffix(alloc)?)),
         AfterChoose::Read(key) => {
             return press_in_plain(session, alloc, rules, Pending::new(), key, caller);

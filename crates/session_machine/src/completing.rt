@@ -9,10 +9,10 @@ ghost use Rattle.session_machine.specs.Said.{Becomes, Says, after, spoken};
 
 use crate::frame::State;
 use crate::opening::leave_open;
-use crate::session::{PressFault, Session};
+use crate::session::Session;
 use reading_state::Reading;
 use skk_calls::{Answer, Call, Caller, Reply};
-use skk_text::{Copies, Texts};
+use skk_text::{Copies, Memory, Texts};
 use std::alloc::Global;
 
 // Asks for the readings that complete one, and shows the first.
@@ -22,7 +22,7 @@ pub(crate) fn complete<C: Caller>(
     alloc: Global,
     reading: Reading,
     caller: &mut C,
-) -> Result<(), PressFault>
+) -> Result<(), Memory>
     ensures { Says (completing session.old reading) (after result session.new)
         (spoken C.number C.said caller.old) (spoken C.number C.said caller.new) }
 {
@@ -40,7 +40,7 @@ fn take_completions(
     alloc: Global,
     reading: Reading,
     answer: Answer,
-) -> Result<(), PressFault>
+) -> Result<(), Memory>
     requires { may_answer (Complete session.old.typist reading.text) answer ≡ true }
     ensures { Becomes (completions_answered session.old reading answer) (after result session.new) }
 {
@@ -60,7 +60,7 @@ fn show_first(
     alloc: Global,
     reading: Reading,
     readings: Texts,
-) -> Result<(), PressFault>
+) -> Result<(), Memory>
     requires { list_all is_plain_reading readings ≡ true }
     ensures { Becomes (completions_answered session.old reading (Done (Readings readings))) (after result session.new) }
 {

@@ -6,13 +6,15 @@ ghost use Rattle.numeric_entries.specs.Numbers as numeric;
 ghost use Rattle.skk_calls.specs.Dictionary.{is_plain_reading};
 ghost use Rattle.session_machine.specs.Converted.{converted, plain_found, numbered, both_found, filled, pick};
 ghost use Rattle.session_machine.specs.Converted.{key_asked, key_found};
-ghost use Rattle.session_machine.specs.Said.{Asked, Becomes, Says, after, spoken};
+ghost use Rattle.session_machine.specs.Said.{Becomes, Says, after, spoken};
 
 use crate::answered::found_by;
 use crate::first_words::{FirstWords, look_numbers_up};
-use crate::frame::{Conversion, State};
+use crate::frame::{Conversion, State, Waiting};
+use crate::headword::Headword;
 use crate::opening::leave_open;
-use crate::session::{PressFault, Session};
+use crate::registering::register;
+use crate::session::Session;
 use candidate_state::{BothFound, Found, Picking, ShownList, shown_numbers, shown_plain};
 use numeric_entries::{NumberKey, asks_lookup, number_key};
 use reading_state::Reading;
@@ -27,7 +29,7 @@ pub(crate) fn convert<C: Caller>(
     alloc: Global,
     reading: Reading,
     caller: &mut C,
-) -> Result<(), PressFault>
+) -> Result<(), Memory>
     requires { reading.text ≢ [] }
     ensures { Says (converted session.old reading) (after result session.new)
         (spoken C.number C.said caller.old) (spoken C.number C.said caller.new) }
@@ -51,7 +53,7 @@ fn look_key_up<C: Caller>(
     key: RowKey,
     caller: &mut C,
 ) -> Result<Result<Found, Option<Refusal>>, Memory>
-    ensures { Asked (key_asked typist reading.now key) result
+    ensures { Says (key_asked typist reading.now key) result
         (spoken C.number C.said caller.old) (spoken C.number C.said caller.new) }
 {
     let call = Call::Lookup {
@@ -84,14 +86,14 @@ fn convert_plain<C: Caller>(
     reading: Reading,
     plain: Found,
     caller: &mut C,
-) -> Result<(), PressFault>
+) -> Result<(), Memory>
     requires { reading.text ≢ [] }
     ensures { Says (plain_found session.old reading plain) (after result session.new)
         (spoken C.number C.said caller.old) (spoken C.number C.said caller.new) }
 {
     match number_key(alloc, reading.text())? {
         Some(number_key) => convert_numbered(session, alloc, reading, number_key, plain, caller),
-        None => pick(session, reading, shown_plain(plain)),
+        None => pick(session, alloc, reading, shown_plain(plain)),
     }
 }
 
@@ -104,7 +106,8 @@ fn convert_numbered<C: Caller>(
     number_key: NumberKey,
     plain: Found,
     caller: &mut C,
-) -> Result<(), PressFault>
+) -> Result<(), Memory>
+    requires some { reading.text ≢ [] }
     requires plain { is_plain_reading reading.text ≡ true }
     requires key { number_key.key ≡ numeric.key_of reading.text }
     requires numbers { number_key.numbers ≡ numbers_of reading.text }
@@ -135,7 +138,8 @@ fn convert_both<C: Caller>(
     numbers: Texts,
     found: BothFound,
     caller: &mut C,
-) -> Result<(), PressFault>
+) -> Result<(), Memory>
+    requires some { reading.text ≢ [] }
     requires numbers { numbers ≡ numbers_of reading.text }
     requires digits { are_numbers numbers ≡ true }
     requires plain { list_all is_plain_reading numbers ≡ true }
@@ -147,7 +151,7 @@ fn convert_both<C: Caller>(
         return fill(session, alloc, reading, &numbers, found, words);
     }
     let shown = shown_numbers(alloc, found, &numbers, &numbers)?;
-    pick(session, reading, shown)
+    pick(session, alloc, reading, shown)
 }
 
 // Shows what was found of a reading with numbers, filled with the words that were looked up for them; or leaves the
@@ -159,7 +163,8 @@ fn fill(
     numbers: &Texts,
     found: BothFound,
     words: FirstWords,
-) -> Result<(), PressFault>
+) -> Result<(), Memory>
+    requires some { reading.text ≢ [] }
     requires numbers { numbers.now ≡ numbers_of reading.text }
     requires digits { are_numbers numbers.now ≡ true }
     requires count { (all : List (List ℕ)) → words ≡ FirstWords.Words all → length all ≡ length numbers.now }
@@ -168,6 +173,7 @@ fn fill(
     match words {
         FirstWords::Words(words) => pick(
             session,
+            alloc,
             reading,
             shown_numbers(alloc, found, numbers, &words)?,
         ),
@@ -185,12 +191,19 @@ fn some_asks_lookup(cands: &Cands) -> bool
     cands.iter().any(|cand| asks_lookup(cand.word()))
 }
 
-// Shows the first of the candidates of a reading.
-fn pick(session: &mut Session, reading: Reading, shown: ShownList) -> Result<(), PressFault>
+// Shows the first of the candidates of a reading, or opens a registration where there are none.
+fn pick(
+    session: &mut Session,
+    alloc: Global,
+    reading: Reading,
+    shown: ShownList,
+) -> Result<(), Memory>
+    requires { reading.text ≢ [] }
     ensures { Becomes (pick session.old reading shown) (after result session.new) }
 {
+    let reading = Headword::new(reading);
     if shown.len() == 0 {
-        return Err(PressFault::NotBuilt);
+        return register(session, alloc, Waiting::Reading(reading));
     }
     let picking = Picking::new(shown);
     session.put_state(State::Picking(Conversion { reading, picking }));

@@ -1,8 +1,9 @@
 ghost use Rattle.std.specs.Prelude.{◌≡◌, ◌==◌, nat_lt, false};
 ghost use Rattle.std.specs.Option.{option_map_or};
-ghost use Rattle.session_machine.specs.Session.{without_chars};
+ghost use Rattle.std.specs.Str.{chars};
+ghost use Rattle.session_machine.specs.Session.{fits_behind, without_chars};
 
-use crate::frame::{Choice, State};
+use crate::frame::{Choice, Frame, State};
 use crate::session::Session;
 use crate::session_notice::SessionNotice;
 use romaji_rules::Pending;
@@ -16,9 +17,9 @@ impl Session {
     ghost use Rattle.std.specs.Prelude.{◌≡◌, None, MatchOption, OnOk};
     ghost use Rattle.std.specs.Str.{chars};
     ghost use Rattle.skk_text.specs.Text.{byte_len};
-    ghost use Rattle.session_machine.specs.Session.{before_key, choice_at, has_room, noting, shortened, with_choice};
+    ghost use Rattle.session_machine.specs.Session.{before_key, choice_at, has_room, noting, shortened, telling};
     ghost use Rattle.session_machine.specs.declared.frame.State.TheVariants.{Plain};
-    ghost use Rattle.session_machine.specs.Session.{with_insertion, with_state};
+    ghost use Rattle.session_machine.specs.Session.{with_choice, with_frame, with_insertion, with_state};
 
     // Takes the state of the frame out, which is plain then, and the notice of the key before away.
     pub(crate) fn take_state(&mut self) -> State
@@ -53,6 +54,13 @@ impl Session {
         }
     }
 
+    // Puts another frame into the place of the one that takes the keys.
+    pub(crate) fn put_frame(&mut self, frame: Frame)
+        ensures { self.new ≡ with_frame self.old frame }
+    {
+        self.frame = frame;
+    }
+
     // Puts another state into the frame.
     pub(crate) fn put_state(&mut self, state: State)
         ensures { self.new ≡ with_state self.old state }
@@ -66,6 +74,16 @@ impl Session {
     {
         if notice != Notice::Empty {
             self.notice = SessionNotice::Step(notice);
+        }
+    }
+
+    // Tells what an answer tells, where it tells something.
+    pub(crate) fn tell(&mut self, notice: SessionNotice)
+        ensures { self.new ≡ telling self.old notice }
+    {
+        match notice {
+            SessionNotice::Step(notice) => self.note(notice),
+            notice => self.notice = notice,
         }
     }
 
@@ -98,7 +116,7 @@ impl Session {
     pub(crate) fn has_room(&self, piece: &str) -> bool
         ensures { result ≡ has_room self.now (chars piece.now) }
     {
-        piece.len() <= TEXT_LIMIT && self.frame.text.byte_len() <= TEXT_LIMIT - piece.len()
+        fits_behind(&self.frame.text, piece)
     }
 
     // Inserts a piece at the end of the frame's text, or notes that it does not fit.
@@ -111,6 +129,13 @@ impl Session {
         }
         self.frame.text.push_str(piece)
     }
+}
+
+// Whether a piece fits behind a text.
+pub(crate) fn fits_behind(text: &Text, piece: &str) -> bool
+    ensures { result ≡ fits_behind text.now (chars piece.now) }
+{
+    piece.len() <= TEXT_LIMIT && text.byte_len() <= TEXT_LIMIT - piece.len()
 }
 
 // Whether a text of so many bytes is shorter than it was behind a choice.

@@ -2,7 +2,7 @@ ghost use Rattle.std.specs.Prelude.{◌≡◌, ◌++◌, ◌∷◌, [], true, �
 ghost use Rattle.std.specs.List.{list_all};
 ghost use Rattle.skk_calls.specs.Dictionary.{is_plain_reading};
 ghost use Rattle.session_machine.specs.Converted.{first_word, first_words, number_look_up};
-ghost use Rattle.session_machine.specs.Said.{Asked, spoken};
+ghost use Rattle.session_machine.specs.Said.{Says, spoken};
 
 use crate::answered::found_by;
 use skk_calls::{Answer, Call, Caller, Cands, Part, Refusal, RowKey};
@@ -26,7 +26,7 @@ pub(crate) fn look_numbers_up<C: Caller>(
     caller: &mut C,
 ) -> Result<FirstWords, Memory>
     requires { list_all is_plain_reading numbers.now ≡ true }
-    ensures asked { Asked (first_words typist [] numbers.now) result
+    ensures asked { Says (first_words typist [] numbers.now) result
         (spoken C.number C.said caller.old) (spoken C.number C.said caller.new) }
     ensures count { IfOk result (λ first. (words : List (List ℕ)) → first ≡ FirstWords.Words words
         → length words ≡ length numbers.now) }

@@ -1,8 +1,14 @@
+ghost use Rattle.std.specs.Prelude.{◌≡◌, ◌≢◌, [], IfOk};
+ghost use Rattle.session_machine.specs.Registrations.{as_before, outside, waiting_reading, waiting_state, with_word};
+ghost use Rattle.session_machine.specs.Session.{new_frame};
+
+use crate::headword::Headword;
 use candidate_state::Picking;
 use reading_state::Reading;
 use romaji_rules::Pending;
 use skk_calls::Learned;
-use skk_text::{Mode, Text};
+use skk_text::{Memory, Mode, Text};
+use std::alloc::Global;
 
 /// A text that keys are typed into: the typist's line, or a word that is being registered.
 #[derive(Drop)]
@@ -29,7 +35,7 @@ pub enum State {
 #[derive(Drop)]
 pub struct Conversion {
     /// As it was when it was converted.
-    pub reading: Reading,
+    pub reading: Headword,
     pub picking: Picking,
 }
 
@@ -48,5 +54,97 @@ pub struct Choice {
     pub learned: Option<Learned>,
 }
 
-/// Frames, each inside the one before it.
-pub type Frames = skk_text::Sequence<Frame>;
+/// A frame outside a registration (辞書登録), which waits for the word of its reading.
+#[derive(Drop)]
+pub struct OuterFrame {
+    pub text: Text,
+    pub mode: Mode,
+    pub waiting: Waiting,
+    pub last_choice: Option<Choice>,
+}
+
+/// What a registration was opened for, and what stands there again where it is cancelled.
+#[derive(Drop)]
+pub enum Waiting {
+    /// ▽: no candidate was found for the reading.
+    Reading(Headword),
+    /// ▼: none of the candidates was chosen.
+    Picking(Conversion),
+}
+
+impl Frame {
+    // A new frame: hiragana mode, an empty text, and nothing chosen. Takes no memory.
+    pub(crate) fn new(alloc: Global) -> Frame
+        ensures { result ≡ new_frame }
+    {
+        Frame {
+            text: Text::new(alloc),
+            mode: Mode::Hira,
+            state: State::Plain(Pending::new()),
+            last_choice: None,
+        }
+    }
+
+    // The frame as it waits for a word. Its own state goes.
+    pub(crate) fn outside(self, waiting: Waiting) -> OuterFrame
+        ensures { result ≡ outside self waiting }
+    {
+        OuterFrame {
+            text: self.text,
+            mode: self.mode,
+            waiting,
+            last_choice: self.last_choice,
+        }
+    }
+}
+
+impl OuterFrame {
+    // The frame as it was before it waited.
+    pub(crate) fn as_before(self) -> Frame
+        ensures { result ≡ as_before self }
+    {
+        Frame {
+            text: self.text,
+            mode: self.mode,
+            state: self.waiting.into_state(),
+            last_choice: self.last_choice,
+        }
+    }
+
+    // The frame with the piece of its word inserted, for which it waits no more. Nothing is chosen last then.
+    pub(crate) fn with_word(self, piece: &Text) -> Result<Frame, Memory>
+        ensures { IfOk result (λ frame. frame ≡ with_word self piece.now) }
+    {
+        let mut text = self.text;
+        text.push_str(piece.as_str())?;
+        Ok(Frame {
+            text,
+            mode: self.mode,
+            state: State::Plain(Pending::new()),
+            last_choice: None,
+        })
+    }
+}
+
+impl Waiting {
+    // The reading that a word is waited for.
+    pub(crate) fn reading(&self) -> &Reading
+        ensures value { result.now ≡ waiting_reading self.now }
+        ensures some { (waiting_reading self.now).text ≢ [] }
+    {
+        match self {
+            Waiting::Reading(reading) => reading.reading(),
+            Waiting::Picking(conversion) => conversion.reading.reading(),
+        }
+    }
+
+    // The state that stands there once no word is waited for.
+    pub(crate) fn into_state(self) -> State
+        ensures { result ≡ waiting_state self }
+    {
+        match self {
+            Waiting::Reading(reading) => State::Reading(reading.into_reading()),
+            Waiting::Picking(conversion) => State::Picking(conversion),
+        }
+    }
+}

@@ -1,6 +1,6 @@
 ghost use Rattle.std.specs.Prelude.{◌≡◌, ◌++◌, IfOk};
 ghost use Rattle.skk_text.specs.Modes.{in_kana_of};
-ghost use Rattle.session_machine.specs.Pressed.{kana_begun};
+ghost use Rattle.session_machine.specs.ReadingParts.{kana_begun};
 
 use reading_state::Reading;
 use skk_text::{Copies, Memory, Mode, Text, to_katakana};

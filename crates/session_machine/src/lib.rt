@@ -2,7 +2,8 @@
 //!
 //! It stands on the plain state, the reading state ▽ and the candidate state ▼, each in a crate of its own, and does
 //! what they ask for: it inserts, opens and closes readings, looks them up with a `Caller`, shows the candidates,
-//! learns the one that is chosen or purges it, and takes the last choice back. What a key means is a tree of questions
+//! learns the one that is chosen or purges it, and takes the last choice back; and where no word is found, or none is
+//! chosen, it opens a registration, whose text is learnt and inserted outside. What a key means is a tree of questions
 //! (`pressed` in the specs): it ends with the session after the key, or makes a call and goes on by the answer.
 //! `Session::press` promises that the session is the one that the tree comes to by the answers that its caller gave,
 //! and that the calls it made are those that the tree asks, none more. `printing` shows a session as it is printed.
@@ -17,17 +18,22 @@ mod editing;
 mod escaping;
 mod first_words;
 mod frame;
+mod headword;
 mod kana;
 mod laws;
 mod opening;
 mod pressing;
 mod printing;
 mod purging;
+mod reading_parts;
+mod registering;
+mod returning;
 mod session;
 mod session_notice;
 mod undoing;
 
-pub use frame::{Choice, Conversion, Frame, Frames, State};
+pub use frame::{Choice, Conversion, Frame, OuterFrame, State, Waiting};
+pub use headword::Headword;
 pub use laws::texts_have_a_limit;
-pub use session::{PressFault, Session};
+pub use session::Session;
 pub use session_notice::SessionNotice;

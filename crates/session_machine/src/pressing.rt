@@ -8,9 +8,11 @@ use crate::choosing::choose;
 use crate::completing::complete;
 use crate::confirming::confirm;
 use crate::converting::convert;
-use crate::frame::{Conversion, State};
+use crate::frame::{Conversion, State, Waiting};
 use crate::purging::purge;
-use crate::session::{PressFault, Session};
+use crate::registering::{cancel, register};
+use crate::returning::put_return;
+use crate::session::Session;
 use crate::undoing::undo;
 use candidate_state::{AfterChoose, CandsDo, press_cands};
 use kana_input::{Plain, PlainDo, PlainThen, press_plain};
@@ -28,7 +30,7 @@ pub(crate) fn press_key<C: Caller>(
     rules: &Rules,
     key: Key,
     caller: &mut C,
-) -> Result<(), PressFault>
+) -> Result<(), Memory>
     ensures { Says (pressed rules.now session.old key) (after result session.new)
         (spoken C.number C.said caller.old) (spoken C.number C.said caller.new) }
 {
@@ -53,7 +55,7 @@ pub(crate) fn press_in_plain<C: Caller>(
     pending: Pending,
     key: Key,
     caller: &mut C,
-) -> Result<(), PressFault>
+) -> Result<(), Memory>
     ensures { Says (plain_pressed rules.now session.old pending key) (after result session.new)
         (spoken C.number C.said caller.old) (spoken C.number C.said caller.new) }
 {
@@ -90,20 +92,21 @@ fn apply_plain<C: Caller>(
     rules: &Rules,
     then: PlainThen,
     caller: &mut C,
-) -> Result<(), PressFault>
+) -> Result<(), Memory>
     ensures { Says (plain_effect rules.now session.old (then)) (after result session.new)
         (spoken C.number C.said caller.old) (spoken C.number C.said caller.new) }
 {
     match then {
-        PlainThen::Stay | PlainThen::Cancel => {}
+        PlainThen::Stay => {}
         PlainThen::DeleteLast => session.shorten(),
-        PlainThen::Newline => session.insert("\n")?,
+        PlainThen::Newline => return put_return(session, alloc, caller),
         PlainThen::OpenReading(None) => session.put_state(State::Reading(Reading::new(alloc))),
         PlainThen::OpenReading(Some(letter)) => {
             let key = Key::Char(letter);
             return press_in_reading(session, alloc, rules, Reading::new(alloc), key, caller);
         }
         PlainThen::OpenAbbrev => session.put_state(State::Reading(Reading::abbrev(alloc))),
+        PlainThen::Cancel => cancel(session),
         PlainThen::AskUndo => undo(session, alloc, caller),
     }
     Ok(())
@@ -118,7 +121,7 @@ fn press_in_reading<C: Caller>(
     reading: Reading,
     key: Key,
     caller: &mut C,
-) -> Result<(), PressFault>
+) -> Result<(), Memory>
     ensures { Says (reading_pressed rules.now session.old reading key) (after result session.new)
         (spoken C.number C.said caller.old) (spoken C.number C.said caller.new) }
 {
@@ -136,7 +139,7 @@ fn apply_reading<C: Caller>(
     reading: Reading,
     then: ReadingThen,
     caller: &mut C,
-) -> Result<(), PressFault>
+) -> Result<(), Memory>
     requires { then ≡ effects.Convert → reading.text ≢ [] }
     ensures { Says (reading_effect session.old reading (then)) (after result session.new)
         (spoken C.number C.said caller.old) (spoken C.number C.said caller.new) }
@@ -146,7 +149,9 @@ fn apply_reading<C: Caller>(
         ReadingThen::Convert => return convert(session, alloc, reading, caller),
         ReadingThen::AskCompletions => return complete(session, alloc, reading, caller),
         ReadingThen::Drop => {}
-        ReadingThen::Confirm { other, then } => confirm(session, alloc, reading, other, then)?,
+        ReadingThen::Confirm { other, then } => {
+            return confirm(session, alloc, reading, other, then, caller);
+        }
     }
     Ok(())
 }
@@ -160,7 +165,7 @@ fn press_in_picking<C: Caller>(
     conversion: Conversion,
     key: Key,
     caller: &mut C,
-) -> Result<(), PressFault>
+) -> Result<(), Memory>
     ensures { Says (picking_pressed rules.now session.old conversion key) (after result session.new)
         (spoken C.number C.said caller.old) (spoken C.number C.said caller.new) }
 {
@@ -188,7 +193,7 @@ fn apply_picking<C: Caller>(
     conversion: Conversion,
     done: CandsDo,
     caller: &mut C,
-) -> Result<(), PressFault>
+) -> Result<(), Memory>
     requires { (place : ℕ) (after : AfterChoose) → done ≡ CandsDo.Choose place after
         → place < length conversion.picking.shown }
     ensures { Says (picking_effect rules.now session.old conversion (done)) (after result session.new)
@@ -201,10 +206,10 @@ fn apply_picking<C: Caller>(
             Ok(())
         }
         CandsDo::Back => {
-            session.put_state(State::Reading(conversion.reading));
+            session.put_state(State::Reading(conversion.reading.into_reading()));
             Ok(())
         }
-        CandsDo::Register => Err(PressFault::NotBuilt),
+        CandsDo::Register => register(session, alloc, Waiting::Picking(conversion)),
         CandsDo::Purge => purge(session, alloc, conversion, caller),
         CandsDo::Choose { place, then } => {
             choose(session, alloc, rules, conversion, place, then, caller)

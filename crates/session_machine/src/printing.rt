@@ -1,6 +1,8 @@
 #![tactic(auto, using(crate::proofs::Forms::kept))]
 
-ghost use Rattle.std.specs.Prelude.{◌≡◌, ◌+◌, ◌-◌, ◌<◌, [], ◌∷◌, ◌++◌, OnOk, drop, length};
+ghost use Rattle.std.specs.Prelude.{◌≡◌, ◌+◌, ◌-◌, ◌<◌, ◌⊎◌, [], ◌∷◌, ◌++◌, OnOk, drop, length};
+ghost use Rattle.std.specs.List.{repeat};
+ghost use Rattle.std.specs.Option.{option_map_or};
 ghost use Rattle.std.specs.Fmt.{decimal};
 ghost use Rattle.std.specs.Io.{StartsWith};
 ghost use Rattle.std.specs.Str.{chars};
@@ -10,13 +12,15 @@ ghost use Rattle.skk_calls.specs.declared.answer.Refusal.TheVariants as refusals
 ghost use Rattle.candidate_state.specs.Picking.{page_size};
 ghost use Rattle.session_machine.specs.Display.{display, first_note, first_text, indicator, lettered, line, note_text};
 ghost use Rattle.session_machine.specs.Display.{notice, okuri_shown, page_letters, page_shown, picking_shown};
-ghost use Rattle.session_machine.specs.Display.{printed_form, question_shown, reading_shown, refusal_text};
+ghost use Rattle.session_machine.specs.Display.{printed_form, prompt, question_shown, reading_shown, refusal_text};
 ghost use Rattle.session_machine.specs.Display.{single_shown, state_note, state_shown, step_text};
-ghost use Rattle.session_machine.specs.Pressed.{kana_begun};
+ghost use Rattle.session_machine.specs.ReadingParts.{kana_begun};
+ghost use Rattle.session_machine.specs.Registrations.{innermost};
 
 use crate::escaping::push_printed;
-use crate::frame::{Conversion, State};
+use crate::frame::{Conversion, OuterFrame, State};
 use crate::kana::in_kana_of;
+use crate::reading_parts::registered_text;
 use crate::session::Session;
 use crate::session_notice::SessionNotice;
 use candidate_state::{Picking, Shown, ShownList};
@@ -51,9 +55,38 @@ pub(crate) fn push_display(alloc: Global, page: &mut Text, session: &Session) ->
     ensures ok { OnOk result (page.new ≡ page.old ++ display session.now) }
     ensures kept { StartsWith page.new page.old }
 {
+    push_prompt(alloc, page, &session.outer)?;
     let frame = &session.frame;
     push_printed(page, frame.text.last(SHOWN))?;
     push_state(alloc, page, frame.mode, &frame.state)
+}
+
+// Adds the prompt of the innermost registration, where there is one.
+fn push_prompt(alloc: Global, page: &mut Text, outer: &[OuterFrame]) -> Result<(), Memory>
+    ensures ok { OnOk result (page.new ≡ page.old
+        ++ printed_form (option_map_or (prompt (length outer.now)) (innermost outer.now) [])) }
+    ensures kept { StartsWith page.new page.old }
+{
+    let Some(frame) = outer.last() else {
+        return Ok(());
+    };
+    push_brackets(alloc, page, "[", outer.len())?;
+    page.push_str("辞書登録")?;
+    push_brackets(alloc, page, "]", outer.len())?;
+    page.push(' ')?;
+    let reading = frame.waiting.reading();
+    push_kana(alloc, page, frame.mode, &registered_text(alloc, reading)?)?;
+    push_okuri(alloc, page, frame.mode, reading)?;
+    page.push_str(": ")
+}
+
+// Adds a bracket so many times.
+#[tactic(auto, using(crate::proofs::Forms::kept, crate::proofs::Forms::chars_repeat))]
+fn push_brackets(alloc: Global, page: &mut Text, bracket: &str, times: usize) -> Result<(), Memory>
+    ensures ok { OnOk result (page.new ≡ page.old ++ printed_form (repeat times (chars bracket.now))) }
+    ensures kept { StartsWith page.new page.old }
+{
+    push_printed(page, bracket.repeat(alloc, times)?.as_str())
 }
 
 // Adds what is shown of a state.
@@ -153,7 +186,7 @@ fn push_single(
 {
     page.push('▼')?;
     push_printed(page, picked_cand(&conversion.picking).text.as_str())?;
-    push_begun(alloc, page, mode, &conversion.reading)?;
+    push_begun(alloc, page, mode, conversion.reading.reading())?;
     push_question(page, conversion.picking.is_asked())
 }
 
@@ -243,6 +276,7 @@ pub(crate) fn push_notice(page: &mut Text, session: &Session) -> Result<(), Memo
         SessionNotice::Overtaken(stamp) => push_numbered(page, "overtaken ", stamp),
         SessionNotice::TooBig(length) => push_numbered(page, "too-big ", length),
         SessionNotice::StampsEnd => page.push_str("stamps-end"),
+        SessionNotice::Depth => page.push_str("depth 8"),
     }
 }
 

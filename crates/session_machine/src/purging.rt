@@ -6,7 +6,7 @@ ghost use Rattle.session_machine.specs.Said.{Says, after, spoken};
 
 use crate::answered::{notice_of, says_purged};
 use crate::frame::{Conversion, State};
-use crate::session::{PressFault, Session};
+use crate::session::Session;
 use candidate_state::Shown;
 use skk_calls::{Answer, Call, Caller};
 use skk_text::{Copies, Memory};
@@ -19,8 +19,8 @@ pub(crate) fn purge<C: Caller>(
     alloc: Global,
     conversion: Conversion,
     caller: &mut C,
-) -> Result<(), PressFault>
-    ensures { Says (of_candidate conversion conversion.picking.place (purging session.old conversion))
+) -> Result<(), Memory>
+    ensures { Says (of_candidate session.old conversion conversion.picking.place (purging session.old conversion))
         (after result session.new) (spoken C.number C.said caller.old) (spoken C.number C.said caller.new) }
 {
     let shown = conversion

@@ -1,43 +1,21 @@
 use crate::escaping::push_printed;
-use crate::frame::{Frame, Frames, State};
+use crate::frame::{Frame, OuterFrame};
 use crate::pressing::press_key;
 use crate::printing::{push_display, push_line, push_notice};
 use crate::session_notice::SessionNotice;
-use romaji_rules::{Pending, Rules};
+use romaji_rules::Rules;
 use skk_calls::Caller;
 use skk_text::{Key, Memory, Mode, Notice, Text};
 use std::alloc::Global;
 use std::marker::Model;
-use thiserror::Error;
-
-/// Why a key was not taken.
-#[derive(Clone, Copy, Debug, PartialEq, Eq, Error)]
-pub enum PressFault {
-    /// What the key does is not built.
-    #[error("not built")]
-    NotBuilt,
-    /// Out of memory.
-    #[error("out of memory")]
-    Memory,
-}
-
-impl From<Memory> for PressFault {
-    ghost use Rattle.std.specs.Prelude.{◌≡◌};
-    ghost use Rattle.session_machine.specs.declared.session.PressFault.TheVariants as faults;
-
-    ghost from_gives = { λ _ fault. fault ≡ faults.Memory };
-
-    fn from(_memory: Memory) -> PressFault {
-        PressFault::Memory
-    }
-}
 
 /// A typist's session: a stack of frames, of which the innermost takes the keys.
 pub struct Session {
     pub(crate) typist: u16,
     pub(crate) book: u16,
     pub(crate) frame: Frame,
-    pub(crate) outer: Frames,
+    // The frames outside registrations, each inside the one before it.
+    pub(crate) outer: Vec<OuterFrame>,
     pub(crate) notice: SessionNotice,
 }
 
@@ -57,15 +35,14 @@ impl Drop for Session {
 
 impl Model for Session {
     ghost use Rattle.std.specs.Prelude.{◌≡◌, true};
-    ghost use Rattle.session_machine.specs.Session.{Session, is_session};
+    ghost use Rattle.session_machine.specs.Session.{Session, may_learn_in};
 
     ghost Value = { Session };
 
     ghost view = { λ s.
-        record { typist = s.typist; book = s.book; frame = s.frame; outer = s.outer; notice = s.notice } };
+        record { typist = s.typist; book = s.book; frame = s.frame; outer = s.outer.items; notice = s.notice } };
 
-    ghost invariant = { λ s. is_session
-        (record { typist = s.typist; book = s.book; frame = s.frame; outer = s.outer; notice = s.notice }) ≡ true };
+    ghost invariant = { λ s. may_learn_in s.typist s.book ≡ true };
 }
 
 impl Session {
@@ -81,29 +58,24 @@ impl Session {
         requires { (book ≡ 0) ⊎ (book ≡ typist) }
         ensures { result ≡ new_session typist book }
     {
-        let frame = Frame {
-            text: Text::new(alloc),
-            mode: Mode::Hira,
-            state: State::Plain(Pending::new()),
-            last_choice: None,
-        };
         Session {
             typist,
             book,
-            frame,
-            outer: Frames::new(alloc),
+            frame: Frame::new(alloc),
+            outer: Vec::new(alloc),
             notice: SessionNotice::Step(Notice::Empty),
         }
     }
 
-    /// Presses a key, and asks the caller what the key asks. After a fault the session is gone.
+    /// Presses a key, and asks the caller what the key asks. Where memory is out the session is gone, and
+    /// what was asked is the first of what the key asks.
     pub fn press<C: Caller>(
         self,
         alloc: Global,
         rules: &Rules,
         key: Key,
         caller: &mut C,
-    ) -> Result<Session, PressFault>
+    ) -> Result<Session, Memory>
         ensures { Says (pressed rules.now self key) result
             (spoken C.number C.said caller.old) (spoken C.number C.said caller.new) }
     {
@@ -112,14 +84,15 @@ impl Session {
         Ok(session)
     }
 
-    /// Presses the keys in order. After a fault the session is gone.
+    /// Presses the keys in order. Where memory is out the session is gone, and
+    /// what was asked is the first of what the key asks.
     pub fn play<C: Caller>(
         self,
         alloc: Global,
         rules: &Rules,
         keys: &[Key],
         caller: &mut C,
-    ) -> Result<Session, PressFault>
+    ) -> Result<Session, Memory>
         ensures { Says (all_pressed rules.now self keys.now) result
             (spoken C.number C.said caller.old) (spoken C.number C.said caller.new) }
     {
@@ -144,7 +117,7 @@ impl Session {
         if self.outer.is_empty() {
             return &self.frame.text;
         }
-        &self.outer.at(0).text
+        &self.outer[0].text
     }
 
     /// What is shown of the session, as it is printed: the last 64 characters of the text of the frame that takes the

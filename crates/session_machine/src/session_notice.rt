@@ -21,4 +21,6 @@ pub enum SessionNotice {
     TooBig(u64),
     /// The book's count has no further number: nothing was changed.
     StampsEnd,
+    /// As many registrations are open as there may be: none was opened.
+    Depth,
 }

@@ -7,7 +7,7 @@ use Rattle.std.specs.Fmt.{digits}
 use Rattle.skk_outside.specs.declared.source.ReadFault.TheVariants as reading
 use Rattle.skk_text.specs.declared.text_file.TextFault.TheVariants as texts
 use Rattle.skk_text.specs.declared.key.Key.{Key}
-use Rattle.skk_text.specs.declared.key.Key.TheVariants.{Char, Undo}
+use Rattle.skk_text.specs.declared.key.Key.TheVariants.{Char, Ret, Undo}
 use Rattle.romaji_rules.specs.declared.rule.Rule.{Rule}
 use Rattle.romaji_rules.specs.declared.rule_fault.RuleFault.TheVariants as rules
 use Rattle.romaji_rules.specs.Standard.{rule}
@@ -15,21 +15,20 @@ use Rattle.skk_text.specs.Lines.{lines_of}
 use Rattle.skk_calls.specs.declared.answer.Answer.{Answer}
 use Rattle.skk_calls.specs.declared.answer.Answer.TheVariants as answers
 use Rattle.skk_calls.specs.declared.answer.Refusal.TheVariants as refusals
-use Rattle.skk_calls.specs.declared.answer.Reply.TheVariants.{Found}
+use Rattle.skk_calls.specs.declared.answer.Reply.TheVariants.{Found, Learned}
 use Rattle.skk_calls.specs.declared.call.Call.{Call}
-use Rattle.skk_calls.specs.declared.call.Call.TheVariants.{Lookup}
+use Rattle.skk_calls.specs.declared.call.Call.TheVariants.{Lookup, Learn}
 use Rattle.skk_calls.specs.declared.part.Part.TheVariants.{Nasi}
 use Rattle.skk_calls.specs.Openings.{fresh_opening}
 use Rattle.skk_calls.specs.Interactions.{printed, asked, end_of, printed_alone}
 use Rattle.skk_calls.specs.Rows.{RowKey, Cand, Row}
 use Rattle.skk_calls.specs.States.{empty_state}
-use Rattle.session_machine.specs.declared.session.PressFault.TheVariants as pressing
 use Rattle.session_machine.specs.Session.{Session, new_session}
 use Rattle.skk_top.specs.Printing.{output_line, closing_line}
 use Rattle.skk_top.specs.Script.{IsSession, IsTypist, script_limit, session_of, with_said, opens_well}
 use Rattle.skk_top.specs.Sessions.{session_at, session_or_new, with_session}
 use Rattle.skk_top.specs.RunRules.{fault_of_rules}
-use Rattle.skk_top.specs.Status.{message_of, run_status, run_message, end_unless_refused, fault_of_press, fault_of_read}
+use Rattle.skk_top.specs.Status.{message_of, run_status, run_message, end_unless_refused, fault_of_read}
 use Rattle.skk_top.specs.Status.{fault_of_text, fault_of_script}
 use Rattle.skk_top.specs.Typed.{typing, typed_alone}
 use Rattle.skk_top.specs.declared.fault.RunFault.TheVariants.{Words, Refused, Outside, Memory, NotBuilt}
@@ -74,31 +73,69 @@ three_sessions : printed (typing table [] (Keys 3 (letters "a") ∷ Keys 1 (lett
 unfolding encode digits
 three_sessions = refl
 
--- a script with a key that is not built in its middle: a conversion that finds nothing
-abbrev stopped : List lines.Line
-stopped = Keys 1 (letters "a") ∷ Keys 1 (letters "aKa ") ∷ Keys 1 (letters "a") ∷ []
+-- of no lines nothing is printed, and lines that ask nothing end by no answer alone
+without_lines : printed (typing table [] []) [] ≡ []
+without_lines = refl
 
-abbrev nothing_found : List Answer
-nothing_found = answers.Done (Found []) ∷ []
-
--- what is printed before it
-typed_so_far : map (λ lines. printed (typing table [] lines) nothing_found) ([] ∷ stopped ∷ [])
-    ≡ [] ∷ fields "1" "かな" "あ" "" ∷ []
-unfolding encode digits
-typed_so_far = refl
-
-ended_or_not : map (λ (run : List lines.Line × List Answer). end_of (typing table [] run.0) run.1)
-    (([], []) ∷ (Opening 1 1 0 ∷ Keys 2 (letters "aq") ∷ [], []) ∷ (stopped, nothing_found) ∷ (stopped, [])
-    ∷ (Keys 1 (letters "Ka ") ∷ [], [])
-    ∷ [])
-    ≡ Some true ∷ Some true ∷ Some false ∷ None ∷ None ∷ []
+without_calls : map (λ (run : List lines.Line × List Answer). end_of (typing table [] run.0) run.1)
+    (([], []) ∷ (Opening 1 1 0 ∷ Keys 2 (letters "aq") ∷ [], []) ∷ ([], answers.Done (Found []) ∷ []) ∷ [])
+    ≡ Some tt ∷ Some tt ∷ None ∷ []
 unfolding encode
-ended_or_not = refl
+without_calls = refl
 
--- two candidates of one key, in one system file
+-- a key
 abbrev key : RowKey
 key = record { part = Nasi; reading = codes "か" }
 
+-- a script in which a conversion finds nothing: a word is typed over its lines, among those of another session, and a
+-- return ends it
+abbrev registering : List lines.Line
+registering = Keys 1 (letters "aKa ") ∷ Keys 2 (letters "a") ∷ Keys 1 (letters "ka") ∷ Keys 1 (Ret ∷ []) ∷ []
+
+abbrev nothing_found : Answer
+nothing_found = answers.Done (Found [])
+
+abbrev learned : Answer
+learned = answers.Done (Learned (record { book = 1; key = key; stamp = 1; before = None }))
+
+-- what is printed before the word is learnt, and the rest, by how that is answered
+abbrev word_typed : List ℕ
+word_typed =
+    fields "1" "かな" "[辞書登録] か: " "" ++ fields "2" "かな" "あ" "" ++ fields "1" "かな" "[辞書登録] か: か" ""
+
+abbrev word_ended : String → List ℕ
+word_ended notice = fields "1" "かな" "あか" notice ++ codes "1=あか" ++ 10 ∷ codes "2=あ" ++ 10 ∷ []
+
+registered : map (λ told_answers. printed (typing table [] registering) told_answers)
+    ([] ∷ (nothing_found ∷ []) ∷ (nothing_found ∷ learned ∷ [])
+    ∷ (nothing_found ∷ answers.Refused refusals.Memory ∷ []) ∷ [])
+    ≡ [] ∷ word_typed ∷ (word_typed ++ word_ended "") ∷ (word_typed ++ word_ended "refused memory") ∷ []
+unfolding encode digits
+registered = refl
+
+-- the look-up, and then the word, are all that it asks
+registered_by : (asked (typing table [] registering) (nothing_found ∷ learned ∷ [])
+    ≡ Lookup 1 key None ∷ Learn 1 key None (record { word = codes "か"; note = [] }) ∷ [])
+    × (map (λ told_answers. end_of (typing table [] registering) told_answers)
+    ([] ∷ (nothing_found ∷ []) ∷ (nothing_found ∷ learned ∷ []) ∷ (nothing_found ∷ learned ∷ learned ∷ []) ∷ [])
+    ≡ None ∷ None ∷ Some tt ∷ None ∷ [])
+unfolding encode
+registered_by = (refl, refl)
+
+-- a script that ends in a registration has its outer text at its end
+left_open : printed (typing table [] (Keys 1 (letters "aKa ") ∷ Keys 1 (letters "a") ∷ [])) (nothing_found ∷ [])
+    ≡ fields "1" "かな" "[辞書登録] か: " "" ++ fields "1" "かな" "[辞書登録] か: あ" "" ++ codes "1=あ" ++ 10 ∷ []
+unfolding encode digits
+left_open = refl
+
+-- where the dictionary of one thread answers, a word is found once it was typed
+found_again : printed_alone [] empty_state
+    (typing table [] (Keys 1 (letters "Ka ") ∷ Keys 1 (letters "a" ++ Ret ∷ letters "Ka ") ∷ []))
+    ≡ fields "1" "かな" "[辞書登録] か: " "" ++ fields "1" "かな" "あ▼あ" "" ++ codes "1=あ" ++ 10 ∷ []
+unfolding encode digits
+found_again = refl
+
+-- two candidates of the key, in one system file
 abbrev cands : List Cand
 cands = record { word = codes "蚊"; note = [] } ∷ record { word = codes "可"; note = codes "能" } ∷ []
 
@@ -141,7 +178,7 @@ called = refl
 
 came_to_its_end : map (λ told_answers. end_of (typing table [] script) told_answers)
     ([] ∷ (found ∷ []) ∷ (refused ∷ []) ∷ (refused ∷ found ∷ []) ∷ (found ∷ found ∷ []) ∷ [])
-    ≡ None ∷ Some true ∷ None ∷ Some true ∷ None ∷ []
+    ≡ None ∷ Some tt ∷ None ∷ Some tt ∷ None ∷ []
 unfolding encode
 came_to_its_end = refl
 
@@ -230,8 +267,7 @@ ended_with_refusals : (map (end_unless_refused (Ok tt)) (false ∷ true ∷ []) 
     × (map (end_unless_refused (Err NotBuilt)) (false ∷ true ∷ []) ≡ Err NotBuilt ∷ Err NotBuilt ∷ [])
 ended_with_refusals = (refl, refl)
 
-handed_faults : (map fault_of_press (pressing.NotBuilt ∷ pressing.Memory ∷ []) ≡ NotBuilt ∷ Memory ∷ [])
-    × (map (fault_of_read Rules) (reading.TooLong ∷ reading.Failed ∷ reading.Memory ∷ [])
+handed_faults : (map (fault_of_read Rules) (reading.TooLong ∷ reading.Failed ∷ reading.Memory ∷ [])
     ≡ Refused Rules TooLong ∷ Outside ∷ Memory ∷ [])
     × (map (fault_of_text (Dictionary 2)) (texts.TooLong 9 ∷ texts.NotUtf8 7 ∷ [])
     ≡ Refused (Dictionary 2) TooLong ∷ Refused (Dictionary 2) (Byte 7) ∷ [])
@@ -240,4 +276,4 @@ handed_faults : (map fault_of_press (pressing.NotBuilt ∷ pressing.Memory ∷ [
     ∷ rules.Twice 4 ∷ rules.BadNext 5 ∷ rules.Memory ∷ [])
     ≡ Refused Rules TooLong ∷ Refused Rules (Byte 7) ∷ Refused Rules (Line 3) ∷ Refused Rules (Line 4)
     ∷ Refused Rules (Line 5) ∷ Memory ∷ [])
-handed_faults = (refl, refl, refl, refl, refl)
+handed_faults = (refl, refl, refl, refl)

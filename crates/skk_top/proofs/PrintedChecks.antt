@@ -1,6 +1,6 @@
 -- What the printing of a checked file leaves, by how it ends.
 use Rattle.std.proofs.Common.{◌≡◌, ◌≤◌, ◌<◌, ◌+◌, ◌++◌, ◌∙◌, [], ap, sym, subst, ℕ, Option, Some, None, List}
-use Rattle.std.proofs.Common.{append_assoc, length, drop, get_or, Result, Ok, Err, OnOk, OnErr, IsErrAnd, rules, arith}
+use Rattle.std.proofs.Common.{append_assoc, length, drop, get_or, Ok, Err, IsErrAnd, rules, arith}
 use Rattle.std.proofs.lemmas.List.{append-nil, at_drop_more}
 use Rattle.std.specs.Io.KnownBytes.{Appends, Keeps}
 use Rattle.skk_outside.specs.Moved.{MovedSink}
@@ -11,7 +11,7 @@ use Rattle.skk_top.specs.Page.{Printed, LeavesPrinted, StopsPrinting}
 use Rattle.skk_top.specs.Status.{Ended}
 use Rattle.skk_top.specs.declared.fault.RunFault.{RunFault}
 use Rattle.skk_top.specs.declared.fault.RunFault.TheVariants.{Outside, Memory}
-use Rattle.skk_top.proofs.Pages.{AppendsPrefix-whole, Printed-more, Printed-rest}
+use Rattle.skk_top.proofs.Pages.{Printed-more, Printed-rest}
 
 -- the line of the bad line at a place goes to the page
 pub printed-bad_line : (lines : List BadLine) (place : ℕ) (none : BadLine) (old new : Option (List ℕ))
@@ -68,9 +68,3 @@ pub stops-behind : (fault : RunFault) (old mid new : Option (List ℕ)) (faults 
 stops-behind Outside old mid new faults middle faults' counted rose = omega (arith, counted, rose)
 stops-behind Memory old mid new faults middle faults' counted out = tt
 stops-behind fault old mid new faults middle faults' counted none = absurd none
-
--- all or a prefix of it was written
-pub prefix-of : {T E : Type 0} (ended : Result T E) (old new : Option (List ℕ)) (whole : List ℕ)
-    → OnOk ended (Appends old new whole) → OnErr ended (AppendsPrefix old new whole) → AppendsPrefix old new whole
-prefix-of (Ok done) old new whole ok err = AppendsPrefix-whole old new whole ok
-prefix-of (Err fault) old new whole ok err = err

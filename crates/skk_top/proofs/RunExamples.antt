@@ -1,9 +1,8 @@
 -- Why runs end, at small examples, each worked out by hand.
-use Rattle.std.proofs.Common.{◌≡◌, ℕ, None, Some, true, false, List, [], ◌∷◌, refl}
+use Rattle.std.proofs.Common.{◌≡◌, ℕ, None, Some, List, [], ◌∷◌, refl}
 use Rattle.std.proofs.Common.{length, arith, lit≤}
 use Rattle.skk_text.specs.Lines.{lines_of}
 use Rattle.skk_outside.specs.Moved.{MovedShelf, MovedSource, MovedSink}
-use Rattle.skk_calls.specs.Interactions.{ends}
 use Rattle.romaji_rules.specs.Standard.{standard}
 use Rattle.skk_top.specs.Dictionaries.{HasDictionaryFlaw, IsFirst, RefusesDictionaries, AreRowsOf}
 use Rattle.skk_top.specs.Finishes.{HasFailed}
@@ -11,8 +10,7 @@ use Rattle.skk_top.specs.Page.{StopsPrinting}
 use Rattle.skk_top.specs.RunFiles.{HasTextFlaw, IsLonger, RefusesBytes, RefusesFile}
 use Rattle.skk_top.specs.RunRules.{AreRules, HasRulesFlaw, IsNamed, RefusesRules}
 use Rattle.skk_top.specs.Script.{IsFirstBad}
-use Rattle.skk_top.specs.TypeCommand.{HasScriptFlaw, RefusesFiles, StopsTyping}
-use Rattle.skk_top.specs.Typing.{BreaksFor}
+use Rattle.skk_top.specs.TypeCommand.{HasScriptFlaw, RefusesFiles}
 use Rattle.skk_top.proofs.Dictionaries.{are_dictionaries}
 use Rattle.skk_top.specs.declared.fault.RunFault.TheVariants.{Words, Refused, Outside, Memory, NotBuilt}
 use Rattle.skk_top.specs.declared.run_file.Flaw.TheVariants.{TooLong, Byte, Line}
@@ -124,23 +122,11 @@ failed = record { written = None; written' = None; faults = 2; faults' = 3 }
 abbrev sound : MovedSink
 sound = record { written = None; written' = None; faults = 3; faults' = 3 }
 
--- typing stops at a key that is not built, for a call that failed, or for want of memory
-stops : StopsTyping (ends false) [] sound NotBuilt × (¬ StopsTyping (ends true) [] sound NotBuilt)
-    × StopsTyping (ends true) [] failed Outside × (¬ StopsTyping (ends true) [] sound Outside)
-    × StopsTyping (ends true) [] sound Memory
-    × (¬ StopsTyping (ends false) [] failed Words) × (¬ StopsTyping (ends false) [] failed (Refused Script TooLong))
-stops = (refl, λ e. cc (e), lit≤ tt, λ rose. omega (arith, rose), tt, λ none. none, λ none. none)
-
--- the typing of lines breaks off for the same causes
-breaks : BreaksFor (ends true) [] [] failed [] Outside × (¬ BreaksFor (ends true) [] [] sound [] Outside)
-    × BreaksFor (ends true) [] [] sound [] Memory
-    × (¬ BreaksFor (ends false) [] [] failed [] Words)
-    × (¬ BreaksFor (ends false) [] [] failed [] (Refused Script TooLong))
-breaks = (lit≤ tt, λ rose. omega (arith, rose), tt, λ none. none, λ none. none)
-
+-- printing stops for a call that failed, or for want of memory, and for nothing else
 printing_stops : StopsPrinting failed Outside × (¬ StopsPrinting sound Outside) × StopsPrinting sound Memory
+    × (¬ StopsPrinting failed Words) × (¬ StopsPrinting failed (Refused Script TooLong))
     × (¬ StopsPrinting failed NotBuilt)
-printing_stops = (lit≤ tt, λ rose. omega (arith, rose), tt, λ none. none)
+printing_stops = (lit≤ tt, λ rose. omega (arith, rose), tt, λ none. none, λ none. none, λ none. none)
 
 -- each of the three may have failed
 abbrev shelf : ℕ → MovedShelf

@@ -46,7 +46,7 @@ printed-alone : (opening : Opening) (rules : List Rule) (lines : List Line) (chr
     → Appends out.written out.written' (typed_alone opening rules lines)
 printed-alone opening rules lines chronicle out asks prints alone =
     subst (λ text. Appends out.written out.written' (encode_utf8_all text))
-    (printed-answered_alone (typing rules [] lines) (said_in chronicle 0) true opening.files opening.state asks
+    (printed-answered_alone (typing rules [] lines) (said_in chronicle 0) tt opening.files opening.state asks
     prints.taken alone) prints.whole
 
 -- lines that were typed by a caller, which is closed then

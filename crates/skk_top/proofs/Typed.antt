@@ -1,5 +1,5 @@
 -- How far the typing of lines has come, and what it leaves, by how it ends.
-use Rattle.std.proofs.Common.{◌≡◌, ◌<◌, ◌+◌, ◌∙◌, ap, sym, subst, ℕ, Bool, true, false, List, [], ◌∷◌, ◌++◌}
+use Rattle.std.proofs.Common.{◌≡◌, ◌<◌, ◌+◌, ◌∙◌, ap, sym, subst, ℕ, List, [], ◌∷◌, ◌++◌}
 use Rattle.std.proofs.Common.{append_assoc, length, drop, get_or, Ok, Err, IsErrAnd, encode_utf8_all, rules, refl}
 use Rattle.std.proofs.lemmas.List.{append-nil, at_drop_more}
 use Rattle.std.proofs.lemmas.Str.{encodes-append}
@@ -8,15 +8,13 @@ use Rattle.skk_outside.specs.Moved.{Told, MovedSink}
 use Rattle.skk_outside.specs.Written.{AppendsPrefix}
 use Rattle.romaji_rules.specs.declared.rule.Rule.{Rule}
 use Rattle.skk_calls.specs.InteractionLaws.{leads-on, leads-prints, led-asked, led-end, led-printed}
-use Rattle.skk_calls.specs.Interactions.{Interaction, ends, printed, Dialog, Leads, here, answers_of}
+use Rattle.skk_calls.specs.Interactions.{ends, printed, Dialog, Leads, here, answers_of}
 use Rattle.skk_top.specs.Page.{Printed, StopsPrinting}
 use Rattle.skk_top.specs.Sessions.{SessionMap}
 use Rattle.skk_top.specs.Status.{Ended}
-use Rattle.skk_top.specs.TypeCommand.{StopsTyping}
-use Rattle.skk_top.specs.Typed.{typing, closing_lines}
-use Rattle.skk_top.specs.Typing.{Reaches, Breaks, BreaksFor, LeavesLines}
+use Rattle.skk_top.specs.Typed.{Asking, typing, closing_lines}
+use Rattle.skk_top.specs.Typing.{Reaches, Breaks, LeavesLines}
 use Rattle.skk_top.specs.declared.fault.RunFault.{RunFault}
-use Rattle.skk_top.specs.declared.fault.RunFault.TheVariants.{Outside, Memory, NotBuilt}
 use Rattle.skk_top.specs.declared.line.Line.{Line}
 use Rattle.skk_top.proofs.Pages.{Appends-none, AppendsPrefix-more, AppendsPrefix-whole, Printed-prefix}
 use Rattle.skk_top.proofs.Pages.{Printed-prefix_of_page, Printed-whole, Printed-written}
@@ -33,7 +31,7 @@ at-line F lines place line within is =
     at_drop_more F lines place line within ∙ ap (λ l. F (l ∷ drop (place + 1) lines)) (sym is)
 
 -- at the start nothing was said or printed
-pub reaches-start : (from : Interaction Bool) (said : Dialog) (page : List ℕ) {old : Told} {faults faults' : ℕ}
+pub reaches-start : (from : Asking) (said : Dialog) (page : List ℕ) {old : Told} {faults faults' : ℕ}
     → page ≡ [] → Reaches from from said said (sink old old faults faults') page
 reaches-start from said page {old = old} empty = record {
   dialog = [];
@@ -44,18 +42,18 @@ reaches-start from said page {old = old} empty = record {
 }
 
 -- the lines left begin with the one at its place
-pub reaches-next : {from : Interaction Bool} {said said' : Dialog} {out : MovedSink} {page : List ℕ} (table : List Rule)
+pub reaches-next : {from : Asking} {said said' : Dialog} {out : MovedSink} {page : List ℕ} (table : List Rule)
     (sessions : SessionMap) (lines : List Line) (place : ℕ) (line : Line)
     → place < length lines → line ≡ get_or lines place line
     → Reaches from (typing table sessions (drop place lines)) said said' out page
     → Reaches from (typing table sessions (line ∷ drop (place + 1) lines)) said said' out page
 reaches-next {from = from} {said = said} {said' = said'} {out = out} {page = page} table sessions lines place line
     within is reached =
-    subst (λ (i : Interaction Bool). Reaches from i said said' out page)
+    subst (λ (i : Asking). Reaches from i said said' out page)
     (at-line (typing table sessions) lines place line within is) reached
 
 -- a way more, whose text goes to the page
-pub reaches-pushed : {from middle to : Interaction Bool} {said said' : Dialog} {out : MovedSink} {page : List ℕ}
+pub reaches-pushed : {from middle to : Asking} {said said' : Dialog} {out : MovedSink} {page : List ℕ}
     → Reaches from middle said said' out page
     → (said'' dialog : Dialog) (text page' : List ℕ) → said'' ≡ said' ++ dialog → Leads middle dialog text to
     → page' ≡ page ++ text → Reaches from to said said'' out page'
@@ -68,7 +66,7 @@ reaches-pushed {said = said} {out = out} {page = page} reached said'' dialog tex
 }
 
 -- a way more, on which nothing is printed
-pub reaches-said : {from middle to : Interaction Bool} {said said' : Dialog} {out : MovedSink} {page : List ℕ}
+pub reaches-said : {from middle to : Asking} {said said' : Dialog} {out : MovedSink} {page : List ℕ}
     → Reaches from middle said said' out page
     → (said'' dialog : Dialog) → said'' ≡ said' ++ dialog → Leads middle dialog [] to
     → Reaches from to said said'' out page
@@ -76,16 +74,16 @@ reaches-said {page = page} reached said'' dialog grows leads =
     reaches-pushed reached said'' dialog [] page grows leads (sym (append-nil page))
 
 -- the closing lines go to the page, and then all is typed
-pub reaches-closed : {from : Interaction Bool} {said said' : Dialog} {out : MovedSink} {page : List ℕ}
+pub reaches-closed : {from : Asking} {said said' : Dialog} {out : MovedSink} {page : List ℕ}
     (table : List Rule) (sessions : SessionMap)
     → Reaches from (typing table sessions []) said said' out page
-    → Reaches from (ends true) said said' out (page ++ closing_lines sessions)
+    → Reaches from (ends tt) said said' out (page ++ closing_lines sessions)
 reaches-closed {said' = said'} {page = page} table sessions reached =
     reaches-pushed reached said' [] (closing_lines sessions) (page ++ closing_lines sessions) (sym (append-nil said'))
     (leads-prints (closing_lines sessions) (here _)) refl
 
 -- what was printed on a way is printed by its answers
-along : {from to : Interaction Bool} {dialog : Dialog} {text : List ℕ} (old new : Told) → Leads from dialog text to
+along : {from to : Asking} {dialog : Dialog} {text : List ℕ} (old new : Told) → Leads from dialog text to
     → AppendsPrefix old new (encode_utf8_all text)
     → AppendsPrefix old new (encode_utf8_all (printed from (answers_of dialog)))
 along {to = to} {text = text} old new leads front =
@@ -93,7 +91,7 @@ along {to = to} {text = text} old new leads front =
     (AppendsPrefix-more old new (encode_utf8_all text) (encode_utf8_all (printed to [])) front)
 
 -- a way breaks off where it came to
-pub breaks-reached : {from to : Interaction Bool} {said said' : Dialog} {out : MovedSink} {page : List ℕ}
+pub breaks-reached : {from to : Asking} {said said' : Dialog} {out : MovedSink} {page : List ℕ}
     → Reaches from to said said' out page → Breaks from said said' out
 breaks-reached {out = out} {page = page} reached = record {
   dialog = reached.dialog;
@@ -105,7 +103,7 @@ breaks-reached {out = out} {page = page} reached = record {
 }
 
 -- some of the page is written
-pub reaches-written : {from to : Interaction Bool} {said said' : Dialog} {old mid : Told} {page : List ℕ}
+pub reaches-written : {from to : Asking} {said said' : Dialog} {old mid : Told} {page : List ℕ}
     {faults middle : ℕ} (faults' : ℕ) → Reaches from to said said' (sink old mid faults middle) page
     → (new : Told) (left : List ℕ) → Printed mid new left [] page
     → Reaches from to said said' (sink old new faults faults') left
@@ -118,7 +116,7 @@ reaches-written {old = old} {mid = mid} {page = page} faults' reached new left w
 }
 
 -- what was written so far, where a prefix of the page is written as well
-front-written : {from to : Interaction Bool} {said said' : Dialog} {old mid : Told} {page : List ℕ} {faults middle : ℕ}
+front-written : {from to : Asking} {said said' : Dialog} {old mid : Told} {page : List ℕ} {faults middle : ℕ}
     (reached : Reaches from to said said' (sink old mid faults middle) page)
     → (new : Told) → AppendsPrefix mid new (encode_utf8_all page)
     → AppendsPrefix old new (encode_utf8_all (printed from (answers_of reached.dialog)))
@@ -126,7 +124,7 @@ front-written {old = old} {mid = mid} {page = page} reached new front =
     along old new reached.leads (Printed-prefix_of_page old mid new page [] reached.text reached.printed front)
 
 -- a way breaks off where a write of its page fails
-pub breaks-unwritten : {from to : Interaction Bool} {said said' : Dialog} {old mid : Told} {page : List ℕ}
+pub breaks-unwritten : {from to : Asking} {said said' : Dialog} {old mid : Told} {page : List ℕ}
     {faults middle : ℕ} (faults' : ℕ) → Reaches from to said said' (sink old mid faults middle) page
     → (new : Told) → AppendsPrefix mid new (encode_utf8_all page) → Breaks from said said' (sink old new faults faults')
 breaks-unwritten faults' reached new front = record {
@@ -138,12 +136,12 @@ breaks-unwritten faults' reached new front = record {
 
 -- What is left then
 
--- with a fault that no key gave
-pub leaves-broken : {from : Interaction Bool} {said said' : Dialog} {out : MovedSink} (ended : Ended) (fault : RunFault)
+-- with a fault
+pub leaves-broken : {from : Asking} {said said' : Dialog} {out : MovedSink} (ended : Ended) (fault : RunFault)
     → IsErrAnd ended (λ handed. handed ≡ fault)
     → Breaks from said said' out → StopsPrinting out fault → LeavesLines from ended said said' out
 leaves-broken (Ok done) fault is breaks stops = absurd (search (rules, is))
-leaves-broken {from = from} {out = out} (Err handed) fault is breaks stops = record {
+leaves-broken {out = out} (Err handed) fault is breaks stops = record {
   dialog = breaks.dialog;
   grows = breaks.grows;
   asks = breaks.asks;
@@ -151,52 +149,13 @@ leaves-broken {from = from} {out = out} (Err handed) fault is breaks stops = rec
     taken = tt;
     whole = tt;
     prefix = breaks.prefix;
-    stopped = subst (StopsTyping from (answers_of breaks.dialog) out) (sym is) (typing-stopped fault stops);
+    stopped = subst (StopsPrinting out) (sym is) stops;
   };
 }
-  where
-    typing-stopped : (fault : RunFault) → StopsPrinting out fault
-        → StopsTyping from (answers_of breaks.dialog) out fault
-    typing-stopped Outside stops = stops
-    typing-stopped Memory stops = tt
-    typing-stopped fault stops = absurd stops
-
--- at a key that is not built, whether the page is written or a write of it fails
-pub leaves-not_built : {from : Interaction Bool} {said said' : Dialog} {old mid : Told} {page : List ℕ}
-    {faults middle : ℕ} (faults' : ℕ) → Reaches from (ends false) said said' (sink old mid faults middle) page
-    → (new : Told) → AppendsPrefix mid new (encode_utf8_all page)
-    → LeavesLines from (Err NotBuilt) said said' (sink old new faults faults')
-leaves-not_built faults' reached new front = record {
-  dialog = reached.dialog;
-  grows = reached.grows;
-  asks = led-asked reached.leads;
-  prints = record { taken = tt; whole = tt; prefix = front-written reached new front; stopped = led-end reached.leads };
-}
-
--- with the cause for which the typing of lines broke off
-pub leaves-stopped : {from : Interaction Bool} {said said' : Dialog} {out : MovedSink} (page : List ℕ)
-    (fault : RunFault) → Breaks from said said' out
-    → BreaksFor from said said' out page fault → LeavesLines from (Err fault) said said' out
-leaves-stopped {out = out} page NotBuilt breaks reached = record {
-  dialog = reached.dialog;
-  grows = reached.grows;
-  asks = led-asked reached.leads;
-  prints = record {
-    taken = tt;
-    whole = tt;
-    prefix =
-        along out.written out.written' reached.leads
-        (Printed-prefix out.written out.written' page [] reached.text reached.printed);
-    stopped = led-end reached.leads;
-  };
-}
-leaves-stopped page Outside breaks rose = leaves-broken (Err Outside) Outside refl breaks rose
-leaves-stopped page Memory breaks lacks = leaves-broken (Err Memory) Memory refl breaks tt
-leaves-stopped page fault breaks none = absurd none
 
 -- with all of it written
-pub leaves-whole : {from : Interaction Bool} {said said' : Dialog} {old mid : Told} {page : List ℕ} {faults middle : ℕ}
-    (faults' : ℕ) → Reaches from (ends true) said said' (sink old mid faults middle) page
+pub leaves-whole : {from : Asking} {said said' : Dialog} {old mid : Told} {page : List ℕ} {faults middle : ℕ}
+    (faults' : ℕ) → Reaches from (ends tt) said said' (sink old mid faults middle) page
     → (new : Told) → Appends mid new (encode_utf8_all page)
     → LeavesLines from (Ok tt) said said' (sink old new faults faults')
 leaves-whole {from = from} {old = old} {mid = mid} {page = page} faults' reached new written =

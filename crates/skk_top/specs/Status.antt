@@ -10,8 +10,6 @@ use Rattle.skk_outside.specs.declared.source.ReadFault.TheVariants as reading
 use Rattle.skk_text.specs.Lines.{line_feed}
 use Rattle.skk_text.specs.declared.text_file.TextFault.{TextFault}
 use Rattle.skk_text.specs.declared.text_file.TextFault.TheVariants as texts
-use Rattle.session_machine.specs.declared.session.PressFault.{PressFault}
-use Rattle.session_machine.specs.declared.session.PressFault.TheVariants as pressing
 use Rattle.skk_top.specs.declared.script.ScriptFault.{ScriptFault}
 use Rattle.skk_top.specs.declared.script.ScriptFault.TheVariants as scripts
 use Rattle.skk_top.specs.declared.run_file.RunFile.{RunFile}
@@ -85,11 +83,6 @@ abbrev pub Tells : List ℕ → MovedSink → Type 0
 Tells message err =
     Appends err.written err.written' message
     ⊎ (AppendsPrefix err.written err.written' message × Rose err.faults err.faults')
-
--- what a fault of a key is for the run
-abbrev pub fault_of_press : PressFault → RunFault
-fault_of_press pressing.NotBuilt = NotBuilt
-fault_of_press pressing.Memory = Memory
 
 -- what a fault of reading a file is for the run
 abbrev pub fault_of_read : RunFile → ReadFault → RunFault

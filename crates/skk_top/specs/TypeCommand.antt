@@ -1,5 +1,5 @@
 -- What a run of `type` leaves.
-use Rattle.std.specs.Prelude.{◌≡◌, ◌⊎◌, ◌≤◌, ◌<◌, ⊤, ℕ, Bool, true, false, Some, Option, List, [], IfErr, IfSome, OnOk}
+use Rattle.std.specs.Prelude.{◌≡◌, ◌⊎◌, ◌≤◌, ◌<◌, ⊤, ℕ, true, Some, Option, List, [], IfErr, IfSome, OnOk}
 use Rattle.std.specs.Prelude.{length, map, encode_utf8_all}
 use Rattle.std.specs.Io.KnownBytes.{Appends, IsAtEnd, Keeps}
 use Rattle.std.specs.Option.{option_map}
@@ -10,20 +10,21 @@ use Rattle.romaji_rules.specs.declared.rule.Rule.{Rule}
 use Rattle.skk_calls.specs.declared.answer.Answer.{Answer}
 use Rattle.skk_calls.specs.declared.chronicle.Noted.{Noted}
 use Rattle.skk_calls.specs.Histories.{Opening}
-use Rattle.skk_calls.specs.Interactions.{Interaction, asked, printed, end_of, answers_of, calls_of}
+use Rattle.skk_calls.specs.Interactions.{asked, printed, end_of, answers_of, calls_of}
 use Rattle.skk_calls.specs.Openings.{fresh_opening, IsLegalOver, said_in, are_of_one, are_served, is_without_disk}
 use Rattle.skk_calls.specs.Rows.{Row}
 use Rattle.skk_text.specs.Lines.{lines_of}
 use Rattle.skk_top.specs.Dictionaries.{AreRowsOf, HasDictionaryFlaw, IsFirst}
 use Rattle.skk_top.specs.Finishes.{EndsUnbegun}
+use Rattle.skk_top.specs.Page.{StopsPrinting}
 use Rattle.skk_top.specs.RunFiles.{RefusesFile}
 use Rattle.skk_top.specs.RunRules.{AreRules, HasRulesFlaw, IsNamed}
 use Rattle.skk_top.specs.Script.{IsScript, IsFirstBad, script_limit}
 use Rattle.skk_top.specs.Status.{Ended}
-use Rattle.skk_top.specs.Typed.{typed_alone, typing}
+use Rattle.skk_top.specs.Typed.{Asking, typed_alone, typing}
 use Rattle.skk_top.specs.declared.command.TypeOptions.{TypeOptions}
 use Rattle.skk_top.specs.declared.fault.RunFault.{RunFault}
-use Rattle.skk_top.specs.declared.fault.RunFault.TheVariants.{Refused, Outside, Memory, NotBuilt}
+use Rattle.skk_top.specs.declared.fault.RunFault.TheVariants.{Refused, Outside, Memory}
 use Rattle.skk_top.specs.declared.finish.Run.{Run}
 use Rattle.skk_top.specs.declared.line.Line.{Line}
 use Rattle.skk_top.specs.declared.run_file.Flaw.{Flaw}
@@ -69,7 +70,7 @@ RefusesScript input = RefusesFile Script HasScriptFlaw input.left input.faults i
 
 -- a chronicle is legal over its opening; each entry is the one caller's; no disk took part, so each answer is a reply
 -- or a refusal for want of memory; and its calls are those that an interaction asks, each by the answers before it
-pub record KeepsChronicle (opening : Opening) (asking : Interaction Bool) (chronicle : List Noted) : Type 0 where
+pub record KeepsChronicle (opening : Opening) (asking : Asking) (chronicle : List Noted) : Type 0 where
   pub legal : IsLegalOver opening chronicle
   pub one : are_of_one chronicle ≡ true
   pub without_disk : is_without_disk opening chronicle ≡ true
@@ -77,20 +78,13 @@ pub record KeepsChronicle (opening : Opening) (asking : Interaction Bool) (chron
 
 -- What is printed
 
--- why the typing of what asks and prints stops, where its calls got these answers
-abbrev pub StopsTyping : Interaction Bool → List Answer → MovedSink → RunFault → Type 0
-StopsTyping asking answers out NotBuilt = end_of asking answers ≡ Some false
-StopsTyping asking answers out Outside = Rose out.faults out.faults'
-StopsTyping asking answers out Memory = ⊤
-StopsTyping asking answers out fault = ⊥
-
 -- what an interaction prints by these answers was written: all of it, up to its end, where the run is done, and else a
 -- prefix, with the cause
-pub record Prints (asking : Interaction Bool) (answers : List Answer) (ended : Ended) (out : MovedSink) : Type 0 where
-  pub taken : OnOk ended (end_of asking answers ≡ Some true)
+pub record Prints (asking : Asking) (answers : List Answer) (ended : Ended) (out : MovedSink) : Type 0 where
+  pub taken : OnOk ended (end_of asking answers ≡ Some tt)
   pub whole : OnOk ended (Appends out.written out.written' (encode_utf8_all (printed asking answers)))
   pub prefix : AppendsPrefix out.written out.written' (encode_utf8_all (printed asking answers))
-  pub stopped : IfErr ended (StopsTyping asking answers out)
+  pub stopped : IfErr ended (StopsPrinting out)
 
 -- what the typing of lines by some rules leaves; where it is done no call was refused, and what was printed is also
 -- what is printed where the dictionary of one thread answers

@@ -1,7 +1,6 @@
 -- What is asked and printed for the lines of a script.
-use Rattle.std.specs.Prelude.{ℕ, Bool, true, false, List, [], ◌∷◌, encode_utf8_all}
+use Rattle.std.specs.Prelude.{ℕ, List, [], ◌∷◌, encode_utf8_all}
 use Rattle.std.specs.List.{flat_map}
-use Rattle.std.specs.Option.{option_map_or}
 use Rattle.romaji_rules.specs.declared.rule.Rule.{Rule}
 use Rattle.skk_calls.specs.Histories as histories
 use Rattle.skk_calls.specs.Interactions.{Interaction, ends, prints, followed_by, printed_alone}
@@ -16,15 +15,17 @@ use Rattle.skk_top.specs.declared.line.Line.TheVariants.{Keys, Opening}
 abbrev pub closing_lines : SessionMap → List ℕ
 closing_lines sessions = flat_map (λ entry. closing_line entry.0 entry.1) sessions
 
+-- what is asked and printed, with nothing to tell at its end
+abbrev pub Asking : Type 0
+Asking = Interaction (Unit {0})
+
 -- what lines come to from these sessions on: what their keys ask, an output line behind each key line, and the closing
--- lines; it ends with whether each key is built, at the first that is not
-abbrev pub typing : List Rule → SessionMap → List Line → Interaction Bool
-typing rules sessions [] = prints (closing_lines sessions) (ends true)
+-- lines
+abbrev pub typing : List Rule → SessionMap → List Line → Asking
+typing rules sessions [] = prints (closing_lines sessions) (ends tt)
 typing rules sessions (Keys number ks ∷ lines) =
     followed_by (all_pressed rules (session_or_new sessions number) ks)
-    (λ next. option_map_or
     (λ session. prints (output_line number session) (typing rules (with_session sessions number session) lines))
-    next (ends false))
 typing rules sessions (Opening number typist book ∷ lines) =
     typing rules (with_session sessions number (new_session typist book)) lines
 

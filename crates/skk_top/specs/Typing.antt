@@ -1,19 +1,15 @@
 -- How far the typing of a line, and of lines, has come in what they come to.
-use Rattle.std.specs.Prelude.{◌≡◌, ⊤, ℕ, Bool, false, Result, List, [], ◌∷◌, ◌++◌, OnOk, IsErrOf, encode_utf8_all}
-use Rattle.skk_outside.specs.Faults.{Rose}
+use Rattle.std.specs.Prelude.{◌≡◌, ℕ, Result, List, [], ◌∷◌, ◌++◌, OnOk, OnErr, encode_utf8_all}
 use Rattle.skk_outside.specs.Moved.{MovedSink}
 use Rattle.skk_outside.specs.Written.{AppendsPrefix}
 use Rattle.romaji_rules.specs.declared.rule.Rule.{Rule}
-use Rattle.skk_calls.specs.Interactions.{Interaction, ends, printed, asked, Dialog, Begins, Leads, calls_of, answers_of}
-use Rattle.session_machine.specs.declared.session.PressFault.{PressFault}
-use Rattle.session_machine.specs.declared.session.PressFault.TheVariants as presses
+use Rattle.skk_calls.specs.Interactions.{printed, asked, Dialog, Begins, Leads, calls_of, answers_of}
+use Rattle.skk_text.specs.declared.memory.Memory.{Memory}
 use Rattle.skk_top.specs.Page.{Printed}
 use Rattle.skk_top.specs.Sessions.{SessionMap}
 use Rattle.skk_top.specs.Status.{Ended}
 use Rattle.skk_top.specs.TypeCommand.{Prints}
-use Rattle.skk_top.specs.Typed.{typing}
-use Rattle.skk_top.specs.declared.fault.RunFault.{RunFault}
-use Rattle.skk_top.specs.declared.fault.RunFault.TheVariants.{Outside, Memory, NotBuilt}
+use Rattle.skk_top.specs.Typed.{Asking, typing}
 use Rattle.skk_top.specs.declared.line.Line.{Line}
 
 -- what is typed so far: the sessions, a page that is not written yet, and what a caller has said
@@ -27,8 +23,8 @@ abbrev pub stand : SessionMap → List ℕ → Dialog → Stand
 stand sessions page said = record { sessions = sessions; page = page; said = said }
 
 -- what the typing of a line makes of what is typed so far, by how it ends: of what the line comes to with any lines
--- behind it, it leads to what those come to, or to the end at a key that is not built, or it is the beginning
-pub record TypesLine (rules : List Rule) (line : Line) (ended : Result (Unit {0}) PressFault)
+-- behind it, it leads to what those come to, or, where memory is out, it is the beginning
+pub record TypesLine (rules : List Rule) (line : Line) (ended : Result (Unit {0}) Memory)
     (before after : Stand) : Type 0 where
   pub dialog : Dialog
   pub text : List ℕ
@@ -36,13 +32,10 @@ pub record TypesLine (rules : List Rule) (line : Line) (ended : Result (Unit {0}
   pub ok : OnOk ended ((after.page ≡ before.page ++ text)
       × ((lines : List Line)
       → Leads (typing rules before.sessions (line ∷ lines)) dialog text (typing rules after.sessions lines)))
-  pub not_built : IsErrOf ended presses.NotBuilt → (after.page ≡ before.page)
-      × ((lines : List Line) → Leads (typing rules before.sessions (line ∷ lines)) dialog [] (ends false))
-  pub memory : IsErrOf ended presses.Memory
-      → (lines : List Line) → Begins (typing rules before.sessions (line ∷ lines)) dialog
+  pub memory : OnErr ended ((lines : List Line) → Begins (typing rules before.sessions (line ∷ lines)) dialog)
 
 -- a caller has said a dialog, and a sink and a page have a text, that lead from one interaction to another
-pub record Reaches (from to : Interaction Bool) (said said' : Dialog) (out : MovedSink) (page : List ℕ) : Type 0 where
+pub record Reaches (from to : Asking) (said said' : Dialog) (out : MovedSink) (page : List ℕ) : Type 0 where
   pub dialog : Dialog
   pub text : List ℕ
   pub grows : said' ≡ said ++ dialog
@@ -51,21 +44,14 @@ pub record Reaches (from to : Interaction Bool) (said said' : Dialog) (out : Mov
 
 -- a caller has said the first of what an interaction asks,
 -- and a sink was written a prefix of what is printed by its answers
-pub record Breaks (from : Interaction Bool) (said said' : Dialog) (out : MovedSink) : Type 0 where
+pub record Breaks (from : Asking) (said said' : Dialog) (out : MovedSink) : Type 0 where
   pub dialog : Dialog
   pub grows : said' ≡ said ++ dialog
   pub asks : asked from (answers_of dialog) ≡ calls_of dialog
   pub prefix : AppendsPrefix out.written out.written' (encode_utf8_all (printed from (answers_of dialog)))
 
--- why the typing of lines breaks off: it reached a key that is not built, a call on the sink failed, or memory is out
-abbrev pub BreaksFor : Interaction Bool → Dialog → Dialog → MovedSink → List ℕ → RunFault → Type 0
-BreaksFor from said said' out page NotBuilt = Reaches from (ends false) said said' out page
-BreaksFor from said said' out page Outside = Rose out.faults out.faults'
-BreaksFor from said said' out page Memory = ⊤
-BreaksFor from said said' out page fault = ⊥
-
 -- what the typing of what asks and prints leaves in a sink and with a caller, by how it ends
-pub record LeavesLines (asking : Interaction Bool) (ended : Ended) (said said' : Dialog)
+pub record LeavesLines (asking : Asking) (ended : Ended) (said said' : Dialog)
     (out : MovedSink) : Type 0 where
   pub dialog : Dialog
   pub grows : said' ≡ said ++ dialog

@@ -10,7 +10,6 @@ use crate::page::write;
 use crate::run_file::{Flaw, RunFile};
 use crate::script::ScriptFault;
 use itoa::Buffer;
-use session_machine::PressFault;
 use skk_outside::{Failed, Sink};
 use skk_text::Memory;
 
@@ -25,7 +24,7 @@ pub enum RunFault {
     Outside,
     /// Out of memory.
     Memory,
-    /// The command, a line of the script or a key is not built.
+    /// The command is not built, or one of its options.
     NotBuilt,
 }
 
@@ -174,20 +173,6 @@ impl From<Failed> for RunFault {
 
     fn from(_failed: Failed) -> RunFault {
         RunFault::Outside
-    }
-}
-
-impl From<PressFault> for RunFault {
-    ghost use Rattle.std.specs.Prelude.{◌≡◌};
-    ghost use Rattle.skk_top.specs.Status.{fault_of_press};
-
-    ghost from_gives = { λ fault told. told ≡ fault_of_press fault };
-
-    fn from(fault: PressFault) -> RunFault {
-        match fault {
-            PressFault::NotBuilt => RunFault::NotBuilt,
-            PressFault::Memory => RunFault::Memory,
-        }
     }
 }
 

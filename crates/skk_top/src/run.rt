@@ -1,4 +1,4 @@
-ghost use Rattle.std.specs.Prelude.{◌≡◌, ◌≤◌, ◌↔◌, ◌+◌, [], None, IfSome, IsErrOf, false};
+ghost use Rattle.std.specs.Prelude.{◌≡◌, ◌≤◌, ◌↔◌, ◌+◌, [], None, IsSome, IfSome, IsErrOf, false};
 ghost use Rattle.std.specs.Io.KnownBytes.{Keeps};
 ghost use Rattle.skk_outside.specs.Moved.{moved_shelf, moved_source, moved_sink};
 ghost use Rattle.skk_outside.specs.Taken.{TakesAtMost};
@@ -38,8 +38,8 @@ pub fn run_alone<H: Shelf, I: Source, O: Sink, E: Sink>(
 
     // Words that are no command, or a command that is not built.
     ensures words { IsErrOf result.ended RunFault.Words ↔ (command_of words.now ≡ None) }
-    ensures not_built { IfSome (command_of words.now) (λ command.
-        are_built_words words.now ≡ false → IsErrOf result.ended RunFault.NotBuilt) }
+    ensures not_built { IsErrOf result.ended RunFault.NotBuilt
+        ↔ (IsSome (command_of words.now) × (are_built_words words.now ≡ false)) }
     ensures unread { files_to_type words.now ≡ None → Keeps (I.left input.old) (I.left input.new) }
     ensures untouched { are_built_words words.now ≡ false → Keeps (O.written out.old) (O.written out.new) }
     ensures taken { TakesAtMost (I.left input.old) (I.left input.new) (script_limit + PIECE) }

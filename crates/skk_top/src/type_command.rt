@@ -40,7 +40,7 @@ struct Table {
 }
 
 /// The command `type`: reads the rules, then the dictionaries, and then a script, checks it whole, and types it by the
-/// rules over the dictionaries. A run of which a look-up was refused ends as out of memory,
+/// rules over the dictionaries. A run of which a call was refused ends as out of memory,
 /// where nothing else ended it before.
 pub fn run_type<H: Shelf, I: Source, O: Sink>(
     alloc: Global,

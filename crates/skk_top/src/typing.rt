@@ -7,14 +7,14 @@ ghost use Rattle.skk_top.specs.Page.{Printed, StopsPrinting};
 ghost use Rattle.skk_top.specs.Script.{opens_well};
 ghost use Rattle.skk_top.specs.Sessions.{session_at, session_or_new, with_session};
 ghost use Rattle.skk_top.specs.Typed.{typing, closing_lines};
-ghost use Rattle.skk_top.specs.Typing.{stand, TypesLine, Reaches, Breaks, BreaksFor, LeavesLines};
+ghost use Rattle.skk_top.specs.Typing.{stand, TypesLine, Reaches, Breaks, LeavesLines};
 
 use crate::fault::RunFault;
 use crate::line::Line;
 use crate::page::{print, print_full};
 use crate::printing::{push_closing_line, push_output_line};
 use romaji_rules::Rules;
-use session_machine::{PressFault, Session};
+use session_machine::Session;
 use skk_calls::Caller;
 use skk_outside::Sink;
 use skk_text::{Keys, Memory, Text};
@@ -22,7 +22,7 @@ use std::alloc::Global;
 use std::collections::BTreeMap;
 
 /// Types the lines of a script by the rules, asks the caller what their keys ask, and prints an output line for
-/// each key line and the closing lines. At a key that is not built the lines before it are printed.
+/// each key line and the closing lines.
 pub fn type_script<C: Caller, O: Sink>(
     alloc: Global,
     rules: &Rules,
@@ -55,18 +55,10 @@ fn print_script<C: Caller, O: Sink>(
 {
     let mut sessions = BTreeMap::new(alloc);
     let mut page = Text::new(alloc);
-    match type_lines(alloc, rules, lines, &mut sessions, &mut page, caller, out) {
-        Ok(()) => {
-            close_sessions(alloc, &sessions, &mut page, out)?;
-            print(out, &page)?;
-            Ok(())
-        }
-        Err(RunFault::NotBuilt) => {
-            let _ = print(out, &page);
-            Err(RunFault::NotBuilt)
-        }
-        Err(fault) => Err(fault),
-    }
+    type_lines(alloc, rules, lines, &mut sessions, &mut page, caller, out)?;
+    close_sessions(alloc, &sessions, &mut page, out)?;
+    print(out, &page)?;
+    Ok(())
 }
 
 // Types the lines. What is not written yet is left in the page.
@@ -86,8 +78,7 @@ fn type_lines<C: Caller, O: Sink>(
         (C.said caller.old) (C.said caller.new) (moved_sink O.written O.faults out.old out.new) page.new) }
     ensures err { OnErr result (Breaks (typing rules.now [] lines.now)
         (C.said caller.old) (C.said caller.new) (moved_sink O.written O.faults out.old out.new)) }
-    ensures stopped { IfErr result (BreaksFor (typing rules.now [] lines.now)
-        (C.said caller.old) (C.said caller.new) (moved_sink O.written O.faults out.old out.new) page.new) }
+    ensures stopped { IfErr result (StopsPrinting (moved_sink O.written O.faults out.old out.new)) }
     ensures counted { O.faults out.old ≤ O.faults out.new }
 {
     for line in lines {
@@ -97,7 +88,7 @@ fn type_lines<C: Caller, O: Sink>(
     Ok(())
 }
 
-// Types a line, and adds its output line to the page. At a key that is not built the page stays.
+// Types a line, and adds its output line to the page.
 fn type_line<C: Caller>(
     alloc: Global,
     rules: &Rules,
@@ -105,7 +96,7 @@ fn type_line<C: Caller>(
     sessions: &mut BTreeMap<u8, Session>,
     page: &mut Text,
     caller: &mut C,
-) -> Result<(), PressFault>
+) -> Result<(), Memory>
     requires { opens_well line.now ≡ true }
     ensures { TypesLine rules.now line.now result
         (stand sessions.old.entries page.old (C.said caller.old))
@@ -135,7 +126,7 @@ fn type_keys<C: Caller>(
     sessions: &mut BTreeMap<u8, Session>,
     page: &mut Text,
     caller: &mut C,
-) -> Result<(), PressFault>
+) -> Result<(), Memory>
     ensures { TypesLine rules.now (Line.Keys number keys.now) result
         (stand sessions.old.entries page.old (C.said caller.old))
         (stand sessions.new.entries page.new (C.said caller.new)) }

@@ -1,4 +1,4 @@
-use Rattle.std.proofs.Common.{◌∙◌, ap, sym, true}
+use Rattle.std.proofs.Common.{◌∙◌, ap, sym}
 use Rattle.std.specs.List.{list_any}
 use Rattle.numeric_entries.specs.Forms.{asks_lookup}
 use Rattle.skk_calls.specs.Rows.{Cand}
@@ -14,7 +14,7 @@ returns-in_err-words g c =
     let typist = ap (λ (s : Session). s.typist) c.session.view_is in
     let asked = rw (typist, c.as_slice.ensures ∙ c.requires.numbers) at c.look_numbers_up.ensures.asked in
     rw asks (says-stopped _ (filled c.args.session.now c.args.reading c.args.found) c.look_numbers_up.result
-    c.in_err-words.field-0.0 c.from_residual.result c.args.session.now _ _ asked c.in_err-words.was
+    c.in_err-words.field-0.0 c.from_residual.result c.args.session.now _ _ _ asked c.in_err-words.was
     c.from_residual.ensures.1)
 
 pub returns-then-some_asks_lookup : goal.returns-then-some_asks_lookup

@@ -5,7 +5,7 @@ use Rattle.session_machine.specs.Converted.{both_found, with_found}
 use Rattle.session_machine.specs.Meanings.{Meaning, becomes}
 use Rattle.session_machine.specs.Session.{Session}
 use Rattle.session_machine.proofs.NumberReadings.{key_valid, numbers_valid}
-use Rattle.session_machine.proofs.Saying.{says-behind, says-session, says-stopped}
+use Rattle.session_machine.proofs.Saying.{says-behind, says-end, says-stopped}
 use Rattle.session_machine.proofs.converting.convert_numbered.Goals as goal
 
 pub key_of-requires : goal.key_of-requires
@@ -27,7 +27,7 @@ returns-in_err-numbered g c =
     ∙ ap (λ text. key_with text reading.okuri) (c.into_parts-key.ensures.key ∙ c.requires.key) in
     let asked = rw (typist, key) at c.look_key_up.ensures in
     says-stopped _ (with_found session reading behind) c.look_key_up.result c.in_err-numbered.field-0.0
-    c.from_residual-in_err-numbered.result session _ _ asked c.in_err-numbered.was
+    c.from_residual-in_err-numbered.result session _ _ _ asked c.in_err-numbered.was
     c.from_residual-in_err-numbered.ensures.1
 
 pub returns-in-Ok : goal.returns-in-Ok
@@ -55,4 +55,4 @@ returns-in-Err g c =
     let asked = rw (typist, key) at c.look_key_up.ensures in
     says-behind _ (with_found session reading behind) (Err c.in-Err.refusal) c.look_key_up.result _ _ _ _ asked
     (c.in_ok-numbered.was ∙ ap (λ found. Ok found) c.in-Err.is)
-    (says-session _ c.leave_open.new.session _ (ap becomes (sym c.leave_open.ensures)))
+    (says-end _ c.leave_open.new.session _ (ap becomes (sym c.leave_open.ensures)))

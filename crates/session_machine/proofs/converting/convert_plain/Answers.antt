@@ -1,6 +1,5 @@
 use Rattle.std.proofs.Common.{◌∙◌, ap, sym}
 use Rattle.numeric_entries.specs.Numbers.{number_key}
-use Rattle.session_machine.specs.Converted.{pick}
 use Rattle.session_machine.proofs.NumberReadings.{digits-none}
 use Rattle.session_machine.proofs.Saying.{says-becomes}
 use Rattle.session_machine.proofs.converting.convert_plain.Goals as goal

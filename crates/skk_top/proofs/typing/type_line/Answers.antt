@@ -1,13 +1,11 @@
 use Rattle.std.proofs.Common.{◌∙◌, ap, refl}
-use Rattle.session_machine.specs.declared.session.PressFault.TheVariants.{Memory}
 use Rattle.skk_top.specs.Sessions.{with_session}
-use Rattle.skk_top.proofs.KeyLines.{types-handed, types-nothing, types-opening}
+use Rattle.skk_top.proofs.KeyLines.{types-nothing, types-opening}
 use Rattle.skk_top.proofs.typing.type_line.Goals as goal
 
 pub returns-in_err-put_session-in-Opening : goal.returns-in_err-put_session-in-Opening
 returns-in_err-put_session-in-Opening g c =
-    types-handed c.args.rules.now c.args.line.now c.from_residual.result Memory _ _ c.from_residual.ensures.1
-    (types-nothing c.args.rules.now c.args.line.now _ _ refl)
+    types-nothing c.args.rules.now c.args.line.now c.from_residual.result _ _ _ c.from_residual.ensures.1 refl
 
 pub returns-in_ok-put_session-in-Opening : goal.returns-in_ok-put_session-in-Opening
 returns-in_ok-put_session-in-Opening g c =

@@ -1,12 +1,10 @@
 use Rattle.std.proofs.Common.{◌+◌, [], sym, subst, drop, arith}
 use Rattle.skk_outside.specs.Moved.{moved_sink}
 use Rattle.skk_top.specs.Sessions.{SessionMap}
-use Rattle.skk_top.specs.Status.{fault_of_press}
 use Rattle.skk_top.specs.Typed.{typing}
-use Rattle.skk_top.specs.Typing.{Reaches, BreaksFor, stand}
-use Rattle.skk_top.proofs.KeyLines.{breaks-line, reaches-line, stops-line}
+use Rattle.skk_top.specs.Typing.{Reaches, stand}
+use Rattle.skk_top.proofs.KeyLines.{breaks-line, reaches-line}
 use Rattle.skk_top.proofs.Pages.{on_err}
-use Rattle.skk_top.proofs.RunFiles.{handed-on}
 use Rattle.skk_top.proofs.Typed.{breaks-unwritten, reaches-next, reaches-start, reaches-written}
 use Rattle.skk_top.proofs.typing.type_lines.Goals as goal
 
@@ -29,21 +27,7 @@ returns-in_err-type_line-clause-err g c =
     let after = stand c.type_line.new.sessions.entries c.type_line.new.page (g.C.Caller.said c.type_line.new.caller) in
     let reached = reaches-next c.args.rules.now c.loop-line.sessions.entries c.args.lines.now c.loop-line.line-index
     c.line-item.result c.loop-line-test.true c.line-item.is c.loop-line.invariant.reached in
-    on_err c.from_residual.result (breaks-line c.args.rules.now c.line-item.result behind before after reached
-    c.in_err-type_line.field-0.0 c.in_err-type_line.ensures)
-
-pub returns-in_err-type_line-clause-stopped : goal.returns-in_err-type_line-clause-stopped
-returns-in_err-type_line-clause-stopped g c =
-    let behind = drop (c.loop-line.line-index + 1) c.args.lines.now in
-    let before = stand c.loop-line.sessions.entries c.loop-line.page (g.C.Caller.said c.loop-line.caller) in
-    let after = stand c.type_line.new.sessions.entries c.type_line.new.page (g.C.Caller.said c.type_line.new.caller) in
-    let reached = reaches-next c.args.rules.now c.loop-line.sessions.entries c.args.lines.now c.loop-line.line-index
-    c.line-item.result c.loop-line-test.true c.line-item.is c.loop-line.invariant.reached in
-    handed-on (BreaksFor (typing c.args.rules.now [] c.args.lines.now) (g.C.Caller.said c.args.caller.now)
-    (g.C.Caller.said c.type_line.new.caller)
-    (moved_sink g.O.Sink.written g.O.Outside.faults c.args.out.now c.loop-line.out) c.type_line.new.page)
-    c.from_residual.result (fault_of_press c.in_err-type_line.field-0.0) c.from_residual.ensures.1
-    (stops-line c.args.rules.now c.line-item.result behind before after reached c.in_err-type_line.field-0.0
+    on_err c.from_residual.result (breaks-line c.args.rules.now c.line-item.result behind before after reached _
     c.in_err-type_line.ensures)
 
 pub returns-in_err-print_full-clause-err : goal.returns-in_err-print_full-clause-err

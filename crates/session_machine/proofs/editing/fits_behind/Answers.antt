@@ -2,7 +2,7 @@ use Rattle.std.proofs.Common.{◌≡◌, ap, length, arith}
 use Rattle.std.proofs.lemmas.Str.{encodes-chars}
 use Rattle.std.specs.Str.{chars}
 use Rattle.skk_text.specs.Text.{byte_len}
-use Rattle.session_machine.proofs.session.Session.has_room.Goals as goal
+use Rattle.session_machine.proofs.editing.fits_behind.Goals as goal
 
 pub returns-then-piece-le-TEXT_LIMIT : goal.returns-then-piece-le-TEXT_LIMIT
 returns-then-piece-le-TEXT_LIMIT c =
