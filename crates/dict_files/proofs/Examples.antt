@@ -1,17 +1,20 @@
 -- The definitions at small files, each worked out by hand.
-use Rattle.std.proofs.Common.{◌≡◌, ℕ, true, false, None, Some, List, [], ◌∷◌, codes, map, refl}
+use Rattle.std.proofs.Common.{◌≡◌, ℕ, Bool, true, false, None, Some, List, [], ◌∷◌, codes, map, refl}
 use Prim.Native.String.{String}
 use Rattle.std.specs.Str.{chars}
+use Rattle.skk_text.specs.Text.{byte_len}
 use Rattle.skk_calls.specs.declared.part.Part.{Part}
 use Rattle.skk_calls.specs.declared.part.Part.TheVariants.{Nasi, Ari}
 use Rattle.skk_calls.specs.Rows.{Row}
 use Rattle.exact_readers.specs.Formats.{taken}
+use Rattle.exact_readers.specs.Lacking.{lacks}
 use Rattle.dict_format.specs.FileLines.{FileEntry}
 use Rattle.dict_format.specs.Reading.{texts_at, key_at, fit_items_at, some_row_of, row_reading, line_reading}
 use Rattle.dict_files.specs.declared.place.Place.{Place}
 use Rattle.dict_files.specs.FilePlaces.{piece_at, line_at, reading_at, first_row, has_reading, is_below, is_above}
 use Rattle.dict_files.specs.FilePlaces.{rise, rises}
 use Rattle.dict_files.specs.Files.{is_file}
+use Rattle.dict_files.specs.PlainLines.{begins_word, is_plain, plain_reading}
 use Rattle.dict_files.specs.Scanning.{rows_in}
 use Rattle.dict_files.specs.Walked.{is_walked, walked_reading, walked_readings}
 
@@ -115,3 +118,53 @@ walk : walked_readings (
     ≡ codes "a" ∷ codes "b" ∷ codes "か" ∷ []
 unfolding lib.Utf8.encode
 walk = refl
+
+-- Plain lines
+
+-- a word is there, and neither a slash nor a note begins the text
+words_begun : map (λ text. begins_word (codes text))
+    ("" ∷ "/" ∷ ";" ∷ "/x/" ∷ ";x/" ∷ "x/" ∷ "x" ∷ "x;y/" ∷ "." ∷ "0" ∷ ":" ∷ "<" ∷ [])
+    ≡ false ∷ false ∷ false ∷ false ∷ false ∷ true ∷ true ∷ true ∷ true ∷ true ∷ true ∷ true ∷ []
+words_begun = refl
+
+-- lines with what they begin with and what stands behind their first slash are plain where a table says so
+abbrev ArePlain : List (String × String × String × Bool) → Type 0
+ArePlain table =
+    map (λ (line : String × String × String × Bool). is_plain (codes line.0) (codes line.1) (codes line.2)) table
+    ≡ map (λ (line : String × String × String × Bool). line.3) table
+
+-- a word, words with notes, and characters beside a parenthesis
+plain_lines : ArePlain (
+    ("a /x/", "a", "x/", true) ∷ ("かんじ /漢字/幹事;人/", "かんじ", "漢字/幹事;人/", true) ∷ ("a /x;y//", "a", "x;y//", true)
+    ∷ ("a /)'*/", "a", ")'*/", true) ∷ ("ar /x/", "ar", "x/", true)
+    ∷ [])
+unfolding lib.Utf8.encode
+plain_lines = refl
+
+-- each thing that is wanting by itself: no parenthesis, a valid reading, a word, and the slash at the end
+other_lines : ArePlain (
+    ("a /(/", "a", "(/", false) ∷ ("a /x;(y/", "a", "x;(y/", false) ∷ ("(a /x/", "(a", "x/", false)
+    ∷ (" /x/", "", "x/", false) ∷ (";a /x/", ";a", "x/", false) ∷ ("a //", "a", "/", false)
+    ∷ ("a /;x/", "a", ";x/", false) ∷ ("a /x", "a", "x", false) ∷ ("a /x/y", "a", "x/y", false)
+    ∷ ("a /", "a", "", false)
+    ∷ [])
+unfolding lib.Utf8.encode
+other_lines = refl
+
+-- a line of as many bytes as a word may have, and of one more
+longest_line : (line : List ℕ) → byte_len line ≡ 4095 → lacks 0x28 line ≡ true
+    → is_plain line (codes "a") (codes "x/") ≡ true
+unfolding lib.Utf8.encode
+longest_line line bytes lack = rw bytes (rw lack refl)
+
+too_long_line : (line : List ℕ) → byte_len line ≡ 4096 → is_plain line (codes "a") (codes "x/") ≡ false
+too_long_line line bytes = rw bytes refl
+
+-- the reading of a plain line: it ends at the first space, and the slash follows that at once
+plain_readings : map (λ line. plain_reading (codes line)) (
+    "a /x/" ∷ "かんじ /漢字/" ∷ "a /x y/" ∷ "" ∷ "a" ∷ "a/x/" ∷ "a x/" ∷ "a  /x/" ∷ " /x/" ∷ "a /(x/" ∷ "a //" ∷ "a /x"
+    ∷ [])
+    ≡ Some (codes "a") ∷ Some (codes "かんじ") ∷ Some (codes "a") ∷ None ∷ None ∷ None ∷ None ∷ None ∷ None ∷ None
+    ∷ None ∷ None ∷ []
+unfolding lib.Utf8.encode
+plain_readings = refl

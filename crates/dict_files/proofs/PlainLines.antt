@@ -1,14 +1,15 @@
 -- A line that plainly spells a row: its texts are words and notes, the first of which is not empty.
-use Rattle.std.proofs.Common.{◌≡◌, ◌∙◌, ◌+◌, ◌≤◌, ◌==◌, ◌||◌, not, ℕ, Bool, true, false, Option, None, Some, List, []}
+use Rattle.std.proofs.Common.{◌≡◌, ◌≢◌, ◌∙◌, ◌+◌, ◌≤◌, ◌==◌, ◌||◌, not, ℕ, Bool, true, false, Option, None, Some}
 use Rattle.std.proofs.Common.{◌∷◌, ◌++◌, All, map, refl, sym, ap, append_assoc, arith, inl, inr, subst, if◌then◌else◌}
-use Rattle.std.proofs.Common.{nat_le, leb-true, rules}
+use Rattle.std.proofs.Common.{List, [], nat_le, leb-true, rules, encode_utf8_all}
+use lib.Utf8.{encode}
 use Rattle.std.proofs.lemmas.Grind.{common_steps}
 use Rattle.std.specs.List.{filter, list_all}
 use Rattle.std.specs.Option.{option_map, unwrap_or}
 use Rattle.std.proofs.lemmas.Bool.{and_from, and_parts, cases_Bool, eqb-true}
 use Rattle.std.proofs.lemmas.List.Elements.{All-cons, All-head, All-nil, All-tail}
 use Rattle.std.proofs.lemmas.List.Folds.{list_all-append}
-use Rattle.std.proofs.lemmas.Str.{chars-IsAscii, chars-append, encodes-chars}
+use Rattle.std.proofs.lemmas.Str.{chars-IsAscii, chars-append, encodes-append, encodes-chars}
 use Rattle.std.specs.Str.{IsAscii, IsUtf8, chars}
 use Rattle.simdutf8.proofs.StepsLemmas.{IsUtf8-append_ascii}
 use Rattle.skk_text.specs.Lists.{is_empty}
@@ -268,6 +269,27 @@ ends-slashed text front valid is =
     ap (λ t. ends_in_slash (chars t)) is ∙ ap ends_in_slash (chars-append front (0x2F ∷ []) front_valid)
     ∙ ap (λ ys. ends_in_slash (chars front ++ ys)) (chars-IsAscii (0x2F ∷ []) ascii)
     ∙ ends-is (chars front) 0x2F
+
+-- a text that ends in a slash, without it
+before_slash : (text : List ℕ) → ends_in_slash text ≡ true → (front : List ℕ) × (text ≡ front ++ 0x2F ∷ [])
+before_slash [] ends = cc
+before_slash (c ∷ []) ends = ([], ap (λ d. d ∷ []) (eqb-true c 0x2F ends))
+before_slash (c ∷ d ∷ text) ends =
+    let (front, is) = before_slash (d ∷ text) ends in (c ∷ front, ap (λ ys. c ∷ ys) is)
+
+-- a text that no slash ends, by its bytes
+pub ends-other : (text : List ℕ) → IsUtf8 text → ((front : List ℕ) → text ≢ front ++ 0x2F ∷ [])
+    → ends_in_slash (chars text) ≡ false
+unfolding encode
+ends-other text valid other =
+    elim (cases_Bool (ends_in_slash (chars text))) [
+      | inl ends ↦
+          let (front, is) = before_slash (chars text) ends in
+          absurd
+          (other (encode_utf8_all front)
+          (sym (encodes-chars text valid) ∙ ap encode_utf8_all is ∙ encodes-append front (0x2F ∷ [])))
+      | inr fails ↦ fails
+    ]
 
 -- the bytes of characters
 pub ruleset bytes = (common_steps, encodes-chars)

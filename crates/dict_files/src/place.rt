@@ -1,7 +1,9 @@
 ghost use Rattle.std.specs.Prelude.{◌≡◌, Some, IfOk, IfSome};
+ghost use Rattle.std.specs.Option.{option_map};
 ghost use Rattle.std.specs.Str.{IsUtf8, chars};
 ghost use Rattle.skk_calls.specs.declared.part.Part.TheVariants.{Nasi};
 ghost use Rattle.dict_files.specs.FilePlaces.{line_at, piece_at, reading_at, row_at};
+ghost use Rattle.dict_files.specs.PlainLines.{plain_reading};
 ghost use Rattle.dict_files.specs.Walked.{walked_reading};
 
 use crate::plain_lines::plain_reading;
@@ -40,11 +42,14 @@ pub fn row_at(alloc: Global, part: Part, bytes: &[u8], place: &Place) -> Result<
     }
 }
 
-/// The reading of an entry whose line plainly spells a row of the okuri-nasi part with a candidate. Takes time in the
-/// length of its line, and no memory.
+/// The reading of an entry whose line is plain: it spells a row of the okuri-nasi part with a candidate. Takes time in
+/// the length of its line, and no memory.
 pub fn plain_at<'b>(bytes: &'b [u8], place: &Place) -> Option<&'b str>
     requires { IsUtf8 (line_at bytes.now place.now) }
-    ensures { IfSome result (λ reading. walked_reading (row_at Nasi bytes.now place.now) ≡ Some (chars reading.now)) }
+    ensures value { option_map (λ reading. chars reading.now) result
+        ≡ plain_reading (chars (line_at bytes.now place.now)) }
+    ensures walked { IfSome result
+        (λ reading. walked_reading (row_at Nasi bytes.now place.now) ≡ Some (chars reading.now)) }
 {
     match from_utf8(piece_at(bytes, place.start, place.line)) {
         Ok(line) => plain_reading(line),

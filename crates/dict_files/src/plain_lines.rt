@@ -1,4 +1,5 @@
-ghost use Rattle.std.specs.Prelude.{◌≡◌, nat_le, true, Some, IfSome};
+ghost use Rattle.std.specs.Prelude.{◌≡◌, nat_le, Some, IfSome};
+ghost use Rattle.std.specs.Option.{option_map};
 ghost use Rattle.std.specs.Str.{chars};
 ghost use Rattle.skk_text.specs.Text.{byte_len};
 ghost use Rattle.skk_calls.specs.declared.part.Part.TheVariants.{Nasi};
@@ -6,18 +7,18 @@ ghost use Rattle.skk_calls.specs.Rows.{is_row_key, word_limit};
 ghost use Rattle.exact_readers.specs.Lacking.{lacks};
 ghost use Rattle.dict_format.specs.EntryRows.{row_of_line};
 ghost use Rattle.dict_format.specs.Reasons.{ends_in_slash};
-ghost use Rattle.dict_files.specs.PlainLines.{begins_word, is_plain};
+ghost use Rattle.dict_files.specs.PlainLines.{begins_word, is_plain, plain_reading};
 ghost use Rattle.dict_files.specs.Walked.{walked_reading};
 
 use dict_format::lines_spell_one_row;
 use exact_readers::{cut_at, past_char};
 use skk_calls::{READING_LIMIT, WORD_LIMIT, are_reading_chars, begins_well};
 
-/// The reading of a line that plainly spells a row of the okuri-nasi part with a candidate: one that holds no word
-/// of a form, and is not too long for a word. Of another line it says nothing. Takes time in the line's length, and no
-/// memory.
+/// The reading of a line that is plain: it spells a row of the okuri-nasi part with a candidate, whatever its words
+/// are. Takes time in the line's length, and no memory.
 pub fn plain_reading(line: &str) -> Option<&str>
-    ensures { IfSome result
+    ensures value { option_map (λ reading. chars reading.now) result ≡ plain_reading (chars line.now) }
+    ensures walked { IfSome result
         (λ reading. walked_reading (row_of_line Nasi (chars line.now)) ≡ Some (chars reading.now)) }
 {
     lines_spell_one_row();
@@ -32,7 +33,7 @@ pub fn plain_reading(line: &str) -> Option<&str>
 
 // Whether a line is plain which begins with a reading, a space and a slash, with this behind it.
 fn is_plain(line: &str, reading: &str, behind: &str) -> bool
-    ensures { result ≡ true → is_plain (chars line.now) (chars reading.now) (chars behind.now) ≡ true }
+    ensures { result ≡ is_plain (chars line.now) (chars reading.now) (chars behind.now) }
 {
     is_short(line)
         && lacks_forms(line)
@@ -76,7 +77,7 @@ fn begins_word(text: &str) -> bool
 
 // Whether the last character of a text is a slash.
 fn ends_in_slash(text: &str) -> bool
-    ensures { result ≡ true → ends_in_slash (chars text.now) ≡ true }
+    ensures { result ≡ ends_in_slash (chars text.now) }
 {
     match text.strip_suffix('/') {
         Some(_) => true,
