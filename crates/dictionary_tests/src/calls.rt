@@ -2,8 +2,8 @@ ghost use Rattle.std.specs.Prelude.{◌≡◌, [], ◌∷◌, IfOk};
 ghost use Rattle.skk_calls.specs.declared.part.Part.TheVariants.{Nasi};
 
 use skk_calls::{
-    Answer, Blocks, Call, Caller, Cand, CandFault, Cands, Chronicle, Noted, Okuri, OkuriFault,
-    Part, Refusal, Reply, Row, RowKey, RowKeyFault, Tally, needs_quotes,
+    Answer, Blocks, Call, Caller, Cand, CandFault, Cands, Chronicle, DialogTrace, Noted, Okuri,
+    OkuriFault, Part, Refusal, Reply, Row, RowKey, RowKeyFault, Tally, needs_quotes,
 };
 use skk_text::{Copies, Memory, Text, Texts};
 use skk_trace::{Shows, Trace};
@@ -205,43 +205,17 @@ fn chronicles_begin_with_an_opening(rt: HostRuntime) -> Result<(), Fail> {
     Ok(())
 }
 
-// A caller whose calls are all refused as out of memory. Its trace notes nothing first, and then each call.
+// A caller whose calls are all refused as out of memory.
 #[derive(Drop)]
 struct Lacking {
     calls: u32,
-    trace: Trace<Option<(Call, Answer)>>,
-}
-
-// No call.
-#[derive(Drop)]
-struct Silence;
-
-impl Shows<Option<(Call, Answer)>> for Silence {
-    ghost use Rattle.std.specs.Prelude.{None};
-
-    ghost shows = { λ _. None };
-}
-
-// A call that was refused as out of memory.
-#[derive(Drop)]
-struct Lacked<'a> {
-    call: &'a Call,
-}
-
-impl Shows<Option<(Call, Answer)>> for Lacked<'_> {
-    ghost use Rattle.std.specs.Prelude.{Some};
-    ghost use Rattle.skk_calls.specs.declared.answer.Answer.TheVariants.{Refused};
-    ghost use Rattle.skk_calls.specs.declared.answer.Refusal.TheVariants.{Memory};
-
-    ghost shows = { λ lacked. Some (lacked.call.now, Refused Memory) };
+    said: DialogTrace,
 }
 
 impl Caller for Lacking {
-    ghost use Rattle.std.specs.List.{filter_map};
-
     ghost number = { λ _. 7 };
 
-    ghost said = { λ caller. filter_map (λ entry. entry) caller.trace };
+    ghost said = { λ caller. caller.said };
 
     fn number(&self) -> u32 {
         7
@@ -249,8 +223,9 @@ impl Caller for Lacking {
 
     fn call(&mut self, _alloc: Global, call: &Call) -> Answer {
         self.calls = self.calls.saturating_add(1);
-        self.trace.note(&Lacked { call });
-        Answer::Refused(Refusal::Memory)
+        let answer = Answer::Refused(Refusal::Memory);
+        self.said.note(call, &answer);
+        answer
     }
 }
 
@@ -267,8 +242,8 @@ fn look_up(alloc: Global, caller: &mut impl Caller) -> Result<Answer, Fail> {
 #[test]
 fn a_caller_is_answered(rt: HostRuntime) -> Result<(), Fail> {
     let alloc = rt.alloc();
-    let trace = Trace::new(alloc, &Silence)?;
-    let mut caller = Lacking { calls: 0, trace };
+    let said = DialogTrace::new(alloc)?;
+    let mut caller = Lacking { calls: 0, said };
     assert_eq!(rt; caller.number(), 7);
     let answer = look_up(alloc, &mut caller)?;
     assert!(rt; matches!(answer, Answer::Refused(Refusal::Memory)));

@@ -7,9 +7,10 @@ ghost use Rattle.skk_calls.specs.declared.call.Call.TheVariants as calls;
 use crate::distinct::distinct;
 use romaji_rules::Rules;
 use session_machine::Session;
-use skk_calls::{Answer, Call, Caller, Cand, Cands, Learned, Part, Refusal, Reply, RowKey};
+use skk_calls::{
+    Answer, Call, Caller, Cand, Cands, DialogTrace, Learned, Part, Refusal, Reply, RowKey,
+};
 use skk_text::{Copies, Memory, Mode, Text, Texts, read_keys};
-use skk_trace::{Shows, Trace};
 use std::alloc::Global;
 use std::test::Fail;
 
@@ -31,43 +32,17 @@ const FOUND: &[(&str, &str)] = &[
 
 // A dictionary that answers each call by the next of these words, which a space stands between: a look-up that has a
 // number for its word finds the first so many of the candidates above, one that has `long` a long candidate, and every
-// other the words between its commas, as a completion finds the readings between them. Its trace notes nothing first,
-// and then each call.
+// other the words between its commas, as a completion finds the readings between them.
 #[derive(Drop)]
 struct Finder<'a> {
     words: &'a str,
-    trace: Trace<Option<(Call, Answer)>>,
-}
-
-// No call.
-#[derive(Drop)]
-struct Silence;
-
-impl Shows<Option<(Call, Answer)>> for Silence {
-    ghost use Rattle.std.specs.Prelude.{None};
-
-    ghost shows = { λ _. None };
-}
-
-// A call and its answer.
-#[derive(Drop)]
-struct Answered<'a> {
-    call: &'a Call,
-    answer: &'a Answer,
-}
-
-impl Shows<Option<(Call, Answer)>> for Answered<'_> {
-    ghost use Rattle.std.specs.Prelude.{Some};
-
-    ghost shows = { λ answered. Some (answered.call.now, answered.answer.now) };
+    said: DialogTrace,
 }
 
 impl Caller for Finder<'_> {
-    ghost use Rattle.std.specs.List.{filter_map};
-
     ghost number = { λ _. 7 };
 
-    ghost said = { λ caller. filter_map (λ entry. entry) caller.trace };
+    ghost said = { λ caller. caller.said };
 
     fn number(&self) -> u32 {
         7
@@ -77,10 +52,7 @@ impl Caller for Finder<'_> {
         let (word, words) = self.words.split_once(' ').unwrap_or((self.words, ""));
         self.words = words;
         let answer = answer_by(alloc, word, call);
-        self.trace.note(&Answered {
-            call,
-            answer: &answer,
-        });
+        self.said.note(call, &answer);
         answer
     }
 }
@@ -250,8 +222,8 @@ fn listed_readings(alloc: Global, words: &str) -> Result<Texts, Memory>
 fn session_after(alloc: Global, keys: &str, words: &str) -> Result<Session, Fail> {
     let rules = Rules::standard(alloc)?;
     let keys = read_keys(alloc, keys.replace(alloc, "_", " ")?.as_bytes())?;
-    let trace = Trace::new(alloc, &Silence)?;
-    let mut caller = Finder { words, trace };
+    let said = DialogTrace::new(alloc)?;
+    let mut caller = Finder { words, said };
     Ok(Session::new(alloc, 7, 0).play(alloc, &rules, keys.as_slice(), &mut caller)?)
 }
 
