@@ -2,3 +2,4 @@ pub mod Index
 pub mod Kept
 pub mod Plans
 pub mod Records
+pub mod ReplyLaws

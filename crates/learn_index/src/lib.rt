@@ -3,8 +3,8 @@
 //! It stands on `skk_text`, `ordered_lists`, `skk_calls`, `dict_laws`, `dict_rows`, `dict_files`, `dict_layers` and
 //! `dict_complete`. An `Index` stands for a state of `skk_calls`. It answers look-ups and completions over its books
 //! and the system files. A change is planned first, which takes all memory that the change needs and changes nothing,
-//! and then applied, which takes none and can't fail: a layer above writes the change to a disk in between. `put`,
-//! `drop_row` and `set_count` rebuild a state from what was written.
+//! and then applied, which takes none and can't fail: a layer above writes the change to a disk in between; where
+//! there is no disk `serve` does both. `put`, `drop_row` and `set_count` rebuild a state from what was written.
 #![tactic(auto)]
 
 mod book;
@@ -15,6 +15,7 @@ mod kept_row;
 mod layering;
 mod plan;
 mod planning;
+mod serving;
 
 pub use index::Index;
 pub use kept_row::KeptRow;

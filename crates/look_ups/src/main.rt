@@ -18,7 +18,7 @@ use dict_layers::System;
 use learn_index::Index;
 use skk_calls::{Call, Cand, Part, Reply, RowKey, Walk};
 use skk_outside::{HostShelf, Shelf, read_named_file};
-use skk_text::{Memory, Text};
+use skk_text::Text;
 use std::alloc::Global;
 use std::io::Write;
 use std::process::ExitCode;
@@ -137,19 +137,8 @@ fn question(kind: &str, reading: Text) -> Option<Call>
 fn count_answered(alloc: Global, system: &System, index: &mut Index, call: &Call) -> Option<u64>
     requires { is_fit call.now ≡ true }
 {
-    let reply = reply_to(alloc, system, index, call).ok()?;
+    let reply = index.serve(alloc, system, call).ok()?;
     Some(count_in(&reply))
-}
-
-// The reply to a call.
-fn reply_to(alloc: Global, system: &System, index: &mut Index, call: &Call) -> Result<Reply, Memory>
-    requires { is_fit call.now ≡ true }
-{
-    if matches!(call, Call::Lookup { .. } | Call::Complete { .. }) {
-        return index.answer(alloc, system, call);
-    }
-    let plan = index.plan(alloc, call)?;
-    Ok(index.apply(plan))
 }
 
 // How many candidates or readings a reply has.

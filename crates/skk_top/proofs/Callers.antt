@@ -1,30 +1,23 @@
 -- What holds of a chronicle whose calls are answered over system files and learned books.
 use Rattle.std.proofs.Common.{◌≡◌, ◌∙◌, sym, ap, subst, refl, ℕ, ◌+◌, Bool, true, false, not, ◌==◌, ◌&&◌, ◌||◌}
-use Rattle.std.proofs.Common.{if◌then◌else◌, nat_lt, List, [], ◌∷◌, ◌++◌, eq-eqb}
+use Rattle.std.proofs.Common.{List, [], ◌∷◌, ◌++◌, eq-eqb}
 use Rattle.std.proofs.lemmas.Bool.{and_from, and_parts}
 use Rattle.std.proofs.lemmas.List.Elements.{filter_map-append}
 use Rattle.std.proofs.lemmas.List.Folds.{list_all-append}
 use Rattle.std.specs.List.{list_all}
-use Rattle.skk_text.specs.Counts.{last_count}
 use Rattle.skk_calls.specs.declared.answer.Answer.{Answer}
 use Rattle.skk_calls.specs.declared.answer.Answer.TheVariants.{Done, Refused}
 use Rattle.skk_calls.specs.declared.answer.Refusal.TheVariants.{Memory}
-use Rattle.skk_calls.specs.declared.answer.Reply.{Reply}
-use Rattle.skk_calls.specs.declared.answer.Reply.TheVariants as replies
 use Rattle.skk_calls.specs.declared.call.Call.{Call}
-use Rattle.skk_calls.specs.declared.call.Call.TheVariants.{Lookup, Complete, Learn, Purge, Unlearn}
 use Rattle.skk_calls.specs.declared.chronicle.Noted.{Noted}
 use Rattle.skk_calls.specs.declared.chronicle.Noted.TheVariants.{Opened, Entered}
-use Rattle.skk_calls.specs.Canonical.{line_limit}
 use Rattle.skk_calls.specs.Chronicles.{noted_entry, is_entry, is_chronicle, opening_of, history_of}
-use Rattle.skk_calls.specs.Dictionary.{answer, change_reply, is_stamped, line_length, may_reply, stamp_of}
+use Rattle.skk_calls.specs.Dictionary.{answer}
 use Rattle.skk_calls.specs.Histories.{Entry, Opening, LacksRoom, IsLegal, IsLegalAnswer, said_by, dialog, after_answer}
 use Rattle.skk_calls.specs.Histories.{after_entry, state_after, room}
 use Rattle.skk_calls.specs.Interactions.{Dialog, IsAnsweredAlone}
-use Rattle.skk_calls.specs.Learning.{learnt, purged, purge_changes}
 use Rattle.skk_calls.specs.Rows.{Row}
-use Rattle.skk_calls.specs.States.{State, count_of, row_at}
-use Rattle.learn_index.specs.Plans.{is_question}
+use Rattle.skk_calls.specs.States.{State}
 use Rattle.skk_calls.specs.Openings.{IsLegalOver, is_reply, is_reply_or_memory, is_noted_at}
 use Rattle.skk_calls.specs.Openings.{is_without_disk, are_served, are_of_one, said_in}
 use Rattle.skk_top.specs.Answering.{IsAnsweredAt, AreAnswered, KeepsAnswers}
@@ -105,42 +98,6 @@ left-note : (state : State) (history : List Entry) (entry : Entry)
     → state_after state (history ++ entry ∷ []) ≡ after_entry (state_after state history) entry
 left-note state [] entry = refl
 left-note state (first ∷ history) entry = left-note (after_entry state first) history entry
-
--- a reply to a change is one of its kind
-may-told : (call : Call) (count : ℕ) (after : Row) (reply : Reply)
-    → ((n : ℕ) → may_reply call (replies.TooBig n) ≡ true) → may_reply call replies.StampsEnd ≡ true
-    → may_reply call reply ≡ true → may_reply call (change_reply count after reply) ≡ true
-may-told call count after reply big ended told =
-    elim (count == last_count) as (λ b. may_reply call (if b then replies.StampsEnd
-    else if nat_lt line_limit (line_length after) then replies.TooBig (line_length after)
-    else reply) ≡ true) [
-      | true ↦ ended
-      | false ↦ elim (nat_lt line_limit (line_length after)) as (λ b. may_reply call
-          (if b then replies.TooBig (line_length after) else reply) ≡ true) [
-            | true ↦ big (line_length after)
-            | false ↦ told
-          ]
-    ]
-
-pub may-change : (files : List (List Row)) (state : State) (call : Call) → is_question call ≡ false
-    → may_reply call (answer files state call) ≡ true
-may-change files state (Lookup who key okuri) other = absurd (cc)
-may-change files state (Complete who prefix) other = absurd (cc)
-may-change files state (Learn book key okuri cand) other =
-    may-told (Learn book key okuri cand) (count_of state book)
-    (learnt (row_at state book key) key okuri cand (count_of state book + 1)) _ (λ n. refl) refl refl
-may-change files state (Purge book key word) other =
-    elim (purge_changes (row_at state book key) key word) as (λ b. may_reply (Purge book key word)
-    (if b then change_reply (count_of state book) (purged (row_at state book key) key word (count_of state book + 1))
-    replies.Purged else replies.Unchanged) ≡ true) [
-      | true ↦ may-told (Purge book key word) (count_of state book)
-          (purged (row_at state book key) key word (count_of state book + 1)) replies.Purged (λ n. refl) refl refl
-      | false ↦ refl
-    ]
-may-change files state (Unlearn learned) other =
-    elim (is_stamped learned.stamp (row_at state learned.book learned.key)) as (λ b. may_reply (Unlearn learned)
-    (if b then replies.Restored else replies.Overtaken (stamp_of (row_at state learned.book learned.key)))
-    ≡ true) [ true ↦ refl | false ↦ refl ]
 
 -- an entry more
 pub history_of-note : (chronicle : List Noted) (note : Noted)

@@ -1,8 +1,6 @@
-ghost use Rattle.std.specs.Prelude.{◌≡◌, true, false, List};
+ghost use Rattle.std.specs.Prelude.{◌≡◌, true};
 ghost use Rattle.skk_calls.specs.Dictionary.{is_fit, may_answer};
 ghost use Rattle.skk_calls.specs.Histories.{after_answer};
-ghost use Rattle.skk_calls.specs.Rows.{Row};
-ghost use Rattle.learn_index.specs.Plans.{is_question};
 ghost use Rattle.skk_calls.specs.Openings.{is_reply};
 ghost use Rattle.skk_top.specs.Answering.{IsAnsweredAt};
 
@@ -128,36 +126,8 @@ fn answer(alloc: Global, system: &System, index: &mut Index, call: &Call) -> Ans
     ensures left { index.new.state ≡ after_answer index.old.state call.now result }
     ensures may { may_answer call.now result ≡ true }
 {
-    match call {
-        Call::Lookup { .. } | Call::Complete { .. } => ask(alloc, system, index, call),
-        Call::Learn { .. } | Call::Purge { .. } | Call::Unlearn { .. } => {
-            change(alloc, index, call)
-        }
-    }
-}
-
-// What a look-up or a completion is answered.
-fn ask(alloc: Global, system: &System, index: &Index, call: &Call) -> Answer
-    requires { is_question call.now ≡ true }
-    ensures answered { IsAnsweredAt system.now index.now.state call.now result }
-    ensures may { may_answer call.now result ≡ true }
-{
-    match index.answer(alloc, system, call) {
+    match index.serve(alloc, system, call) {
         Ok(reply) => Answer::Done(reply),
-        Err(Memory) => Answer::Refused(Refusal::Memory),
-    }
-}
-
-// What a change is answered, which is made in the learned books.
-fn change(alloc: Global, index: &mut Index, call: &Call) -> Answer
-    requires change { is_question call.now ≡ false }
-    requires fit { is_fit call.now ≡ true }
-    ensures answered { (files : List (List Row)) → IsAnsweredAt files index.old.state call.now result }
-    ensures left { index.new.state ≡ after_answer index.old.state call.now result }
-    ensures may { may_answer call.now result ≡ true }
-{
-    match index.plan(alloc, call) {
-        Ok(plan) => Answer::Done(index.apply(plan)),
         Err(Memory) => Answer::Refused(Refusal::Memory),
     }
 }
