@@ -52,6 +52,26 @@ impl NumberedList {
     }
 }
 
+impl Copies for TextCand {
+    fn copy(&self, alloc: Global) -> Result<TextCand, Memory> {
+        Ok(TextCand {
+            cand: self.cand.copy(alloc)?,
+            text: self.text.copy(alloc)?,
+            is_numbered: self.is_numbered,
+        })
+    }
+}
+
+impl Copies for NumberedList {
+    fn copy(&self, alloc: Global) -> Result<NumberedList, Memory> {
+        Ok(NumberedList {
+            key: self.key.copy(alloc)?,
+            number_key: self.number_key.copy(alloc)?,
+            cands: self.cands.copy(alloc)?,
+        })
+    }
+}
+
 // The list of what was found of a reading with numbers, the first of each text.
 pub(crate) fn numbered_list(
     alloc: Global,

@@ -1,4 +1,6 @@
 use crate::shown::ShownList;
+use skk_text::{Copies, Memory};
+use std::alloc::Global;
 use std::marker::Model;
 
 /// Candidates of which one is picked: the one that is shown singly, or the first of the page that is shown.
@@ -90,6 +92,16 @@ impl Picking {
         ensures { self.new ≡ record self.old { question = false } }
     {
         self.question = false;
+    }
+}
+
+impl Copies for Picking {
+    fn copy(&self, alloc: Global) -> Result<Picking, Memory> {
+        Ok(Picking {
+            shown: self.shown.copy(alloc)?,
+            place: self.place,
+            question: self.question,
+        })
     }
 }
 

@@ -4,7 +4,7 @@ ghost use Rattle.candidate_state.specs.Shown.{shown_plain, shown_numbers, shown_
 
 use crate::numbered::{NumberedList, numbered_list};
 use skk_calls::{Cand, Cands, DistinctCands, RowKey};
-use skk_text::{Memory, Text, Texts};
+use skk_text::{Copies, Memory, Text, Texts};
 use std::alloc::Global;
 use std::marker::Model;
 
@@ -110,6 +110,26 @@ impl ShownList {
             ShownCands::Words { key, cands } => word_at(key, cands, place),
             ShownCands::Numbered(list) => list.at(place),
         }
+    }
+}
+
+impl Copies for ShownCands {
+    fn copy(&self, alloc: Global) -> Result<ShownCands, Memory> {
+        match self {
+            ShownCands::Words { key, cands } => Ok(ShownCands::Words {
+                key: key.copy(alloc)?,
+                cands: cands.copy(alloc)?,
+            }),
+            ShownCands::Numbered(list) => Ok(ShownCands::Numbered(list.copy(alloc)?)),
+        }
+    }
+}
+
+impl Copies for ShownList {
+    fn copy(&self, alloc: Global) -> Result<ShownList, Memory> {
+        Ok(ShownList {
+            cands: self.cands.copy(alloc)?,
+        })
     }
 }
 

@@ -5,6 +5,7 @@ ghost use Rattle.skk_calls.specs.Dictionary.{is_plain_reading};
 ghost use Rattle.reading_state.specs.Keys.{key_of, key_with, okuri_of};
 
 mod completing;
+mod copying;
 mod deletes;
 mod okurigana;
 mod prefix;

@@ -74,6 +74,15 @@ impl Completions {
     }
 }
 
+impl Copies for Completions {
+    fn copy(&self, alloc: Global) -> Result<Completions, Memory> {
+        Ok(Completions {
+            readings: self.readings.copy(alloc)?,
+            place: self.place,
+        })
+    }
+}
+
 impl Reading {
     /// Takes the readings that complete this one: the first of them replaces it, and all are kept. Where there are
     /// none, and after `Memory`, the reading is as before. Takes time in the length of the first.

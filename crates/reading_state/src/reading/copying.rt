@@ -1,0 +1,38 @@
+ghost use Rattle.std.specs.Prelude.{◌≡◌, IfOk};
+ghost use Rattle.std.specs.Option.{option_copied};
+
+use super::{Begun, Reading};
+use romaji_rules::Pending;
+use skk_text::{Copies, Memory};
+use std::alloc::Global;
+
+impl Copies for Begun {
+    fn copy(&self, alloc: Global) -> Result<Begun, Memory> {
+        Ok(Begun {
+            letter: self.letter,
+            text: self.text.copy(alloc)?,
+        })
+    }
+}
+
+impl Copies for Reading {
+    fn copy(&self, alloc: Global) -> Result<Reading, Memory> {
+        Ok(Reading {
+            text: self.text.copy(alloc)?,
+            is_abbrev: self.is_abbrev,
+            okuri: copy_of(alloc, self.okuri.as_ref())?,
+            pending: Pending::of(self.pending.as_slice()),
+            completions: copy_of(alloc, self.completions.as_ref())?,
+        })
+    }
+}
+
+// A copy of what may not be there.
+fn copy_of<T: Copies>(alloc: Global, item: Option<&T>) -> Result<Option<T>, Memory>
+    ensures { IfOk result (λ copy. copy ≡ option_copied item.entry) }
+{
+    match item {
+        Some(item) => Ok(Some(item.copy(alloc)?)),
+        None => Ok(None),
+    }
+}
