@@ -6,5 +6,7 @@ mod Forms
 mod Limits
 mod NumberReadings
 mod RegistrationExamples
+mod ReplayExamples
+mod Replays
 mod Saying
 mod Words

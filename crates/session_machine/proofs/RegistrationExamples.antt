@@ -4,6 +4,9 @@ use lib.Utf8.{encode}
 use Rattle.skk_text.specs.declared.key.Key.TheVariants.{Char, Cg, Ret}
 use Rattle.skk_text.specs.declared.mode.Mode.{Mode}
 use Rattle.skk_text.specs.declared.mode.Mode.TheVariants.{Hira, Kata, Ascii, Wide}
+use Rattle.skk_text.specs.Lists.{is_empty}
+use Rattle.skk_text.specs.declared.notice.Notice.TheVariants as notices
+use Rattle.skk_calls.specs.Rows.{is_word}
 use Rattle.skk_calls.specs.declared.answer.Answer.{Answer}
 use Rattle.skk_calls.specs.declared.answer.Answer.TheVariants.{Done, Refused}
 use Rattle.skk_calls.specs.declared.answer.Refusal.TheVariants as refusals
@@ -19,8 +22,9 @@ use Rattle.session_machine.specs.declared.frame.Waiting.TheVariants as waits
 use Rattle.session_machine.specs.declared.session_notice.SessionNotice.{SessionNotice}
 use Rattle.session_machine.specs.declared.session_notice.SessionNotice.TheVariants as told
 use Rattle.session_machine.specs.Pressed.{pressed}
-use Rattle.session_machine.specs.Registrations.{registered_piece}
-use Rattle.session_machine.specs.Session.{Session}
+use Rattle.session_machine.specs.Registrations.{ended_in, registered_piece}
+use Rattle.session_machine.specs.Meanings.{becomes}
+use Rattle.session_machine.specs.Session.{Session, fits_behind}
 use Rattle.session_machine.proofs.Examples.{rules, after, at, none, plain, reading, with_begun, cand, conversion}
 
 -- a frame outside, with a text and a mode, which waits
@@ -111,6 +115,28 @@ flushes_word : asked (pressed rules (inside (waits_a ∷ []) (codes "亜") Hira 
     ≡ Learn 0 (record { part = Nasi; reading = codes "あ" }) None (cand (codes "亜ん") []) ∷ []
 unfolding encode
 flushes_word = refl
+
+-- a word that is too long is not learnt, and the registration stays
+too_long : (word : List ℕ) → is_empty word ≡ false → is_word word ≡ false
+    → ended_in (inside (waits_a ∷ []) word Ascii plain none) waits_a
+    ≡ becomes (inside (waits_a ∷ []) word Ascii plain (told.Step notices.Limit))
+too_long word some long = rw (some, long) refl
+
+-- a word that does not fit outside with its okurigana is not learnt, and the registration stays
+no_room_outside : (text : List ℕ) → fits_behind text (codes "亜シ") ≡ false
+    → pressed rules (inside (outer text Kata (waits.Reading (with_begun (codes "あ") 115 (codes "し"))) ∷ [])
+    (codes "亜") Hira plain none) Ret
+    ≡ becomes (inside (outer text Kata (waits.Reading (with_begun (codes "あ") 115 (codes "し"))) ∷ [])
+    (codes "亜") Hira plain (told.Step notices.Limit))
+unfolding encode
+no_room_outside text full = rw full refl
+
+-- a registration opens inside another, behind the frames that stand outside already
+opens_inside : after (inside (waits_a ∷ []) (codes "o") Hira (states.Reading (reading (codes "ん") [])) none) (Char 32)
+    (Done (replies.Found []) ∷ [])
+    ≡ Some (inside (waits_a ∷ outer (codes "o") Hira (waits.Reading (reading (codes "ん") [])) ∷ []) [] Hira plain none)
+unfolding encode
+opens_inside = refl
 
 -- in a registration inside another the word goes into the outer word
 into_outer_word : after (inside (waits_a ∷ outer (codes "o") Hira (waits.Reading (reading (codes "ん") [])) ∷ [])

@@ -2,8 +2,10 @@ pub mod Answered
 pub mod Converted
 pub mod Display
 pub mod Meanings
+pub mod NextAsked
 pub mod Pressed
 pub mod ReadingParts
 pub mod Registrations
+pub mod Replayed
 pub mod Said
 pub mod Session

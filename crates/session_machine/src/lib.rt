@@ -9,17 +9,21 @@
 //! and that the calls it made are those that the tree asks, none more. `printing` shows a session as it is printed.
 #![tactic(auto)]
 
+mod answer_kinds;
 mod answered;
+mod asking;
 mod choosing;
 mod completing;
 mod confirming;
 mod converting;
+mod copying;
 mod editing;
 mod escaping;
 mod first_words;
 mod frame;
 mod headword;
 mod kana;
+mod known_answers;
 mod laws;
 mod opening;
 mod pressing;
@@ -27,13 +31,16 @@ mod printing;
 mod purging;
 mod reading_parts;
 mod registering;
+mod replay;
 mod returning;
 mod session;
 mod session_notice;
 mod undoing;
 
+pub use copying::{copy_answer, copy_call};
 pub use frame::{Choice, Conversion, Frame, OuterFrame, State, Waiting};
 pub use headword::Headword;
 pub use laws::texts_have_a_limit;
+pub use replay::Replayed;
 pub use session::Session;
 pub use session_notice::SessionNotice;

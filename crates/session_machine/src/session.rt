@@ -1,10 +1,12 @@
+use crate::asking::replay;
 use crate::escaping::push_printed;
 use crate::frame::{Frame, OuterFrame};
 use crate::pressing::press_key;
 use crate::printing::{push_display, push_line, push_notice};
+use crate::replay::Replayed;
 use crate::session_notice::SessionNotice;
 use romaji_rules::Rules;
-use skk_calls::Caller;
+use skk_calls::{Answers, Call, Caller};
 use skk_text::{Key, Memory, Mode, Notice, Text};
 use std::alloc::Global;
 use std::marker::Model;
@@ -46,9 +48,12 @@ impl Model for Session {
 }
 
 impl Session {
-    ghost use Rattle.std.specs.Prelude.{◌≡◌, ◌⊎◌, ◌++◌, IfOk, OnOk};
+    ghost use Rattle.std.specs.Prelude.{◌≡◌, ◌⊎◌, ◌++◌, true, IfOk, IfSome, OnOk};
     ghost use Rattle.std.specs.Io.{StartsWith};
+    ghost use Rattle.skk_calls.specs.Dictionary.{is_fit};
+    ghost use Rattle.skk_calls.specs.Interactions.{end_of};
     ghost use Rattle.session_machine.specs.Display.{display, notice, line, text_printed};
+    ghost use Rattle.session_machine.specs.NextAsked.{may_answer_all, next_asked};
     ghost use Rattle.session_machine.specs.Pressed.{pressed, all_pressed};
     ghost use Rattle.session_machine.specs.Said.{Says, spoken};
     ghost use Rattle.session_machine.specs.Session.{new_session, text_of};
@@ -101,6 +106,39 @@ impl Session {
             press_key(&mut session, alloc, rules, *key, caller)?;
         }
         Ok(session)
+    }
+
+    /// The call that a key asks next where the calls before it got these answers, one after another: none where it asks
+    /// none. The session stays as it is.
+    pub fn next_call(
+        &self,
+        alloc: Global,
+        rules: &Rules,
+        key: Key,
+        answers: &Answers,
+    ) -> Result<Option<Call>, Memory>
+        requires { may_answer_all (pressed rules.now self.now key) answers.now ≡ true }
+        ensures next { IfOk result (λ call. call ≡ next_asked (pressed rules.now self.now key) answers.now) }
+        ensures fit { IfOk result (λ call. IfSome call (λ c. is_fit c ≡ true)) }
+    {
+        let Replayed { next, .. } = replay(self, alloc, rules, key, answers)?;
+        Ok(next)
+    }
+
+    /// The session after a key, where just these answers, one after another, lead to its end. The session stays as it
+    /// is.
+    pub fn end_by(
+        &self,
+        alloc: Global,
+        rules: &Rules,
+        key: Key,
+        answers: &Answers,
+    ) -> Result<Option<Session>, Memory>
+        requires { may_answer_all (pressed rules.now self.now key) answers.now ≡ true }
+        ensures { IfOk result (λ end. end ≡ end_of (pressed rules.now self.now key) answers.now) }
+    {
+        let Replayed { end, .. } = replay(self, alloc, rules, key, answers)?;
+        Ok(end)
     }
 
     /// The mode of the frame that takes the keys.
