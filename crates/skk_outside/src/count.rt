@@ -4,9 +4,9 @@ ghost use Rattle.skk_text.specs.Counts.{one_more};
 use crate::outside::Failed;
 use std::marker::Model;
 
-// A count that stands still at 2^64 - 1: contracts see the number.
+/// A count that stands still at 2^64 - 1: contracts see the number.
 #[derive(Debug, Drop)]
-pub(crate) struct Count {
+pub struct Count {
     count: u64,
 }
 
@@ -19,28 +19,30 @@ impl Model for Count {
 }
 
 impl Count {
-    // Nothing counted yet. Takes no memory.
-    pub(crate) fn new() -> Count
+    /// Nothing counted yet. Takes no memory.
+    pub fn new() -> Count
         ensures { result ≡ 0 }
     {
         Count { count: 0 }
     }
 
-    pub(crate) fn value(&self) -> u64
+    /// How many were counted.
+    pub fn value(&self) -> u64
         ensures { result ≡ self.now }
     {
         self.count
     }
 
-    pub(crate) fn add_one(&mut self)
+    /// Counts one more.
+    pub fn add_one(&mut self)
         ensures one_more { self.new ≡ one_more self.old }
         ensures counted { self.old ≤ self.new }
     {
         self.count = self.count.saturating_add(1);
     }
 
-    // Counts a call that failed.
-    pub(crate) fn fail(&mut self) -> Failed
+    /// Counts a call that failed.
+    pub fn fail(&mut self) -> Failed
         ensures one_more { self.new ≡ one_more self.old }
         ensures counted { self.old ≤ self.new }
     {

@@ -22,6 +22,9 @@ mod sink;
 mod source;
 mod writer_sink;
 
+pub use calls::Calls;
+pub use copying::copy_what_fits;
+pub use count::Count;
 pub use host_shelf::HostShelf;
 pub use mem_shelf::MemShelf;
 pub use mem_sink::MemSink;

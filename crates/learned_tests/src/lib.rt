@@ -1,0 +1,8 @@
+//! Tests of the public calls of the crates that keep what was learnt in a file.
+//!
+//! They stand above these crates, so that none of them is proved once with its tests and once without. It has no public
+//! item.
+#![tactic(auto)]
+
+#[cfg(test)]
+mod disks;

@@ -1,0 +1,3 @@
+mod CallSteps
+mod Examples
+mod Placing

@@ -1,0 +1,117 @@
+ghost use Rattle.std.specs.Prelude.{◌≡◌, ◌++◌, ◌-◌, length, replicate, OnOk, OnErr};
+ghost use Rattle.skk_disk.specs.Image.{empty_image, part, with_part};
+ghost use Rattle.skk_disk.specs.Steps.{placed};
+ghost use Rattle.skk_disk.specs.FileStates.{seen_after_write, seen_after_cut};
+
+use crate::which::Which;
+use std::alloc::{AllocError, Global};
+use std::marker::Model;
+
+// The bytes of both files: contracts see an image.
+#[derive(Debug, Drop)]
+pub(crate) struct Contents {
+    a: Vec<u8>,
+    b: Vec<u8>,
+}
+
+impl Model for Contents {
+    ghost use Rattle.skk_disk.specs.Image.{Image};
+
+    ghost Value = { Image };
+
+    ghost view = { λ c. record { a = c.a.items; b = c.b.items } };
+}
+
+impl Contents {
+    // Two empty files. Takes no memory.
+    pub(crate) fn new(alloc: Global) -> Contents
+        ensures { result ≡ empty_image }
+    {
+        Contents {
+            a: Vec::new(alloc),
+            b: Vec::new(alloc),
+        }
+    }
+
+    // The bytes of a file.
+    pub(crate) fn bytes(&self, file: Which) -> &[u8]
+        ensures { result.now ≡ part file self.now }
+    {
+        match file {
+            Which::A => &self.a,
+            Which::B => &self.b,
+        }
+    }
+
+    // Writes bytes at a place of a file, in place as far as there is room, if that is to be done.
+    pub(crate) fn write(
+        &mut self,
+        file: Which,
+        at: u64,
+        from: &[u8],
+        done: bool,
+    ) -> Result<(), AllocError>
+        ensures ok { OnOk result (self.new
+            ≡ with_part file (seen_after_write done at from.now (part file self.old)) self.old) }
+        ensures err { OnErr result (self.new ≡ self.old) }
+    {
+        match file {
+            Which::A => place_if(done, &mut self.a, at, from),
+            Which::B => place_if(done, &mut self.b, at, from),
+        }
+    }
+
+    // Cuts a file to a length, where it is longer, if that is to be done.
+    pub(crate) fn cut(&mut self, file: Which, len: u64, done: bool)
+        ensures { self.new ≡ with_part file (seen_after_cut done len (part file self.old)) self.old }
+    {
+        match file {
+            Which::A => cut_if(done, &mut self.a, len),
+            Which::B => cut_if(done, &mut self.b, len),
+        }
+    }
+}
+
+fn cut_if(done: bool, file: &mut Vec<u8>, len: u64)
+    ensures { file.new.items ≡ seen_after_cut done len file.old.items }
+{
+    if done {
+        file.truncate(len as usize);
+    }
+}
+
+fn place_if(done: bool, file: &mut Vec<u8>, at: u64, from: &[u8]) -> Result<(), AllocError>
+    ensures ok { OnOk result (file.new.items ≡ seen_after_write done at from.now file.old.items) }
+    ensures err { OnErr result (file.new.items ≡ file.old.items) }
+{
+    if done {
+        place(file, at, from)?;
+    }
+    Ok(())
+}
+
+// Writes bytes at a place of a file, behind zeros where it is shorter.
+fn place(file: &mut Vec<u8>, at: u64, from: &[u8]) -> Result<(), AllocError>
+    ensures ok { OnOk result (file.new.items ≡ placed at from.now file.old.items) }
+    ensures err { OnErr result (file.new.items ≡ file.old.items) }
+{
+    let at = at as usize;
+    // No vector is longer than that.
+    let Some(end) = at.checked_add(from.len()) else {
+        return Err(AllocError);
+    };
+    grow(file, end)?;
+    file[at..end].copy_from_slice(from);
+    Ok(())
+}
+
+// Fills a file up with zeros to a length, where it is shorter.
+fn grow(file: &mut Vec<u8>, len: usize) -> Result<(), AllocError>
+    ensures ok { OnOk result (file.new.items ≡ file.old.items ++ replicate (len - length file.old.items) 0) }
+    ensures err { OnErr result (file.new.items ≡ file.old.items) }
+{
+    if len <= file.len() {
+        return Ok(());
+    }
+    file.resize(len, 0)
+}

@@ -1,0 +1,111 @@
+ghost use Rattle.std.specs.Io.{ReadsAtMost};
+
+use skk_text::Text;
+use std::fs::{File, Files, OpenFile, OpenOptions};
+use std::io::{self, ErrorKind};
+use std::os::unix::fs::FileExt;
+use std::path::Path;
+
+// A file of the system by its name, which is opened at the first call on it, and made then where it is absent.
+#[derive(Drop)]
+pub(crate) struct HostFile<R: Files> {
+    name: Text,
+    file: Option<R::File>,
+    // Whether its folder was synced, by which the file has its name after a power cut too.
+    is_named: bool,
+}
+
+impl<R: Files> HostFile<R>
+where
+    R::File: FileExt,
+{
+    // Not opened yet. Takes no memory.
+    pub(crate) fn new(name: Text) -> HostFile<R> {
+        HostFile {
+            name,
+            file: None,
+            is_named: false,
+        }
+    }
+
+    pub(crate) fn len(&mut self, files: &R) -> io::Result<u64> {
+        Ok(self.open(files)?.metadata()?.len())
+    }
+
+    pub(crate) fn read_at(&mut self, files: &R, at: u64, into: &mut [u8]) -> io::Result<usize>
+        ensures bound { ReadsAtMost result into.new }
+    {
+        self.open(files)?.read_at(into, at)
+    }
+
+    // Bytes are written whole, or there is a fault.
+    pub(crate) fn write_at(&mut self, files: &R, at: u64, from: &[u8]) -> io::Result<()> {
+        let file = self.open(files)?;
+        if from.is_empty() && file.metadata()?.len() < at {
+            // The system takes an empty write for none.
+            return file.set_len(at);
+        }
+        file.write_all_at(from, at)
+    }
+
+    // The system would fill a shorter file up.
+    pub(crate) fn cut(&mut self, files: &R, len: u64) -> io::Result<()> {
+        let file = self.open(files)?;
+        if file.metadata()?.len() <= len {
+            return Ok(());
+        }
+        file.set_len(len)
+    }
+
+    // The first sync is one of the folder too: the file may have been made now, or by a program that was stopped.
+    pub(crate) fn sync(&mut self, files: &R) -> io::Result<()> {
+        self.open(files)?.sync_data()?;
+        if !self.is_named {
+            sync_folder(files, self.name.as_str())?;
+            self.is_named = true;
+        }
+        Ok(())
+    }
+
+    fn open(&mut self, files: &R) -> io::Result<&R::File> {
+        let file = match self.file.take() {
+            Some(file) => file,
+            None => open_or_make(files, self.name.as_str())?,
+        };
+        Ok(self.file.insert(file))
+    }
+}
+
+fn open_or_make<R: Files>(files: &R, name: &str) -> io::Result<R::File> {
+    let mut how = OpenOptions::new();
+    how.read(true).write(true).create(true);
+    how.open(files, name)
+}
+
+// Syncs the folder of a file, where the system lets it.
+fn sync_folder<R: Files>(files: &R, name: &str) -> io::Result<()> {
+    match open_and_sync(files, folder_of(name)) {
+        Err(error) if is_not_let(error.kind()) => Ok(()),
+        synced => synced,
+    }
+}
+
+fn open_and_sync<R: Files>(files: &R, folder: &str) -> io::Result<()> {
+    File::open(files, folder)?.sync_all()
+}
+
+// The folder may be one that may not be read, or of a file system that syncs no folders.
+fn is_not_let(kind: ErrorKind) -> bool {
+    matches!(
+        kind,
+        ErrorKind::PermissionDenied | ErrorKind::InvalidInput | ErrorKind::Unsupported
+    )
+}
+
+// The folder that a path names its file in.
+fn folder_of(name: &str) -> &str {
+    match Path::new(name).parent() {
+        Some(folder) if !folder.as_str().is_empty() => folder.as_str(),
+        _ => ".",
+    }
+}
