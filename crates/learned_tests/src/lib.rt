@@ -6,3 +6,5 @@
 
 #[cfg(test)]
 mod disks;
+#[cfg(test)]
+mod journals;

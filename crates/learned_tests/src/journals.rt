@@ -1,0 +1,369 @@
+use skk_disk::{Disk, FileDisk, MadeCall, MemDisk, Which};
+use skk_journal::{AppendFault, Journal, OpenFault, PAYLOAD_LIMIT, Records, Unopened};
+use skk_outside::Failed;
+use skk_text::Text;
+use std::alloc::{AllocError, Global};
+use std::fs;
+use std::process::Abort;
+use std::test::Fail;
+
+// The payload of the first learning of 漢字 for かんじ in book 1.
+const LEARNING: &[u8] = b"\x01\x01\0\x01\0\0\0\0\0\0\0\x01\0\0\0\0\0\0\0\0\
+    \xe3\x81\x8b\xe3\x82\x93\xe3\x81\x98 /\xe6\xbc\xa2\xe5\xad\x97/";
+
+// A new file, and the file with that record.
+const NEW_FILE: &[u8] = b"\x01SKKDESK\x01\x01\0\0\0\0\0\0\0\0";
+
+const LEARNT_FILE: &[u8] = b"\x01SKKDESK\x01\x01\0\0\0\0\0\0\0\x01\x26\0\0\0\
+    \x01\x01\0\x01\0\0\0\0\0\0\0\x01\0\0\0\0\0\0\0\0\
+    \xe3\x81\x8b\xe3\x82\x93\xe3\x81\x98 /\xe6\xbc\xa2\xe5\xad\x97/\0";
+
+// A disk whose first file has these bytes: two calls, where there are any.
+fn disk_of<R: Abort>(
+    rt: &R,
+    alloc: Global,
+    bytes: &[u8],
+    fails: &[u64],
+) -> Result<MemDisk, AllocError> {
+    let mut disk = MemDisk::new(alloc, fails.to_vec(alloc)?);
+    if !bytes.is_empty() {
+        assert_eq!(rt; disk.write_at(Which::A, 0, bytes), Ok(()));
+        assert_eq!(rt; disk.sync(Which::A), Ok(()));
+    }
+    Ok(disk)
+}
+
+// Tells that the first file of a disk has these bytes.
+fn expect_file<R: Abort, D: Disk>(
+    rt: &R,
+    alloc: Global,
+    disk: &mut D,
+    bytes: &[u8],
+) -> Result<(), AllocError> {
+    let mut into = vec![in alloc; 0; bytes.len() + 1]?;
+    assert_eq!(rt; disk.read_at(Which::A, 0, &mut into), Ok(bytes.len()));
+    assert_eq!(rt; &into[..bytes.len()], bytes);
+    Ok(())
+}
+
+// Tells which records there are: the place and the payload of each.
+fn expect_records<R: Abort>(rt: &R, records: &Records, expected: &[(u64, &[u8])]) {
+    assert_eq!(rt; records.len(), expected.len());
+    for (found, (at, payload)) in records.iter().zip(expected) {
+        assert_eq!(rt; found.at, *at);
+        assert_eq!(rt; found.payload.as_slice(), *payload);
+    }
+}
+
+// Opens the learned file of a disk, which has these records.
+fn open<R: Abort, D: Disk + Drop>(
+    rt: &R,
+    alloc: Global,
+    disk: D,
+    expected: &[(u64, &[u8])],
+) -> Result<Journal<D>, Fail> {
+    match Journal::open(alloc, disk) {
+        Ok((journal, records)) => {
+            expect_records(rt, &records, expected);
+            Ok(journal)
+        }
+        Err(unopened) => Err(Fail::new(unopened.why)),
+    }
+}
+
+// Adds a record, where nothing is in doubt and it may be one.
+fn append<R: Abort, D: Disk>(
+    rt: &R,
+    journal: &mut Journal<D>,
+    limit: u64,
+    payload: &[u8],
+) -> Result<(), AppendFault> {
+    assert!(rt; !journal.in_doubt());
+    assert!(rt; !payload.is_empty());
+    assert!(rt; payload.len() <= PAYLOAD_LIMIT);
+    journal.append(limit, payload)
+}
+
+#[test]
+fn an_empty_file_is_made_anew_and_a_record_is_its_bytes(rt: HostRuntime) -> Result<(), Fail> {
+    let alloc = rt.alloc();
+    let disk = disk_of(&rt, alloc, b"", &[])?;
+    let mut journal = open(&rt, alloc, disk, &[])?;
+    assert_eq!(rt; journal.end(), 18);
+    let full = AppendFault::Full {
+        end: 18,
+        need: 43,
+        limit: 60,
+    };
+    assert_eq!(rt; append(&rt, &mut journal, 60, LEARNING), Err(full));
+    assert_eq!(rt; append(&rt, &mut journal, 61, LEARNING), Ok(()));
+    assert_eq!(rt; journal.end(), 61);
+    let mut disk = journal.close();
+    assert_eq!(rt; disk.made().len(), 12);
+    expect_file(&rt, alloc, &mut disk, LEARNT_FILE)?;
+    let journal = open(&rt, alloc, disk, &[(17, LEARNING)])?;
+    assert_eq!(rt; journal.end(), 61);
+    assert!(rt; !journal.in_doubt());
+    Ok(())
+}
+
+// What a file is opened as: records with their places, its first byte, or the place that is refused and the records
+// before it.
+#[derive(Clone, Copy, Debug)]
+enum Row {
+    Anew,
+    Records(&'static [(u64, &'static [u8])]),
+    NotJournal(u8),
+    BadRecord(u64, &'static [(u64, &'static [u8])]),
+}
+
+// Opens a file, and tells that a file that is refused, or has records, is the same afterwards.
+fn expect_row<R: Abort>(rt: &R, alloc: Global, bytes: &[u8], row: Row) -> Result<(), Fail> {
+    let disk = disk_of(rt, alloc, bytes, &[])?;
+    let mut disk = match (Journal::open(alloc, disk), row) {
+        (Ok((journal, records)), Row::Anew) => {
+            assert!(rt; records.is_empty());
+            let mut disk = journal.close();
+            expect_file(rt, alloc, &mut disk, NEW_FILE)?;
+            return Ok(());
+        }
+        (Ok((journal, records)), Row::Records(expected)) => {
+            expect_records(rt, &records, expected);
+            journal.close()
+        }
+        (Err(Unopened { disk, why }), row) => {
+            expect_fault(rt, &why, row);
+            disk
+        }
+        _ => return Err(Fail::new(format_args!("{row:?} is opened"))),
+    };
+    expect_file(rt, alloc, &mut disk, bytes)?;
+    Ok(())
+}
+
+fn expect_fault<R: Abort>(rt: &R, why: &OpenFault, row: Row) {
+    match (why, row) {
+        (OpenFault::NotJournal { first }, Row::NotJournal(byte)) => assert_eq!(rt; *first, byte),
+        (OpenFault::BadRecord { at, before }, Row::BadRecord(place, expected)) => {
+            assert_eq!(rt; *at, place);
+            expect_records(rt, before, expected);
+        }
+        _ => assert!(rt; false, "{row:?} is refused: {why}"),
+    }
+}
+
+#[test]
+fn files_are_opened_by_their_heads(rt: HostRuntime) -> Result<(), Fail> {
+    let rows: &[(&[u8], Row)] = &[
+        (b"", Row::Anew),
+        (b"P", Row::Anew),
+        (b"\x01", Row::Anew),
+        (b"\0plain text", Row::Anew),
+        (b"\x02SKKDESK\x01", Row::Anew),
+        (b"\xffSKKDESK\x01 and text", Row::Anew),
+        (b"P.", Row::NotJournal(80)),
+        (b"\x01\x01", Row::NotJournal(1)),
+        (b"\x01SKKDESK", Row::NotJournal(1)),
+        (b"\x02SKKDESK", Row::NotJournal(2)),
+        (b"\x01SKKDESK\x02\x01\0\0\0\0\0\0\0\0", Row::NotJournal(1)),
+        (b"\x01SKKDESC\x01\x01\0\0\0\0\0\0\0\0", Row::NotJournal(1)),
+        (b"\x01SKKDESK\x01", Row::BadRecord(9, &[])),
+        (b"\x01SKKDESK\x01\x01\0\0\0\0\0\0", Row::BadRecord(9, &[])),
+        (
+            b"\x01SKKDESK\x01\x01\0\0\0\0\0\0\0",
+            Row::BadRecord(17, &[]),
+        ),
+        (b"\x01SKKDESK\x01\x07\0\0\0\0\0\0\x09\0", Row::Records(&[])),
+    ];
+    for (bytes, row) in rows {
+        expect_row(&rt, rt.alloc(), bytes, *row)?;
+    }
+    Ok(())
+}
+
+#[test]
+fn records_are_read_up_to_the_first_gate_that_is_not_open(rt: HostRuntime) -> Result<(), Fail> {
+    let rows: &[(&[u8], Row)] = &[
+        (b"\0\x01\x01\0\0\0x\0", Row::Records(&[])),
+        (b"\x02\x01\0\0\0x\0", Row::Records(&[])),
+        (b"\x01", Row::BadRecord(17, &[])),
+        (b"\x01\x01\0\0", Row::BadRecord(17, &[])),
+        (b"\x01\0\0\0\0\0", Row::BadRecord(17, &[])),
+        (b"\x01\x02\0\0\0x", Row::BadRecord(17, &[])),
+        (b"\x01\x01\0\x02\0x", Row::BadRecord(17, &[])),
+        (b"\x01\xff\xff\xff\xffx", Row::BadRecord(17, &[])),
+        (b"\x01\x01\0\0\0x", Row::BadRecord(23, &[(17, b"x")])),
+        (b"\x01\x01\0\0\0x\0", Row::Records(&[(17, b"x")])),
+        (b"\x01\x01\0\0\0x\xffrest", Row::Records(&[(17, b"x")])),
+        (
+            b"\x01\x01\0\0\0x\x01\x02\0\0\0yz\0",
+            Row::Records(&[(17, b"x"), (23, b"yz")]),
+        ),
+        (
+            b"\x01\x01\0\0\0x\x01\x02\0\0\0yz\x01\0\0\0\0",
+            Row::BadRecord(30, &[(17, b"x"), (23, b"yz")]),
+        ),
+    ];
+    for (tail, row) in rows {
+        let mut bytes = NEW_FILE[..17].to_vec(rt.alloc())?;
+        bytes.extend_from_slice(tail)?;
+        expect_row(&rt, rt.alloc(), &bytes, *row)?;
+    }
+    Ok(())
+}
+
+#[test]
+fn records_of_any_length_are_read_part_by_part(rt: HostRuntime) -> Result<(), Fail> {
+    let alloc = rt.alloc();
+    let longest = vec![in alloc; b'a'; PAYLOAD_LIMIT]?;
+    assert_eq!(rt; longest.len(), 131_072);
+    let long = vec![in alloc; 1; 70_000]?;
+    let disk = disk_of(&rt, alloc, b"", &[])?;
+    let mut journal = open(&rt, alloc, disk, &[])?;
+    let payloads: &[&[u8]] = &[b"x", &longest, &long, &long, b"y", &longest, b"z"];
+    for payload in payloads {
+        assert_eq!(rt; append(&rt, &mut journal, 1 << 28, payload), Ok(()));
+    }
+    assert_eq!(rt; journal.end(), 402_200);
+    let expected: &[(u64, &[u8])] = &[
+        (17, b"x"),
+        (23, &longest),
+        (131_100, &long),
+        (201_105, &long),
+        (271_110, b"y"),
+        (271_116, &longest),
+        (402_193, b"z"),
+    ];
+    let mut disk = journal.close();
+    open(&rt, alloc, disk, expected)?;
+    // One byte too many.
+    disk = disk_of(&rt, alloc, &NEW_FILE[..17], &[])?;
+    assert_eq!(rt; disk.write_at(Which::A, 17, b"\x01\x01\0\x02\0"), Ok(()));
+    assert_eq!(rt; disk.write_at(Which::A, 22, &longest), Ok(()));
+    assert_eq!(rt; disk.write_at(Which::A, 22 + 131_072, b"a\0"), Ok(()));
+    let Err(unopened) = Journal::open(alloc, disk) else {
+        return Err(Fail::new("a record that is too long is opened"));
+    };
+    expect_fault(&rt, &unopened.why, Row::BadRecord(17, &[]));
+    Ok(())
+}
+
+// An opened file with one record, the calls of whose disk with these numbers fail: the next call is the eighth.
+fn with_failing_calls<R: Abort>(
+    rt: &R,
+    alloc: Global,
+    fails: &[u64],
+) -> Result<Journal<MemDisk>, Fail> {
+    let disk = disk_of(rt, alloc, LEARNT_FILE, fails)?;
+    open(rt, alloc, disk, &[(17, LEARNING)])
+}
+
+// What the calls of a disk were, from a number of them on.
+fn kinds<R: Abort>(rt: &R, alloc: Global, made: &[MadeCall]) -> Result<String, AllocError> {
+    let mut kinds = String::new(alloc);
+    for call in made {
+        kinds.push(match call {
+            MadeCall::Write { done: true, .. } => 'w',
+            MadeCall::Write { .. } => 'W',
+            MadeCall::Cut { .. } => 'c',
+            MadeCall::Sync { .. } => 's',
+        })?;
+    }
+    assert!(rt; kinds.len() == made.len());
+    Ok(kinds)
+}
+
+#[test]
+fn a_record_whose_calls_fail_is_in_doubt_from_the_third_on(rt: HostRuntime) -> Result<(), Fail> {
+    let alloc = rt.alloc();
+    let rows: &[(u64, bool, &str)] = &[
+        (8, false, "wssWwsws"),
+        (9, false, "wsswwsws"),
+        (10, true, "wsswsWwswsws"),
+        (11, true, "wsswswwswsws"),
+    ];
+    for (call, doubt, made) in rows {
+        let mut journal = with_failing_calls(&rt, alloc, &[*call])?;
+        assert_eq!(rt;
+            append(&rt, &mut journal, 1000, b"x"),
+            Err(AppendFault::Disk)
+        );
+        assert_eq!(rt; journal.in_doubt(), *doubt, "call {call}");
+        assert_eq!(rt; journal.end(), 61);
+        assert_eq!(rt; journal.repair(), Ok(()));
+        assert_eq!(rt; append(&rt, &mut journal, 1000, b"y"), Ok(()));
+        let disk = journal.close();
+        assert_eq!(rt;
+            kinds(&rt, alloc, disk.made())?.as_str(),
+            *made,
+            "call {call}"
+        );
+        open(&rt, alloc, disk, &[(17, LEARNING), (60, b"y")])?;
+    }
+    Ok(())
+}
+
+#[test]
+fn a_doubt_stands_until_it_is_repaired(rt: HostRuntime) -> Result<(), Fail> {
+    let alloc = rt.alloc();
+    let mut journal = with_failing_calls(&rt, alloc, &[11, 12, 14])?;
+    assert_eq!(rt;
+        append(&rt, &mut journal, 1000, b"x"),
+        Err(AppendFault::Disk)
+    );
+    assert_eq!(rt; journal.repair(), Err(Failed));
+    assert_eq!(rt; journal.repair(), Err(Failed));
+    assert!(rt; journal.in_doubt());
+    assert_eq!(rt; journal.repair(), Ok(()));
+    assert!(rt; !journal.in_doubt());
+    let disk = journal.close();
+    assert_eq!(rt; kinds(&rt, alloc, disk.made())?.as_str(), "wsswswWwws");
+    open(&rt, alloc, disk, &[(17, LEARNING)])?;
+    Ok(())
+}
+
+#[test]
+fn an_opening_whose_calls_fail_gives_the_disk_back(rt: HostRuntime) -> Result<(), Fail> {
+    let alloc = rt.alloc();
+    for call in 1..=9 {
+        let disk = disk_of(&rt, alloc, b"", &[call])?;
+        let Err(Unopened { disk, why }) = Journal::open(alloc, disk) else {
+            return Err(Fail::new(format_args!("call {call} does not fail")));
+        };
+        assert!(rt; matches!(why, OpenFault::Disk), "call {call}: {why}");
+        let mut disk = open(&rt, alloc, disk, &[])?.close();
+        expect_file(&rt, alloc, &mut disk, NEW_FILE)?;
+    }
+    for call in 3..=7 {
+        let disk = disk_of(&rt, alloc, LEARNT_FILE, &[call])?;
+        let Err(Unopened { disk, why }) = Journal::open(alloc, disk) else {
+            return Err(Fail::new(format_args!("call {call} does not fail")));
+        };
+        assert!(rt; matches!(why, OpenFault::Disk), "call {call}: {why}");
+        open(&rt, alloc, disk, &[(17, LEARNING)])?;
+    }
+    Ok(())
+}
+
+const FOLDER: &str = "learned_tests_journal";
+
+fn text(alloc: Global, name: &str) -> Result<Text, AllocError> {
+    Ok(Text::of(String::from_str(alloc, name)?))
+}
+
+#[test]
+fn a_file_of_the_system_is_a_journal(rt: HostRuntime) -> Result<(), Fail> {
+    let alloc = rt.alloc();
+    // One that an earlier run left, which was stopped.
+    let _ = fs::remove_dir_all(&rt, FOLDER);
+    fs::create_dir(&rt, FOLDER)?;
+    let a = text(alloc, "learned_tests_journal/a")?;
+    let disk = FileDisk::new(&rt, a, text(alloc, "learned_tests_journal/b")?);
+    let mut journal = open(&rt, alloc, disk, &[])?;
+    assert_eq!(rt; append(&rt, &mut journal, 1000, LEARNING), Ok(()));
+    let mut disk = journal.close();
+    expect_file(&rt, alloc, &mut disk, LEARNT_FILE)?;
+    open(&rt, alloc, disk, &[(17, LEARNING)])?;
+    fs::remove_dir_all(&rt, FOLDER)?;
+    Ok(())
+}

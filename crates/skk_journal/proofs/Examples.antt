@@ -1,0 +1,270 @@
+-- The definitions at small examples, each worked out by hand.
+use Rattle.std.proofs.Common.{◌≡◌, ℕ, Bool, true, false, ◌||◌, List, [], ◌∷◌, ◌++◌, length, take, drop, map, inl, inr}
+use Rattle.std.proofs.Common.{arith, refl, lit≤, lit<}
+use Rattle.std.proofs.lemmas.List.Elements.{All-nil, All-cons}
+use Rattle.skk_journal.specs.Records.{IsSized, size_bytes, record_bytes, need, framed, behind_gate, front}
+use Rattle.skk_journal.specs.Records.{end_of, HasRecords, HasAddition}
+use Rattle.skk_journal.specs.Opening.{is_fresh, is_foreign, first_byte, is_cut_short, is_bad, Opening}
+use Rattle.skk_journal.specs.Opening.{with_records, not_journal, bad_record, IsOpened}
+use Rattle.skk_journal.specs.Opening.{OpensAtOnce}
+use Rattle.skk_journal.specs.OpeningLaws.{one_opening, whole_is_good, has_not_fresh}
+use Rattle.skk_journal.specs.Images.{Holds, Opens, HoldsEither, SameOther}
+use Rattle.skk_journal.specs.Journal.{OpenJournal}
+use Rattle.skk_journal.specs.Causes.{IsRefused, UnlessDisk, IsNotAdded}
+use Rattle.skk_journal.specs.declared.fault.AppendFault.TheVariants.{Full, Disk}
+use Rattle.skk_journal.specs.declared.fault.OpenFault.TheVariants as opening
+use Rattle.skk_journal.specs.Making.{first_generation, IsShort, IsBlank, IsNew}
+use Rattle.skk_journal.specs.Found.{found_from}
+
+-- the payload of the first learning of 漢字 for かんじ in book 1
+abbrev learning : List ℕ
+learning =
+    1 ∷ 1 ∷ 0 ∷ 1 ∷ 0 ∷ 0 ∷ 0 ∷ 0 ∷ 0 ∷ 0 ∷ 0 ∷ 1 ∷ 0 ∷ 0 ∷ 0 ∷ 0 ∷ 0 ∷ 0 ∷ 0 ∷ 0 ∷ 227 ∷ 129 ∷ 139 ∷ 227 ∷ 130 ∷ 147
+    ∷ 227 ∷ 129 ∷ 152 ∷ 32 ∷ 47 ∷ 230 ∷ 188 ∷ 162 ∷ 229 ∷ 173 ∷ 151 ∷ 47 ∷ []
+
+-- sizes in four bytes, the least first
+sizes : map size_bytes (0 ∷ 1 ∷ 38 ∷ 256 ∷ 131072 ∷ 131073 ∷ 4294967295 ∷ [])
+    ≡ (0 ∷ 0 ∷ 0 ∷ 0 ∷ []) ∷ (1 ∷ 0 ∷ 0 ∷ 0 ∷ []) ∷ (38 ∷ 0 ∷ 0 ∷ 0 ∷ []) ∷ (0 ∷ 1 ∷ 0 ∷ 0 ∷ []) ∷ (0 ∷ 0 ∷ 2 ∷ 0 ∷ [])
+    ∷ (1 ∷ 0 ∷ 2 ∷ 0 ∷ []) ∷ (255 ∷ 255 ∷ 255 ∷ 255 ∷ []) ∷ []
+unfolding size_bytes
+sizes = refl
+
+-- the record of that payload: an open gate, its size, and itself
+learning_record : record_bytes learning ≡ 1 ∷ 38 ∷ 0 ∷ 0 ∷ 0 ∷ learning
+unfolding size_bytes
+learning_record = refl
+
+-- it needs 43 bytes, and takes the end of a new file from 18 to 61
+learning_need : (need learning ≡ 43) × (end_of [] ≡ 18) × (end_of (learning ∷ []) ≡ 61)
+unfolding need size_bytes
+learning_need = (refl, refl, refl)
+
+-- the file with that record, and a closed gate behind it
+abbrev learnt_file : List ℕ
+learnt_file =
+    1 ∷ 83 ∷ 75 ∷ 75 ∷ 68 ∷ 69 ∷ 83 ∷ 75 ∷ 1 ∷ 1 ∷ 0 ∷ 0 ∷ 0 ∷ 0 ∷ 0 ∷ 0 ∷ 0 ∷ 1 ∷ 38 ∷ 0 ∷ 0 ∷ 0 ∷ learning ++ 0 ∷ []
+
+learnt_is : learnt_file ≡ front first_generation (learning ∷ []) ++ 0 ∷ []
+unfolding size_bytes
+learnt_is = refl
+
+learnt_long : length learnt_file ≡ 61
+learnt_long = refl
+
+learnt_sized : IsSized learning
+learnt_sized = (omega arith, omega arith)
+
+learnt_has : HasRecords (learning ∷ []) learnt_file
+learnt_has = record {
+  generation = first_generation;
+  gate = 0;
+  rest = [];
+  is = learnt_is;
+  whole = refl;
+  sized = All-cons IsSized learning [] learnt_sized (All-nil IsSized);
+  closed = λ same. omega (arith, same);
+}
+
+learnt_opened : IsOpened learnt_file (with_records (learning ∷ []))
+learnt_opened = inl learnt_has
+
+-- it is opened in no other way
+learnt_alone : (other : Opening) → IsOpened learnt_file other → with_records (learning ∷ []) ≡ other
+learnt_alone other is = one_opening learnt_file (with_records (learning ∷ [])) other learnt_opened is
+
+-- two records with their places, and what stands behind the first one's gate
+two_records : found_from 17 ((9 ∷ []) ∷ (7 ∷ 8 ∷ []) ∷ [])
+    ≡ record { at = 17; payload = 9 ∷ [] } ∷ record { at = 23; payload = 7 ∷ 8 ∷ [] } ∷ []
+unfolding need size_bytes
+two_records = refl
+
+two_framed : framed ((9 ∷ []) ∷ (7 ∷ 8 ∷ []) ∷ []) ≡ 1 ∷ 1 ∷ 0 ∷ 0 ∷ 0 ∷ 9 ∷ 1 ∷ 2 ∷ 0 ∷ 0 ∷ 0 ∷ 7 ∷ 8 ∷ []
+unfolding size_bytes
+two_framed = refl
+
+two_behind : behind_gate ((9 ∷ []) ∷ (7 ∷ 8 ∷ []) ∷ []) ≡ 1 ∷ 0 ∷ 0 ∷ 0 ∷ 9 ∷ 1 ∷ 2 ∷ 0 ∷ 0 ∷ 0 ∷ 7 ∷ 8 ∷ []
+unfolding size_bytes
+two_behind = refl
+
+-- what files are by their heads: made anew, no learned file, cut short
+abbrev heads : List ℕ → Bool × Bool × Bool
+heads file = (is_fresh file, is_foreign file, is_cut_short file)
+
+-- nothing; one byte; the first byte 0; another first byte with the mark; one without it; the mark not whole; another
+-- version; an open gate and the mark alone; no whole generation; a whole one
+by_head : map heads (
+    [] ∷ (80 ∷ []) ∷ (1 ∷ []) ∷ (0 ∷ 7 ∷ 7 ∷ []) ∷ (2 ∷ 83 ∷ 75 ∷ 75 ∷ 68 ∷ 69 ∷ 83 ∷ 75 ∷ 1 ∷ []) ∷ (80 ∷ 46 ∷ [])
+    ∷ (2 ∷ 83 ∷ 75 ∷ 75 ∷ 68 ∷ 69 ∷ 83 ∷ 75 ∷ []) ∷ (1 ∷ 83 ∷ 75 ∷ 75 ∷ 68 ∷ 69 ∷ 83 ∷ 75 ∷ 2 ∷ [])
+    ∷ (1 ∷ 83 ∷ 75 ∷ 75 ∷ 68 ∷ 69 ∷ 83 ∷ 75 ∷ 1 ∷ [])
+    ∷ (1 ∷ 83 ∷ 75 ∷ 75 ∷ 68 ∷ 69 ∷ 83 ∷ 75 ∷ 1 ∷ 1 ∷ 0 ∷ 0 ∷ 0 ∷ 0 ∷ 0 ∷ 0 ∷ [])
+    ∷ (1 ∷ 83 ∷ 75 ∷ 75 ∷ 68 ∷ 69 ∷ 83 ∷ 75 ∷ 1 ∷ 1 ∷ 0 ∷ 0 ∷ 0 ∷ 0 ∷ 0 ∷ 0 ∷ 0 ∷ []) ∷ [])
+    ≡ (true, false, false) ∷ (true, false, false) ∷ (true, false, false) ∷ (true, false, false) ∷ (true, false, false)
+    ∷ (false, true, false) ∷ (false, true, false) ∷ (false, true, false) ∷ (false, false, true)
+    ∷ (false, false, true) ∷ (false, false, false) ∷ []
+by_head = refl
+
+first_bytes : map first_byte ((80 ∷ 46 ∷ []) ∷ [] ∷ []) ≡ 80 ∷ 0 ∷ []
+first_bytes = refl
+
+-- what is bad at the place of a gate: no gate; no whole size; the size 0; a record that ends one byte early; the sizes
+-- 131,073 and 2^32 - 1
+bad_tails : map is_bad (
+    [] ∷ (1 ∷ []) ∷ (1 ∷ 1 ∷ 0 ∷ 0 ∷ []) ∷ (1 ∷ 0 ∷ 0 ∷ 0 ∷ 0 ∷ 7 ∷ []) ∷ (1 ∷ 2 ∷ 0 ∷ 0 ∷ 0 ∷ 7 ∷ [])
+    ∷ (1 ∷ 1 ∷ 0 ∷ 2 ∷ 0 ∷ 7 ∷ []) ∷ (1 ∷ 255 ∷ 255 ∷ 255 ∷ 255 ∷ 7 ∷ []) ∷ [])
+    ≡ true ∷ true ∷ true ∷ true ∷ true ∷ true ∷ true ∷ []
+bad_tails = refl
+
+-- what is not: closed gates, also with garbage behind them, and records that are whole
+good_tails : map is_bad (
+    (0 ∷ []) ∷ (2 ∷ []) ∷ (255 ∷ 1 ∷ 0 ∷ []) ∷ (0 ∷ 1 ∷ 0 ∷ 0 ∷ 0 ∷ 0 ∷ []) ∷ (1 ∷ 1 ∷ 0 ∷ 0 ∷ 0 ∷ 7 ∷ [])
+    ∷ (1 ∷ 2 ∷ 0 ∷ 0 ∷ 0 ∷ 7 ∷ 8 ∷ 9 ∷ []) ∷ [])
+    ≡ false ∷ false ∷ false ∷ false ∷ false ∷ false ∷ []
+good_tails = refl
+
+-- a file whose second record ends one byte early
+abbrev early : List ℕ
+early =
+    1 ∷ 83 ∷ 75 ∷ 75 ∷ 68 ∷ 69 ∷ 83 ∷ 75 ∷ 1 ∷ 1 ∷ 0 ∷ 0 ∷ 0 ∷ 0 ∷ 0 ∷ 0 ∷ 0
+    ∷ 1 ∷ 1 ∷ 0 ∷ 0 ∷ 0 ∷ 9 ∷ 1 ∷ 2 ∷ 0 ∷ 0 ∷ 0 ∷ 7 ∷ []
+
+early_opened : IsOpened early (bad_record 23 ((9 ∷ []) ∷ []))
+unfolding size_bytes
+early_opened = inr (record {
+  generation = first_generation;
+  tail = 1 ∷ 2 ∷ 0 ∷ 0 ∷ 0 ∷ 7 ∷ [];
+  is = refl;
+  whole = refl;
+  sized = All-cons IsSized (9 ∷ []) [] (omega arith, omega arith) (All-nil IsSized);
+  bad = refl;
+  place = refl;
+})
+
+-- a file that ends behind its generation, one that ends in it, and one that is none
+cut_opened : IsOpened (front first_generation []) (bad_record 17 [])
+    × IsOpened (1 ∷ 83 ∷ 75 ∷ 75 ∷ 68 ∷ 69 ∷ 83 ∷ 75 ∷ 1 ∷ 1 ∷ []) (bad_record 9 [])
+    × IsOpened (80 ∷ 83 ∷ []) (not_journal 80)
+cut_opened = (
+  inr (record {
+    generation = first_generation;
+    tail = [];
+    is = refl;
+    whole = refl;
+    sized = All-nil IsSized;
+    bad = refl;
+    place = refl;
+  }),
+  inl (refl, refl, refl),
+  (refl, refl),
+)
+
+-- a gate that is neither 0 nor 1 ends the records, whatever follows it
+garbage_opened : IsOpened (front first_generation [] ++ 2 ∷ 1 ∷ 0 ∷ 9 ∷ []) (with_records [])
+garbage_opened = inl (record {
+  generation = first_generation;
+  gate = 2;
+  rest = 1 ∷ 0 ∷ 9 ∷ [];
+  is = refl;
+  whole = refl;
+  sized = All-nil IsSized;
+  closed = λ same. omega (arith, same);
+})
+
+-- two records behind a gate, which are staged together
+staged : HasAddition ((9 ∷ []) ∷ []) ((7 ∷ []) ∷ (8 ∷ []) ∷ []) 0
+    (1 ∷ 83 ∷ 75 ∷ 75 ∷ 68 ∷ 69 ∷ 83 ∷ 75 ∷ 1 ∷ 1 ∷ 0 ∷ 0 ∷ 0 ∷ 0 ∷ 0 ∷ 0 ∷ 0
+    ∷ 1 ∷ 1 ∷ 0 ∷ 0 ∷ 0 ∷ 9 ∷ 0 ∷ 1 ∷ 0 ∷ 0 ∷ 0 ∷ 7 ∷ 1 ∷ 1 ∷ 0 ∷ 0 ∷ 0 ∷ 8 ∷ 0 ∷ 5 ∷ [])
+unfolding size_bytes
+staged = record {
+  generation = first_generation;
+  rest = 5 ∷ [];
+  is = refl;
+  whole = refl;
+  sized = All-cons IsSized (9 ∷ []) [] (omega arith, omega arith) (All-nil IsSized);
+  addition = record {
+    some = omega arith;
+    sized =
+        All-cons IsSized (7 ∷ []) ((8 ∷ []) ∷ []) (omega arith, omega arith)
+        (All-cons IsSized (8 ∷ []) [] (omega arith, omega arith) (All-nil IsSized));
+  };
+}
+
+-- a payload has from 1 to 131,072 bytes
+at_limit : (payload : List ℕ) → length payload ≡ 131072 → IsSized payload
+at_limit payload long = (omega (arith, long), omega (arith, long))
+
+above_limit : (payload : List ℕ) → length payload ≡ 131073 → ¬ IsSized payload
+above_limit payload long = λ sized. omega (arith, long, sized)
+
+none_sized : ¬ IsSized []
+none_sized = λ sized. omega (arith, sized)
+
+or_true : (b : Bool) → (b || true) ≡ true
+or_true true = refl
+or_true false = refl
+
+-- behind a gate that is open, the sizes 0, 131,073 and 2^32 - 1 are bad, whatever follows them
+bad_sizes : (rest : List ℕ) → (is_bad (1 ∷ 0 ∷ 0 ∷ 0 ∷ 0 ∷ rest) ≡ true) × (is_bad (1 ∷ 1 ∷ 0 ∷ 2 ∷ 0 ∷ rest) ≡ true)
+    × (is_bad (1 ∷ 255 ∷ 255 ∷ 255 ∷ 255 ∷ rest) ≡ true)
+bad_sizes rest = (or_true _, or_true _, or_true _)
+
+-- a whole record of 131,072 bytes is not, whatever follows it
+longest_good : (payload rest : List ℕ) → length payload ≡ 131072 → is_bad (record_bytes payload ++ rest) ≡ false
+longest_good payload rest long = whole_is_good payload rest (at_limit payload long)
+
+-- the file with one record, cut to each kind of length: its head, and from its first record's place on
+cut_heads : map (λ count. heads (take count learnt_file)) (0 ∷ 1 ∷ 2 ∷ 8 ∷ 9 ∷ 16 ∷ 17 ∷ 61 ∷ [])
+    ≡ (true, false, false) ∷ (true, false, false) ∷ (false, true, false) ∷ (false, true, false)
+    ∷ (false, false, true) ∷ (false, false, true) ∷ (false, false, false) ∷ (false, false, false) ∷ []
+cut_heads = refl
+
+cut_tails : map (λ count. is_bad (drop 17 (take count learnt_file))) (17 ∷ 18 ∷ 21 ∷ 22 ∷ 59 ∷ 60 ∷ 61 ∷ [])
+    ≡ true ∷ true ∷ true ∷ true ∷ true ∷ false ∷ false ∷ []
+cut_tails = refl
+
+cut_ends : map (λ count. is_bad (drop 60 (take count learnt_file))) (60 ∷ 61 ∷ []) ≡ true ∷ false ∷ []
+cut_ends = refl
+
+-- an image is opened by its first file
+by_first_file : Holds (learning ∷ []) (record { a = learnt_file; b = [] })
+    × Opens [] (record { a = 0 ∷ []; b = learnt_file })
+    × HoldsEither [] (learning ∷ []) (record { a = learnt_file; b = [] })
+    × IsNew (record { a = front first_generation [] ++ 0 ∷ []; b = 5 ∷ [] })
+    × IsBlank (record { a = 0 ∷ []; b = [] }) × IsShort (record { a = 5 ∷ []; b = 1 ∷ 2 ∷ [] })
+by_first_file = (learnt_has, inr (refl, refl), inr learnt_has, refl, refl, lit≤ tt)
+
+other_file : SameOther (record { a = 1 ∷ []; b = 2 ∷ [] }) (record { a = 3 ∷ []; b = 2 ∷ [] })
+    × (¬ SameOther (record { a = 1 ∷ []; b = 2 ∷ [] }) (record { a = 1 ∷ []; b = [] }))
+other_file = (refl, λ same. cc)
+
+-- what is opened so at each moment: a file with records, and one of one byte, but no longer one that is made anew
+at_once : OpensAtOnce (learning ∷ []) learnt_file × OpensAtOnce [] (7 ∷ [])
+at_once = (inl learnt_has, inr (refl, lit≤ tt))
+
+not_at_once : ¬ OpensAtOnce [] (0 ∷ 7 ∷ [])
+not_at_once = λ once. elim once [
+  | inl has ↦
+      let fresh = has_not_fresh [] (0 ∷ 7 ∷ []) has in cc
+  | inr short ↦ omega (arith, short.1)
+]
+
+abbrev new_journal : OpenJournal ℕ
+new_journal = record { disk = 5; end = 18; in_doubt = false }
+
+-- a record of 49 bytes behind the end 18 is not added under the limit 64, but under 67
+told : IsNotAdded 49 64 new_journal new_journal (Full 18 49 64) × IsNotAdded 49 67 new_journal new_journal Disk
+told = ((lit< tt, refl, refl, refl, refl), lit≤ tt)
+
+not_told : (¬ IsNotAdded 49 67 new_journal new_journal (Full 18 49 67))
+    × (¬ IsNotAdded 49 66 new_journal new_journal Disk)
+not_told = (λ is. omega (arith, is.0), λ is. omega (arith, is))
+
+-- where a file that is refused is told, by its first byte, or by the place and the records before it
+refusals : IsRefused (80 ∷ 83 ∷ []) (opening.NotJournal 80) × IsRefused learnt_file opening.Memory
+refusals = ((refl, refl), tt)
+
+-- what holds unless a disk failed
+unless_disk : UnlessDisk opening.Disk ⊥ × (¬ UnlessDisk opening.Memory ⊥) × (¬ UnlessDisk (opening.NotJournal 7) ⊥)
+unless_disk = (tt, λ is. is, λ is. is)
+
+not_short : ¬ IsShort (record { a = 1 ∷ 2 ∷ []; b = [] })
+not_short = λ short. omega (arith, short)

@@ -1,0 +1,14 @@
+mod Examples
+mod FrameBytes
+mod Gates
+mod HeadsOf
+mod MakingAnew
+mod MomentsOn
+mod Parts
+mod Places
+mod ReadingOn
+mod ReadWhole
+mod Results
+mod SomeOpening
+mod WholeFiles
+mod WholeWrites

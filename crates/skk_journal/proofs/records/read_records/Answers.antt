@@ -1,0 +1,73 @@
+use Rattle.std.proofs.Common.{◌≡◌, [], ℕ, List, drop, ◌∙◌, subst, arith}
+use Rattle.skk_disk.specs.Image.{Image}
+use Rattle.skk_journal.specs.declared.found.Found.{Found}
+use Rattle.skk_journal.specs.declared.frames.Stop.{Stop}
+use Rattle.skk_journal.specs.Reading.{StopsAt, StopsWithin}
+use Rattle.skk_journal.proofs.Parts.{takes_more, end_at, places_at, read_at, bad_at, bad_outside}
+use Rattle.skk_journal.proofs.records.read_records.Goals as goal
+
+-- where reading stopped, seen by the file at the start and by the kind of stop
+stop_is : (tells : Type 0) (now start : Image) (at : ℕ) (old new : List Found) (stop kind : Stop) → now ≡ start
+    → stop ≡ kind → StopsAt tells (drop at now.a) at old new stop → StopsAt tells (drop at start.a) at old new kind
+stop_is tells now start at old new stop kind same is stops =
+    subst (StopsAt tells (drop at start.a) at old new) is
+    (subst (λ (s : Image). StopsAt tells (drop at s.a) at old new stop) same stops)
+
+pub loop-at-preserved : goal.loop-at-preserved
+loop-at-preserved g c =
+    let D = g.D.Disk in
+    let so_far = c.loop-at.invariant in
+    let more = c.in_ok-from.ensures in
+    let at = c.loop-at.at in
+    let from = c.in-Else.from in
+    let new = c.read_part.new.records in
+    let read = stop_is _ _ _ _ _ _ _ _ so_far.seen c.in-Else.is more.next in
+    let within = subst (StopsWithin 131077) c.in-Else.is more.within in
+    record {
+      behind_head = omega (arith, so_far.behind_head);
+      low = omega (arith, c.loop-at-test.true, c.requires.len, within);
+      room = omega (arith, so_far.room);
+      taken = takes_more D.tells (D.seen c.args.disk.now).a at from [] c.loop-at.records new so_far.behind_head
+          so_far.taken read.0;
+      seen = more.seen ∙ so_far.seen;
+      time = more.time ∙ so_far.time;
+      images = record {
+        no_more = λ t i left. so_far.images.no_more t i (more.images.no_more t i left);
+        no_fewer = λ t i left. more.images.no_fewer t i (so_far.images.no_fewer t i left);
+      };
+      counted = omega (arith, so_far.counted, more.counted);
+    }
+
+pub returns-in-End-clause-records : goal.returns-in-End-clause-records
+returns-in-End-clause-records g c =
+    let so_far = c.loop-at.invariant in
+    read_at g.D.Disk.tells (g.D.Disk.seen c.args.disk.now).a c.loop-at.at c.in-End.from c.loop-at.records
+    c.read_part.new.records so_far.behind_head so_far.taken
+    (stop_is _ _ _ _ _ _ _ _ so_far.seen c.in-End.is c.in_ok-from.ensures.next)
+
+pub returns-in-End-clause-end : goal.returns-in-End-clause-end
+returns-in-End-clause-end g c =
+    let so_far = c.loop-at.invariant in
+    end_at g.D.Disk.tells (g.D.Disk.seen c.args.disk.now).a c.loop-at.at c.in-End.from c.loop-at.records
+    c.read_part.new.records so_far.behind_head so_far.taken
+    (stop_is _ _ _ _ _ _ _ _ so_far.seen c.in-End.is c.in_ok-from.ensures.next)
+
+pub returns-in-End-clause-places : goal.returns-in-End-clause-places
+returns-in-End-clause-places g c =
+    let so_far = c.loop-at.invariant in
+    places_at g.D.Disk.tells (g.D.Disk.seen c.args.disk.now).a c.loop-at.at c.in-End.from c.loop-at.records
+    c.read_part.new.records so_far.behind_head so_far.taken
+    (stop_is _ _ _ _ _ _ _ _ so_far.seen c.in-End.is c.in_ok-from.ensures.next)
+
+pub returns-then-from-eq0-clause-bad : goal.returns-then-from-eq0-clause-bad
+returns-then-from-eq0-clause-bad g c =
+    let so_far = c.loop-at.invariant in
+    bad_at g.D.Disk.tells (g.D.Disk.seen c.args.disk.now).a c.loop-at.at c.in-Else.from c.loop-at.records
+    c.read_part.new.records so_far.behind_head so_far.taken
+    (stop_is _ _ _ _ _ _ _ _ so_far.seen c.in-Else.is c.in_ok-from.ensures.next) c.if-from-eq0.true
+
+pub returns-clause-bad : goal.returns-clause-bad
+returns-clause-bad g c tells =
+    let so_far = c.loop-at.invariant in
+    bad_outside g.D.Disk.tells (g.D.Disk.seen c.args.disk.now).a c.loop-at.at c.loop-at.records so_far.behind_head
+    so_far.taken (omega (arith, c.requires.told tells, c.loop-at-test.false)) tells

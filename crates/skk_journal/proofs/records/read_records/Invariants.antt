@@ -1,0 +1,23 @@
+use Rattle.std.proofs.Common.{◌≡◌, ◌≤◌, ◌+◌, ◌-◌, ◌^◌, [], length, drop}
+use Rattle.skk_disk.specs.Moments.{SameImages}
+use Rattle.skk_journal.specs.declared.journal.TheConstants.{PIECE_ROOM}
+use Rattle.skk_journal.specs.Records.{first_place}
+use Rattle.skk_journal.specs.Reading.{Takes}
+use Rattle.skk_journal.proofs.records.read_records.Given as goal
+
+-- the records before the place were read
+abbrev pub invariant-loop-at : goal.invariant-loop-at
+invariant-loop-at g l = record {
+  behind_head : first_place ≤ l.at;
+  low : l.at ≤ 2 ^ 62 + PIECE_ROOM;
+  room : length l.buffer ≡ PIECE_ROOM;
+  taken :
+      Takes g.D.Disk.tells (drop first_place (g.D.Disk.seen l.fn.disk).a) first_place (l.at - first_place) [] l.records;
+  seen : g.D.Disk.seen l.disk ≡ g.D.Disk.seen l.fn.disk;
+  time : g.D.Disk.time l.disk ≡ g.D.Disk.time l.fn.disk;
+  images : SameImages (g.D.Disk.left_since l.fn.disk) (g.D.Disk.left_since l.disk);
+  counted : g.D.Outside.faults l.fn.disk ≤ g.D.Outside.faults l.disk;
+}
+
+abbrev pub decreases-loop-at : goal.decreases-loop-at
+decreases-loop-at g l = l.len - l.at

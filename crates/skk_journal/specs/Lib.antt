@@ -1,0 +1,12 @@
+pub mod Causes
+pub mod Found
+pub mod Frames
+pub mod Heads
+pub mod Images
+pub mod Journal
+pub mod Making
+pub mod Opening
+pub mod OpeningLaws
+pub mod Reading
+pub mod RecordLaws
+pub mod Records

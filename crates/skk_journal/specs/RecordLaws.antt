@@ -1,0 +1,92 @@
+-- Laws of the bytes of records, and of what the gate of an addition makes of a file.
+use Rattle.std.specs.Prelude.{◌≡◌, ◌≢◌, ℕ, ◌+◌, List, [], ◌∷◌, ◌++◌, length}
+use Rattle.std.proofs.Common.{inl, inr, refl, sym, ◌∙◌, ap, subst, arith, append_assoc, length-append}
+use Rattle.std.proofs.lemmas.Bool.{cases_eq}
+use Rattle.std.proofs.lemmas.List.Elements.{All-append}
+use Rattle.skk_disk.specs.Image.{Image}
+use Rattle.skk_journal.specs.Records.{size_bytes, record_bytes, need, framed, behind_gate, mark, front}
+use Rattle.skk_journal.specs.Records.{IsSized, end_of, HasRecords, HasAddition}
+use Rattle.skk_journal.specs.Images.{HoldsGated, HoldsBehind, HoldsEither}
+
+-- a size has four bytes
+pub length-size_bytes : (size : ℕ) → length (size_bytes size) ≡ 4
+unfolding size_bytes
+length-size_bytes size = refl
+
+-- a record has five bytes more than its payload
+pub length-record_bytes : (payload : List ℕ) → length (record_bytes payload) ≡ 5 + length payload
+length-record_bytes payload =
+    omega (arith, length-append (size_bytes (length payload)) payload, length-size_bytes (length payload))
+
+-- a record needs the bytes of a gate, of a size and of its payload
+pub need_is : (payload : List ℕ) → need payload ≡ 5 + length payload
+unfolding need
+need_is payload = length-record_bytes payload
+
+-- the bytes of records and of others behind them
+pub framed-append : (records added : List (List ℕ)) → framed (records ++ added) ≡ framed records ++ framed added
+framed-append [] added = refl
+framed-append (payload ∷ records) added =
+    ap (λ (l : List ℕ). record_bytes payload ++ l) (framed-append records added)
+    ∙ sym (append_assoc (record_bytes payload) (framed records) (framed added))
+
+-- the end goes on by what one record more needs
+pub end_of-push : (records : List (List ℕ)) (payload : List ℕ)
+    → end_of (records ++ payload ∷ []) ≡ end_of records + need payload
+end_of-push records payload =
+    omega (
+      arith,
+      ap length (framed-append records (payload ∷ [])),
+      length-append (framed records) (framed (payload ∷ [])),
+      length-append (record_bytes payload) [],
+      length-record_bytes payload,
+      need_is payload,
+    )
+
+-- the front of a file with more records
+pub front-append : (generation : List ℕ) (records added : List (List ℕ)) (rest : List ℕ)
+    → front generation records ++ (framed added ++ rest) ≡ front generation (records ++ added) ++ rest
+front-append generation records added rest =
+    let inner : (generation ++ framed records) ++ (framed added ++ rest)
+    ≡ (generation ++ framed (records ++ added)) ++ rest =
+    append_assoc generation (framed records) (framed added ++ rest)
+    ∙ ap (λ (l : List ℕ). generation ++ l) (sym (append_assoc (framed records) (framed added) rest)
+    ∙ ap (λ (l : List ℕ). l ++ rest) (sym (framed-append records added)))
+    ∙ sym (append_assoc generation (framed (records ++ added)) rest) in
+    ap (λ (l : List ℕ). 1 ∷ (mark ++ l)) inner
+
+-- with a closed gate the added records do not count
+pub gated_shut : (records added : List (List ℕ)) (gate : ℕ) (file : List ℕ) → gate ≢ 1
+    → HasAddition records added gate file → HasRecords records file
+gated_shut records added gate file shut gated = record {
+  generation = gated.generation;
+  gate = gate;
+  rest = behind_gate added ++ 0 ∷ gated.rest;
+  is = gated.is;
+  whole = gated.whole;
+  sized = gated.sized;
+  closed = shut;
+}
+
+-- with an open gate the added records count
+pub gated_open : (records added : List (List ℕ)) (file : List ℕ) → HasAddition records added 1 file
+    → HasRecords (records ++ added) file
+gated_open records [] file gated = absurd (omega (arith, gated.addition.some))
+gated_open records (first ∷ others) file gated = record {
+  generation = gated.generation;
+  gate = 0;
+  rest = gated.rest;
+  is = gated.is ∙ front-append gated.generation records (first ∷ others) (0 ∷ gated.rest);
+  whole = gated.whole;
+  sized = All-append IsSized records (first ∷ others) gated.sized gated.addition.sized;
+  closed = λ same. omega (arith, same);
+}
+
+-- records in doubt count or they do not
+pub behind_either : (records added : List (List ℕ)) (image : Image) → HoldsBehind records added image
+    → HoldsEither records added image
+behind_either records added image from = elim (cases_eq from.0 1) [
+  | inl is_open ↦
+      inr (gated_open records added image.a (subst (λ (gate : ℕ). HoldsGated records added gate image) is_open from.1))
+  | inr shut ↦ inl (gated_shut records added from.0 image.a shut from.1)
+]

@@ -1,0 +1,85 @@
+-- The bytes of a learned file: its head, and records behind gates. A gate is open exactly where it is 1.
+use Rattle.std.specs.Prelude.{◌≡◌, ◌≢◌, ℕ, ◌+◌, ◌<◌, ◌≤◌, List, [], ◌∷◌, ◌++◌, length, All}
+use Rattle.std.specs.Int.{w32, to_le_bytes}
+
+-- the most bytes of a payload
+abbrev pub payload_limit : ℕ
+payload_limit = 131072
+
+-- a payload may be a record's
+abbrev pub IsSized : List ℕ → Type 0
+IsSized payload = (1 ≤ length payload) × (length payload ≤ payload_limit)
+
+-- a size in four bytes, the least first
+unfoldable pub size_bytes : ℕ → List ℕ
+size_bytes size = to_le_bytes w32 size
+
+-- what stands behind the gate of a record: the size of its payload, and the payload
+abbrev pub body : List ℕ → List ℕ
+body payload = size_bytes (length payload) ++ payload
+
+-- a record whose gate is open
+abbrev pub record_bytes : List ℕ → List ℕ
+record_bytes payload = 1 ∷ body payload
+
+-- the bytes that the record of a payload needs
+unfoldable pub need : List ℕ → ℕ
+need payload = length (record_bytes payload)
+
+-- the records of these payloads, one behind another
+abbrev pub framed : List (List ℕ) → List ℕ
+framed [] = []
+framed (payload ∷ payloads) = record_bytes payload ++ framed payloads
+
+-- the records of these payloads but for the gate of the first one
+abbrev pub behind_gate : List (List ℕ) → List ℕ
+behind_gate [] = []
+behind_gate (payload ∷ payloads) = body payload ++ framed payloads
+
+-- there are some records with these payloads, which may be added together
+pub record IsAddition (added : List (List ℕ)) : Type 0 where
+  pub some : 0 < length added
+  pub sized : All IsSized added
+
+-- SKKDESK, and the version
+abbrev pub mark : List ℕ
+mark = 83 ∷ 75 ∷ 75 ∷ 68 ∷ 69 ∷ 83 ∷ 75 ∷ 1 ∷ []
+
+-- the bytes of a generation
+abbrev pub generation_bytes : ℕ
+generation_bytes = 8
+
+-- the place of the first record's gate
+abbrev pub first_place : ℕ
+first_place = 17
+
+-- a file up to the gate behind its records: its own gate, which is open, its mark, its generation, and these records
+abbrev pub front : List ℕ → List (List ℕ) → List ℕ
+front generation records = 1 ∷ (mark ++ (generation ++ framed records))
+
+-- the place of the gate behind these records
+abbrev pub place_behind : List (List ℕ) → ℕ
+place_behind records = first_place + length (framed records)
+
+-- one more than the place of the gate behind these records
+abbrev pub end_of : List (List ℕ) → ℕ
+end_of records = place_behind records + 1
+
+-- the records of a file have just these payloads: then there is a closed gate, whatever follows it
+pub record HasRecords (records : List (List ℕ)) (file : List ℕ) : Type 0 where
+  pub generation : List ℕ
+  pub gate : ℕ
+  pub rest : List ℕ
+  pub is : file ≡ front generation records ++ gate ∷ rest
+  pub whole : length generation ≡ generation_bytes
+  pub sized : All IsSized records
+  pub closed : gate ≢ 1
+
+-- a file has these records, then this gate, and behind it all of the added ones and a closed gate, whatever follows it
+pub record HasAddition (records added : List (List ℕ)) (gate : ℕ) (file : List ℕ) : Type 0 where
+  pub generation : List ℕ
+  pub rest : List ℕ
+  pub is : file ≡ front generation records ++ gate ∷ (behind_gate added ++ 0 ∷ rest)
+  pub whole : length generation ≡ generation_bytes
+  pub sized : All IsSized records
+  pub addition : IsAddition added
