@@ -1,0 +1,9 @@
+mod Doubts
+mod Examples
+mod Histories
+mod Keeping
+mod Readings
+mod Seats
+mod Standing
+mod Stepping
+mod Taking

@@ -1,0 +1,10 @@
+use Rattle.session_world.proofs.Stepping.{steps-out}
+use Rattle.session_world.proofs.steps.crash_keeping.Goals as goal
+
+pub returns-in_err-keep_doubt : goal.returns-in_err-keep_doubt
+returns-in_err-keep_doubt c =
+    let out = c.from_residual in steps-out _ c.args.world out.result out.ensures.1
+
+pub returns-in_err-reopen : goal.returns-in_err-reopen
+returns-in_err-reopen c =
+    let out = c.from_residual-in_err-reopen in steps-out _ c.args.world out.result out.ensures.1

@@ -1,0 +1,164 @@
+use dict_format::read_file;
+use dict_layers::System;
+use romaji_rules::Rules;
+use session_world::{Event, World, WorldFault};
+use skk_calls::{Books, Refusal};
+use skk_text::read_keys;
+use std::alloc::Global;
+use std::process::Abort;
+use std::test::Fail;
+
+// A dictionary of one reading.
+const DICTIONARY: &str = ";; okuri-ari entries.\n;; okuri-nasi entries.\nかんじ /漢字/幹事;宴会の/感じ/\n";
+
+// A world of two sessions in the shared book over that dictionary, with the standard rules.
+fn new_world(alloc: Global) -> Result<World, Fail> {
+    let mut books = Books::new(alloc);
+    books.push(read_file(alloc, DICTIONARY.as_bytes())?.book)?;
+    let system = System::of_books(alloc, books)?;
+    Ok(World::new(alloc, &[(1, 0), (2, 0)], Rules::standard(alloc)?, system)?)
+}
+
+// The world after an event, and whether that came: the world is handed back where it may not come now.
+fn step(alloc: Global, world: World, event: Event) -> Result<(World, bool), Fail> {
+    match world.step(alloc, event) {
+        Ok(world) => Ok((world, true)),
+        Err(WorldFault::NotNow { world }) => Ok((world, false)),
+        Err(WorldFault::Memory) => Err("out of memory".into()),
+    }
+}
+
+// The world after the keys of a text were started, one after another, and whether each came.
+fn start_keys(
+    alloc: Global,
+    world: World,
+    place: usize,
+    text: &str,
+) -> Result<(World, bool), Fail> {
+    let mut world = world;
+    let mut came = true;
+    for key in read_keys(alloc, text.as_bytes())?.iter() {
+        (world, came) = step(alloc, world, Event::Key(place, *key))?;
+    }
+    Ok((world, came))
+}
+
+// A refusal by its name.
+fn refusal_by(name: &str) -> Refusal {
+    match name {
+        "disk" => Refusal::Disk,
+        "full" => Refusal::JournalFull {
+            end: 1,
+            need: 2,
+            limit: 3,
+        },
+        _ => Refusal::Memory,
+    }
+}
+
+// The world after what a command names, and whether that came.
+fn run(
+    alloc: Global,
+    world: World,
+    command: &str,
+    place: usize,
+    word: &str,
+) -> Result<(World, bool), Fail> {
+    match command {
+        "keys" => start_keys(alloc, world, place, word),
+        "serve" => step(alloc, world, Event::Serve(place)),
+        "refuse" => step(alloc, world, Event::Refuse(place, refusal_by(word))),
+        _ => step(alloc, world, Event::Crash(word == "keeping")),
+    }
+}
+
+// The display and the notice of a session.
+fn shown(alloc: Global, world: &World, place: usize) -> Result<String, Fail> {
+    let session = world.session(place).ok_or("no session")?;
+    let display = session.display(alloc)?;
+    let notice = session.notice(alloc)?;
+    Ok(format!(in alloc; "{}|{}", display.as_str(), notice.as_str())?)
+}
+
+// What a command leaves: the display and the notice of the session of its place, where it came.
+fn told(alloc: Global, world: &World, place: usize, came: bool) -> Result<String, Fail> {
+    if came {
+        shown(alloc, world, place)
+    } else {
+        Ok("not now".to_string(alloc)?)
+    }
+}
+
+// Two sessions learn in the shared book, and overtake each other. Each cause for which an event may not come now stands
+// among the lines.
+const LINES: &[(&str, usize, &str, &str)] = &[
+    ("serve", 0, "", "not now"),
+    ("serve", 2, "", "not now"),
+    ("refuse", 0, "memory", "not now"),
+    ("refuse", 2, "memory", "not now"),
+    ("keys", 2, "a", "not now"),
+    ("crash", 0, "keeping", "not now"),
+    ("keys", 0, "a", "あ|"),
+    ("keys", 0, "<bs>", "|"),
+    ("keys", 0, "Kanji", "▽かんじ|"),
+    ("keys", 0, " ", "▽かんじ|"),
+    ("keys", 0, "a", "not now"),
+    ("refuse", 0, "disk", "not now"),
+    ("refuse", 0, "full", "not now"),
+    ("keys", 1, "Kanji", "▽かんじ|"),
+    ("keys", 1, " ", "▽かんじ|"),
+    ("serve", 1, "", "▼漢字|"),
+    ("serve", 1, "", "not now"),
+    ("refuse", 0, "memory", "▽かんじ|refused memory"),
+    ("keys", 0, " ", "▽かんじ|refused memory"),
+    ("serve", 0, "", "▼漢字|"),
+    ("keys", 1, " ", "▼幹事|;宴会の"),
+    ("keys", 1, " ", "▼感じ|"),
+    ("keys", 1, "<cj>", "▼感じ|"),
+    ("keys", 0, "<cj>", "▼漢字|"),
+    ("refuse", 0, "disk", "漢字|refused disk"),
+    ("serve", 1, "", "感じ|"),
+    ("crash", 0, "keeping", "not now"),
+    ("keys", 0, "Kanji", "漢字▽かんじ|"),
+    ("keys", 0, " ", "漢字▽かんじ|"),
+    ("serve", 0, "", "漢字▼感じ|"),
+    ("keys", 0, " ", "漢字▼漢字|"),
+    ("keys", 0, "<cj>", "漢字▼漢字|"),
+    ("serve", 0, "", "漢字漢字|"),
+    ("keys", 1, "<undo>", "感じ|"),
+    ("refuse", 1, "disk", "not now"),
+    ("serve", 1, "", "▼感じ|overtaken 2"),
+    ("keys", 1, "<undo>", "▼感じ|"),
+    ("keys", 0, "<undo>", "漢字漢字|"),
+    ("refuse", 0, "full", "漢字▼漢字|refused full 1 2 3"),
+    ("crash", 0, "keeping", "not now"),
+    ("keys", 1, "<cj>", "▼感じ|"),
+    ("refuse", 1, "disk", "感じ|refused disk"),
+    ("crash", 0, "keeping", "|"),
+    ("serve", 1, "", "not now"),
+    ("crash", 0, "keeping", "not now"),
+    ("keys", 0, "Kanji", "▽かんじ|"),
+    ("keys", 0, " ", "▽かんじ|"),
+    ("serve", 0, "", "▼感じ|"),
+    ("keys", 0, " ", "▼漢字|"),
+    ("keys", 0, "<cj>", "▼漢字|"),
+    ("refuse", 0, "disk", "漢字|refused disk"),
+    ("crash", 0, "", "|"),
+    ("crash", 0, "keeping", "not now"),
+    ("keys", 1, "Kanji", "▽かんじ|"),
+    ("keys", 1, " ", "▽かんじ|"),
+    ("serve", 1, "", "▼感じ|"),
+];
+
+#[test]
+fn worlds_step(rt: HostRuntime) -> Result<(), Fail> {
+    let alloc = rt.alloc();
+    let mut world = new_world(alloc)?;
+    let mut came = true;
+    for (command, place, word, wanted) in LINES {
+        (world, came) = run(alloc, world, command, *place, word)?;
+        let told = told(alloc, &world, *place, came)?;
+        assert_eq!(rt; told.as_str(), *wanted, "at {command} {place} {word}");
+    }
+    Ok(())
+}
