@@ -105,6 +105,11 @@ fn files_of_the_system_are_a_disk(rt: HostRuntime) -> Result<(), Fail> {
     expect_read(&rt, alloc, &mut again, &(Which::A, 0, Ok(6), "\0\0ax\0\0."))?;
     assert_eq!(rt; again.len(Which::B), Err(Failed));
     assert_eq!(rt; again.sync(Which::B), Err(Failed));
+    // A folder in which nothing can be made.
+    let a = text(alloc, "/proc/learned_tests_a")?;
+    let mut shut = FileDisk::new(&rt, a, text(alloc, "/dev/null")?);
+    assert_eq!(rt; shut.write_at(Which::A, 0, b"x"), Err(Failed));
+    assert_eq!(rt; shut.sync(Which::A), Err(Failed));
     // A device that is full.
     let mut full = FileDisk::new(&rt, text(alloc, "/dev/full")?, text(alloc, "/dev/null")?);
     assert_eq!(rt; full.write_at(Which::A, 0, b"x"), Err(Failed));

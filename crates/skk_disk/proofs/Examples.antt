@@ -69,6 +69,10 @@ other_stays = refl
 seen : seen_after calls ≡ record { a = 1 ∷ 8 ∷ 3 ∷ []; b = [] }
 seen = refl
 
+-- of a file to which nothing was done a stop leaves no byte
+nothing_left : ¬ MayLeave empty_file (0 ∷ [])
+nothing_left left = omega (arith, left.at_most)
+
 -- a stop leaves no shorter and no longer file, and no other byte than what was written
 not_left : (¬ MayLeave (made_by calls).a (1 ∷ 8 ∷ [])) × (¬ MayLeave (made_by calls).a (1 ∷ 8 ∷ 3 ∷ 0 ∷ 0 ∷ 0 ∷ []))
     × (¬ MayLeave (made_by calls).a (2 ∷ 8 ∷ 3 ∷ []))
