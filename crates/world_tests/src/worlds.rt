@@ -150,6 +150,20 @@ const LINES: &[(&str, usize, &str, &str)] = &[
     ("serve", 1, "", "▼感じ|"),
 ];
 
+// Nothing was asked at first, and a key that asks nothing is shown at once.
+#[test]
+fn a_world_of_one_session_steps(rt: HostRuntime) -> Result<(), Fail> {
+    let alloc = rt.alloc();
+    let system = System::of_books(alloc, Books::new(alloc))?;
+    let world = World::new(alloc, &[(1, 1)], Rules::standard(alloc)?, system)?;
+    let (world, came) = step(alloc, world, Event::Serve(0))?;
+    assert!(rt; !came);
+    let (world, came) = start_keys(alloc, world, 0, "a")?;
+    assert!(rt; came);
+    assert_eq!(rt; shown(alloc, &world, 0)?.as_str(), "あ|");
+    Ok(())
+}
+
 #[test]
 fn worlds_step(rt: HostRuntime) -> Result<(), Fail> {
     let alloc = rt.alloc();
