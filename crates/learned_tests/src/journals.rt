@@ -263,9 +263,10 @@ fn kinds<R: Abort>(rt: &R, alloc: Global, made: &[MadeCall]) -> Result<String, A
     let mut kinds = String::new(alloc);
     for call in made {
         kinds.push(match call {
-            MadeCall::Write { done: true, .. } => 'w',
-            MadeCall::Write { .. } => 'W',
+            MadeCall::Write { .. } => 'w',
+            MadeCall::TornWrite { .. } => 'W',
             MadeCall::Cut { .. } => 'c',
+            MadeCall::TornCut { .. } => 'C',
             MadeCall::Sync { .. } => 's',
         })?;
     }

@@ -1,5 +1,5 @@
 -- What a stop may leave of a file after one more call is what one might have left before it, after a step.
-use Rattle.std.specs.Prelude.{◌≡◌, ◌⊎◌, ℕ, ◌+◌, ◌-◌, ◌<◌, ◌≤◌, min, max, Bool, true, false, nat_lt, nat_le, ◌&&◌}
+use Rattle.std.specs.Prelude.{◌≡◌, ◌⊎◌, ℕ, ◌+◌, ◌-◌, ◌<◌, ◌≤◌, min, max, Bool, nat_lt, nat_le, ◌&&◌}
 use Rattle.std.specs.Prelude.{if◌then◌else◌, List, ◌++◌, length, take, drop, get_or, map, replicate}
 use Rattle.std.specs.List.{range_with_len}
 use Rattle.std.proofs.Common.{inl, inr, refl, sym, ◌∙◌, ap, arith, length-append, length-drop}
@@ -10,11 +10,11 @@ use Rattle.std.proofs.lemmas.List.{get_or-append_right, get_or_append_left}
 use Rattle.std.proofs.lemmas.List.FromFn.{length-map-range_with_len, get_or-map-range_with_len}
 use Rattle.skk_disk.specs.Steps.{placed, SameByte, Range, IsOutside, PartlyWritten, PartlyCut}
 use Rattle.skk_disk.specs.FileStates.{FileState, IsUntouched, MayLeave, IsSound}
-use Rattle.skk_disk.specs.FileStates.{seen_after_write, seen_after_cut, after_write, after_cut, after_sync}
+use Rattle.skk_disk.specs.FileStates.{after_write, torn_write, after_cut, torn_cut, after_sync}
 
--- the range of bytes at a place
-abbrev pub range_of : ℕ → List ℕ → Range
-range_of at bytes = record { at = at; count = length bytes }
+-- so many bytes at a place
+abbrev pub range_of : ℕ → ℕ → Range
+range_of at count = record { at = at; count = count }
 
 -- a write makes a file as long as its end, where it was shorter
 pub length_placed : (at : ℕ) (bytes file : List ℕ)
@@ -32,7 +32,7 @@ length_placed at bytes file =
 
 -- a write keeps the bytes outside of its range
 pub placed_keeps : (at : ℕ) (bytes file : List ℕ) (place : ℕ) → place < length file
-    → IsOutside (range_of at bytes) place → SameByte place file (placed at bytes file)
+    → IsOutside (range_of at (length bytes)) place → SameByte place file (placed at bytes file)
 placed_keeps at bytes file place within (inl before) =
     let front : place < length (take at file) = omega (arith, length-take at file) in
     get_or_append_left
@@ -49,53 +49,49 @@ placed_keeps at bytes file place within (inr behind) =
     ∙ get_or-drop (at + length bytes) file (place - at - 0 - length bytes) 0
     ∙ ap (λ (p : ℕ). get_or file p 0) (omega arith)
 
--- what a read gives after a write keeps the bytes outside of its range, whether it was done or not
-pub write_keeps : (done : Bool) (at : ℕ) (bytes seen : List ℕ) (place : ℕ) → place < length seen
-    → IsOutside (range_of at bytes) place → SameByte place seen (seen_after_write done at bytes seen)
-write_keeps true at bytes seen place within outside = placed_keeps at bytes seen place within outside
-write_keeps false at bytes seen place within outside = refl
-
--- what a read gives after a cut keeps the bytes below the length, whether it was done or not
-pub cut_keeps : (done : Bool) (len : ℕ) (seen : List ℕ) (place : ℕ) → place < len
-    → SameByte place seen (seen_after_cut done len seen)
-cut_keeps true len seen place below = get_or-take len seen place 0 below
-cut_keeps false len seen place below = refl
-
--- a file that was not written is one of which any part of a write may be left, and so is one wholly written
-pub partly_written : (done : Bool) (at : ℕ) (bytes seen : List ℕ)
-    → PartlyWritten (range_of at bytes) seen (seen_after_write done at bytes seen)
-partly_written true at bytes seen = record {
+-- a file that was wholly written is one of which any part of the write may be left, and so is one that was not written
+pub wholly_written : (at : ℕ) (bytes seen : List ℕ)
+    → PartlyWritten (range_of at (length bytes)) seen (placed at bytes seen)
+wholly_written at bytes seen = record {
   at_least = omega (arith, length_placed at bytes seen);
   at_most = omega (arith, length_placed at bytes seen);
   kept = λ place within outside. placed_keeps at bytes seen place within outside;
 }
-partly_written false at bytes seen =
+
+pub not_written : (range : Range) (seen : List ℕ) → PartlyWritten range seen seen
+not_written range seen =
     record { at_least = omega arith; at_most = omega arith; kept = λ place within outside. refl }
 
 -- the same of a cut
-pub partly_cut : (done : Bool) (len : ℕ) (seen : List ℕ) → PartlyCut len seen (seen_after_cut done len seen)
-partly_cut true len seen = record {
+pub wholly_cut : (len : ℕ) (seen : List ℕ) → PartlyCut len seen (take len seen)
+wholly_cut len seen = record {
   at_least = omega (arith, length-take len seen);
   at_most = omega (arith, length-take len seen);
   kept = λ place below. get_or-take len seen place 0 (omega arith);
 }
-partly_cut false len seen = record { at_least = omega arith; at_most = omega arith; kept = λ place below. refl }
 
--- after a write, a cut and a sync what a read gives still has a length between the two
-pub sound_write : (done : Bool) (at : ℕ) (bytes : List ℕ) (file : FileState) → IsSound file
-    → IsSound (after_write done at bytes file)
-sound_write done at bytes file sound =
-    let partly = partly_written done at bytes file.seen in record {
-      at_least = omega (arith, sound.at_least, partly.at_least);
-      at_most = omega (arith, sound.at_most, partly.at_most);
-    }
+pub not_cut : (len : ℕ) (seen : List ℕ) → PartlyCut len seen seen
+not_cut len seen = record { at_least = omega arith; at_most = omega arith; kept = λ place below. refl }
 
-pub sound_cut : (done : Bool) (len : ℕ) (file : FileState) → IsSound file → IsSound (after_cut done len file)
-sound_cut done len file sound =
-    let partly = partly_cut done len file.seen in record {
-      at_least = omega (arith, sound.at_least, partly.at_least);
-      at_most = omega (arith, sound.at_most, partly.at_most);
-    }
+-- after each call what a read gives still has a length between the two
+pub sound_write : (at : ℕ) (bytes : List ℕ) (file : FileState) → IsSound file → IsSound (after_write at bytes file)
+sound_write at bytes file sound = record {
+  at_least = omega (arith, sound.at_least, length_placed at bytes file.seen);
+  at_most = omega (arith, sound.at_most, length_placed at bytes file.seen);
+}
+
+pub sound_torn_write : (at count : ℕ) (file : FileState) → IsSound file → IsSound (torn_write at count file)
+sound_torn_write at count file sound =
+    record { at_least = sound.at_least; at_most = omega (arith, sound.at_most) }
+
+pub sound_cut : (len : ℕ) (file : FileState) → IsSound file → IsSound (after_cut len file)
+sound_cut len file sound = record {
+  at_least = omega (arith, sound.at_least, length-take len file.seen);
+  at_most = omega (arith, sound.at_most, length-take len file.seen);
+}
+
+pub sound_torn_cut : (len : ℕ) (file : FileState) → IsSound file → IsSound (torn_cut len file)
+sound_torn_cut len file sound = record { at_least = omega (arith, sound.at_least); at_most = sound.at_most }
 
 pub sound_sync : (file : FileState) → IsSound (after_sync file)
 sound_sync file = record { at_least = omega arith; at_most = omega arith }
@@ -123,11 +119,11 @@ is_inside range place = nat_le range.at place && nat_lt place (range.at + range.
 abbrev listed : (ℕ → ℕ) → ℕ → List ℕ
 listed byte count = map byte (range_with_len 0 count)
 
-module _ (done : Bool) (at : ℕ) (bytes : List ℕ) (file : FileState) (sound : IsSound file)
-    (left : List ℕ) (may : MayLeave (after_write done at bytes file) left) where
+module _ (at count : ℕ) (file : FileState) (sound : IsSound file)
+    (left : List ℕ) (may : MayLeave (torn_write at count file) left) where
   -- what was there before: in the range what a read gave, and elsewhere what is left
   byte_before : ℕ → ℕ
-  byte_before place = if is_inside (range_of at bytes) place then get_or file.seen place 0 else get_or left place 0
+  byte_before place = if is_inside (range_of at count) place then get_or file.seen place 0 else get_or left place 0
 
   before : List ℕ
   before = listed byte_before (min (length left) file.greatest)
@@ -142,11 +138,11 @@ module _ (done : Bool) (at : ℕ) (bytes : List ℕ) (file : FileState) (sound :
       get_or-map-range_with_len
       byte_before 0 (min (length left) file.greatest) place place 0 (omega (arith, length_before)) (omega arith)
 
-  inside_is : (place : ℕ) → at ≤ place → place < at + length bytes → byte_before place ≡ get_or file.seen place 0
+  inside_is : (place : ℕ) → at ≤ place → place < at + count → byte_before place ≡ get_or file.seen place 0
   unfolding byte_before
   inside_is place from inside = grind (arith, nat_tests)
 
-  outside_is : (place : ℕ) → IsOutside (range_of at bytes) place → byte_before place ≡ get_or left place 0
+  outside_is : (place : ℕ) → IsOutside (range_of at count) place → byte_before place ≡ get_or left place 0
   unfolding byte_before
   outside_is place (inl front) = grind (arith, nat_tests)
   outside_is place (inr behind) = grind (arith, nat_tests)
@@ -155,16 +151,15 @@ module _ (done : Bool) (at : ℕ) (bytes : List ℕ) (file : FileState) (sound :
   kept_before place below untouched =
       let small : place < length before =
       omega (arith, length_before, may.at_least, sound.at_least, sound.at_most) in
-      elim (inside_or_not (range_of at bytes) place) [
+      elim (inside_or_not (range_of at count) place) [
         | inl inside ↦ at_place place small ∙ inside_is place inside.0 inside.1
         | inr outside ↦
             at_place place small ∙ outside_is place outside ∙ may.kept place below (outside, untouched)
-            ∙ write_keeps done at bytes file.seen place (omega (arith, sound.at_least)) outside
       ]
 
-  -- what a stop may leave after a write is what one might have left before it, after a part of the write
-  pub write_follows : (old : List ℕ) × MayLeave file old × PartlyWritten (range_of at bytes) old left
-  write_follows = (
+  -- what a stop may leave after a failed write is what one might have left before it, after a part of the write
+  pub torn_write_follows : (old : List ℕ) × MayLeave file old × PartlyWritten (range_of at count) old left
+  torn_write_follows = (
     before,
     record {
       at_least = omega (arith, length_before, may.at_least, sound.at_least, sound.at_most);
@@ -178,8 +173,24 @@ module _ (done : Bool) (at : ℕ) (bytes : List ℕ) (file : FileState) (sound :
     },
   )
 
-module _ (done : Bool) (len : ℕ) (file : FileState) (sound : IsSound file)
-    (left : List ℕ) (may : MayLeave (after_cut done len file) left) where
+module _ (at : ℕ) (bytes : List ℕ) (file : FileState) (sound : IsSound file)
+    (left : List ℕ) (may : MayLeave (after_write at bytes file) left) where
+  -- what a stop may leave after a write it may leave after a failed one too
+  left_by_write : MayLeave (torn_write at (length bytes) file) left
+  left_by_write = record {
+    at_least = may.at_least;
+    at_most = may.at_most;
+    kept = λ place below untouched.
+        may.kept place below untouched
+        ∙ placed_keeps at bytes file.seen place (omega (arith, sound.at_least)) untouched.0;
+  }
+
+  -- so it is one from before, after a part of the write
+  pub write_follows : (old : List ℕ) × MayLeave file old × PartlyWritten (range_of at (length bytes)) old left
+  write_follows = torn_write_follows at (length bytes) file sound left left_by_write
+
+module _ (len : ℕ) (file : FileState) (sound : IsSound file)
+    (left : List ℕ) (may : MayLeave (torn_cut len file) left) where
   -- what was there before: below the length what is left, and above it what a read gave
   byte_uncut : ℕ → ℕ
   byte_uncut place = if nat_lt place len then get_or left place 0 else get_or file.seen place 0
@@ -211,13 +222,12 @@ module _ (done : Bool) (len : ℕ) (file : FileState) (sound : IsSound file)
       elim (cases_lt place len) [
         | inl front ↦
             at_uncut place small ∙ below_is place front ∙ may.kept place (omega arith) untouched
-            ∙ cut_keeps done len file.seen place front
         | inr behind ↦ at_uncut place small ∙ above_is place behind
       ]
 
-  -- what a stop may leave after a cut is what one might have left before it, after a part of the cut
-  pub cut_follows : (old : List ℕ) × MayLeave file old × PartlyCut len old left
-  cut_follows = (
+  -- what a stop may leave after a failed cut is what one might have left before it, after a part of the cut
+  pub torn_cut_follows : (old : List ℕ) × MayLeave file old × PartlyCut len old left
+  torn_cut_follows = (
     uncut,
     record {
       at_least = omega (arith, length_uncut);
@@ -230,6 +240,21 @@ module _ (done : Bool) (len : ℕ) (file : FileState) (sound : IsSound file)
       kept = λ place small. sym (at_uncut place (omega arith) ∙ below_is place (omega arith));
     },
   )
+
+module _ (len : ℕ) (file : FileState) (sound : IsSound file)
+    (left : List ℕ) (may : MayLeave (after_cut len file) left) where
+  -- what a stop may leave after a cut it may leave after a failed one too
+  left_by_cut : MayLeave (torn_cut len file) left
+  left_by_cut = record {
+    at_least = may.at_least;
+    at_most = may.at_most;
+    kept = λ place below untouched.
+        may.kept place below untouched ∙ get_or-take len file.seen place 0 (omega arith);
+  }
+
+  -- so it is one from before, after a part of the cut
+  pub cut_follows : (old : List ℕ) × MayLeave file old × PartlyCut len old left
+  cut_follows = torn_cut_follows len file sound left left_by_cut
 
 -- what a stop may leave after a sync is what a read gives, and it might have left that before
 pub synced_is : (file : FileState) → IsSound file → (left : List ℕ) → MayLeave (after_sync file) left

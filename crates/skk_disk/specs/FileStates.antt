@@ -1,5 +1,5 @@
 -- What a file may be after a stop, by what was done to it since its last sync.
-use Rattle.std.specs.Prelude.{⊤, ℕ, ◌+◌, ◌<◌, ◌≤◌, min, max, Bool, true, false, List, [], ◌∷◌, length, take}
+use Rattle.std.specs.Prelude.{⊤, ℕ, ◌+◌, ◌<◌, ◌≤◌, min, max, List, [], ◌∷◌, length, take}
 use Rattle.skk_disk.specs.Steps.{placed, SameByte, Range, IsOutside}
 
 -- what a read gives of a file, and since its last sync its smallest length, its greatest one and the ranges written
@@ -24,29 +24,38 @@ pub record MayLeave (file : FileState) (left : List ℕ) : Type 0 where
 abbrev pub empty_file : FileState
 empty_file = record { seen = []; smallest = 0; greatest = 0; written = [] }
 
--- what a read gives after a write of bytes at a place, by whether it was done
-abbrev pub seen_after_write : Bool → ℕ → List ℕ → List ℕ → List ℕ
-seen_after_write true at bytes seen = placed at bytes seen
-seen_after_write false at bytes seen = seen
-
--- what a read gives after a cut to a length, by whether it was done
-abbrev pub seen_after_cut : Bool → ℕ → List ℕ → List ℕ
-seen_after_cut true len seen = take len seen
-seen_after_cut false len seen = seen
-
--- a file after a write of bytes at a place, of which any part may be left, also where it was not done
-abbrev pub after_write : Bool → ℕ → List ℕ → FileState → FileState
-after_write done at bytes file = record {
-  seen = seen_after_write done at bytes file.seen;
+-- a file after a write of bytes at a place: a read gives them, and until a sync a stop may leave any part of it
+abbrev pub after_write : ℕ → List ℕ → FileState → FileState
+after_write at bytes file = record {
+  seen = placed at bytes file.seen;
   smallest = file.smallest;
   greatest = max file.greatest (at + length bytes);
   written = record { at = at; count = length bytes } ∷ file.written;
 }
 
--- a file after a cut to a length, of which any part may be left, also where it was not done
-abbrev pub after_cut : Bool → ℕ → FileState → FileState
-after_cut done len file = record {
-  seen = seen_after_cut done len file.seen;
+-- a file after a failed write of so many bytes at a place: a read gives what it gave, and until a sync a stop may leave
+-- any part of it
+abbrev pub torn_write : ℕ → ℕ → FileState → FileState
+torn_write at count file = record {
+  seen = file.seen;
+  smallest = file.smallest;
+  greatest = max file.greatest (at + count);
+  written = record { at = at; count = count } ∷ file.written;
+}
+
+-- a file after a cut to a length: a read gives what is below it, and until a sync a stop may leave any part of it
+abbrev pub after_cut : ℕ → FileState → FileState
+after_cut len file = record {
+  seen = take len file.seen;
+  smallest = min file.smallest len;
+  greatest = file.greatest;
+  written = file.written;
+}
+
+-- a file after a failed cut to a length: a read gives what it gave, and until a sync a stop may leave any part of it
+abbrev pub torn_cut : ℕ → FileState → FileState
+torn_cut len file = record {
+  seen = file.seen;
   smallest = min file.smallest len;
   greatest = file.greatest;
   written = file.written;

@@ -6,12 +6,14 @@ use Rattle.std.proofs.lemmas.List.{take_all, take-append-le, length_push}
 use Rattle.skk_disk.specs.declared.which.Which.{Which}
 use Rattle.skk_disk.specs.declared.which.Which.TheVariants.{A, B}
 use Rattle.skk_disk.specs.declared.made_call.MadeCall.{MadeCall}
-use Rattle.skk_disk.specs.declared.made_call.MadeCall.TheVariants.{Write, Cut, Sync}
+use Rattle.skk_disk.specs.declared.made_call.MadeCall.TheVariants.{Write, TornWrite, Cut, TornCut, Sync}
 use Rattle.skk_disk.specs.Image.{Image}
 use Rattle.skk_disk.specs.Moments.{Passes, Earlier, Apart}
 use Rattle.skk_disk.specs.Steps.{ComeFrom}
-use Rattle.skk_disk.specs.FileStates.{FileState, empty_file, IsSound, after_write, after_cut, after_sync}
-use Rattle.skk_disk.specs.FileLaws.{sound_write, sound_cut, sound_sync, seen_may_be_left}
+use Rattle.skk_disk.specs.FileStates.{FileState, empty_file, IsSound, after_sync}
+use Rattle.skk_disk.specs.FileStates.{after_write, torn_write, after_cut, torn_cut}
+use Rattle.skk_disk.specs.FileLaws.{sound_write, sound_torn_write, sound_cut, sound_torn_cut, sound_sync}
+use Rattle.skk_disk.specs.FileLaws.{seen_may_be_left}
 use Rattle.skk_disk.specs.MadeCalls.{DiskState, empty_disk, file_of, with_file, after_call, after_calls, made_by}
 use Rattle.skk_disk.specs.MadeCalls.{image_seen, IsImage, LeftSince}
 
@@ -30,13 +32,18 @@ sound_with A file disk sound both = record { a = sound; b = both.b }
 sound_with B file disk sound both = record { a = both.a; b = sound }
 
 sound_call : (disk : DiskState) (call : MadeCall) → AreSound disk → AreSound (after_call disk call)
-sound_call disk (Write file at bytes done) both =
+sound_call disk (Write file at bytes) both =
     let old = file_of file disk in
-    let sound = sound_write done at bytes old (sound_of file disk both) in
-    sound_with file (after_write done at bytes old) disk sound both
-sound_call disk (Cut file len done) both =
+    sound_with file (after_write at bytes old) disk (sound_write at bytes old (sound_of file disk both)) both
+sound_call disk (TornWrite file at count) both =
     let old = file_of file disk in
-    sound_with file (after_cut done len old) disk (sound_cut done len old (sound_of file disk both)) both
+    sound_with file (torn_write at count old) disk (sound_torn_write at count old (sound_of file disk both)) both
+sound_call disk (Cut file len) both =
+    let old = file_of file disk in
+    sound_with file (after_cut len old) disk (sound_cut len old (sound_of file disk both)) both
+sound_call disk (TornCut file len) both =
+    let old = file_of file disk in
+    sound_with file (torn_cut len old) disk (sound_torn_cut len old (sound_of file disk both)) both
 sound_call disk (Sync file) both =
     let old = file_of file disk in sound_with file (after_sync old) disk (sound_sync old) both
 

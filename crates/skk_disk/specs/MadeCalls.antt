@@ -1,16 +1,24 @@
 -- The images of a disk in memory, by the calls in its record.
-use Rattle.std.specs.Prelude.{◌≡◌, ◌⊎◌, ℕ, ◌≤◌, List, [], ◌∷◌, ◌++◌, length, take}
+use Rattle.std.specs.Prelude.{◌≡◌, ◌⊎◌, ℕ, ◌≤◌, ◌<◌, List, [], ◌∷◌, ◌++◌, length, take}
 use Rattle.skk_outside.specs.Memory.{CallCount, after_success, after_failure, FailsNext}
 use Rattle.skk_disk.specs.declared.which.Which.{Which}
 use Rattle.skk_disk.specs.declared.which.Which.TheVariants.{A, B}
 use Rattle.skk_disk.specs.declared.made_call.MadeCall.{MadeCall}
-use Rattle.skk_disk.specs.declared.made_call.MadeCall.TheVariants.{Write, Cut, Sync}
+use Rattle.skk_disk.specs.declared.made_call.MadeCall.TheVariants.{Write, TornWrite, Cut, TornCut, Sync}
 use Rattle.skk_disk.specs.Image.{Image}
-use Rattle.skk_disk.specs.FileStates.{FileState, MayLeave, empty_file, after_write, after_cut, after_sync}
+use Rattle.skk_disk.specs.FileStates.{FileState, MayLeave, empty_file, after_sync}
+use Rattle.skk_disk.specs.FileStates.{after_write, torn_write, after_cut, torn_cut}
 
--- a disk in memory: the calls in its record, in order, and the count of its calls
+-- a record of calls: the calls, in order, and for how many more it has room without taking memory
+pub record RecordState : Type 0 where
+  pub made : List MadeCall
+  pub room : ℕ
+
+-- a disk in memory: the calls in its record, in order, for how many more the record has room without taking memory,
+-- and the count of its calls
 pub record MemDiskState : Type 0 where
   pub made : List MadeCall
+  pub room : ℕ
   pub count : CallCount
 
 -- both files, each since its last sync
@@ -34,8 +42,10 @@ with_file B file disk = record { a = disk.a; b = file }
 
 -- a disk after one call
 abbrev pub after_call : DiskState → MadeCall → DiskState
-after_call disk (Write file at bytes done) = with_file file (after_write done at bytes (file_of file disk)) disk
-after_call disk (Cut file len done) = with_file file (after_cut done len (file_of file disk)) disk
+after_call disk (Write file at bytes) = with_file file (after_write at bytes (file_of file disk)) disk
+after_call disk (TornWrite file at count) = with_file file (torn_write at count (file_of file disk)) disk
+after_call disk (Cut file len) = with_file file (after_cut len (file_of file disk)) disk
+after_call disk (TornCut file len) = with_file file (torn_cut len (file_of file disk)) disk
 after_call disk (Sync file) = with_file file (after_sync (file_of file disk)) disk
 
 -- a disk after calls, one after another
@@ -61,14 +71,18 @@ abbrev pub LeftSince : List MadeCall → ℕ → Image → Type 0
 LeftSince calls time image =
     (count : ℕ) × (time ≤ count) × (count ≤ length calls) × IsImage (made_by (take count calls)) image
 
--- a call was made: it is recorded, and counted as one that went well
-abbrev pub IsMade : MadeCall → MemDiskState → MemDiskState → Type 0
-IsMade call old new = new ≡ record { made = old.made ++ call ∷ []; count = after_success old.count }
+-- a call was made: it is recorded, and counted as one that went well, and there is room for one more
+pub record IsMade (call : MadeCall) (old new : MemDiskState) : Type 0 where
+  pub made : new.made ≡ old.made ++ call ∷ []
+  pub count : new.count ≡ after_success old.count
+  pub room : 0 < new.room
 
--- a call failed: it is counted so, and recorded is nothing, or where it was to fail what is left of such a call
-pub record HasFailed (left : List MadeCall) (old new : MemDiskState) : Type 0 where
+-- a call failed: it is counted so, and recorded is nothing, or where it was to fail what is left of such a call, and
+-- that always where there was room
+pub record HasFailed (torn : List MadeCall) (old new : MemDiskState) : Type 0 where
   pub count : new.count ≡ after_failure old.count
-  pub made : (new.made ≡ old.made) ⊎ (FailsNext old.count × (new.made ≡ old.made ++ left))
+  pub recorded : FailsNext old.count → 0 < old.room → new.made ≡ old.made ++ torn
+  pub made : (new.made ≡ old.made) ⊎ (FailsNext old.count × (new.made ≡ old.made ++ torn))
 
 -- what a read gives of both files after calls
 abbrev pub seen_after : List MadeCall → Image

@@ -1,4 +1,5 @@
-ghost use Rattle.std.specs.Prelude.{◌≡◌, ◌++◌, ◌∷◌, [], OnOk, OnErr};
+ghost use Rattle.std.specs.Prelude.{◌≡◌, ◌⊎◌, ◌<◌, ◌≤◌, ◌+◌, ◌++◌, ◌∷◌, [], OnOk, OnErr};
+ghost use Rattle.std.specs.Vec.{vec_len, vec_capacity};
 ghost use Rattle.skk_disk.specs.Image.{part};
 ghost use Rattle.skk_disk.specs.MadeCalls.{made_by, image_seen};
 
@@ -10,7 +11,9 @@ use std::alloc::{AllocError, Global};
 use std::marker::Model;
 
 // The calls that were made on a disk that was empty, in order, and the bytes that a read gives after them:
-// contracts see the calls. A call that can't be recorded, for want of memory, changes nothing.
+// contracts see the calls, and for how many more there is room. A call that was made leaves room for one more,
+// so that one that fails can be recorded when memory is out. Where that room can't be had, or memory for the
+// call itself, the call changes nothing.
 #[derive(Debug, Drop)]
 pub(crate) struct CallRecord {
     alloc: Global,
@@ -20,18 +23,19 @@ pub(crate) struct CallRecord {
 }
 
 impl Model for CallRecord {
-    ghost use Rattle.std.specs.Prelude.{List};
-    ghost use Rattle.skk_disk.specs.declared.made_call.MadeCall.{MadeCall};
+    ghost use Rattle.std.specs.Prelude.{◌-◌};
+    ghost use Rattle.std.specs.Vec.{vec_len, vec_capacity};
+    ghost use Rattle.skk_disk.specs.MadeCalls.{RecordState};
 
-    ghost Value = { List MadeCall };
+    ghost Value = { RecordState };
 
-    ghost view = { λ r. r.made.items };
+    ghost view = { λ r. record { made = r.made.items; room = vec_capacity r.made - vec_len r.made } };
 }
 
 impl CallRecord {
     // No call. Takes no memory.
     pub(crate) fn new(alloc: Global) -> CallRecord
-        ensures { result ≡ [] }
+        ensures { result.made ≡ [] }
     {
         CallRecord {
             alloc,
@@ -42,60 +46,78 @@ impl CallRecord {
 
     // The calls, in order.
     pub(crate) fn made(&self) -> &[MadeCall]
-        ensures { result.now ≡ self.now }
+        ensures { result.now ≡ self.now.made }
     {
         self.made.as_slice()
     }
 
     // The bytes that a read gives of a file.
     pub(crate) fn bytes(&self, file: Which) -> &[u8]
-        ensures { result.now ≡ part file (image_seen (made_by self.now)) }
+        ensures { result.now ≡ part file (image_seen (made_by self.now.made)) }
     {
         self.contents.bytes(file)
     }
 
-    // Records a write, and does it if it is to be done.
-    pub(crate) fn write(
-        &mut self,
-        file: Which,
-        at: u64,
-        from: &[u8],
-        done: bool,
-    ) -> Result<(), AllocError>
-        ensures ok { OnOk result (self.new ≡ self.old ++ MadeCall.Write file at from.now done ∷ []) }
-        ensures err { OnErr result (self.new ≡ self.old) }
+    // Does a write and records it.
+    pub(crate) fn write(&mut self, file: Which, at: u64, from: &[u8]) -> Result<(), AllocError>
+        ensures ok { OnOk result (self.new.made ≡ self.old.made ++ MadeCall.Write file at from.now ∷ []) }
+        ensures room { OnOk result (0 < self.new.room) }
+        ensures err { OnErr result (self.new.made ≡ self.old.made) }
     {
         let bytes = Bytes::of(from.to_vec(self.alloc)?);
-        let count = self.made.len();
-        self.made.push(MadeCall::Write {
-            file,
-            at,
-            bytes,
-            done,
-        })?;
-        let Err(error) = self.contents.write(file, at, from, done) else {
-            return Ok(());
-        };
-        self.made.truncate(count);
-        Err(error)
+        self.made.reserve(2)?;
+        self.contents.write(file, at, from)?;
+        add(&mut self.made, MadeCall::Write { file, at, bytes });
+        Ok(())
     }
 
-    // Records a cut, and does it if it is to be done.
-    pub(crate) fn cut(&mut self, file: Which, len: u64, done: bool) -> Result<(), AllocError>
-        ensures ok { OnOk result (self.new ≡ self.old ++ MadeCall.Cut file len done ∷ []) }
-        ensures err { OnErr result (self.new ≡ self.old) }
+    // Records a write of so many bytes that failed, where there is room or memory for that.
+    pub(crate) fn torn_write(&mut self, file: Which, at: u64, count: u64)
+        ensures recorded { 0 < self.old.room → self.new.made ≡ self.old.made ++ MadeCall.TornWrite file at count ∷ [] }
+        ensures made { (self.new.made ≡ self.old.made)
+            ⊎ (self.new.made ≡ self.old.made ++ MadeCall.TornWrite file at count ∷ []) }
     {
-        self.made.push(MadeCall::Cut { file, len, done })?;
-        self.contents.cut(file, len, done);
+        let _ = self.made.push(MadeCall::TornWrite { file, at, count });
+    }
+
+    // Does a cut and records it.
+    pub(crate) fn cut(&mut self, file: Which, len: u64) -> Result<(), AllocError>
+        ensures ok { OnOk result (self.new.made ≡ self.old.made ++ MadeCall.Cut file len ∷ []) }
+        ensures room { OnOk result (0 < self.new.room) }
+        ensures err { OnErr result (self.new.made ≡ self.old.made) }
+    {
+        self.made.reserve(2)?;
+        self.contents.cut(file, len);
+        add(&mut self.made, MadeCall::Cut { file, len });
         Ok(())
+    }
+
+    // Records a cut that failed, where there is room or memory for that.
+    pub(crate) fn torn_cut(&mut self, file: Which, len: u64)
+        ensures recorded { 0 < self.old.room → self.new.made ≡ self.old.made ++ MadeCall.TornCut file len ∷ [] }
+        ensures made { (self.new.made ≡ self.old.made)
+            ⊎ (self.new.made ≡ self.old.made ++ MadeCall.TornCut file len ∷ []) }
+    {
+        let _ = self.made.push(MadeCall::TornCut { file, len });
     }
 
     // Records a sync.
     pub(crate) fn sync(&mut self, file: Which) -> Result<(), AllocError>
-        ensures ok { OnOk result (self.new ≡ self.old ++ MadeCall.Sync file ∷ []) }
-        ensures err { OnErr result (self.new ≡ self.old) }
+        ensures ok { OnOk result (self.new.made ≡ self.old.made ++ MadeCall.Sync file ∷ []) }
+        ensures room { OnOk result (0 < self.new.room) }
+        ensures err { OnErr result (self.new.made ≡ self.old.made) }
     {
-        self.made.push(MadeCall::Sync { file })?;
+        self.made.reserve(2)?;
+        add(&mut self.made, MadeCall::Sync { file });
         Ok(())
     }
+}
+
+// Adds a call to those that have room for it and for one more.
+fn add(made: &mut Vec<MadeCall>, call: MadeCall)
+    requires { vec_len made.old + 2 ≤ vec_capacity made.old }
+    ensures items { made.new.items ≡ made.old.items ++ call ∷ [] }
+    ensures room { vec_len made.new < vec_capacity made.new }
+{
+    let _fits = made.push(call);
 }

@@ -1,7 +1,6 @@
-ghost use Rattle.std.specs.Prelude.{◌≡◌, ◌++◌, ◌-◌, length, replicate, OnOk, OnErr};
+ghost use Rattle.std.specs.Prelude.{◌≡◌, ◌++◌, ◌-◌, length, take, replicate, OnOk, OnErr};
 ghost use Rattle.skk_disk.specs.Image.{empty_image, part, with_part};
 ghost use Rattle.skk_disk.specs.Steps.{placed};
-ghost use Rattle.skk_disk.specs.FileStates.{seen_after_write, seen_after_cut};
 
 use crate::which::Which;
 use std::alloc::{AllocError, Global};
@@ -43,51 +42,26 @@ impl Contents {
         }
     }
 
-    // Writes bytes at a place of a file, in place as far as there is room, if that is to be done.
-    pub(crate) fn write(
-        &mut self,
-        file: Which,
-        at: u64,
-        from: &[u8],
-        done: bool,
-    ) -> Result<(), AllocError>
-        ensures ok { OnOk result (self.new
-            ≡ with_part file (seen_after_write done at from.now (part file self.old)) self.old) }
+    // Writes bytes at a place of a file, in place as far as there is room.
+    pub(crate) fn write(&mut self, file: Which, at: u64, from: &[u8]) -> Result<(), AllocError>
+        ensures ok { OnOk result (self.new ≡ with_part file (placed at from.now (part file self.old)) self.old) }
         ensures err { OnErr result (self.new ≡ self.old) }
     {
         match file {
-            Which::A => place_if(done, &mut self.a, at, from),
-            Which::B => place_if(done, &mut self.b, at, from),
+            Which::A => place(&mut self.a, at, from),
+            Which::B => place(&mut self.b, at, from),
         }
     }
 
-    // Cuts a file to a length, where it is longer, if that is to be done.
-    pub(crate) fn cut(&mut self, file: Which, len: u64, done: bool)
-        ensures { self.new ≡ with_part file (seen_after_cut done len (part file self.old)) self.old }
+    // Cuts a file to a length, where it is longer.
+    pub(crate) fn cut(&mut self, file: Which, len: u64)
+        ensures { self.new ≡ with_part file (take len (part file self.old)) self.old }
     {
         match file {
-            Which::A => cut_if(done, &mut self.a, len),
-            Which::B => cut_if(done, &mut self.b, len),
+            Which::A => self.a.truncate(len as usize),
+            Which::B => self.b.truncate(len as usize),
         }
     }
-}
-
-fn cut_if(done: bool, file: &mut Vec<u8>, len: u64)
-    ensures { file.new.items ≡ seen_after_cut done len file.old.items }
-{
-    if done {
-        file.truncate(len as usize);
-    }
-}
-
-fn place_if(done: bool, file: &mut Vec<u8>, at: u64, from: &[u8]) -> Result<(), AllocError>
-    ensures ok { OnOk result (file.new.items ≡ seen_after_write done at from.now file.old.items) }
-    ensures err { OnErr result (file.new.items ≡ file.old.items) }
-{
-    if done {
-        place(file, at, from)?;
-    }
-    Ok(())
 }
 
 // Writes bytes at a place of a file, behind zeros where it is shorter.

@@ -1,24 +1,19 @@
 use crate::which::Which;
 use skk_text::Bytes;
 
-/// A call on a disk in memory that changed a file, or that may have changed one and failed.
+/// A call on a disk in memory: a write, a cut or a sync that was made, or a write or a cut that failed, of which
+/// a stop may leave any part.
 #[derive(Debug, Drop)]
 pub enum MadeCall {
-    /// A write of bytes at a place, and whether it was done.
-    Write {
-        file: Which,
-        at: u64,
-        bytes: Bytes,
-        done: bool,
-    },
-    /// A cut to a length, and whether it was done.
-    Cut {
-        file: Which,
-        len: u64,
-        done: bool,
-    },
-    /// A sync that was done.
-    Sync {
-        file: Which,
-    },
+    /// A write of bytes at a place.
+    Write { file: Which, at: u64, bytes: Bytes },
+    /// A write of so many bytes at a place that failed. They are not kept, since a stop may leave any bytes in
+    /// their range.
+    TornWrite { file: Which, at: u64, count: u64 },
+    /// A cut to a length.
+    Cut { file: Which, len: u64 },
+    /// A cut to a length that failed.
+    TornCut { file: Which, len: u64 },
+    /// A sync.
+    Sync { file: Which },
 }

@@ -1,4 +1,4 @@
-ghost use Rattle.std.specs.Prelude.{◌≡◌, ◌↔◌, ◌≤◌, ◌<◌, ◌++◌, ◌∷◌, [], ⊤, length, take, drop, min, true, false};
+ghost use Rattle.std.specs.Prelude.{◌≡◌, ◌↔◌, ◌≤◌, ◌<◌, ◌++◌, ◌∷◌, [], ⊤, length, take, drop, min};
 ghost use Rattle.std.specs.Prelude.{Some, IfOk, IsErr, OnOk, OnErr};
 ghost use Rattle.std.specs.Io.{ReadsAtMost};
 ghost use Rattle.skk_outside.specs.Faults.{Rose};
@@ -22,8 +22,11 @@ use std::marker::Model;
 /// at each moment are all that the rules of a disk allow for the calls made by then.
 ///
 /// A write or a cut that is to fail leaves what a read gives, and a stop may leave any part of it; a sync
-/// that is to fail changes nothing. A call for which the record can't grow, for want of memory, fails and
-/// changes nothing either.
+/// that is to fail changes nothing. A call for which memory is out fails and changes nothing either.
+///
+/// Each write, cut or sync that went well leaves room in the record for one call more, so that where the next
+/// one is to fail it is recorded, whether there is memory or not. One that is to fail where there is neither
+/// room nor memory is not recorded, and no part of it is left.
 #[derive(Debug, Drop)]
 pub struct MemDisk {
     record: CallRecord,
@@ -35,13 +38,14 @@ impl Model for MemDisk {
 
     ghost Value = { MemDiskState };
 
-    ghost view = { λ m. record { made = m.record; count = m.calls } };
+    ghost view = { λ m. record { made = m.record.made; room = m.record.room; count = m.calls } };
 }
 
 impl MemDisk {
     /// Two empty files. All calls are counted, from 1, and those with these numbers fail. Takes no memory.
     pub fn new(alloc: Global, fails: Vec<u64>) -> MemDisk
-        ensures { result ≡ record { made = []; count = no_call_yet fails.items } }
+        ensures made { result.made ≡ [] }
+        ensures count { result.count ≡ no_call_yet fails.items }
     {
         MemDisk {
             record: CallRecord::new(alloc),
@@ -49,7 +53,8 @@ impl MemDisk {
         }
     }
 
-    /// The writes, cuts and syncs that were made, in order. Takes no memory.
+    /// The writes, cuts and syncs that were made, and the writes and cuts that were to fail, in order. Takes no
+    /// memory.
     pub fn made(&self) -> &[MadeCall]
         ensures { result.now ≡ self.now.made }
     {
@@ -60,15 +65,15 @@ impl MemDisk {
     fn make_write(&mut self, file: Which, at: u64, from: &[u8]) -> Result<(), Failed>
         ensures fails { FailsNext self.old.count → IsErr result }
         ensures counted { self.old.count.faults ≤ self.new.count.faults }
-        ensures ok { OnOk result (IsMade (MadeCall.Write file at from.now true) self.old self.new) }
-        ensures err { OnErr result (HasFailed (MadeCall.Write file at from.now false ∷ []) self.old self.new) }
+        ensures ok { OnOk result (IsMade (MadeCall.Write file at from.now) self.old self.new) }
+        ensures err { OnErr result (HasFailed (MadeCall.TornWrite file at (length from.now) ∷ []) self.old self.new) }
     {
         if let Err(failed) = self.calls.next() {
             // Any part of it may be left.
-            let _ = self.record.write(file, at, from, false);
+            self.record.torn_write(file, at, from.len() as u64);
             return Err(failed);
         }
-        let Ok(()) = self.record.write(file, at, from, true) else {
+        let Ok(()) = self.record.write(file, at, from) else {
             return Err(self.calls.fail());
         };
         Ok(())
@@ -78,15 +83,15 @@ impl MemDisk {
     fn make_cut(&mut self, file: Which, len: u64) -> Result<(), Failed>
         ensures fails { FailsNext self.old.count → IsErr result }
         ensures counted { self.old.count.faults ≤ self.new.count.faults }
-        ensures ok { OnOk result (IsMade (MadeCall.Cut file len true) self.old self.new) }
-        ensures err { OnErr result (HasFailed (MadeCall.Cut file len false ∷ []) self.old self.new) }
+        ensures ok { OnOk result (IsMade (MadeCall.Cut file len) self.old self.new) }
+        ensures err { OnErr result (HasFailed (MadeCall.TornCut file len ∷ []) self.old self.new) }
     {
         if let Err(failed) = self.calls.next() {
             // Any part of it may be left.
-            let _ = self.record.cut(file, len, false);
+            self.record.torn_cut(file, len);
             return Err(failed);
         }
-        let Ok(()) = self.record.cut(file, len, true) else {
+        let Ok(()) = self.record.cut(file, len) else {
             return Err(self.calls.fail());
         };
         Ok(())
@@ -139,6 +144,7 @@ impl Disk for MemDisk {
         // It fails exactly where it is to fail, and is not recorded.
         ensures fails { IsErr result ↔ FailsNext self.old.count }
         ensures made { self.new.made ≡ self.old.made }
+        ensures room { self.new.room ≡ self.old.room }
         ensures ok { OnOk result (self.new.count ≡ after_success self.old.count) }
         ensures err { OnErr result (self.new.count ≡ after_failure self.old.count) }
     {
@@ -160,6 +166,7 @@ impl Disk for MemDisk {
         ensures many { IfOk result (λ n.
             n ≡ min (length into.old) (length (drop at (part file (seen_after self.old.made))))) }
         ensures made { self.new.made ≡ self.old.made }
+        ensures room { self.new.room ≡ self.old.room }
         ensures ok { OnOk result (self.new.count ≡ after_success self.old.count) }
         ensures err { OnErr result (self.new.count ≡ after_failure self.old.count) }
     {
@@ -182,8 +189,8 @@ impl Disk for MemDisk {
 
         // What is recorded; where it is to fail it does.
         ensures fails { FailsNext self.old.count → IsErr result }
-        ensures ok { OnOk result (IsMade (MadeCall.Write file at from.now true) self.old self.new) }
-        ensures err { OnErr result (HasFailed (MadeCall.Write file at from.now false ∷ []) self.old self.new) }
+        ensures ok { OnOk result (IsMade (MadeCall.Write file at from.now) self.old self.new) }
+        ensures err { OnErr result (HasFailed (MadeCall.TornWrite file at (length from.now) ∷ []) self.old self.new) }
     {
         self.make_write(file, at, from)
     }
@@ -202,8 +209,8 @@ impl Disk for MemDisk {
 
         // What is recorded; where it is to fail it does.
         ensures fails { FailsNext self.old.count → IsErr result }
-        ensures ok { OnOk result (IsMade (MadeCall.Cut file len true) self.old self.new) }
-        ensures err { OnErr result (HasFailed (MadeCall.Cut file len false ∷ []) self.old self.new) }
+        ensures ok { OnOk result (IsMade (MadeCall.Cut file len) self.old self.new) }
+        ensures err { OnErr result (HasFailed (MadeCall.TornCut file len ∷ []) self.old self.new) }
     {
         self.make_cut(file, len)
     }

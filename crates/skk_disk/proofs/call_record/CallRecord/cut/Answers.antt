@@ -3,7 +3,7 @@ use Rattle.skk_disk.proofs.call_record.CallRecord.cut.Goals as goal
 
 pub invariant_of-self-inside-2 : goal.invariant_of-self-inside-2
 invariant_of-self-inside-2 c = (
-  cut_goes_on c.args.file c.args.len c.args.done c.self.inside.made.items c.push.new.self.items c.self.inside.contents
-      c.cut.new.self c.self.inside.is c.in_ok-push.ensures.items c.cut.ensures,
+  cut_goes_on c.args.file c.args.len c.self.inside.made.items c.add.new.made.items c.self.inside.contents
+      c.cut.new.self c.self.inside.is (rw c.reserve.ensures.items at c.add.ensures.items) c.cut.ensures,
   tt,
 )
