@@ -1,6 +1,6 @@
 -- The definitions at small examples, each worked out by hand.
 use Rattle.std.proofs.Common.{◌≡◌, ℕ, Bool, true, false, ◌||◌, List, [], ◌∷◌, ◌++◌, length, take, drop, map, inl, inr}
-use Rattle.std.proofs.Common.{arith, refl, lit≤, lit<}
+use Rattle.std.proofs.Common.{All, Bor, subst, sym, arith, refl, lit≤, lit<}
 use Rattle.std.proofs.lemmas.List.Elements.{All-nil, All-cons}
 use Rattle.skk_journal.specs.Records.{IsSized, size_bytes, record_bytes, need, framed, behind_gate, front}
 use Rattle.skk_journal.specs.Records.{end_of, HasRecords, HasAddition}
@@ -15,6 +15,14 @@ use Rattle.skk_journal.specs.declared.fault.AppendFault.TheVariants.{Full, Disk}
 use Rattle.skk_journal.specs.declared.fault.OpenFault.TheVariants as opening
 use Rattle.skk_journal.specs.Making.{first_generation, IsShort, IsBlank, IsNew}
 use Rattle.skk_journal.specs.Found.{found_from}
+use Rattle.skk_journal.specs.Frames.{Ends, IsFrame, IsPayload}
+use Rattle.skk_journal.specs.Heads.{head_of}
+use Rattle.skk_journal.specs.Reading.{Takes, StopsAt, StopsWithin, AreRead, BreakOff, TellsNoPlace, SameCause}
+use Rattle.skk_journal.specs.declared.found.Found.{Found}
+use Rattle.skk_journal.specs.declared.frame.Frame.TheVariants as frames
+use Rattle.skk_journal.specs.declared.frames.Stop.TheVariants.{End, Else}
+use Rattle.skk_journal.specs.declared.head.Head.TheVariants.{Fresh, Foreign, CutShort, Whole}
+use Rattle.skk_journal.specs.declared.records.RecordsFault.TheVariants as reading
 
 -- the payload of the first learning of 漢字 for かんじ in book 1
 abbrev learning : List ℕ
@@ -268,3 +276,128 @@ unless_disk = (tt, λ is. is, λ is. is)
 
 not_short : ¬ IsShort (record { a = 1 ∷ 2 ∷ []; b = [] })
 not_short = λ short. omega (arith, short)
+
+-- what the heads of files say: none, one that is no learned file, one cut in its generation, and a whole one
+by_heads : map head_of (
+    [] ∷ (80 ∷ 46 ∷ []) ∷ take 9 learnt_file ∷ take 16 learnt_file ∷ take 17 learnt_file ∷ learnt_file ∷ [])
+    ≡ Fresh ∷ Foreign 80 ∷ CutShort ∷ CutShort ∷ Whole ∷ Whole ∷ []
+by_heads = refl
+
+-- a closed gate ends the records; an open one and none do not
+closed_gates : Ends (0 ∷ 5 ∷ []) × Ends (2 ∷ []) × (¬ Ends (1 ∷ 5 ∷ [])) × (¬ Ends [])
+closed_gates = (
+  (0, 5 ∷ [], refl, λ same. omega (arith, same)),
+  (2, [], refl, λ same. omega (arith, same)),
+  λ ends. let same = ends.2 in ends.3 cc,
+  λ ends. let same = ends.2 in cc,
+)
+
+-- what stands at a gate: a record whatever follows it, a closed gate, and neither
+a_record : (payload : Bor (List ℕ)) → payload.now ≡ 7 ∷ 8 ∷ []
+    → IsFrame (1 ∷ 2 ∷ 0 ∷ 0 ∷ 0 ∷ 7 ∷ 8 ∷ 5 ∷ []) (frames.Record payload)
+unfolding size_bytes
+a_record payload is =
+    let tail : List ℕ = 1 ∷ 2 ∷ 0 ∷ 0 ∷ 0 ∷ 7 ∷ 8 ∷ 5 ∷ [] in
+    subst (λ (l : List ℕ). IsSized l × ((rest : List ℕ) × (tail ≡ record_bytes l ++ rest))) (sym is)
+    ((omega arith, omega arith), (5 ∷ [], refl))
+
+no_record : IsFrame (2 ∷ []) frames.End × IsFrame (1 ∷ 2 ∷ 0 ∷ 0 ∷ 0 ∷ 7 ∷ []) frames.Bad
+    × (¬ IsFrame (2 ∷ []) frames.Bad) × (¬ IsFrame (1 ∷ 2 ∷ 0 ∷ 0 ∷ 0 ∷ 7 ∷ []) frames.End)
+no_record = (
+  (2, [], refl, λ same. omega (arith, same)),
+  refl,
+  λ bad. cc,
+  λ ends. let same = ends.2 in ends.3 cc,
+)
+
+-- what stands behind a size: it is 0, it is too great, or there are fewer bytes; any other is that of a payload
+sizes_of : IsPayload 0 (7 ∷ []) frames.Bad × IsPayload 131073 [] frames.Bad × IsPayload 2 (7 ∷ []) frames.Bad
+    × (¬ IsPayload 1 (7 ∷ []) frames.Bad) × (¬ IsPayload 1 (7 ∷ []) frames.End)
+sizes_of = (
+  inl refl,
+  inr (inl (lit< tt)),
+  inr (inr (lit< tt)),
+  λ bad. elim bad [
+    | inl none ↦ omega (arith, none)
+    | inr other ↦ elim other [ inl great ↦ omega (arith, great) | inr short ↦ omega (arith, short) ]
+  ],
+  λ is. is,
+)
+
+longest_size : (rest : List ℕ) → length rest ≡ 131072 → ¬ IsPayload 131072 rest frames.Bad
+longest_size rest long = λ bad. elim bad [
+  | inl none ↦ omega (arith, none)
+  | inr other ↦ elim other [ inl great ↦ omega (arith, great) | inr short ↦ omega (arith, short, long) ]
+]
+
+-- a record at 17 that was read, and one behind it, with a closed gate behind that
+abbrev first : Found
+first = record { at = 17; payload = 7 ∷ 8 ∷ [] }
+
+abbrev second : Found
+second = record { at = 24; payload = 9 ∷ [] }
+
+abbrev second_tail : List ℕ
+second_tail = 1 ∷ 1 ∷ 0 ∷ 0 ∷ 0 ∷ 9 ∷ 0 ∷ 5 ∷ []
+
+second_sized : All IsSized ((9 ∷ []) ∷ [])
+second_sized = All-cons IsSized (9 ∷ []) [] (omega arith, omega arith) (All-nil IsSized)
+
+both_sized : All IsSized ((7 ∷ 8 ∷ []) ∷ (9 ∷ []) ∷ [])
+both_sized = All-cons IsSized (7 ∷ 8 ∷ []) ((9 ∷ []) ∷ []) (omega arith, omega arith) second_sized
+
+first_sized : All IsSized ((7 ∷ 8 ∷ []) ∷ [])
+first_sized = All-cons IsSized (7 ∷ 8 ∷ []) [] (omega arith, omega arith) (All-nil IsSized)
+
+-- the second one is read behind the first, in six bytes
+takes_second : Takes (Unit {0}) second_tail 24 6 (first ∷ []) (first ∷ second ∷ [])
+unfolding need size_bytes
+takes_second =
+    record { taken = (9 ∷ []) ∷ []; many = refl; sized = second_sized; found = refl; is = λ told. refl }
+
+takes_none : (tail : List ℕ) → Takes (Unit {0}) tail 24 0 (first ∷ []) (first ∷ [])
+takes_none tail =
+    record { taken = []; many = refl; sized = All-nil IsSized; found = refl; is = λ told. refl }
+
+-- reading stops at the closed gate behind it; or else anywhere behind the first byte, and there only where that is bad
+stops : StopsAt (Unit {0}) second_tail 24 (first ∷ []) (first ∷ second ∷ []) (End 6)
+    × StopsAt (Unit {0}) second_tail 24 (first ∷ []) (first ∷ second ∷ []) (Else 6)
+    × StopsAt (Unit {0}) (1 ∷ 0 ∷ 0 ∷ 0 ∷ 0 ∷ []) 24 (first ∷ []) (first ∷ []) (Else 0)
+    × (¬ StopsAt (Unit {0}) second_tail 24 (first ∷ []) (first ∷ []) (Else 0))
+    × (¬ StopsAt (Unit {0}) second_tail 24 (first ∷ []) (first ∷ []) (End 0))
+stops = (
+  (takes_second, λ told. (0, 5 ∷ [], refl, λ same. omega (arith, same))),
+  (takes_second, λ told none. absurd (omega (arith, none))),
+  (takes_none (1 ∷ 0 ∷ 0 ∷ 0 ∷ 0 ∷ []), λ told none. refl),
+  λ is. let bad = is.1 tt refl in cc,
+  λ is. let ends = is.1 tt in let same = ends.2 in ends.3 cc,
+)
+
+within : StopsWithin 6 (End 6) × StopsWithin 6 (Else 6) × (¬ StopsWithin 5 (End 6)) × (¬ StopsWithin 5 (Else 6))
+within = (lit≤ tt, lit≤ tt, λ is. omega (arith, is), λ is. omega (arith, is))
+
+-- both records, read from the place of the first one's gate on up to a closed gate
+read : AreRead (1 ∷ 2 ∷ 0 ∷ 0 ∷ 0 ∷ 7 ∷ 8 ∷ second_tail) (first ∷ second ∷ [])
+unfolding size_bytes
+read = (0 ∷ 5 ∷ [], refl, both_sized, (0, 5 ∷ [], refl, λ same. omega (arith, same)))
+
+-- the records break off at 24, behind the first one, and at no other place; nothing is said of other faults
+breaks : BreakOff (1 ∷ 2 ∷ 0 ∷ 0 ∷ 0 ∷ 7 ∷ 8 ∷ 1 ∷ 5 ∷ 0 ∷ []) (reading.Bad 24 (first ∷ []))
+    × (¬ BreakOff (1 ∷ 2 ∷ 0 ∷ 0 ∷ 0 ∷ 7 ∷ 8 ∷ 1 ∷ 5 ∷ 0 ∷ []) (reading.Bad 23 (first ∷ [])))
+    × BreakOff [] reading.Disk × BreakOff [] reading.Memory
+unfolding need size_bytes
+breaks = (
+  (1 ∷ 5 ∷ 0 ∷ [], refl, first_sized, refl, refl, refl),
+  λ is. let place = is.4 in cc,
+  tt,
+  tt,
+)
+
+place_told : TellsNoPlace reading.Disk × TellsNoPlace reading.Memory × (¬ TellsNoPlace (reading.Bad 24 (first ∷ [])))
+place_told = (tt, tt, λ is. is)
+
+-- each cause is the same one
+causes : SameCause reading.Disk opening.Disk × SameCause reading.Memory opening.Memory
+    × SameCause (reading.Bad 24 (first ∷ [])) (opening.BadRecord 24 (first ∷ []))
+    × (¬ SameCause reading.Disk opening.Memory) × (¬ SameCause (reading.Bad 24 []) (opening.BadRecord 23 []))
+causes = (refl, refl, refl, λ same. cc, λ same. cc)
