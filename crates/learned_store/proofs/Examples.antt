@@ -1,0 +1,191 @@
+-- The definitions at small examples, each worked out by hand.
+use Rattle.std.proofs.Common.{◌≡◌, ℕ, ◌^◌, ◌-◌, true, false, None, Some, List, [], ◌∷◌, map, length, codes, refl}
+use Rattle.skk_calls.specs.declared.part.Part.{Part}
+use Rattle.skk_calls.specs.declared.part.Part.TheVariants.{Nasi, Ari}
+use Rattle.skk_calls.specs.declared.call.Call.TheVariants.{Lookup, Complete, Learn, Purge, Unlearn}
+use Rattle.skk_calls.specs.Rows.{RowKey, Row}
+use Rattle.skk_calls.specs.States.{State, empty_state}
+use Rattle.learned_store.specs.declared.form.Form.{Form}
+use Rattle.learned_store.specs.declared.form.Form.TheVariants.{Put, Drop, SetCount}
+use Rattle.learned_store.specs.Payloads.{book_number, wide_number, part_byte}
+use Rattle.learned_store.specs.Payloads.{book_of, new_count}
+use Rattle.learned_store.specs.Payloads.{payload_of, are_held, is_sound, state_told, change_told}
+
+-- Bytes
+
+books : map book_number (0 ∷ 1 ∷ 258 ∷ 65535 ∷ []) ≡ (0 ∷ 0 ∷ []) ∷ (1 ∷ 0 ∷ []) ∷ (2 ∷ 1 ∷ []) ∷ (255 ∷ 255 ∷ []) ∷ []
+unfolding book_number
+books = refl
+
+wide : map wide_number (0 ∷ 1 ∷ 578437695752307201 ∷ 18446744073709551615 ∷ [])
+    ≡ (0 ∷ 0 ∷ 0 ∷ 0 ∷ 0 ∷ 0 ∷ 0 ∷ 0 ∷ []) ∷ (1 ∷ 0 ∷ 0 ∷ 0 ∷ 0 ∷ 0 ∷ 0 ∷ 0 ∷ [])
+    ∷ (1 ∷ 2 ∷ 3 ∷ 4 ∷ 5 ∷ 6 ∷ 7 ∷ 8 ∷ []) ∷ (255 ∷ 255 ∷ 255 ∷ 255 ∷ 255 ∷ 255 ∷ 255 ∷ 255 ∷ []) ∷ []
+unfolding wide_number
+wide = refl
+
+parts : map part_byte (Nasi ∷ Ari ∷ []) ≡ 0 ∷ 1 ∷ []
+parts = refl
+
+-- a key, and a row of it with one candidate
+abbrev key : Part → List ℕ → RowKey
+key part reading = record { part = part; reading = reading }
+
+abbrev row : Part → List ℕ → List ℕ → ℕ → Row
+row part reading word stamp =
+    record {
+      key = key part reading;
+      cands = record { word = word; note = [] } ∷ [];
+      blocks = [];
+      hides = [];
+      stamp = stamp;
+    }
+
+-- 漢字 for かんじ with the stamp 1 in book 1, whose count is 1
+abbrev learning : List ℕ
+learning =
+    1 ∷ 1 ∷ 0 ∷ 1 ∷ 0 ∷ 0 ∷ 0 ∷ 0 ∷ 0 ∷ 0 ∷ 0 ∷ 1 ∷ 0 ∷ 0 ∷ 0 ∷ 0 ∷ 0 ∷ 0 ∷ 0 ∷ 0 ∷ 227 ∷ 129 ∷ 139 ∷ 227 ∷ 130 ∷ 147
+    ∷ 227 ∷ 129 ∷ 152 ∷ 32 ∷ 47 ∷ 230 ∷ 188 ∷ 162 ∷ 229 ∷ 173 ∷ 151 ∷ 47 ∷ []
+
+learning_bytes : (payload_of (Put 1 1 (row Nasi (codes "かんじ") (codes "漢字") 1)) ≡ learning) × (length learning ≡ 38)
+unfolding lib.Utf8.encode book_number wide_number
+learning_bytes = (refl, refl)
+
+-- a row with okurigana, whose stamp is less than the count of its book; 大 for おおk
+put_payload : payload_of (Put 258 772 (row Ari (codes "おおk") (codes "大") 259))
+    ≡ 1 ∷ 2 ∷ 1 ∷ 4 ∷ 3 ∷ 0 ∷ 0 ∷ 0 ∷ 0 ∷ 0 ∷ 0 ∷ 3 ∷ 1 ∷ 0 ∷ 0 ∷ 0 ∷ 0 ∷ 0 ∷ 0 ∷ 1 ∷ 227 ∷ 129 ∷ 138 ∷ 227 ∷ 129 ∷ 138
+    ∷ 107 ∷ 32 ∷ 47 ∷ 229 ∷ 164 ∷ 167 ∷ 47 ∷ []
+unfolding lib.Utf8.encode book_number wide_number
+put_payload = refl
+
+-- the row of かんじ, and that of おおk, are taken out
+drop_payloads : map payload_of (Drop 1 2 (key Nasi (codes "かんじ")) ∷ Drop 258 772 (key Ari (codes "おおk")) ∷ [])
+    ≡ (2 ∷ 1 ∷ 0 ∷ 2 ∷ 0 ∷ 0 ∷ 0 ∷ 0 ∷ 0 ∷ 0 ∷ 0 ∷ 0 ∷ 227 ∷ 129 ∷ 139 ∷ 227 ∷ 130 ∷ 147 ∷ 227 ∷ 129 ∷ 152 ∷ [])
+    ∷ (2 ∷ 2 ∷ 1 ∷ 4 ∷ 3 ∷ 0 ∷ 0 ∷ 0 ∷ 0 ∷ 0 ∷ 0 ∷ 1 ∷ 227 ∷ 129 ∷ 138 ∷ 227 ∷ 129 ∷ 138 ∷ 107 ∷ []) ∷ []
+unfolding lib.Utf8.encode book_number wide_number
+drop_payloads = refl
+
+-- a book gets a count
+count_payload : payload_of (SetCount 258 578437695752307201) ≡ 3 ∷ 2 ∷ 1 ∷ 1 ∷ 2 ∷ 3 ∷ 4 ∷ 5 ∷ 6 ∷ 7 ∷ 8 ∷ []
+unfolding book_number wide_number
+count_payload = refl
+
+-- the book and the count of each form
+abbrev forms : List Form
+forms = Put 7 9 (row Nasi (codes "a") (codes "b") 8) ∷ Drop 5 6 (key Nasi (codes "a")) ∷ SetCount 3 4 ∷ []
+
+form_books : map book_of forms ≡ 7 ∷ 5 ∷ 3 ∷ []
+form_books = refl
+
+form_counts : map new_count forms ≡ 9 ∷ 6 ∷ 4 ∷ []
+form_counts = refl
+
+-- What may be written
+
+-- numbers that two and eight bytes can hold
+held : map (λ (line : ℕ × ℕ). are_held line.0 line.1)
+    ((0, 0) ∷ (65535, 2 ^ 64 - 1) ∷ (65536, 0) ∷ (0, 2 ^ 64) ∷ []) ≡ true ∷ true ∷ false ∷ false ∷ []
+held = refl
+
+-- a row with stamps from 0 to one more than the count 2; a row that says nothing; one of no key; two of a number that
+-- is no character; of okurigana, one with its letter and one without; and numbers that are not held
+sound_puts : map is_sound (
+    Put 1 2 (row Nasi (codes "a") (codes "b") 0) ∷ Put 1 2 (row Nasi (codes "a") (codes "b") 1)
+    ∷ Put 1 2 (row Nasi (codes "a") (codes "b") 2) ∷ Put 1 2 (row Nasi (codes "a") (codes "b") 3)
+    ∷ Put 1 2 (record (row Nasi (codes "a") (codes "b") 1) { cands = [] })
+    ∷ Put 1 2 (row Nasi (codes ";") (codes "b") 1) ∷ Put 1 2 (row Nasi (codes "a") (55296 ∷ []) 1)
+    ∷ Put 1 2 (row Nasi (55296 ∷ []) (codes "b") 1)
+    ∷ Put 1 2 (row Ari (codes "ab") (codes "b") 1) ∷ Put 1 2 (row Ari (codes "aあ") (codes "b") 1)
+    ∷ Put 65536 2 (row Nasi (codes "a") (codes "b") 1) ∷ Put 1 (2 ^ 64) (row Nasi (codes "a") (codes "b") 1) ∷ [])
+    ≡ false ∷ true ∷ true ∷ false ∷ false ∷ false ∷ false ∷ false ∷ true ∷ false ∷ false ∷ false ∷ []
+unfolding lib.Utf8.encode
+sound_puts = refl
+
+-- a key, one that is none, one without its letter, one of a number that is no character, and numbers that are not held
+sound_drops : map is_sound (
+    Drop 1 0 (key Nasi (codes "あ")) ∷ Drop 1 2 (key Nasi []) ∷ Drop 1 2 (key Nasi (codes "a b"))
+    ∷ Drop 1 2 (key Ari (codes "あ")) ∷ Drop 1 2 (key Ari (codes "あa")) ∷ Drop 1 2 (key Nasi (55296 ∷ []))
+    ∷ Drop 65536 2 (key Nasi (codes "あ")) ∷ Drop 1 (2 ^ 64) (key Nasi (codes "あ")) ∷ [])
+    ≡ true ∷ false ∷ false ∷ false ∷ true ∷ false ∷ false ∷ false ∷ []
+unfolding lib.Utf8.encode
+sound_drops = refl
+
+sound_counts : map is_sound (SetCount 0 0 ∷ SetCount 65535 (2 ^ 64 - 1) ∷ SetCount 65536 0
+    ∷ SetCount 0 (2 ^ 64) ∷ []) ≡ true ∷ true ∷ false ∷ false ∷ []
+sound_counts = refl
+
+-- What records leave
+
+abbrev one_row : State
+one_row = record { books = record { number = 1; count = 2; rows = row Nasi (codes "b") (codes "x") 2 ∷ [] } ∷ [] }
+
+-- a row beside another, one in its place, and one in another book; a row taken out, and one that is not there; a count,
+-- and one of another book; and a count of 0, which leaves no book
+states : map (state_told one_row) (
+    Put 1 3 (row Nasi (codes "a") (codes "y") 1) ∷ Put 1 4 (row Nasi (codes "b") (codes "y") 3)
+    ∷ Put 0 1 (row Nasi (codes "b") (codes "y") 1)
+    ∷ Drop 1 2 (key Nasi (codes "b")) ∷ Drop 1 3 (key Nasi (codes "a")) ∷ Drop 2 0 (key Nasi (codes "b"))
+    ∷ SetCount 1 5 ∷ SetCount 2 1 ∷ SetCount 2 0 ∷ [])
+    ≡ record {
+      books =
+          record {
+            number = 1;
+            count = 3;
+            rows = row Nasi (codes "a") (codes "y") 1 ∷ row Nasi (codes "b") (codes "x") 2 ∷ [];
+          } ∷ [];
+    }
+    ∷ record { books = record { number = 1; count = 4; rows = row Nasi (codes "b") (codes "y") 3 ∷ [] } ∷ [] }
+    ∷ record {
+      books = record { number = 0; count = 1; rows = row Nasi (codes "b") (codes "y") 1 ∷ [] } ∷ one_row.books;
+    }
+    ∷ record { books = record { number = 1; count = 2; rows = [] } ∷ [] }
+    ∷ record { books = record { number = 1; count = 3; rows = row Nasi (codes "b") (codes "x") 2 ∷ [] } ∷ [] }
+    ∷ one_row
+    ∷ record { books = record { number = 1; count = 5; rows = row Nasi (codes "b") (codes "x") 2 ∷ [] } ∷ [] }
+    ∷ record {
+      books =
+          record { number = 1; count = 2; rows = row Nasi (codes "b") (codes "x") 2 ∷ [] }
+          ∷ record { number = 2; count = 1; rows = [] } ∷ [];
+    }
+    ∷ one_row ∷ []
+unfolding lib.Utf8.encode
+states = refl
+
+-- Changes
+
+-- the first learning of a word, and one in a book that has changed, whose row has another candidate; a purge; and
+-- a learning taken back, without a row before and with one, neither of which raises the count
+first_change : change_told empty_state (Learn 1 (key Nasi (codes "かんじ")) None (record { word = codes "漢字"; note = [] }))
+    ≡ Some (Put 1 1 (row Nasi (codes "かんじ") (codes "漢字") 1))
+unfolding lib.Utf8.encode
+first_change = refl
+
+changes : map (change_told one_row) (
+    Lookup 1 (key Nasi (codes "b")) None ∷ Complete 1 (codes "b")
+    ∷ Learn 1 (key Nasi (codes "b")) None (record { word = codes "y"; note = [] })
+    ∷ Purge 1 (key Nasi (codes "b")) (codes "x")
+    ∷ Unlearn (record { book = 1; key = key Nasi (codes "b"); stamp = 2; before = None })
+    ∷ Unlearn (record {
+      book = 1;
+      key = key Nasi (codes "b");
+      stamp = 2;
+      before = Some (row Nasi (codes "b") (codes "z") 1);
+    }) ∷ [])
+    ≡ None ∷ None
+    ∷ Some (Put 1 3 (record {
+      key = key Nasi (codes "b");
+      cands = record { word = codes "y"; note = [] } ∷ record { word = codes "x"; note = [] } ∷ [];
+      blocks = [];
+      hides = [];
+      stamp = 3;
+    }))
+    ∷ Some (Put 1 3 (record {
+      key = key Nasi (codes "b");
+      cands = [];
+      blocks = [];
+      hides = codes "x" ∷ [];
+      stamp = 3;
+    }))
+    ∷ Some (Drop 1 2 (key Nasi (codes "b")))
+    ∷ Some (Put 1 2 (row Nasi (codes "b") (codes "z") 1)) ∷ []
+unfolding lib.Utf8.encode
+changes = refl

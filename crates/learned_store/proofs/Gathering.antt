@@ -1,0 +1,248 @@
+-- What was gathered of records, and how an index comes of it.
+use Rattle.std.proofs.Common.{◌≡◌, ℕ, ◌≤◌, ◌==◌, Bool, true, false, cond, ◌&&◌, Option, None, Some}
+use Rattle.std.proofs.Common.{refl, sym, ap, ◌∙◌, subst, arith}
+use Rattle.std.proofs.lemmas.Bool.{eqb-true}
+use Rattle.std.specs.BTreeMap.{BTreeMap, get, Updates}
+use Rattle.std.specs.Cmp.{unsigned_tied}
+use Rattle.std.specs.Option.{option_or, unwrap_or}
+use Rattle.std.specs.Ordering.{is_eq, nat_cmp}
+use Rattle.skk_calls.specs.KeyLaws.{same_key_equal}
+use Rattle.skk_calls.specs.Rows.{RowKey, Row, same_key}
+use Rattle.skk_calls.specs.States.{State, rows_of, row_at, count_of, state_with, fits_count, is_valid}
+use Rattle.dict_laws.specs.ChangedStates.{has_key, row_in_has_key}
+use Rattle.dict_laws.specs.ValidStates.{fits_after, fits_row_at}
+use Rattle.learn_index.specs.Records.{state_counted}
+use Rattle.learned_store.specs.declared.form.Form.{Form}
+use Rattle.learned_store.specs.declared.form.Form.TheVariants.{Put, Drop, SetCount}
+use Rattle.learned_store.specs.declared.row_place.RowPlace.{RowPlace}
+use Rattle.learned_store.specs.Gathering.{AreOf, count_in}
+use Rattle.learned_store.specs.Payloads.{book_of, new_count, is_sound, state_told}
+use Rattle.learned_store.specs.RowPlaces.{place_cmp, place_tied}
+use Rattle.learned_store.proofs.ToldStates.{row_told_of, count_told, row_told, valid_put, valid_counted, valid_told}
+
+-- the same either way
+either_way : {X : Type 0} (b : Bool) (x : X) → cond b x x ≡ x
+either_way true x = refl
+either_way false x = refl
+
+-- Maps
+
+-- the place of a key in a book
+abbrev pub place_at : ℕ → RowKey → RowPlace
+place_at number key = record { book = number; key = key }
+
+-- at a place a row stands now, or none, and at each other what stood there
+abbrev pub IsChanged : (RowPlace → Option Row) → (RowPlace → Option Row) → RowPlace → Option Row → Type 0
+IsChanged before after place row =
+    (other : RowPlace) → after other ≡ cond (is_eq (place_cmp place other)) row (before other)
+
+-- so it is by book and key
+place_changed : (before after : RowPlace → Option Row) (place : RowPlace) (row : Option Row)
+    → IsChanged before after place row → (number : ℕ) (key : RowKey)
+    → after (place_at number key)
+    ≡ cond (place.book == number) (cond (same_key place.key key) row (before (place_at number key)))
+    (before (place_at number key))
+place_changed before after place row changed number key =
+    changed (place_at number key)
+    ∙ ap (λ (b : Bool). cond b row (before (place_at number key))) (place_tied place (place_at number key))
+    ∙ both (place.book == number) (same_key place.key key)
+  where
+    both : (b same : Bool) → cond (b && same) row (before (place_at number key))
+        ≡ cond b (cond same row (before (place_at number key))) (before (place_at number key))
+    both true same = refl
+    both false same = refl
+
+-- what a map of numbers has after a change
+number_updated : (counts later : BTreeMap ℕ ℕ) (book : ℕ) (count : Option ℕ) → Updates nat_cmp counts later book count
+    → (number : ℕ) → get nat_cmp later number ≡ cond (book == number) count (get nat_cmp counts number)
+number_updated counts later book count updates number =
+    updates.0 number ∙ ap (λ (b : Bool). cond b count (get nat_cmp counts number)) (unsigned_tied book number)
+
+-- Records
+
+-- the rows were changed as a record tells
+abbrev pub IsTold : Form → (RowPlace → Option Row) → (RowPlace → Option Row) → Type 0
+IsTold form before after =
+    (number : ℕ) (key : RowKey) → after (place_at number key)
+    ≡ cond (book_of form == number) (row_told_of form key (before (place_at number key)))
+    (before (place_at number key))
+
+module _ (before after : RowPlace → Option Row) (book count : ℕ) where
+  -- where a row was put at its own key, or one was taken out, and where no row was told of
+  pub put_told : (own : RowKey) (row : Row) → own ≡ row.key → IsChanged before after (place_at book own) (Some row)
+      → IsTold (Put book count row) before after
+  put_told own row is changed number key =
+      place_changed before after (place_at book own) (Some row) changed number key
+      ∙ ap (λ (k : RowKey). cond (book == number)
+      (cond (same_key k key) (Some row) (before (place_at number key))) (before (place_at number key))) is
+
+  pub drop_told : (gone : RowKey) → IsChanged before after (place_at book gone) None
+      → IsTold (Drop book count gone) before after
+  drop_told gone changed = place_changed before after (place_at book gone) None changed
+
+pub set_told : (before : RowPlace → Option Row) (book count : ℕ) → IsTold (SetCount book count) before before
+set_told before book count number key = sym (either_way (book == number) (before (place_at number key)))
+
+module _ (before after : RowPlace → Option Row) (counts later : BTreeMap ℕ ℕ) (form : Form)
+    (told : IsTold form before after) (book count : ℕ) (own : book ≡ book_of form) (new : count ≡ new_count form)
+    (set : Updates nat_cmp counts later book (Some count)) (state : State) (are : AreOf state counts before)
+    (sound : is_sound form ≡ true) (counted : count_of state (book_of form) ≤ new_count form) where
+  counts_told : (number : ℕ) → count_in later number ≡ count_of (state_told state form) number
+  counts_told number =
+      ap (λ (found : Option ℕ). unwrap_or found 0) (number_updated counts later book (Some count) set number)
+      ∙ by (book == number) ∙ ap (λ (b : ℕ). cond (b == number) count (count_of state number)) own
+      ∙ ap (λ (n : ℕ). cond (book_of form == number) n (count_of state number)) new
+      ∙ sym (count_told state form counted number)
+    where
+      by : (b : Bool) → unwrap_or (cond b (Some count) (get nat_cmp counts number)) 0
+          ≡ cond b count (count_of state number)
+      by true = refl
+      by false = are.count number
+
+  -- what was gathered is what one record more leaves
+  pub are_told : AreOf (state_told state form) later after
+  are_told = record {
+    valid = valid_told state are.valid form sound counted;
+    count = counts_told;
+    row = λ number key. told number key
+        ∙ ap (λ (row : Option Row). cond (book_of form == number) (row_told_of form key row) row) (are.row number key)
+        ∙ sym (row_told state form counted number are.valid key);
+  }
+
+-- Indexes
+
+-- of the rows of a state some stand in an index, and these are left
+pub record IsPut (state index : State) (left : BTreeMap RowPlace Row) : Type 0 where
+  pub valid : is_valid index ≡ true
+  pub counts : (number : ℕ) → count_of index number ≤ count_of state number
+  pub rows : (number : ℕ) (key : RowKey) → row_at state number key
+      ≡ option_or (get place_cmp left (place_at number key)) (row_at index number key)
+
+module _ (state : State) (valid : is_valid state ≡ true) (place : RowPlace) (row : Row)
+    (there : row_at state place.book place.key ≡ Some row) where
+  -- a row of a state has its key
+  row_key : row.key ≡ place.key
+  row_key =
+      same_key_equal row.key place.key
+      (subst (λ (found : Option Row). has_key place.key found ≡ true) there
+      (row_in_has_key place.key (rows_of state place.book)))
+
+  -- and may stand in its book
+  pub row_fits : fits_count (count_of state place.book) row ≡ true
+  row_fits =
+      subst (λ (found : Option Row). fits_after (count_of state place.book) found ≡ true) there
+      (fits_row_at state place.book valid place.key)
+
+module _ (state index : State) (rows rest : BTreeMap RowPlace Row) (place : RowPlace) (row : Row)
+    (valid : is_valid state ≡ true) (put : IsPut state index rows) (first : get place_cmp rows place ≡ Some row)
+    (updates : Updates place_cmp rows rest place None) where
+  -- a row that is left is one of the state
+  pub left_there : row_at state place.book place.key ≡ Some row
+  left_there =
+      put.rows place.book place.key
+      ∙ ap (λ (found : Option Row). option_or found (row_at index place.book place.key)) first
+
+  -- it can be put
+  pub put_next : (count : ℕ) → count ≡ count_of state place.book
+      → IsPut state (state_with index place.book count row.key (Some row)) rest
+  put_next count is = record {
+    valid = valid_put index put.valid place.book count row fits later;
+    counts = λ number. subst (λ (n : ℕ). n ≤ count_of state number)
+        (sym (count_told index (Put place.book count row) later number)) (below number);
+    rows = λ number key. here number key
+        ∙ sym (ap (λ (found : Option Row). option_or (get place_cmp rest (place_at number key)) found)
+        (row_told index (Put place.book count row) later number put.valid key));
+  }
+    where
+      own : row.key ≡ place.key
+      own = row_key state valid place row left_there
+
+      fits : fits_count count row ≡ true
+      fits = subst (λ (n : ℕ). fits_count n row ≡ true) (sym is) (row_fits state valid place row left_there)
+
+      later : count_of index place.book ≤ count
+      later = subst (λ (n : ℕ). count_of index place.book ≤ n) (sym is) (put.counts place.book)
+
+      below : (number : ℕ) → cond (place.book == number) count (count_of index number) ≤ count_of state number
+      below number = by (place.book == number) refl
+        where
+          by : (b : Bool) → (place.book == number) ≡ b → cond b count (count_of index number) ≤ count_of state number
+          by true e =
+              let same : count ≡ count_of state number = is ∙ ap (count_of state) (eqb-true place.book number e) in
+              omega (arith, same)
+          by false e = put.counts number
+
+      here : (number : ℕ) (key : RowKey) → row_at state number key
+          ≡ option_or (get place_cmp rest (place_at number key))
+          (cond (place.book == number) (cond (same_key row.key key) (Some row) (row_at index number key))
+          (row_at index number key))
+      here number key =
+          by (place.book == number) (same_key row.key key) refl refl
+          ∙ sym (ap (λ (found : Option Row). option_or found
+          (cond (place.book == number) (cond (same_key row.key key) (Some row) (row_at index number key))
+          (row_at index number key)))
+          (place_changed (get place_cmp rows) (get place_cmp rest) place None updates.0 number key
+          ∙ ap (λ (k : RowKey). cond (place.book == number)
+          (cond (same_key k key) None (get place_cmp rows (place_at number key)))
+          (get place_cmp rows (place_at number key))) (sym own)))
+        where
+          by : (b same : Bool) → (place.book == number) ≡ b → same_key row.key key ≡ same → row_at state number key
+              ≡ option_or (cond b (cond same None (get place_cmp rows (place_at number key)))
+              (get place_cmp rows (place_at number key)))
+              (cond b (cond same (Some row) (row_at index number key)) (row_at index number key))
+          by true true e f =
+              sym (ap (λ (n : ℕ). row_at state n key) (eqb-true place.book number e))
+              ∙ sym (ap (λ (k : RowKey). row_at state place.book k) (sym own ∙ same_key_equal row.key key f))
+              ∙ left_there
+          by true false e f = put.rows number key
+          by false same e f = put.rows number key
+
+-- these counts have those that an index gets, some of which are left
+pub record IsCounted (all left : BTreeMap ℕ ℕ) (before now : State) : Type 0 where
+  pub valid : is_valid now ≡ true
+  pub rows : (number : ℕ) (key : RowKey) → row_at now number key ≡ row_at before number key
+  pub below : (number : ℕ) → count_of now number ≤ count_in all number
+  pub counts : (number : ℕ) → count_in all number ≡ unwrap_or (get nat_cmp left number) (count_of now number)
+
+module _ (all left rest : BTreeMap ℕ ℕ) (before now : State) (counted : IsCounted all left before now)
+    (book count : ℕ) (first : get nat_cmp left book ≡ Some count) (updates : Updates nat_cmp left rest book None) where
+  -- a count that is left is one of all
+  count_there : count_in all book ≡ count
+  count_there = counted.counts book ∙ ap (λ (found : Option ℕ). unwrap_or found (count_of now book)) first
+
+  count_later : count_of now book ≤ count
+  count_later = subst (λ (n : ℕ). count_of now book ≤ n) count_there (counted.below book)
+
+  -- it can be set
+  pub count_next : IsCounted all rest before (state_counted now book count)
+  count_next = record {
+    valid = valid_counted now counted.valid book count count_later;
+    rows = λ number key. row_told now (SetCount book count) count_later number counted.valid key
+        ∙ either_way (book == number) (row_at now number key) ∙ counted.rows number key;
+    below = λ number. subst (λ (n : ℕ). n ≤ count_in all number)
+        (sym (count_told now (SetCount book count) count_later number)) (below number);
+    counts = λ number. here number;
+  }
+    where
+      below : (number : ℕ) → cond (book == number) count (count_of now number) ≤ count_in all number
+      below number = by (book == number) refl
+        where
+          by : (b : Bool) → (book == number) ≡ b → cond b count (count_of now number) ≤ count_in all number
+          by true e =
+              let same : count ≡ count_in all number = sym count_there ∙ ap (count_in all) (eqb-true book number e) in
+              omega (arith, same)
+          by false e = counted.below number
+
+      here : (number : ℕ) → count_in all number
+          ≡ unwrap_or (get nat_cmp rest number) (count_of (state_counted now book count) number)
+      here number =
+          by (book == number) refl
+          ∙ sym (ap (λ (found : Option ℕ). unwrap_or found (cond (book == number) count (count_of now number)))
+          (number_updated left rest book None updates number))
+          ∙ sym (ap (λ (n : ℕ). unwrap_or (get nat_cmp rest number) n)
+          (count_told now (SetCount book count) count_later number))
+        where
+          by : (b : Bool) → (book == number) ≡ b → count_in all number
+              ≡ unwrap_or (cond b None (get nat_cmp left number)) (cond b count (count_of now number))
+          by true e = sym (ap (count_in all) (eqb-true book number e)) ∙ count_there
+          by false e = counted.counts number

@@ -1,0 +1,68 @@
+use Rattle.std.proofs.Common.{◌∙◌, ap, refl, subst, sym}
+use Rattle.skk_calls.specs.declared.answer.Answer.TheVariants.{Refused}
+use Rattle.skk_calls.specs.declared.answer.Refusal.TheVariants.{Memory}
+use Rattle.skk_calls.specs.Dictionary.{after, answer}
+use Rattle.skk_calls.specs.States.{State}
+use Rattle.learn_index.specs.Plans.{IsPlanned}
+use Rattle.learned_store.specs.Served.{Serves}
+use Rattle.learned_store.specs.Stores.{OpenStore}
+use Rattle.learned_store.specs.Written.{IsRecordOf}
+use Rattle.learned_store.proofs.Serving.{quiet, unchanged, unrecorded}
+use Rattle.learned_store.proofs.changing.change.Goals as goal
+
+pub returns-in_default : goal.returns-in_default
+returns-in_default g c files =
+    let D = g.D in
+    let store : OpenStore _ = record {
+      journal = c.args.journal.now;
+      state = c.args.index.now.state;
+      files = files;
+      limit = c.args.limit;
+    } in
+    subst (λ (s : State). Serves D.Disk.time D.Outside.faults D.Disk.left_since store (record store { state = s })
+    c.args.call.now (Refused Memory)) (sym c.plan.ensures.state)
+    (quiet D.Disk.time D.Outside.faults D.Disk.left_since store c.args.call.now (Refused Memory) tt refl tt)
+
+pub returns-in_default-planned_record : goal.returns-in_default-planned_record
+returns-in_default-planned_record g c files =
+    let D = g.D in
+    let store : OpenStore _ = record {
+      journal = c.args.journal.now;
+      state = c.args.index.now.state;
+      files = files;
+      limit = c.args.limit;
+    } in
+    subst (λ (s : State). Serves D.Disk.time D.Outside.faults D.Disk.left_since store (record store { state = s })
+    c.args.call.now (Refused Memory)) (sym c.plan.ensures.state)
+    (quiet D.Disk.time D.Outside.faults D.Disk.left_since store c.args.call.now (Refused Memory) tt refl tt)
+
+pub returns-in-None : goal.returns-in-None
+returns-in-None g c files =
+    let D = g.D in
+    let call = c.args.call.now in
+    let state = c.args.index.now.state in
+    let plan = c.in-Ok.plan in
+    let planned : IsPlanned state call plan = c.in-Ok.ensures.planned in
+    let made = subst (λ (s : State). IsPlanned s call plan) (sym c.plan.ensures.state) planned in
+    let none = subst (IsRecordOf plan) c.in-None.is c.in-Ok-planned_record.ensures in
+    unchanged D.Disk.time D.Outside.faults D.Disk.left_since c.args.journal.now state c.apply.new.self.state files
+    c.args.limit call c.apply.result c.requires.change (unrecorded state call plan planned none)
+    (c.apply.ensures.reply files call c.requires.change made
+    ∙ ap (λ (s : State). answer files s call) c.plan.ensures.state)
+    (c.apply.ensures.state call c.in-Ok.ensures.valid made ∙ ap (λ (s : State). after s call) c.plan.ensures.state)
+
+pub returns-in-Some : goal.returns-in-Some
+returns-in-Some g c files =
+    let D = g.D in
+    let call = c.args.call.now in
+    let plan = c.in-Ok.plan in
+    let made = subst (λ (s : State). IsPlanned s call plan) (sym c.plan.ensures.state) c.in-Ok.ensures.planned in
+    subst (λ (s : State). Serves D.Disk.time D.Outside.faults D.Disk.left_since
+    (record { journal = c.args.journal.now; state = s; files = files; limit = c.args.limit })
+    (record {
+      journal = c.write_and_apply.new.journal;
+      state = c.write_and_apply.new.index.state;
+      files = files;
+      limit = c.args.limit;
+    }) call c.write_and_apply.result) c.plan.ensures.state
+    (c.write_and_apply.ensures files call c.requires.change c.in-Ok.ensures.valid c.requires.fit made)

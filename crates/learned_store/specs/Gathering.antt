@@ -1,0 +1,39 @@
+-- What was gathered of records, and the state that it stands for.
+use Rattle.std.specs.Prelude.{◌≡◌, ℕ, ◌≤◌, true, Option}
+use Rattle.std.specs.BTreeMap as tree
+use Rattle.std.specs.HashMap as hash
+use Rattle.std.specs.Option.{unwrap_or}
+use Rattle.std.specs.Ordering.{eq_by_cmp, nat_cmp}
+use Rattle.skk_calls.specs.Rows.{RowKey, Row}
+use Rattle.skk_calls.specs.States.{State, count_of, row_at, is_valid}
+use Rattle.learned_store.specs.declared.gathered.Gathered.{Gathered}
+use Rattle.learned_store.specs.declared.row_place.RowPlace.{RowPlace}
+use Rattle.learned_store.specs.RowPlaces.{place_cmp}
+
+-- the count of a book among counts, 0 where it has none
+abbrev pub count_in : tree.BTreeMap ℕ ℕ → ℕ → ℕ
+count_in counts number = unwrap_or (tree.get nat_cmp counts number) 0
+
+-- the row of a place among rows in order
+abbrev pub row_in_order : tree.BTreeMap RowPlace Row → RowPlace → Option Row
+row_in_order rows place = tree.get place_cmp rows place
+
+-- the row of a place among rows that lie as they came
+abbrev pub row_among : {S : Type 0} → hash.HashMap RowPlace Row S → RowPlace → Option Row
+row_among rows place = hash.get (eq_by_cmp place_cmp) rows place
+
+-- these counts, and the rows that are found at places, are those of a valid state
+pub record AreOf (state : State) (counts : tree.BTreeMap ℕ ℕ) (row_of : RowPlace → Option Row) : Type 0 where
+  pub valid : is_valid state ≡ true
+  pub count : (number : ℕ) → count_in counts number ≡ count_of state number
+  pub row : (number : ℕ) (key : RowKey) → row_of (record { book = number; key = key }) ≡ row_at state number key
+
+-- what was gathered is a valid state
+abbrev pub Gathers : Gathered → State → Type 0
+Gathers gathered state = AreOf state gathered.counts (row_among gathered.rows)
+
+-- a valid state has the rows of another, and none of its counts is above
+pub record HasRows (other state : State) : Type 0 where
+  pub valid : is_valid state ≡ true
+  pub counts : (number : ℕ) → count_of state number ≤ count_of other number
+  pub rows : (number : ℕ) (key : RowKey) → row_at state number key ≡ row_at other number key

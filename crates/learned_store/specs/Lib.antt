@@ -1,0 +1,11 @@
+pub mod Committed
+pub mod Gathering
+pub mod Payloads
+pub mod Reading
+pub mod Recovered
+pub mod Recovering
+pub mod RowPlaces
+pub mod Served
+pub mod Stands
+pub mod Stores
+pub mod Written

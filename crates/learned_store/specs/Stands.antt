@@ -1,0 +1,107 @@
+-- What the notes of a dictionary's history and the disk under it stand for, at each moment.
+use Rattle.std.specs.Prelude.{◌≡◌, ⊤, ℕ, ◌<◌, ◌≤◌, true, Option, None, Some, List, [], ◌∷◌, ◌++◌, All, Contains}
+use Rattle.skk_outside.specs.Faults.{Rose}
+use Rattle.skk_calls.specs.declared.answer.Answer.TheVariants.{Refused}
+use Rattle.skk_calls.specs.declared.answer.Refusal.TheVariants.{Disk}
+use Rattle.skk_calls.specs.declared.chronicle.Noted.{Noted}
+use Rattle.skk_calls.specs.declared.chronicle.Noted.TheVariants.{Opened, Entered}
+use Rattle.skk_calls.specs.Chronicles.{history_of, is_chronicle}
+use Rattle.skk_calls.specs.Histories.{Opening, room, state_after, states_left}
+use Rattle.skk_calls.specs.Openings.{IsLegalOver}
+use Rattle.skk_calls.specs.States.{State}
+use Rattle.skk_calls.specs.Tallies.{Tally, tally_of}
+use Rattle.skk_disk.specs.Image.{Image}
+use Rattle.skk_disk.specs.Moments.{Passes}
+use Rattle.skk_disk.specs.Steps.{ComeFrom}
+use Rattle.skk_journal.specs.Images.{Each, SameOther}
+use Rattle.skk_journal.specs.Journal.{OpenJournal}
+use Rattle.learned_store.specs.Stores.{OpenStore, RecoversOneOf, Keeps, with_doubt}
+
+-- the disk's time when something was noted
+abbrev pub time_of : Noted → ℕ
+time_of (Opened files state end limit time faults) = time
+time_of (Entered number call answer time faults) = time
+
+-- the disk's count of faults when something was noted
+abbrev pub faults_of : Noted → ℕ
+faults_of (Opened files state end limit time faults) = faults
+faults_of (Entered number call answer time faults) = faults
+
+-- the states that a stop behind these notes may leave, where this one was opened
+abbrev pub left_behind : State → List Noted → List State
+left_behind opened notes = states_left opened (history_of notes)
+
+-- an image is opened as a state that a stop may leave behind a part of the notes, which has each of them that was made
+-- by a time
+pub record RecoversBy (opened : State) (notes : List Noted) (time : ℕ) (image : Image) : Type 0 where
+  pub front : List Noted
+  pub back : List Noted
+  pub is : notes ≡ front ++ back
+  pub later : All (λ note. time < time_of note) back
+  pub recovers : RecoversOneOf (left_behind opened front) image
+
+-- from a time up to now, what a stop since a moment might have left is opened so
+abbrev pub StandsOver : State → List Noted → ℕ → ℕ → (ℕ → Image → Type 0) → Type 0
+StandsOver opened notes start now since =
+    (time : ℕ) (image : Image) → start ≤ time → time ≤ now → since time image → RecoversBy opened notes time image
+
+-- a disk that failed a change had a count of faults that rose
+abbrev pub HasCause : ℕ → Noted → Type 0
+HasCause before (Entered number call (Refused Disk) time faults) = Rose before faults
+HasCause before note = ⊤
+
+-- from a time and a count of faults on, neither falls along the notes, each refusal for the disk has its cause, and
+-- they end at these
+abbrev pub GoOn : ℕ → ℕ → List Noted → ℕ → ℕ → Type 0
+GoOn time faults [] last_time last_faults = (last_time ≡ time) × (last_faults ≡ faults)
+GoOn time faults (note ∷ notes) last_time last_faults =
+    (time ≤ time_of note) × (faults ≤ faults_of note) × HasCause faults note
+    × GoOn (time_of note) (faults_of note) notes last_time last_faults
+
+-- a state in doubt, where there is one, is one of these
+abbrev pub IsOneOf : Option State → List State → Type 0
+IsOneOf None states = ⊤
+IsOneOf (Some state) states = Contains states state
+
+-- each of these images is opened as a state, or as one in doubt beside it, which is one of these
+abbrev pub RecoverAmong : State → List State → (Image → Type 0) → Type 0
+RecoverAmong state states images =
+    (doubt : Option State) × IsOneOf doubt states × Each images (RecoversOneOf (with_doubt state doubt))
+
+-- a journal keeps this state, and what is in doubt is one of these
+abbrev pub KeepsAmong : {D : Type 0} → (D → ℕ) → (D → ℕ → Image → Type 0) → OpenJournal D → State → List State → Type 0
+KeepsAmong time left_since journal state states =
+    (doubt : Option State) × IsOneOf doubt states × Keeps time left_since journal state doubt
+
+-- the notes of an opening and of what was entered behind it, and the store that they were made over: each answer is
+-- legal, the store has the state and the end behind them, each image of each moment since the opening is opened as a
+-- state that a stop may leave, times and counts of faults go on to those of the disk, what a stop before the opening
+-- might have left is what it might have left then, and the second file stays as it was then
+pub record Stands {D : Type 0} (time faults : D → ℕ) (left_since : D → ℕ → Image → Type 0) (opening : Opening)
+    (past : ℕ → Image → Type 0) (notes : List Noted) (store : OpenStore D) : Type 0 where
+  pub begun : is_chronicle notes ≡ true
+  pub legal : IsLegalOver opening notes
+  pub files : store.files ≡ opening.files
+  pub limit : store.limit ≡ opening.limit
+  pub state : store.state ≡ state_after opening.state (history_of notes)
+  pub end : store.journal.end ≡ room opening.state opening.end (history_of notes)
+  pub keeps : KeepsAmong time left_since store.journal store.state (left_behind opening.state notes)
+  pub moments : StandsOver opening.state notes opening.time (time store.journal.disk) (left_since store.journal.disk)
+  pub goes_on : GoOn opening.time opening.faults notes (time store.journal.disk) (faults store.journal.disk)
+  pub passes : Passes opening.time (time store.journal.disk) past (left_since store.journal.disk)
+  pub other : ComeFrom SameOther (past opening.time) (left_since store.journal.disk opening.time)
+
+-- a store and the notes of what it was opened with and answered
+pub record NotedStore (D : Type 0) : Type 0 where
+  pub store : OpenStore D
+  pub notes : List Noted
+
+-- the note of an opening
+abbrev pub opening_note : Opening → Noted
+opening_note opening =
+    Opened opening.files opening.state opening.end opening.limit opening.time opening.faults
+
+-- a tally counts the answers of a history
+abbrev pub Counts : Opening → List Noted → Tally → Type 0
+Counts opening notes tally =
+    tally ≡ record (tally_of opening.state (history_of notes)) { rows = 0 }

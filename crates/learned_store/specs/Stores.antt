@@ -1,0 +1,69 @@
+-- An open store, what each image of its disk is opened as, and what a call leaves in doubt.
+use Rattle.std.specs.Prelude.{◌≡◌, ◌⊎◌, ℕ, if◌then◌else◌, Option, None, Some, List, [], ◌∷◌, ◌++◌, Contains}
+use Rattle.skk_calls.specs.declared.answer.Answer.{Answer}
+use Rattle.skk_calls.specs.declared.answer.Answer.TheVariants.{Done, Refused}
+use Rattle.skk_calls.specs.declared.answer.Refusal.TheVariants.{Memory, Disk, JournalFull}
+use Rattle.skk_calls.specs.declared.call.Call.{Call}
+use Rattle.skk_calls.specs.Dictionary.{after, is_change}
+use Rattle.skk_calls.specs.Histories.{Opening}
+use Rattle.skk_calls.specs.Rows.{Row}
+use Rattle.skk_calls.specs.States.{State}
+use Rattle.skk_disk.specs.Image.{Image}
+use Rattle.skk_journal.specs.Journal.{OpenJournal, Rests, Doubts}
+use Rattle.learned_store.specs.Recovered.{Leave, with_state, IsRecovered}
+
+-- an open journal and the state that its records leave, the rows of the system files, and the limit of the learned file
+pub record OpenStore (D : Type 0) : Type 0 where
+  pub journal : OpenJournal D
+  pub state : State
+  pub files : List (List Row)
+  pub limit : ℕ
+
+-- what a history of a store stands over that begins now
+abbrev pub opening_now : {D : Type 0} → (D → ℕ) → (D → ℕ) → OpenStore D → Opening
+opening_now time faults store = record {
+  files = store.files;
+  state = store.state;
+  end = store.journal.end;
+  limit = store.limit;
+  time = time store.journal.disk;
+  faults = faults store.journal.disk;
+}
+
+-- an image is opened as a state
+abbrev pub Recovers : State → Image → Type 0
+Recovers state image = IsRecovered image.a (with_state state)
+
+-- an image is opened as one of these states
+abbrev pub RecoversOneOf : List State → Image → Type 0
+RecoversOneOf states image = (state : State) × Contains states state × Recovers state image
+
+-- the records of a journal leave a state. Where another state is in doubt, one record more leaves that, and stands
+-- behind a gate that may be open or closed
+abbrev pub Keeps : {D : Type 0} → (D → ℕ) → (D → ℕ → Image → Type 0) → OpenJournal D → State → Option State → Type 0
+Keeps time left_since journal state None =
+    (records : List (List ℕ)) × Leave records state × Rests time left_since journal records
+Keeps time left_since journal state (Some doubted) =
+    (records : List (List ℕ)) × (payload : List ℕ) × Leave records state × Leave (records ++ payload ∷ []) doubted
+    × Doubts time left_since journal records (payload ∷ [])
+
+-- a state and the one in doubt beside it, where there is one
+abbrev pub with_doubt : State → Option State → List State
+with_doubt state None = state ∷ []
+with_doubt state (Some doubted) = state ∷ doubted ∷ []
+
+-- the states that a stop within a call may leave: the one before it and the one in doubt, and the one after it where
+-- the call changed the state or a disk failed
+abbrev pub states_within : State → Option State → Call → Answer → List State
+states_within state doubt call (Done reply) =
+    if is_change reply then with_doubt state doubt ++ after state call ∷ [] else with_doubt state doubt
+states_within state doubt call (Refused Disk) = with_doubt state doubt ++ after state call ∷ []
+states_within state doubt call (Refused refusal) = with_doubt state doubt
+
+-- what is in doubt after a call: nothing after a change, and where the file was full; where a disk failed, what was
+-- before, nothing, or the state after the call; else what was before
+abbrev pub DoubtAfter : State → Option State → Call → Answer → Option State → Type 0
+DoubtAfter state doubt call (Done reply) now = now ≡ (if is_change reply then None else doubt)
+DoubtAfter state doubt call (Refused Memory) now = now ≡ doubt
+DoubtAfter state doubt call (Refused Disk) now = (now ≡ doubt) ⊎ ((now ≡ None) ⊎ (now ≡ Some (after state call)))
+DoubtAfter state doubt call (Refused (JournalFull end need limit)) now = now ≡ None

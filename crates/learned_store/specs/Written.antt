@@ -1,0 +1,31 @@
+-- What is written of a plan.
+use Rattle.std.specs.Prelude.{◌≡◌, ⊤, ℕ, Bool, true, Option, None, Some, List}
+use Rattle.skk_calls.specs.Rows.{is_row_key}
+use Rattle.skk_calls.specs.States.{fits_count}
+use Rattle.learn_index.specs.declared.plan.Plan.{Plan}
+use Rattle.learn_index.specs.declared.plan.Plan.TheVariants.{Still, Move}
+use Rattle.learned_store.specs.declared.form.Form.{Form}
+use Rattle.learned_store.specs.declared.form.Form.TheVariants.{Put, Drop, SetCount}
+use Rattle.learned_store.specs.Payloads.{is_sound, payload_of, row_told}
+
+-- a record may be written as far as its numbers and the characters of what it spells have no say in it
+abbrev pub may_stand : Form → Bool
+may_stand (Put book count row) = fits_count count row
+may_stand (Drop book count key) = is_row_key key
+may_stand (SetCount book count) = true
+
+-- these bytes are the payload of a record, whose numbers are held and which spells characters
+pub record IsWritten (form : Form) (bytes : List ℕ) : Type 0 where
+  pub is : bytes ≡ payload_of form
+  pub sound : may_stand form ≡ true → is_sound form ≡ true
+
+-- these bytes tell what a plan leaves, which changes something
+abbrev pub TellsOf : Plan → List ℕ → Type 0
+TellsOf (Still reply) bytes = ⊥
+TellsOf (Move book count key row reply) bytes = IsWritten (row_told book count key row) bytes
+
+-- the record of a plan tells what the plan leaves, and there is none exactly where nothing changes
+abbrev pub IsRecordOf : Plan → Option (List ℕ) → Type 0
+IsRecordOf (Still reply) None = ⊤
+IsRecordOf (Move book count key row reply) None = ⊥
+IsRecordOf plan (Some bytes) = TellsOf plan bytes

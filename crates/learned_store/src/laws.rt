@@ -1,0 +1,66 @@
+ghost use Rattle.std.specs.Prelude.{◌≡◌, ◌≤◌, ℕ, true, List, Option, Some};
+ghost use Rattle.skk_calls.specs.declared.call.Call.{Call};
+ghost use Rattle.skk_calls.specs.Dictionary.{after, is_call, is_fit, moves};
+ghost use Rattle.skk_calls.specs.Histories.{need};
+ghost use Rattle.skk_calls.specs.Rows.{RowKey, Row, is_row_key};
+ghost use Rattle.skk_calls.specs.States.{State, count_of, fits_count, is_valid};
+ghost use Rattle.skk_journal.specs.Images.{Each};
+ghost use Rattle.skk_journal.specs.Journal.{OpenJournal};
+ghost use Rattle.skk_journal.specs.Records.{need as record_need};
+ghost use Rattle.learned_store.specs.declared.form.Form.{Form};
+ghost use Rattle.learned_store.specs.declared.form.Form.TheVariants.{Put, Drop};
+ghost use Rattle.learned_store.specs.Payloads.{Says, book_of, new_count, payload_of};
+ghost use Rattle.learned_store.specs.Payloads.{state_told, change_told};
+ghost use Rattle.learned_store.specs.Recovered.{BreakAt, Leave, Recovery, IsRecovered};
+ghost use Rattle.learned_store.specs.Stores.{Keeps, RecoversOneOf, with_doubt};
+
+use dict_format::{good_rows_are_read_again, lines_spell_one_row};
+use dict_laws::changes_keep_states_valid;
+use skk_disk::Disk;
+
+/// What a change needs in the learned file is what the record of what it says needs there.
+pub fn changes_need_their_records()
+    ensures { (state : State) (call : Call) (form : Form) → change_told state call ≡ Some form
+        → need state call ≡ record_need (payload_of form) }
+{}
+
+/// The record of a change leaves the state that the change leaves.
+pub fn records_leave_what_changes_leave()
+    ensures { (state : State) (call : Call) (form : Form) → is_valid state ≡ true → is_call call ≡ true
+        → moves state call ≡ true → change_told state call ≡ Some form → state_told state form ≡ after state call }
+{}
+
+/// What the record of a change says may be written, as far as no type tells it: a row may stand in a book of the count,
+/// a key is valid, and the count is not below that of its book.
+pub fn changes_tell_what_may_be_written()
+    ensures put { (state : State) (call : Call) (book count : ℕ) (row : Row) → is_valid state ≡ true
+        → is_call call ≡ true → is_fit call ≡ true → moves state call ≡ true
+        → change_told state call ≡ Some (Put book count row) → fits_count count row ≡ true }
+    ensures drop { (state : State) (call : Call) (book count : ℕ) (key : RowKey) → is_call call ≡ true
+        → change_told state call ≡ Some (Drop book count key) → is_row_key key ≡ true }
+    ensures count { (state : State) (call : Call) (form : Form) → change_told state call ≡ Some form
+        → count_of state (book_of form) ≤ new_count form }
+{
+    changes_keep_states_valid();
+}
+
+/// A payload says one thing at most, whatever the state; records leave one state at most, and none where one of them
+/// says nothing; and a file is opened in one way at most.
+pub fn files_are_recovered_in_one_way()
+    ensures form { (state later : State) (payload : List ℕ) (form other : Form) → Says state payload form
+        → Says later payload other → form ≡ other }
+    ensures state { (records : List (List ℕ)) (one two : State) → Leave records one → Leave records two → one ≡ two }
+    ensures whole { (records : List (List ℕ)) (at : ℕ) (state : State) → Leave records state → BreakAt records at
+        → ⊥ }
+    ensures file { (file : List ℕ) (one two : Recovery) → IsRecovered file one → IsRecovered file two → one ≡ two }
+{
+    good_rows_are_read_again();
+    lines_spell_one_row();
+}
+
+/// Where a journal keeps a state, each image that a stop now may leave is opened as that state, or as the one in doubt.
+pub fn kept_states_are_recovered<D: Disk>()
+    ensures { (journal : OpenJournal D) (state : State) (doubt : Option State)
+        → Keeps D.time D.left_since journal state doubt
+        → Each (D.left_since journal.disk (D.time journal.disk)) (RecoversOneOf (with_doubt state doubt)) }
+{}

@@ -1,0 +1,45 @@
+//! The learned index and the learned file joined: a dictionary each of whose changes stands on a disk, and its history.
+//!
+//! It stands on `skk_text`, `exact_readers`, `skk_outside`, `skk_trace`, `skk_calls`, `dict_laws`, `skk_disk`,
+//! `skk_journal`, `dict_format`, `dict_layers` and `learn_index`. A record puts a row into a book, takes a row out, or
+//! gives a book its count; each of them sets the count. What a record says is defined from its values to its bytes,
+//! and a payload says nothing where no values have these bytes. The records of a file, one after another, lead from
+//! no books to a state, or the first of them that says nothing stands at a place: `Store::open` gives that state, or
+//! the least place that is refused.
+//!
+//! A `Store` answers calls as the dictionary of one thread. It takes the memory of a change and of its record first,
+//! then closes a record in doubt, adds the record, and only then changes the index, so that a stop at any moment
+//! leaves the state before the call, the one after it, or one that was in doubt. `Noting` keeps the history of a
+//! store: what a stop at a moment might have left is opened as a state that a part of the history may leave, which
+//! has each entry that was made by then. `Alone` is the one caller of a store, with no lock.
+//!
+//! Laws say that a file is opened in one way at most, that the record of a change may be written and leaves the state
+//! that the change leaves, that it needs what the change needs, and what the images of a store are opened as.
+#![tactic(auto)]
+
+mod alone;
+mod changing;
+mod closed;
+mod committing;
+mod form;
+mod gathered;
+mod laws;
+mod learned_name;
+mod noting;
+mod opening;
+mod payload;
+mod recovery;
+mod row_place;
+mod store;
+mod writing;
+
+pub use alone::Alone;
+pub use closed::Closed;
+pub use form::Form;
+pub use laws::{
+    changes_need_their_records, changes_tell_what_may_be_written, files_are_recovered_in_one_way,
+    kept_states_are_recovered, records_leave_what_changes_leave,
+};
+pub use learned_name::LearnedName;
+pub use noting::{NoDesk, Noting};
+pub use store::Store;

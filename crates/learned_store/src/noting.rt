@@ -1,0 +1,165 @@
+ghost use Rattle.std.specs.Prelude.{◌≡◌, ◌≤◌, ◌∷◌, [], ◌++◌, ℕ, None, true, IfOk, IfErr};
+ghost use Rattle.skk_disk.specs.Image.{Image};
+ghost use Rattle.skk_disk.specs.Moments.{Passes, SameImages};
+ghost use Rattle.skk_disk.specs.Steps.{ComeFrom};
+ghost use Rattle.skk_calls.specs.declared.chronicle.Noted.TheVariants.{Entered};
+ghost use Rattle.skk_calls.specs.Chronicles.{history_of};
+ghost use Rattle.skk_calls.specs.Dictionary.{is_fit, may_answer};
+ghost use Rattle.skk_calls.specs.Tallies.{tally_of};
+ghost use Rattle.skk_journal.specs.Images.{SameOther};
+ghost use Rattle.learned_store.specs.Stores.{opening_now, Keeps, Recovers};
+ghost use Rattle.learned_store.specs.Stands.{Stands, StandsOver, RecoverAmong, left_behind, opening_note};
+
+use crate::closed::Closed;
+use crate::learned_name::LearnedName;
+use crate::store::Store;
+use dict_laws::counting_comes_to_the_tally;
+use skk_calls::{Answer, Call, Chronicle, Noted, Tally};
+use skk_disk::Disk;
+use skk_trace::{Shows, Trace};
+use std::alloc::Global;
+use std::marker::{Model, PhantomData};
+
+/// A store of which no history could be begun: it is out of memory.
+#[derive(Drop)]
+pub struct NoDesk<D> {
+    pub store: Store<D>,
+}
+
+/// A store and the history of what it answers. `N` names what it was opened with. Its type keeps what the history and
+/// the disk stand for: each answer is legal at its place, and at each moment since the opening what a stop might have
+/// left is opened as a state that a part of the history may leave, which has each entry that was made by then.
+#[derive(Drop)]
+pub struct Noting<D: Disk, N: LearnedName> {
+    store: Store<D>,
+    trace: Trace<Noted>,
+    tally: Tally,
+    opening: PhantomData<N>,
+}
+
+impl<D: Disk, N: LearnedName> Model for Noting<D, N> {
+    ghost use Rattle.learned_store.specs.Stands.{NotedStore, Stands, Counts};
+
+    ghost Value = { NotedStore D };
+
+    ghost view = { λ n. record { store = n.store; notes = n.trace } };
+
+    ghost invariant = { λ n. Stands D.time D.faults D.left_since N.opening N.past n.trace n.store
+        × Counts N.opening n.trace n.tally };
+}
+
+impl<D: Disk, N: LearnedName> Noting<D, N> {
+    /// Begins the history of a store in which nothing is in doubt. Takes constant memory.
+    pub fn new(alloc: Global, store: Store<D>) -> Result<Noting<D, N>, NoDesk<D>>
+        requires calm { Keeps D.time D.left_since store.journal store.state None }
+        requires named { N.opening ≡ opening_now D.time D.faults store }
+        requires past { SameImages N.past (D.left_since store.journal.disk) }
+        ensures store { IfOk result (λ noting. noting.store ≡ store) }
+        ensures notes { IfOk result (λ noting. noting.notes ≡ opening_note N.opening ∷ []) }
+        ensures back { IfErr result (λ none. none.store ≡ store) }
+    {
+        counting_comes_to_the_tally();
+        let Ok(trace) = Trace::new(alloc, &Opening { store: &store }) else {
+            return Err(NoDesk { store });
+        };
+        Ok(Noting {
+            store,
+            trace,
+            tally: Tally::none(),
+            opening: PhantomData,
+        })
+    }
+
+    /// Answers a call of the caller with this number as the store does, and enters it into the history. Takes no more
+    /// memory than the store.
+    pub fn serve(&mut self, alloc: Global, number: u32, call: &Call) -> Answer
+        requires { is_fit call.now ≡ true }
+        ensures notes { self.new.notes ≡ self.old.notes ++ Entered number call.now result
+            (D.time self.new.store.journal.disk) (D.faults self.new.store.journal.disk) ∷ [] }
+        ensures may { may_answer call.now result ≡ true }
+        ensures other { ComeFrom SameOther
+            (D.left_since self.old.store.journal.disk (D.time self.old.store.journal.disk))
+            (D.left_since self.new.store.journal.disk (D.time self.old.store.journal.disk)) }
+        ensures past { Passes (D.time self.old.store.journal.disk) (D.time self.new.store.journal.disk)
+            (D.left_since self.old.store.journal.disk) (D.left_since self.new.store.journal.disk) }
+        ensures counted { D.faults self.old.store.journal.disk ≤ D.faults self.new.store.journal.disk }
+    {
+        counting_comes_to_the_tally();
+        let answer = self.store.serve(alloc, call);
+        self.tally.count(&answer);
+        self.trace.note(&Served {
+            store: &self.store,
+            number,
+            call,
+            answer: &answer,
+        });
+        answer
+    }
+
+    /// The store. Takes no memory.
+    pub fn store(&self) -> &Store<D>
+        ensures value { result.now ≡ self.now.store }
+        ensures stands { Stands D.time D.faults D.left_since N.opening N.past self.now.notes self.now.store }
+    {
+        &self.store
+    }
+
+    /// Ends the history, and gives the disk back as it is. Takes no memory.
+    pub fn close(self) -> Closed<D>
+        ensures disk { result.disk ≡ self.store.journal.disk }
+        ensures chronicle { result.chronicle ≡ self.notes }
+        ensures tally { result.tally ≡ tally_of N.opening.state (history_of self.notes) }
+        ensures stands { Stands D.time D.faults D.left_since N.opening N.past self.notes self.store }
+        ensures now { RecoverAmong self.store.state (left_behind N.opening.state self.notes)
+            (D.left_since self.store.journal.disk (D.time self.store.journal.disk)) }
+        ensures since { (start : ℕ) →
+            ((time : ℕ) (image : Image) → start ≤ time → time ≤ N.opening.time → N.past time image
+            → Recovers N.opening.state image) →
+            StandsOver N.opening.state self.notes start (D.time self.store.journal.disk)
+            (D.left_since self.store.journal.disk) }
+    {
+        let tally = &self.tally;
+        let tally = Tally::new(
+            tally.learned(),
+            tally.restored(),
+            self.store.rows(),
+            tally.memory(),
+            tally.disk(),
+            tally.full(),
+        );
+        Closed {
+            disk: self.store.close(),
+            tally,
+            chronicle: Chronicle::of(self.trace),
+        }
+    }
+}
+
+// What a store was opened with.
+#[derive(Drop)]
+struct Opening<'a, D> {
+    store: &'a Store<D>,
+}
+
+impl<D: Disk> Shows<Noted> for Opening<'_, D> {
+    ghost use Rattle.learned_store.specs.Stands.{opening_note};
+    ghost use Rattle.learned_store.specs.Stores.{opening_now};
+
+    ghost shows = { λ opening. opening_note (opening_now D.time D.faults opening.store.now) };
+}
+
+// That a store, which is as it is since, answered a caller.
+#[derive(Drop)]
+struct Served<'a, D> {
+    store: &'a Store<D>,
+    number: u32,
+    call: &'a Call,
+    answer: &'a Answer,
+}
+
+impl<D: Disk> Shows<Noted> for Served<'_, D> {
+    ghost use Rattle.skk_calls.specs.declared.chronicle.Noted.TheVariants.{Entered};
+
+    ghost shows = { λ served. Entered served.number served.call.now served.answer.now
+        (D.time served.store.now.journal.disk) (D.faults served.store.now.journal.disk) };
+}
