@@ -32,8 +32,26 @@ each_file() {
     done
 }
 
-# Says why a file can't be read, where that shows.
+# Says why a file can't be read, where that shows, or why the learned file can't be made or written.
 look_for() {
+    case $1 in
+        --learned)
+            case $2 in
+                */*) folder=${2%/*}/ ;;
+                *) folder=. ;;
+            esac
+            if [ ! -d "$folder" ]; then
+                tell "there is no folder $(shown "$folder")"
+            elif [ -d "$2" ]; then
+                tell "$(shown "$2") is a folder, and no file"
+            elif [ -e "$2" ] && { [ ! -r "$2" ] || [ ! -w "$2" ]; }; then
+                tell "$(shown "$2") may not be read or written"
+            fi
+            return
+            ;;
+        --dict | --rules) ;;
+        *) return ;;
+    esac
     if [ ! -e "$2" ]; then
         tell "there is no file $(shown "$2")"
     elif [ -d "$2" ]; then
@@ -129,5 +147,7 @@ hint() {
         2) look_at_script ;;
         3) look_at_files "$@" ;;
         4) each_file look_for "$@" ;;
+        5) tell 'the learned file was left as it is: it is another file, or a record of it is damaged at that byte' ;;
+        7) tell 'a change had no room within --limit: what was written is whole, but not all of it was learnt' ;;
     esac
 }

@@ -1,5 +1,6 @@
 ghost use Rattle.std.specs.Prelude.{Some};
 
+use skk_disk::MemDisk;
 use skk_outside::{Failed, MemShelf, MemSink, MemSource, Outside, Sink};
 use skk_text::{Bytes, Text};
 use skk_top::run_alone;
@@ -23,7 +24,8 @@ fn type_lines<O: Sink>(
     let mut input = MemSource::new(pieces, vec![in alloc; read]?);
     let words = [Text::of(String::from_str(alloc, "type")?)];
     let mut shelf = MemShelf::new(Vec::new(alloc), Vec::new(alloc));
-    Ok(run_alone(alloc, &words, &mut shelf, &mut input, out, err).status)
+    let disk = MemDisk::new(alloc, Vec::new(alloc));
+    Ok(run_alone(alloc, &words, &mut shelf, disk, &mut input, out, err).status)
 }
 
 // The script is read in two pieces and then to its end; the output is written at once and flushed; a fault is told
@@ -84,7 +86,8 @@ fn check_file(
         Text::of(String::from_str(alloc, "check")?),
         Text::of(String::from_str(alloc, name)?),
     ];
-    Ok(run_alone(alloc, &words, &mut shelf, &mut input, out, err).status)
+    let disk = MemDisk::new(alloc, Vec::new(alloc));
+    Ok(run_alone(alloc, &words, &mut shelf, disk, &mut input, out, err).status)
 }
 
 // A file is read in one piece and then to its end; the output is written at once and flushed.

@@ -1,9 +1,10 @@
 //! The program `skk`: it makes the real things and calls the top call.
 #![tactic(auto)]
 
+use skk_disk::{Disk, FileDisk, MemDisk};
 use skk_outside::{HostShelf, ReaderSource, WriterSink};
-use skk_text::Text;
-use skk_top::{Run, RunFault, end_run, run_alone};
+use skk_text::{Memory, Text};
+use skk_top::{RunFault, learned_name, run_alone, tell_end};
 use std::io::ErrorKind;
 use std::process::ExitCode;
 use std::{env, io};
@@ -11,14 +12,16 @@ use std::{env, io};
 fn main(rt: HostRuntime) -> ExitCode {
     match words(&rt) {
         Ok(words) => run(&rt, &words),
-        Err(fault) if fault.kind() == ErrorKind::OutOfMemory => {
-            let mut err = WriterSink::new(rt.stderr());
-            let run = Run::without_calls(Err(RunFault::Memory));
-            ExitCode::from(end_run(run, &mut err).status)
-        }
+        Err(fault) if fault.kind() == ErrorKind::OutOfMemory => end(&rt, RunFault::Memory),
         // A word that is not UTF-8 is in no command, and so is no word at all.
         Err(_) => run(&rt, &[]),
     }
+}
+
+// Ends with a fault before anything was run.
+fn end(rt: &HostRuntime, fault: RunFault) -> ExitCode {
+    let mut err = WriterSink::new(rt.stderr());
+    ExitCode::from(tell_end(Err(fault), &mut err))
 }
 
 // The words behind the program's name.
@@ -30,8 +33,31 @@ fn words(rt: &HostRuntime) -> io::Result<Vec<Text>> {
     Ok(words)
 }
 
-// Runs the words over the system's files and the standard streams.
+// Runs the words over the learned file that they name, or over none.
 fn run(rt: &HostRuntime, words: &[Text]) -> ExitCode {
+    let alloc = rt.alloc();
+    let Ok(name) = learned_name(alloc, words) else {
+        return end(rt, RunFault::Memory);
+    };
+    let Some(name) = name else {
+        return run_over(rt, words, MemDisk::new(alloc, Vec::new(alloc)));
+    };
+    match second_name(rt, &name) {
+        Ok(second) => run_over(rt, words, FileDisk::new(rt, name, second)),
+        Err(Memory) => end(rt, RunFault::Memory),
+    }
+}
+
+// The name of the second file beside a learned file.
+fn second_name(rt: &HostRuntime, name: &Text) -> Result<Text, Memory> {
+    let mut second = Text::new(rt.alloc());
+    second.push_str(name.as_str())?;
+    second.push_str(".2")?;
+    Ok(second)
+}
+
+// Runs the words over a disk, the system's files and the standard streams.
+fn run_over<D: Disk + Drop>(rt: &HostRuntime, words: &[Text], disk: D) -> ExitCode {
     let mut shelf = HostShelf::new(rt.alloc(), rt);
     let mut input = ReaderSource::new(rt.stdin());
     let mut out = WriterSink::new(rt.stdout());
@@ -40,6 +66,7 @@ fn run(rt: &HostRuntime, words: &[Text]) -> ExitCode {
         rt.alloc(),
         words,
         &mut shelf,
+        disk,
         &mut input,
         &mut out,
         &mut err,

@@ -1,5 +1,6 @@
 -- The definitions at small examples, each worked out by hand.
-use Rattle.std.proofs.Common.{◌≡◌, ◌*◌, ℕ, None, Some, Ok, Err, true, false, List, [], ◌∷◌, ◌++◌, refl, map, codes}
+use Rattle.std.proofs.Common.{◌≡◌, ◌*◌, ℕ, Bool, None, Some, Ok, Err, true, false, List, [], ◌∷◌, ◌++◌, refl, map}
+use Rattle.std.proofs.Common.{codes}
 use Rattle.std.proofs.Common.{lit≤, arith, encode_utf8_all}
 use lib.Utf8.{encode}
 use Prim.Native.String.{String}
@@ -23,15 +24,19 @@ use Rattle.skk_calls.specs.Openings.{fresh_opening}
 use Rattle.skk_calls.specs.Interactions.{printed, asked, end_of, printed_alone}
 use Rattle.skk_calls.specs.Rows.{RowKey, Cand, Row}
 use Rattle.skk_calls.specs.States.{empty_state}
+use Rattle.skk_calls.specs.Tallies.{Tally, empty_tally}
+use Rattle.skk_journal.specs.declared.fault.OpenFault.TheVariants as opening
 use Rattle.session_machine.specs.Session.{Session, new_session}
 use Rattle.skk_top.specs.Printing.{output_line, closing_line}
 use Rattle.skk_top.specs.Script.{IsSession, IsTypist, script_limit, session_of, with_said, opens_well}
 use Rattle.skk_top.specs.Sessions.{session_at, session_or_new, with_session}
 use Rattle.skk_top.specs.RunRules.{fault_of_rules}
-use Rattle.skk_top.specs.Status.{message_of, run_status, run_message, end_unless_refused, fault_of_read}
-use Rattle.skk_top.specs.Status.{fault_of_text, fault_of_script}
+use Rattle.skk_top.specs.Status.{message_of, status_of, fault_words, run_status, run_message, ended_by}
+use Rattle.skk_top.specs.Status.{fault_of_opening}
+use Rattle.skk_top.specs.Status.{fault_of_read, fault_of_text, fault_of_script}
 use Rattle.skk_top.specs.Typed.{typing, typed_alone}
-use Rattle.skk_top.specs.declared.fault.RunFault.TheVariants.{Words, Refused, Outside, Memory, NotBuilt}
+use Rattle.skk_top.specs.declared.fault.RunFault.TheVariants.{Words, Refused, NotJournal, BadRecord, Outside, Memory}
+use Rattle.skk_top.specs.declared.fault.RunFault.TheVariants.{JournalFull, NotBuilt}
 use Rattle.skk_top.specs.declared.run_file.Flaw.TheVariants.{TooLong, Byte, Line}
 use Rattle.skk_top.specs.declared.run_file.RunFile.TheVariants.{Script, Rules, Dictionary}
 use Rattle.skk_top.specs.declared.line.Line as lines
@@ -263,9 +268,29 @@ refusals_told : map message_of
 unfolding digits
 refusals_told = refl
 
-ended_with_refusals : (map (end_unless_refused (Ok tt)) (false ∷ true ∷ []) ≡ Ok tt ∷ Err Memory ∷ [])
-    × (map (end_unless_refused (Err NotBuilt)) (false ∷ true ∷ []) ≡ Err NotBuilt ∷ Err NotBuilt ∷ [])
+-- what a run's calls came to, with a refusal for the disk, for memory and for a full file
+abbrev came_to : Bool → Bool → Bool → Tally
+came_to disk memory full = record empty_tally { disk = disk; memory = memory; full = full }
+
+ended_with_refusals : (map (ended_by (Ok tt)) (came_to false false false ∷ came_to true true true
+    ∷ came_to true false false ∷ came_to false true true ∷ came_to false true false ∷ came_to false false true ∷ [])
+    ≡ Ok tt ∷ Err Outside ∷ Err Outside ∷ Err Memory ∷ Err Memory ∷ Err JournalFull ∷ [])
+    × (map (ended_by (Err NotBuilt)) (came_to false false false ∷ came_to true true true ∷ [])
+    ≡ Err NotBuilt ∷ Err NotBuilt ∷ [])
 ended_with_refusals = (refl, refl)
+
+-- what a learned file that was not opened is for the run, its status and its words
+unopened : map fault_of_opening (opening.Disk ∷ opening.NotJournal 80 ∷ opening.BadRecord 17 [] ∷ opening.Memory ∷ [])
+    ≡ Outside ∷ NotJournal 80 ∷ BadRecord 17 ∷ Memory ∷ []
+unopened = refl
+
+learned_statuses : map status_of (NotJournal 80 ∷ BadRecord 17 ∷ JournalFull ∷ []) ≡ 5 ∷ 5 ∷ 7 ∷ []
+learned_statuses = refl
+
+learned_words : map fault_words (NotJournal 80 ∷ BadRecord 17 ∷ JournalFull ∷ [])
+    ≡ codes "learned file byte 80" ∷ codes "learned file record at 17" ∷ codes "journal full" ∷ []
+unfolding digits
+learned_words = refl
 
 handed_faults : (map (fault_of_read Rules) (reading.TooLong ∷ reading.Failed ∷ reading.Memory ∷ [])
     ≡ Refused Rules TooLong ∷ Outside ∷ Memory ∷ [])

@@ -1,7 +1,9 @@
-pub mod Callers
 mod CheckExamples
 pub mod Commands
 pub mod Dictionaries
+pub mod DumpRead
+pub mod DumpShapes
+pub mod DumpWalk
 mod Examples
 pub mod KeyLines
 pub mod LineReading
@@ -26,3 +28,6 @@ pub mod Typed
 mod WordExamples
 pub mod WordTexts
 pub mod Words
+mod Disks
+mod Served
+mod Outside

@@ -22,7 +22,7 @@ serving limit port connections =
     })
 
 abbrev dumping : ℕ → Command
-dumping book = Dump (codes "L") book
+dumping book = Dump (record { learned = codes "L"; book = book })
 
 abbrev loading : ℕ → ℕ → ℕ → Command
 loading seed sessions lines = Load (record { seed = seed; sessions = sessions; lines = lines; threads = false })

@@ -14,6 +14,7 @@ use Rattle.std.proofs.lemmas.Map.Entries.{All-lookup}
 use Rattle.std.proofs.lemmas.Option.{IfSome_then, none-some}
 use Rattle.skk_top.specs.Arguments.{options, option_named, value_of, place}
 use Rattle.skk_top.specs.Command.{takes, required, optional, command, command_with, command_named, command_of}
+use Rattle.skk_top.specs.Command.{book_dumped, book_to_dump}
 use Rattle.skk_top.specs.Ranges.{LiesFrom, HasNumbersInRange}
 use Rattle.skk_top.specs.Settings.{setting, takes_value, option_alone, option_with, option_cut, name_or_cut, whole}
 use Rattle.skk_top.specs.Settings.{begun, with_setting, settings_of, is_of, times, number_in, value_given, number_given}
@@ -26,6 +27,8 @@ use Rattle.skk_top.specs.declared.argument.OptionRow.{OptionRow}
 use Rattle.skk_top.specs.declared.argument.Takes.{Takes}
 use Rattle.skk_top.specs.declared.argument.Takes.TheVariants.{Nothing, Name, Number}
 use Rattle.skk_top.specs.declared.command.Command.{Command}
+use Rattle.skk_top.specs.declared.command.Command.TheVariants as commands
+use Rattle.skk_top.specs.declared.command.DumpOptions.{DumpOptions}
 use Rattle.skk_top.specs.declared.command_name.CommandName.{CommandName}
 use Rattle.skk_top.specs.declared.command_name.CommandName.TheVariants.{TypeScript, Serve, Check, Dump, Load}
 use Rattle.skk_top.specs.declared.setting.Setting.{Setting}
@@ -34,22 +37,23 @@ use Rattle.skk_top.specs.declared.setting.Value.TheVariants as values
 use Rattle.skk_top.proofs.Runs.{IfSome-all}
 
 -- what there may be, made of what there may be
-IfSome-map : {X Y : Type 0} (P : Y → Type 0) (f : X → Y) (o : Option X) → IfSome o (λ x. P (f x))
+pub IfSome-map : {X Y : Type 0} (P : Y → Type 0) (f : X → Y) (o : Option X) → IfSome o (λ x. P (f x))
     → IfSome (option_map f o) P
 IfSome-map P f None p = tt
 IfSome-map P f (Some x) p = p
 
-IfSome-and_then : {X Y : Type 0} (P : Y → Type 0) (f : X → Option Y) (o : Option X) → IfSome o (λ x. IfSome (f x) P)
+pub IfSome-and_then : {X Y : Type 0} (P : Y → Type 0) (f : X → Option Y) (o : Option X) → IfSome o (λ x. IfSome (f x) P)
     → IfSome (option_and_then f o) P
 IfSome-and_then P f None p = tt
 IfSome-and_then P f (Some x) p = p
 
-IfSome-map_or : {X Y : Type 0} (P : Y → Type 0) (f : X → Option Y) (o : Option X) (other : Option Y)
+pub IfSome-map_or : {X Y : Type 0} (P : Y → Type 0) (f : X → Option Y) (o : Option X) (other : Option Y)
     → IfSome o (λ x. IfSome (f x) P) → IfSome other P → IfSome (option_map_or f o other) P
 IfSome-map_or P f None other p q = q
 IfSome-map_or P f (Some x) other p q = p
 
-IfSome-if : {X : Type 0} (P : X → Type 0) (b : Bool) (x : X) → (b ≡ true → P x) → IfSome (if b then Some x else None) P
+pub IfSome-if : {X : Type 0} (P : X → Type 0) (b : Bool) (x : X) → (b ≡ true → P x)
+    → IfSome (if b then Some x else None) P
 IfSome-if P b x p = cond_both b (Some x) None (λ o. IfSome o P) p (λ e. tt)
 
 -- what the argument at a place takes: a name, where no option gives it
@@ -244,3 +248,16 @@ words-in_range (word ∷ words) =
 
 pub numbers_in_range : (words : List (List ℕ)) (read : Command) → command_of words ≡ Some read → HasNumbersInRange read
 numbers_in_range words read is = subst (λ o. IfSome o HasNumbersInRange) is (words-in_range words)
+
+-- the number of a book lies in its range
+dumped-in-range : (command : Command) → HasNumbersInRange command → IfSome (book_dumped command) (λ o. o.book ≤ 65535)
+dumped-in-range (commands.TypeScript given) range = tt
+dumped-in-range (commands.Serve given) range = tt
+dumped-in-range (commands.Check file) range = tt
+dumped-in-range (commands.Dump given) range = range
+dumped-in-range (commands.Load given) range = tt
+
+pub books-in-range : (words : List (List ℕ)) → IfSome (book_to_dump words) (λ o. o.book ≤ 65535)
+books-in-range words =
+    IfSome-and_then (λ (o : DumpOptions). o.book ≤ 65535) book_dumped (command_of words)
+    (IfSome_then (command_of words) (words-in_range words) dumped-in-range)

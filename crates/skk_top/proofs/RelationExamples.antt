@@ -1,16 +1,6 @@
 -- Relations of what a run keeps and leaves, at small examples, each worked out by hand.
-use Rattle.std.proofs.Common.{ℕ, false, None, Some, Err, [], ◌∷◌, codes, inl, inr, refl, replicate, lit≤}
+use Rattle.std.proofs.Common.{false, None, Some, Err, [], ◌∷◌, inl, inr, refl, replicate, lit≤}
 use Rattle.skk_outside.specs.Moved.{MovedShelf, MovedSink}
-use Rattle.skk_calls.specs.declared.answer.Answer.TheVariants.{Done, Refused}
-use Rattle.skk_calls.specs.declared.answer.Refusal.TheVariants.{Disk, JournalFull}
-use Rattle.skk_calls.specs.declared.answer.Refusal.TheVariants as refusals
-use Rattle.skk_calls.specs.declared.answer.Reply.TheVariants.{Found, Purged}
-use Rattle.skk_calls.specs.declared.call.Call.{Call}
-use Rattle.skk_calls.specs.declared.call.Call.TheVariants.{Lookup}
-use Rattle.skk_calls.specs.declared.part.Part.TheVariants.{Nasi}
-use Rattle.skk_calls.specs.Histories.{Entry}
-use Rattle.skk_calls.specs.States.{State}
-use Rattle.skk_top.specs.Answering.{IsAnsweredAt, AreAnswered}
 use Rattle.skk_top.specs.CheckCommand.{LeavesChecked}
 use Rattle.skk_top.specs.Marks.{Mark}
 use Rattle.skk_top.specs.Page.{Printed}
@@ -20,26 +10,6 @@ use Rattle.skk_top.specs.declared.line.Line.TheVariants.{Keys}
 use Rattle.skk_top.specs.declared.run_file.Flaw.TheVariants.{TooLong}
 use Rattle.skk_top.specs.declared.run_file.RunFile.{RunFile}
 use Rattle.skk_top.specs.declared.run_file.RunFile.TheVariants.{Rules, Dictionary}
-
--- a look-up, and nothing to look it up in
-abbrev call : Call
-call = Lookup 1 (record { part = Nasi; reading = codes "か" }) None
-
-abbrev empty : State
-empty = record { books = [] }
-
--- nothing is found there, and no call is refused but for want of memory
-answers : IsAnsweredAt [] empty call (Done (Found [])) × (¬ IsAnsweredAt [] empty call (Done Purged))
-    × IsAnsweredAt [] empty call (Refused refusals.Memory) × (¬ IsAnsweredAt [] empty call (Refused Disk))
-    × (¬ IsAnsweredAt [] empty call (Refused (JournalFull 1 2 3)))
-answers = (refl, λ e. cc e, tt, λ none. none, λ none. none)
-
--- the one caller of a run has the number 0
-abbrev answered_for : ℕ → Entry
-answered_for number = record { number = number; call = call; answer = Done (Found []) }
-
-callers : AreAnswered [] empty (answered_for 0 ∷ []) × (¬ AreAnswered [] empty (answered_for 1 ∷ []))
-callers = ((refl, refl, tt), λ h. cc (h.0))
 
 -- the greatest session is marked where a line names it
 last_session_unmarked : ¬ Mark (replicate 65 false) (Keys 64 [] ∷ [])
@@ -58,8 +28,8 @@ abbrev out : MovedSink
 out = record { written = Some []; written' = Some []; faults = 3; faults' = 3 }
 
 -- a run that refuses a file for its length, before it called or printed anything
-abbrev refusing : RunFile → Run
-refusing file = record { ended = Err (faults.Refused file TooLong); chronicle = [] }
+abbrev refusing : RunFile → Run (Unit {0})
+refusing file = record { ended = Err (faults.Refused file TooLong); chronicle = []; disk = tt }
 
 -- the file of `check` is dictionary 1
 checked_file : LeavesChecked [] (refusing (Dictionary 1)) shelf out

@@ -1,10 +1,11 @@
 -- Why runs end, at small examples, each worked out by hand.
-use Rattle.std.proofs.Common.{◌≡◌, ℕ, None, Some, List, [], ◌∷◌, refl}
+use Rattle.std.proofs.Common.{◌≡◌, ℕ, None, Some, List, [], ◌∷◌, inl, inr, refl}
 use Rattle.std.proofs.Common.{length, arith, lit≤}
 use Rattle.skk_text.specs.Lines.{lines_of}
 use Rattle.skk_outside.specs.Moved.{MovedShelf, MovedSource, MovedSink}
 use Rattle.romaji_rules.specs.Standard.{standard}
 use Rattle.skk_top.specs.Dictionaries.{HasDictionaryFlaw, IsFirst, RefusesDictionaries, AreRowsOf}
+use Rattle.skk_top.specs.Disks.{MovedDisk}
 use Rattle.skk_top.specs.Finishes.{HasFailed}
 use Rattle.skk_top.specs.Page.{StopsPrinting}
 use Rattle.skk_top.specs.RunFiles.{HasTextFlaw, IsLonger, RefusesBytes, RefusesFile}
@@ -128,12 +129,25 @@ printing_stops : StopsPrinting failed Outside × (¬ StopsPrinting sound Outside
     × (¬ StopsPrinting failed NotBuilt)
 printing_stops = (lit≤ tt, λ rose. omega (arith, rose), tt, λ none. none, λ none. none, λ none. none)
 
--- each of the three may have failed
+-- each of the four may have failed
 abbrev shelf : ℕ → MovedShelf
 shelf faults = record { file = λ name. None; faults = 3; faults' = faults }
 
 abbrev source : ℕ → MovedSource
 source faults = record { left = None; left' = None; faults = 3; faults' = faults }
 
-none_failed : HasFailed (shelf 3) (source 3) sound → ⊥
+abbrev disk : ℕ → MovedDisk
+disk faults = record {
+  tells = ⊥;
+  seen = record { a = []; b = [] };
+  before = record { time = 0; faults = 3; left_since = λ time image. ⊥ };
+  after = record { time = 0; faults = faults; left_since = λ time image. ⊥ };
+  is_untouched = ⊥;
+}
+
+none_failed : HasFailed (shelf 3) (source 3) sound (disk 3) → ⊥
 none_failed h = omega (arith, h)
+
+each_failed : HasFailed (shelf 4) (source 3) sound (disk 3) × HasFailed (shelf 3) (source 4) sound (disk 3)
+    × HasFailed (shelf 3) (source 3) failed (disk 3) × HasFailed (shelf 3) (source 3) sound (disk 4)
+each_failed = (inl (lit≤ tt), inr (inl (lit≤ tt)), inr (inr (inl (lit≤ tt))), inr (inr (inr (lit≤ tt))))

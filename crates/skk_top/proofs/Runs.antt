@@ -1,21 +1,26 @@
 -- What runs leave, of what their parts leave.
-use Rattle.std.proofs.Common.{◌≡◌, ◌∙◌, sym, subst, refl, rules, ℕ, Bool, Option, Some, None, List, []}
-use Rattle.std.proofs.Common.{Ok, Err, IfSome, not, true, false, encode_utf8_all, arith}
+use Rattle.std.proofs.Common.{◌≡◌, sym, ap, subst, refl, rules, ℕ, Option, Some, None, List, []}
+use Rattle.std.proofs.Common.{Ok, Err, OnOk, IfSome, true, encode_utf8_all, arith}
 use Rattle.std.specs.Io.KnownBytes.{Appends, Keeps}
 use Rattle.std.proofs.KnownBytes.{Consumes-nil}
+use Rattle.std.proofs.lemmas.Result.{on_ok_weaker}
 use Rattle.skk_outside.specs.Taken.{TakesAtMost}
 use Rattle.romaji_rules.specs.declared.rule.Rule.{Rule}
 use Rattle.skk_outside.specs.Moved.{Told, MovedSink}
 use Rattle.skk_calls.specs.declared.chronicle.Noted.{Noted}
+use Rattle.skk_calls.specs.Chronicles.{history_of}
 use Rattle.skk_calls.specs.Histories.{Opening}
 use Rattle.skk_calls.specs.InteractionLaws.{printed-answered_alone}
 use Rattle.skk_calls.specs.Interactions.{asked, answers_of, calls_of, IsAnsweredAlone}
-use Rattle.skk_calls.specs.Openings.{IsLegalOver, said_in, are_of_one, are_served, is_without_disk}
-use Rattle.skk_top.specs.Status.{Ended, end_unless_refused}
+use Rattle.skk_calls.specs.Openings.{IsLegalOver, said_in, are_of_one, are_served}
+use Rattle.skk_calls.specs.Tallies.{Tally, tally_of}
+use Rattle.skk_top.specs.Disks.{DiskNow, KeepsDisk}
+use Rattle.skk_top.specs.Status.{Ended, ended_by}
 use Rattle.skk_top.specs.TypeCommand.{Prints, TypesLines}
 use Rattle.skk_top.specs.Typed.{typing, typed_alone}
 use Rattle.skk_top.specs.Typing.{LeavesLines}
 use Rattle.skk_top.specs.declared.line.Line.{Line}
+use Rattle.skk_top.proofs.Served.{answered_alone, where_done}
 
 -- what is known of bytes that are told
 pub IfSome-all : {X : Type 0} (known : Option X) (P : X → Type 0) → ((x : X) → P x) → IfSome known P
@@ -50,45 +55,45 @@ printed-alone opening rules lines chronicle out asks prints alone =
     prints.taken alone) prints.whole
 
 -- lines that were typed by a caller, which is closed then
-pub types-closed : (opening : Opening) (rules : List Rule) (lines : List Line) (ended : Ended) (chronicle : List Noted)
-    (has_refused : Bool) (out : MovedSink)
-    → LeavesLines (typing rules [] lines) ended [] (said_in chronicle 0) out → IsLegalOver opening chronicle
-    → are_of_one chronicle ≡ true → is_without_disk opening chronicle ≡ true
-    → has_refused ≡ not (are_served chronicle)
-    → (are_served chronicle ≡ true → IsAnsweredAlone opening.files opening.state (said_in chronicle 0))
+pub types-closed : {D : Type 0} (opening : Opening) (rules : List Rule) (lines : List Line) (typed : Ended)
+    (chronicle : List Noted) (left : D) (tally : Tally) (out : MovedSink) (disk : DiskNow)
+    → LeavesLines (typing rules [] lines) typed [] (said_in chronicle 0) out → IsLegalOver opening chronicle
+    → are_of_one chronicle ≡ true → KeepsDisk opening chronicle disk
+    → tally ≡ tally_of opening.state (history_of chronicle)
     → TypesLines opening rules lines
-    (record { ended = end_unless_refused ended has_refused; chronicle = chronicle }) out
-types-closed opening rules lines ended chronicle has_refused out leaves legal one without refused alone =
+    (record { ended = ended_by typed tally; chronicle = chronicle; disk = left }) out disk
+types-closed {D} opening rules lines typed chronicle left tally out disk leaves legal one keeps counts =
     let grown : leaves.dialog ≡ said_in chronicle 0 = sym leaves.grows in
-    let prints = subst (λ d. Prints (typing rules [] lines) (answers_of d) ended out) grown leaves.prints in
+    let prints = subst (λ d. Prints (typing rules [] lines) (answers_of d) typed out) grown leaves.prints in
     let asks = subst (λ d. asked (typing rules [] lines) (answers_of d) ≡ calls_of d) grown leaves.asks in
-    by ended has_refused prints asks (λ e. served (are_served chronicle) (sym refused ∙ e))
+    record {
+      typed = typed;
+      ends = ap (ended_by typed) counts;
+      chronicle = record { legal = legal; one = one; asks = asks };
+      kept = keeps;
+      prints = prints;
+      served = subst (λ (t : Tally). OnOk (ended_by typed t) (are_served chronicle ≡ true)) (sym counts)
+          (served typed prints);
+      alone = subst (λ (t : Tally). OnOk (ended_by typed t)
+          (Appends out.written out.written' (typed_alone opening rules lines))) (sym counts)
+          (alone typed asks prints);
+    }
   where
-    served : (b : Bool) → not b ≡ false → b ≡ true
-    served true e = refl
-    served false e = absurd (cc)
+    answered : are_served chronicle ≡ true → IsAnsweredAlone opening.files opening.state (said_in chronicle 0)
+    answered all = answered_alone opening (history_of chronicle) legal.1 all one
 
-    by : (ended : Ended) (has_refused : Bool)
-        → Prints (typing rules [] lines) (answers_of (said_in chronicle 0)) ended out
+    served : (typed : Ended) → Prints (typing rules [] lines) (answers_of (said_in chronicle 0)) typed out
+        → OnOk (ended_by typed (tally_of opening.state (history_of chronicle))) (are_served chronicle ≡ true)
+    served (Ok done) prints = where_done (history_of chronicle) opening.state
+    served (Err fault) prints = tt
+
+    alone : (typed : Ended)
         → asked (typing rules [] lines) (answers_of (said_in chronicle 0)) ≡ calls_of (said_in chronicle 0)
-        → (has_refused ≡ false → are_served chronicle ≡ true)
-        → TypesLines opening rules lines
-        (record { ended = end_unless_refused ended has_refused; chronicle = chronicle }) out
-    by (Ok done) false prints asks serves = record {
-      chronicle = record { legal = legal; one = one; without_disk = without; asks = asks };
-      prints = prints;
-      served = serves refl;
-      alone = printed-alone opening rules lines chronicle out asks prints (alone (serves refl));
-    }
-    by (Ok done) true prints asks serves = record {
-      chronicle = record { legal = legal; one = one; without_disk = without; asks = asks };
-      prints = record { taken = tt; whole = tt; prefix = prints.prefix; stopped = tt };
-      served = tt;
-      alone = tt;
-    }
-    by (Err fault) has_refused prints asks serves = record {
-      chronicle = record { legal = legal; one = one; without_disk = without; asks = asks };
-      prints = prints;
-      served = tt;
-      alone = tt;
-    }
+        → Prints (typing rules [] lines) (answers_of (said_in chronicle 0)) typed out
+        → OnOk (ended_by typed (tally_of opening.state (history_of chronicle)))
+        (Appends out.written out.written' (typed_alone opening rules lines))
+    alone (Ok done) asks prints =
+        on_ok_weaker (ended_by (Ok done) (tally_of opening.state (history_of chronicle)))
+        (λ all. printed-alone opening rules lines chronicle out asks prints (answered all))
+        (where_done (history_of chronicle) opening.state)
+    alone (Err fault) asks prints = tt

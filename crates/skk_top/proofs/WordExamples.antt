@@ -5,7 +5,8 @@ use Prim.Native.String.{String}
 use Rattle.std.specs.Fmt.{digits}
 use Rattle.std.specs.List.{filter}
 use Rattle.std.specs.Option.{option_map}
-use Rattle.skk_top.specs.Command.{command_of, files_to_type, file_to_check, are_built_words}
+use Rattle.skk_top.specs.Command.{command_of, limit_of, script_to_type, file_to_check, book_to_dump, do_open}
+use Rattle.skk_top.specs.Command.{are_built_words, learned_named}
 use Rattle.skk_text.specs.Lines.{with_first}
 use Rattle.skk_top.specs.Words.{is_name, number_within, cut}
 use Rattle.skk_top.specs.declared.command.Command.{Command}
@@ -75,8 +76,11 @@ check_words : map read ("check a" ∷ "check type" ∷ "check a=-b" ∷ "check =
     ∷ Some (Check (codes "辞書-")) ∷ []
 check_words = refl
 
+abbrev dump_with : List ℕ → ℕ → Option Command
+dump_with learned book = Some (Dump (record { learned = learned; book = book }))
+
 dump_words : map read ("dump --learned a" ∷ "dump --book 0 --learned=a" ∷ "dump --learned a --book=65535" ∷ [])
-    ≡ Some (Dump (codes "a") 0) ∷ Some (Dump (codes "a") 0) ∷ Some (Dump (codes "a") 65535) ∷ []
+    ≡ dump_with (codes "a") 0 ∷ dump_with (codes "a") 0 ∷ dump_with (codes "a") 65535 ∷ []
 unfolding digits
 dump_words = refl
 
@@ -89,8 +93,8 @@ load_words = refl
 -- a value may hold a space, a `=` and a `-`, and be the name of a command
 values : map command_of ((codes "check" ∷ codes "a b" ∷ []) ∷ (codes "dump" ∷ codes "--learned= a" ∷ [])
     ∷ words "dump --learned==" ∷ words "dump --learned a--book" ∷ words "dump --learned dump" ∷ [])
-    ≡ Some (Check (codes "a b")) ∷ Some (Dump (codes " a") 0) ∷ Some (Dump (codes "=") 0)
-    ∷ Some (Dump (codes "a--book") 0) ∷ Some (Dump (codes "dump") 0) ∷ []
+    ≡ Some (Check (codes "a b")) ∷ dump_with (codes " a") 0 ∷ dump_with (codes "=") 0
+    ∷ dump_with (codes "a--book") 0 ∷ dump_with (codes "dump") 0 ∷ []
 values = refl
 
 -- sixteen dictionaries, and one more
@@ -186,31 +190,56 @@ cuts : map (λ text. cut (codes text)) ("" ∷ "a" ∷ "=" ∷ "a=" ∷ "=b" ∷
     ∷ Some (codes "a", codes "b=c") ∷ Some (codes "ab", codes "=") ∷ []
 cuts = refl
 
--- what is built: `type` with files to read alone, and `check`
+-- what is built: `type` without threads, `check` and `dump`
 abbrev some_lines : List String
 some_lines =
     "type" ∷ "type --limit 268435456" ∷ "type --limit 64" ∷ "type --dict a" ∷ "type --rules a" ∷ "type --learned a"
     ∷ "type --threads" ∷ "type --dict a --dict=b" ∷ "type --dict a --threads" ∷ "type --rules a --dict b"
     ∷ "type --rules a --limit 64"
     ∷ "serve --learned a --dict b" ∷ "check a" ∷ "check" ∷ "check a b" ∷ "dump --learned a"
-    ∷ "load --seed 1 --sessions 1 --lines 1" ∷ "typ" ∷ []
+    ∷ "load --seed 1 --sessions 1 --lines 1" ∷ "typ" ∷ "dump --book 7 --learned=b" ∷ []
 
 built : map (λ line. are_built_words (words line)) some_lines
-    ≡ true ∷ false ∷ false ∷ true ∷ true ∷ false ∷ false ∷ true ∷ false ∷ true ∷ false ∷ false ∷ true ∷ false ∷ false
-    ∷ false ∷ false ∷ false ∷ []
+    ≡ true ∷ true ∷ true ∷ true ∷ true ∷ true ∷ false ∷ true ∷ false ∷ true ∷ true ∷ false ∷ true ∷ false ∷ false
+    ∷ true ∷ false ∷ false ∷ true ∷ []
 unfolding digits
 built = refl
 
-typed_with : map (λ line. option_map {U = Option (List ℕ) × List (List ℕ)}
-    (λ (options : TypeOptions). (options.rules, options.dictionaries.items)) (files_to_type (words line))) some_lines
-    ≡ Some (None, []) ∷ None ∷ None ∷ Some (None, codes "a" ∷ []) ∷ Some (Some (codes "a"), []) ∷ None ∷ None
-    ∷ Some (None, codes "a" ∷ codes "b" ∷ []) ∷ None
-    ∷ Some (Some (codes "a"), codes "b" ∷ []) ∷ None ∷ None ∷ None ∷ None ∷ None ∷ None ∷ None ∷ None ∷ []
+-- of these all but `check` open the learned file
+opening : map (λ line. do_open (words line)) some_lines
+    ≡ true ∷ true ∷ true ∷ true ∷ true ∷ true ∷ false ∷ true ∷ false ∷ true ∷ true ∷ false ∷ false ∷ false ∷ false
+    ∷ true ∷ false ∷ false ∷ true ∷ []
+unfolding digits
+opening = refl
+
+typed_with : map (λ line. option_map {U = Option (List ℕ) × List (List ℕ) × Option (List ℕ) × ℕ}
+    (λ (options : TypeOptions).
+    (options.rules, options.dictionaries.items, options.learned, limit_of options)) (script_to_type (words line)))
+    some_lines
+    ≡ Some (None, [], None, 268435456) ∷ Some (None, [], None, 268435456) ∷ Some (None, [], None, 64)
+    ∷ Some (None, codes "a" ∷ [], None, 268435456) ∷ Some (Some (codes "a"), [], None, 268435456)
+    ∷ Some (None, [], Some (codes "a"), 268435456) ∷ None
+    ∷ Some (None, codes "a" ∷ codes "b" ∷ [], None, 268435456) ∷ None
+    ∷ Some (Some (codes "a"), codes "b" ∷ [], None, 268435456) ∷ Some (Some (codes "a"), [], None, 64)
+    ∷ None ∷ None ∷ None ∷ None ∷ None ∷ None ∷ None ∷ None ∷ []
 unfolding digits
 typed_with = refl
 
 files_to_check : map (λ line. file_to_check (words line)) some_lines
     ≡ None ∷ None ∷ None ∷ None ∷ None ∷ None ∷ None ∷ None ∷ None ∷ None ∷ None ∷ None ∷ Some (codes "a") ∷ None ∷ None
-    ∷ None ∷ None ∷ None ∷ []
+    ∷ None ∷ None ∷ None ∷ None ∷ []
 unfolding digits
 files_to_check = refl
+
+books_to_dump : map (λ line. book_to_dump (words line)) some_lines
+    ≡ None ∷ None ∷ None ∷ None ∷ None ∷ None ∷ None ∷ None ∷ None ∷ None ∷ None ∷ None ∷ None ∷ None ∷ None
+    ∷ Some (record { learned = codes "a"; book = 0 }) ∷ None ∷ None
+    ∷ Some (record { learned = codes "b"; book = 7 }) ∷ []
+unfolding digits
+books_to_dump = refl
+
+learned_files : map (λ line. learned_named (words line)) some_lines
+    ≡ None ∷ None ∷ None ∷ None ∷ None ∷ Some (codes "a") ∷ None ∷ None ∷ None ∷ None ∷ None ∷ Some (codes "a") ∷ None
+    ∷ None ∷ None ∷ Some (codes "a") ∷ None ∷ None ∷ Some (codes "b") ∷ []
+unfolding digits
+learned_files = refl

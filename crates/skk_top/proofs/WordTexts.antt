@@ -7,15 +7,15 @@ use Rattle.std.specs.Fmt.{decimal}
 use Rattle.std.specs.List.{list_all}
 use Rattle.std.specs.Option.{option_map}
 use Rattle.std.specs.Str.{chars, bytes_eq, IsUtf8, IsAscii}
-use Rattle.std.specs.Str.Parse.{digits_value}
+use Rattle.std.specs.Str.Parse.{digits_value, IsNumeral}
 use Rattle.std.proofs.lemmas.Bool.{cases_Bool, cases_lt, and_parts, false_from_ne_true, ne_eqb, eq-eqb, ltb-true}
-use Rattle.std.proofs.lemmas.Bool.{leb-true, le-leb, lt-leb, and_left, and_right}
+use Rattle.std.proofs.lemmas.Bool.{leb-true, le-leb, lt-leb, and_left, and_right, eqb-true}
 use Rattle.std.proofs.lemmas.Fmt.{decimal_is_IsNumeral}
 use Rattle.std.proofs.Math.Seq.{drop-append-add}
 use Rattle.std.proofs.lemmas.List.{get_or-append-add, get_or_at, get_or_past, take_at}
 use Rattle.std.proofs.lemmas.Slice.Eq.{bytes_eq-Decides}
 use Rattle.std.proofs.lemmas.Str.{byte_from_char, char_from_byte, encode_ascii, encodes-chars, chars-IsAscii}
-use Rattle.std.proofs.lemmas.Str.{encodes-IsAscii}
+use Rattle.std.proofs.lemmas.Str.{encodes-IsAscii, length-le-encodes}
 use Rattle.std.proofs.lemmas.Str.Parse.{digit_at}
 use Rattle.skk_text.specs.TextLaws.{chars-split}
 use Rattle.skk_top.specs.Words.{is_name, number_within, with_character, cut}
@@ -177,3 +177,24 @@ text-cut bs front behind utf8 e none =
     ∙ ap (λ t. chars front ++ 61 ∷ chars t) after in
     let own : encodes (chars front) ≡ front = encodes-chars front (subst IsUtf8 before parts.0) in
     ap cut whole ∙ cut-behind (chars front) (chars behind) (subst Lacks (sym own) none)
+
+-- the bytes of a name are one, and so are those of a number, which are its digits
+pub name-bytes : (word : List ℕ) → is_name word ≡ true → is_name (encodes word) ≡ true
+name-bytes [] name = absurd (cc)
+name-bytes (c ∷ cs) name = by (encodes (c ∷ cs)) refl
+  where
+    by : (bs : List ℕ) → encodes (c ∷ cs) ≡ bs → is_name bs ≡ true
+    by [] e = absurd (omega (arith, ap length e, length-le-encodes (c ∷ cs)))
+    by (b ∷ bs) e = name-of (c ∷ cs) (b ∷ bs) (b == 45) e (omega arith) (eqb-true b 45, eq-eqb b 45) ∙ name
+
+pub decimal-bytes : (number : ℕ) → number < 2 ^ 64
+    → (encodes (decimal number) ≡ decimal number) × (is_name (decimal number) ≡ true)
+decimal-bytes number small =
+    let numeral = (decimal_is_IsNumeral number small).0 in
+    (encodes-IsAscii (decimal number) (decimal-ascii number small), by (decimal number) numeral)
+  where
+    by : (ds : List ℕ) → IsNumeral 10 ds → is_name ds ≡ true
+    by [] numeral = absurd (omega (arith, numeral.0))
+    by (d ∷ ds) numeral =
+        let digit = digit_at (d ∷ ds) 0 numeral.1 (omega arith) in
+        ap not (ne_eqb d 45 (λ is. omega (arith, digit, is)))

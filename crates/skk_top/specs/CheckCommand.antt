@@ -12,14 +12,14 @@ use Rattle.skk_top.specs.declared.finish.Run.{Run}
 use Rattle.skk_top.specs.declared.run_file.RunFile.TheVariants.{Dictionary}
 
 -- what is listed in a file was printed: all of it, or a prefix
-pub record PrintsListed (name : List ℕ) (run : Run) (shelf : MovedShelf) (out : MovedSink) : Type 0 where
+pub record PrintsListed {D : Type 0} (name : List ℕ) (run : Run D) (shelf : MovedShelf) (out : MovedSink) : Type 0 where
   pub listed : Listed
   pub lists : IfSome (shelf.file name) (λ bytes. Lists bytes listed)
   pub printed : LeavesPrinted (checked listed) run.ended out
 
 -- what a run of `check` leaves for the file of a name: it is refused, as dictionary 1, and nothing was printed, or what
 -- it lists was printed
-abbrev pub LeavesChecked : List ℕ → Run → MovedShelf → MovedSink → Type 0
+abbrev pub LeavesChecked : {D : Type 0} → List ℕ → Run D → MovedShelf → MovedSink → Type 0
 LeavesChecked name run shelf out =
     EndsUnbegun (RefusesFile (Dictionary 1) HasDictionaryFlaw (shelf.file name) shelf.faults shelf.faults') run out
     ⊎ PrintsListed name run shelf out

@@ -1,5 +1,5 @@
 -- The commands, and the words that they are read from.
-use Rattle.std.specs.Prelude.{ℕ, Bool, ◌||◌, not, if◌then◌else◌, Option, None, Some, List, [], ◌∷◌, codes}
+use Rattle.std.specs.Prelude.{ℕ, Bool, ◌||◌, if◌then◌else◌, unwrap_or, Option, None, Some, List, [], ◌∷◌, codes}
 use Rattle.std.specs.Map.{lookup}
 use Rattle.std.specs.Option.{is_some, option_and_then}
 use Rattle.std.specs.Str.{bytes_eq}
@@ -12,6 +12,7 @@ use Rattle.skk_top.specs.declared.command.Command.{Command}
 use Rattle.skk_top.specs.declared.command.Command.TheVariants as commands
 use Rattle.skk_top.specs.declared.command_name.CommandName.{CommandName}
 use Rattle.skk_top.specs.declared.command_name.CommandName.TheVariants.{TypeScript, Serve, Check, Dump, Load}
+use Rattle.skk_top.specs.declared.command.DumpOptions.{DumpOptions}
 use Rattle.skk_top.specs.declared.command.LoadOptions.{LoadOptions}
 use Rattle.skk_top.specs.declared.command.ServeOptions.{ServeOptions}
 use Rattle.skk_top.specs.declared.command.TypeOptions.{TypeOptions}
@@ -69,6 +70,10 @@ serve_options settings = record {
   connections = number_or 1000000 Connections settings;
 }
 
+-- the options of `dump`
+abbrev pub dump_options : List Setting → DumpOptions
+dump_options settings = record { learned = text_of Learned settings; book = number_or 0 Book settings }
+
 -- the options of `load`, of which no number is absent
 abbrev pub load_options : List Setting → LoadOptions
 load_options settings = record {
@@ -83,7 +88,7 @@ abbrev pub command : CommandName → List Setting → Command
 command TypeScript settings = commands.TypeScript (type_options settings)
 command Serve settings = commands.Serve (serve_options settings)
 command Check settings = commands.Check (text_of File settings)
-command Dump settings = commands.Dump (text_of Learned settings) (number_or 0 Book settings)
+command Dump settings = commands.Dump (dump_options settings)
 command Load settings = commands.Load (load_options settings)
 
 -- the command with settings, where it takes them
@@ -96,34 +101,62 @@ command_of [] = None
 command_of (word ∷ words) =
     option_and_then (λ name. option_and_then (command_with name) (settings_of words)) (command_named word)
 
--- whether no option of `type` is given but files to read: dictionaries and rules
-abbrev pub has_files_alone : TypeOptions → Bool
-has_files_alone options = not (is_some options.learned || (is_some options.limit || options.threads))
+-- the most bytes of the learned file: those that the options give, or the greatest limit
+abbrev pub limit_of : TypeOptions → ℕ
+limit_of options = unwrap_or options.limit 268435456
 
--- the options of a command that is to type a script, where they are files to read alone
-abbrev pub files_alone : Command → Option TypeOptions
-files_alone (commands.TypeScript options) = if has_files_alone options then Some options else None
-files_alone (commands.Serve options) = None
-files_alone (commands.Check file) = None
-files_alone (commands.Dump learned book) = None
-files_alone (commands.Load options) = None
+-- the options of a command that is to type a script, where no session has a thread of its own
+abbrev pub script_typed : Command → Option TypeOptions
+script_typed (commands.TypeScript options) = if options.threads then None else Some options
+script_typed (commands.Serve options) = None
+script_typed (commands.Check file) = None
+script_typed (commands.Dump options) = None
+script_typed (commands.Load options) = None
 
 -- the name of the file that a command is to check
 abbrev pub file_checked : Command → Option (List ℕ)
 file_checked (commands.TypeScript options) = None
 file_checked (commands.Serve options) = None
 file_checked (commands.Check file) = Some file
-file_checked (commands.Dump learned book) = None
+file_checked (commands.Dump options) = None
 file_checked (commands.Load options) = None
 
--- the options, where words are `type` with files to read alone
-abbrev pub files_to_type : List (List ℕ) → Option TypeOptions
-files_to_type words = option_and_then files_alone (command_of words)
+-- the options of a command that is to print a book
+abbrev pub book_dumped : Command → Option DumpOptions
+book_dumped (commands.TypeScript options) = None
+book_dumped (commands.Serve options) = None
+book_dumped (commands.Check file) = None
+book_dumped (commands.Dump options) = Some options
+book_dumped (commands.Load options) = None
+
+-- the options, where words are `type` without threads
+abbrev pub script_to_type : List (List ℕ) → Option TypeOptions
+script_to_type words = option_and_then script_typed (command_of words)
 
 -- the name of the file that words ask to check, where they are `check`
 abbrev pub file_to_check : List (List ℕ) → Option (List ℕ)
 file_to_check words = option_and_then file_checked (command_of words)
 
--- whether words are a command that is built so far: `type` with files to read alone, or `check`
+-- the options, where words are `dump`
+abbrev pub book_to_dump : List (List ℕ) → Option DumpOptions
+book_to_dump words = option_and_then book_dumped (command_of words)
+
+-- whether words are a command that opens the learned file and is built so far: `type` without threads, or `dump`
+abbrev pub do_open : List (List ℕ) → Bool
+do_open words = is_some (script_to_type words) || is_some (book_to_dump words)
+
+-- whether words are a command that is built so far: one that opens the learned file, or `check`
 abbrev pub are_built_words : List (List ℕ) → Bool
-are_built_words words = is_some (files_to_type words) || is_some (file_to_check words)
+are_built_words words = do_open words || is_some (file_to_check words)
+
+-- the name of the learned file of a command, where one is given
+abbrev pub learned_of : Command → Option (List ℕ)
+learned_of (commands.TypeScript options) = options.learned
+learned_of (commands.Serve options) = Some options.learned
+learned_of (commands.Check file) = None
+learned_of (commands.Dump options) = Some options.learned
+learned_of (commands.Load options) = None
+
+-- the name of the learned file that words give, where they are a command that has one
+abbrev pub learned_named : List (List ℕ) → Option (List ℕ)
+learned_named words = option_and_then learned_of (command_of words)

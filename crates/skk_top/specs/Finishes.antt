@@ -3,26 +3,29 @@ use Rattle.std.specs.Prelude.{◌≡◌, ◌⊎◌, [], IsErrAnd}
 use Rattle.std.specs.Io.KnownBytes.{Keeps}
 use Rattle.skk_outside.specs.Faults.{Rose}
 use Rattle.skk_outside.specs.Moved.{MovedShelf, MovedSource, MovedSink}
+use Rattle.skk_top.specs.Disks.{MovedDisk}
 use Rattle.skk_top.specs.Status.{run_status}
 use Rattle.skk_top.specs.declared.fault.RunFault.{RunFault}
 use Rattle.skk_top.specs.declared.finish.Finish.{Finish}
 use Rattle.skk_top.specs.declared.finish.Run.{Run}
 
 -- the finish of a run: its status, how it ended, and what it called
-abbrev pub finish_of : Run → Finish
-finish_of run = record { status = run_status run.ended; ended = run.ended; chronicle = run.chronicle }
+abbrev pub finish_of : {D : Type 0} → Run D → Finish D
+finish_of run =
+    record { status = run_status run.ended; ended = run.ended; chronicle = run.chronicle; disk = run.disk }
 
 -- the run that came to a finish
-abbrev pub run_of : Finish → Run
-run_of finish = record { ended = finish.ended; chronicle = finish.chronicle }
+abbrev pub run_of : {D : Type 0} → Finish D → Run D
+run_of finish = record { ended = finish.ended; chronicle = finish.chronicle; disk = finish.disk }
 
 -- a run ended with such a fault before it made a call or printed anything
-pub record EndsUnbegun (Cause : RunFault → Type 0) (run : Run) (out : MovedSink) : Type 0 where
+pub record EndsUnbegun {D : Type 0} (Cause : RunFault → Type 0) (run : Run D) (out : MovedSink) : Type 0 where
   pub cause : IsErrAnd run.ended Cause
   pub uncalled : run.chronicle ≡ []
   pub unwritten : Keeps out.written out.written'
 
--- a call on the shelf, the source or the sink failed
-abbrev pub HasFailed : MovedShelf → MovedSource → MovedSink → Type 0
-HasFailed shelf input out =
-    Rose shelf.faults shelf.faults' ⊎ (Rose input.faults input.faults' ⊎ Rose out.faults out.faults')
+-- a call on the shelf, the source, the sink or the disk failed
+abbrev pub HasFailed : MovedShelf → MovedSource → MovedSink → MovedDisk → Type 0
+HasFailed shelf input out disk =
+    Rose shelf.faults shelf.faults'
+    ⊎ (Rose input.faults input.faults' ⊎ (Rose out.faults out.faults' ⊎ Rose disk.before.faults disk.after.faults))

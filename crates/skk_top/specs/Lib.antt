@@ -1,9 +1,11 @@
-pub mod Answering
 pub mod Arguments
 pub mod CheckCommand
 pub mod CheckedFiles
 pub mod Command
 pub mod Dictionaries
+pub mod Disks
+pub mod DumpCommand
+pub mod DumpWords
 pub mod Finishes
 pub mod Marks
 pub mod Page

@@ -14,6 +14,6 @@ HasNumbersInRange (commands.Serve options) =
     IfSome options.limit (LiesFrom 64 268435456) × LiesFrom 1 65535 options.port
     × LiesFrom 1 1000000 options.connections
 HasNumbersInRange (commands.Check file) = ⊤
-HasNumbersInRange (commands.Dump learned book) = book ≤ 65535
+HasNumbersInRange (commands.Dump options) = options.book ≤ 65535
 HasNumbersInRange (commands.Load options) =
     (options.seed < 2 ^ 64) × LiesFrom 1 64 options.sessions × LiesFrom 1 20000 options.lines

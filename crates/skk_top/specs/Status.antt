@@ -1,12 +1,15 @@
 -- How a run ends: its status, and its line on standard error.
-use Rattle.std.specs.Prelude.{◌⊎◌, ℕ, Bool, if◌then◌else◌, Result, Ok, Err, List, ◌++◌, [], ◌∷◌, codes}
+use Rattle.std.specs.Prelude.{◌⊎◌, ℕ, if◌then◌else◌, Result, Ok, Err, List, ◌++◌, [], ◌∷◌, codes}
 use Rattle.std.specs.Fmt.{decimal}
 use Rattle.std.specs.Io.KnownBytes.{Appends}
+use Rattle.skk_calls.specs.Tallies.{Tally}
 use Rattle.skk_outside.specs.Faults.{Rose}
 use Rattle.skk_outside.specs.Moved.{MovedSink}
 use Rattle.skk_outside.specs.Written.{AppendsPrefix}
 use Rattle.skk_outside.specs.declared.source.ReadFault.{ReadFault}
 use Rattle.skk_outside.specs.declared.source.ReadFault.TheVariants as reading
+use Rattle.skk_journal.specs.declared.fault.OpenFault.{OpenFault}
+use Rattle.skk_journal.specs.declared.fault.OpenFault.TheVariants as opening
 use Rattle.skk_text.specs.Lines.{line_feed}
 use Rattle.skk_text.specs.declared.text_file.TextFault.{TextFault}
 use Rattle.skk_text.specs.declared.text_file.TextFault.TheVariants as texts
@@ -17,7 +20,8 @@ use Rattle.skk_top.specs.declared.run_file.RunFile.TheVariants.{Script, Rules, D
 use Rattle.skk_top.specs.declared.run_file.Flaw.{Flaw}
 use Rattle.skk_top.specs.declared.run_file.Flaw.TheVariants.{TooLong, Byte, Line}
 use Rattle.skk_top.specs.declared.fault.RunFault.{RunFault}
-use Rattle.skk_top.specs.declared.fault.RunFault.TheVariants.{Words, Refused, Outside, Memory, NotBuilt}
+use Rattle.skk_top.specs.declared.fault.RunFault.TheVariants.{Words, Refused, NotJournal, BadRecord, Outside, Memory}
+use Rattle.skk_top.specs.declared.fault.RunFault.TheVariants.{JournalFull, NotBuilt}
 
 -- how a run ends: done, or with a fault
 abbrev pub Ended : Type 0
@@ -33,8 +37,11 @@ status_of_file (Dictionary number) = 3
 abbrev pub status_of : RunFault → ℕ
 status_of Words = 1
 status_of (Refused file flaw) = status_of_file file
+status_of (NotJournal first) = 5
+status_of (BadRecord at) = 5
 status_of Outside = 4
 status_of Memory = 6
+status_of JournalFull = 7
 status_of NotBuilt = 8
 
 -- the status of a run by how it ends
@@ -42,11 +49,13 @@ abbrev pub run_status : Ended → ℕ
 run_status (Ok done) = 0
 run_status (Err fault) = status_of fault
 
--- how a run ends by how its typing ended and whether a call of it was refused: out of memory,
--- unless something else ended it
-abbrev pub end_unless_refused : Ended → Bool → Ended
-end_unless_refused (Ok done) has_refused = if has_refused then Err Memory else Ok done
-end_unless_refused (Err fault) has_refused = Err fault
+-- how a run ends by how its typing ended and what its calls came to: where it was typed whole, a change that the disk
+-- failed is a failure of the outside; else a call was refused as out of memory; else the learned file was full
+abbrev pub ended_by : Ended → Tally → Ended
+ended_by (Ok done) tally =
+    if tally.disk then Err Outside else if tally.memory then Err Memory else if tally.full then Err JournalFull
+    else Ok done
+ended_by (Err fault) tally = Err fault
 
 -- the words in front of a flaw that name the file: a line that is at fault is the script's where no file is named
 abbrev pub file_words : RunFile → Flaw → List ℕ
@@ -65,8 +74,11 @@ flaw_words (Line number) = codes "line " ++ decimal number
 abbrev pub fault_words : RunFault → List ℕ
 fault_words Words = codes "words"
 fault_words (Refused file flaw) = file_words file flaw ++ flaw_words flaw
+fault_words (NotJournal first) = codes "learned file byte " ++ decimal first
+fault_words (BadRecord at) = codes "learned file record at " ++ decimal at
 fault_words Outside = codes "outside"
 fault_words Memory = codes "memory"
+fault_words JournalFull = codes "journal full"
 fault_words NotBuilt = codes "not built"
 
 -- the line of a fault on standard error, with its LF
@@ -99,3 +111,10 @@ fault_of_text file (texts.NotUtf8 at) = Refused file (Byte at)
 abbrev pub fault_of_script : ScriptFault → RunFault
 fault_of_script (scripts.BadLine number) = Refused Script (Line number)
 fault_of_script scripts.Memory = Memory
+
+-- what it is for the run that its learned file was not opened
+abbrev pub fault_of_opening : OpenFault → RunFault
+fault_of_opening opening.Disk = Outside
+fault_of_opening (opening.NotJournal first) = NotJournal first
+fault_of_opening (opening.BadRecord at before) = BadRecord at
+fault_of_opening opening.Memory = Memory

@@ -9,18 +9,22 @@ use Rattle.skk_outside.specs.Written.{AppendsPrefix}
 use Rattle.romaji_rules.specs.declared.rule.Rule.{Rule}
 use Rattle.skk_calls.specs.declared.answer.Answer.{Answer}
 use Rattle.skk_calls.specs.declared.chronicle.Noted.{Noted}
+use Rattle.skk_calls.specs.Chronicles.{history_of}
 use Rattle.skk_calls.specs.Histories.{Opening}
 use Rattle.skk_calls.specs.Interactions.{asked, printed, end_of, answers_of, calls_of}
-use Rattle.skk_calls.specs.Openings.{fresh_opening, IsLegalOver, said_in, are_of_one, are_served, is_without_disk}
+use Rattle.skk_calls.specs.Openings.{IsLegalOver, said_in, are_of_one, are_served}
 use Rattle.skk_calls.specs.Rows.{Row}
+use Rattle.skk_calls.specs.Tallies.{tally_of}
 use Rattle.skk_text.specs.Lines.{lines_of}
 use Rattle.skk_top.specs.Dictionaries.{AreRowsOf, HasDictionaryFlaw, IsFirst}
+use Rattle.skk_top.specs.Command.{limit_of}
+use Rattle.skk_top.specs.Disks.{DiskNow, MovedDisk, RefusesLearned, IsOpening, KeepsDisk}
 use Rattle.skk_top.specs.Finishes.{EndsUnbegun}
 use Rattle.skk_top.specs.Page.{StopsPrinting}
 use Rattle.skk_top.specs.RunFiles.{RefusesFile}
 use Rattle.skk_top.specs.RunRules.{AreRules, HasRulesFlaw, IsNamed}
 use Rattle.skk_top.specs.Script.{IsScript, IsFirstBad, script_limit}
-use Rattle.skk_top.specs.Status.{Ended}
+use Rattle.skk_top.specs.Status.{Ended, ended_by}
 use Rattle.skk_top.specs.Typed.{Asking, typed_alone, typing}
 use Rattle.skk_top.specs.declared.command.TypeOptions.{TypeOptions}
 use Rattle.skk_top.specs.declared.fault.RunFault.{RunFault}
@@ -68,12 +72,11 @@ RefusesScript input = RefusesFile Script HasScriptFlaw input.left input.faults i
 
 -- What a chronicle has
 
--- a chronicle is legal over its opening; each entry is the one caller's; no disk took part, so each answer is a reply
--- or a refusal for want of memory; and its calls are those that an interaction asks, each by the answers before it
+-- a chronicle is legal over its opening; each entry is the one caller's; and its calls are those that an interaction
+-- asks, each by the answers before it
 pub record KeepsChronicle (opening : Opening) (asking : Asking) (chronicle : List Noted) : Type 0 where
   pub legal : IsLegalOver opening chronicle
   pub one : are_of_one chronicle ≡ true
-  pub without_disk : is_without_disk opening chronicle ≡ true
   pub asks : asked asking (answers_of (said_in chronicle 0)) ≡ calls_of (said_in chronicle 0)
 
 -- What is printed
@@ -86,39 +89,58 @@ pub record Prints (asking : Asking) (answers : List Answer) (ended : Ended) (out
   pub prefix : AppendsPrefix out.written out.written' (encode_utf8_all (printed asking answers))
   pub stopped : IfErr ended (StopsPrinting out)
 
--- what the typing of lines by some rules leaves; where it is done no call was refused, and what was printed is also
--- what is printed where the dictionary of one thread answers
-pub record TypesLines (opening : Opening) (rules : List Rule) (lines : List Line) (run : Run)
-    (out : MovedSink) : Type 0 where
+-- what the typing of lines by some rules leaves: how it ended by itself decides what was printed, and with what its
+-- calls came to how the run ends; where that is done no call was refused, and what was printed is also what is printed
+-- where the dictionary of one thread answers
+pub record TypesLines {D : Type 0} (opening : Opening) (rules : List Rule) (lines : List Line) (run : Run D)
+    (out : MovedSink) (disk : DiskNow) : Type 0 where
+  pub typed : Ended
+  pub ends : run.ended ≡ ended_by typed (tally_of opening.state (history_of run.chronicle))
   pub chronicle : KeepsChronicle opening (typing rules [] lines) run.chronicle
-  pub prints : Prints (typing rules [] lines) (answers_of (said_in run.chronicle 0)) run.ended out
+  pub kept : KeepsDisk opening run.chronicle disk
+  pub prints : Prints (typing rules [] lines) (answers_of (said_in run.chronicle 0)) typed out
   pub served : OnOk run.ended (are_served run.chronicle ≡ true)
   pub alone : OnOk run.ended (Appends out.written out.written' (typed_alone opening rules lines))
 
 -- the script was read to its end, and then there was no memory for a caller, or its lines were typed
-pub record TypesScript (opening : Opening) (rules : List Rule) (run : Run) (input : MovedSource)
-    (out : MovedSink) : Type 0 where
+pub record TypesScript {D : Type 0} (opening : Opening) (rules : List Rule) (run : Run D) (input : MovedSource)
+    (out : MovedSink) (disk : DiskNow) : Type 0 where
   pub lines : List Line
   pub script : IfSome input.left (λ bytes. IsScript bytes lines)
   pub at_end : IsAtEnd input.left'
-  pub typed : EndsUnbegun (λ fault. fault ≡ Memory) run out ⊎ TypesLines opening rules lines run out
+  pub typed : EndsUnbegun (λ fault. fault ≡ Memory) run out ⊎ TypesLines opening rules lines run out disk
 
 -- what reading a script and typing it leaves
-abbrev pub LeavesScript : Opening → List Rule → Run → MovedSource → MovedSink → Type 0
-LeavesScript opening rules run input out =
-    EndsUnbegun (RefusesScript input) run out ⊎ TypesScript opening rules run input out
+abbrev pub LeavesScript : {D : Type 0} → Opening → List Rule → Run D → MovedSource → MovedSink → DiskNow → Type 0
+LeavesScript opening rules run input out disk =
+    EndsUnbegun (RefusesScript input) run out ⊎ TypesScript opening rules run input out disk
 
--- the files that the options name were read, and then a script
-pub record TypesNamed (options : TypeOptions) (run : Run) (shelf : MovedShelf) (input : MovedSource)
-    (out : MovedSink) : Type 0 where
+-- the learned file was opened, and then a script was read
+pub record TypesOpened {D : Type 0} (limit : ℕ) (files : List (List Row)) (rules : List Rule) (run : Run D)
+    (input : MovedSource) (out : MovedSink) (disk : MovedDisk) : Type 0 where
+  pub opening : Opening
+  pub opened : IsOpening disk files limit opening
+  pub typed : LeavesScript opening rules run input out disk.after
+
+-- what opening the learned file and typing a script leaves: it is refused, and the input is not read, or it was opened
+abbrev pub LeavesLearned : {D : Type 0} → ℕ → List (List Row) → List Rule → Run D → MovedSource → MovedSink → MovedDisk
+    → Type 0
+LeavesLearned limit files rules run input out disk =
+    (EndsUnbegun (RefusesLearned disk) run out × Keeps input.left input.left')
+    ⊎ TypesOpened limit files rules run input out disk
+
+-- the files that the options name were read, and then the learned file was opened
+pub record TypesNamed {D : Type 0} (options : TypeOptions) (run : Run D) (shelf : MovedShelf) (input : MovedSource)
+    (out : MovedSink) (disk : MovedDisk) : Type 0 where
   pub rules : List Rule
   pub books : List (List Row)
   pub are_rules : AreRules (rules_named options shelf) rules
   pub are_rows : AreRowsOf books (dictionaries_named options shelf)
-  pub typed : LeavesScript (fresh_opening books) rules run input out
+  pub typed : LeavesLearned (limit_of options) books rules run input out disk
 
--- what a run of `type` leaves: a file that the options name is refused, and the input is not read, or they were read
-abbrev pub LeavesTyped : TypeOptions → Run → MovedShelf → MovedSource → MovedSink → Type 0
-LeavesTyped options run shelf input out =
-    (EndsUnbegun (RefusesNamed options shelf) run out × Keeps input.left input.left')
-    ⊎ TypesNamed options run shelf input out
+-- what a run of `type` leaves: a file that the options name is refused, and the input is not read and the disk not
+-- touched, or they were read
+abbrev pub LeavesTyped : {D : Type 0} → TypeOptions → Run D → MovedShelf → MovedSource → MovedSink → MovedDisk → Type 0
+LeavesTyped options run shelf input out disk =
+    (EndsUnbegun (RefusesNamed options shelf) run out × Keeps input.left input.left' × disk.is_untouched)
+    ⊎ TypesNamed options run shelf input out disk

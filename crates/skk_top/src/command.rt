@@ -1,7 +1,7 @@
 ghost use Rattle.std.specs.Prelude.{◌≡◌, ◌<◌, if◌then◌else◌, Some, None, MatchOption};
 ghost use Rattle.std.specs.Option.{option_copied};
-ghost use Rattle.skk_top.specs.Command.{command_of, type_options, serve_options, load_options, has_files_alone};
-ghost use Rattle.skk_top.specs.Command.{files_alone, file_checked};
+ghost use Rattle.skk_top.specs.Command.{command_of, type_options, serve_options, dump_options, load_options, limit_of};
+ghost use Rattle.skk_top.specs.Command.{script_typed, file_checked, book_dumped, learned_of};
 ghost use Rattle.skk_top.specs.Settings.{times};
 ghost use Rattle.skk_top.specs.declared.argument.Argument.TheVariants.{Dictionary};
 
@@ -16,6 +16,9 @@ use skk_text::Text;
 /// The port that is served where none is given.
 const PORT: u64 = 1178;
 
+/// The most bytes of a learned file where no number is given, which is the greatest limit.
+pub const LIMIT: u64 = 268_435_456;
+
 /// How many connections are served where no number is given.
 const CONNECTIONS: u64 = 1_000_000;
 
@@ -29,7 +32,7 @@ pub enum Command<'a> {
     /// To check the dictionary in a file.
     Check(Word<'a>),
     /// To print a book of a learned file.
-    Dump { learned: Word<'a>, book: u64 },
+    Dump(DumpOptions<'a>),
     /// To type what is drawn.
     Load(LoadOptions),
 }
@@ -41,25 +44,46 @@ impl<'a> Command<'a> {
     {
         match self {
             Command::Check(file) => Some(file.again()),
-            Command::TypeScript(_) | Command::Serve(_) | Command::Load(_) => None,
-            Command::Dump {
-                learned: _,
-                book: _,
-            } => None,
+            Command::TypeScript(_) | Command::Serve(_) | Command::Dump(_) | Command::Load(_) => {
+                None
+            }
         }
     }
 
-    /// The options, where it is to type a script and they are files to read alone.
-    pub fn files_alone(&self) -> Option<&TypeOptions<'a>>
-        ensures { option_copied result ≡ files_alone self.now }
+    /// The name of its learned file, where one is given.
+    pub fn learned(&self) -> Option<Word<'a>>
+        ensures { result ≡ learned_of self.now }
     {
         match self {
-            Command::TypeScript(options) => options.files_alone(),
-            Command::Serve(_) | Command::Check(_) | Command::Load(_) => None,
-            Command::Dump {
-                learned: _,
-                book: _,
-            } => None,
+            Command::TypeScript(options) => {
+                let name = options.learned.as_ref()?;
+                Some(name.again())
+            }
+            Command::Serve(options) => Some(options.learned.again()),
+            Command::Dump(options) => Some(options.learned.again()),
+            Command::Check(_) | Command::Load(_) => None,
+        }
+    }
+
+    /// The options of the script that it is to type, where no session has a thread of its own.
+    pub fn script_typed(&self) -> Option<&TypeOptions<'a>>
+        ensures { option_copied result ≡ script_typed self.now }
+    {
+        match self {
+            Command::TypeScript(options) => options.without_threads(),
+            Command::Serve(_) | Command::Check(_) | Command::Dump(_) | Command::Load(_) => None,
+        }
+    }
+
+    /// The options of the book that it is to print.
+    pub fn book_dumped(&self) -> Option<&DumpOptions<'a>>
+        ensures { option_copied result ≡ book_dumped self.now }
+    {
+        match self {
+            Command::Dump(options) => Some(options),
+            Command::TypeScript(_) | Command::Serve(_) | Command::Check(_) | Command::Load(_) => {
+                None
+            }
         }
     }
 }
@@ -94,15 +118,18 @@ impl<'a> TypeOptions<'a> {
         })
     }
 
-    // These options, where they are files to read alone.
-    fn files_alone(&self) -> Option<&TypeOptions<'a>>
-        ensures { option_copied result ≡ (if has_files_alone self.now then Some self.now else None) }
+    // These options, where no session has a thread of its own.
+    fn without_threads(&self) -> Option<&TypeOptions<'a>>
+        ensures { option_copied result ≡ (if self.now.threads then None else Some self.now) }
     {
-        if self.learned.is_some() || self.limit.is_some() || self.threads {
-            None
-        } else {
-            Some(self)
-        }
+        if self.threads { None } else { Some(self) }
+    }
+
+    /// The most bytes of the learned file.
+    pub fn limit(&self) -> u64
+        ensures { result ≡ limit_of self.now }
+    {
+        self.limit.unwrap_or(LIMIT)
     }
 }
 
@@ -137,6 +164,27 @@ impl<'a> ServeOptions<'a> {
             port: settings.number_or(PORT, Argument::Port),
             connections: settings.number_or(CONNECTIONS, Argument::Connections),
         })
+    }
+}
+
+/// The options of `dump`.
+#[derive(Drop)]
+pub struct DumpOptions<'a> {
+    /// The learned file.
+    pub learned: Word<'a>,
+    /// The number of the book, from 0 to 65,535.
+    pub book: u64,
+}
+
+impl<'a> DumpOptions<'a> {
+    /// The options that settings give, of which the learned file is not absent.
+    pub fn of(settings: &Settings<'a>) -> DumpOptions<'a>
+        ensures { result ≡ dump_options settings.now }
+    {
+        DumpOptions {
+            learned: settings.text(Argument::Learned),
+            book: settings.number_or(0, Argument::Book),
+        }
     }
 }
 

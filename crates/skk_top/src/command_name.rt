@@ -2,7 +2,7 @@ ghost use Rattle.std.specs.Prelude.{◌≡◌, ◌≤◌, length};
 ghost use Rattle.skk_top.specs.Command.{command_named, command_with, takes};
 
 use crate::argument::Argument;
-use crate::command::{Command, LoadOptions, ServeOptions, TypeOptions};
+use crate::command::{Command, DumpOptions, LoadOptions, ServeOptions, TypeOptions};
 use crate::settings::{DICTIONARIES, Settings};
 use crate::word::Word;
 
@@ -74,10 +74,7 @@ impl CommandName {
             CommandName::TypeScript => Some(Command::TypeScript(TypeOptions::of(settings)?)),
             CommandName::Serve => Some(Command::Serve(ServeOptions::of(settings)?)),
             CommandName::Check => Some(Command::Check(settings.text(Argument::File))),
-            CommandName::Dump => Some(Command::Dump {
-                learned: settings.text(Argument::Learned),
-                book: settings.number_or(0, Argument::Book),
-            }),
+            CommandName::Dump => Some(Command::Dump(DumpOptions::of(settings))),
             CommandName::Load => Some(Command::Load(LoadOptions::of(settings))),
         }
     }

@@ -10,6 +10,7 @@ use crate::page::write;
 use crate::run_file::{Flaw, RunFile};
 use crate::script::ScriptFault;
 use itoa::Buffer;
+use skk_journal::OpenFault;
 use skk_outside::{Failed, Sink};
 use skk_text::Memory;
 
@@ -20,32 +21,43 @@ pub enum RunFault {
     Words,
     /// A file is refused.
     Refused { file: RunFile, flaw: Flaw },
+    /// The learned file is none: it has two bytes or more, and this is its first one.
+    NotJournal { first: u8 },
+    /// A record of the learned file is bad, and this is the least place of one, in bytes.
+    BadRecord { at: u64 },
     /// A call on the outside failed.
     Outside,
     /// Out of memory.
     Memory,
+    /// All was done but a change that the learned file had no room for.
+    JournalFull,
     /// The command is not built, or one of its options.
     NotBuilt,
 }
 
-/// Ends a run: tells its fault on `err`, and answers the status to exit with beside how it ended and its chronicle.
-/// Takes no memory.
-pub fn end_run<E: Sink>(run: Run, err: &mut E) -> Finish
+/// Ends a run: tells its fault on `err`, and answers the status to exit with beside how it ended, its chronicle and its
+/// disk. Takes no memory.
+pub fn end_run<D, E: Sink>(run: Run<D>, err: &mut E) -> Finish<D>
     ensures finish { result ≡ finish_of run }
     ensures told { Tells (run_message run.ended) (moved_sink E.written E.faults err.old err.new) }
     ensures counted { E.faults err.old ≤ E.faults err.new }
 {
-    let Run { ended, chronicle } = run;
-    let status = end(ended, err);
+    let Run {
+        ended,
+        chronicle,
+        disk,
+    } = run;
+    let status = tell_end(ended, err);
     Finish {
         status,
         ended,
         chronicle,
+        disk,
     }
 }
 
-// Tells a fault on `err`, and answers the status.
-fn end<E: Sink>(ended: Result<(), RunFault>, err: &mut E) -> u8
+/// Tells a fault on `err`, and answers the status. Takes no memory.
+pub fn tell_end<E: Sink>(ended: Result<(), RunFault>, err: &mut E) -> u8
     ensures status { result ≡ run_status ended }
     ensures told { Tells (run_message ended) (moved_sink E.written E.faults err.old err.new) }
     ensures counted { E.faults err.old ≤ E.faults err.new }
@@ -70,8 +82,10 @@ impl RunFault {
         match self {
             RunFault::Words => 1,
             RunFault::Refused { file, flaw: _ } => file.status(),
+            RunFault::NotJournal { first: _ } | RunFault::BadRecord { at: _ } => 5,
             RunFault::Outside => 4,
             RunFault::Memory => 6,
+            RunFault::JournalFull => 7,
             RunFault::NotBuilt => 8,
         }
     }
@@ -99,8 +113,13 @@ impl RunFault {
         match self {
             RunFault::Words => write(err, b"words"),
             RunFault::Refused { file, flaw } => tell_refused(file, flaw, err),
+            RunFault::NotJournal { first } => {
+                write_numbered(err, b"learned file byte ", u64::from(first))
+            }
+            RunFault::BadRecord { at } => write_numbered(err, b"learned file record at ", at),
             RunFault::Outside => write(err, b"outside"),
             RunFault::Memory => write(err, b"memory"),
+            RunFault::JournalFull => write(err, b"journal full"),
             RunFault::NotBuilt => write(err, b"not built"),
         }
     }
@@ -131,7 +150,7 @@ fn tell_dictionary<E: Sink>(number: usize, err: &mut E) -> Result<(), Failed>
     ensures { Writes (codes "dictionary " ++ decimal number ++ codes " ") result
         (moved_sink E.written E.faults err.old err.new) }
 {
-    write_numbered(err, b"dictionary ", number)?;
+    write_numbered(err, b"dictionary ", number as u64)?;
     write(err, b" ")
 }
 
@@ -141,13 +160,13 @@ fn tell_flaw<E: Sink>(flaw: Flaw, err: &mut E) -> Result<(), Failed>
 {
     match flaw {
         Flaw::TooLong => write(err, b"too long"),
-        Flaw::Byte { at } => write_numbered(err, b"byte ", at),
-        Flaw::Line { number } => write_numbered(err, b"line ", number),
+        Flaw::Byte { at } => write_numbered(err, b"byte ", at as u64),
+        Flaw::Line { number } => write_numbered(err, b"line ", number as u64),
     }
 }
 
 // Writes bytes, and behind them a number in decimal.
-fn write_numbered<E: Sink>(err: &mut E, before: &[u8], number: usize) -> Result<(), Failed>
+fn write_numbered<E: Sink>(err: &mut E, before: &[u8], number: u64) -> Result<(), Failed>
     ensures { Writes (before.now ++ decimal number) result (moved_sink E.written E.faults err.old err.new) }
 {
     write(err, before)?;
@@ -189,6 +208,22 @@ impl From<ScriptFault> for RunFault {
                 flaw: Flaw::Line { number },
             },
             ScriptFault::Memory => RunFault::Memory,
+        }
+    }
+}
+
+impl From<OpenFault> for RunFault {
+    ghost use Rattle.std.specs.Prelude.{◌≡◌};
+    ghost use Rattle.skk_top.specs.Status.{fault_of_opening};
+
+    ghost from_gives = { λ fault told. told ≡ fault_of_opening fault };
+
+    fn from(fault: OpenFault) -> RunFault {
+        match fault {
+            OpenFault::Disk => RunFault::Outside,
+            OpenFault::NotJournal { first } => RunFault::NotJournal { first },
+            OpenFault::BadRecord { at, before: _ } => RunFault::BadRecord { at },
+            OpenFault::Memory => RunFault::Memory,
         }
     }
 }

@@ -1,21 +1,24 @@
 //! The top call: all that the program does, over what it is handed of the outside.
 //!
 //! It stands on all crates below. `run_alone` reads the words to a command, runs it, tells on standard
-//! error why a run was not done, and answers the status and the chronicle of its calls. Each command has a
-//! module of its own and one relation that says what a run of it leaves. What is typed is answered over the
-//! system files by the one caller of a run, which notes its calls.
+//! error why a run was not done, and answers the status, the chronicle of its calls and the disk. Each command
+//! has a module of its own and one relation that says what a run of it leaves. What is typed is answered over
+//! the system files and the learned file by the one caller of a run, which notes its calls; at each moment of a
+//! run a stop leaves a learned file that is opened as a state that a part of these calls may leave.
 #![tactic(auto)]
 
-mod answering;
 mod argument;
 mod check_command;
 mod checking;
 mod command;
 mod command_name;
 mod dictionary;
+mod dump_command;
+mod dump_words;
 mod fault;
 mod finish;
 mod laws;
+mod learned_file;
 mod line;
 mod number;
 mod page;
@@ -31,8 +34,9 @@ mod type_command;
 mod typing;
 mod word;
 
-pub use fault::{RunFault, end_run};
+pub use fault::{RunFault, end_run, tell_end};
 pub use finish::{Finish, Run};
 pub use laws::{no_bad_line_in_a_script, numbers_lie_in_their_ranges, one_bad_line, one_script};
+pub use learned_file::learned_name;
 pub use run::run_alone;
 pub use run_file::{Flaw, RunFile};

@@ -1,10 +1,11 @@
-ghost use Rattle.std.specs.Prelude.{◌≡◌, [], Some, None, IfOk, MatchOption};
+ghost use Rattle.std.specs.Prelude.{◌≡◌, [], Some, None, IfOk, MatchOption, encode_utf8_all};
 ghost use Rattle.std.specs.Str.{chars};
 ghost use Rattle.skk_top.specs.Words.{is_name, number_within, cut};
 
 use crate::number::number_within;
 use skk_text::{Memory, Text};
 use std::alloc::Global;
+use std::convert::AsStr;
 use std::marker::Model;
 
 /// A word, or a part of one, as it was handed in: contracts see the list of its characters. It owns nothing.
@@ -44,6 +45,14 @@ impl<'a> Word<'a> {
         Word {
             text: text.as_str(),
         }
+    }
+
+    /// The word of a string.
+    pub fn of_str(text: &'a str) -> Word<'a>
+        ensures characters { result ≡ chars text.now }
+        ensures bytes { encode_utf8_all result ≡ text.now }
+    {
+        Word { text }
     }
 
     /// The same word once more.
@@ -92,6 +101,23 @@ impl<'a> Word<'a> {
             None => None,
         }
     }
+}
+
+impl<'a> AsStr for Word<'a> {
+    ghost use Rattle.std.specs.Prelude.{encode_utf8_all};
+
+    ghost text = { λ w. encode_utf8_all w };
+
+    fn as_str(&self) -> &str {
+        as_it_is(self.text)
+    }
+}
+
+// A text, of which the bytes are those of its characters.
+fn as_it_is(text: &str) -> &str
+    ensures { result.now ≡ encode_utf8_all (chars text.now) }
+{
+    text
 }
 
 // Whether a text is not empty, and does not begin with `-`.

@@ -1,4 +1,4 @@
-use Rattle.std.proofs.Common.{◌≡◌, ◌+◌, ◌∙◌, [], ◌∷◌, ◌++◌, sym, ap, subst, refl, map, take, get_or, arith, length}
+use Rattle.std.proofs.Common.{◌≡◌, ◌+◌, ◌∙◌, [], ◌∷◌, ◌++◌, sym, ap, subst, map, take, get_or, arith, length}
 use Rattle.std.proofs.Common.{length-append, IfSome, List, ℕ}
 use Rattle.std.proofs.lemmas.List.{map-append, take_more}
 use Rattle.skk_calls.specs.Rows.{Row}

@@ -1,0 +1,238 @@
+-- What runs leave of the disk, of what their parts leave.
+use Rattle.std.proofs.Common.{◌≡◌, inl, inr, sym, ◌∙◌, ap, subst, refl, arith, ℕ, ◌<◌, ◌≤◌, true, List, [], ◌∷◌, length}
+use Rattle.std.proofs.Common.{None}
+use Rattle.std.proofs.lemmas.List.Elements.{All-nil}
+use Rattle.skk_calls.specs.declared.chronicle.Noted.{Noted}
+use Rattle.skk_calls.specs.Histories.{Opening}
+use Rattle.skk_calls.specs.Rows.{Row}
+use Rattle.skk_calls.specs.States.{State}
+use Rattle.skk_disk.specs.Image.{Image}
+use Rattle.skk_disk.specs.Moments.{Passes, SameImages, Earlier}
+use Rattle.skk_disk.specs.MomentLaws.{passes_nothing}
+use Rattle.skk_disk.specs.Steps.{ComeFrom}
+use Rattle.skk_journal.specs.Images.{Each, SameOther}
+use Rattle.skk_journal.specs.Opening.{is_fresh, IsOpened, with_records, OpensAtOnce}
+use Rattle.skk_journal.specs.declared.fault.OpenFault.{OpenFault}
+use Rattle.skk_journal.specs.declared.fault.OpenFault.TheVariants as opening
+use Rattle.skk_outside.specs.Faults.{Rose}
+use Rattle.learned_store.specs.Recovered.{Recovery, IsRecovered, with_state, IsRefused, RecoversAtOnce}
+use Rattle.learned_store.specs.Stores.{OpenStore, opening_now, Keeps, Recovers}
+use Rattle.learned_store.specs.Stands.{time_of, faults_of, left_behind, RecoversBy, StandsOver, RecoverAmong, GoOn}
+use Rattle.learned_store.specs.Stands.{Stands}
+use Rattle.skk_top.specs.Disks.{DiskNow, MovedDisk, moved_disk, disk_now, RefusesLearned, IsOpening, KeepsDisk}
+use Rattle.skk_top.specs.Disks.{RunsOver, StandsSince}
+use Rattle.skk_top.specs.Status.{Ended, fault_of_opening}
+use Rattle.skk_top.specs.Finishes.{finish_of}
+use Rattle.skk_top.specs.declared.finish.Finish.{Finish}
+use Rattle.skk_top.specs.declared.finish.Run.{Run}
+
+-- a file of one byte at most is made anew
+short-fresh : (file : List ℕ) → length file ≤ 1 → is_fresh file ≡ true
+short-fresh [] short = refl
+short-fresh (first ∷ []) short = refl
+short-fresh (first ∷ second ∷ rest) short = absurd (omega (arith, short))
+
+opened-at-once : (records : List (List ℕ)) (file : List ℕ) → OpensAtOnce records file
+    → IsOpened file (with_records records)
+opened-at-once records file (inl has) = inl has
+opened-at-once records file (inr short) = inr (short.0, short-fresh file short.1)
+
+recovered-at-once : (file : List ℕ) (state : State) → RecoversAtOnce file state → IsRecovered file (with_state state)
+recovered-at-once file state is = (is.0, opened-at-once is.0 file is.1, is.2)
+
+-- a state that an image is opened as stands behind no notes
+behind-nothing : (state : State) (time : ℕ) (image : Image) → Recovers state image → RecoversBy state [] time image
+behind-nothing state time image is = record {
+  front = [];
+  back = [];
+  is = refl;
+  later = All-nil (λ (note : Noted). time < time_of note);
+  recovers = (state, (0, omega arith, refl), is);
+}
+
+-- what is left of a disk to which nothing was done, or whose learned file was not opened
+pub stands-unopened : (disk : MovedDisk) → Earlier disk.after.left_since
+    → ((state : State) (file : List ℕ) → Each (disk.before.left_since disk.before.time) (λ image. image.a ≡ file)
+    → RecoversAtOnce file state → Each (disk.after.left_since disk.before.time) (Recovers state))
+    → StandsSince [] disk
+stands-unopened disk earlier opens state file same at_once time image from to left =
+    behind-nothing state time image
+    (opens state file same at_once image (earlier disk.before.time time image from left))
+
+pub stands-untouched : (disk : MovedDisk) → Earlier disk.before.left_since
+    → SameImages disk.before.left_since disk.after.left_since → StandsSince [] disk
+stands-untouched disk earlier same state file all at_once time image from to left =
+    let there = same.no_more time image left in
+    behind-nothing state time image
+    (subst (λ (bytes : List ℕ). IsRecovered bytes (with_state state))
+    (sym (all image (earlier disk.before.time time image from there))) (recovered-at-once file state at_once))
+
+-- a disk to which nothing was done goes on so
+pub runs-nothing : (opened : State) (disk : DiskNow) → RunsOver opened [] disk disk
+runs-nothing opened disk = record {
+  since = λ start begun so time image from to left. behind-nothing opened time image (so time image from to left);
+  other = λ image left. (image, left, refl);
+  passes = passes_nothing disk.time disk.left_since;
+  counted = omega arith;
+}
+
+module _ {D : Type 0} (tells : Type 0) (seen : D → Image) (time faults : D → ℕ) (left_since : D → ℕ → Image → Type 0)
+    (earlier : (disk : D) → Earlier (left_since disk))
+    (reads_image : (disk : D) → tells → left_since disk (time disk) (seen disk))
+    (tells_images : (disk : D) (t : ℕ) (image : Image) → left_since disk t image → tells)
+    (one_way : (file : List ℕ) (one two : Recovery) → IsRecovered file one → IsRecovered file two → one ≡ two)
+    (old mid new : D) (opened : State) (chronicle : List Noted) where
+  -- the learned file was opened, and a run went on
+  pub stands-opened : (tells → IsRecovered (seen old).a (with_state opened))
+      → Passes (time old) (time mid) (left_since old) (left_since mid)
+      → ((state : State) (file : List ℕ) → Each (left_since old (time old)) (λ image. image.a ≡ file)
+      → RecoversAtOnce file state → Each (left_since mid (time old)) (Recovers state))
+      → RunsOver opened chronicle (disk_now time faults left_since mid) (disk_now time faults left_since new)
+      → StandsSince chronicle (moved_disk tells seen time faults left_since old new)
+  stands-opened is passes opens runs state file same at_once moment image from to left =
+      let told = tells_images new moment image left in
+      let here : (seen old).a ≡ file = same (seen old) (reads_image old told) in
+      let one : with_state opened ≡ with_state state =
+      one_way file (with_state opened) (with_state state)
+      (subst (λ (bytes : List ℕ). IsRecovered bytes (with_state opened)) here (is told))
+      (recovered-at-once file state at_once) in
+      let equal : opened ≡ state = cc one in
+      subst (λ (s : State). RecoversBy s chronicle moment image) equal
+      (runs.since (time old) passes.later
+      (λ t i start end there. subst (λ (s : State). Recovers s i) (sym equal)
+      (opens state file same at_once i (earlier mid (time old) t i start there)))
+      moment image from to left)
+
+  pub other-opened : Passes (time old) (time mid) (left_since old) (left_since mid)
+      → ComeFrom SameOther (left_since old (time old)) (left_since mid (time old))
+      → RunsOver opened chronicle (disk_now time faults left_since mid) (disk_now time faults left_since new)
+      → ComeFrom SameOther (left_since old (time old)) (left_since new (time old))
+  other-opened passes first runs image left =
+      elim (runs.passes.goes_on (time old) image passes.later left) [
+        | inl there ↦ first image there
+        | inr here ↦
+            let one = runs.other image here in
+            let two = first one.0 (earlier mid (time old) (time mid) one.0 passes.later one.1) in
+            (two.0, two.1, one.2 ∙ two.2)
+      ]
+
+-- what a caller leaves of the disk, which is closed then
+pub keeps-closed : {D : Type 0} (time faults : D → ℕ) (left_since : D → ℕ → Image → Type 0) (opening : Opening)
+    (past : ℕ → Image → Type 0) (notes : List Noted) (store : OpenStore D)
+    → Stands time faults left_since opening past notes store
+    → RecoverAmong store.state (left_behind opening.state notes)
+    (left_since store.journal.disk (time store.journal.disk))
+    → KeepsDisk opening notes (disk_now time faults left_since store.journal.disk)
+keeps-closed time faults left_since opening past notes store stands now = record {
+  moments = stands.moments;
+  now = subst (λ (s : State). RecoverAmong s (left_behind opening.state notes)
+      (left_since store.journal.disk (time store.journal.disk))) stands.state now;
+  goes_on = stands.goes_on;
+}
+
+-- why a learned file is not had, by why it was not opened
+pub refuses-learned : (disk : MovedDisk) (why : OpenFault) → (disk.tells → IsRefused disk.seen.a why)
+    → (why ≡ opening.Disk → Rose disk.before.faults disk.after.faults) → RefusesLearned disk (fault_of_opening why)
+refuses-learned disk opening.Disk refused failed = failed refl
+refuses-learned disk (opening.NotJournal first) refused failed = refused
+refuses-learned disk (opening.BadRecord at before) refused failed = λ told. ((refused told).0, refl)
+refuses-learned disk opening.Memory refused failed = tt
+
+pub counted-on : (time faults : ℕ) (notes : List Noted) (last_time last_faults : ℕ)
+    → GoOn time faults notes last_time last_faults → faults ≤ last_faults
+counted-on time faults [] last_time last_faults on = omega (arith, on.1)
+counted-on time faults (first ∷ notes) last_time last_faults on =
+    let rest = counted-on (time_of first) (faults_of first) notes last_time last_faults on.3 in
+    omega (arith, on.1, rest)
+
+module _ {D : Type 0} (tells : Type 0) (seen : D → Image) (time faults : D → ℕ)
+    (left_since : D → ℕ → Image → Type 0) where
+  -- a run that made no call, on a disk that it did not touch
+  pub stands-quiet : (disk : D) → Earlier (left_since disk) → (ended : Ended) (run : Run D)
+      → run ≡ record { ended = ended; chronicle = []; disk = disk }
+      → StandsSince run.chronicle (moved_disk tells seen time faults left_since disk run.disk)
+  stands-quiet disk earlier ended run is =
+      subst (λ (r : Run D). StandsSince r.chronicle (moved_disk tells seen time faults left_since disk r.disk)) (sym is)
+      (stands-untouched (moved_disk tells seen time faults left_since disk disk) earlier
+      (record { no_more = λ t image left. left; no_fewer = λ t image left. left }))
+
+  -- and one whose learned file was not opened
+  pub stands-refused : (old new : D) → Earlier (left_since new) → (ended : Ended) (run : Run D)
+      → run ≡ record { ended = ended; chronicle = []; disk = new }
+      → ((state : State) (file : List ℕ) → Each (left_since old (time old)) (λ image. image.a ≡ file)
+      → RecoversAtOnce file state → Each (left_since new (time old)) (Recovers state))
+      → StandsSince run.chronicle (moved_disk tells seen time faults left_since old run.disk)
+  stands-refused old new earlier ended run is opens =
+      subst (λ (r : Run D). StandsSince r.chronicle (moved_disk tells seen time faults left_since old r.disk)) (sym is)
+      (stands-unopened (moved_disk tells seen time faults left_since old new) earlier opens)
+
+  -- a run is told and finishes
+  pub stands-finish : (old : D) (run : Run D) (finish : Finish D) → finish ≡ finish_of run
+      → StandsSince run.chronicle (moved_disk tells seen time faults left_since old run.disk)
+      → StandsSince finish.chronicle (moved_disk tells seen time faults left_since old finish.disk)
+  stands-finish old run finish is stands =
+      subst (λ (f : Finish D). StandsSince f.chronicle (moved_disk tells seen time faults left_since old f.disk))
+      (sym is) stands
+
+  pub runs-quiet : (opened : State) (disk : D) (ended : Ended) (run : Run D)
+      → run ≡ record { ended = ended; chronicle = []; disk = disk }
+      → RunsOver opened run.chronicle (disk_now time faults left_since disk) (disk_now time faults left_since run.disk)
+  runs-quiet opened disk ended run is =
+      subst (λ (r : Run D). RunsOver opened r.chronicle (disk_now time faults left_since disk)
+      (disk_now time faults left_since r.disk)) (sym is) (runs-nothing opened (disk_now time faults left_since disk))
+
+  -- a learned file was opened so
+  pub opened-so : (old new : D) (store : OpenStore D) (books : List (List Row)) (most : ℕ) → store.files ≡ books
+      → store.limit ≡ most → (tells → IsRecovered (seen old).a (with_state store.state))
+      → Passes (time old) (time store.journal.disk) (left_since old) (left_since store.journal.disk)
+      → faults old ≤ faults store.journal.disk → Keeps time left_since store.journal store.state None
+      → IsOpening (moved_disk tells seen time faults left_since old new) books most (opening_now time faults store)
+  opened-so old new store books most files limit is passes counted keeps =
+      record {
+        files = files;
+        limit = limit;
+        state = is;
+        end = (keeps.0, keeps.1, keeps.2.end);
+        later = passes.later;
+        counted = counted;
+      }
+
+  -- what a caller leaves of the disk of a store that was just opened, which is closed then
+  pub runs-closed : (opening : Opening) (past : ℕ → Image → Type 0) (before store : OpenStore D) (notes : List Noted)
+      → opening ≡ opening_now time faults before → SameImages past (left_since before.journal.disk)
+      → Stands time faults left_since opening past notes store
+      → ((start : ℕ)
+      → ((moment : ℕ) (image : Image) → start ≤ moment → moment ≤ opening.time → past moment image
+      → Recovers opening.state image)
+      → StandsOver opening.state notes start (time store.journal.disk) (left_since store.journal.disk))
+      → RunsOver before.state notes (disk_now time faults left_since before.journal.disk)
+      (disk_now time faults left_since store.journal.disk)
+  runs-closed opening past before store notes named same stands since =
+      let at : opening.time ≡ time before.journal.disk = ap (λ (o : Opening). o.time) named in
+      let counted : opening.faults ≡ faults before.journal.disk = ap (λ (o : Opening). o.faults) named in
+      let state : opening.state ≡ before.state = ap (λ (o : Opening). o.state) named in
+      record {
+        since = λ start begun so.
+            subst (λ (s : State). StandsOver s notes start (time store.journal.disk)
+            (left_since store.journal.disk)) state
+            (since start (λ moment image from to there.
+            subst (λ (s : State). Recovers s image) (sym state)
+            (so moment image from (omega (arith, to, at)) (same.no_fewer moment image there))));
+        other = λ image left.
+            let one = stands.other image (subst (λ (t : ℕ). left_since store.journal.disk t image) (sym at) left) in
+            (one.0, same.no_fewer (time before.journal.disk) one.0 (subst (λ (t : ℕ). past t one.0) at one.1), one.2);
+        passes = record {
+          later = omega (arith, stands.passes.later, at);
+          goes_on = λ t image le left. elim (stands.passes.goes_on t image (omega (arith, le, at)) left) [
+            | inl there ↦ inl (same.no_fewer t image there)
+            | inr here ↦ inr (subst (λ (n : ℕ). left_since store.journal.disk n image) at here)
+          ];
+          keeps = λ t image le left. stands.passes.keeps t image (omega (arith, le, at)) (same.no_more t image left);
+        };
+        counted = omega (
+          arith,
+          counted,
+          counted-on opening.time opening.faults notes (time store.journal.disk)
+              (faults store.journal.disk) stands.goes_on,
+        );
+      }

@@ -1,0 +1,87 @@
+-- A run that ends since a call on the outside failed had one that failed.
+use Rattle.std.proofs.Common.{◌≡◌, inl, inr, sym, ◌∙◌, refl, subst, arith, ℕ, ◌≤◌, Bool, true, false}
+use Rattle.std.proofs.Common.{Ok, Err, IfErr, IsErrAnd, List, [], ◌∷◌}
+use Rattle.skk_calls.specs.declared.answer.Answer.TheVariants.{Done, Refused}
+use Rattle.skk_calls.specs.declared.answer.Refusal.TheVariants as refusals
+use Rattle.skk_calls.specs.declared.chronicle.Noted.{Noted}
+use Rattle.skk_calls.specs.declared.chronicle.Noted.TheVariants.{Opened, Entered}
+use Rattle.skk_calls.specs.Chronicles.{history_of}
+use Rattle.skk_calls.specs.Histories.{Opening}
+use Rattle.skk_calls.specs.Tallies.{Tally, tally_of, has_answer, lacks_disk}
+use Rattle.skk_outside.specs.Faults.{Rose}
+use Rattle.skk_outside.specs.Moved.{MovedShelf, MovedSource, MovedSink}
+use Rattle.learned_store.specs.Stands.{GoOn}
+use Rattle.skk_top.specs.Disks.{MovedDisk}
+use Rattle.skk_top.specs.Finishes.{HasFailed}
+use Rattle.skk_top.specs.Page.{StopsPrinting}
+use Rattle.skk_top.specs.Status.{Ended, ended_by}
+use Rattle.skk_top.specs.TypeCommand.{LeavesTyped}
+use Rattle.skk_top.specs.declared.command.TypeOptions.{TypeOptions}
+use Rattle.skk_top.specs.declared.fault.RunFault.{RunFault}
+use Rattle.skk_top.specs.declared.fault.RunFault.TheVariants.{Outside, Memory}
+use Rattle.skk_top.specs.declared.finish.Run.{Run}
+use Rattle.skk_top.proofs.Disks.{counted-on}
+
+-- what ends a run is its cause
+caused : (ended : Ended) (fault : RunFault) (Cause : RunFault → Type 0) → ended ≡ Err fault → IsErrAnd ended Cause
+    → Cause fault
+caused ended fault Cause is cause = subst (λ (e : Ended). IsErrAnd e Cause) is cause
+
+-- a refusal for the disk had its cause
+refused-rose : (time faults : ℕ) (notes : List Noted) (last_time last_faults : ℕ)
+    → GoOn time faults notes last_time last_faults → has_answer lacks_disk (history_of notes) ≡ true
+    → Rose faults last_faults
+refused-rose time faults [] last_time last_faults on refused = absurd (cc)
+refused-rose time faults (Opened files state end limit at count ∷ notes) last_time last_faults on refused =
+    let rest = refused-rose at count notes last_time last_faults on.3 refused in omega (arith, on.1, rest)
+refused-rose time faults (Entered number call (Refused refusals.Disk) at count ∷ notes) last_time last_faults on
+    refused =
+    let rest = counted-on at count notes last_time last_faults on.3 in omega (arith, on.2, rest)
+refused-rose time faults (Entered number call (Refused refusals.Memory) at count ∷ notes) last_time last_faults on
+    refused =
+    let rest = refused-rose at count notes last_time last_faults on.3 refused in omega (arith, on.1, rest)
+refused-rose time faults (Entered number call (Refused (refusals.JournalFull end need limit)) at count ∷ notes)
+    last_time last_faults on refused =
+    let rest = refused-rose at count notes last_time last_faults on.3 refused in omega (arith, on.1, rest)
+refused-rose time faults (Entered number call (Done reply) at count ∷ notes) last_time last_faults on refused =
+    let rest = refused-rose at count notes last_time last_faults on.3 refused in omega (arith, on.1, rest)
+
+-- where all was typed, a run ends so for a change that the disk failed
+ended-for-disk : (tally : Tally) → ended_by (Ok tt) tally ≡ Err Outside → tally.disk ≡ true
+ended-for-disk tally is = by tally.disk tally.memory tally.full is
+  where
+    by : (disk memory full : Bool)
+        → ended_by (Ok tt) (record tally { disk = disk; memory = memory; full = full }) ≡ Err Outside → disk ≡ true
+    by true memory full is = refl
+    by false true full is = absurd (cc)
+    by false false true is = absurd (cc)
+    by false false false is = absurd (cc)
+
+module _ {D : Type 0} (options : TypeOptions) (run : Run D) (shelf : MovedShelf) (input : MovedSource)
+    (out : MovedSink) (disk : MovedDisk) (is : run.ended ≡ Err Outside) where
+  typed : (opening : Opening) → disk.before.faults ≤ opening.faults → (typed : Ended)
+      → ended_by typed (tally_of opening.state (history_of run.chronicle)) ≡ Err Outside
+      → GoOn opening.time opening.faults run.chronicle disk.after.time disk.after.faults
+      → IfErr typed (StopsPrinting out) → HasFailed shelf input out disk
+  typed opening counted (Ok done) ends on stopped =
+      let refused = ended-for-disk (tally_of opening.state (history_of run.chronicle)) ends in
+      let rose = refused-rose opening.time opening.faults run.chronicle disk.after.time disk.after.faults on refused in
+      inr (inr (inr (omega (arith, counted, rose))))
+  typed opening counted (Err fault) ends on stopped =
+      let same : fault ≡ Outside = cc ends in
+      inr (inr (inl (subst (StopsPrinting out) same stopped)))
+
+  pub outside-typed : LeavesTyped options run shelf input out disk → HasFailed shelf input out disk
+  outside-typed (inl (ends, unread, untouched)) = inl (caused run.ended Outside _ is ends.cause)
+  outside-typed (inr named) = elim named.typed [
+    | inl refused ↦ inr (inr (inr (caused run.ended Outside _ is refused.0.cause)))
+    | inr opened ↦ elim opened.typed [
+      | inl ends ↦ inr (inl (caused run.ended Outside _ is ends.cause))
+      | inr script ↦ elim script.typed [
+        | inl none ↦ let same : Outside ≡ Memory = caused run.ended Outside (λ fault. fault ≡ Memory) is none.cause in
+            absurd (cc)
+        | inr lines ↦ typed opened.opening opened.opened.counted lines.typed (sym lines.ends ∙ is) lines.kept.goes_on
+            lines.prints.stopped
+      ]
+    ]
+  ]

@@ -1,0 +1,99 @@
+-- The disk of a run, before and after, and what the calls of a run leave of it.
+use Rattle.std.specs.Prelude.{◌≡◌, ⊤, ℕ, ◌≤◌, List, []}
+use Rattle.skk_outside.specs.Faults.{Rose}
+use Rattle.skk_calls.specs.declared.chronicle.Noted.{Noted}
+use Rattle.skk_calls.specs.Chronicles.{history_of}
+use Rattle.skk_calls.specs.Histories.{Opening, state_after}
+use Rattle.skk_calls.specs.Rows.{Row}
+use Rattle.skk_calls.specs.States.{State}
+use Rattle.skk_disk.specs.Image.{Image}
+use Rattle.skk_journal.specs.declared.fault.OpenFault.TheVariants as opening
+use Rattle.skk_disk.specs.Moments.{Passes}
+use Rattle.skk_disk.specs.Steps.{ComeFrom}
+use Rattle.skk_journal.specs.Images.{Each, SameOther}
+use Rattle.skk_journal.specs.Records.{end_of}
+use Rattle.learned_store.specs.Recovered.{Leave, IsRecovered, with_state, IsRefused, RecoversAtOnce}
+use Rattle.learned_store.specs.Stores.{Recovers}
+use Rattle.learned_store.specs.Stands.{RecoverAmong, left_behind, StandsOver, GoOn}
+use Rattle.skk_top.specs.declared.fault.RunFault.{RunFault}
+use Rattle.skk_top.specs.declared.fault.RunFault.TheVariants.{NotJournal, BadRecord, Outside, Memory}
+
+-- a disk at some moment: its time, its count of faults, and what a stop since a time might have left
+pub record DiskNow : Type 1 where
+  pub time : ℕ
+  pub faults : ℕ
+  pub left_since : ℕ → Image → Type 0
+
+-- a disk by its meanings
+abbrev pub disk_now : {D : Type 0} → (D → ℕ) → (D → ℕ) → (D → ℕ → Image → Type 0) → D → DiskNow
+disk_now time faults left_since disk =
+    record { time = time disk; faults = faults disk; left_since = left_since disk }
+
+-- a disk before and after: whether it tells what it holds, what a read gave of it before, and whether it is as it was
+pub record MovedDisk : Type 1 where
+  pub tells : Type 0
+  pub seen : Image
+  pub before : DiskNow
+  pub after : DiskNow
+  pub is_untouched : Type 0
+
+-- a disk by its meanings, before and after
+abbrev pub moved_disk : {D : Type 0} → Type 0 → (D → Image) → (D → ℕ) → (D → ℕ) → (D → ℕ → Image → Type 0) → D → D
+    → MovedDisk
+moved_disk tells seen time faults left_since old new = record {
+  tells = tells;
+  seen = seen old;
+  before = disk_now time faults left_since old;
+  after = disk_now time faults left_since new;
+  is_untouched = new ≡ old;
+}
+
+-- why a learned file is not had: it is refused, by its first byte or its least bad place, as far as it is told, or a
+-- call on the disk failed, or memory is out
+abbrev pub RefusesLearned : MovedDisk → RunFault → Type 0
+RefusesLearned disk (NotJournal first) = disk.tells → IsRefused disk.seen.a (opening.NotJournal first)
+RefusesLearned disk (BadRecord at) = disk.tells → IsRefused disk.seen.a (opening.BadRecord at [])
+RefusesLearned disk Outside = Rose disk.before.faults disk.after.faults
+RefusesLearned disk Memory = ⊤
+RefusesLearned disk fault = ⊥
+
+-- records that leave a state end so
+abbrev pub EndsBehind : State → ℕ → Type 0
+EndsBehind state end = (records : List (List ℕ)) × Leave records state × (end ≡ end_of records)
+
+-- a dictionary over these files, whose learned file may have so many bytes, was opened so on a disk
+pub record IsOpening (disk : MovedDisk) (books : List (List Row)) (most : ℕ) (opening : Opening) : Type 0 where
+  pub files : opening.files ≡ books
+  pub limit : opening.limit ≡ most
+  pub state : disk.tells → IsRecovered disk.seen.a (with_state opening.state)
+  pub end : EndsBehind opening.state opening.end
+  pub later : disk.before.time ≤ opening.time
+  pub counted : disk.before.faults ≤ opening.faults
+
+-- what the calls of a chronicle leave of the disk that they were made over: what a stop at a moment since the opening
+-- might have left is opened as a state that a part of the chronicle may leave, which has each entry that was made by
+-- then; now, as the state behind it or one in doubt; and its times and counts of faults go on to those of the disk
+pub record KeepsDisk (opening : Opening) (chronicle : List Noted) (disk : DiskNow) : Type 0 where
+  pub moments : StandsOver opening.state chronicle opening.time disk.time disk.left_since
+  pub now : RecoverAmong (state_after opening.state (history_of chronicle)) (left_behind opening.state chronicle)
+      (disk.left_since disk.time)
+  pub goes_on : GoOn opening.time opening.faults chronicle disk.time disk.faults
+
+-- what a run leaves of a disk on which a dictionary was just opened with this state: what was so since a start before
+-- the opening goes on to be so
+pub record RunsOver (opened : State) (chronicle : List Noted) (old new : DiskNow) : Type 0 where
+  pub since : (start : ℕ) → start ≤ old.time
+      → ((time : ℕ) (image : Image) → start ≤ time → time ≤ old.time → old.left_since time image
+      → Recovers opened image)
+      → StandsOver opened chronicle start new.time new.left_since
+  pub other : ComeFrom SameOther (old.left_since old.time) (new.left_since old.time)
+  pub passes : Passes old.time new.time old.left_since new.left_since
+  pub counted : old.faults ≤ new.faults
+
+-- what a stop might have left at a moment since the start of a run is opened as a state that a part of the chronicle
+-- may leave, where at the start each image had one and the same file, which is opened as a state at once
+abbrev pub StandsSince : List Noted → MovedDisk → Type 0
+StandsSince chronicle disk =
+    (state : State) (file : List ℕ) → Each (disk.before.left_since disk.before.time) (λ image. image.a ≡ file)
+    → RecoversAtOnce file state
+    → StandsOver state chronicle disk.before.time disk.after.time disk.after.left_since
