@@ -67,7 +67,7 @@ impl<D: Disk> Store<D> {
             (λ unopened. D.faults disk ≤ D.faults unopened.disk) }
     {
         match Journal::open(alloc, disk) {
-            Ok((journal, records)) => match recover(alloc, &records) {
+            Ok((journal, records)) => match recover(alloc, records) {
                 Ok(index) => Ok(Store {
                     journal,
                     index,
@@ -93,7 +93,7 @@ fn first_refusal(alloc: Global, why: OpenFault) -> OpenFault
     ensures disk { (result ≡ OpenFault.Disk) ↔ (why ≡ OpenFault.Disk) }
 {
     match why {
-        OpenFault::BadRecord { at, before } => match recover(alloc, &before) {
+        OpenFault::BadRecord { at, before } => match recover(alloc, before) {
             Ok(_) => bad_record(alloc, at),
             Err(fault) => refusal(alloc, fault),
         },

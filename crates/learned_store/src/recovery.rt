@@ -31,14 +31,15 @@ impl From<Memory> for RecoverFault {
 
 // The index of the state that records leave. What they say is gathered first, so that of each key the last row alone
 // comes into the index, and at the end of its book. Takes time in their bytes, with one logarithm in the number of rows
-// that are left, and beside the index the memory that these take while they are gathered.
-pub(crate) fn recover(alloc: Global, records: &Records) -> Result<Index, RecoverFault>
-    ensures left { IfOk result (λ index. Leave (payloads records.now) index.state) }
-    ensures broken { records.now ≡ found_from first_place (payloads records.now)
-        → IfErr result (IsBreak (payloads records.now)) }
+// that are left, and beside the index the memory that these take while they are gathered; that of a record is given
+// back when it was gathered.
+pub(crate) fn recover(alloc: Global, records: Records) -> Result<Index, RecoverFault>
+    ensures left { IfOk result (λ index. Leave (payloads records) index.state) }
+    ensures broken { records ≡ found_from first_place (payloads records)
+        → IfErr result (IsBreak (payloads records)) }
 {
     let mut gathered = Gathered::new(alloc);
-    for found in records.as_slice() {
+    for found in records.into_vec() {
         let Some(form) = gathered.read(alloc, found.payload.as_slice())? else {
             return Err(RecoverFault::Break { at: found.at });
         };

@@ -1,47 +1,53 @@
-use Rattle.std.proofs.Common.{◌≡◌, List, ℕ, Option, Some, refl, sym, subst, length, take}
-use Rattle.std.proofs.Common.{slice_get}
-use Rattle.std.proofs.lemmas.Option.{slice_get_read}
+use Rattle.std.proofs.Common.{◌≡◌, ◌∷◌, ◌++◌, [], List, ℕ, Option, Some, sym, subst, ◌∙◌}
+use Rattle.std.proofs.lemmas.List.{append_assoc}
 use Rattle.std.specs.Option.{IfSome}
+use Rattle.std.specs.Vec.Iter.{into_iter_items}
 use Rattle.skk_calls.specs.States.{State}
 use Rattle.skk_journal.specs.declared.found.Found.{Found}
-use Rattle.skk_journal.specs.Found.{payloads}
+use Rattle.skk_journal.specs.Found.{payloads, found_from}
+use Rattle.skk_journal.specs.Records.{first_place}
 use Rattle.learned_store.specs.declared.form.Form.{Form}
 use Rattle.learned_store.specs.Gathering.{Gathers}
 use Rattle.learned_store.specs.Payloads.{Says, SaysNothing, state_told}
-use Rattle.learned_store.specs.Recovered.{Leave}
+use Rattle.learned_store.specs.Recovered.{Leave, BreakAt}
 use Rattle.learned_store.proofs.Kept.{leave_on}
 use Rattle.learned_store.proofs.ReadRecords.{payloads_next, break_at}
 use Rattle.learned_store.proofs.recovery.recover.Goals as goal
 
 pub returns-in_default-clause-broken : goal.returns-in_default-clause-broken
 returns-in_default-clause-broken c places =
-    let items = c.as_slice-found-items.result.now in
-    let index = c.loop-found.found-index in
-    let found = c.found-item.result in
-    let there = subst (λ (all : List Found). slice_get all index ≡ Some found) c.as_slice-found-items.ensures
-    (slice_get_read items (length items) index found refl c.loop-found-test.true c.found-item.is) in
-    let state = c.loop-found.invariant.0 in
-    break_at c.args.records.now index found there places state c.loop-found.invariant.1
+    let found = c.in-Some.found in
+    let before = c.loop-found.yielded in
+    let state = c.loop-found.invariant.state in
+    let rest = into_iter_items c.next.new.self in
+    let all : before ++ found ∷ rest ≡ c.args.records =
+    subst (λ (items : List Found). before ++ items ≡ c.args.records) c.in-Some.ensures.steps.0
+    c.loop-found.invariant.all in
+    subst (λ (records : List Found). BreakAt (payloads records) found.at) all
+    (break_at before rest found
+    (subst (λ (records : List Found). records ≡ found_from first_place (payloads records)) (sym all) places)
+    state c.loop-found.invariant.left
     (subst (SaysNothing state) c.as_slice.ensures
-    (c.in_ok-form.ensures.none c.in_default.is state c.loop-found.invariant.2))
+    (c.in_ok-form.ensures.none c.in_default.is state c.loop-found.invariant.gathers)))
 
 pub loop-found-preserved : goal.loop-found-preserved
 loop-found-preserved c =
-    let items = c.as_slice-found-items.result.now in
-    let index = c.loop-found.found-index in
-    let found = c.found-item.result in
-    let there = subst (λ (all : List Found). slice_get all index ≡ Some found) c.as_slice-found-items.ensures
-    (slice_get_read items (length items) index found refl c.loop-found-test.true c.found-item.is) in
-    let state = c.loop-found.invariant.0 in
-    let gathers = c.loop-found.invariant.2 in
-    let form = c.in-Some.form in
-    let said = subst (λ (found : Option Form). IfSome found (λ f. (s : State) → Gathers c.loop-found.gathered s
-    → Says s c.as_slice.result.now f)) c.in-Some.is c.in_ok-form.ensures.some in
-    let says = subst (λ (payload : List ℕ). Says state payload form) c.as_slice.ensures (said state gathers) in (
-      state_told state form,
-      subst (λ (read : List (List ℕ)). Leave read (state_told state form))
-          (sym (payloads_next c.args.records.now index found there))
-          (leave_on (payloads (take index c.args.records.now)) state found.payload form
-          c.loop-found.invariant.1 says),
-      c.in_ok-tell.ensures state gathers says.sound says.counted,
-    )
+    let found = c.in-Some.found in
+    let before = c.loop-found.yielded in
+    let state = c.loop-found.invariant.state in
+    let gathers = c.loop-found.invariant.gathers in
+    let form = c.in-Some-2.form in
+    let said = subst (λ (read : Option Form). IfSome read (λ f. (s : State) → Gathers c.loop-found.gathered s
+    → Says s c.as_slice.result.now f)) c.in-Some-2.is c.in_ok-form.ensures.some in
+    let says = subst (λ (payload : List ℕ). Says state payload form) c.as_slice.ensures (said state gathers) in
+    record {
+      state = state_told state form;
+      all =
+          append_assoc before (found ∷ []) (into_iter_items c.next.new.self)
+          ∙ subst (λ (items : List Found). before ++ items ≡ c.args.records) c.in-Some.ensures.steps.0
+          c.loop-found.invariant.all;
+      left =
+          subst (λ (read : List (List ℕ)). Leave read (state_told state form)) (sym (payloads_next before [] found))
+          (leave_on (payloads before) state found.payload form c.loop-found.invariant.left says);
+      gathers = c.in_ok-tell.ensures state gathers says.sound says.counted;
+    }
