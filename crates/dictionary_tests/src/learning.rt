@@ -8,7 +8,7 @@ ghost use Rattle.skk_calls.specs.States.{fits_count, has_stamp};
 
 use dict_layers::System;
 use dict_rows::line_length;
-use learn_index::Index;
+use learn_index::{Index, KeptRow};
 use skk_calls::{
     Block, Blocks, Book, Books, Call, Cand, Cands, Learned, Okuri, Part, Reply, Row, RowKey,
 };
@@ -553,7 +553,7 @@ fn put_into(
     if !fits_count(&row, count) || count < index.count(number) {
         return Err("does not fit".into());
     }
-    index.put(alloc, number, count, row)?;
+    index.put(alloc, number, count, KeptRow::new(alloc, row)?)?;
     done_text(alloc)
 }
 

@@ -3,5 +3,6 @@ mod Changes
 mod Completions
 mod Examples
 mod FoundBook
+mod LastRows
 mod NewestFirst
 mod Planned

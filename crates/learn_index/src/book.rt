@@ -1,5 +1,7 @@
-ghost use Rattle.std.specs.Prelude.{◌≡◌, ◌<◌, true, [], Some};
+ghost use Rattle.std.specs.Prelude.{◌≡◌, ◌≤◌, ◌<◌, true, length, [], Some};
 ghost use Rattle.std.specs.Vec.{vec_len, vec_capacity};
+ghost use Rattle.ordered_lists.specs.Orders.{IsPlace};
+ghost use Rattle.skk_calls.specs.OrderLaws.{row_keys};
 ghost use Rattle.skk_calls.specs.States.{with_row, without_row, rows_ascend};
 
 use crate::kept_row::KeptRow;
@@ -31,8 +33,8 @@ impl LearnedBook {
         }
     }
 
-    /// Gives the key of a row this row. Takes a logarithm in the number of rows to find its place, moves the rows
-    /// behind it where the key had none, and takes no memory.
+    /// Gives the key of a row this row. Takes a logarithm in the number of rows to find its place, or constant time
+    /// where that is behind them all, moves the rows behind it where the key had none, and takes no memory.
     pub fn set_row(&mut self, row: KeptRow)
         requires ascend { rows_ascend self.old.rows.items ≡ true }
         requires room { vec_len self.old.rows < vec_capacity self.old.rows }
@@ -41,7 +43,7 @@ impl LearnedBook {
         ensures count { self.new.count ≡ self.old.count }
     {
         let key = row.row().key();
-        let place = place_of(&self.rows, key);
+        let place = place_among(&self.rows, key);
         if has_key_at(&self.rows, place, key) {
             self.rows[place] = row;
         } else {
@@ -60,6 +62,19 @@ impl LearnedBook {
         if has_key_at(&self.rows, place, key) {
             let _row = self.rows.remove(place);
         }
+    }
+}
+
+// The place of a key among rows that ascend. The last row is looked at first, since rows that come in order all stand
+// behind it.
+fn place_among(rows: &[KeptRow], key: &RowKey) -> usize
+    requires { rows_ascend rows.now ≡ true }
+    ensures bound { result ≤ length rows.now }
+    ensures place { IsPlace (λ row. row.key) row_keys key.now rows.now result }
+{
+    match rows.last() {
+        Some(last) if last.compare(key).is_lt() => rows.len(),
+        _ => place_of(rows, key),
     }
 }
 

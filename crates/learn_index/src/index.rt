@@ -147,8 +147,9 @@ impl Index {
         }
     }
 
-    /// Gives a key this row in a book, which gets this count.
-    pub fn put(&mut self, alloc: Global, book: u16, count: u64, row: Row) -> Result<(), Memory>
+    /// Gives a key this row in a book, which gets this count. Finds its place at once where that is behind all rows of
+    /// the book.
+    pub fn put(&mut self, alloc: Global, book: u16, count: u64, row: KeptRow) -> Result<(), Memory>
         requires count { count_of self.old.state book ≤ count }
         requires row { fits_count count row ≡ true }
         ensures ok { OnOk result (self.new.state ≡ state_with self.old.state book count row.key (Some row)) }
@@ -156,7 +157,6 @@ impl Index {
     {
         // A field that is read tells that the state is valid.
         let _valid = self.rows;
-        let row = KeptRow::new(alloc, row)?;
         self.make_room(alloc, book)?;
         self.set_row(book, count, row);
         Ok(())

@@ -9,8 +9,7 @@ use crate::form::Form;
 use crate::laws::files_are_recovered_in_one_way;
 use crate::payload::read_form;
 use crate::row_place::RowPlace;
-use learn_index::Index;
-use skk_calls::Row;
+use learn_index::{Index, KeptRow};
 use skk_text::{Copies, Memory};
 use std::alloc::Global;
 use std::collections::{BTreeMap, HashMap};
@@ -20,7 +19,7 @@ use std::collections::{BTreeMap, HashMap};
 #[derive(Drop)]
 pub(crate) struct Gathered {
     counts: BTreeMap<u16, u64>,
-    rows: HashMap<RowPlace, Row>,
+    rows: HashMap<RowPlace, KeptRow>,
 }
 
 impl Gathered {
@@ -61,6 +60,7 @@ impl Gathered {
         match form {
             Form::Put { book, row, .. } => {
                 let key = row.key().copy(alloc)?;
+                let row = KeptRow::new(alloc, row)?;
                 let _row = self.rows.insert(RowPlace { book, key }, row)?;
             }
             Form::Drop { book, key, .. } => {
@@ -93,7 +93,10 @@ fn count_in(counts: &BTreeMap<u16, u64>, book: u16) -> u64
 }
 
 // The rows in the order of their places, which are sorted once.
-fn in_order(alloc: Global, rows: HashMap<RowPlace, Row>) -> Result<BTreeMap<RowPlace, Row>, Memory>
+fn in_order(
+    alloc: Global,
+    rows: HashMap<RowPlace, KeptRow>,
+) -> Result<BTreeMap<RowPlace, KeptRow>, Memory>
     ensures { IfOk result (λ ordered. (place : place_value) → row_in_order ordered place ≡ row_among rows place) }
 {
     Ok(rows.into_iter().collect(alloc)?)
@@ -104,7 +107,7 @@ fn in_order(alloc: Global, rows: HashMap<RowPlace, Row>) -> Result<BTreeMap<RowP
 fn index_of(
     alloc: Global,
     counts: &BTreeMap<u16, u64>,
-    mut rows: BTreeMap<RowPlace, Row>,
+    mut rows: BTreeMap<RowPlace, KeptRow>,
 ) -> Result<Index, Memory>
     requires { (state : State) × AreOf state counts.now (row_in_order rows) }
     ensures { IfOk result (λ index. (state : State) → AreOf state counts.now (row_in_order rows)

@@ -11,7 +11,7 @@ ghost use Rattle.learned_store.specs.Reading.{row_bytes};
 
 use crate::form::{DROP, Form, PUT, SET_COUNT};
 use dict_format::{good_rows_are_read_again, lines_spell_one_row, print_line, row_of_line};
-use skk_calls::{Part, Row, RowKey};
+use skk_calls::{Cands, Part, Row, RowKey};
 use skk_text::{Copies, Memory, Text};
 use std::alloc::Global;
 use std::str;
@@ -176,7 +176,7 @@ fn row_of(alloc: Global, part: Part, line: &Text, stamp: u64) -> Result<Option<R
     };
     let is_own = is_line_of(alloc, &row, line)?;
     if is_own {
-        Ok(Some(stamped(alloc, &row, stamp)?))
+        Ok(Some(stamped(alloc, row, stamp)?))
     } else {
         Ok(None)
     }
@@ -190,17 +190,25 @@ fn is_line_of(alloc: Global, row: &Row, line: &Text) -> Result<bool, Memory>
     Ok(printed.as_str() == line.as_str())
 }
 
-// A copy of a row with this stamp.
-fn stamped(alloc: Global, row: &Row, stamp: u64) -> Result<Row, Memory>
-    ensures { IfOk result (λ copy. copy ≡ record row.now { stamp = stamp }) }
+// A row with this stamp: its candidates are moved, and the rest, which mostly is small, is copied.
+fn stamped(alloc: Global, row: Row, stamp: u64) -> Result<Row, Memory>
+    ensures { IfOk result (λ stamped. stamped ≡ record row { stamp = stamp }) }
 {
-    Ok(Row::new(
-        row.key().copy(alloc)?,
-        row.cands().copy(alloc)?,
-        row.blocks().copy(alloc)?,
-        row.hides().copy(alloc)?,
-        stamp,
-    ))
+    let key = row.key().copy(alloc)?;
+    let blocks = row.blocks().copy(alloc)?;
+    let hides = row.hides().copy(alloc)?;
+    let cands = fitted(alloc, row.into_cands())?;
+    Ok(Row::new(key, cands, blocks, hides, stamp))
+}
+
+// Candidates in no more memory than they need.
+fn fitted(alloc: Global, cands: Cands) -> Result<Cands, Memory>
+    ensures { IfOk result (λ fitted. fitted ≡ cands) }
+{
+    let mut items = cands.into_vec();
+    let mut fitted = Vec::with_capacity(alloc, items.len())?;
+    fitted.append(&mut items)?;
+    Ok(Cands::of(fitted))
 }
 
 // A part and a text in it.

@@ -15,8 +15,8 @@ returns-in_default c =
     no_line_row c.args.part c.args.line.now c.args.stamp
     (lines_are_read c.good_rows_are_read_again.ensures c.lines_spell_one_row.ensures.read) read
 
-pub returns-then-is_own : goal.returns-then-is_own
-returns-then-is_own c =
+pub returns-in_ok-stamped : goal.returns-in_ok-stamped
+returns-in_ok-stamped c =
     let part = c.args.part in
     let line = c.args.line.now in
     let row = c.in-Some.row in
@@ -31,8 +31,8 @@ returns-then-is_own c =
     (line_row part line c.args.stamp row spells (laws.valid part line row spells)
     (laws.key part line row spells).part_is own)
 
-pub returns : goal.returns
-returns c =
+pub returns-else-is_own : goal.returns-else-is_own
+returns-else-is_own c =
     let part = c.args.part in
     let line = c.args.line.now in
     let row = c.in-Some.row in

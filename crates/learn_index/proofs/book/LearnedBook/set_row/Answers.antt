@@ -8,19 +8,19 @@ pub returns-then-has_key_at-clause-rows : goal.returns-then-has_key_at-clause-ro
 returns-then-has_key_at-clause-rows c =
     let row = c.args.row in
     let own : c.key-key.result.now ≡ row.key = c.key-key.ensures.value ∙ ap (λ (r : Row). r.key) c.row.ensures.value in
-    let point = rw (c.deref.ensures.value, own) at c.place_of-place.ensures.place in
+    let point = rw (c.deref.ensures.value, own) at c.place_among-place.ensures.place in
     let there = rw (c.deref-2.ensures.value, own) at (sym c.has_key_at.ensures ∙ c.if-has_key_at.true) in
-    sym (put_set (λ (r : Row). r.key) row_keys row c.args.self.now.rows.items c.place_of-place.result c.requires.ascend
-    point there)
+    sym (put_set (λ (r : Row). r.key) row_keys row c.args.self.now.rows.items c.place_among-place.result
+    c.requires.ascend point there)
 
 pub returns-else-has_key_at-clause-rows : goal.returns-else-has_key_at-clause-rows
 returns-else-has_key_at-clause-rows c =
     let row = c.args.row in
     let own : c.key-key.result.now ≡ row.key = c.key-key.ensures.value ∙ ap (λ (r : Row). r.key) c.row.ensures.value in
-    let bound = rw c.deref.ensures.value at c.place_of-place.ensures.bound in
-    let point = rw (c.deref.ensures.value, own) at c.place_of-place.ensures.place in
+    let bound = rw c.deref.ensures.value at c.place_among-place.ensures.bound in
+    let point = rw (c.deref.ensures.value, own) at c.place_among-place.ensures.place in
     let missing = rw (c.deref-2.ensures.value, own) at (sym c.has_key_at.ensures ∙ c.if-has_key_at.false) in
     let fits = c.insert-fits.ensures.succeeds c.requires.room in
     rw (c.insert-fits.ensures.items, fits)
-    (sym (put_insert (λ (r : Row). r.key) row_keys row c.args.self.now.rows.items c.place_of-place.result bound
+    (sym (put_insert (λ (r : Row). r.key) row_keys row c.args.self.now.rows.items c.place_among-place.result bound
     c.requires.ascend point missing))
