@@ -2,8 +2,9 @@ ghost use Rattle.std.specs.Prelude.{◌≡◌, ◌∷◌, ◌^◌, ◌<◌, [], 
 ghost use Rattle.skk_outside.specs.Memory.{names_differ};
 
 use skk_outside::{
-    Failed, HostShelf, MemShelf, MemSink, MemSource, PIECE, ReadFault, ReaderSource, Shelf, Sink,
-    Source, WriterSink, read_named_file, read_to_end, write_all,
+    Failed, Gate, HostShelf, Link, Listener, MemLink, MemListener, MemShelf, MemSink, MemSource,
+    Open, PIECE, ReadFault, ReaderSource, Shelf, Sink, Source, WriterSink, read_named_file,
+    read_to_end, write_all,
 };
 use skk_text::{Bytes, Memory, Text};
 use std::alloc::{AllocError, Global};
@@ -38,6 +39,45 @@ fn a_sink_in_memory_writes_but_at_calls_that_fail(rt: HostRuntime) -> Result<(),
     assert_eq!(rt; sink.flush(), Err(Failed));
     assert_eq!(rt; write_all(&mut sink, b"zw"), Ok(()));
     assert_eq!(rt; sink.written(), b"xyzw".as_slice());
+    Ok(())
+}
+
+// A link of one piece, whose third call fails.
+fn link(alloc: Global) -> Result<MemLink, AllocError> {
+    let mut pieces = Vec::new(alloc);
+    pieces.push(Bytes::of(b"xy".to_vec(alloc)?))?;
+    Ok(MemLink::new(alloc, pieces, vec![in alloc; 3]?))
+}
+
+#[test]
+fn a_link_in_memory_is_read_and_written(rt: HostRuntime) -> Result<(), Fail> {
+    let mut link = link(rt.alloc())?;
+    let mut into = [0; 2];
+    assert_eq!(rt; link.read(&mut into), Ok(2));
+    assert_eq!(rt; into, *b"xy");
+    assert_eq!(rt; link.write(b"zw"), Ok(2));
+    assert_eq!(rt; link.flush(), Err(Failed));
+    assert_eq!(rt; link.read(&mut into), Ok(0));
+    assert_eq!(rt; link.is_closed(), false);
+    link.close();
+    assert_eq!(rt; link.is_closed(), true);
+    assert_eq!(rt; link.written(), b"zw".as_slice());
+    Ok(())
+}
+
+#[test]
+fn a_listener_in_memory_gives_its_links_and_takes_them_back(rt: HostRuntime) -> Result<(), Fail> {
+    let mut coming = Vec::new(rt.alloc());
+    coming.push(link(rt.alloc())?)?;
+    let mut net = MemListener::new(rt.alloc(), coming, vec![in rt.alloc(); 2]?);
+    assert_eq!(rt; net.open(1178), Ok(()));
+    assert_eq!(rt; net.accept().err(), Some(Failed));
+    if let Some(link) = net.accept()? {
+        net.done(link);
+    }
+    assert_eq!(rt; net.over().len(), 1);
+    assert_eq!(rt; net.accept().map(|link| link.is_none()), Ok(true));
+    Open.at(0, 0);
     Ok(())
 }
 

@@ -145,11 +145,11 @@ struct OneByOne(MemSink);
 
 impl Outside for OneByOne {
     ghost faults = { λ s. s.0.count.faults };
+
+    ghost written = { λ s. Some s.0.written };
 }
 
 impl Sink for OneByOne {
-    ghost written = { λ s. Some s.0.written };
-
     fn write(&mut self, from: &[u8]) -> Result<usize, Failed> {
         self.0.write(&from[..from.len().min(1)])
     }

@@ -2,6 +2,7 @@
 use Rattle.std.proofs.Common.{◌≡◌, ℕ, ◌^◌, ◌-◌, true, false, Option, None, Some, Result, Ok, Err, List, [], ◌∷◌, refl}
 use Rattle.std.proofs.Common.{map, codes, arith, lit≤, lit<}
 use Rattle.skk_text.specs.Counts.{one_more}
+use Rattle.skk_outside.specs.Listeners.{Accepts, out_after}
 use Rattle.skk_outside.specs.Memory.{CallCount, no_call_yet, after_success, after_failure, with_fault, bytes_of_pieces}
 use Rattle.skk_outside.specs.Memory.{first_nonempty_piece, without_first_bytes, names_differ, file_named}
 use Rattle.skk_outside.specs.Moved.{moved_source, moved_sink, moved_shelf}
@@ -96,6 +97,41 @@ reads = (
   λ is. let first = is.0 in cc,
   λ is. omega (arith, is.1 refl (lit< tt)),
 )
+
+-- what a call of a listener that accepts may leave: the first link comes and the rest is left, none comes only where
+-- none is left, and never from a listener that does not tell, and a call that fails leaves all
+abbrev Leaves : Option (List ℕ) → Option (List ℕ) → Result (Option ℕ) ℕ → Type 0
+Leaves coming coming' result = Accepts coming coming' result
+
+accepts : Leaves (Some (7 ∷ 8 ∷ [])) (Some (8 ∷ [])) (Ok (Some 7)) × Leaves (Some []) (Some []) (Ok None)
+    × Leaves None None (Ok (Some 7)) × Leaves (Some (7 ∷ [])) (Some (7 ∷ [])) (Err 1) × Leaves None None (Err 1)
+    × (¬ Leaves (Some (7 ∷ 8 ∷ [])) (Some (8 ∷ [])) (Ok (Some 8)))
+    × (¬ Leaves (Some (7 ∷ 8 ∷ [])) (Some (7 ∷ 8 ∷ [])) (Ok (Some 7)))
+    × (¬ Leaves (Some (7 ∷ [])) (Some (7 ∷ [])) (Ok None)) × (¬ Leaves (Some []) (Some []) (Ok (Some 7)))
+    × (¬ Leaves (Some []) None (Ok None)) × (¬ Leaves None None (Ok None))
+    × (¬ Leaves None (Some []) (Ok (Some 7))) × (¬ Leaves (Some (7 ∷ [])) (Some []) (Err 1))
+accepts = (
+  (refl, refl),
+  refl,
+  refl,
+  refl,
+  refl,
+  λ is. let first = is.0 in cc,
+  λ is. let rest = is.1 in cc,
+  λ is. is,
+  λ is. is,
+  λ is. cc,
+  λ is. is,
+  λ is. cc,
+  λ is. cc,
+)
+
+-- one link more is out where one came
+abbrev results : List (Result (Option ℕ) ℕ)
+results = Ok (Some 7) ∷ Ok None ∷ Err 1 ∷ []
+
+out : map (out_after 3) results ≡ 4 ∷ 3 ∷ 3 ∷ []
+out = refl
 
 -- things whose states are numbers, which hold their own number and have one fault less: before and after
 source_moved : moved_source (λ s. Some (s ∷ [])) (λ s. s - 1) 7 9

@@ -1,4 +1,4 @@
 mod Examples
 mod KnownBytes
-mod Pieces
+mod PiecesLeft
 mod Shelves

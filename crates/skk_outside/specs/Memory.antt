@@ -21,6 +21,21 @@ pub record SinkState : Type 0 where
   pub written : List ℕ
   pub count : CallCount
 
+-- what a link in memory has left, piece by piece, what it was written, whether it was closed, and its calls so far
+pub record LinkState : Type 0 where
+  pub pieces : List (List ℕ)
+  pub written : List ℕ
+  pub closed : Bool
+  pub count : CallCount
+
+-- the links that are still to come to a listener in memory, those that were taken back, how many are out, and its calls
+-- so far
+pub record ListenerState : Type 0 where
+  pub coming : List LinkState
+  pub over : List LinkState
+  pub out : ℕ
+  pub count : CallCount
+
 -- what a shelf in memory has, each file with its name and its bytes, and its calls so far
 pub record ShelfState : Type 0 where
   pub files : List (List ℕ × List ℕ)

@@ -48,11 +48,11 @@ impl MemSink {
 
 impl Outside for MemSink {
     ghost faults = { λ s. s.count.faults };
+
+    ghost written = { λ s. Some s.written };
 }
 
 impl Sink for MemSink {
-    ghost written = { λ s. Some s.written };
-
     /// Writes all of `from`. Fails also where it is out of memory.
     fn write(&mut self, from: &[u8]) -> Result<usize, Failed>
         ensures bound { WritesAtMost result from.now }

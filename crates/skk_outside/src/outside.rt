@@ -1,4 +1,4 @@
-ghost use Rattle.std.specs.Prelude.{ℕ};
+ghost use Rattle.std.specs.Prelude.{ℕ, List, Option, None};
 
 use thiserror::Error;
 
@@ -11,4 +11,10 @@ pub struct Failed;
 pub trait Outside {
     /// How many of its calls failed, up to 2^64 - 1. It never falls.
     ghost faults: { Self → ℕ };
+
+    /// The bytes that are still to come from it, where it is a source and tells them.
+    ghost left: { Self → Option (List ℕ) } = { λ _. None };
+
+    /// The bytes that were written to it, where it is a sink and tells them.
+    ghost written: { Self → Option (List ℕ) } = { λ _. None };
 }

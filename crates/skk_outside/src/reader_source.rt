@@ -19,7 +19,7 @@ pub struct ReaderSource<R> {
 impl<R: Read> ReaderSource<R> {
     /// A source of what the reader gives.
     pub fn new(reader: R) -> ReaderSource<R>
-        ensures left { ⟦<ReaderSource<R> as Source>⟧.left result ≡ R.remaining reader }
+        ensures left { ⟦<ReaderSource<R> as Outside>⟧.left result ≡ R.remaining reader }
         ensures faults { ⟦<ReaderSource<R> as Outside>⟧.faults result ≡ 0 }
     {
         ReaderSource {
@@ -31,16 +31,16 @@ impl<R: Read> ReaderSource<R> {
 
 impl<R: Read> Outside for ReaderSource<R> {
     ghost faults = { λ s. s.faults };
+
+    ghost left = { λ s. R.remaining s.reader };
 }
 
 impl<R: Read> Source for ReaderSource<R> {
-    ghost left = { λ s. R.remaining s.reader };
-
     /// A read that goes well leaves the count of faults, and one that fails raises it by one.
     fn read(&mut self, into: &mut [u8]) -> Result<usize, Failed>
         ensures bound { ReadsAtMost result into.new }
-        ensures bytes { ReadConsumes (⟦<ReaderSource<R> as Source>⟧.left self.old)
-            (⟦<ReaderSource<R> as Source>⟧.left self.new) result into.new }
+        ensures bytes { ReadConsumes (⟦<ReaderSource<R> as Outside>⟧.left self.old)
+            (⟦<ReaderSource<R> as Outside>⟧.left self.new) result into.new }
         ensures failed { OnErr result
             (Rose (⟦<ReaderSource<R> as Outside>⟧.faults self.old) (⟦<ReaderSource<R> as Outside>⟧.faults self.new)) }
         ensures counted { ⟦<ReaderSource<R> as Outside>⟧.faults self.old

@@ -12,14 +12,12 @@ use thiserror::Error;
 
 /// Where bytes come from.
 pub trait Source: Outside {
-    /// The bytes that are still to come, where the source tells them.
-    ghost left: { Self → Option (List ℕ) };
-
     /// Reads the next bytes into the head of `into`, and answers how many: 0 only at the end of the
     /// input, or where `into` has no room. A read that fails takes none, and may be tried again.
     fn read(&mut self, into: &mut [u8]) -> Result<usize, Failed>
         ensures bound { ReadsAtMost result into.new }
-        ensures bytes { ReadConsumes (left self.old) (left self.new) result into.new }
+        ensures bytes { ReadConsumes (Self.left self.old) (Self.left self.new) result into.new }
+        ensures written { Self.written self.new ≡ Self.written self.old }
         ensures failed { OnErr result (Rose (Self.faults self.old) (Self.faults self.new)) }
         ensures counted { Self.faults self.old ≤ Self.faults self.new };
 }

@@ -19,7 +19,7 @@ pub struct WriterSink<W> {
 impl<W: Write> WriterSink<W> {
     /// A sink that writes to the writer.
     pub fn new(writer: W) -> WriterSink<W>
-        ensures written { ⟦<WriterSink<W> as Sink>⟧.written result ≡ W.contents writer }
+        ensures written { ⟦<WriterSink<W> as Outside>⟧.written result ≡ W.contents writer }
         ensures faults { ⟦<WriterSink<W> as Outside>⟧.faults result ≡ 0 }
     {
         WriterSink {
@@ -31,18 +31,18 @@ impl<W: Write> WriterSink<W> {
 
 impl<W: Write> Outside for WriterSink<W> {
     ghost faults = { λ s. s.faults };
+
+    ghost written = { λ s. W.contents s.writer };
 }
 
 impl<W: Write> Sink for WriterSink<W> {
-    ghost written = { λ s. W.contents s.writer };
-
     /// A write of 0 bytes of some is a fault. A write that goes well leaves the count of faults, and one
     /// that fails raises it by one.
     fn write(&mut self, from: &[u8]) -> Result<usize, Failed>
         ensures bound { WritesAtMost result from.now }
         ensures progress { 0 < length from.now → IfOk result (λ n. 1 ≤ n) }
-        ensures bytes { WriteAppends (⟦<WriterSink<W> as Sink>⟧.written self.old)
-            (⟦<WriterSink<W> as Sink>⟧.written self.new) result from.now }
+        ensures bytes { WriteAppends (⟦<WriterSink<W> as Outside>⟧.written self.old)
+            (⟦<WriterSink<W> as Outside>⟧.written self.new) result from.now }
         ensures failed { OnErr result
             (Rose (⟦<WriterSink<W> as Outside>⟧.faults self.old) (⟦<WriterSink<W> as Outside>⟧.faults self.new)) }
         ensures counted { ⟦<WriterSink<W> as Outside>⟧.faults self.old ≤ ⟦<WriterSink<W> as Outside>⟧.faults self.new }
@@ -59,8 +59,8 @@ impl<W: Write> Sink for WriterSink<W> {
 
     /// A flush that goes well leaves the count of faults, and one that fails raises it by one.
     fn flush(&mut self) -> Result<(), Failed>
-        ensures bytes { Keeps (⟦<WriterSink<W> as Sink>⟧.written self.old)
-            (⟦<WriterSink<W> as Sink>⟧.written self.new) }
+        ensures bytes { Keeps (⟦<WriterSink<W> as Outside>⟧.written self.old)
+            (⟦<WriterSink<W> as Outside>⟧.written self.new) }
         ensures failed { OnErr result
             (Rose (⟦<WriterSink<W> as Outside>⟧.faults self.old) (⟦<WriterSink<W> as Outside>⟧.faults self.new)) }
         ensures counted { ⟦<WriterSink<W> as Outside>⟧.faults self.old ≤ ⟦<WriterSink<W> as Outside>⟧.faults self.new }

@@ -1,4 +1,4 @@
-use Rattle.std.proofs.Common.{arith}
+use Rattle.std.proofs.Common.{arith, ◌∙◌}
 use Rattle.skk_outside.proofs.KnownBytes.{Appends-more, AppendsPrefix-kept, OnErr-known}
 use Rattle.skk_outside.proofs.sink.write_all.Goals as goal
 
@@ -14,5 +14,6 @@ loop-preserved g c = record {
   written =
       Appends-more _ _ _ c.loop.done c.in_ok-done.field-0 c.args.bytes.now c.loop.invariant.written
       c.in_ok-done.ensures.bytes;
+  left = c.in_ok-done.ensures.left ∙ c.loop.invariant.left;
   counted = omega (arith, c.loop.invariant.counted, c.in_ok-done.ensures.counted);
 }

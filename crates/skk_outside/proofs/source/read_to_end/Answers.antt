@@ -8,7 +8,7 @@ use Rattle.skk_outside.proofs.source.read_to_end.Goals as goal
 pub loop-preserved : goal.loop-preserved
 loop-preserved g c =
     let more = c.in_ok-read_piece.ensures.ok in
-    let left = g.S.Source.left in
+    let left = g.S.Outside.left in
     let bytes = c.loop.bytes.items in
     record {
       progress = omega (

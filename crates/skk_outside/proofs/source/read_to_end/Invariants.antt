@@ -8,7 +8,7 @@ abbrev pub invariant-loop : goal.invariant-loop
 invariant-loop g l = record {
   progress : l.counter ≤ vec_len l.bytes;
   fits : vec_len l.bytes ≤ l.limit;
-  taken : Consumes (g.S.Source.left l.fn.source) (g.S.Source.left l.source) l.bytes.items;
+  taken : Consumes (g.S.Outside.left l.fn.source) (g.S.Outside.left l.source) l.bytes.items;
   counted : g.S.Outside.faults l.fn.source ≤ g.S.Outside.faults l.source;
   room : vec_len l.piece ≡ PIECE;
 }

@@ -8,7 +8,7 @@ use Rattle.skk_top.proofs.checking.print_listed.Goals as goal
 
 pub returns-in_err-flush : goal.returns-in_err-flush
 returns-in_err-flush g c =
-    let out = moved_sink g.O.Sink.written g.O.Outside.faults c.args.out.now c.flush.new.self in
+    let out = moved_sink g.O.Outside.written g.O.Outside.faults c.args.out.now c.flush.new.self in
     printed-fault (checked c.args.listed.now) c.from_residual-in_err-flush.result Outside out
     c.from_residual-in_err-flush.ensures.1
     (AppendsPrefix-whole _ _ _

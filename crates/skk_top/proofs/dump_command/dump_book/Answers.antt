@@ -21,7 +21,7 @@ pub returns-in-Ok-open-clause-leaves : goal.returns-in-Ok-open-clause-leaves
 returns-in-Ok-open-clause-leaves g c =
     let D = g.D.Disk in
     let store = c.in-Ok-open.store in
-    let out = moved_sink g.O.Sink.written g.O.Outside.faults c.args.out.now c.print_book-ended.new.out in
+    let out = moved_sink g.O.Outside.written g.O.Outside.faults c.args.out.now c.print_book-ended.new.out in
     let files : store.files ≡ [] = c.in-Ok-open.ensures.files ∙ c.in-Ok.ensures ∙ c.new.ensures in
     subst (λ (r : Run g.row.D.Denot). LeavesDumped c.args.options.now r out
     (moved_disk D.tells D.seen D.time g.D.Outside.faults D.left_since c.args.disk r.disk))
@@ -52,7 +52,7 @@ returns-in-Ok-open-clause-stands g c =
 pub returns-in-Err-clause-leaves : goal.returns-in-Err-clause-leaves
 returns-in-Err-clause-leaves g c =
     let D = g.D.Disk in
-    let out = moved_sink g.O.Sink.written g.O.Outside.faults c.args.out.now c.args.out.now in
+    let out = moved_sink g.O.Outside.written g.O.Outside.faults c.args.out.now c.args.out.now in
     subst (λ (r : Run g.row.D.Denot). LeavesDumped c.args.options.now r out
     (moved_disk D.tells D.seen D.time g.D.Outside.faults D.left_since c.args.disk r.disk))
     (sym (c.without_calls-in-Err.ensures))

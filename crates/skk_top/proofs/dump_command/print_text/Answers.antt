@@ -8,13 +8,13 @@ use Rattle.skk_top.proofs.dump_command.print_text.Goals as goal
 pub returns-in_err-print : goal.returns-in_err-print
 returns-in_err-print g c =
     printed-fault (encode_utf8_all c.args.text.now) c.from_residual.result Outside
-    (moved_sink g.O.Sink.written g.O.Outside.faults c.args.out.now c.print.new.out)
+    (moved_sink g.O.Outside.written g.O.Outside.faults c.args.out.now c.print.new.out)
     c.from_residual.ensures.1 c.in_err-print.ensures.prefix c.in_err-print.ensures.failed
     c.in_err-print.ensures.counted
 
 pub returns-in_err-flush : goal.returns-in_err-flush
 returns-in_err-flush g c =
-    let out = moved_sink g.O.Sink.written g.O.Outside.faults c.args.out.now c.flush.new.self in
+    let out = moved_sink g.O.Outside.written g.O.Outside.faults c.args.out.now c.flush.new.self in
     printed-fault (encode_utf8_all c.args.text.now) c.from_residual-in_err-flush.result Outside out
     c.from_residual-in_err-flush.ensures.1
     (AppendsPrefix-whole _ _ _

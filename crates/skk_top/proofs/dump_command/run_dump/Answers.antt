@@ -19,7 +19,7 @@ returns-in_default-clause-stands g c =
 pub returns-in_default-dump_options-clause-leaves : goal.returns-in_default-dump_options-clause-leaves
 returns-in_default-dump_options-clause-leaves g c =
     let D = g.D.Disk in
-    let out = moved_sink g.O.Sink.written g.O.Outside.faults c.args.out.now c.args.out.now in
+    let out = moved_sink g.O.Outside.written g.O.Outside.faults c.args.out.now c.args.out.now in
     IfSome-all (book_to_dump c.args.words.now) _ (λ options.
     subst (λ (r : Run g.row.D.Denot). LeavesDumped options r out
     (moved_disk D.tells D.seen D.time g.D.Outside.faults D.left_since c.args.disk r.disk))

@@ -15,8 +15,8 @@ use Rattle.skk_top.proofs.run.run_alone.Goals as goal
 pub returns-clause-types : goal.returns-clause-types
 returns-clause-types g c =
     let shelf = moved_shelf g.H.Shelf.file g.H.Outside.faults c.args.shelf.now c.run_type.new.shelf in
-    let input = moved_source g.I.Source.left g.I.Outside.faults c.args.input.now c.run_type.new.input in
-    let out = moved_sink g.O.Sink.written g.O.Outside.faults c.args.out.now c.run_type.new.out in
+    let input = moved_source g.I.Outside.left g.I.Outside.faults c.args.input.now c.run_type.new.input in
+    let out = moved_sink g.O.Outside.written g.O.Outside.faults c.args.out.now c.run_type.new.out in
     let disk =
     moved_disk g.D.Disk.tells g.D.Disk.seen g.D.Disk.time g.D.Outside.faults g.D.Disk.left_since c.args.disk
     c.end_run-2.result.disk in
@@ -31,8 +31,8 @@ pub returns-clause-outside : goal.returns-clause-outside
 returns-clause-outside g c is =
     let D = g.D.Disk in
     let shelf = moved_shelf g.H.Shelf.file g.H.Outside.faults c.args.shelf.now c.run_type.new.shelf in
-    let input = moved_source g.I.Source.left g.I.Outside.faults c.args.input.now c.run_type.new.input in
-    let out = moved_sink g.O.Sink.written g.O.Outside.faults c.args.out.now c.run_type.new.out in
+    let input = moved_source g.I.Outside.left g.I.Outside.faults c.args.input.now c.run_type.new.input in
+    let out = moved_sink g.O.Outside.written g.O.Outside.faults c.args.out.now c.run_type.new.out in
     let finish = c.end_run-2.ensures.finish in
     subst (λ (f : Finish g.row.D.Denot). HasFailed shelf input out
     (moved_disk D.tells D.seen D.time g.D.Outside.faults D.left_since c.args.disk f.disk)) (sym finish)
@@ -64,7 +64,7 @@ returns-in-Some-file_checked-clause-stands g c =
 pub returns-then-is_some-clause-dumps : goal.returns-then-is_some-clause-dumps
 returns-then-is_some-clause-dumps g c =
     let D = g.D.Disk in
-    let out = moved_sink g.O.Sink.written g.O.Outside.faults c.args.out.now c.run_dump.new.out in
+    let out = moved_sink g.O.Outside.written g.O.Outside.faults c.args.out.now c.run_dump.new.out in
     subst (λ (f : Finish g.row.D.Denot). IfSome (book_to_dump c.args.words.now) (λ options.
     LeavesDumped options (run_of f) out
     (moved_disk D.tells D.seen D.time g.D.Outside.faults D.left_since c.args.disk f.disk)))

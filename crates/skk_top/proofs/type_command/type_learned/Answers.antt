@@ -45,8 +45,8 @@ returns-clause-leaves g c =
     let D = g.D.Disk in
     let disk = moved_disk D.tells D.seen D.time g.D.Outside.faults D.left_since c.args.disk c.in-Err.unopened.disk in
     subst (λ (r : Run g.row.D.Denot). LeavesLearned c.args.limit c.args.table.system c.args.table.rules r
-    (moved_source g.I.Source.left g.I.Outside.faults c.args.input.now c.args.input.now)
-    (moved_sink g.O.Sink.written g.O.Outside.faults c.args.out.now c.args.out.now)
+    (moved_source g.I.Outside.left g.I.Outside.faults c.args.input.now c.args.input.now)
+    (moved_sink g.O.Outside.written g.O.Outside.faults c.args.out.now c.args.out.now)
     (moved_disk D.tells D.seen D.time g.D.Outside.faults D.left_since c.args.disk r.disk))
     (sym c.without_calls.ensures)
     (inl (

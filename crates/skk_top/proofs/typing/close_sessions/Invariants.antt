@@ -6,7 +6,7 @@ use Rattle.skk_top.proofs.typing.close_sessions.Given as goal
 -- what was written, the page, and the closing lines left are the page at the start and all closing lines
 abbrev pub invariant-loop-number : goal.invariant-loop-number
 invariant-loop-number g l = record {
-  printed : Printed (g.O.Sink.written l.fn.out) (g.O.Sink.written l.out) l.page (closing_lines l.number-iterator)
+  printed : Printed (g.O.Outside.written l.fn.out) (g.O.Outside.written l.out) l.page (closing_lines l.number-iterator)
       (l.fn.page ++ closing_lines l.sessions.entries);
   counted : g.O.Outside.faults l.fn.out ≤ g.O.Outside.faults l.out;
 }

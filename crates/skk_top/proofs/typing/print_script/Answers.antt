@@ -16,8 +16,8 @@ returns-in_err-close_sessions-clause-leaves g c =
     (breaks-unwritten _
     (reaches-closed c.args.rules.now c.type_lines.new.sessions.entries c.in_ok-type_lines.ensures.ok) _
     c.in_err-close_sessions.ensures.err)
-    (stops-behind fault (g.O.Sink.written c.args.out.now) (g.O.Sink.written c.type_lines.new.out)
-    (g.O.Sink.written c.close_sessions.new.out)
+    (stops-behind fault (g.O.Outside.written c.args.out.now) (g.O.Outside.written c.type_lines.new.out)
+    (g.O.Outside.written c.close_sessions.new.out)
     (g.O.Outside.faults c.args.out.now) (g.O.Outside.faults c.type_lines.new.out)
     (g.O.Outside.faults c.close_sessions.new.out) c.in_ok-type_lines.ensures.counted
     c.in_err-close_sessions.ensures.stopped)

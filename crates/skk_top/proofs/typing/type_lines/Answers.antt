@@ -14,7 +14,7 @@ loop-line-init g c = record {
       subst (λ (sessions : SessionMap). Reaches (typing c.args.rules.now [] c.args.lines.now)
       (typing c.args.rules.now sessions c.args.lines.now) (g.C.Caller.said c.args.caller.now)
       (g.C.Caller.said c.args.caller.now)
-      (moved_sink g.O.Sink.written g.O.Outside.faults c.args.out.now c.args.out.now) c.args.page.now)
+      (moved_sink g.O.Outside.written g.O.Outside.faults c.args.out.now c.args.out.now) c.args.page.now)
       (sym c.requires.none_there)
       (reaches-start (typing c.args.rules.now [] c.args.lines.now) _ c.args.page.now c.requires.empty);
   counted = omega arith;

@@ -9,6 +9,6 @@ abbrev pub invariant-loop-line : goal.invariant-loop-line
 invariant-loop-line g l = record {
   reached : Reaches (typing l.rules [] l.lines) (typing l.rules l.sessions.entries (drop l.line-index l.lines))
       (g.C.Caller.said l.fn.caller) (g.C.Caller.said l.caller)
-      (moved_sink g.O.Sink.written g.O.Outside.faults l.fn.out l.out) l.page;
+      (moved_sink g.O.Outside.written g.O.Outside.faults l.fn.out l.out) l.page;
   counted : g.O.Outside.faults l.fn.out ≤ g.O.Outside.faults l.out;
 }

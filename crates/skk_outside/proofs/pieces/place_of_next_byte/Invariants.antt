@@ -1,7 +1,7 @@
 use Rattle.std.proofs.Common.{◌≡◌, ◌≤◌, length, slice_index_or, []}
 use Rattle.skk_outside.specs.Memory.{bytes_of_pieces, first_nonempty_piece}
 use Rattle.skk_outside.specs.Pieces.{pieces_left}
-use Rattle.skk_outside.proofs.mem_source.place_of_next_byte.Given as goal
+use Rattle.skk_outside.proofs.pieces.place_of_next_byte.Given as goal
 
 -- only spent pieces are left behind
 abbrev pub invariant-loop-at : goal.invariant-loop-at

@@ -1,0 +1,46 @@
+ghost use Rattle.std.specs.Prelude.{◌≡◌, ◌<◌, ◌≤◌, ◌+◌, ℕ, List, [], ◌∷◌, ◌++◌, Option, option_map, OnErr};
+ghost use Rattle.skk_outside.specs.Faults.{Rose};
+ghost use Rattle.skk_outside.specs.Listeners.{Accepts, out_after};
+
+use crate::link::Link;
+use crate::outside::{Failed, Outside};
+
+/// Where connections come from, and go to when they were served.
+pub trait Listener: Outside {
+    /// A connection.
+    type Link: Link;
+
+    /// The links that are still to come, as they are before any use, where the listener tells them.
+    ghost coming: { Self → Option (List Self.Link) };
+
+    /// The links that were taken back, in order, where the listener tells them.
+    ghost over: { Self → Option (List Self.Link) };
+
+    /// How many links are out: they were accepted, and are not taken back yet.
+    ghost out: { Self → ℕ };
+
+    /// Listens on a port of loopback.
+    fn open(&mut self, port: u16) -> Result<(), Failed>
+        ensures coming { coming self.new ≡ coming self.old }
+        ensures over { over self.new ≡ over self.old }
+        ensures out { out self.new ≡ out self.old }
+        ensures failed { OnErr result (Rose (Self.faults self.old) (Self.faults self.new)) }
+        ensures counted { Self.faults self.old ≤ Self.faults self.new };
+
+    /// The next connection, for which it may wait, and none exactly where no more can come: a listener that does not
+    /// tell what is to come, as a real one, never gives none.
+    fn accept(&mut self) -> Result<Option<Self::Link>, Failed>
+        ensures coming { Accepts (coming self.old) (coming self.new) result }
+        ensures over { over self.new ≡ over self.old }
+        ensures out { out self.new ≡ out_after (out self.old) result }
+        ensures failed { OnErr result (Rose (Self.faults self.old) (Self.faults self.new)) }
+        ensures counted { Self.faults self.old ≤ Self.faults self.new };
+
+    /// Takes a connection back that was served. Can't fail.
+    fn done(&mut self, link: Self::Link)
+        requires { 0 < out self.old }
+        ensures out { out self.new + 1 ≡ out self.old }
+        ensures over { over self.new ≡ option_map (λ links. links ++ link ∷ []) (over self.old) }
+        ensures coming { coming self.new ≡ coming self.old }
+        ensures faults { Self.faults self.new ≡ Self.faults self.old };
+}
