@@ -1,8 +1,8 @@
 mod Changes
+mod Chronicles
 mod Examples
 mod Fields
 mod Gathering
-mod Histories
 mod Kept
 mod Moments
 mod Needs

@@ -26,7 +26,8 @@ use Rattle.learned_store.specs.Stores.{OpenStore, opening_now, Keeps, RecoversOn
 use Rattle.learned_store.specs.Stores.{DoubtAfter}
 use Rattle.learned_store.specs.Stands.{time_of, left_behind, RecoversBy, HasCause, IsOneOf, Stands, Counts}
 use Rattle.learned_store.specs.Stands.{opening_note}
-use Rattle.learned_store.proofs.Histories.{state-more, room-more, legal-more, history-more, begun-more, opened-more}
+use Rattle.skk_calls.specs.HistoryLaws.{state-more, room-more, legal-more, history-more}
+use Rattle.learned_store.proofs.Chronicles.{begun-more, opened-more}
 use Rattle.learned_store.proofs.Kept.{opened_now}
 use Rattle.learned_store.proofs.Moments.{goes_on-more, goes_on-start, other-more, stands_over-more}
 use Rattle.learned_store.proofs.Standing.{recovers-more, doubt-among, within-left, doubt-left}
@@ -126,7 +127,7 @@ module _ {D : Type 0} (time faults : D → ℕ) (left_since : D → ℕ → Imag
         begun = begun-more notes note refl stands.begun;
         legal = (
           opened-more notes note stands.begun ∙ stands.legal.0,
-          subst (IsLegal opening) (sym more) (legal-more opening history entry stands.legal.1 legal_here),
+          subst (IsLegal opening) (sym more) (legal-more LacksRoom opening history entry stands.legal.1 legal_here),
         );
         files = serves.files ∙ stands.files;
         limit = serves.limit ∙ stands.limit;

@@ -23,7 +23,7 @@ use Rattle.skk_calls.specs.States.{State}
 use Rattle.skk_disk.specs.Image.{Image}
 use Rattle.learned_store.specs.Stores.{RecoversOneOf, with_doubt, states_within, DoubtAfter}
 use Rattle.learned_store.specs.Stands.{left_behind, IsOneOf}
-use Rattle.learned_store.proofs.Histories.{state-more, doubt-more, history-more}
+use Rattle.skk_calls.specs.HistoryLaws.{state-more, doubt-more, history-more}
 
 -- one of fewer states is one of more
 pub recovers-more : (few many : List State) → ((state : State) → Contains few state → Contains many state)

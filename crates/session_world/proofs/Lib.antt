@@ -1,6 +1,5 @@
 mod Doubts
 mod Examples
-mod Histories
 mod Keeping
 mod Readings
 mod Seats

@@ -25,7 +25,7 @@ use Rattle.session_world.specs.declared.event.Event.{Event}
 use Rattle.session_world.specs.declared.event.Event.TheVariants as events
 use Rattle.session_world.specs.declared.seat.Seat.{Seat}
 use Rattle.session_world.specs.declared.seat.UnderWay.{UnderWay}
-use Rattle.session_world.proofs.Histories.{dialog-other, dialog-own, legal-more, state-more}
+use Rattle.skk_calls.specs.HistoryLaws.{dialog-other, dialog-own, legal-more, state-more}
 use Rattle.session_world.proofs.Seats.{played-answered, played-new, played-started}
 
 -- Lists

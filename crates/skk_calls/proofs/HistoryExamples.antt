@@ -14,8 +14,7 @@ use Rattle.skk_calls.specs.Chronicles.{is_chronicle, is_chronicle_or_none, noted
 use Rattle.skk_calls.specs.Dictionary.{answer}
 use Rattle.skk_calls.specs.Histories.{Entry, Opening, LacksRoom, IsLegalAnswer, IsLegal, after_entry, state_after}
 use Rattle.skk_calls.specs.Histories.{end_after, room, changes, after_calls, need, needs, dialog, in_doubt, states_left}
-use Rattle.skk_calls.specs.Openings.{fresh_opening, said_in, are_of_one, is_reply, are_served, is_reply_or_memory}
-use Rattle.skk_calls.specs.Openings.{is_without_disk}
+use Rattle.skk_calls.specs.Openings.{fresh_opening, said_in, are_of_one, is_reply, are_served}
 use Rattle.skk_calls.specs.Rows.{Row, Learned}
 use Rattle.skk_calls.specs.States.{State, empty_state}
 use Rattle.skk_calls.specs.Tallies.{Tally, empty_tally, tally_with, tally_of}
@@ -365,12 +364,6 @@ replies_told : Gives is_reply (
     ∷ [])
 replies_told = refl
 
-replies_or_memory : Gives is_reply_or_memory (
-    (found_kanji, true) ∷ (learned_kanji, true) ∷ (Refused Memory, true) ∷ (Refused Disk, false)
-    ∷ (Refused (JournalFull 18 49 64), false)
-    ∷ [])
-replies_or_memory = refl
-
 -- a refusal in a chronicle is seen behind its opening and behind other entries
 served : Gives are_served (
     (noted_opening ∷ [], true) ∷ (noted_opening ∷ noted_look_up ∷ [], true)
@@ -396,19 +389,6 @@ said : Gives2 said_in (
     ∷ (noted_opening ∷ noted_look_up ∷ [], 0, [])
     ∷ [])
 said = refl
-
--- without a disk nothing is refused but for want of memory, and neither the time nor the count of faults moves: the
--- entries of time 3 and no fault alone are so
-without_disk : Gives (is_without_disk (opening_of_limit 64)) (
-    (noted_opening ∷ [], true) ∷ (noted_opening ∷ noted_of 0 ∷ [], true)
-    ∷ (noted_opening ∷ Entered 0 lookup_kanji (Refused Memory) 3 0 ∷ [], true)
-    ∷ (noted_opening ∷ Entered 0 learn_kanji (Refused Disk) 3 0 ∷ [], false)
-    ∷ (noted_opening ∷ Entered 0 learn_kanji (Refused (JournalFull 18 49 64)) 3 0 ∷ [], false)
-    ∷ (noted_opening ∷ Entered 0 lookup_kanji found_kanji 4 0 ∷ [], false)
-    ∷ (noted_opening ∷ Entered 0 lookup_kanji found_kanji 3 1 ∷ [], false)
-    ∷ (Opened files first_state 61 64 4 0 ∷ [], false) ∷ (Opened files first_state 61 64 3 1 ∷ [], false)
-    ∷ [])
-without_disk = refl
 
 -- nothing is learnt before a fresh opening, and there is no disk
 fresh : fresh_opening files ≡ record { files = files; state = empty_state; end = 0; limit = 0; time = 0; faults = 0 }

@@ -5,6 +5,7 @@ pub mod Dictionary
 pub mod DifferLaws
 pub mod Found
 pub mod Histories
+pub mod HistoryLaws
 pub mod InteractionLaws
 pub mod Interactions
 pub mod KeyLaws

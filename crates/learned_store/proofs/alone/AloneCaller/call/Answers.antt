@@ -2,7 +2,7 @@ use Rattle.std.proofs.Common.{◌∙◌, ap, List, [], ◌∷◌, ◌++◌}
 use Rattle.skk_calls.specs.declared.chronicle.Noted.{Noted}
 use Rattle.skk_calls.specs.Openings.{are_of_one, said_in}
 use Rattle.learned_store.specs.Stands.{NotedStore}
-use Rattle.learned_store.proofs.Histories.{said-more, one-more}
+use Rattle.learned_store.proofs.Chronicles.{said-more, one-more}
 use Rattle.learned_store.proofs.alone.AloneCaller.call.Goals as goal
 
 pub invariant_of-self : goal.invariant_of-self

@@ -1,17 +1,13 @@
 -- What a history says with one entry more.
-use Rattle.std.proofs.Common.{◌≡◌, ◌⊎◌, inl, inr, ◌∙◌, ap, refl, subst, ℕ, true, List, [], ◌∷◌, ◌++◌, ◌&&◌, ◌==◌}
-use Rattle.std.proofs.lemmas.Bool.{and_from}
+use Rattle.std.proofs.Common.{◌≡◌, ◌⊎◌, inl, inr, ◌∙◌, ap, refl, subst, ℕ, true, false, ◌==◌, Some, None}
+use Rattle.std.proofs.Common.{List, [], ◌∷◌, ◌++◌, if◌then◌else◌}
+use Rattle.std.specs.List.{cons_option}
 use Rattle.std.proofs.lemmas.List.Elements.{filter_map-append}
-use Rattle.std.proofs.lemmas.List.Folds.{list_all-append}
-use Rattle.std.specs.List.{list_all}
-use Rattle.skk_calls.specs.declared.answer.Answer.{Answer}
 use Rattle.skk_calls.specs.declared.call.Call.{Call}
 use Rattle.skk_calls.specs.declared.chronicle.Noted.{Noted}
-use Rattle.skk_calls.specs.declared.chronicle.Noted.TheVariants.{Opened, Entered}
-use Rattle.skk_calls.specs.Chronicles.{noted_entry, is_entry, is_chronicle, opening_of, history_of}
-use Rattle.skk_calls.specs.Histories.{Entry, Opening, LacksRoom, IsLegalAnswer, IsLegal, after_entry, state_after}
+use Rattle.skk_calls.specs.Chronicles.{noted_entry, history_of}
+use Rattle.skk_calls.specs.Histories.{Entry, Opening, FullFile, IsLegalAnswer, IsLegalWhere, after_entry, state_after}
 use Rattle.skk_calls.specs.Histories.{end_after, room, in_doubt, in_doubt_after, said_by, dialog}
-use Rattle.skk_calls.specs.Openings.{are_of_one, said_in}
 use Rattle.skk_calls.specs.States.{State}
 
 -- the state after one entry more
@@ -33,6 +29,22 @@ pub doubt-more : (calls : List Call) (history : List Entry) (entry : Entry)
 doubt-more calls [] entry = refl
 doubt-more calls (first ∷ history) entry = doubt-more (in_doubt_after calls first.call first.answer) history entry
 
+-- the dialog of the caller of one entry more has it
+pub dialog-own : (history : List Entry) (entry : Entry) (number : ℕ) → (entry.number == number) ≡ true
+    → dialog (history ++ entry ∷ []) number ≡ dialog history number ++ (entry.call, entry.answer) ∷ []
+dialog-own history entry number own =
+    filter_map-append (said_by number) history (entry ∷ [])
+    ∙ ap (λ b. dialog history number
+    ++ cons_option (if b then Some (entry.call, entry.answer) else None) []) own
+
+-- and that of another caller stays
+pub dialog-other : (history : List Entry) (entry : Entry) (number : ℕ) → (entry.number == number) ≡ false
+    → dialog (history ++ entry ∷ []) number ≡ dialog history number ++ []
+dialog-other history entry number other =
+    filter_map-append (said_by number) history (entry ∷ [])
+    ∙ ap (λ b. dialog history number
+    ++ cons_option (if b then Some (entry.call, entry.answer) else None) []) other
+
 -- an entry of a history with one more stands in that history, or is the last
 split-last : (history : List Entry) (entry : Entry) (prefix : List Entry) (one : Entry) (rest : List Entry)
     → history ++ entry ∷ [] ≡ prefix ++ one ∷ rest
@@ -51,17 +63,18 @@ split-last (first ∷ history) entry (head ∷ prefix) one rest e =
     ]
 
 -- a legal history is legal with one entry more whose answer is legal behind it
-pub legal-more : (opening : Opening) (history : List Entry) (entry : Entry) → IsLegal opening history
-    → IsLegalAnswer LacksRoom opening (state_after opening.state history) (room opening.state opening.end history)
+pub legal-more : (Full : Opening → State → ℕ → Call → FullFile → Type 0) (opening : Opening) (history : List Entry)
+    (entry : Entry) → IsLegalWhere Full opening history
+    → IsLegalAnswer Full opening (state_after opening.state history) (room opening.state opening.end history)
     entry.call entry.answer
-    → IsLegal opening (history ++ entry ∷ [])
-legal-more opening history entry legal last prefix one rest e =
+    → IsLegalWhere Full opening (history ++ entry ∷ [])
+legal-more Full opening history entry legal last prefix one rest e =
     elim (split-last history entry prefix one rest e) [
       | inl within ↦ legal prefix one within.0 within.1
       | inr end ↦
-          subst (λ (h : List Entry). IsLegalAnswer LacksRoom opening (state_after opening.state h)
+          subst (λ (h : List Entry). IsLegalAnswer Full opening (state_after opening.state h)
           (room opening.state opening.end h) one.call one.answer) end.0
-          (subst (λ (x : Entry). IsLegalAnswer LacksRoom opening (state_after opening.state history)
+          (subst (λ (x : Entry). IsLegalAnswer Full opening (state_after opening.state history)
           (room opening.state opening.end history) x.call x.answer) end.1 last)
     ]
 
@@ -69,33 +82,3 @@ legal-more opening history entry legal last prefix one rest e =
 pub history-more : (notes : List Noted) (note : Noted)
     → history_of (notes ++ note ∷ []) ≡ history_of notes ++ history_of (note ∷ [])
 history-more notes note = filter_map-append noted_entry notes (note ∷ [])
-
--- a chronicle with one entry more is one, with the same opening
-pub begun-more : (notes : List Noted) (note : Noted) → is_entry note ≡ true → is_chronicle notes ≡ true
-    → is_chronicle (notes ++ note ∷ []) ≡ true
-begun-more [] note entry begun = absurd (cc)
-begun-more (Opened files state end limit time faults ∷ rest) note entry begun =
-    list_all-append is_entry rest (note ∷ [])
-    ∙ and_from (list_all is_entry rest) (is_entry note && true) begun (and_from (is_entry note) true entry refl)
-begun-more (Entered number call answer time faults ∷ rest) note entry begun = absurd (cc)
-
-pub opened-more : (notes : List Noted) (note : Noted) → is_chronicle notes ≡ true
-    → opening_of (notes ++ note ∷ []) ≡ opening_of notes
-opened-more [] note begun = absurd (cc)
-opened-more (first ∷ rest) note begun = refl
-
--- what the caller with the number 0 said, with one call more
-pub said-more : (notes : List Noted) (call : Call) (answer : Answer) (time faults : ℕ)
-    → said_in (notes ++ Entered 0 call answer time faults ∷ []) 0 ≡ said_in notes 0 ++ (call, answer) ∷ []
-said-more notes call answer time faults =
-    ap (λ history. dialog history 0) (history-more notes (Entered 0 call answer time faults))
-    ∙ filter_map-append (said_by 0) (history_of notes) (history_of (Entered 0 call answer time faults ∷ []))
-
--- and all is still said by that caller
-pub one-more : (notes : List Noted) (call : Call) (answer : Answer) (time faults : ℕ) → are_of_one notes ≡ true
-    → are_of_one (notes ++ Entered 0 call answer time faults ∷ []) ≡ true
-one-more notes call answer time faults one =
-    ap (list_all (λ entry. entry.number == 0)) (history-more notes (Entered 0 call answer time faults))
-    ∙ list_all-append (λ entry. entry.number == 0) (history_of notes)
-    (history_of (Entered 0 call answer time faults ∷ []))
-    ∙ and_from (list_all (λ entry. entry.number == 0) (history_of notes)) true one refl
