@@ -1,10 +1,7 @@
 -- What stands after a repair, with a record in doubt or without.
-use Rattle.std.proofs.Common.{◌≡◌, ℕ, List, [], ◌∷◌, false, Option, None, Some, ⊎_elim, sym, ◌∙◌, subst}
+use Rattle.std.proofs.Common.{◌≡◌, ℕ, List, [], ◌∷◌, false, Option, None, Some, sym, subst}
 use Rattle.skk_disk.specs.Image.{Image}
-use Rattle.skk_disk.specs.MomentLaws.{left_by_now}
-use Rattle.skk_disk.specs.Moments.{Passes, Earlier}
-use Rattle.skk_disk.specs.Steps.{ComeFrom}
-use Rattle.skk_journal.specs.Images.{Each, HoldsEither, SameOther}
+use Rattle.skk_journal.specs.Images.{Each, HoldsEither}
 use Rattle.skk_journal.specs.Journal.{OpenJournal, Rests, Doubts}
 use Rattle.learned_store.specs.Committed.{RestsOrDoubts, HoldsDoubted}
 
@@ -37,15 +34,3 @@ module _ {D : Type 0} (time : D → ℕ) (left_since : D → ℕ → Image → T
       subst (λ (j : OpenJournal D). Each (left_since j.disk (time old.disk)) (HoldsDoubted records None))
       (sym (calm rests.calm)) rests.images
   settling holds records (Some payload) doubts = holds records (payload ∷ []) doubts
-
--- one call and then another one that leave the second file
-pub other_on : (start mid end : ℕ) (first second third : ℕ → Image → Type 0) → Passes start mid first second
-    → Passes mid end second third → Earlier second → ComeFrom SameOther (first start) (second start)
-    → ComeFrom SameOther (second mid) (third mid) → ComeFrom SameOther (first start) (third start)
-other_on start mid end first second third one two earlier in_one in_two image left = ⊎_elim
-    (λ old. in_one image old)
-    (λ new.
-    let from = in_two image new in
-    let before = in_one from.0 (left_by_now start mid first second earlier one from.0 from.1) in
-    (before.0, before.1, from.2 ∙ before.2))
-    (two.goes_on start image one.later left)

@@ -3,7 +3,6 @@ mod FrameBytes
 mod Gates
 mod HeadsOf
 mod MakingAnew
-mod MomentsOn
 mod Parts
 mod Places
 mod ReadingOn

@@ -5,6 +5,7 @@ pub mod Heads
 pub mod Images
 pub mod Journal
 pub mod Making
+pub mod MomentLaws
 pub mod Opening
 pub mod OpeningLaws
 pub mod Reading

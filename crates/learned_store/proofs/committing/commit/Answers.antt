@@ -1,4 +1,4 @@
-use Rattle.learned_store.proofs.Settled.{other_on}
+use Rattle.skk_journal.specs.MomentLaws.{other_on}
 use Rattle.learned_store.proofs.committing.commit.Goals as goal
 
 pub returns-clause-other : goal.returns-clause-other

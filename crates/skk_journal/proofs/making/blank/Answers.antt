@@ -1,5 +1,5 @@
 use Rattle.skk_journal.specs.Making.{IsShort}
-use Rattle.skk_journal.proofs.MomentsOn.{as_before, other_on, each_on}
+use Rattle.skk_journal.specs.MomentLaws.{as_before, other_on, each_on}
 use Rattle.skk_journal.proofs.making.blank.Goals as goal
 
 pub returns-in_err-sync-clause-images : goal.returns-in_err-sync-clause-images

@@ -2,7 +2,7 @@ use Rattle.std.proofs.Common.{[]}
 use Rattle.skk_disk.specs.MomentLaws.{each_within}
 use Rattle.skk_journal.specs.Images.{Opens}
 use Rattle.skk_journal.proofs.MakingAnew.{head_torn, head_placed, own_gate_torn}
-use Rattle.skk_journal.proofs.MomentsOn.{in_first, other_on}
+use Rattle.skk_journal.specs.MomentLaws.{in_first, other_on}
 use Rattle.skk_journal.proofs.making.fill.Goals as goal
 
 pub returns-in_err-write_through-clause-images : goal.returns-in_err-write_through-clause-images

@@ -2,7 +2,7 @@ use Rattle.std.proofs.Common.{[]}
 use Rattle.skk_disk.specs.MomentLaws.{each_within}
 use Rattle.skk_journal.specs.Images.{Opens}
 use Rattle.skk_journal.proofs.MakingAnew.{short_opens}
-use Rattle.skk_journal.proofs.MomentsOn.{other_on}
+use Rattle.skk_journal.specs.MomentLaws.{other_on}
 use Rattle.skk_journal.proofs.making.make_anew.Goals as goal
 
 pub returns-in_err-blank-clause-images : goal.returns-in_err-blank-clause-images

@@ -1,6 +1,6 @@
 use Rattle.skk_journal.specs.Making.{IsShort}
 use Rattle.skk_journal.proofs.MakingAnew.{short_written, short_cut}
-use Rattle.skk_journal.proofs.MomentsOn.{in_first, kept_by, other_on, each_on}
+use Rattle.skk_journal.specs.MomentLaws.{in_first, kept_by, other_on, each_on}
 use Rattle.skk_journal.proofs.making.shorten.Goals as goal
 
 pub returns-in_err-cut-clause-images : goal.returns-in_err-cut-clause-images

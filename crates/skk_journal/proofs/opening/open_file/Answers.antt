@@ -3,7 +3,7 @@ use Rattle.skk_disk.specs.Image.{Image}
 use Rattle.skk_disk.specs.MomentLaws.{each_within, left_by_now}
 use Rattle.skk_journal.specs.Images.{Opens}
 use Rattle.skk_journal.proofs.MakingAnew.{opens_at_once}
-use Rattle.skk_journal.proofs.MomentsOn.{as_before, other_on}
+use Rattle.skk_journal.specs.MomentLaws.{as_before, other_on}
 use Rattle.skk_journal.proofs.opening.open_file.Goals as goal
 
 pub returns-clause-images : goal.returns-clause-images

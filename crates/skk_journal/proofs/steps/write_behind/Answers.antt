@@ -2,7 +2,7 @@ use Rattle.std.proofs.Common.{ℕ, List, length, subst}
 use Rattle.std.proofs.lemmas.Result.{on_ok_weaker}
 use Rattle.skk_disk.specs.Steps.{IsPlaced}
 use Rattle.skk_journal.proofs.Gates.{stage_torn, stage_placed}
-use Rattle.skk_journal.proofs.MomentsOn.{in_first}
+use Rattle.skk_journal.specs.MomentLaws.{in_first}
 use Rattle.skk_journal.proofs.steps.write_behind.Goals as goal
 
 pub returns-clause-images : goal.returns-clause-images

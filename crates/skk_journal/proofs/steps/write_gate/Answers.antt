@@ -1,6 +1,6 @@
 use Rattle.std.proofs.lemmas.Result.{on_ok_weaker}
 use Rattle.skk_journal.proofs.Gates.{gate_torn, gate_placed}
-use Rattle.skk_journal.proofs.MomentsOn.{in_first}
+use Rattle.skk_journal.specs.MomentLaws.{in_first}
 use Rattle.skk_journal.proofs.steps.write_gate.Goals as goal
 
 pub returns-clause-images : goal.returns-clause-images

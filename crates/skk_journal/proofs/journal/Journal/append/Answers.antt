@@ -3,7 +3,7 @@ use Rattle.skk_disk.specs.MomentLaws.{left_by_now}
 use Rattle.skk_journal.specs.Journal.{OpenJournal, Rests}
 use Rattle.skk_journal.specs.Records.{end_of}
 use Rattle.skk_journal.specs.RecordLaws.{behind_either, gated_open, end_of-push, need_is}
-use Rattle.skk_journal.proofs.MomentsOn.{other_on}
+use Rattle.skk_journal.specs.MomentLaws.{other_on}
 use Rattle.skk_journal.proofs.Results.{on_err}
 use Rattle.skk_journal.proofs.journal.Journal.append.Goals as goal
 
