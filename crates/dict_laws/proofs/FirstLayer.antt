@@ -10,7 +10,7 @@ use Rattle.skk_calls.specs.Found.{first_of_each, block_of, note_of, with_block_f
 use Rattle.skk_calls.specs.Found.{cands_of_layers, merged}
 use Rattle.skk_calls.specs.Rows.{Cand, Block, Row, same_text, has_text, texts_differ, words_of, is_block, is_row}
 use Rattle.skk_calls.specs.RowLaws.{row_parts, block_parts}
-use Rattle.dict_laws.proofs.Filtered.{map_filter}
+use Rattle.dict_laws.specs.Filtered.{map_filter}
 use Rattle.dict_laws.proofs.Texts.{differ_parts, differ_filter, differ-append}
 
 -- where nothing is hidden, every candidate is shown

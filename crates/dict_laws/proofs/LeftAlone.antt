@@ -10,7 +10,7 @@ use Rattle.skk_calls.specs.Learning.{learnt, purged, unlearnt, is_valid_learned}
 use Rattle.skk_calls.specs.Rows.{RowKey, Row, same_key, is_row_key}
 use Rattle.skk_calls.specs.States.{State, row_in, book_rows, book_count, row_at, count_of, state_with}
 use Rattle.dict_laws.specs.ChangedStates.{after_moved, before_has_key, has_key}
-use Rattle.dict_laws.proofs.OtherRows.{row_at_other_key, book_at_other}
+use Rattle.dict_laws.specs.OtherRows.{row_at_other_key, book_at_other}
 use Rattle.dict_laws.proofs.TakenBack.{after_unmoved}
 
 -- of two parts of a test that fails, the second fails where the first does not

@@ -1,5 +1,5 @@
+pub mod AnsweredAlone
 pub mod Counting
-pub mod Filtered
 pub mod FirstLayer
 pub mod GoingOn
 pub mod Keeping
@@ -9,11 +9,10 @@ pub mod LeftAlone
 pub mod LineLength
 pub mod Needs
 pub mod NextAbove
-pub mod OtherRows
+pub mod OwnBookExamples
 pub mod PurgedRows
 pub mod PurgesTold
 pub mod RowParts
 pub mod Seen
 pub mod TakenBack
 pub mod Texts
-pub mod TwoBooks

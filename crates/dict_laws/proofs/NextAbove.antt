@@ -7,7 +7,7 @@ use Rattle.skk_calls.specs.KeyLaws.{same_itself}
 use Rattle.skk_calls.specs.Orders.{text_less}
 use Rattle.skk_calls.specs.Rows.{same_text, has_text}
 use Rattle.skk_calls.specs.Walks.{texts_ascend, next_above, is_least_above}
-use Rattle.dict_laws.proofs.Filtered.{or_last}
+use Rattle.dict_laws.specs.Filtered.{or_last}
 
 -- where none is found, no text is greater
 pub none_above : (texts : List (List ℕ)) (low : List ℕ) → next_above texts low ≡ None

@@ -14,7 +14,7 @@ use Rattle.skk_calls.specs.Learning.{without_text, without_word, block_without, 
 use Rattle.skk_calls.specs.Learning.{row_or_empty}
 use Rattle.skk_calls.specs.Rows.{RowKey, Cand, Block, Row, same_text, has_text, texts_differ, is_row_key, is_word}
 use Rattle.skk_calls.specs.Rows.{is_cand, is_block, fits_blocks, words_of, okuri_of, is_row}
-use Rattle.dict_laws.proofs.Filtered.{or_last}
+use Rattle.dict_laws.specs.Filtered.{or_last}
 use Rattle.skk_calls.specs.RowLaws.{RowParts, row_from_parts, block_from_parts, block_parts}
 use Rattle.dict_laws.proofs.RowParts.{BeforeParts, good_from_parts}
 use Rattle.dict_laws.proofs.Texts.{differ_parts, differ_from, differ_filter, differ_end, words_without}

@@ -9,7 +9,7 @@ pub use Rattle.skk_calls.specs.DifferLaws.{differ_parts, differ_from, differ_fro
 use Rattle.skk_calls.specs.KeyLaws.{same_other}
 use Rattle.skk_calls.specs.Learning.{without_text, without_word}
 use Rattle.skk_calls.specs.Rows.{Cand, same_text, has_text, texts_differ, words_of}
-use Rattle.dict_laws.proofs.Filtered.{filter_twice, map_filter}
+use Rattle.dict_laws.specs.Filtered.{filter_twice, map_filter}
 
 -- none of a list is the same as a text that the list has not
 pub same_none : (texts : List (List ℕ)) (text : List ℕ) → has_text texts text ≡ false

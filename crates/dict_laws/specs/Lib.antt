@@ -1,2 +1,7 @@
 pub mod ChangedStates
+pub mod Filtered
+pub mod OtherRows
+pub mod OwnBookLaws
+pub mod OwnBooks
+pub mod TwoBooks
 pub mod ValidStates

@@ -7,6 +7,7 @@
 #![tactic(auto)]
 
 mod laws;
+mod own_books;
 
 pub use laws::{
     answers_depend_on_two_books, changed_rows_are_rows, changes_keep_states_valid,
@@ -15,4 +16,8 @@ pub use laws::{
     no_row_hides_its_own_words, prefixes_of_legal_histories_are_legal,
     purges_are_told_to_change_what_they_change, the_next_reading_is_the_least_above,
     unlearning_gives_the_row_back,
+};
+pub use own_books::{
+    each_typist_is_answered_alone, own_calls_are_given_own_learnings, own_calls_leave_other_books,
+    own_calls_look_at_own_books,
 };

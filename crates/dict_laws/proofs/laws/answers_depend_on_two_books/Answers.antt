@@ -1,6 +1,6 @@
 use Rattle.std.proofs.Common.{ap}
 use Rattle.skk_calls.specs.declared.answer.Reply.TheVariants.{Found, Readings}
-use Rattle.dict_laws.proofs.TwoBooks.{found_alike, completions_alike}
+use Rattle.dict_laws.specs.TwoBooks.{found_alike, completions_alike}
 use Rattle.dict_laws.proofs.laws.answers_depend_on_two_books.Goals as goal
 
 pub returns-clause-lookup : goal.returns-clause-lookup

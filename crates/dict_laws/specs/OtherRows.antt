@@ -10,7 +10,7 @@ use Rattle.skk_calls.specs.Rows.{RowKey, Row, same_key}
 use Rattle.skk_calls.specs.States.{State, row_in, book_at, book_rows, rows_of, row_at, without_row, with_row}
 use Rattle.skk_calls.specs.States.{without_book, state_with}
 use Rattle.dict_laws.specs.ChangedStates.{has_key, changed_book, book_at_changed}
-use Rattle.dict_laws.proofs.Filtered.{find-filter}
+use Rattle.dict_laws.specs.Filtered.{find-filter}
 
 -- by a test that an item does not pass, the same is found where it is put at its place among others
 find-insert_by_other : {X : Type 0} (before : X → X → Bool) (p : X → Bool) (x : X) (xs : List X) → p x ≡ false

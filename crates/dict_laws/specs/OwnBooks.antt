@@ -1,0 +1,63 @@
+-- Which calls are a typist's own, and which states look alike to a typist.
+use Rattle.std.specs.Prelude.{◌≡◌, ⊤, ℕ, Bool, true, ◌&&◌, ◌||◌, ◌==◌, not, [], ◌∷◌}
+use Rattle.skk_calls.specs.declared.answer.Answer.{Answer}
+use Rattle.skk_calls.specs.declared.answer.Answer.TheVariants.{Done}
+use Rattle.skk_calls.specs.declared.answer.Reply.TheVariants as replies
+use Rattle.skk_calls.specs.declared.call.Call.{Call}
+use Rattle.skk_calls.specs.declared.call.Call.TheVariants.{Lookup, Complete, Learn, Purge, Unlearn}
+use Rattle.skk_calls.specs.Histories.{Entry}
+use Rattle.skk_calls.specs.Interactions.{Interaction, ends, asks, prints, Dialog}
+use Rattle.skk_calls.specs.States.{State, rows_of, count_of}
+
+-- whose call a call is: the typist's that it is made for, or whose book it changes
+abbrev pub owner : Call → ℕ
+owner (Lookup who key okuri) = who
+owner (Complete who prefix) = who
+owner (Learn book key okuri cand) = book
+owner (Purge book key word) = book
+owner (Unlearn learned) = learned.book
+
+-- a call is a typist's own: it is made for the typist, or it changes the typist's book
+abbrev pub is_own : ℕ → Call → Bool
+is_own typist call = owner call == typist
+
+-- two states look alike to a typist: the typist's book has the same count and the same rows in both, and the shared
+-- book the same rows
+abbrev pub LookAlike : ℕ → State → State → Type 0
+LookAlike typist state other =
+    (count_of other typist ≡ count_of state typist)
+    × (rows_of other typist ≡ rows_of state typist)
+    × (rows_of other 0 ≡ rows_of state 0)
+
+-- Histories, where each caller's number has a typist
+
+-- the call of an entry is its typist's own
+abbrev pub is_own_entry : (ℕ → ℕ) → Entry → Bool
+is_own_entry typist_of entry = is_own (typist_of entry.number) entry.call
+
+-- an entry is of the caller of a number, or its typist is another than this caller's, and has not the shared book
+abbrev pub is_apart : (ℕ → ℕ) → ℕ → Entry → Bool
+is_apart typist_of number entry =
+    entry.number == number || (not (typist_of entry.number == typist_of number) && not (typist_of entry.number == 0))
+
+-- Interactions
+
+-- an answer gives a typist a learning of the typist's own book, where it gives one
+abbrev pub gives_own : ℕ → Answer → Bool
+gives_own typist (Done (replies.Learned learned)) = learned.book == typist
+gives_own typist given = true
+
+-- each own call of a dialog is given own learnings alone
+abbrev pub GivesOwn : ℕ → Dialog → Type 0
+GivesOwn typist [] = ⊤
+GivesOwn typist (pair ∷ dialog) =
+    (is_own typist pair.0 ≡ true → gives_own typist pair.1 ≡ true) × GivesOwn typist dialog
+
+-- whatever is answered that gives a typist own learnings alone, each call of an interaction is the typist's own, and
+-- the value of its end has a property
+abbrev pub AsksOwn : {S : Type 0} → ℕ → (S → Type 0) → Interaction S → Type 0
+AsksOwn typist P (ends value) = P value
+AsksOwn typist P (asks call next) =
+    (is_own typist call ≡ true)
+    × ((given : Answer) → gives_own typist given ≡ true → AsksOwn typist P (next given))
+AsksOwn typist P (prints text rest) = AsksOwn typist P rest
