@@ -4,6 +4,7 @@ use Rattle.std.proofs.Common.{refl, sym, subst, ap, ◌∙◌, nat_lt}
 use Rattle.std.proofs.lemmas.Bool.{and_from, and_parts, eq-eqb, eqb-true}
 use Rattle.std.specs.List.{list_all}
 use Rattle.skk_text.specs.Counts.{last_count}
+use Rattle.skk_calls.specs.declared.answer.Answer.{Answer}
 use Rattle.skk_calls.specs.declared.answer.Answer.TheVariants.{Done}
 use Rattle.skk_calls.specs.declared.answer.Reply.{Reply}
 use Rattle.skk_calls.specs.declared.answer.Reply.TheVariants as replies
@@ -20,7 +21,7 @@ use Rattle.skk_calls.specs.Rows.{RowKey, Row}
 use Rattle.skk_calls.specs.States.{State, book_rows, book_count, rows_of, row_at, count_of, with_row, state_with}
 use Rattle.dict_laws.specs.ChangedStates.{book_at_changed, count_of_changed}
 use Rattle.dict_laws.specs.OtherRows.{book_at_other}
-use Rattle.dict_laws.specs.OwnBooks.{owner, is_own, LookAlike, gives_own, GivesOwn, AsksOwn}
+use Rattle.dict_laws.specs.OwnBooks.{owner, is_own, LookAlike, gives_own, GivesOwn, AsksOnly, AsksOwn}
 use Rattle.dict_laws.specs.TwoBooks.{found_alike, completions_alike}
 
 -- States
@@ -228,10 +229,22 @@ own_dialog_alike typist files state other (pair ∷ dialog) alike own alone =
 
 -- Interactions
 
-module _ {S : Type 0} (typist : ℕ) (P : S → Type 0) where
+-- what an interaction only asks and ends with, it does with another behind it that does, whatever it ends with
+pub only_followed : {S T : Type 0} (Asked : Call → Type 0) (Given : Answer → Type 0) (Ended : S → Type 0)
+    (Last : T → Type 0) (interaction : Interaction S) (behind : S → Interaction T)
+    → AsksOnly Asked Given Ended interaction
+    → ((value : S) → Ended value → AsksOnly Asked Given Last (behind value))
+    → AsksOnly Asked Given Last (followed_by interaction behind)
+only_followed Asked Given Ended Last (ends value) behind only rest = rest value only
+only_followed Asked Given Ended Last (asks call next) behind only rest =
+    (only.0, λ given is. only_followed Asked Given Ended Last (next given) behind (only.1 given is) rest)
+only_followed Asked Given Ended Last (prints text more) behind only rest =
+    only_followed Asked Given Ended Last more behind only rest
+
+module _ {S : Type 0} (typist : ℕ) (Ended : S → Type 0) where
   -- an interaction that asks own calls alone prints the same from states that look alike
   pub own_printed_alike : (files : List (List Row)) (state other : State) (interaction : Interaction S)
-      → LookAlike typist state other → AsksOwn typist P interaction
+      → LookAlike typist state other → AsksOwn typist Ended interaction
       → printed_alone files other interaction ≡ printed_alone files state interaction
   own_printed_alike files state other (ends value) alike own = refl
   own_printed_alike files state other (asks call next) alike own =
@@ -243,21 +256,12 @@ module _ {S : Type 0} (typist : ℕ) (P : S → Type 0) where
   own_printed_alike files state other (prints text rest) alike own =
       ap (λ behind. text ++ behind) (own_printed_alike files state other rest alike own)
 
-  -- what it asks are own calls where their answers give own learnings, and what it leads to asks own calls alone
+  -- what it asks are own calls where these are given own learnings, and what it leads to asks own calls alone
   pub own_led : {from to : Interaction S} {dialog : Dialog} {text : List ℕ} → Leads from dialog text to
-      → AsksOwn typist P from → GivesOwn typist dialog
-      → (list_all (is_own typist) (calls_of dialog) ≡ true) × AsksOwn typist P to
+      → AsksOwn typist Ended from → GivesOwn typist dialog
+      → (list_all (is_own typist) (calls_of dialog) ≡ true) × AsksOwn typist Ended to
   own_led (here from) own gives = (refl, own)
   own_led (asking call next given dialog text to way) own gives =
       let rest = own_led way (own.1 given (gives.0 own.0)) gives.1 in
       (and_from (is_own typist call) (list_all (is_own typist) (calls_of dialog)) own.0 rest.0, rest.1)
   own_led (printing first rest dialog text to way) own gives = own_led way own gives
-
-  -- it asks own calls alone with another behind it that does, whatever it ends with
-  pub own_followed : {T : Type 0} (Q : T → Type 0) (interaction : Interaction S) (behind : S → Interaction T)
-      → AsksOwn typist P interaction → ((value : S) → P value → AsksOwn typist Q (behind value))
-      → AsksOwn typist Q (followed_by interaction behind)
-  own_followed Q (ends value) behind own rest = rest value own
-  own_followed Q (asks call next) behind own rest =
-      (own.0, λ given gives. own_followed Q (next given) behind (own.1 given gives) rest)
-  own_followed Q (prints text more) behind own rest = own_followed Q more behind own rest

@@ -53,11 +53,15 @@ GivesOwn typist [] = ⊤
 GivesOwn typist (pair ∷ dialog) =
     (is_own typist pair.0 ≡ true → gives_own typist pair.1 ≡ true) × GivesOwn typist dialog
 
+-- each call of an interaction has a property, and so has the value of its end, where each answer has one
+abbrev pub AsksOnly : {S : Type 0} → (Call → Type 0) → (Answer → Type 0) → (S → Type 0) → Interaction S → Type 0
+AsksOnly Asked Given Ended (ends value) = Ended value
+AsksOnly Asked Given Ended (asks call next) =
+    Asked call × ((given : Answer) → Given given → AsksOnly Asked Given Ended (next given))
+AsksOnly Asked Given Ended (prints text rest) = AsksOnly Asked Given Ended rest
+
 -- whatever is answered that gives a typist own learnings alone, each call of an interaction is the typist's own, and
 -- the value of its end has a property
 abbrev pub AsksOwn : {S : Type 0} → ℕ → (S → Type 0) → Interaction S → Type 0
-AsksOwn typist P (ends value) = P value
-AsksOwn typist P (asks call next) =
-    (is_own typist call ≡ true)
-    × ((given : Answer) → gives_own typist given ≡ true → AsksOwn typist P (next given))
-AsksOwn typist P (prints text rest) = AsksOwn typist P rest
+AsksOwn typist Ended interaction =
+    AsksOnly (λ call. is_own typist call ≡ true) (λ given. gives_own typist given ≡ true) Ended interaction
