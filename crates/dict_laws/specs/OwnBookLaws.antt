@@ -1,8 +1,8 @@
 -- What own calls look at and what they leave, and what interactions that ask own calls alone come to.
-use Rattle.std.proofs.Common.{◌≡◌, ℕ, ◌+◌, Bool, true, false, cond, ◌==◌, Some, Option, List, [], ◌∷◌, ◌++◌}
+use Rattle.std.proofs.Common.{◌≡◌, ℕ, ◌+◌, Bool, true, false, cond, ◌==◌, None, Some, Option, List, [], ◌∷◌, ◌++◌}
 use Rattle.std.proofs.Common.{refl, sym, subst, ap, ◌∙◌, nat_lt}
 use Rattle.std.proofs.lemmas.Bool.{and_from, and_parts, eq-eqb, eqb-true}
-use Rattle.std.specs.List.{list_all}
+use Rattle.std.specs.List.{cons_option, list_all}
 use Rattle.skk_text.specs.Counts.{last_count}
 use Rattle.skk_calls.specs.declared.answer.Answer.{Answer}
 use Rattle.skk_calls.specs.declared.answer.Answer.TheVariants.{Done}
@@ -13,7 +13,7 @@ use Rattle.skk_calls.specs.declared.call.Call.TheVariants.{Lookup, Complete, Lea
 use Rattle.skk_calls.specs.Canonical.{line_limit}
 use Rattle.skk_calls.specs.Dictionary.{answer, after, is_change, moves, state_moved, line_length, change_reply}
 use Rattle.skk_calls.specs.Dictionary.{is_stamped, stamp_of}
-use Rattle.skk_calls.specs.Histories.{after_calls}
+use Rattle.skk_calls.specs.Histories.{Entry, after_calls, dialog}
 use Rattle.skk_calls.specs.Interactions.{Interaction, ends, asks, prints, followed_by, Dialog, calls_of}
 use Rattle.skk_calls.specs.Interactions.{Leads, here, asking, printing, IsAnsweredAlone, printed_alone}
 use Rattle.skk_calls.specs.Learning.{learnt, purged, purge_changes, unlearnt}
@@ -21,7 +21,7 @@ use Rattle.skk_calls.specs.Rows.{RowKey, Row}
 use Rattle.skk_calls.specs.States.{State, book_rows, book_count, rows_of, row_at, count_of, with_row, state_with}
 use Rattle.dict_laws.specs.ChangedStates.{book_at_changed, count_of_changed}
 use Rattle.dict_laws.specs.OtherRows.{book_at_other}
-use Rattle.dict_laws.specs.OwnBooks.{owner, is_own, LookAlike, gives_own, GivesOwn, AsksOnly, AsksOwn}
+use Rattle.dict_laws.specs.OwnBooks.{owner, is_own, is_own_entry, LookAlike, gives_own, GivesOwn, AsksOnly, AsksOwn}
 use Rattle.dict_laws.specs.TwoBooks.{found_alike, completions_alike}
 
 -- States
@@ -226,6 +226,35 @@ own_dialog_alike typist files state other (pair ∷ dialog) alike own alone =
     own_dialog_alike typist files (after state pair.0) (after other pair.0) dialog
     (own_leaves_alike state other typist pair.0 alike owns.0) owns.1 alone.1 in
     ((alone.0 ∙ ap Done (sym (own_answered_alike state other typist pair.0 alike owns.0 files)), rest.0), rest.1)
+
+-- the entries of a history are own where each caller's calls are its typist's own
+pub own_entries : (typist_of : ℕ → ℕ) (history : List Entry)
+    → ((number : ℕ) → list_all (is_own (typist_of number)) (calls_of (dialog history number)) ≡ true)
+    → list_all (is_own_entry typist_of) history ≡ true
+own_entries typist_of [] own = refl
+own_entries typist_of (entry ∷ history) own =
+    and_from (is_own_entry typist_of entry) (list_all (is_own_entry typist_of) history) first
+    (own_entries typist_of history (λ number. rest number (entry.number == number) (own number)))
+  where
+    -- the calls of a caller from this entry on, where that is the caller's or not
+    calls : ℕ → Bool → List Call
+    calls number mine =
+        calls_of (cons_option (cond mine (Some (entry.call, entry.answer)) None) (dialog history number))
+
+    first : is_own_entry typist_of entry ≡ true
+    first =
+        let owns : list_all (is_own (typist_of entry.number)) (calls entry.number true) ≡ true =
+        subst (λ mine. list_all (is_own (typist_of entry.number)) (calls entry.number mine) ≡ true)
+        (eq-eqb entry.number entry.number refl) (own entry.number) in
+        (and_parts (is_own_entry typist_of entry)
+        (list_all (is_own (typist_of entry.number)) (calls entry.number false)) owns).0
+
+    rest : (number : ℕ) (mine : Bool) → list_all (is_own (typist_of number)) (calls number mine) ≡ true
+        → list_all (is_own (typist_of number)) (calls_of (dialog history number)) ≡ true
+    rest number true owns =
+        (and_parts (is_own (typist_of number) entry.call)
+        (list_all (is_own (typist_of number)) (calls_of (dialog history number))) owns).1
+    rest number false owns = owns
 
 -- Interactions
 
