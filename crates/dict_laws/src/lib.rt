@@ -2,8 +2,8 @@
 //!
 //! Each law is a function without a body that does anything, whose contract is the law. A crate above calls it where
 //! its proof needs the law. There is no code here that could be wrong: the promises are of the definitions, and an edit
-//! of a body has nothing to break. Laws of changed and of valid states that a proof of a crate above cites by name
-//! stand in `specs/`.
+//! of a body has nothing to break. Laws that a proof of a crate above cites by name stand in `specs/`: those of changed
+//! and of valid states, and of what asks a typist's own calls alone.
 #![tactic(auto)]
 
 mod laws;

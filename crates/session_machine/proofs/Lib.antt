@@ -3,8 +3,11 @@ mod DisplayExamples
 mod Escapes
 mod Examples
 mod Forms
+mod Kept
 mod Limits
 mod NumberReadings
+mod OwnExamples
+mod OwnKept
 mod RegistrationExamples
 mod ReplayExamples
 mod Replays
