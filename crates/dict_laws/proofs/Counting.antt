@@ -5,8 +5,8 @@ use Rattle.std.specs.List.{count_by}
 use Rattle.std.proofs.lemmas.List.Folds.{list_any-append}
 use Rattle.std.proofs.lemmas.List.Sums.{sum_by-append}
 use Rattle.skk_calls.specs.declared.answer.Answer.{Answer}
+use Rattle.skk_calls.specs.declared.entry.Entry.{Entry}
 use Rattle.skk_text.specs.Counts.{last_count}
-use Rattle.skk_calls.specs.Histories.{Entry}
 use Rattle.skk_calls.specs.States.{State}
 use Rattle.skk_calls.specs.Tallies.{one_more_if, tally_with, count_answers, has_answer, tells_learned, tells_restored}
 use Rattle.skk_calls.specs.Tallies.{lacks_memory, lacks_disk, lacks_room, tally_of}

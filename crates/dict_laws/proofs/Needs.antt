@@ -5,8 +5,9 @@ use Rattle.skk_calls.specs.declared.answer.Answer.{Answer}
 use Rattle.skk_calls.specs.declared.answer.Answer.TheVariants.{Done, Refused}
 use Rattle.skk_calls.specs.declared.call.Call.{Call}
 use Rattle.skk_calls.specs.declared.call.Call.TheVariants.{Lookup, Complete, Learn, Purge, Unlearn}
+use Rattle.skk_calls.specs.declared.entry.Entry.{Entry}
 use Rattle.skk_calls.specs.Dictionary.{answer, is_change, moves, after}
-use Rattle.skk_calls.specs.Histories.{Entry, Opening, LacksRoom, IsLegalAnswer, IsLegal, tells_change, after_answer}
+use Rattle.skk_calls.specs.Histories.{Opening, LacksRoom, IsLegalAnswer, IsLegal, tells_change, after_answer}
 use Rattle.skk_calls.specs.Histories.{after_entry, state_after, end_after, room, changes, after_calls, need, needs}
 use Rattle.skk_calls.specs.Rows.{Row}
 use Rattle.skk_calls.specs.States.{State}

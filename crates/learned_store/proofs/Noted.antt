@@ -10,9 +10,10 @@ use Rattle.skk_calls.specs.declared.answer.Refusal.TheVariants.{Memory, Disk, Jo
 use Rattle.skk_calls.specs.declared.call.Call.{Call}
 use Rattle.skk_calls.specs.declared.chronicle.Noted.{Noted}
 use Rattle.skk_calls.specs.declared.chronicle.Noted.TheVariants.{Entered}
+use Rattle.skk_calls.specs.declared.entry.Entry.{Entry}
 use Rattle.skk_calls.specs.Chronicles.{history_of}
 use Rattle.skk_calls.specs.Dictionary.{answer, after}
-use Rattle.skk_calls.specs.Histories.{Entry, Opening, LacksRoom, IsLegal, IsLegalAnswer, after_answer, tells_change}
+use Rattle.skk_calls.specs.Histories.{Opening, LacksRoom, IsLegal, IsLegalAnswer, after_answer, tells_change}
 use Rattle.skk_calls.specs.Histories.{need}
 use Rattle.skk_calls.specs.Histories.{in_doubt, room, state_after}
 use Rattle.skk_calls.specs.Rows.{Row}

@@ -15,8 +15,9 @@ use Rattle.skk_calls.specs.declared.chronicle.Noted.TheVariants.{Entered}
 use Rattle.skk_calls.specs.Chronicles.{history_of}
 use Rattle.skk_calls.specs.declared.answer.Reply.{Reply}
 use Rattle.skk_calls.specs.declared.call.Call.TheVariants.{Lookup, Complete, Learn, Purge, Unlearn}
+use Rattle.skk_calls.specs.declared.entry.Entry.{Entry}
 use Rattle.skk_calls.specs.Dictionary.{answer, after, moves, state_moved, is_change}
-use Rattle.skk_calls.specs.Histories.{Entry, Opening, LacksRoom, IsLegalAnswer, after_answer, in_doubt, in_doubt_after}
+use Rattle.skk_calls.specs.Histories.{Opening, LacksRoom, IsLegalAnswer, after_answer, in_doubt, in_doubt_after}
 use Rattle.skk_calls.specs.Histories.{room, state_after, states_left}
 use Rattle.skk_calls.specs.Rows.{Row}
 use Rattle.skk_calls.specs.States.{State}

@@ -12,9 +12,9 @@ use Rattle.skk_calls.specs.declared.answer.Refusal.TheVariants.{Memory, Disk, Jo
 use Rattle.skk_calls.specs.declared.answer.Reply.TheVariants as replies
 use Rattle.skk_calls.specs.declared.call.Call.{Call}
 use Rattle.skk_calls.specs.declared.call.Call.TheVariants.{Lookup, Learn, Purge}
+use Rattle.skk_calls.specs.declared.entry.Entry.{Entry}
 use Rattle.skk_calls.specs.declared.part.Part.TheVariants.{Nasi}
 use Rattle.skk_calls.specs.Dictionary.{after}
-use Rattle.skk_calls.specs.Histories.{Entry}
 use Rattle.skk_calls.specs.Interactions.{Dialog}
 use Rattle.skk_calls.specs.Rows.{Cand, Row, RowKey}
 use Rattle.skk_calls.specs.States.{State, empty_state, count_of}

@@ -4,8 +4,8 @@ use Rattle.std.specs.List.{All}
 use Rattle.std.proofs.lemmas.List.{length-map}
 use Rattle.std.proofs.lemmas.List.Elements.{All-map, All-push, All-weaker}
 use Rattle.romaji_rules.specs.declared.rule.Rule.{Rule}
+use Rattle.skk_calls.specs.declared.entry.Entry.{Entry}
 use Rattle.skk_calls.specs.Dictionary.{is_fit}
-use Rattle.skk_calls.specs.Histories.{Entry}
 use Rattle.session_world.specs.Keeping.{IsSeat, Keeps}
 use Rattle.session_world.specs.Seats.{new_seat, renewed}
 use Rattle.session_world.specs.declared.seat.Seat.{Seat}

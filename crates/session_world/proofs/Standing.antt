@@ -13,8 +13,9 @@ use Rattle.skk_calls.specs.declared.answer.Answer.TheVariants.{Done, Refused}
 use Rattle.skk_calls.specs.declared.answer.Refusal.{Refusal}
 use Rattle.skk_calls.specs.declared.answer.Refusal.TheVariants.{Memory, Disk, JournalFull}
 use Rattle.skk_calls.specs.declared.call.Call.{Call}
+use Rattle.skk_calls.specs.declared.entry.Entry.{Entry}
 use Rattle.skk_calls.specs.Dictionary.{answer, after, moves}
-use Rattle.skk_calls.specs.Histories.{Entry, Opening, IsLegalAnswer, IsLegalWhere, after_entry, dialog, in_doubt, room}
+use Rattle.skk_calls.specs.Histories.{Opening, IsLegalAnswer, IsLegalWhere, after_entry, dialog, in_doubt, room}
 use Rattle.skk_calls.specs.Rows.{Row}
 use Rattle.skk_calls.specs.States.{State}
 use Rattle.session_world.specs.Seats.{new_seat, renewed, asked_in, with_answers, answered}

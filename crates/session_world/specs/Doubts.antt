@@ -4,8 +4,8 @@ use Rattle.skk_calls.specs.declared.answer.Answer.TheVariants.{Done, Refused}
 use Rattle.skk_calls.specs.declared.answer.Answer.{Answer}
 use Rattle.skk_calls.specs.declared.answer.Refusal.TheVariants.{Disk}
 use Rattle.skk_calls.specs.declared.call.Call.{Call}
+use Rattle.skk_calls.specs.declared.entry.Entry.{Entry}
 use Rattle.skk_calls.specs.Dictionary.{is_change}
-use Rattle.skk_calls.specs.Histories.{Entry}
 
 -- the change in doubt behind a call and its answer: none behind a change, and this call where a disk failed it
 abbrev pub doubt_behind : Option Call → Call → Answer → Option Call

@@ -5,8 +5,8 @@ use Rattle.std.specs.List.{All}
 use Rattle.std.specs.Option.{option_and_then}
 use Rattle.romaji_rules.specs.declared.rule.Rule.{Rule}
 use Rattle.skk_calls.specs.declared.call.Call.{Call}
+use Rattle.skk_calls.specs.declared.entry.Entry.{Entry}
 use Rattle.skk_calls.specs.Dictionary.{is_fit}
-use Rattle.skk_calls.specs.Histories.{Entry}
 use Rattle.skk_calls.specs.States.{State, empty_state}
 use Rattle.session_world.specs.Seats.{asked_in, may_be_answered}
 use Rattle.session_world.specs.Worlds.{World}

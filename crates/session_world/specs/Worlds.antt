@@ -9,8 +9,9 @@ use Rattle.skk_calls.specs.declared.answer.Answer.TheVariants.{Done, Refused}
 use Rattle.skk_calls.specs.declared.answer.Refusal.{Refusal}
 use Rattle.skk_calls.specs.declared.answer.Refusal.TheVariants.{Memory}
 use Rattle.skk_calls.specs.declared.call.Call.{Call}
+use Rattle.skk_calls.specs.declared.entry.Entry.{Entry}
 use Rattle.skk_calls.specs.Dictionary.{answer, after, moves}
-use Rattle.skk_calls.specs.Histories.{Entry, after_answer, in_doubt}
+use Rattle.skk_calls.specs.Histories.{after_answer, in_doubt}
 use Rattle.skk_calls.specs.Rows.{Row}
 use Rattle.skk_calls.specs.States.{State, empty_state}
 use Rattle.session_world.specs.Seats.{new_seat, renewed, asked_in, with_answers, answered}

@@ -10,7 +10,7 @@ pub struct Entry {
 }
 
 impl Model for Entry {
-    ghost use Rattle.skk_calls.specs.Histories.{Entry};
+    ghost use Rattle.skk_calls.specs.declared.entry.Entry.{Entry};
 
     ghost Value = { Entry };
 

@@ -10,9 +10,10 @@ use Rattle.skk_calls.specs.declared.call.Call.{Call}
 use Rattle.skk_calls.specs.declared.call.Call.TheVariants.{Lookup, Complete, Learn, Purge, Unlearn}
 use Rattle.skk_calls.specs.declared.chronicle.Noted.{Noted}
 use Rattle.skk_calls.specs.declared.chronicle.Noted.TheVariants.{Opened, Entered}
+use Rattle.skk_calls.specs.declared.entry.Entry.{Entry}
 use Rattle.skk_calls.specs.Chronicles.{is_chronicle, is_chronicle_or_none, noted, opening_of, history_of}
 use Rattle.skk_calls.specs.Dictionary.{answer}
-use Rattle.skk_calls.specs.Histories.{Entry, Opening, LacksRoom, IsLegalAnswer, IsLegal, after_entry, state_after}
+use Rattle.skk_calls.specs.Histories.{Opening, LacksRoom, IsLegalAnswer, IsLegal, after_entry, state_after}
 use Rattle.skk_calls.specs.Histories.{end_after, room, changes, after_calls, need, needs, dialog, in_doubt, states_left}
 use Rattle.skk_calls.specs.Openings.{fresh_opening, said_in, are_of_one, is_reply, are_served}
 use Rattle.skk_calls.specs.Rows.{Row, Learned}

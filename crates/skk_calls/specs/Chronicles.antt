@@ -3,7 +3,8 @@ use Rattle.std.specs.Prelude.{Bool, true, false, Option, None, Some, List, [], â
 use Rattle.std.specs.List.{filter_map, list_all}
 use Rattle.skk_calls.specs.declared.chronicle.Noted.{Noted}
 use Rattle.skk_calls.specs.declared.chronicle.Noted.TheVariants.{Opened, Entered}
-use Rattle.skk_calls.specs.Histories.{Entry, Opening}
+use Rattle.skk_calls.specs.declared.entry.Entry.{Entry}
+use Rattle.skk_calls.specs.Histories.{Opening}
 
 -- what is noted as an opening
 abbrev pub noted_opening : Noted â†’ Option Opening

@@ -8,17 +8,12 @@ use Rattle.skk_calls.specs.declared.answer.Answer.TheVariants.{Done, Refused}
 use Rattle.skk_calls.specs.declared.answer.Refusal.TheVariants as refusals
 use Rattle.skk_calls.specs.declared.call.Call.{Call}
 use Rattle.skk_calls.specs.declared.call.Call.TheVariants.{Lookup, Complete, Learn, Purge, Unlearn}
+use Rattle.skk_calls.specs.declared.entry.Entry.{Entry}
 use Rattle.skk_calls.specs.Canonical.{canonical}
 use Rattle.skk_calls.specs.Dictionary.{answer, is_change, moves, after}
 use Rattle.skk_calls.specs.Learning.{learnt, purged, unlearnt}
 use Rattle.skk_calls.specs.Rows.{RowKey, Row}
 use Rattle.skk_calls.specs.States.{State, row_at, count_of}
-
--- a caller's number, a call, and its answer
-pub record Entry : Type 0 where
-  pub number : ℕ
-  pub call : Call
-  pub answer : Answer
 
 -- what a history stands over: the rows of the system files, and at its opening the state, the end and the limit of the
 -- learned file, and the time and the count of faults of the disk

@@ -5,8 +5,9 @@ use Rattle.std.specs.List.{cons_option}
 use Rattle.std.proofs.lemmas.List.Elements.{filter_map-append}
 use Rattle.skk_calls.specs.declared.call.Call.{Call}
 use Rattle.skk_calls.specs.declared.chronicle.Noted.{Noted}
+use Rattle.skk_calls.specs.declared.entry.Entry.{Entry}
 use Rattle.skk_calls.specs.Chronicles.{noted_entry, history_of}
-use Rattle.skk_calls.specs.Histories.{Entry, Opening, FullFile, IsLegalAnswer, IsLegalWhere, after_entry, state_after}
+use Rattle.skk_calls.specs.Histories.{Opening, FullFile, IsLegalAnswer, IsLegalWhere, after_entry, state_after}
 use Rattle.skk_calls.specs.Histories.{end_after, room, in_doubt, in_doubt_after, said_by, dialog}
 use Rattle.skk_calls.specs.States.{State}
 

@@ -5,8 +5,9 @@ use Rattle.skk_calls.specs.declared.answer.Answer.{Answer}
 use Rattle.skk_calls.specs.declared.answer.Answer.TheVariants.{Done, Refused}
 use Rattle.skk_calls.specs.declared.answer.Refusal.TheVariants as refusals
 use Rattle.skk_calls.specs.declared.answer.Reply.TheVariants as replies
+use Rattle.skk_calls.specs.declared.entry.Entry.{Entry}
 use Rattle.skk_text.specs.Counts.{last_count, one_more}
-use Rattle.skk_calls.specs.Histories.{Entry, state_after}
+use Rattle.skk_calls.specs.Histories.{state_after}
 use Rattle.skk_calls.specs.States.{State}
 
 -- how many calls learnt and took back, how many rows there are, and whether calls were refused for each cause

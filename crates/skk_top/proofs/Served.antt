@@ -7,7 +7,8 @@ use Rattle.skk_calls.specs.declared.answer.Answer.{Answer}
 use Rattle.skk_calls.specs.declared.answer.Answer.TheVariants.{Done, Refused}
 use Rattle.skk_calls.specs.declared.answer.Refusal.TheVariants.{Memory, Disk, JournalFull}
 use Rattle.skk_calls.specs.declared.call.Call.{Call}
-use Rattle.skk_calls.specs.Histories.{Entry, Opening, LacksRoom, IsLegal, IsLegalAnswer, after_answer, after_entry}
+use Rattle.skk_calls.specs.declared.entry.Entry.{Entry}
+use Rattle.skk_calls.specs.Histories.{Opening, LacksRoom, IsLegal, IsLegalAnswer, after_answer, after_entry}
 use Rattle.skk_calls.specs.Histories.{dialog}
 use Rattle.skk_calls.specs.Histories.{end_after, room, state_after}
 use Rattle.skk_calls.specs.Interactions.{Dialog, IsAnsweredAlone}

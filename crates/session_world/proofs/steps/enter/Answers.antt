@@ -1,6 +1,6 @@
 use Rattle.std.proofs.Common.{◌∙◌, ap}
+use Rattle.skk_calls.specs.declared.entry.Entry.{Entry}
 use Rattle.skk_calls.specs.Dictionary.{is_fit}
-use Rattle.skk_calls.specs.Histories.{Entry}
 use Rattle.session_world.proofs.Keeping.{keeps-changed, keeps-entered}
 use Rattle.session_world.proofs.steps.enter.Goals as goal
 
