@@ -1,0 +1,6 @@
+mod Counts
+mod Cuts
+mod Entering
+mod Examples
+mod Joining
+mod Looking

@@ -1,0 +1,4 @@
+pub mod Keeping
+pub mod Seats
+pub mod Steps
+pub mod Views
