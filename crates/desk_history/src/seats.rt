@@ -53,6 +53,17 @@ impl Model for CallerSeat {
     ) };
 }
 
+impl CallerSeat {
+    ghost use Rattle.std.specs.Prelude.{◌≡◌};
+
+    /// The caller's number.
+    pub fn number(&self) -> u32
+        ensures { result ≡ self.now.number }
+    {
+        self.number
+    }
+}
+
 /// Counts the numbers that were drawn for callers. There is one to a history.
 #[derive(Drop)]
 pub struct RollSeat {
@@ -70,4 +81,15 @@ impl Model for RollSeat {
     ghost view = { λ roll. record { table = roll.seat.table_id; drawn = roll.drawn } };
 
     ghost invariant = { λ roll. roll.seat.me ≡ (roll_view roll.drawn, []) };
+}
+
+impl RollSeat {
+    ghost use Rattle.std.specs.Prelude.{◌≡◌};
+
+    /// How many numbers were drawn.
+    pub fn drawn(&self) -> u32
+        ensures { result ≡ self.now.drawn }
+    {
+        self.drawn
+    }
 }
