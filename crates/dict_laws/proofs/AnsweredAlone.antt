@@ -8,7 +8,8 @@ use Rattle.skk_calls.specs.declared.answer.Answer.{Answer}
 use Rattle.skk_calls.specs.declared.answer.Answer.TheVariants.{Done, Refused}
 use Rattle.skk_calls.specs.declared.call.Call.{Call}
 use Rattle.skk_calls.specs.Dictionary.{answer, after}
-use Rattle.skk_calls.specs.Histories.{Entry, Opening, LacksRoom, IsLegalAnswer, IsLegal, after_answer, after_entry}
+use Rattle.skk_calls.specs.declared.entry.Entry.{Entry}
+use Rattle.skk_calls.specs.Histories.{Opening, LacksRoom, IsLegalAnswer, IsLegal, after_answer, after_entry}
 use Rattle.skk_calls.specs.Histories.{state_after, after_calls, dialog}
 use Rattle.skk_calls.specs.Interactions.{Dialog, IsAnsweredAlone, calls_of}
 use Rattle.skk_calls.specs.Openings.{is_reply}

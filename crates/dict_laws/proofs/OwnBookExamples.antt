@@ -8,7 +8,7 @@ use Rattle.skk_calls.specs.declared.answer.Reply.TheVariants as replies
 use Rattle.skk_calls.specs.declared.call.Call.{Call}
 use Rattle.skk_calls.specs.declared.call.Call.TheVariants.{Lookup, Complete, Learn, Purge, Unlearn}
 use Rattle.skk_calls.specs.declared.part.Part.TheVariants.{Nasi}
-use Rattle.skk_calls.specs.Histories.{Entry}
+use Rattle.skk_calls.specs.declared.entry.Entry.{Entry}
 use Rattle.skk_calls.specs.Interactions.{Interaction, ends, asks, prints}
 use Rattle.skk_calls.specs.Rows.{RowKey, Cand, Row, Learned}
 use Rattle.skk_calls.specs.States.{State}

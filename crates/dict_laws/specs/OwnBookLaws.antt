@@ -13,7 +13,8 @@ use Rattle.skk_calls.specs.declared.call.Call.TheVariants.{Lookup, Complete, Lea
 use Rattle.skk_calls.specs.Canonical.{line_limit}
 use Rattle.skk_calls.specs.Dictionary.{answer, after, is_change, moves, state_moved, line_length, change_reply}
 use Rattle.skk_calls.specs.Dictionary.{is_stamped, stamp_of}
-use Rattle.skk_calls.specs.Histories.{Entry, after_calls, dialog}
+use Rattle.skk_calls.specs.declared.entry.Entry.{Entry}
+use Rattle.skk_calls.specs.Histories.{after_calls, dialog}
 use Rattle.skk_calls.specs.Interactions.{Interaction, ends, asks, prints, followed_by, Dialog, calls_of}
 use Rattle.skk_calls.specs.Interactions.{Leads, here, asking, printing, IsAnsweredAlone, printed_alone}
 use Rattle.skk_calls.specs.Learning.{learnt, purged, purge_changes, unlearnt}

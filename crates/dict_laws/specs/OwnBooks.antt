@@ -5,7 +5,7 @@ use Rattle.skk_calls.specs.declared.answer.Answer.TheVariants.{Done}
 use Rattle.skk_calls.specs.declared.answer.Reply.TheVariants as replies
 use Rattle.skk_calls.specs.declared.call.Call.{Call}
 use Rattle.skk_calls.specs.declared.call.Call.TheVariants.{Lookup, Complete, Learn, Purge, Unlearn}
-use Rattle.skk_calls.specs.Histories.{Entry}
+use Rattle.skk_calls.specs.declared.entry.Entry.{Entry}
 use Rattle.skk_calls.specs.Interactions.{Interaction, ends, asks, prints, Dialog}
 use Rattle.skk_calls.specs.States.{State, rows_of, count_of}
 

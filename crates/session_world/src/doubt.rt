@@ -6,8 +6,7 @@ ghost use Rattle.skk_calls.specs.Histories.{in_doubt};
 ghost use Rattle.session_world.specs.Doubts.{doubt_after};
 ghost use Rattle.session_world.specs.Worlds.{last_of};
 
-use crate::entry::Entry;
-use skk_calls::{Answer, Call, Refusal, Reply};
+use skk_calls::{Answer, Call, Entry, Refusal, Reply};
 
 // The change of a history that was last refused for the disk, with no change accepted behind it.
 pub(crate) fn last_in_doubt(history: &[Entry]) -> Option<&Call>
@@ -26,9 +25,9 @@ pub(crate) fn last_in_doubt(history: &[Entry]) -> Option<&Call>
 fn doubt_after<'a>(doubt: Option<&'a Call>, entry: &'a Entry) -> Option<&'a Call>
     ensures { option_copied result ≡ doubt_after (option_copied doubt.entry) entry.now }
 {
-    match entry.answer() {
+    match &entry.answer {
         Answer::Done(reply) if is_change(reply) => None,
-        Answer::Refused(Refusal::Disk) => Some(entry.call()),
+        Answer::Refused(Refusal::Disk) => Some(&entry.call),
         Answer::Done(_) | Answer::Refused(_) => doubt,
     }
 }

@@ -11,7 +11,6 @@
 
 mod dictionary;
 mod doubt;
-mod entry;
 mod event;
 mod laws;
 mod places;
@@ -19,7 +18,6 @@ mod seat;
 mod steps;
 mod world;
 
-pub use entry::Entry;
 pub use event::Event;
 pub use laws::worlds_stand;
 pub use world::{World, WorldFault};

@@ -11,12 +11,11 @@ ghost use Rattle.session_world.specs.declared.seat.Seat.{Seat};
 
 use crate::dictionary::moves;
 use crate::doubt::last_in_doubt;
-use crate::entry::Entry;
 use crate::places::{start_in, take_in};
 use crate::seat::renewed_seats;
 use crate::world::{Opened, World, WorldFault};
 use session_machine::copy_answer;
-use skk_calls::{Answer, Call, Refusal, Reply};
+use skk_calls::{Answer, Call, Entry, Refusal, Reply};
 use skk_text::{Key, Memory};
 use skk_trace::Trace;
 use std::alloc::Global;
@@ -150,7 +149,12 @@ fn enter(
 {
     let copy = copy_answer(alloc, &answer)?;
     take_in(&mut world.seats, alloc, &world.rules, place, copy)?;
-    world.history.push(Entry::new(place as u32, call, answer))?;
+    let number = place as u32;
+    world.history.push(Entry {
+        number,
+        call,
+        answer,
+    })?;
     Ok(())
 }
 

@@ -1,4 +1,3 @@
-use crate::entry::Entry;
 use crate::event::Event;
 use crate::seat::{Seat, new_seats};
 use crate::steps::{crash, crash_keeping, refuse, serve, start};
@@ -6,7 +5,7 @@ use dict_layers::System;
 use learn_index::Index;
 use romaji_rules::Rules;
 use session_machine::Session;
-use skk_calls::State;
+use skk_calls::{Entry, State};
 use skk_text::Memory;
 use skk_trace::{Shows, Trace};
 use std::alloc::Global;

@@ -1,7 +1,7 @@
 use crate::answer::Answer;
 use crate::call::Call;
 
-/// A caller's number, a call, and its answer. It is for contracts alone: a program needs to make none.
+/// What a history holds: a caller's number, a call, and its answer.
 #[derive(Debug, Drop)]
 pub struct Entry {
     pub number: u32,
