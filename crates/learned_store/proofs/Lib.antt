@@ -24,6 +24,7 @@ mod Sized
 mod SoundChanges
 mod SoundForms
 mod Spelled
+mod StandExamples
 mod Standing
 mod Told
 mod ToldStates
