@@ -1,0 +1,59 @@
+ghost use Rattle.std.specs.Prelude.{◌≡◌, true};
+ghost use Rattle.skk_calls.specs.Dictionary.{is_fit, may_answer};
+ghost use Rattle.shared_desk.specs.Told.{Extends};
+
+use desk_history::{CallerSeat, DeskName, History, Pen};
+use learned_store::{LearnedName, Noting};
+use skk_calls::{Answer, Call};
+use skk_disk::Disk;
+use std::alloc::Global;
+use std::marker::Model;
+
+// What lies under the lock of a desk: the store with its history, and the pen of the callers' history. Its type keeps
+// that they are one history, of the desk that `N` names.
+#[derive(Drop)]
+pub(crate) struct Locked<D: Disk, N: DeskName + LearnedName> {
+    pub(crate) noting: Noting<D, N>,
+    pub(crate) pen: Pen,
+}
+
+impl<D: Disk, N: DeskName + LearnedName> Model for Locked<D, N> {
+    ghost use Rattle.std.specs.Prelude.{◌≡◌, [], None};
+    ghost use Rattle.skk_calls.specs.Chronicles.{history_of};
+    ghost use Rattle.learned_store.specs.Stands.{NotedStore};
+
+    ghost Value = { NotedStore D };
+
+    ghost view = { λ l. l.noting };
+
+    ghost invariant = { λ l. l.pen ≡ record {
+      table = N.table;
+      seen = history_of l.noting.notes;
+      ended = [];
+      roll = None;
+    } };
+}
+
+impl<D: Disk, N: DeskName + LearnedName> Locked<D, N> {
+    // Answers a caller's call as the store does, and enters it. Takes no more memory than the store.
+    pub(crate) fn call(
+        &mut self,
+        alloc: Global,
+        history: &History,
+        seat: &mut CallerSeat,
+        call: &Call,
+    ) -> Answer
+        requires fit { is_fit call.now ≡ true }
+        requires history { history.now ≡ N.table }
+        requires seat { seat.old.table ≡ N.table }
+        ensures table { seat.new.table ≡ N.table }
+        ensures told { Extends N.opening seat.old call.now result seat.new }
+        ensures may { may_answer call.now result ≡ true }
+    {
+        let answer = self.noting.serve(alloc, seat.number(), call);
+        // The store that is read tells that its history is legal.
+        let _store = self.noting.store();
+        history.enter(&mut self.pen, seat, call, &answer);
+        answer
+    }
+}
