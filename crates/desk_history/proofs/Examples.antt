@@ -1,6 +1,6 @@
 -- Tables of two callers, as the definitions compute them, and tables that the rule refuses.
 use Rattle.std.proofs.Common.{◌≡◌, ℕ, ◌%◌, ◌^◌, ◌<◌, ◌≤◌, nat_lt, tests, refl, None, Some, List, [], ◌∷◌}
-use Rattle.std.proofs.Common.{codes, length, All, ap, sym, ◌∙◌, arith}
+use Rattle.std.proofs.Common.{codes, length, map, All, ap, sym, ◌∙◌, arith}
 use Rattle.std.proofs.lemmas.List.Elements.{All-cons, All-nil}
 use Rattle.skk_calls.specs.declared.answer.Answer.{Answer}
 use Rattle.skk_calls.specs.declared.answer.Answer.TheVariants.{Done, Refused}
@@ -10,7 +10,6 @@ use Rattle.skk_calls.specs.declared.call.Call.{Call}
 use Rattle.skk_calls.specs.declared.call.Call.TheVariants.{Complete}
 use Rattle.skk_calls.specs.declared.entry.Entry.{Entry}
 use Rattle.skk_calls.specs.Histories.{dialog}
-use Rattle.skk_calls.proofs.Samples.{Gives, Gives2}
 use Rattle.desk_history.specs.declared.view.Account.{Account}
 use Rattle.desk_history.specs.declared.view.View.{View}
 use Rattle.desk_history.specs.Keeping.{AreTrueOf, IsHistory, IsTold, IsTrueOf, Keeps, KnowsNone, all_drawn, one_if}
@@ -19,6 +18,13 @@ use Rattle.desk_history.specs.Seats.{calls_of, first_number, seen_by}
 use Rattle.desk_history.specs.Steps.{entered, first_alone, newcomer, roll_alone, with_accounts_of, with_draw}
 use Rattle.desk_history.specs.Steps.{with_roll_of, without_first, without_roll}
 use Rattle.desk_history.specs.Views.{account, caller_view, empty_view, roll_view, view_of}
+
+-- a function gives what a table says of each value, and of each pair
+abbrev Gives : {X Y : Type 0} → (X → Y) → List (X × Y) → Type 0
+Gives f table = map (λ line. f line.0) table ≡ map (λ line. line.1) table
+
+abbrev Gives2 : {X Y Z : Type 0} → (X → Y → Z) → List (X × Y × Z) → Type 0
+Gives2 f table = map (λ line. f line.0 line.1) table ≡ map (λ line. line.2) table
 
 -- what caller 0 asked and was answered, and caller 1
 abbrev ask : Call
