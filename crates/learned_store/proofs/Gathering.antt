@@ -112,16 +112,16 @@ module _ (before after : RowPlace → Option Row) (counts later : BTreeMap ℕ �
 -- Indexes
 
 -- of the rows of a state some stand in an index, and these are left
-pub record IsPut (state index : State) (left : BTreeMap RowPlace Row) : Type 0 where
+pub record IsPut (state index : State) (left : RowPlace → Option Row) : Type 0 where
   pub valid : is_valid index ≡ true
   pub counts : (number : ℕ) → count_of index number ≤ count_of state number
   pub rows : (number : ℕ) (key : RowKey) → row_at state number key
-      ≡ option_or (get place_cmp left (place_at number key)) (row_at index number key)
+      ≡ option_or (left (place_at number key)) (row_at index number key)
 
 module _ (state : State) (valid : is_valid state ≡ true) (place : RowPlace) (row : Row)
     (there : row_at state place.book place.key ≡ Some row) where
   -- a row of a state has its key
-  row_key : row.key ≡ place.key
+  pub row_key : row.key ≡ place.key
   row_key =
       same_key_equal row.key place.key
       (subst (λ (found : Option Row). has_key place.key found ≡ true) there
@@ -133,9 +133,9 @@ module _ (state : State) (valid : is_valid state ≡ true) (place : RowPlace) (r
       subst (λ (found : Option Row). fits_after (count_of state place.book) found ≡ true) there
       (fits_row_at state place.book valid place.key)
 
-module _ (state index : State) (rows rest : BTreeMap RowPlace Row) (place : RowPlace) (row : Row)
-    (valid : is_valid state ≡ true) (put : IsPut state index rows) (first : get place_cmp rows place ≡ Some row)
-    (updates : Updates place_cmp rows rest place None) where
+module _ (state index : State) (rows rest : RowPlace → Option Row) (place : RowPlace) (row : Row)
+    (valid : is_valid state ≡ true) (put : IsPut state index rows) (first : rows place ≡ Some row)
+    (taken : IsChanged rows rest place None) where
   -- a row that is left is one of the state
   pub left_there : row_at state place.book place.key ≡ Some row
   left_there =
@@ -150,7 +150,7 @@ module _ (state index : State) (rows rest : BTreeMap RowPlace Row) (place : RowP
     counts = λ number. subst (λ (n : ℕ). n ≤ count_of state number)
         (sym (count_told index (Put place.book count row) later number)) (below number);
     rows = λ number key. here number key
-        ∙ sym (ap (λ (found : Option Row). option_or (get place_cmp rest (place_at number key)) found)
+        ∙ sym (ap (λ (found : Option Row). option_or (rest (place_at number key)) found)
         (row_told index (Put place.book count row) later number put.valid key));
   }
     where
@@ -173,7 +173,7 @@ module _ (state index : State) (rows rest : BTreeMap RowPlace Row) (place : RowP
           by false e = put.counts number
 
       here : (number : ℕ) (key : RowKey) → row_at state number key
-          ≡ option_or (get place_cmp rest (place_at number key))
+          ≡ option_or (rest (place_at number key))
           (cond (place.book == number) (cond (same_key row.key key) (Some row) (row_at index number key))
           (row_at index number key))
       here number key =
@@ -181,14 +181,14 @@ module _ (state index : State) (rows rest : BTreeMap RowPlace Row) (place : RowP
           ∙ sym (ap (λ (found : Option Row). option_or found
           (cond (place.book == number) (cond (same_key row.key key) (Some row) (row_at index number key))
           (row_at index number key)))
-          (place_changed (get place_cmp rows) (get place_cmp rest) place None updates.0 number key
+          (place_changed rows rest place None taken number key
           ∙ ap (λ (k : RowKey). cond (place.book == number)
-          (cond (same_key k key) None (get place_cmp rows (place_at number key)))
-          (get place_cmp rows (place_at number key))) (sym own)))
+          (cond (same_key k key) None (rows (place_at number key)))
+          (rows (place_at number key))) (sym own)))
         where
           by : (b same : Bool) → (place.book == number) ≡ b → same_key row.key key ≡ same → row_at state number key
-              ≡ option_or (cond b (cond same None (get place_cmp rows (place_at number key)))
-              (get place_cmp rows (place_at number key)))
+              ≡ option_or (cond b (cond same None (rows (place_at number key)))
+              (rows (place_at number key)))
               (cond b (cond same (Some row) (row_at index number key)) (row_at index number key))
           by true true e f =
               sym (ap (λ (n : ℕ). row_at state n key) (eqb-true place.book number e))

@@ -1,3 +1,4 @@
+mod Again
 mod Changes
 mod Chronicles
 mod Examples
@@ -11,6 +12,8 @@ mod Noted
 mod OneForm
 mod OneRecovery
 mod Opened
+mod Placed
+mod PlainRows
 mod PlansTold
 mod ReadBytes
 mod ReadForms

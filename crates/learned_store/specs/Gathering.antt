@@ -1,26 +1,40 @@
 -- What was gathered of records, and the state that it stands for.
-use Rattle.std.specs.Prelude.{◌≡◌, ℕ, ◌≤◌, true, Option}
+use Rattle.std.specs.Prelude.{◌≡◌, ℕ, ◌≤◌, true, cond, List, map, Option, Some}
 use Rattle.std.specs.BTreeMap as tree
 use Rattle.std.specs.HashMap as hash
 use Rattle.std.specs.Option.{unwrap_or}
-use Rattle.std.specs.Ordering.{eq_by_cmp, nat_cmp}
+use Rattle.std.specs.List.{IsDistinct}
+use Rattle.std.specs.Map.{keys_of, lookup}
+use Rattle.std.specs.Ordering.{eq_by_cmp, is_eq, nat_cmp}
 use Rattle.skk_calls.specs.Rows.{RowKey, Row}
 use Rattle.skk_calls.specs.States.{State, count_of, row_at, is_valid}
+use Rattle.learned_store.specs.declared.form.Form.{Form}
 use Rattle.learned_store.specs.declared.gathered.Gathered.{Gathered}
+use Rattle.learned_store.specs.declared.placed_row.PlacedRow.{PlacedRow}
 use Rattle.learned_store.specs.declared.row_place.RowPlace.{RowPlace}
+use Rattle.learned_store.specs.Payloads.{Says, state_told}
+use Rattle.learned_store.specs.Reading.{IsSpelled}
 use Rattle.learned_store.specs.RowPlaces.{place_cmp}
 
 -- the count of a book among counts, 0 where it has none
 abbrev pub count_in : tree.BTreeMap ℕ ℕ → ℕ → ℕ
 count_in counts number = unwrap_or (tree.get nat_cmp counts number) 0
 
--- the row of a place among rows in order
-abbrev pub row_in_order : tree.BTreeMap RowPlace Row → RowPlace → Option Row
-row_in_order rows place = tree.get place_cmp rows place
-
 -- the row of a place among rows that lie as they came
 abbrev pub row_among : {S : Type 0} → hash.HashMap RowPlace Row S → RowPlace → Option Row
 row_among rows place = hash.get (eq_by_cmp place_cmp) rows place
+
+-- rows with their places, as entries of a map
+abbrev pub placed_entries : List PlacedRow → List (RowPlace × Row)
+placed_entries rows = map (λ row. (row.place, row.row)) rows
+
+-- the places of rows differ
+abbrev pub are_apart : List PlacedRow → Type 0
+are_apart rows = IsDistinct (eq_by_cmp place_cmp) (keys_of (placed_entries rows))
+
+-- the row of a place among rows with their places
+abbrev pub row_placed : List PlacedRow → RowPlace → Option Row
+row_placed rows place = lookup (eq_by_cmp place_cmp place) (placed_entries rows)
 
 -- these counts, and the rows that are found at places, are those of a valid state
 pub record AreOf (state : State) (counts : tree.BTreeMap ℕ ℕ) (row_of : RowPlace → Option Row) : Type 0 where
@@ -31,6 +45,20 @@ pub record AreOf (state : State) (counts : tree.BTreeMap ℕ ℕ) (row_of : RowP
 -- what was gathered is a valid state
 abbrev pub Gathers : Gathered → State → Type 0
 Gathers gathered state = AreOf state gathered.counts (row_among gathered.rows)
+
+-- at a state a payload says something, and this was gathered when that was added
+abbrev pub IsAdded : State → List ℕ → Gathered → Type 0
+IsAdded state payload after =
+    (form : Form) × Says state payload form × Gathers after (state_told state form)
+
+-- the row of a place has these bytes as its part and line, and got this stamp
+pub record IsRestamped (before after : RowPlace → Option Row) (place : RowPlace) (stamp : ℕ) (bytes : List ℕ)
+    : Type 0 where
+  pub row : Row
+  pub there : before place ≡ Some row
+  pub spelled : IsSpelled row bytes
+  pub changed : (other : RowPlace)
+      → after other ≡ cond (is_eq (place_cmp place other)) (Some (record row { stamp = stamp })) (before other)
 
 -- a valid state has the rows of another, and none of its counts is above
 pub record HasRows (other state : State) : Type 0 where

@@ -1,9 +1,9 @@
 -- What is read of a payload.
-use Rattle.std.specs.Prelude.{◌≡◌, ℕ, Bool, true, ◌&&◌, ◌==◌, Option, None, Some, List, ◌∷◌, ◌++◌, encode_utf8_all}
+use Rattle.std.specs.Prelude.{◌≡◌, ℕ, Bool, true, ◌&&◌, ◌==◌, Option, None, Some, List, [], ◌∷◌, ◌++◌, encode_utf8_all}
 use Rattle.std.specs.Str.{all_scalars}
 use Rattle.skk_calls.specs.declared.part.Part.{Part}
 use Rattle.skk_calls.specs.Canonical.{canonical, is_good}
-use Rattle.skk_calls.specs.Rows.{RowKey, Row, is_row_key, is_row}
+use Rattle.skk_calls.specs.Rows.{Cand, RowKey, Row, is_row_key, is_row}
 use Rattle.skk_calls.specs.States.{fits_count}
 use Rattle.learned_store.specs.Payloads.{book_number, wide_number, part_byte}
 
@@ -15,6 +15,10 @@ IsRead sound written given None = (x : _) → sound x ≡ true → given ≡ wri
 -- a payload of a kind, with the number of a book and a count, and the rest behind them
 abbrev pub payload_with : ℕ → ℕ → ℕ → List ℕ → List ℕ
 payload_with kind book count rest = kind ∷ (book_number book ++ (wide_number count ++ rest))
+
+-- a payload that puts a row: the number of a book, a count, and the row's stamp, with its part and line behind them
+abbrev pub put_with : ℕ → ℕ → ℕ → List ℕ → List ℕ
+put_with book count stamp row = payload_with 1 book count (wide_number stamp ++ row)
 
 -- a part, and a text in it
 abbrev pub Parted : Type 0
@@ -55,3 +59,18 @@ is_written_row count row = fits_count count row && all_scalars (canonical row)
 -- the bytes of a row: its stamp, its part and its line
 abbrev pub row_bytes : Row → List ℕ
 row_bytes row = wide_number row.stamp ++ parted_bytes (parted_row row)
+
+-- these are the bytes of a row's part and line, which may be written
+pub record IsSpelled (row : Row) (bytes : List ℕ) : Type 0 where
+  pub characters : all_scalars (canonical row) ≡ true
+  pub is : bytes ≡ parted_bytes (parted_row row)
+
+-- a row of a part and a stamp has one candidate, and nothing else
+pub record HasOneCand (part : Part) (stamp : ℕ) (row : Row) : Type 0 where
+  pub valid : is_row row ≡ true
+  pub part_is : row.key.part ≡ part
+  pub stamp_is : row.stamp ≡ stamp
+  pub cand : Cand
+  pub cands : row.cands ≡ cand ∷ []
+  pub blocks : row.blocks ≡ []
+  pub hides : row.hides ≡ []

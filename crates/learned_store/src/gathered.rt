@@ -1,15 +1,19 @@
-ghost use Rattle.std.specs.Prelude.{◌≡◌, ◌≤◌, ℕ, true, None, IfOk, IfSome, OnOk};
+ghost use Rattle.std.specs.Prelude.{◌≡◌, ◌≤◌, ◌&&◌, nat_le, ℕ, true, false, None, IfOk, IfSome, OnOk};
 ghost use Rattle.skk_calls.specs.Rows.{RowKey as row_key};
 ghost use Rattle.skk_calls.specs.States.{State, empty_state, count_of, row_at, is_valid};
 ghost use Rattle.learned_store.specs.declared.row_place.RowPlace.{RowPlace as place_value};
-ghost use Rattle.learned_store.specs.Gathering.{AreOf, Gathers, HasRows, count_in, row_among, row_in_order};
+ghost use Rattle.learned_store.specs.Gathering.{AreOf, Gathers, HasRows, IsAdded, IsRestamped, are_apart, count_in};
+ghost use Rattle.learned_store.specs.Gathering.{placed_entries, row_among, row_placed};
+ghost use Rattle.learned_store.specs.Reading.{put_with};
 ghost use Rattle.learned_store.specs.Payloads.{Says, SaysNothing, book_of, is_sound, new_count, state_told};
 
 use crate::form::Form;
 use crate::laws::files_are_recovered_in_one_way;
-use crate::payload::read_form;
+use crate::payload::{put_fields, read_form, read_key};
+use crate::placed_row::PlacedRow;
 use crate::row_place::RowPlace;
-use learn_index::{Index, KeptRow};
+use crate::stamped_row::StampedRow;
+use learn_index::Index;
 use skk_text::{Copies, Memory};
 use std::alloc::Global;
 use std::collections::{BTreeMap, HashMap};
@@ -19,7 +23,7 @@ use std::collections::{BTreeMap, HashMap};
 #[derive(Drop)]
 pub(crate) struct Gathered {
     counts: BTreeMap<u16, u64>,
-    rows: HashMap<RowPlace, KeptRow>,
+    rows: HashMap<RowPlace, StampedRow>,
 }
 
 impl Gathered {
@@ -33,8 +37,71 @@ impl Gathered {
         }
     }
 
+    // Adds what the payload of the next record says, where it says something. Takes time in its length and a logarithm
+    // in the number of books, and the memory of a row and of its key once more where the row is not the one that its
+    // key has, but for the stamp. After an error what was gathered is of no use.
+    pub(crate) fn add(&mut self, alloc: Global, payload: &[u8]) -> Result<bool, Memory>
+        ensures said { IfOk result (λ is. is ≡ true → (state : State) → Gathers self.old state
+            → IsAdded state payload.now self.new) }
+        ensures none { IfOk result (λ is. is ≡ false → (state : State) → Gathers self.old state
+            → SaysNothing state payload.now) }
+    {
+        if self.put_again(alloc, payload)? {
+            return Ok(true);
+        }
+        let Some(form) = self.read(alloc, payload)? else {
+            return Ok(false);
+        };
+        self.tell(alloc, form)?;
+        Ok(true)
+    }
+
+    // Adds what a payload says that puts the row that its key has, but for the stamp: its line is known, and not read.
+    fn put_again(&mut self, alloc: Global, payload: &[u8]) -> Result<bool, Memory>
+        ensures again { IfOk result (λ is. is ≡ true → (state : State) → Gathers self.old state
+            → IsAdded state payload.now self.new) }
+        ensures same { IfOk result (λ is. is ≡ false → (state : State) → Gathers self.old state
+            → Gathers self.new state) }
+    {
+        match put_fields(payload) {
+            Some(fields) => {
+                self.put_row_again(alloc, fields.book, fields.count, fields.stamp, fields.row)
+            }
+            None => Ok(false),
+        }
+    }
+
+    // Adds a row of a stamp to a book, which then has a count, if it is the row that its key has, but for the stamp.
+    // These are the bytes of its part and line.
+    fn put_row_again(
+        &mut self,
+        alloc: Global,
+        book: u16,
+        count: u64,
+        stamp: u64,
+        bytes: &[u8],
+    ) -> Result<bool, Memory>
+        requires { (nat_le 1 stamp && nat_le stamp count) ≡ true }
+        ensures again { IfOk result (λ is. is ≡ true → (state : State) → Gathers self.old state
+            → IsAdded state (put_with book count stamp bytes.now) self.new) }
+        ensures same { IfOk result (λ is. is ≡ false → (state : State) → Gathers self.old state
+            → Gathers self.new state) }
+    {
+        if count < count_in(&self.counts, book) {
+            return Ok(false);
+        }
+        let Some(place) = place_of(alloc, book, bytes)? else {
+            return Ok(false);
+        };
+        if !restamp(alloc, &mut self.rows, &place, stamp, bytes)? {
+            return Ok(false);
+        }
+        let _count = self.counts.insert(book, count)?;
+        Ok(true)
+    }
+
     // What the payload of the next record says. Takes time in its length.
-    pub(crate) fn read(&self, alloc: Global, payload: &[u8]) -> Result<Option<Form>, Memory>
+    fn read(&self, alloc: Global, payload: &[u8]) -> Result<Option<Form>, Memory>
         ensures some { IfOk result (λ form. IfSome form (λ f. (state : State) → Gathers self.now state
             → Says state payload.now f)) }
         ensures none { IfOk result (λ form. form ≡ None → (state : State) → Gathers self.now state
@@ -50,9 +117,8 @@ impl Gathered {
         Ok(Some(form))
     }
 
-    // Adds what a record says. Takes a logarithm in the number of books, and the memory of a row and of its key once
-    // more, which a later row of that key gives back. After an error what was gathered is of no use.
-    pub(crate) fn tell(&mut self, alloc: Global, form: Form) -> Result<(), Memory>
+    // Adds what a record says.
+    fn tell(&mut self, alloc: Global, form: Form) -> Result<(), Memory>
         ensures { OnOk result ((state : State) → Gathers self.old state → is_sound form ≡ true
             → count_of state (book_of form) ≤ new_count form → Gathers self.new (state_told state form)) }
     {
@@ -60,7 +126,7 @@ impl Gathered {
         match form {
             Form::Put { book, row, .. } => {
                 let key = row.key().copy(alloc)?;
-                let row = KeptRow::new(alloc, row)?;
+                let row = StampedRow::new(alloc, row)?;
                 let _row = self.rows.insert(RowPlace { book, key }, row)?;
             }
             Form::Drop { book, key, .. } => {
@@ -92,14 +158,63 @@ fn count_in(counts: &BTreeMap<u16, u64>, book: u16) -> u64
     counts.get(&book).copied().unwrap_or(0)
 }
 
-// The rows in the order of their places, which are sorted once.
-fn in_order(
-    alloc: Global,
-    rows: HashMap<RowPlace, KeptRow>,
-) -> Result<BTreeMap<RowPlace, KeptRow>, Memory>
-    ensures { IfOk result (λ ordered. (place : place_value) → row_in_order ordered place ≡ row_among rows place) }
+// The place in a book that what stands before the first space of a line has, whose bytes stand behind that of its part.
+fn place_of(alloc: Global, book: u16, bytes: &[u8]) -> Result<Option<RowPlace>, Memory>
+    ensures { IfOk result (λ place. IfSome place (λ p. p.book ≡ book)) }
 {
-    Ok(rows.into_iter().collect(alloc)?)
+    let Some(end) = bytes.iter().position(|byte| *byte == b' ') else {
+        return Ok(None);
+    };
+    match read_key(alloc, &bytes[..end])? {
+        Some(key) => Ok(Some(RowPlace { book, key })),
+        None => Ok(None),
+    }
+}
+
+// Gives the row of a place another stamp, where these are the bytes of the row's part and line.
+fn restamp(
+    alloc: Global,
+    rows: &mut HashMap<RowPlace, StampedRow>,
+    place: &RowPlace,
+    stamp: u64,
+    bytes: &[u8],
+) -> Result<bool, Memory>
+    ensures restamped { IfOk result (λ is. is ≡ true
+        → IsRestamped (row_among rows.old) (row_among rows.new) place.now stamp bytes.now) }
+    ensures same { IfOk result (λ is. is ≡ false
+        → (other : place_value) → row_among rows.new other ≡ row_among rows.old other) }
+{
+    let Some(row) = rows.get_mut(place) else {
+        return Ok(false);
+    };
+    if !row.is_spelled(alloc, bytes)? {
+        return Ok(false);
+    }
+    row.restamp(stamp);
+    Ok(true)
+}
+
+// The rows in the order of their places, which are sorted once.
+fn in_order(alloc: Global, rows: HashMap<RowPlace, StampedRow>) -> Result<Vec<PlacedRow>, Memory>
+    ensures apart { IfOk result (λ placed. are_apart placed.items) }
+    ensures rows { IfOk result (λ placed. (place : place_value)
+        → row_placed placed.items place ≡ row_among rows place) }
+{
+    let mut placed = placed_rows(alloc, rows)?;
+    placed.sort_unstable_by(|row, other| row.order(other));
+    Ok(placed)
+}
+
+// The rows with their places, as they lie.
+fn placed_rows(alloc: Global, rows: HashMap<RowPlace, StampedRow>) -> Result<Vec<PlacedRow>, Memory>
+    ensures apart { IfOk result (λ placed. are_apart placed.items) }
+    ensures rows { IfOk result (λ placed. placed_entries placed.items ≡ rows.entries) }
+{
+    let mut placed = Vec::with_capacity(alloc, rows.len())?;
+    for (place, row) in rows {
+        placed.push(PlacedRow::new(place, row))?;
+    }
+    Ok(placed)
 }
 
 // An index of rows, each of them put with the last count of its book. They are put in order, so each comes to the end
@@ -107,16 +222,20 @@ fn in_order(
 fn index_of(
     alloc: Global,
     counts: &BTreeMap<u16, u64>,
-    mut rows: BTreeMap<RowPlace, KeptRow>,
+    rows: Vec<PlacedRow>,
 ) -> Result<Index, Memory>
-    requires { (state : State) × AreOf state counts.now (row_in_order rows) }
-    ensures { IfOk result (λ index. (state : State) → AreOf state counts.now (row_in_order rows)
+    requires apart { are_apart rows.items }
+    requires state { (state : State) × AreOf state counts.now (row_placed rows.items) }
+    ensures { IfOk result (λ index. (state : State) → AreOf state counts.now (row_placed rows.items)
         → HasRows state index.state) }
 {
     let mut index = Index::new(alloc);
-    while let Some((place, row)) = rows.pop_first() {
-        let count = count_in(counts, place.book);
-        index.put(alloc, place.book, count, row)?;
+    for placed in rows {
+        let PlacedRow { place, row, .. } = placed;
+        let RowPlace { book, key } = place;
+        let count = count_in(counts, book);
+        let row = row.into_kept(alloc, key)?;
+        index.put(alloc, book, count, row)?;
     }
     Ok(index)
 }

@@ -28,8 +28,11 @@ mod learned_name;
 mod noting;
 mod opening;
 mod payload;
+mod placed_row;
+mod plain_row;
 mod recovery;
 mod row_place;
+mod stamped_row;
 mod store;
 mod writing;
 

@@ -5,11 +5,12 @@ ghost use Rattle.skk_calls.specs.Canonical.{canonical};
 ghost use Rattle.skk_calls.specs.Rows.{is_row_key, same_text};
 ghost use Rattle.learned_store.specs.declared.form.Form.{Form};
 ghost use Rattle.learned_store.specs.Payloads.{wide_number, part_byte, payload_of, is_sound};
-ghost use Rattle.learned_store.specs.Reading.{IsRead, payload_with, is_parted, parted_bytes, is_written_key};
+ghost use Rattle.learned_store.specs.Reading.{IsRead, payload_with, put_with, is_parted, parted_bytes, is_written_key};
 ghost use Rattle.learned_store.specs.Reading.{parted_key, is_line_row, is_text_row, parted_row, is_written_row};
 ghost use Rattle.learned_store.specs.Reading.{row_bytes};
 
 use crate::form::{DROP, Form, PUT, SET_COUNT};
+use crate::plain_row::plain_row;
 use dict_format::{good_rows_are_read_again, lines_spell_one_row, print_line, row_of_line};
 use skk_calls::{Cands, Part, Row, RowKey};
 use skk_text::{Copies, Memory, Text};
@@ -23,6 +24,16 @@ struct Fields<'a> {
     book: u16,
     count: u64,
     rest: &'a [u8],
+}
+
+// What a payload begins with that puts a row into a book: the number of the book, a count, and the row's stamp; and
+// the bytes of the row's part and line behind them.
+#[derive(Clone, Copy, Debug)]
+pub(crate) struct PutFields<'a> {
+    pub(crate) book: u16,
+    pub(crate) count: u64,
+    pub(crate) stamp: u64,
+    pub(crate) row: &'a [u8],
 }
 
 // What a payload says, whatever the state. Takes time in its length.
@@ -79,6 +90,28 @@ fn count_of(book: u16, count: u64, rest: &[u8]) -> Option<Form>
     } else {
         None
     }
+}
+
+// The fields of a payload that puts a row of a stamp that its count allows into a book. The row is not read.
+pub(crate) fn put_fields(payload: &[u8]) -> Option<PutFields<'_>>
+    ensures is { IfSome result (λ fields.
+        payload.now ≡ put_with fields.book fields.count fields.stamp fields.row.now) }
+    ensures stamp { IfSome result (λ fields. (nat_le 1 fields.stamp && nat_le fields.stamp fields.count) ≡ true) }
+{
+    let fields = fields_of(payload)?;
+    if fields.kind != PUT {
+        return None;
+    }
+    let (stamp, row) = wide_number(fields.rest)?;
+    if !is_stamp(fields.count, stamp) {
+        return None;
+    }
+    Some(PutFields {
+        book: fields.book,
+        count: fields.count,
+        stamp,
+        row,
+    })
 }
 
 // The fields of a payload, where it is long enough for them.
@@ -146,7 +179,7 @@ fn is_stamp(count: u64, stamp: u64) -> bool
 }
 
 // The key of its part and its reading.
-fn read_key(alloc: Global, bytes: &[u8]) -> Result<Option<RowKey>, Memory>
+pub(crate) fn read_key(alloc: Global, bytes: &[u8]) -> Result<Option<RowKey>, Memory>
     ensures { IfOk result (IsRead is_written_key (λ key. parted_bytes (parted_key key)) bytes.now) }
 {
     match parted_text(alloc, bytes)? {
@@ -169,6 +202,16 @@ fn key_of(part: Part, reading: Text) -> Option<RowKey>
 fn row_of(alloc: Global, part: Part, line: &Text, stamp: u64) -> Result<Option<Row>, Memory>
     ensures { IfOk result (IsRead (is_line_row stamp) parted_row (part, line.now)) }
 {
+    match plain_row(alloc, part, line, stamp)? {
+        Some(row) => Ok(Some(row)),
+        None => any_row_of(alloc, part, line, stamp),
+    }
+}
+
+// The row of a stamp, of its part and its line, whatever stands there.
+fn any_row_of(alloc: Global, part: Part, line: &Text, stamp: u64) -> Result<Option<Row>, Memory>
+    ensures { IfOk result (IsRead (is_line_row stamp) parted_row (part, line.now)) }
+{
     good_rows_are_read_again();
     lines_spell_one_row();
     let Some(row) = row_of_line(alloc, part, line.as_str())? else {
@@ -183,7 +226,7 @@ fn row_of(alloc: Global, part: Part, line: &Text, stamp: u64) -> Result<Option<R
 }
 
 // Whether the line of a row is this one.
-fn is_line_of(alloc: Global, row: &Row, line: &Text) -> Result<bool, Memory>
+pub(crate) fn is_line_of(alloc: Global, row: &Row, line: &Text) -> Result<bool, Memory>
     ensures { IfOk result (λ is. is ≡ same_text (canonical row.now) line.now) }
 {
     let printed = print_line(alloc, row)?;

@@ -40,10 +40,9 @@ pub(crate) fn recover(alloc: Global, records: Records) -> Result<Index, RecoverF
 {
     let mut gathered = Gathered::new(alloc);
     for found in records.into_vec() {
-        let Some(form) = gathered.read(alloc, found.payload.as_slice())? else {
+        if !gathered.add(alloc, found.payload.as_slice())? {
             return Err(RecoverFault::Break { at: found.at });
-        };
-        gathered.tell(alloc, form)?;
+        }
     }
     Ok(gathered.into_index(alloc)?)
 }

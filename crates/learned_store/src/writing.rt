@@ -77,7 +77,7 @@ fn drop_record(alloc: Global, book: u16, count: u64, key: &RowKey) -> Result<Byt
 }
 
 // The byte of a part.
-fn part_byte(part: Part) -> u8
+pub(crate) fn part_byte(part: Part) -> u8
     ensures { result ≡ part_byte part }
 {
     match part {

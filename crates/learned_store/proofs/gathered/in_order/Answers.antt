@@ -1,20 +1,17 @@
-use Rattle.std.proofs.Common.{◌∙◌, refl, subst}
-use Rattle.std.proofs.lemmas.Iterator.Adapters.{fact_from_collect}
-use Rattle.std.proofs.lemmas.Iterator.Consumers.{YieldsList-from_rest}
-use Rattle.std.proofs.lemmas.Map.Made.{update_all_none}
-use Rattle.std.specs.BTreeMap as tree
-use Rattle.std.specs.Cmp.{eq_by_cmp_equiv}
+use Rattle.std.proofs.Common.{◌∙◌, ap, List}
+use Rattle.std.specs.Map.{lookup}
 use Rattle.std.specs.Ordering.{eq_by_cmp}
-use Rattle.std.specs.Result.{IfOk}
-use Rattle.learned_store.specs.RowPlaces.{place_cmp, place_total}
+use Rattle.skk_calls.specs.Rows.{Row}
+use Rattle.learned_store.specs.declared.row_place.RowPlace.{RowPlace}
+use Rattle.learned_store.specs.RowPlaces.{place_cmp}
+use Rattle.learned_store.proofs.Placed.{sorted_apart, sorted_found}
 use Rattle.learned_store.proofs.gathered.in_order.Goals as goal
 
-pub returns : goal.returns
-returns c place =
-    let entries = c.args.rows.entries in
-    let made = fact_from_collect (tree.IsFromIterResult place_cmp) c.collect.result c.collect.ensures.ran
-    (YieldsList-from_rest entries c.into_iter.ensures.into_iter_gives.0) in
-    let ordered = subst (λ r. IfOk r (λ map. tree.IsFromIterResult place_cmp entries map)) c.in_ok-collect.was made in
-    ordered.0 place
-    ∙ update_all_none (eq_by_cmp_equiv place_total) (eq_by_cmp place_cmp) (λ one other. refl) entries place
-    c.into_iter.ensures.into_iter_gives.4
+pub returns-clause-apart : goal.returns-clause-apart
+returns-clause-apart c =
+    sorted_apart _ _ c.sort_unstable_by.ensures.permutation c.in_ok-placed.ensures.apart
+
+pub returns-clause-rows : goal.returns-clause-rows
+returns-clause-rows c place =
+    sorted_found _ _ c.sort_unstable_by.ensures.permutation c.in_ok-placed.ensures.apart place
+    ∙ ap (λ (entries : List (RowPlace × Row)). lookup (eq_by_cmp place_cmp place) entries) c.in_ok-placed.ensures.rows

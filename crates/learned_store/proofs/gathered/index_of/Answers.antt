@@ -1,22 +1,61 @@
-use Rattle.std.proofs.Common.{◌≡◌, true, ◌∙◌, sym, subst, ℕ}
-use Rattle.skk_calls.specs.States.{State, fits_count}
-use Rattle.learned_store.proofs.Gathering.{IsPut, row_fits, left_there, put_next}
+use Rattle.std.proofs.Common.{◌≡◌, ◌≤◌, true, Some, ◌∙◌, sym, subst, ℕ}
+use Rattle.std.specs.Vec.Iter.{into_iter_items}
+use Rattle.skk_calls.specs.Rows.{Row}
+use Rattle.skk_calls.specs.States.{State, count_of, fits_count, state_with}
+use Rattle.learned_store.specs.Gathering.{row_placed}
+use Rattle.learned_store.proofs.Gathering.{IsPut, left_there, put_next, row_fits, row_key}
+use Rattle.learned_store.proofs.Placed.{begin_there, begin_taken, rest_apart}
 use Rattle.learned_store.proofs.gathered.index_of.Goals as goal
+
+pub into_kept-requires : goal.into_kept-requires
+into_kept-requires c =
+    let state = c.requires.state.0 in
+    let are = c.requires.state.1 in
+    let first = c.in-Some.placed in
+    let rows = into_iter_items c.loop-placed.placed-iterator in
+    let rest = into_iter_items c.next.new.self in
+    let there = left_there state c.loop-placed.index.state (row_placed rows) (row_placed rest) first.place first.row
+    are.valid (c.loop-placed.invariant.put state are) (begin_there rows rest first c.in-Some.ensures.steps.0)
+    (begin_taken rows rest first c.in-Some.ensures.steps.0 c.loop-placed.invariant.apart) in
+    sym (row_key state are.valid first.place first.row there)
+
+pub put-requires-clause-count : goal.put-requires-clause-count
+put-requires-clause-count c =
+    let state = c.requires.state.0 in
+    let are = c.requires.state.1 in
+    let book = c.in-Some.placed.place.book in
+    subst (λ (n : ℕ). count_of c.loop-placed.index.state book ≤ n)
+    (sym (c.count_in-count.ensures ∙ are.count book)) ((c.loop-placed.invariant.put state are).counts book)
 
 pub put-requires-clause-row : goal.put-requires-clause-row
 put-requires-clause-row c =
-    let state = c.requires.0 in
-    let are = c.requires.1 in
-    let there = left_there state c.loop-place.index.state c.loop-place.rows c.pop_first.new.self c.in-Some.place
-    c.in-Some.row are.valid (c.loop-place.invariant state are) c.in-Some.ensures.value
-    c.in-Some.ensures.updates in
-    subst (λ (n : ℕ). fits_count n c.in-Some.row ≡ true)
-    (sym (c.count_in-count.ensures ∙ are.count c.in-Some.place.book))
-    (row_fits state are.valid c.in-Some.place c.in-Some.row there)
+    let state = c.requires.state.0 in
+    let are = c.requires.state.1 in
+    let first = c.in-Some.placed in
+    let rows = into_iter_items c.loop-placed.placed-iterator in
+    let rest = into_iter_items c.next.new.self in
+    let there = left_there state c.loop-placed.index.state (row_placed rows) (row_placed rest) first.place first.row
+    are.valid (c.loop-placed.invariant.put state are) (begin_there rows rest first c.in-Some.ensures.steps.0)
+    (begin_taken rows rest first c.in-Some.ensures.steps.0 c.loop-placed.invariant.apart) in
+    subst (λ (row : Row). fits_count c.count_in-count.result row ≡ true) (sym c.in_ok-row.ensures)
+    (subst (λ (n : ℕ). fits_count n first.row ≡ true)
+    (sym (c.count_in-count.ensures ∙ are.count first.place.book))
+    (row_fits state are.valid first.place first.row there))
 
-pub loop-place-preserved : goal.loop-place-preserved
-loop-place-preserved c state are =
-    subst (λ (index : State). IsPut state index c.pop_first.new.self) (sym c.in_ok-put.ensures.ok)
-    (put_next state c.loop-place.index.state c.loop-place.rows c.pop_first.new.self c.in-Some.place c.in-Some.row
-    are.valid (c.loop-place.invariant state are) c.in-Some.ensures.value c.in-Some.ensures.updates
-    c.count_in-count.result (c.count_in-count.ensures ∙ are.count c.in-Some.place.book))
+pub loop-placed-preserved : goal.loop-placed-preserved
+loop-placed-preserved c =
+    let first = c.in-Some.placed in
+    let rows = into_iter_items c.loop-placed.placed-iterator in
+    let rest = into_iter_items c.next.new.self in
+    let is = c.in-Some.ensures.steps.0 in
+    let apart = c.loop-placed.invariant.apart in
+    record {
+      apart = rest_apart rows rest first is apart;
+      put = λ state are. subst (λ (now : State). IsPut state now (row_placed rest)) (sym c.in_ok-put.ensures.ok)
+          (subst (λ (row : Row). IsPut state (state_with c.loop-placed.index.state first.place.book
+          c.count_in-count.result row.key (Some row)) (row_placed rest)) (sym c.in_ok-row.ensures)
+          (put_next state c.loop-placed.index.state (row_placed rows) (row_placed rest) first.place first.row
+          are.valid (c.loop-placed.invariant.put state are) (begin_there rows rest first is)
+          (begin_taken rows rest first is apart) c.count_in-count.result
+          (c.count_in-count.ensures ∙ are.count first.place.book)));
+    }

@@ -1,13 +1,13 @@
-use Rattle.std.proofs.Common.{length}
+use Rattle.std.specs.Vec.Iter.{into_iter_items}
 use Rattle.skk_calls.specs.States.{State}
-use Rattle.learned_store.specs.Gathering.{AreOf, row_in_order}
+use Rattle.learned_store.specs.Gathering.{AreOf, are_apart, row_placed}
 use Rattle.learned_store.proofs.Gathering.{IsPut}
 use Rattle.learned_store.proofs.gathered.index_of.Given as goal
 
 -- some rows are put, and the others are left
-abbrev pub invariant-loop-place : goal.invariant-loop-place
-invariant-loop-place l =
-    (state : State) → AreOf state l.counts (row_in_order l.fn.rows) → IsPut state l.index.state l.rows
-
-abbrev pub decreases-loop-place : goal.decreases-loop-place
-decreases-loop-place l = length l.rows.entries
+abbrev pub invariant-loop-placed : goal.invariant-loop-placed
+invariant-loop-placed l = record {
+  apart : are_apart (into_iter_items l.placed-iterator);
+  put : (state : State) → AreOf state l.counts (row_placed l.fn.rows.items)
+      → IsPut state l.index.state (row_placed (into_iter_items l.placed-iterator));
+}

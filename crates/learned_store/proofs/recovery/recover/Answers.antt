@@ -1,21 +1,17 @@
-use Rattle.std.proofs.Common.{◌≡◌, ◌∷◌, ◌++◌, [], List, ℕ, Option, Some, sym, subst, ◌∙◌}
+use Rattle.std.proofs.Common.{◌≡◌, ◌∷◌, ◌++◌, [], List, ℕ, sym, subst, ◌∙◌}
 use Rattle.std.proofs.lemmas.List.{append_assoc}
-use Rattle.std.specs.Option.{IfSome}
 use Rattle.std.specs.Vec.Iter.{into_iter_items}
-use Rattle.skk_calls.specs.States.{State}
 use Rattle.skk_journal.specs.declared.found.Found.{Found}
 use Rattle.skk_journal.specs.Found.{payloads, found_from}
 use Rattle.skk_journal.specs.Records.{first_place}
-use Rattle.learned_store.specs.declared.form.Form.{Form}
-use Rattle.learned_store.specs.Gathering.{Gathers}
 use Rattle.learned_store.specs.Payloads.{Says, SaysNothing, state_told}
 use Rattle.learned_store.specs.Recovered.{Leave, BreakAt}
 use Rattle.learned_store.proofs.Kept.{leave_on}
 use Rattle.learned_store.proofs.ReadRecords.{payloads_next, break_at}
 use Rattle.learned_store.proofs.recovery.recover.Goals as goal
 
-pub returns-in_default-clause-broken : goal.returns-in_default-clause-broken
-returns-in_default-clause-broken c places =
+pub returns-then-not-branch-clause-broken : goal.returns-then-not-branch-clause-broken
+returns-then-not-branch-clause-broken c places =
     let found = c.in-Some.found in
     let before = c.loop-found.yielded in
     let state = c.loop-found.invariant.state in
@@ -28,18 +24,16 @@ returns-in_default-clause-broken c places =
     (subst (λ (records : List Found). records ≡ found_from first_place (payloads records)) (sym all) places)
     state c.loop-found.invariant.left
     (subst (SaysNothing state) c.as_slice.ensures
-    (c.in_ok-form.ensures.none c.in_default.is state c.loop-found.invariant.gathers)))
+    (c.in_ok-add.ensures.none c.if-not-branch.true state c.loop-found.invariant.gathers)))
 
 pub loop-found-preserved : goal.loop-found-preserved
 loop-found-preserved c =
     let found = c.in-Some.found in
     let before = c.loop-found.yielded in
     let state = c.loop-found.invariant.state in
-    let gathers = c.loop-found.invariant.gathers in
-    let form = c.in-Some-2.form in
-    let said = subst (λ (read : Option Form). IfSome read (λ f. (s : State) → Gathers c.loop-found.gathered s
-    → Says s c.as_slice.result.now f)) c.in-Some-2.is c.in_ok-form.ensures.some in
-    let says = subst (λ (payload : List ℕ). Says state payload form) c.as_slice.ensures (said state gathers) in
+    let added = c.in_ok-add.ensures.said c.if-not-branch.false state c.loop-found.invariant.gathers in
+    let form = added.0 in
+    let says = subst (λ (payload : List ℕ). Says state payload form) c.as_slice.ensures added.1 in
     record {
       state = state_told state form;
       all =
@@ -49,5 +43,5 @@ loop-found-preserved c =
       left =
           subst (λ (read : List (List ℕ)). Leave read (state_told state form)) (sym (payloads_next before [] found))
           (leave_on (payloads before) state found.payload form c.loop-found.invariant.left says);
-      gathers = c.in_ok-tell.ensures state gathers says.sound says.counted;
+      gathers = added.2;
     }

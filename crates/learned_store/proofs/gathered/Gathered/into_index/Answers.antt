@@ -1,15 +1,15 @@
 use Rattle.std.proofs.Common.{◌∙◌}
-use Rattle.learned_store.specs.Gathering.{AreOf, row_in_order}
+use Rattle.learned_store.specs.Gathering.{AreOf, row_placed}
 use Rattle.learned_store.proofs.Gathering.{place_at}
 use Rattle.learned_store.proofs.SameStates.{same_state}
 use Rattle.learned_store.proofs.gathered.Gathered.into_index.Goals as goal
 
 pub returns : goal.returns
 returns c state gathers =
-    let are : AreOf state c.args.self.counts (row_in_order c.in_ok-rows.rows) = record {
+    let are : AreOf state c.args.self.counts (row_placed c.in_ok-rows.rows.items) = record {
       valid = gathers.valid;
       count = gathers.count;
-      row = λ number key. c.in_ok-rows.ensures (place_at number key) ∙ gathers.row number key;
+      row = λ number key. c.in_ok-rows.ensures.rows (place_at number key) ∙ gathers.row number key;
     } in
     let has = c.in_ok-index.ensures state are in
     same_state c.give_counts.new.index.state state c.in_ok-give_counts.ensures.valid gathers.valid

@@ -6,7 +6,7 @@ use Rattle.dict_format.specs.EntryRows.{row_of_line}
 use Rattle.learned_store.specs.Reading.{IsRead, is_line_row, parted_row}
 use Rattle.learned_store.proofs.OneForm.{lines_are_read}
 use Rattle.learned_store.proofs.ReadRows.{line_row, no_line_row, other_line_row}
-use Rattle.learned_store.proofs.payload.row_of.Goals as goal
+use Rattle.learned_store.proofs.payload.any_row_of.Goals as goal
 
 pub returns-in_default : goal.returns-in_default
 returns-in_default c =
