@@ -1,6 +1,6 @@
+use crate::journals::text;
 use skk_disk::{Disk, FileDisk, MadeCall, MemDisk, Which};
 use skk_outside::Failed;
-use skk_text::Text;
 use std::alloc::{AllocError, Global};
 use std::fs;
 use std::process::Abort;
@@ -101,10 +101,6 @@ fn a_disk_in_memory_is_written_cut_and_read(rt: HostRuntime) -> Result<(), Fail>
 }
 
 const FOLDER: &str = "learned_tests_disk";
-
-fn text(alloc: Global, name: &str) -> Result<Text, AllocError> {
-    Ok(Text::of(String::from_str(alloc, name)?))
-}
 
 #[test]
 fn files_of_the_system_are_a_disk(rt: HostRuntime) -> Result<(), Fail> {

@@ -14,12 +14,12 @@ const LEARNING: &[u8] = b"\x01\x01\0\x01\0\0\0\0\0\0\0\x01\0\0\0\0\0\0\0\0\
 // A new file, and the file with that record.
 const NEW_FILE: &[u8] = b"\x01SKKDESK\x01\x01\0\0\0\0\0\0\0\0";
 
-const LEARNT_FILE: &[u8] = b"\x01SKKDESK\x01\x01\0\0\0\0\0\0\0\x01\x26\0\0\0\
+pub(crate) const LEARNT_FILE: &[u8] = b"\x01SKKDESK\x01\x01\0\0\0\0\0\0\0\x01\x26\0\0\0\
     \x01\x01\0\x01\0\0\0\0\0\0\0\x01\0\0\0\0\0\0\0\0\
     \xe3\x81\x8b\xe3\x82\x93\xe3\x81\x98 /\xe6\xbc\xa2\xe5\xad\x97/\0";
 
 // A disk whose first file has these bytes: two calls, where there are any.
-fn disk_of<R: Abort>(
+pub(crate) fn disk_of<R: Abort>(
     rt: &R,
     alloc: Global,
     bytes: &[u8],
@@ -34,7 +34,7 @@ fn disk_of<R: Abort>(
 }
 
 // Tells that the first file of a disk has these bytes.
-fn expect_file<R: Abort, D: Disk>(
+pub(crate) fn expect_file<R: Abort, D: Disk>(
     rt: &R,
     alloc: Global,
     disk: &mut D,
@@ -259,7 +259,11 @@ fn with_failing_calls<R: Abort>(
 }
 
 // What the calls of a disk were, from a number of them on.
-fn kinds<R: Abort>(rt: &R, alloc: Global, made: &[MadeCall]) -> Result<String, AllocError> {
+pub(crate) fn kinds<R: Abort>(
+    rt: &R,
+    alloc: Global,
+    made: &[MadeCall],
+) -> Result<String, AllocError> {
     let mut kinds = String::new(alloc);
     for call in made {
         kinds.push(match call {
@@ -348,7 +352,7 @@ fn an_opening_whose_calls_fail_gives_the_disk_back(rt: HostRuntime) -> Result<()
 
 const FOLDER: &str = "learned_tests_journal";
 
-fn text(alloc: Global, name: &str) -> Result<Text, AllocError> {
+pub(crate) fn text(alloc: Global, name: &str) -> Result<Text, AllocError> {
     Ok(Text::of(String::from_str(alloc, name)?))
 }
 

@@ -8,3 +8,5 @@
 mod disks;
 #[cfg(test)]
 mod journals;
+#[cfg(test)]
+mod stores;

@@ -1,0 +1,632 @@
+ghost use Rattle.std.specs.Prelude.{◌≡◌, true, IfOk};
+ghost use Rattle.skk_calls.specs.Dictionary.{is_fit};
+ghost use Rattle.skk_calls.specs.Rows.{is_word};
+
+use crate::journals::{LEARNT_FILE, disk_of, expect_file, kinds, text};
+use dict_layers::System;
+use learned_store::Store;
+use skk_calls::{Answer, Books, Call, Cand, Cands, Learned, Part, Reply, RowKey};
+use skk_disk::{Disk, MemDisk};
+use skk_journal::Unopened;
+use skk_text::{Copies, Memory, Text, Texts};
+use std::alloc::{AllocError, Global};
+use std::process::Abort;
+use std::test::Fail;
+
+// The part lines of a dictionary file without okurigana.
+const PART_LINES: &str = ";; okuri-ari entries.\n;; okuri-nasi entries.\n";
+
+// A limit that nothing here comes to.
+const FAR: u64 = 1_000_000;
+
+// What is asked of a store. Words are learnt and purged in book 1.
+#[derive(Clone, Copy)]
+enum Step<'a> {
+    // Learns a word for a reading.
+    Learn(&'a str, &'a str),
+    // Learns for the reading a the word that has a letter so many times.
+    LearnLong(&'a str, usize),
+    // Purges a word of a reading.
+    Purge(&'a str, &'a str),
+    // Takes back what was learnt last.
+    Unlearn,
+    // Finds the words of a reading.
+    Find(&'a str),
+    // Finds the readings that go on from a prefix.
+    Complete(&'a str),
+}
+
+// The calls of the disk that fail, by their numbers: that of the first change begins with the tenth. A limit. What is
+// asked of a new file. What the answers tell, and then the lines of book 1 when the file is opened again. The calls
+// of the disk up to then.
+type Case<'a> = (&'a [u64], u64, &'a [Step<'a>], &'a str, &'a str);
+
+// A change of the row of かさ whose calls fail, behind what was learnt before it, and then another one.
+const LEARNS: &[Step<'static>] = &[
+    Step::Learn("かさ", "傘"),
+    Step::Learn("き", "木"),
+    Step::Learn("き", "気"),
+    Step::Find("かさ"),
+];
+
+const PURGES: &[Step<'static>] = &[
+    Step::Learn("かさ", "傘"),
+    Step::Learn("かさ", "笠"),
+    Step::Purge("かさ", "傘"),
+    Step::Learn("き", "木"),
+    Step::Find("かさ"),
+];
+
+const RESTORES: &[Step<'static>] = &[
+    Step::Learn("かさ", "傘"),
+    Step::Learn("かさ", "笠"),
+    Step::Unlearn,
+    Step::Learn("き", "木"),
+    Step::Find("かさ"),
+];
+
+const REMOVES: &[Step<'static>] = &[
+    Step::Learn("かさ", "傘"),
+    Step::Unlearn,
+    Step::Learn("き", "木"),
+    Step::Find("かさ"),
+];
+
+// What they tell where the change is refused, and where the one that follows is refused too.
+const NOT_LEARNT: &str = "Disk\nLearned 1\nLearned 2\n\nき /気/木/\n";
+
+const NEITHER_LEARNT: &str = "Disk\nDisk\nLearned 1\n\nき /気/\n";
+
+const NOT_PURGED: &str = "Learned 1\nLearned 2\nDisk\nLearned 3\n笠 傘 \nかさ /笠/傘/\nき /木/\n";
+
+const NOT_RESTORED: &str = NOT_PURGED;
+
+const NOT_REMOVED: &str = "Learned 1\nDisk\nLearned 2\n傘 \nかさ /傘/\nき /木/\n";
+
+// What no other change follows: a record whose gate was opened may stand in the file.
+const LEARNS_LAST: &[Step<'static>] = &[Step::Learn("かさ", "傘"), Step::Find("かさ")];
+
+const FAILINGS: &[Case<'static>] = &[
+    (&[10], FAR, LEARNS, NOT_LEARNT, "swcswswsWwswswsws"),
+    (&[11], FAR, LEARNS, NOT_LEARNT, "swcswswswwswswsws"),
+    (&[12], FAR, LEARNS, NOT_LEARNT, "swcswswswsWwswswswsws"),
+    (&[13], FAR, LEARNS, NOT_LEARNT, "swcswswswswwswswswsws"),
+    (&[12, 13], FAR, LEARNS, NEITHER_LEARNT, "swcswswswsWWwswsws"),
+    (&[12, 14], FAR, LEARNS, NEITHER_LEARNT, "swcswswswsWwwswsws"),
+    (&[13, 14], FAR, LEARNS, NEITHER_LEARNT, "swcswswswswWwswsws"),
+    (&[13, 15], FAR, LEARNS, NEITHER_LEARNT, "swcswswswswwwswsws"),
+    (&[18], FAR, PURGES, NOT_PURGED, "swcswswswswswswsWwsws"),
+    (&[19], FAR, PURGES, NOT_PURGED, "swcswswswswswswswwsws"),
+    (&[20], FAR, PURGES, NOT_PURGED, "swcswswswswswswswsWwswsws"),
+    (&[21], FAR, PURGES, NOT_PURGED, "swcswswswswswswswswwswsws"),
+    (&[18], FAR, RESTORES, NOT_RESTORED, "swcswswswswswswsWwsws"),
+    (&[19], FAR, RESTORES, NOT_RESTORED, "swcswswswswswswswwsws"),
+    (
+        &[20],
+        FAR,
+        RESTORES,
+        NOT_RESTORED,
+        "swcswswswswswswswsWwswsws",
+    ),
+    (
+        &[21],
+        FAR,
+        RESTORES,
+        NOT_RESTORED,
+        "swcswswswswswswswswwswsws",
+    ),
+    (&[14], FAR, REMOVES, NOT_REMOVED, "swcswswswswsWwsws"),
+    (&[15], FAR, REMOVES, NOT_REMOVED, "swcswswswswswwsws"),
+    (&[16], FAR, REMOVES, NOT_REMOVED, "swcswswswswswsWwswsws"),
+    (&[17], FAR, REMOVES, NOT_REMOVED, "swcswswswswswswwswsws"),
+    (&[12], FAR, LEARNS_LAST, "Disk\n\n", "swcswswswsW"),
+    (&[13], FAR, LEARNS_LAST, "Disk\n\nかさ /傘/\n", "swcswswswsw"),
+];
+
+#[test]
+fn a_change_whose_calls_fail_is_not_made(rt: HostRuntime) -> Result<(), Fail> {
+    expect_cases(&rt, rt.alloc(), FAILINGS)
+}
+
+// Look-ups, and changes that change nothing: after them the first call that fails is the next one.
+const LOOKED_UP: &[Case<'static>] = &[
+    (
+        &[22],
+        FAR,
+        &[
+            Step::Learn("かさ", "傘"),
+            Step::Learn("かさ", "笠"),
+            Step::Purge("かさ", "傘"),
+            Step::Find("かさ"),
+            Step::Complete("か"),
+            Step::Purge("かさ", "傘"),
+            Step::Unlearn,
+            Step::Learn("き", "木"),
+        ],
+        "Learned 1\nLearned 2\nPurged\n笠 \nかさ \nUnchanged\nOvertaken(3)\nDisk\n\
+            かさ /笠/(skk-ignore-dic-word \"傘\")/\n",
+        "swcswswswswswswswswsW",
+    ),
+    (
+        &[26],
+        FAR,
+        &[
+            Step::Learn("かさ", "傘"),
+            Step::Learn("かさ", "笠"),
+            Step::Unlearn,
+            Step::Find("かさ"),
+            Step::Unlearn,
+            Step::Find("かさ"),
+            Step::Complete("か"),
+            Step::Learn("き", "木"),
+        ],
+        "Learned 1\nLearned 2\nRestored\n傘 \nRestored\n\n\nDisk\n",
+        "swcswswswswswswswswswswsW",
+    ),
+];
+
+#[test]
+fn what_changes_nothing_calls_no_disk(rt: HostRuntime) -> Result<(), Fail> {
+    expect_cases(&rt, rt.alloc(), LOOKED_UP)
+}
+
+// The record of 125 needs 49 bytes, and that of かんじ 43. A doubt is closed before the file is found to be full.
+const LIMITS: &[Case<'static>] = &[
+    (
+        &[],
+        64,
+        &[Step::Learn("125", "東京都葛飾区"), Step::Learn("かんじ", "漢字")],
+        "JournalFull { end: 18, need: 49, limit: 64 }\nLearned 1\nかんじ /漢字/\n",
+        "swcswswswsws",
+    ),
+    (
+        &[],
+        66,
+        &[Step::Learn("125", "東京都葛飾区"), Step::Find("125")],
+        "JournalFull { end: 18, need: 49, limit: 66 }\n\n",
+        "swcswsws",
+    ),
+    (
+        &[],
+        67,
+        &[Step::Learn("125", "東京都葛飾区"), Step::Find("125")],
+        "Learned 1\n東京都葛飾区 \n125 /東京都葛飾区/\n",
+        "swcswswswsws",
+    ),
+    (
+        &[13],
+        64,
+        &[Step::Learn("かんじ", "漢字"), Step::Learn("125", "東京都葛飾区")],
+        "Disk\nJournalFull { end: 18, need: 49, limit: 64 }\n",
+        "swcswswswswws",
+    ),
+    (
+        &[13, 15],
+        64,
+        &[Step::Learn("かんじ", "漢字"), Step::Learn("125", "東京都葛飾区")],
+        "Disk\nDisk\n",
+        "swcswswswsww",
+    ),
+];
+
+#[test]
+fn a_file_takes_what_its_limit_leaves(rt: HostRuntime) -> Result<(), Fail> {
+    expect_cases(&rt, rt.alloc(), LIMITS)
+}
+
+#[test]
+fn a_learning_is_a_record(rt: HostRuntime) -> Result<(), Fail> {
+    let alloc = rt.alloc();
+    let steps = [Step::Learn("かんじ", "漢字")];
+    let mut disk = disk_after(alloc, &[], 64, &steps, &mut String::new(alloc))?;
+    expect_file(&rt, alloc, &mut disk, LEARNT_FILE)?;
+    Ok(())
+}
+
+fn expect_cases<R: Abort>(rt: &R, alloc: Global, cases: &[Case]) -> Result<(), Fail> {
+    for case in cases {
+        expect_case(rt, alloc, case)?;
+    }
+    Ok(())
+}
+
+// Asks for the steps of a case over a new file, closes it, and opens it again.
+fn expect_case<R: Abort>(rt: &R, alloc: Global, case: &Case) -> Result<(), Fail> {
+    let (fails, limit, steps, wanted, made) = *case;
+    let mut told = String::new(alloc);
+    let disk = disk_after(alloc, fails, limit, steps, &mut told)?;
+    let calls = kinds(rt, alloc, disk.made())?;
+    assert_eq!(rt; calls.as_str(), made, "at {fails:?} and {limit}");
+    add_lines(&mut told, alloc, disk)?;
+    assert_eq!(rt; told.as_str(), wanted, "at {fails:?} and {limit}");
+    Ok(())
+}
+
+// The line that the row comes to has exactly 65,535 bytes: the reading and ` /` have 3, each of 15 words 4,096 with
+// its slash, and the last 4,092.
+const LONG: &[Step<'static>] = &[
+    Step::LearnLong("a", 4095),
+    Step::LearnLong("b", 4095),
+    Step::LearnLong("c", 4095),
+    Step::LearnLong("d", 4095),
+    Step::LearnLong("e", 4095),
+    Step::LearnLong("f", 4095),
+    Step::LearnLong("g", 4095),
+    Step::LearnLong("h", 4095),
+    Step::LearnLong("i", 4095),
+    Step::LearnLong("j", 4095),
+    Step::LearnLong("k", 4095),
+    Step::LearnLong("l", 4095),
+    Step::LearnLong("m", 4095),
+    Step::LearnLong("n", 4095),
+    Step::LearnLong("o", 4095),
+    Step::LearnLong("p", 4092),
+    Step::LearnLong("p", 4091),
+];
+
+const LONG_TOLD: &str =
+    "Learned 1\nLearned 2\nLearned 3\nLearned 4\nLearned 5\nLearned 6\nLearned 7\n\
+    Learned 8\nLearned 9\nLearned 10\nLearned 11\nLearned 12\nLearned 13\nLearned 14\nLearned 15\n\
+    TooBig(65536)\nLearned 16\n";
+
+const LONG_MADE: &str = "swcswswswswswswswswswswswswswswswswswswswswswswswswswswswswswswswswswsws";
+
+#[test]
+fn a_row_may_be_long(rt: HostRuntime) -> Result<(), Fail> {
+    let told = long_told(rt.alloc())?;
+    expect_case(&rt, rt.alloc(), &(&[], FAR, LONG, &told, LONG_MADE))
+}
+
+// What is told of the long row, and then its line.
+fn long_told(alloc: Global) -> Result<String, Fail> {
+    let line = long_line(alloc, 4091)?;
+    Ok(format!(in alloc; "{LONG_TOLD}{line}\n")?)
+}
+
+// The letters of the words behind the first one of the long row.
+const LETTERS: &[&str] = &[
+    "o", "n", "m", "l", "k", "j", "i", "h", "g", "f", "e", "d", "c", "b", "a",
+];
+
+// The line of the long row, whose first word has so many bytes.
+fn long_line(alloc: Global, count: usize) -> Result<String, Fail> {
+    let mut line = String::from_str(alloc, "a /")?;
+    add_long(&mut line, alloc, "p", count)?;
+    for letter in LETTERS {
+        add_long(&mut line, alloc, letter, 4095)?;
+    }
+    Ok(line)
+}
+
+// Adds a word of so many letters and a slash.
+fn add_long(
+    line: &mut String,
+    alloc: Global,
+    letter: &str,
+    count: usize,
+) -> Result<(), AllocError> {
+    let word = letter.repeat(alloc, count)?;
+    line.push_str(&word)?;
+    line.push('/')
+}
+
+// So many bytes of the file with one record, other bytes behind them, and what that file is opened as: the lines of
+// book 1, or why it is refused.
+const FILES: &[(usize, &[u8], &str)] = &[
+    (0, b"", ""),
+    (0, b"P", ""),
+    (0, b"P.", "the first byte is 80"),
+    (17, b"\0", ""),
+    (60, b"\0", "かんじ /漢字/\n"),
+    // The row is taken out.
+    (
+        60,
+        b"\x01\x15\0\0\0\x02\x01\0\x01\0\0\0\0\0\0\0\0\xe3\x81\x8b\xe3\x82\x93\xe3\x81\x98\0",
+        "",
+    ),
+    // The count is 1 still, and then it would be 0.
+    (
+        60,
+        b"\x01\x0b\0\0\0\x03\x01\0\x01\0\0\0\0\0\0\0\0",
+        "かんじ /漢字/\n",
+    ),
+    (
+        60,
+        b"\x01\x0b\0\0\0\x03\x01\0\0\0\0\0\0\0\0\0\0",
+        "no record at 60",
+    ),
+    // A record that says nothing, alone and before a bad frame, and a bad frame alone.
+    (17, b"\x01\x01\0\0\0x\0", "no record at 17"),
+    (17, b"\x01\x01\0\0\0x\x01", "no record at 17"),
+    (60, b"\x01", "no record at 60"),
+];
+
+#[test]
+fn files_are_opened_by_what_their_records_say(rt: HostRuntime) -> Result<(), Fail> {
+    for (count, tail, wanted) in FILES {
+        expect_opened(&rt, rt.alloc(), &LEARNT_FILE[..*count], tail, wanted)?;
+    }
+    Ok(())
+}
+
+// Records behind the first one that put the long row, with lines of 65,535 and of 65,536 bytes.
+#[test]
+fn a_line_in_a_file_may_be_long(rt: HostRuntime) -> Result<(), Fail> {
+    let alloc = rt.alloc();
+    let line = long_line(alloc, 4091)?;
+    let tail = long_record(alloc, b"\x01\x13\0\x01\0", &line)?;
+    let wanted = format!(in alloc; "{line}\nかんじ /漢字/\n")?;
+    expect_opened(&rt, alloc, &LEARNT_FILE[..60], &tail, &wanted)?;
+    let line = long_line(alloc, 4092)?;
+    let tail = long_record(alloc, b"\x01\x14\0\x01\0", &line)?;
+    expect_opened(&rt, alloc, &LEARNT_FILE[..60], &tail, "no record at 60")
+}
+
+// An open gate and a payload's length, the payload that puts the first row into book 1, and a closed gate.
+fn long_record(alloc: Global, head: &[u8], line: &str) -> Result<Vec<u8>, AllocError> {
+    let mut record = head.to_vec(alloc)?;
+    record.extend_from_slice(b"\x01\x01\0\x01\0\0\0\0\0\0\0\x01\0\0\0\0\0\0\0\0")?;
+    record.extend_from_slice(line.as_bytes())?;
+    record.push(0)?;
+    Ok(record)
+}
+
+// Tells what the file of these bytes is opened as.
+fn expect_opened<R: Abort>(
+    rt: &R,
+    alloc: Global,
+    head: &[u8],
+    tail: &[u8],
+    wanted: &str,
+) -> Result<(), Fail> {
+    let mut bytes = head.to_vec(alloc)?;
+    bytes.extend_from_slice(tail)?;
+    let disk = disk_of(rt, alloc, &bytes, &[])?;
+    let told = opening_text(alloc, disk)?;
+    assert_eq!(rt; told.as_str(), wanted, "at {tail:?}");
+    Ok(())
+}
+
+// The lines of book 1 of the learned file of a disk, or why that is refused.
+fn opening_text(alloc: Global, disk: MemDisk) -> Result<String, Fail> {
+    match open_file(alloc, disk, FAR)? {
+        Ok(store) => lines(alloc, &store),
+        Err(unopened) => Ok(format!(in alloc; "{}", unopened.why)?),
+    }
+}
+
+// Opens a new file with a limit, the calls of whose disk with these numbers fail, asks for steps, and closes it.
+fn disk_after(
+    alloc: Global,
+    fails: &[u64],
+    limit: u64,
+    steps: &[Step],
+    told: &mut String,
+) -> Result<MemDisk, Fail> {
+    let disk = MemDisk::new(alloc, fails.to_vec(alloc)?);
+    let mut store = opened_file(alloc, disk, limit)?;
+    ask_each(alloc, &mut store, steps, told)?;
+    Ok(store.close())
+}
+
+// Asks for steps one after another, and adds what the answers tell.
+fn ask_each(
+    alloc: Global,
+    store: &mut Store<MemDisk>,
+    steps: &[Step],
+    told: &mut String,
+) -> Result<(), Fail> {
+    let mut learnings = Vec::new(alloc);
+    for step in steps {
+        ask(alloc, store, *step, &mut learnings, told)?;
+    }
+    Ok(())
+}
+
+// Asks for a step, adds what the answer tells, and keeps what was learnt.
+fn ask(
+    alloc: Global,
+    store: &mut Store<MemDisk>,
+    step: Step,
+    learnings: &mut Vec<Learned>,
+    told: &mut String,
+) -> Result<(), Fail> {
+    let call = call_of(alloc, step, learnings)?;
+    let answer = answer(alloc, store, call);
+    add_answer(told, alloc, &answer)?;
+    if let Some(learned) = learned_of(answer) {
+        learnings.push(learned)?;
+    }
+    Ok(())
+}
+
+// The answer to a call. Calls are let go here alone: each place where one is takes long to prove.
+fn answer(alloc: Global, store: &mut Store<MemDisk>, call: Call) -> Answer
+    requires { is_fit call ≡ true }
+{
+    answer_to(alloc, store, &call)
+}
+
+// The answer of a store to a call.
+fn answer_to<D: Disk>(alloc: Global, store: &mut Store<D>, call: &Call) -> Answer
+    requires { is_fit call.now ≡ true }
+{
+    store.serve(alloc, call)
+}
+
+// Opens the learned file of a disk over no system files.
+fn open_file(
+    alloc: Global,
+    disk: MemDisk,
+    limit: u64,
+) -> Result<Result<Store<MemDisk>, Unopened<MemDisk>>, Memory> {
+    let system = System::of_books(alloc, Books::new(alloc))?;
+    Ok(open_over(alloc, disk, system, limit))
+}
+
+// Opens the learned file of a disk.
+fn open_over<D: Disk>(
+    alloc: Global,
+    disk: D,
+    system: System,
+    limit: u64,
+) -> Result<Store<D>, Unopened<D>> {
+    Store::open(alloc, disk, system, limit)
+}
+
+// Opens the learned file of a disk, which is one.
+fn opened_file(alloc: Global, disk: MemDisk, limit: u64) -> Result<Store<MemDisk>, Fail> {
+    match open_file(alloc, disk, limit)? {
+        Ok(store) => Ok(store),
+        Err(unopened) => Err(Fail::new(unopened.why)),
+    }
+}
+
+// Adds the lines of book 1 of the learned file of a disk.
+fn add_lines(told: &mut String, alloc: Global, disk: MemDisk) -> Result<(), Fail> {
+    let store = opened_file(alloc, disk, FAR)?;
+    Ok(told.push_str(&lines(alloc, &store)?)?)
+}
+
+// The lines of book 1, without the part lines.
+fn lines(alloc: Global, store: &Store<MemDisk>) -> Result<String, Fail> {
+    let dump = store.dump(alloc, 1)?;
+    let lines = dump
+        .as_str()
+        .strip_prefix(PART_LINES)
+        .ok_or("other part lines")?;
+    Ok(String::from_str(alloc, lines)?)
+}
+
+// The key of a reading without okurigana.
+fn key(alloc: Global, reading: &str) -> Result<RowKey, Fail> {
+    Ok(RowKey::new(Part::Nasi, text(alloc, reading)?)?)
+}
+
+// A word without a note.
+fn cand(alloc: Global, word: &str) -> Result<Cand, Fail> {
+    Ok(Cand::new(text(alloc, word)?, Text::new(alloc))?)
+}
+
+// A word.
+fn word_of(alloc: Global, content: &str) -> Result<Text, Fail>
+    ensures { IfOk result (λ word. is_word word ≡ true) }
+{
+    let cand = cand(alloc, content)?;
+    Ok(cand.word().copy(alloc)?)
+}
+
+// The call of a step, which may take back what was learnt.
+fn call_of(alloc: Global, step: Step, learnings: &mut Vec<Learned>) -> Result<Call, Fail>
+    ensures { IfOk result (λ call. is_fit call ≡ true) }
+{
+    match step {
+        Step::Learn(reading, word) => learning(alloc, reading, word),
+        Step::LearnLong(letter, count) => learning_long(alloc, letter, count),
+        Step::Purge(reading, word) => purging(alloc, reading, word),
+        Step::Unlearn => unlearning(learnings),
+        Step::Find(reading) => finding(alloc, reading),
+        Step::Complete(prefix) => completing(alloc, prefix),
+    }
+}
+
+fn learning(alloc: Global, reading: &str, word: &str) -> Result<Call, Fail>
+    ensures { IfOk result (λ call. is_fit call ≡ true) }
+{
+    Ok(Call::Learn {
+        book: 1,
+        key: key(alloc, reading)?,
+        okuri: None,
+        cand: cand(alloc, word)?,
+    })
+}
+
+fn learning_long(alloc: Global, letter: &str, count: usize) -> Result<Call, Fail>
+    ensures { IfOk result (λ call. is_fit call ≡ true) }
+{
+    let word = letter.repeat(alloc, count)?;
+    learning(alloc, "a", &word)
+}
+
+fn purging(alloc: Global, reading: &str, word: &str) -> Result<Call, Fail>
+    ensures { IfOk result (λ call. is_fit call ≡ true) }
+{
+    Ok(Call::Purge {
+        book: 1,
+        key: key(alloc, reading)?,
+        word: word_of(alloc, word)?,
+    })
+}
+
+fn unlearning(learnings: &mut Vec<Learned>) -> Result<Call, Fail>
+    ensures { IfOk result (λ call. is_fit call ≡ true) }
+{
+    let learned = learnings.pop().ok_or("nothing was learnt")?;
+    Ok(Call::Unlearn { learned })
+}
+
+fn finding(alloc: Global, reading: &str) -> Result<Call, Fail>
+    ensures { IfOk result (λ call. is_fit call ≡ true) }
+{
+    Ok(Call::Lookup {
+        who: 1,
+        key: key(alloc, reading)?,
+        okuri: None,
+    })
+}
+
+fn completing(alloc: Global, prefix: &str) -> Result<Call, Fail>
+    ensures { IfOk result (λ call. is_fit call ≡ true) }
+{
+    Ok(Call::Complete {
+        who: 1,
+        prefix: text(alloc, prefix)?,
+    })
+}
+
+// What was learnt, where an answer tells of that.
+fn learned_of(answer: Answer) -> Option<Learned> {
+    match answer {
+        Answer::Done(Reply::Learned(learned)) => Some(learned),
+        _ => None,
+    }
+}
+
+// Adds a line of what an answer tells: of a refusal its cause.
+fn add_answer(told: &mut String, alloc: Global, answer: &Answer) -> Result<(), AllocError> {
+    match answer {
+        Answer::Done(reply) => add_reply(told, alloc, reply)?,
+        Answer::Refused(refusal) => told.push_str(&format!(in alloc; "{refusal:?}")?)?,
+    }
+    told.push('\n')
+}
+
+// Adds what a reply tells.
+fn add_reply(told: &mut String, alloc: Global, reply: &Reply) -> Result<(), AllocError> {
+    match reply {
+        Reply::Found(found) => add_words(told, found.cands()),
+        Reply::Readings(readings) => add_texts(told, readings),
+        Reply::Learned(learned) => {
+            told.push_str(&format!(in alloc; "Learned {}", learned.stamp())?)
+        }
+        reply => told.push_str(&format!(in alloc; "{reply:?}")?),
+    }
+}
+
+// Adds the words of candidates, each with a space behind it.
+fn add_words(told: &mut String, cands: &Cands) -> Result<(), AllocError> {
+    for cand in cands.as_slice() {
+        told.push_str(cand.word().as_str())?;
+        told.push(' ')?;
+    }
+    Ok(())
+}
+
+// Adds texts, each with a space behind it.
+fn add_texts(told: &mut String, texts: &Texts) -> Result<(), AllocError> {
+    for text in texts.as_slice() {
+        told.push_str(text.as_str())?;
+        told.push(' ')?;
+    }
+    Ok(())
+}
