@@ -1,0 +1,122 @@
+use crate::calling::{learning, stamp_of};
+use crate::sharing::{Shared, opened};
+use crate::worker::Notes;
+use learned_store::{Closed, Store};
+use skk_calls::Tally;
+use skk_disk::MemDisk;
+use std::alloc::Global;
+use std::process::Abort;
+use std::test::Fail;
+
+// The bytes of the part lines of a dictionary file, and of a line of the reading with no word.
+const EMPTY_ROW: usize = 57;
+
+// What is left of a desk that two workers shared: what they were told, and its learned file, opened again.
+#[derive(Drop)]
+pub(crate) struct Left {
+    pub(crate) one: Notes,
+    pub(crate) two: Notes,
+    store: Store<MemDisk>,
+}
+
+// Tells what the calls came to, and how many calls of the disk are recorded, and opens the learned file again, which
+// has as many rows.
+pub(crate) fn reopened<R: Abort>(
+    rt: &R,
+    alloc: Global,
+    shared: Shared<MemDisk>,
+    tally: Tally,
+    calls: usize,
+) -> Result<Left, Fail> {
+    let Shared { closed, one, two } = shared;
+    assert_eq!(rt; closed.tally, tally);
+    assert_eq!(rt; closed.disk.made().len(), calls);
+    let Closed { disk, .. } = closed;
+    let store = opened(alloc, disk)?;
+    assert_eq!(rt; store.rows(), tally.rows());
+    Ok(Left { one, two, store })
+}
+
+impl Left {
+    // How many words were learnt.
+    pub(crate) fn made(&self) -> usize {
+        self.one.made().saturating_add(self.two.made())
+    }
+
+    // How often the disk failed.
+    pub(crate) fn refused(&self) -> u64 {
+        self.one.refused().saturating_add(self.two.refused())
+    }
+
+    // How many words were learnt in the shared book.
+    pub(crate) fn shared_count(&self) -> usize {
+        self.one
+            .shared
+            .count()
+            .saturating_add(self.two.shared.count())
+    }
+
+    // Tells that a book has these words and no others, each with a slash behind it.
+    pub(crate) fn expect_words<R: Abort>(
+        &self,
+        rt: &R,
+        alloc: Global,
+        book: u16,
+        words: &str,
+    ) -> Result<(), Fail> {
+        let dump = self.store.dump(alloc, book)?;
+        let wanted = format!(in alloc;
+            ";; okuri-ari entries.\n;; okuri-nasi entries.\nかんじ /{words}\n"
+        )?;
+        assert_eq!(rt; dump.as_str(), wanted.as_str());
+        Ok(())
+    }
+
+    // Tells that the shared book has so many words, each of five bytes, and among them each that was learnt there.
+    pub(crate) fn expect_shared<R: Abort>(
+        &self,
+        rt: &R,
+        alloc: Global,
+        count: usize,
+    ) -> Result<(), Fail> {
+        let dump = self.store.dump(alloc, 0)?;
+        let bytes = count.saturating_mul(6).saturating_add(EMPTY_ROW);
+        assert_eq!(rt; dump.byte_len(), bytes);
+        self.one.shared.expect_in(rt, alloc, dump.as_str());
+        self.two.shared.expect_in(rt, alloc, dump.as_str());
+        Ok(())
+    }
+
+    // Tells that the stamps in each book are the numbers from 1 on, each once, and that the next one follows. In a book
+    // of their own they came in order.
+    pub(crate) fn expect_stamps<R: Abort>(&mut self, rt: &R, alloc: Global) {
+        let mut stamps = Vec::new(alloc);
+        self.one.own.push_stamps(rt, &mut stamps);
+        self.expect_counted(rt, alloc, 1, stamps.as_slice());
+        stamps.clear();
+        self.two.own.push_stamps(rt, &mut stamps);
+        self.expect_counted(rt, alloc, 2, stamps.as_slice());
+        stamps.clear();
+        self.one.shared.push_stamps(rt, &mut stamps);
+        self.two.shared.push_stamps(rt, &mut stamps);
+        stamps.sort_unstable();
+        self.expect_counted(rt, alloc, 0, stamps.as_slice());
+    }
+
+    // Tells that these are the numbers from 1 on, and that a word that is learnt in a book now gets the next one.
+    fn expect_counted<R: Abort>(&mut self, rt: &R, alloc: Global, book: u16, stamps: &[u64]) {
+        let mut next: u64 = 1;
+        for stamp in stamps {
+            assert_eq!(rt; *stamp, next);
+            next = next.saturating_add(1);
+        }
+        assert_eq!(rt; stamp_in(rt, alloc, &mut self.store, book), Some(next));
+    }
+}
+
+// The stamp that a word gets that is learnt in a book of a store.
+fn stamp_in<R: Abort>(rt: &R, alloc: Global, store: &mut Store<MemDisk>, book: u16) -> Option<u64> {
+    let call = learning(rt, alloc, book, "新");
+    let answer = store.serve(alloc, &call);
+    stamp_of(rt, &answer)
+}
