@@ -8,3 +8,5 @@
 mod outside;
 #[cfg(test)]
 mod runs;
+#[cfg(test)]
+mod side_by_side;

@@ -3,13 +3,16 @@ ghost use Rattle.std.specs.Prelude.{Some};
 use skk_disk::MemDisk;
 use skk_outside::{Failed, MemShelf, MemSink, MemSource, Outside, Sink};
 use skk_text::{Bytes, Text};
-use skk_top::run_alone;
+use skk_top::{run_alone, waits};
 use std::alloc::{AllocError, Global};
 use std::test::Fail;
 
 const LINES: &[u8] = b"1:kitte\n1:kanji\n1:zl\n";
 
 const TYPED: &str = "1\tかな\tきって\t\n1\tかな\tきってかんじ\t\n1\tかな\tきってかんじ→\t\n1=きってかんじ→\n";
+
+// The status that no run ends with, for words that may wait.
+const WAITING: u8 = 255;
 
 // Runs the word `type` on the lines, which come in two pieces, with the number of the read that is to fail.
 fn type_lines<O: Sink>(
@@ -25,6 +28,9 @@ fn type_lines<O: Sink>(
     let words = [Text::of(String::from_str(alloc, "type")?)];
     let mut shelf = MemShelf::new(Vec::new(alloc), Vec::new(alloc));
     let disk = MemDisk::new(alloc, Vec::new(alloc));
+    if waits(&words) {
+        return Ok(WAITING);
+    }
     Ok(run_alone(alloc, &words, &mut shelf, disk, &mut input, out, err).status)
 }
 
@@ -87,6 +93,9 @@ fn check_file(
         Text::of(String::from_str(alloc, name)?),
     ];
     let disk = MemDisk::new(alloc, Vec::new(alloc));
+    if waits(&words) {
+        return Ok(WAITING);
+    }
     Ok(run_alone(alloc, &words, &mut shelf, disk, &mut input, out, err).status)
 }
 

@@ -2,19 +2,21 @@
 #![tactic(auto)]
 
 use skk_disk::{Disk, FileDisk, MemDisk};
-use skk_outside::{HostShelf, ReaderSource, WriterSink};
+use skk_outside::{HostShelf, MemListener, Open, ReaderSource, WriterSink};
 use skk_text::{Memory, Text};
-use skk_top::{RunFault, learned_name, run_alone, tell_end};
+use skk_top::{RunFault, learned_name, run, run_alone, tell_end, waits};
 use std::io::ErrorKind;
 use std::process::ExitCode;
+use std::sync::Wait;
+use std::thread::Threads;
 use std::{env, io};
 
 fn main(rt: HostRuntime) -> ExitCode {
     match words(&rt) {
-        Ok(words) => run(&rt, &words),
+        Ok(words) => run_words(&rt, rt, &words),
         Err(fault) if fault.kind() == ErrorKind::OutOfMemory => end(&rt, RunFault::Memory),
         // A word that is not UTF-8 is in no command, and so is no word at all.
-        Err(_) => run(&rt, &[]),
+        Err(_) => run_words(&rt, rt, &[]),
     }
 }
 
@@ -34,17 +36,21 @@ fn words(rt: &HostRuntime) -> io::Result<Vec<Text>> {
 }
 
 // Runs the words over the learned file that they name, or over none.
-fn run(rt: &HostRuntime, words: &[Text]) -> ExitCode {
-    let alloc = rt.alloc();
+fn run_words<R: Threads + Wait + Copy + Send + Sync>(
+    host: &HostRuntime,
+    rt: R,
+    words: &[Text],
+) -> ExitCode {
+    let alloc = host.alloc();
     let Ok(name) = learned_name(alloc, words) else {
-        return end(rt, RunFault::Memory);
+        return end(host, RunFault::Memory);
     };
     let Some(name) = name else {
-        return run_over(rt, words, MemDisk::new(alloc, Vec::new(alloc)));
+        return run_over(host, rt, words, MemDisk::new(alloc, Vec::new(alloc)));
     };
-    match second_name(rt, &name) {
-        Ok(second) => run_over(rt, words, FileDisk::new(rt, name, second)),
-        Err(Memory) => end(rt, RunFault::Memory),
+    match second_name(host, &name) {
+        Ok(second) => run_over(host, rt, words, FileDisk::new(host, name, second)),
+        Err(Memory) => end(host, RunFault::Memory),
     }
 }
 
@@ -57,19 +63,26 @@ fn second_name(rt: &HostRuntime, name: &Text) -> Result<Text, Memory> {
 }
 
 // Runs the words over a disk, the system's files and the standard streams.
-fn run_over<D: Disk + Drop>(rt: &HostRuntime, words: &[Text], disk: D) -> ExitCode {
-    let mut shelf = HostShelf::new(rt.alloc(), rt);
-    let mut input = ReaderSource::new(rt.stdin());
-    let mut out = WriterSink::new(rt.stdout());
-    let mut err = WriterSink::new(rt.stderr());
+fn run_over<D: Disk + Drop + Send, R: Threads + Wait + Copy + Send + Sync>(
+    host: &HostRuntime,
+    rt: R,
+    words: &[Text],
+    disk: D,
+) -> ExitCode {
+    let alloc = host.alloc();
+    let mut shelf = HostShelf::new(alloc, host);
+    let mut input = ReaderSource::new(host.stdin());
+    let mut out = WriterSink::new(host.stdout());
+    let mut err = WriterSink::new(host.stderr());
+    if waits(words) {
+        let mut net = MemListener::new(alloc, Vec::new(alloc), Vec::new(alloc));
+        let finish = run(
+            rt, alloc, words, &mut shelf, disk, &mut input, &mut out, &mut err, &mut net, &Open,
+        );
+        return ExitCode::from(finish.status);
+    }
     let finish = run_alone(
-        rt.alloc(),
-        words,
-        &mut shelf,
-        disk,
-        &mut input,
-        &mut out,
-        &mut err,
+        alloc, words, &mut shelf, disk, &mut input, &mut out, &mut err,
     );
     ExitCode::from(finish.status)
 }

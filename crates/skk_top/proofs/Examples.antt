@@ -1,7 +1,7 @@
 -- The definitions at small examples, each worked out by hand.
-use Rattle.std.proofs.Common.{◌≡◌, ◌*◌, ℕ, Bool, None, Some, Ok, Err, true, false, List, [], ◌∷◌, ◌++◌, refl, map}
+use Rattle.std.proofs.Common.{◌≡◌, ℕ, Bool, None, Some, Ok, Err, true, false, List, [], ◌∷◌, ◌++◌, refl, map}
 use Rattle.std.proofs.Common.{codes}
-use Rattle.std.proofs.Common.{lit≤, arith, encode_utf8_all}
+use Rattle.std.proofs.Common.{encode_utf8_all}
 use lib.Utf8.{encode}
 use Prim.Native.String.{String}
 use Rattle.std.specs.Fmt.{digits}
@@ -12,7 +12,6 @@ use Rattle.skk_text.specs.declared.key.Key.TheVariants.{Char, Ret, Undo}
 use Rattle.romaji_rules.specs.declared.rule.Rule.{Rule}
 use Rattle.romaji_rules.specs.declared.rule_fault.RuleFault.TheVariants as rules
 use Rattle.romaji_rules.specs.Standard.{rule}
-use Rattle.skk_text.specs.Lines.{lines_of}
 use Rattle.skk_calls.specs.declared.answer.Answer.{Answer}
 use Rattle.skk_calls.specs.declared.answer.Answer.TheVariants as answers
 use Rattle.skk_calls.specs.declared.answer.Refusal.TheVariants as refusals
@@ -27,21 +26,20 @@ use Rattle.skk_calls.specs.States.{empty_state}
 use Rattle.skk_calls.specs.Tallies.{Tally, empty_tally}
 use Rattle.skk_journal.specs.declared.fault.OpenFault.TheVariants as opening
 use Rattle.session_machine.specs.Session.{Session, new_session}
-use Rattle.skk_top.specs.Printing.{output_line, closing_line}
-use Rattle.skk_top.specs.Script.{IsSession, IsTypist, script_limit, session_of, with_said, opens_well}
-use Rattle.skk_top.specs.Sessions.{session_at, session_or_new, with_session}
+use Rattle.script_typing.specs.Printing.{output_line, closing_line}
+use Rattle.script_typing.specs.Sessions.{session_at, session_or_new, with_session}
 use Rattle.skk_top.specs.RunRules.{fault_of_rules}
 use Rattle.skk_top.specs.Status.{message_of, status_of, fault_words, run_status, run_message, ended_by}
 use Rattle.skk_top.specs.Status.{fault_of_opening}
 use Rattle.skk_top.specs.Status.{fault_of_read, fault_of_text, fault_of_script}
-use Rattle.skk_top.specs.Typed.{typing, typed_alone}
+use Rattle.script_typing.specs.Typed.{typing, typed_alone}
 use Rattle.skk_top.specs.declared.fault.RunFault.TheVariants.{Words, Refused, NotJournal, BadRecord, Outside, Memory}
 use Rattle.skk_top.specs.declared.fault.RunFault.TheVariants.{JournalFull, NotBuilt}
 use Rattle.skk_top.specs.declared.run_file.Flaw.TheVariants.{TooLong, Byte, Line}
 use Rattle.skk_top.specs.declared.run_file.RunFile.TheVariants.{Script, Rules, Dictionary}
-use Rattle.skk_top.specs.declared.line.Line as lines
-use Rattle.skk_top.specs.declared.line.Line.TheVariants.{Keys, Opening}
-use Rattle.skk_top.specs.declared.script.ScriptFault.TheVariants as scripts
+use Rattle.key_scripts.specs.declared.line.Line as lines
+use Rattle.key_scripts.specs.declared.line.Line.TheVariants.{Keys, Opening}
+use Rattle.key_scripts.specs.declared.script.ScriptFault.TheVariants as scripts
 
 -- a few rules
 abbrev table : List Rule
@@ -50,10 +48,6 @@ table = rule (codes "a") (codes "あ") ∷ rule (codes "ka") (codes "か") ∷ [
 -- the keys of a text
 abbrev letters : String → List Key
 letters text = map Char (codes text)
-
--- the limit: 4 MiB of a script
-limit : script_limit ≡ 4 * 1024 * 1024
-limit = refl
 
 -- a line of four fields
 abbrev fields : String → String → String → String → List ℕ
@@ -213,36 +207,6 @@ sessions_found = refl
 
 sessions_or_new : map (session_or_new ((2, with_text "b") ∷ [])) (1 ∷ 2 ∷ []) ≡ new_session 1 1 ∷ with_text "b" ∷ []
 sessions_or_new = refl
-
--- scripts cut into lines
-script_lines : map lines_of ([] ∷ (10 ∷ []) ∷ codes "a" ∷ (codes "ab" ++ 10 ∷ [])
-    ∷ (10 ∷ 10 ∷ codes "a" ++ 10 ∷ codes "b") ∷ (13 ∷ 10 ∷ []) ∷ [])
-    ≡ [] ∷ ([] ∷ []) ∷ (codes "a" ∷ []) ∷ (codes "ab" ∷ []) ∷ ([] ∷ [] ∷ codes "a" ∷ codes "b" ∷ [])
-    ∷ ((13 ∷ []) ∷ []) ∷ []
-script_lines = refl
-
--- numbers at both sides of their bounds
-numbers : IsSession 1 × IsSession 64 × (¬ IsSession 0) × (¬ IsSession 65) × IsTypist 65535 × (¬ IsTypist 65536)
-numbers = (
-  (lit≤ tt, lit≤ tt),
-  (lit≤ tt, lit≤ tt),
-  λ is. omega (arith, is),
-  λ is. omega (arith, is),
-  lit≤ tt,
-  λ is. omega (arith, is),
-)
-
--- which books may be, and which session is named, by a line of each kind; and a line more
-books_of_openings : map opens_well (Keys 1 [] ∷ Opening 1 7 0 ∷ Opening 1 7 7 ∷ Opening 1 7 6 ∷ Opening 1 0 0 ∷ [])
-    ≡ true ∷ true ∷ true ∷ false ∷ true ∷ []
-books_of_openings = refl
-
-named_sessions : map session_of (Keys 4 [] ∷ Opening 5 6 0 ∷ []) ≡ 4 ∷ 5 ∷ []
-named_sessions = refl
-
-lines_with_said : map (with_said (Keys 4 [] ∷ [])) (None ∷ Some (Opening 5 6 0) ∷ [])
-    ≡ (Keys 4 [] ∷ []) ∷ (Keys 4 [] ∷ Opening 5 6 0 ∷ []) ∷ []
-lines_with_said = refl
 
 -- each fault with its status and its line
 statuses : map run_status

@@ -10,12 +10,12 @@ use Rattle.skk_calls.specs.Interactions.{prints, Dialog, Leads, here}
 use Rattle.session_machine.specs.Pressed.{all_pressed}
 use Rattle.session_machine.specs.Said.{Says, Spoken}
 use Rattle.session_machine.specs.Session.{Session, new_session}
-use Rattle.skk_top.specs.Printing.{output_line}
-use Rattle.skk_top.specs.Sessions.{SessionMap, session_or_new, with_session}
-use Rattle.skk_top.specs.Typed.{Asking, typing}
+use Rattle.script_typing.specs.Printing.{output_line}
+use Rattle.script_typing.specs.Sessions.{SessionMap, session_or_new, with_session}
+use Rattle.script_typing.specs.Typed.{Asking, typing}
 use Rattle.skk_top.specs.Typing.{Stand, stand, TypesLine, Reaches, Breaks}
-use Rattle.skk_top.specs.declared.line.Line.{Line}
-use Rattle.skk_top.specs.declared.line.Line.TheVariants.{Keys, Opening}
+use Rattle.key_scripts.specs.declared.line.Line.{Line}
+use Rattle.key_scripts.specs.declared.line.Line.TheVariants.{Keys, Opening}
 use Rattle.skk_top.proofs.Typed.{reaches-pushed, reaches-said, breaks-reached}
 
 -- out of memory before a key is pressed

@@ -15,7 +15,10 @@ use Rattle.skk_top.specs.Disks.{MovedDisk}
 use Rattle.skk_top.specs.Finishes.{HasFailed}
 use Rattle.skk_top.specs.Page.{StopsPrinting}
 use Rattle.skk_top.specs.Status.{Ended, ended_by}
-use Rattle.skk_top.specs.TypeCommand.{LeavesTyped}
+use Rattle.romaji_rules.specs.declared.rule.Rule.{Rule}
+use Rattle.key_scripts.specs.declared.line.Line.{Line}
+use Rattle.skk_top.specs.TypeCommand.{LeavesTyped, Manner, TypesLines}
+use Rattle.skk_top.specs.WeaveCommand.{WeavesLines}
 use Rattle.skk_top.specs.declared.command.TypeOptions.{TypeOptions}
 use Rattle.skk_top.specs.declared.fault.RunFault.{RunFault}
 use Rattle.skk_top.specs.declared.fault.RunFault.TheVariants.{Outside, Memory}
@@ -71,17 +74,30 @@ module _ {D : Type 0} (options : TypeOptions) (run : Run D) (shelf : MovedShelf)
       let same : fault ≡ Outside = cc ends in
       inr (inr (inl (subst (StopsPrinting out) same stopped)))
 
-  pub outside-typed : LeavesTyped options run shelf input out disk → HasFailed shelf input out disk
-  outside-typed (inl (ends, unread, untouched)) = inl (caused run.ended Outside _ is ends.cause)
-  outside-typed (inr named) = elim named.typed [
+  -- where the typing of lines ended so, a call failed for it
+  outside-by : (Lines : Manner D)
+      → ((opening : Opening) (rules : List Rule) (lines : List Line) → disk.before.faults ≤ opening.faults
+      → Lines opening rules lines run out disk.after → HasFailed shelf input out disk)
+      → LeavesTyped Lines options run shelf input out disk → HasFailed shelf input out disk
+  outside-by Lines by (inl (ends, unread, untouched)) = inl (caused run.ended Outside _ is ends.cause)
+  outside-by Lines by (inr named) = elim named.typed [
     | inl refused ↦ inr (inr (inr (caused run.ended Outside _ is refused.0.cause)))
     | inr opened ↦ elim opened.typed [
       | inl ends ↦ inr (inl (caused run.ended Outside _ is ends.cause))
       | inr script ↦ elim script.typed [
         | inl none ↦ let same : Outside ≡ Memory = caused run.ended Outside (λ fault. fault ≡ Memory) is none.cause in
             absurd (cc)
-        | inr lines ↦ typed opened.opening opened.opened.counted lines.typed (sym lines.ends ∙ is) lines.kept.goes_on
-            lines.prints.stopped
+        | inr lines ↦ by opened.opening named.rules script.lines opened.opened.counted lines
       ]
     ]
   ]
+
+  pub outside-typed : LeavesTyped TypesLines options run shelf input out disk → HasFailed shelf input out disk
+  outside-typed =
+      outside-by TypesLines (λ opening rules lines counted left.
+      typed opening counted left.typed (sym left.ends ∙ is) left.kept.goes_on left.prints.stopped)
+
+  pub outside-woven : LeavesTyped WeavesLines options run shelf input out disk → HasFailed shelf input out disk
+  outside-woven =
+      outside-by WeavesLines (λ opening rules lines counted left.
+      typed opening counted left.typed (sym left.ends ∙ is) left.kept.goes_on left.stopped)

@@ -1,6 +1,6 @@
 -- What was printed, as lines are typed and pages are written.
 use Rattle.std.proofs.Common.{◌≡◌, ◌∙◌, sym, ap, subst, rules, ℕ, Option, Some, None, List, [], ◌++◌, append_assoc}
-use Rattle.std.proofs.Common.{Result, Ok, Err, OnOk, OnErr, IsErrAnd, IsErrOf, encode_utf8_all, arith}
+use Rattle.std.proofs.Common.{Result, Ok, Err, OnOk, OnErr, IsErrAnd, encode_utf8_all, arith}
 use Rattle.std.proofs.KnownBytes.{Appends-trans}
 use Rattle.std.proofs.lemmas.List.{append-nil}
 use Rattle.std.proofs.lemmas.Str.{encodes-append}
@@ -113,12 +113,6 @@ AppendsPrefix-behind old mid new first more written front = (
   (front.1.0, ap (λ bytes. first ++ bytes) front.1.1 ∙ sym (append_assoc first front.0 front.1.0)),
   Appends-trans old mid new first front.0 written front.2,
 )
-
--- a fault that is handed on is the same
-pub same-fault : {T E : Type 0} (r : Result T E) (fault other : E) → IsErrAnd r (λ handed. handed ≡ fault)
-    → IsErrOf r other → fault ≡ other
-same-fault (Ok done) fault other is e = absurd (search (rules, is))
-same-fault (Err handed) fault other is e = cc
 
 -- all that is typed is a prefix of it
 pub AppendsPrefix-whole : (old new : Option (List ℕ)) (whole : List ℕ) → Appends old new whole

@@ -1,19 +1,13 @@
 -- Relations of what a run keeps and leaves, at small examples, each worked out by hand.
-use Rattle.std.proofs.Common.{false, None, Some, Err, [], ◌∷◌, inl, inr, refl, replicate, lit≤}
+use Rattle.std.proofs.Common.{None, Some, Err, [], ◌∷◌, inl, inr, refl}
 use Rattle.skk_outside.specs.Moved.{MovedShelf, MovedSink}
 use Rattle.skk_top.specs.CheckCommand.{LeavesChecked}
-use Rattle.skk_top.specs.Marks.{Mark}
 use Rattle.skk_top.specs.Page.{Printed}
 use Rattle.skk_top.specs.declared.fault.RunFault.TheVariants as faults
 use Rattle.skk_top.specs.declared.finish.Run.{Run}
-use Rattle.skk_top.specs.declared.line.Line.TheVariants.{Keys}
 use Rattle.skk_top.specs.declared.run_file.Flaw.TheVariants.{TooLong}
 use Rattle.skk_top.specs.declared.run_file.RunFile.{RunFile}
 use Rattle.skk_top.specs.declared.run_file.RunFile.TheVariants.{Rules, Dictionary}
-
--- the greatest session is marked where a line names it
-last_session_unmarked : ¬ Mark (replicate 65 false) (Keys 64 [] ∷ [])
-last_session_unmarked marked = cc ((marked 64 (lit≤ tt)).1 (0, lit≤ tt, refl))
 
 -- what was written stands before the page, and the page before the rest
 printed : Printed (Some (1 ∷ [])) (Some (1 ∷ 2 ∷ [])) (3 ∷ []) (4 ∷ []) (2 ∷ 3 ∷ 4 ∷ [])

@@ -10,7 +10,7 @@ use Rattle.skk_top.specs.Finishes.{HasFailed}
 use Rattle.skk_top.specs.Page.{StopsPrinting}
 use Rattle.skk_top.specs.RunFiles.{HasTextFlaw, IsLonger, RefusesBytes, RefusesFile}
 use Rattle.skk_top.specs.RunRules.{AreRules, HasRulesFlaw, IsNamed, RefusesRules}
-use Rattle.skk_top.specs.Script.{IsFirstBad}
+use Rattle.key_scripts.specs.Script.{IsFirstBad}
 use Rattle.skk_top.specs.TypeCommand.{HasScriptFlaw, RefusesFiles}
 use Rattle.skk_top.proofs.Dictionaries.{are_dictionaries}
 use Rattle.skk_top.specs.declared.fault.RunFault.TheVariants.{Words, Refused, Outside, Memory, NotBuilt}

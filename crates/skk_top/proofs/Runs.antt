@@ -17,9 +17,9 @@ use Rattle.skk_calls.specs.Tallies.{Tally, tally_of}
 use Rattle.skk_top.specs.Disks.{DiskNow, KeepsDisk}
 use Rattle.skk_top.specs.Status.{Ended, ended_by}
 use Rattle.skk_top.specs.TypeCommand.{Prints, TypesLines}
-use Rattle.skk_top.specs.Typed.{typing, typed_alone}
+use Rattle.script_typing.specs.Typed.{typing, typed_alone}
 use Rattle.skk_top.specs.Typing.{LeavesLines}
-use Rattle.skk_top.specs.declared.line.Line.{Line}
+use Rattle.key_scripts.specs.declared.line.Line.{Line}
 use Rattle.skk_top.proofs.Served.{answered_alone, where_done}
 
 -- what is known of bytes that are told

@@ -10,12 +10,12 @@ use Rattle.romaji_rules.specs.declared.rule.Rule.{Rule}
 use Rattle.skk_calls.specs.InteractionLaws.{leads-on, leads-prints, led-asked, led-end, led-printed}
 use Rattle.skk_calls.specs.Interactions.{ends, printed, Dialog, Leads, here, answers_of}
 use Rattle.skk_top.specs.Page.{Printed, StopsPrinting}
-use Rattle.skk_top.specs.Sessions.{SessionMap}
+use Rattle.script_typing.specs.Sessions.{SessionMap}
 use Rattle.skk_top.specs.Status.{Ended}
-use Rattle.skk_top.specs.Typed.{Asking, typing, closing_lines}
+use Rattle.script_typing.specs.Typed.{Asking, typing, closing_lines}
 use Rattle.skk_top.specs.Typing.{Reaches, Breaks, LeavesLines}
 use Rattle.skk_top.specs.declared.fault.RunFault.{RunFault}
-use Rattle.skk_top.specs.declared.line.Line.{Line}
+use Rattle.key_scripts.specs.declared.line.Line.{Line}
 use Rattle.skk_top.proofs.Pages.{Appends-none, AppendsPrefix-more, AppendsPrefix-whole, Printed-prefix}
 use Rattle.skk_top.proofs.Pages.{Printed-prefix_of_page, Printed-whole, Printed-written}
 use Rattle.skk_top.proofs.PrintedChecks.{Printed-longer}

@@ -1,7 +1,8 @@
 -- The commands, and the words that they are read from.
-use Rattle.std.specs.Prelude.{ℕ, Bool, ◌||◌, if◌then◌else◌, unwrap_or, Option, None, Some, List, [], ◌∷◌, codes}
+use Rattle.std.specs.Prelude.{ℕ, Bool, true, false, ◌||◌, if◌then◌else◌, unwrap_or, Option, None, Some, List, [], ◌∷◌}
+use Rattle.std.specs.Prelude.{codes}
 use Rattle.std.specs.Map.{lookup}
-use Rattle.std.specs.Option.{is_some, option_and_then}
+use Rattle.std.specs.Option.{is_some, option_and_then, option_map}
 use Rattle.std.specs.Str.{bytes_eq}
 use Rattle.skk_top.specs.Settings.{Row, fits, settings_of, texts_of, text_given, text_of, number_given, number_or}
 use Rattle.skk_top.specs.Settings.{is_given}
@@ -113,6 +114,22 @@ script_typed (commands.Check file) = None
 script_typed (commands.Dump options) = None
 script_typed (commands.Load options) = None
 
+-- the options of a command that is to type a script with a thread for each session
+abbrev pub script_in_threads : Command → Option TypeOptions
+script_in_threads (commands.TypeScript options) = if options.threads then Some options else None
+script_in_threads (commands.Serve options) = None
+script_in_threads (commands.Check file) = None
+script_in_threads (commands.Dump options) = None
+script_in_threads (commands.Load options) = None
+
+-- whether a command may wait: one that serves, or that gives each session a thread
+abbrev pub may_wait : Command → Bool
+may_wait (commands.TypeScript options) = options.threads
+may_wait (commands.Serve options) = true
+may_wait (commands.Check file) = false
+may_wait (commands.Dump options) = false
+may_wait (commands.Load options) = options.threads
+
 -- the name of the file that a command is to check
 abbrev pub file_checked : Command → Option (List ℕ)
 file_checked (commands.TypeScript options) = None
@@ -132,6 +149,14 @@ book_dumped (commands.Load options) = None
 -- the options, where words are `type` without threads
 abbrev pub script_to_type : List (List ℕ) → Option TypeOptions
 script_to_type words = option_and_then script_typed (command_of words)
+
+-- the options, where words are `type` with threads
+abbrev pub script_to_weave : List (List ℕ) → Option TypeOptions
+script_to_weave words = option_and_then script_in_threads (command_of words)
+
+-- whether words are a command that may wait
+abbrev pub waits : List (List ℕ) → Bool
+waits words = unwrap_or (option_map may_wait (command_of words)) false
 
 -- the name of the file that words ask to check, where they are `check`
 abbrev pub file_to_check : List (List ℕ) → Option (List ℕ)

@@ -13,8 +13,8 @@ use Rattle.skk_journal.specs.declared.fault.OpenFault.TheVariants as opening
 use Rattle.skk_text.specs.Lines.{line_feed}
 use Rattle.skk_text.specs.declared.text_file.TextFault.{TextFault}
 use Rattle.skk_text.specs.declared.text_file.TextFault.TheVariants as texts
-use Rattle.skk_top.specs.declared.script.ScriptFault.{ScriptFault}
-use Rattle.skk_top.specs.declared.script.ScriptFault.TheVariants as scripts
+use Rattle.key_scripts.specs.declared.script.ScriptFault.{ScriptFault}
+use Rattle.key_scripts.specs.declared.script.ScriptFault.TheVariants as scripts
 use Rattle.skk_top.specs.declared.run_file.RunFile.{RunFile}
 use Rattle.skk_top.specs.declared.run_file.RunFile.TheVariants.{Script, Rules, Dictionary}
 use Rattle.skk_top.specs.declared.run_file.Flaw.{Flaw}

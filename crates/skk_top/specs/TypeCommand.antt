@@ -23,14 +23,14 @@ use Rattle.skk_top.specs.Finishes.{EndsUnbegun}
 use Rattle.skk_top.specs.Page.{StopsPrinting}
 use Rattle.skk_top.specs.RunFiles.{RefusesFile}
 use Rattle.skk_top.specs.RunRules.{AreRules, HasRulesFlaw, IsNamed}
-use Rattle.skk_top.specs.Script.{IsScript, IsFirstBad, script_limit}
+use Rattle.key_scripts.specs.Script.{IsScript, IsFirstBad, script_limit}
 use Rattle.skk_top.specs.Status.{Ended, ended_by}
-use Rattle.skk_top.specs.Typed.{Asking, typed_alone, typing}
+use Rattle.script_typing.specs.Typed.{Asking, typed_alone, typing}
 use Rattle.skk_top.specs.declared.command.TypeOptions.{TypeOptions}
 use Rattle.skk_top.specs.declared.fault.RunFault.{RunFault}
 use Rattle.skk_top.specs.declared.fault.RunFault.TheVariants.{Refused, Outside, Memory}
 use Rattle.skk_top.specs.declared.finish.Run.{Run}
-use Rattle.skk_top.specs.declared.line.Line.{Line}
+use Rattle.key_scripts.specs.declared.line.Line.{Line}
 use Rattle.skk_top.specs.declared.run_file.Flaw.{Flaw}
 use Rattle.skk_top.specs.declared.run_file.Flaw.TheVariants as flaws
 use Rattle.skk_top.specs.declared.run_file.RunFile.TheVariants.{Script, Rules, Dictionary}
@@ -102,45 +102,57 @@ pub record TypesLines {D : Type 0} (opening : Opening) (rules : List Rule) (line
   pub served : OnOk run.ended (are_served run.chronicle ≡ true)
   pub alone : OnOk run.ended (Appends out.written out.written' (typed_alone opening rules lines))
 
--- the script was read to its end, and then there was no memory for a caller, or its lines were typed
-pub record TypesScript {D : Type 0} (opening : Opening) (rules : List Rule) (run : Run D) (input : MovedSource)
-    (out : MovedSink) (disk : DiskNow) : Type 0 where
+-- what the typing of lines leaves in some manner, over an opening and by some rules
+abbrev pub Manner : Type 0 → Type 1
+Manner D = Opening → List Rule → List Line → Run D → MovedSink → DiskNow → Type 0
+
+-- what the typing of a script's lines leaves: there was no memory to begin, or they were typed
+abbrev pub LeavesBegun : {D : Type 0} → Manner D → Opening → List Rule → List Line → Run D → MovedSink → DiskNow
+    → Type 0
+LeavesBegun Lines opening rules lines run out disk =
+    EndsUnbegun (λ fault. fault ≡ Memory) run out ⊎ Lines opening rules lines run out disk
+
+-- the script was read to its end, and then its typing began
+pub record TypesScript {D : Type 0} (Lines : Manner D) (opening : Opening) (rules : List Rule) (run : Run D)
+    (input : MovedSource) (out : MovedSink) (disk : DiskNow) : Type 0 where
   pub lines : List Line
   pub script : IfSome input.left (λ bytes. IsScript bytes lines)
   pub at_end : IsAtEnd input.left'
-  pub typed : EndsUnbegun (λ fault. fault ≡ Memory) run out ⊎ TypesLines opening rules lines run out disk
+  pub typed : LeavesBegun Lines opening rules lines run out disk
 
 -- what reading a script and typing it leaves
-abbrev pub LeavesScript : {D : Type 0} → Opening → List Rule → Run D → MovedSource → MovedSink → DiskNow → Type 0
-LeavesScript opening rules run input out disk =
-    EndsUnbegun (RefusesScript input) run out ⊎ TypesScript opening rules run input out disk
+abbrev pub LeavesScript : {D : Type 0} → Manner D → Opening → List Rule → Run D → MovedSource → MovedSink → DiskNow
+    → Type 0
+LeavesScript Lines opening rules run input out disk =
+    EndsUnbegun (RefusesScript input) run out ⊎ TypesScript Lines opening rules run input out disk
 
 -- the learned file was opened, and then a script was read
-pub record TypesOpened {D : Type 0} (limit : ℕ) (files : List (List Row)) (rules : List Rule) (run : Run D)
-    (input : MovedSource) (out : MovedSink) (disk : MovedDisk) : Type 0 where
+pub record TypesOpened {D : Type 0} (Lines : Manner D) (limit : ℕ) (files : List (List Row)) (rules : List Rule)
+    (run : Run D) (input : MovedSource) (out : MovedSink) (disk : MovedDisk) : Type 0 where
   pub opening : Opening
   pub opened : IsOpening disk files limit opening
-  pub typed : LeavesScript opening rules run input out disk.after
+  pub typed : LeavesScript Lines opening rules run input out disk.after
 
 -- what opening the learned file and typing a script leaves: it is refused, and the input is not read, or it was opened
-abbrev pub LeavesLearned : {D : Type 0} → ℕ → List (List Row) → List Rule → Run D → MovedSource → MovedSink → MovedDisk
-    → Type 0
-LeavesLearned limit files rules run input out disk =
+abbrev pub LeavesLearned : {D : Type 0} → Manner D → ℕ → List (List Row) → List Rule → Run D → MovedSource
+    → MovedSink → MovedDisk → Type 0
+LeavesLearned Lines limit files rules run input out disk =
     (EndsUnbegun (RefusesLearned disk) run out × Keeps input.left input.left')
-    ⊎ TypesOpened limit files rules run input out disk
+    ⊎ TypesOpened Lines limit files rules run input out disk
 
 -- the files that the options name were read, and then the learned file was opened
-pub record TypesNamed {D : Type 0} (options : TypeOptions) (run : Run D) (shelf : MovedShelf) (input : MovedSource)
-    (out : MovedSink) (disk : MovedDisk) : Type 0 where
+pub record TypesNamed {D : Type 0} (Lines : Manner D) (options : TypeOptions) (run : Run D) (shelf : MovedShelf)
+    (input : MovedSource) (out : MovedSink) (disk : MovedDisk) : Type 0 where
   pub rules : List Rule
   pub books : List (List Row)
   pub are_rules : AreRules (rules_named options shelf) rules
   pub are_rows : AreRowsOf books (dictionaries_named options shelf)
-  pub typed : LeavesLearned (limit_of options) books rules run input out disk
+  pub typed : LeavesLearned Lines (limit_of options) books rules run input out disk
 
 -- what a run of `type` leaves: a file that the options name is refused, and the input is not read and the disk not
 -- touched, or they were read
-abbrev pub LeavesTyped : {D : Type 0} → TypeOptions → Run D → MovedShelf → MovedSource → MovedSink → MovedDisk → Type 0
-LeavesTyped options run shelf input out disk =
+abbrev pub LeavesTyped : {D : Type 0} → Manner D → TypeOptions → Run D → MovedShelf → MovedSource → MovedSink
+    → MovedDisk → Type 0
+LeavesTyped Lines options run shelf input out disk =
     (EndsUnbegun (RefusesNamed options shelf) run out × Keeps input.left input.left' × disk.is_untouched)
-    ⊎ TypesNamed options run shelf input out disk
+    ⊎ TypesNamed Lines options run shelf input out disk

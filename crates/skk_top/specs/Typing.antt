@@ -6,11 +6,11 @@ use Rattle.romaji_rules.specs.declared.rule.Rule.{Rule}
 use Rattle.skk_calls.specs.Interactions.{printed, asked, Dialog, Begins, Leads, calls_of, answers_of}
 use Rattle.skk_text.specs.declared.memory.Memory.{Memory}
 use Rattle.skk_top.specs.Page.{Printed}
-use Rattle.skk_top.specs.Sessions.{SessionMap}
+use Rattle.script_typing.specs.Sessions.{SessionMap}
 use Rattle.skk_top.specs.Status.{Ended}
 use Rattle.skk_top.specs.TypeCommand.{Prints}
-use Rattle.skk_top.specs.Typed.{Asking, typing}
-use Rattle.skk_top.specs.declared.line.Line.{Line}
+use Rattle.script_typing.specs.Typed.{Asking, typing}
+use Rattle.key_scripts.specs.declared.line.Line.{Line}
 
 -- what is typed so far: the sessions, a page that is not written yet, and what a caller has said
 pub record Stand : Type 0 where

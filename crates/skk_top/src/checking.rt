@@ -7,8 +7,8 @@ ghost use Rattle.skk_top.specs.Page.{Printed, LeavesPrinted, StopsPrinting};
 
 use crate::fault::RunFault;
 use crate::page::{print, print_full};
-use crate::printing::push_number;
 use dict_format::{BadLine, LineReason, Listed};
+use script_typing::push_number;
 use skk_calls::{Part, Row};
 use skk_outside::Sink;
 use skk_text::{Memory, Text};

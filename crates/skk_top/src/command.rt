@@ -1,7 +1,8 @@
 ghost use Rattle.std.specs.Prelude.{◌≡◌, ◌<◌, if◌then◌else◌, Some, None, MatchOption};
 ghost use Rattle.std.specs.Option.{option_copied};
 ghost use Rattle.skk_top.specs.Command.{command_of, type_options, serve_options, dump_options, load_options, limit_of};
-ghost use Rattle.skk_top.specs.Command.{script_typed, file_checked, book_dumped, learned_of};
+ghost use Rattle.skk_top.specs.Command.{script_typed, script_in_threads, may_wait, file_checked, book_dumped};
+ghost use Rattle.skk_top.specs.Command.{learned_of};
 ghost use Rattle.skk_top.specs.Settings.{times};
 ghost use Rattle.skk_top.specs.declared.argument.Argument.TheVariants.{Dictionary};
 
@@ -75,6 +76,28 @@ impl<'a> Command<'a> {
         }
     }
 
+    /// The options of the script that it is to type with a thread for each session.
+    pub fn script_in_threads(&self) -> Option<&TypeOptions<'a>>
+        ensures { option_copied result ≡ script_in_threads self.now }
+    {
+        match self {
+            Command::TypeScript(options) => options.with_threads(),
+            Command::Serve(_) | Command::Check(_) | Command::Dump(_) | Command::Load(_) => None,
+        }
+    }
+
+    /// Whether it may wait.
+    pub fn waits(&self) -> bool
+        ensures { result ≡ may_wait self.now }
+    {
+        match self {
+            Command::TypeScript(options) => options.threads,
+            Command::Serve(_) => true,
+            Command::Load(options) => options.threads,
+            Command::Check(_) | Command::Dump(_) => false,
+        }
+    }
+
     /// The options of the book that it is to print.
     pub fn book_dumped(&self) -> Option<&DumpOptions<'a>>
         ensures { option_copied result ≡ book_dumped self.now }
@@ -123,6 +146,13 @@ impl<'a> TypeOptions<'a> {
         ensures { option_copied result ≡ (if self.now.threads then None else Some self.now) }
     {
         if self.threads { None } else { Some(self) }
+    }
+
+    // These options, where each session has a thread of its own.
+    fn with_threads(&self) -> Option<&TypeOptions<'a>>
+        ensures { option_copied result ≡ (if self.now.threads then Some self.now else None) }
+    {
+        if self.threads { Some(self) } else { None }
     }
 
     /// The most bytes of the learned file.

@@ -1,6 +1,7 @@
-ghost use Rattle.std.specs.Prelude.{◌≡◌, ◌≤◌, ◌++◌, codes};
+ghost use Rattle.std.specs.Prelude.{◌≡◌, ◌≤◌, ◌++◌, [], Err, codes};
 ghost use Rattle.std.specs.Fmt.{decimal};
 ghost use Rattle.skk_outside.specs.Moved.{moved_sink};
+ghost use Rattle.skk_top.specs.Disks.{moved_disk, StandsSince};
 ghost use Rattle.skk_top.specs.Finishes.{finish_of};
 ghost use Rattle.skk_top.specs.Page.{Writes};
 ghost use Rattle.skk_top.specs.Status.{run_status, run_message, Tells, file_words, flaw_words, fault_words, message_of};
@@ -8,8 +9,9 @@ ghost use Rattle.skk_top.specs.Status.{run_status, run_message, Tells, file_word
 use crate::finish::{Finish, Run};
 use crate::page::write;
 use crate::run_file::{Flaw, RunFile};
-use crate::script::ScriptFault;
 use itoa::Buffer;
+use key_scripts::ScriptFault;
+use skk_disk::Disk;
 use skk_journal::OpenFault;
 use skk_outside::{Failed, Sink};
 use skk_text::Memory;
@@ -31,7 +33,7 @@ pub enum RunFault {
     Memory,
     /// All was done but a change that the learned file had no room for.
     JournalFull,
-    /// The command is not built, or one of its options.
+    /// The command is not built.
     NotBuilt,
 }
 
@@ -54,6 +56,17 @@ pub fn end_run<D, E: Sink>(run: Run<D>, err: &mut E) -> Finish<D>
         chronicle,
         disk,
     }
+}
+
+/// Ends a run that made no call, with its disk as it was. Takes no memory.
+pub fn end_uncalled<D: Disk, E: Sink>(fault: RunFault, disk: D, err: &mut E) -> Finish<D>
+    ensures finish { result ≡ finish_of (record { ended = Err fault; chronicle = []; disk = disk }) }
+    ensures told { Tells (run_message (Err fault)) (moved_sink E.written E.faults err.old err.new) }
+    ensures counted { E.faults err.old ≤ E.faults err.new }
+    ensures stands { StandsSince result.chronicle
+        (moved_disk D.tells D.seen D.time D.faults D.left_since disk result.disk) }
+{
+    end_run(Run::without_calls(Err(fault), disk), err)
 }
 
 /// Tells a fault on `err`, and answers the status. Takes no memory.

@@ -1,7 +1,8 @@
 ghost use Rattle.std.specs.Prelude.{◌≡◌, []};
+ghost use Rattle.skk_top.specs.Status.{ended_by};
 
 use crate::fault::RunFault;
-use skk_calls::Chronicle;
+use skk_calls::{Chronicle, Tally};
 
 /// How a run ended, before it is told, what it called, and the disk that it gives back.
 #[derive(Drop)]
@@ -35,4 +36,16 @@ pub struct Finish<D> {
     pub chronicle: Chronicle,
     /// The disk of the learned file, as the run left it.
     pub disk: D,
+}
+
+/// How a run ends by how its typing ended and what its calls came to.
+pub fn end_by(ended: Result<(), RunFault>, tally: &Tally) -> Result<(), RunFault>
+    ensures { result ≡ ended_by ended tally.now }
+{
+    match ended {
+        Ok(()) if tally.disk() => Err(RunFault::Outside),
+        Ok(()) if tally.memory() => Err(RunFault::Memory),
+        Ok(()) if tally.full() => Err(RunFault::JournalFull),
+        ended => ended,
+    }
 }

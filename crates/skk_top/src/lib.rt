@@ -7,7 +7,9 @@
 //! run a stop leaves a learned file that is opened as a state that a part of these calls may leave.
 #![tactic(auto)]
 
+mod alone;
 mod argument;
+mod caller_each;
 mod check_command;
 mod checking;
 mod command;
@@ -19,24 +21,25 @@ mod fault;
 mod finish;
 mod laws;
 mod learned_file;
-mod line;
+mod manner;
 mod number;
+mod one_caller;
 mod page;
-mod printing;
 mod rule_file;
-mod run;
 mod run_file;
-mod script;
 mod setting;
 mod setting_words;
 mod settings;
 mod type_command;
 mod typing;
+mod waiting;
+mod weaving;
 mod word;
 
+pub use alone::run_alone;
 pub use fault::{RunFault, end_run, tell_end};
 pub use finish::{Finish, Run};
-pub use laws::{no_bad_line_in_a_script, numbers_lie_in_their_ranges, one_bad_line, one_script};
+pub use laws::numbers_lie_in_their_ranges;
 pub use learned_file::learned_name;
-pub use run::run_alone;
 pub use run_file::{Flaw, RunFile};
+pub use waiting::{run, waits};

@@ -4,16 +4,16 @@ ghost use Rattle.skk_outside.specs.Moved.{moved_sink};
 ghost use Rattle.skk_outside.specs.Written.{AppendsPrefix};
 ghost use Rattle.session_machine.specs.Session.{Session, new_session};
 ghost use Rattle.skk_top.specs.Page.{Printed, StopsPrinting};
-ghost use Rattle.skk_top.specs.Script.{opens_well};
-ghost use Rattle.skk_top.specs.Sessions.{session_at, session_or_new, with_session};
-ghost use Rattle.skk_top.specs.Typed.{typing, closing_lines};
+ghost use Rattle.key_scripts.specs.Script.{opens_well};
+ghost use Rattle.script_typing.specs.Sessions.{session_at, session_or_new, with_session};
+ghost use Rattle.script_typing.specs.Typed.{typing, closing_lines};
 ghost use Rattle.skk_top.specs.Typing.{stand, TypesLine, Reaches, Breaks, LeavesLines};
 
 use crate::fault::RunFault;
-use crate::line::Line;
 use crate::page::{print, print_full};
-use crate::printing::{push_closing_line, push_output_line};
+use key_scripts::Line;
 use romaji_rules::Rules;
+use script_typing::{push_closing_line, push_output_line};
 use session_machine::Session;
 use skk_calls::Caller;
 use skk_outside::Sink;
@@ -139,7 +139,7 @@ fn type_keys<C: Caller>(
 }
 
 // Takes a session out, to be put back: it is new where it was not there, and a new one stands for it meanwhile.
-#[tactic(auto, using(crate::proofs::SessionMaps::put_again))]
+#[tactic(auto, using(script_typing::specs::MapLaws::put_again))]
 fn take_session(
     alloc: Global,
     number: u8,
@@ -173,8 +173,8 @@ fn put_session(
     Ok(before)
 }
 
-// Adds the closing lines of all sessions to the page.
-fn close_sessions<O: Sink>(
+/// Adds the closing lines of all sessions to the page.
+pub fn close_sessions<O: Sink>(
     alloc: Global,
     sessions: &BTreeMap<u8, Session>,
     page: &mut Text,

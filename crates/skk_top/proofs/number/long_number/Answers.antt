@@ -4,7 +4,7 @@ use Rattle.std.specs.Result.{result_ok}
 use Rattle.std.specs.Str.{bytes_eq}
 use Rattle.std.proofs.lemmas.Bool.{both_ways, not-true}
 use Rattle.std.proofs.lemmas.Slice.Eq.{bytes_eq-Decides}
-use Rattle.skk_top.proofs.Numbers.{number-parsed}
+use Rattle.skk_top.proofs.ParsedNumbers.{number-parsed}
 use Rattle.skk_top.proofs.number.long_number.Goals as goal
 
 pub returns-in_err-number : goal.returns-in_err-number

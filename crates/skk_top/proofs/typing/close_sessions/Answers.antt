@@ -1,8 +1,8 @@
 use Rattle.std.proofs.Common.{ap, arith}
 use Rattle.std.specs.Map.Iter.{deref_pair}
 use Rattle.std.proofs.lemmas.Map.Iter.{rest_more}
-use Rattle.skk_top.specs.Printing.{closing_line}
-use Rattle.skk_top.specs.Typed.{closing_lines}
+use Rattle.script_typing.specs.Printing.{closing_line}
+use Rattle.script_typing.specs.Typed.{closing_lines}
 use Rattle.skk_top.proofs.Pages.{on_err, Printed-prefix, Printed-prefix_of_page, Printed-more, Printed-rest}
 use Rattle.skk_top.proofs.Pages.{Printed-written}
 use Rattle.skk_top.proofs.typing.close_sessions.Goals as goal

@@ -1,6 +1,6 @@
 use Rattle.std.proofs.Common.{◌≤◌, ◌++◌}
 use Rattle.skk_top.specs.Page.{Printed}
-use Rattle.skk_top.specs.Typed.{closing_lines}
+use Rattle.script_typing.specs.Typed.{closing_lines}
 use Rattle.skk_top.proofs.typing.close_sessions.Given as goal
 
 -- what was written, the page, and the closing lines left are the page at the start and all closing lines

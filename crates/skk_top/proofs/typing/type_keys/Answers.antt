@@ -1,5 +1,5 @@
 use Rattle.std.proofs.Common.{◌∙◌, refl}
-use Rattle.skk_top.specs.declared.line.Line.TheVariants.{Keys}
+use Rattle.key_scripts.specs.declared.line.Line.TheVariants.{Keys}
 use Rattle.skk_top.proofs.KeyLines.{types-cut, types-keys, types-lost, types-nothing}
 use Rattle.skk_top.proofs.typing.type_keys.Goals as goal
 

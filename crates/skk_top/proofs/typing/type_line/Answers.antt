@@ -1,5 +1,5 @@
 use Rattle.std.proofs.Common.{◌∙◌, ap, refl}
-use Rattle.skk_top.specs.Sessions.{with_session}
+use Rattle.script_typing.specs.Sessions.{with_session}
 use Rattle.skk_top.proofs.KeyLines.{types-nothing, types-opening}
 use Rattle.skk_top.proofs.typing.type_line.Goals as goal
 

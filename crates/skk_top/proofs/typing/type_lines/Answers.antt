@@ -1,7 +1,7 @@
 use Rattle.std.proofs.Common.{◌+◌, [], sym, subst, drop, arith}
 use Rattle.skk_outside.specs.Moved.{moved_sink}
-use Rattle.skk_top.specs.Sessions.{SessionMap}
-use Rattle.skk_top.specs.Typed.{typing}
+use Rattle.script_typing.specs.Sessions.{SessionMap}
+use Rattle.script_typing.specs.Typed.{typing}
 use Rattle.skk_top.specs.Typing.{Reaches, stand}
 use Rattle.skk_top.proofs.KeyLines.{breaks-line, reaches-line}
 use Rattle.skk_top.proofs.Pages.{on_err}

@@ -1,6 +1,6 @@
 use Rattle.std.proofs.Common.{◌≤◌, [], drop}
 use Rattle.skk_outside.specs.Moved.{moved_sink}
-use Rattle.skk_top.specs.Typed.{typing}
+use Rattle.script_typing.specs.Typed.{typing}
 use Rattle.skk_top.specs.Typing.{Reaches}
 use Rattle.skk_top.proofs.typing.type_lines.Given as goal
 

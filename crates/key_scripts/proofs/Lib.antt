@@ -1,0 +1,7 @@
+pub mod LineReading
+pub mod Lines
+pub mod Marks
+pub mod Numbers
+pub mod Reading
+mod ScriptExamples
+pub mod Scripts

@@ -1,0 +1,89 @@
+use skk_disk::MemDisk;
+use skk_outside::{Gate, MemListener, MemShelf, MemSink, MemSource};
+use skk_text::{Bytes, Text};
+use skk_top::{run, waits};
+use std::alloc::{AllocError, Global};
+use std::sync::Wait;
+use std::sync::atomic::{AtomicBool, AtomicU32, Ordering};
+use std::test::Fail;
+use std::thread::{self, Threads};
+
+const WORDS: &str = ";; okuri-nasi entries.\nかんじ /漢字/幹事;宴会の/感じ/\n";
+
+const LINES: &str = "1:Kanji \n1: \n2:Kanji \n2: \n";
+
+const TYPED: &str = "1\tかな\t▼漢字\t\n1\tかな\t▼幹事\t;宴会の\n2\tかな\t▼漢字\t\n2\tかな\t▼幹事\t;宴会の\n1=\n2=\n";
+
+// The status that no run ends with, for words that may not wait.
+const ALONE: u8 = 255;
+
+// How often a caller looks whether the other has come, at most.
+const TURNS: u32 = 1_000_000;
+
+// A gate that holds each of two callers at its second line until the other has come to its own.
+#[derive(Drop)]
+struct Meeting {
+    come: AtomicU32,
+    is_missed: AtomicBool,
+}
+
+impl Gate for Meeting {
+    fn at(&self, _caller: u32, turn: u64) {
+        if turn != 1 {
+            return;
+        }
+        self.come.fetch_add(1, Ordering::SeqCst);
+        for _ in 0..TURNS {
+            if self.come.load(Ordering::SeqCst) == 2 {
+                return;
+            }
+            thread::yield_now();
+        }
+        self.is_missed.store(true, Ordering::SeqCst);
+    }
+}
+
+// Types the lines by a caller for each session that comes to the gate.
+fn type_by_two<R: Threads + Wait + Copy + Send + Sync>(
+    rt: R,
+    alloc: Global,
+    meeting: &Meeting,
+    out: &mut MemSink,
+) -> Result<u8, AllocError> {
+    let name = Text::of(String::from_str(alloc, "words")?);
+    let content = Bytes::of(Vec::from_slice(alloc, WORDS.as_bytes())?);
+    let mut shelf = MemShelf::new(Vec::from_array(alloc, [(name, content)])?, Vec::new(alloc));
+    let lines = Bytes::of(Vec::from_slice(alloc, LINES.as_bytes())?);
+    let mut input = MemSource::new(Vec::from_array(alloc, [lines])?, Vec::new(alloc));
+    let words = [
+        Text::of(String::from_str(alloc, "type")?),
+        Text::of(String::from_str(alloc, "--dict=words")?),
+        Text::of(String::from_str(alloc, "--threads")?),
+    ];
+    let disk = MemDisk::new(alloc, Vec::new(alloc));
+    let mut err = MemSink::new(alloc, Vec::new(alloc));
+    let mut net = MemListener::new(alloc, Vec::new(alloc), Vec::new(alloc));
+    if !waits(&words) {
+        return Ok(ALONE);
+    }
+    let finish = run(
+        rt, alloc, &words, &mut shelf, disk, &mut input, out, &mut err, &mut net, meeting,
+    );
+    Ok(finish.status)
+}
+
+// Two sessions are typed at the same time: each waits for the other between its lines.
+#[test]
+fn two_typed(rt: HostRuntime) -> Result<(), Fail> {
+    let alloc = rt.alloc();
+    let meeting = Meeting {
+        come: AtomicU32::new(0),
+        is_missed: AtomicBool::new(false),
+    };
+    let mut out = MemSink::new(alloc, Vec::new(alloc));
+    let status = type_by_two(rt, alloc, &meeting, &mut out)?;
+    assert_eq!(rt; status, 0);
+    assert_eq!(rt; out.written(), TYPED.as_bytes());
+    assert!(rt; !meeting.is_missed.load(Ordering::SeqCst));
+    Ok(())
+}

@@ -1,0 +1,385 @@
+-- Sessions whose typists are apart print what they print where all calls are answered one after another.
+use Rattle.std.proofs.Common.{◌≡◌, ◌∙◌, ap, sym, subst, refl, ℕ, ◌==◌, Bool, true, false, cond}
+use Rattle.std.proofs.Common.{None, Some, List, [], ◌∷◌, ◌++◌, append_assoc}
+use Rattle.std.proofs.lemmas.Bool.{and_parts, eqb-true}
+use Rattle.std.proofs.lemmas.List.{append-nil, map-append}
+use Rattle.std.specs.List.{list_all}
+use Rattle.romaji_rules.specs.declared.rule.Rule.{Rule}
+use Rattle.skk_calls.specs.declared.answer.Answer.{Answer}
+use Rattle.skk_calls.specs.declared.call.Call.{Call}
+use Rattle.skk_calls.specs.Dictionary.{after}
+use Rattle.skk_calls.specs.Histories.{after_calls}
+use Rattle.skk_calls.specs.Interactions.{Interaction, ends, asks, prints, followed_by, Dialog, Leads, here, asking}
+use Rattle.skk_calls.specs.Interactions.{printing}
+use Rattle.skk_calls.specs.Interactions.{calls_of, answers_of, IsAnsweredAlone, printed_alone}
+use Rattle.skk_calls.specs.Rows.{Row}
+use Rattle.skk_calls.specs.States.{State}
+use Rattle.dict_laws.specs.OwnBooks.{owner, is_own, LookAlike, AsksOwn}
+use Rattle.dict_laws.specs.OwnBookLaws.{own_dialog_alike, alone_gives_own, own_led, others_leave_alike}
+use Rattle.skk_text.specs.declared.key.Key.{Key}
+use Rattle.key_scripts.specs.Script.{session_of, own_lines, gives_keys}
+use Rattle.key_scripts.specs.declared.line.Line.{Line}
+use Rattle.key_scripts.specs.declared.line.Line.TheVariants.{Keys, Opening}
+use Rattle.session_machine.specs.OwnSessions.{IsOwn}
+use Rattle.session_machine.specs.Pressed.{all_pressed}
+use Rattle.session_machine.specs.Session.{Session, new_session}
+use Rattle.script_typing.specs.Printing.{output_line}
+use Rattle.script_typing.specs.Sessions.{SessionMap, session_or_new, with_session}
+use Rattle.script_typing.specs.Typed.{closing_lines, typing, Asking}
+use Rattle.script_typing.specs.Woven.{own_typing, Given, with_given, taken, woven}
+use Rattle.script_typing.proofs.Weaving.{own-first, own-other, session-put, session-others}
+
+-- what an interaction leads to is taken from the head of its answers
+taken-led : {S : Type 0} {from : Interaction S} {dialog : Dialog} {text : List ℕ} (end : S) (more : List Answer)
+    → Leads from dialog text (ends end) → taken from (answers_of dialog ++ more) ≡ Some (end, more)
+taken-led end more (here from) = refl
+taken-led end more (asking call next given dialog text to way) = taken-led end more way
+taken-led end more (printing first rest dialog text to way) = taken-led end more way
+
+-- a way through an interaction and what follows behind it is one through each
+record Halves {S T : Type 0} (from : Interaction S) (behind : S → Interaction T) (dialog : Dialog)
+    (text : List ℕ) (end : T) : Type 0 where
+  pub first : Dialog
+  pub rest : Dialog
+  pub printed : List ℕ
+  pub more : List ℕ
+  pub middle : S
+  pub is : dialog ≡ first ++ rest
+  pub prints : text ≡ printed ++ more
+  pub leads : Leads from first printed (ends middle)
+  pub on : Leads (behind middle) rest more (ends end)
+
+halves : {S T : Type 0} (from : Interaction S) (behind : S → Interaction T) {dialog : Dialog} {text : List ℕ} (end : T)
+    → Leads (followed_by from behind) dialog text (ends end) → Halves from behind dialog text end
+halves (ends value) behind {dialog = dialog} {text = text} end way = record {
+  first = [];
+  rest = dialog;
+  printed = [];
+  more = text;
+  middle = value;
+  is = refl;
+  prints = refl;
+  leads = here (ends value);
+  on = way;
+}
+halves (asks call next) behind end (asking _ _ given dialog text _ way) =
+    let rest = halves (next given) behind end way in
+    record {
+      first = (call, given) ∷ rest.first;
+      rest = rest.rest;
+      printed = rest.printed;
+      more = rest.more;
+      middle = rest.middle;
+      is = ap (λ d. (call, given) ∷ d) rest.is;
+      prints = rest.prints;
+      leads = asking call next given rest.first rest.printed (ends rest.middle) rest.leads;
+      on = rest.on;
+    }
+halves (prints first more) behind end (printing _ _ dialog text _ way) =
+    let rest = halves more behind end way in
+    record {
+      first = rest.first;
+      rest = rest.rest;
+      printed = first ++ rest.printed;
+      more = rest.more;
+      middle = rest.middle;
+      is = rest.is;
+      prints = ap (λ t. first ++ t) rest.prints ∙ sym (append_assoc first rest.printed rest.more);
+      leads = printing first more rest.first rest.printed (ends rest.middle) rest.leads;
+      on = rest.on;
+    }
+
+-- a dialog that the dictionary of one thread answers is two, one behind the other
+alone-halves : (files : List (List Row)) (state : State) (first rest : Dialog)
+    → IsAnsweredAlone files state (first ++ rest)
+    → IsAnsweredAlone files state first × IsAnsweredAlone files (after_calls state (calls_of first)) rest
+alone-halves files state [] rest alone = (tt, alone)
+alone-halves files state (pair ∷ first) rest alone =
+    let both = alone-halves files (after state pair.0) first rest alone.1 in
+    ((alone.0, both.0), both.1)
+
+-- what is printed on a way whose calls the dictionary of one thread answers, and then by what follows behind it
+alone-led : {S T : Type 0} (files : List (List Row)) (state : State) {from : Interaction S} {dialog : Dialog}
+    {text : List ℕ} (end : S) (behind : S → Interaction T) → Leads from dialog text (ends end)
+    → IsAnsweredAlone files state dialog
+    → printed_alone files state (followed_by from behind)
+    ≡ text ++ printed_alone files (after_calls state (calls_of dialog)) (behind end)
+alone-led files state end behind (here from) alone = refl
+alone-led files state end behind (asking call next given dialog text to way) alone =
+    ap (λ a. printed_alone files (after state call) (followed_by (next a) behind)) (sym alone.0)
+    ∙ alone-led files (after state call) end behind way alone.1
+alone-led files state end behind (printing first rest dialog text to way) alone =
+    ap (λ t. first ++ t) (alone-led files state end behind way alone)
+    ∙ sym (append_assoc first text (printed_alone files (after_calls state (calls_of dialog)) (behind end)))
+
+-- Sessions in front of lines
+
+-- own lines find a session that is a typist's own, or open one first, and open none behind that
+abbrev pub StartsOwn : ℕ → Session → List Line → Type 0
+StartsOwn typist session [] = IsOwn typist session
+StartsOwn typist session (Keys number ks ∷ lines) = IsOwn typist session × (list_all gives_keys lines ≡ true)
+StartsOwn typist session (Opening number own book ∷ lines) =
+    (own ≡ typist) × (book ≡ typist) × (list_all gives_keys lines ≡ true)
+
+-- lines of keys alone find a session that is a typist's own
+pub starts-on : (typist : ℕ) (session : Session) (lines : List Line) → IsOwn typist session
+    → list_all gives_keys lines ≡ true → StartsOwn typist session lines
+starts-on typist session [] own keys = own
+starts-on typist session (Keys number ks ∷ lines) own keys = (own, keys)
+starts-on typist session (Opening number other book ∷ lines) own keys = absurd (cc keys)
+
+module _ (files : List (List Row)) (table : List Rule) (typist_of : ℕ → ℕ) (named : ℕ → Bool)
+    (apart : (number other : ℕ) → named number ≡ true → named other ≡ true → (other == number) ≡ false
+    → (typist_of number == typist_of other) ≡ false)
+    (private : (number : ℕ) → named number ≡ true → (typist_of number == 0) ≡ false)
+    (new_own : (typist : ℕ) → IsOwn typist (new_session typist typist))
+    (keys_own : (typist : ℕ) (session : Session) (ks : List Key) → IsOwn typist session
+    → AsksOwn typist (IsOwn typist) (all_pressed table session ks))
+    (ended : ℕ → Session) where
+  -- what is known of the session of a number in front of lines, where one state is the dictionary's that answers it
+  -- alone, and the other that of the dictionary that answers all sessions
+  pub record IsApart (number : ℕ) (session : Session) (own : List Line) (answers : List Answer) (dialog : Dialog)
+      (alone all : State) : Type 0 where
+    pub given : answers ≡ answers_of dialog
+    pub leads : Leads (own_typing table session own) dialog [] (ends (ended number))
+    pub answered : IsAnsweredAlone files alone dialog
+    pub alike : LookAlike (typist_of number) alone all
+    pub starts : StartsOwn (typist_of number) session own
+
+  -- what is known of each session that is named
+  abbrev pub AreApart : SessionMap → Given → (ℕ → Dialog) → (ℕ → State) → State → List Line → Type 0
+  AreApart sessions given dialogs states all lines =
+      (number : ℕ) → named number ≡ true
+      → IsApart number (session_or_new sessions number) (own_lines number lines) (given number) (dialogs number)
+      (states number) all
+
+  -- a value for one number, and those of a function for the others
+  abbrev with_one : {A : Type 0} → (ℕ → A) → ℕ → A → ℕ → A
+  with_one f number value other = cond (other == number) value (f other)
+
+  -- own calls of another typist leave a state that looks alike
+  others-leave : (writer number : ℕ) (calls : List Call) (alone all : State)
+      → (writer == typist_of number) ≡ false → (writer == 0) ≡ false
+      → list_all (is_own writer) calls ≡ true
+      → LookAlike (typist_of number) alone all → LookAlike (typist_of number) alone (after_calls all calls)
+  others-leave writer number [] alone all differ shared own alike = alike
+  others-leave writer number (call ∷ calls) alone all differ shared own alike =
+      let owns = and_parts (is_own writer call) (list_all (is_own writer) calls) own in
+      let is : owner call ≡ writer = eqb-true (owner call) writer owns.0 in
+      let leaves =
+      others_leave_alike all (typist_of number) call
+      (subst (λ w. (w == typist_of number) ≡ false) (sym is) differ)
+      (subst (λ w. (w == 0) ≡ false) (sym is) shared) in
+      others-leave writer number calls alone (after all call) differ shared owns.1
+      (leaves.0 ∙ alike.0, leaves.1 ∙ alike.1, leaves.2 ∙ alike.2)
+
+  -- what is woven of lines is what is printed where all calls are answered one after another
+  abbrev Alone : List Line → Type 0
+  Alone lines =
+      (sessions : SessionMap) (given : Given) (dialogs : ℕ → Dialog) (states : ℕ → State) (all : State)
+      → list_all (λ line. named (session_of line)) lines ≡ true
+      → AreApart sessions given dialogs states all lines
+      → woven table sessions given lines ≡ printed_alone files all (typing table sessions lines)
+
+  -- nothing is in front of nothing
+  no_front : (front behind : List ℕ) → [] ≡ front ++ behind → front ≡ []
+  no_front [] behind is = refl
+  no_front (x ∷ front) behind is = absurd (cc is)
+
+  -- an opening line in front
+  module _ (number typist book : ℕ) (lines : List Line) (behind : Alone lines) where
+    abbrev opening_line : Line
+    opening_line = Opening number typist book
+
+    abbrev opened : Session
+    opened = new_session typist book
+
+    alone-opened : Alone (opening_line ∷ lines)
+    alone-opened sessions given dialogs states all names are =
+        behind (with_session sessions number opened) given dialogs states all in_lines next
+      where
+        in_lines : list_all (λ line. named (session_of line)) lines ≡ true
+        in_lines =
+            (and_parts (named number) (list_all (λ line. named (session_of line)) lines) names).1
+
+        next : AreApart (with_session sessions number opened) given dialogs states all lines
+        next other is_named = by (other == number) refl
+          where
+            by : (b : Bool) → (other == number) ≡ b
+                → IsApart other (session_or_new (with_session sessions number opened) other) (own_lines other lines)
+                (given other) (dialogs other) (states other) all
+            by true is =
+                let same : other ≡ number = eqb-true other number is in
+                subst (λ n. IsApart n (session_or_new (with_session sessions number opened) n) (own_lines n lines)
+                (given n) (dialogs n) (states n) all) (sym same)
+                (subst (λ (s : Session). IsApart number s (own_lines number lines) (given number) (dialogs number)
+                (states number) all) (sym (session-put sessions number opened))
+                (begun (subst (λ (ls : List Line). IsApart number (session_or_new sessions number) ls (given number)
+                (dialogs number) (states number) all) (own-first opening_line lines)
+                (are number (subst (λ n. named n ≡ true) same is_named)))))
+              where
+                begun : IsApart number (session_or_new sessions number) (opening_line ∷ own_lines number lines)
+                    (given number) (dialogs number) (states number) all
+                    → IsApart number opened (own_lines number lines) (given number) (dialogs number) (states number) all
+                begun known = record {
+                  given = known.given;
+                  leads = known.leads;
+                  answered = known.answered;
+                  alike = known.alike;
+                  starts =
+                      starts-on (typist_of number) opened (own_lines number lines)
+                      (subst (λ t. IsOwn (typist_of number) (new_session t book)) (sym known.starts.0)
+                      (subst (λ b. IsOwn (typist_of number) (new_session (typist_of number) b)) (sym known.starts.1)
+                      (new_own (typist_of number))))
+                      known.starts.2;
+                }
+            by false differ =
+                subst (λ (s : Session). IsApart other s (own_lines other lines) (given other) (dialogs other)
+                (states other) all) (sym (session-others sessions number opened other differ))
+                (subst (λ (ls : List Line). IsApart other (session_or_new sessions other) ls (given other)
+                (dialogs other) (states other) all) (own-other opening_line lines other differ)
+                (are other is_named))
+
+  -- a line of keys in front
+  module _ (number : ℕ) (ks : List Key) (lines : List Line) (behind : Alone lines) (sessions : SessionMap)
+      (given : Given) (dialogs : ℕ → Dialog) (states : ℕ → State) (all : State)
+      (names : list_all (λ line. named (session_of line)) (Keys number ks ∷ lines) ≡ true)
+      (are : AreApart sessions given dialogs states all (Keys number ks ∷ lines)) where
+    abbrev keys_line : Line
+    keys_line = Keys number ks
+
+    abbrev session : Session
+    session = session_or_new sessions number
+
+    is_named : named number ≡ true
+    is_named = (and_parts (named number) (list_all (λ line. named (session_of line)) lines) names).0
+
+    -- what is known of its session
+    known : IsApart number session (keys_line ∷ own_lines number lines) (given number) (dialogs number)
+        (states number) all
+    known =
+        subst (λ (ls : List Line). IsApart number session ls (given number) (dialogs number) (states number) all)
+        (own-first keys_line lines) (are number is_named)
+
+    -- its keys, and what comes behind them
+    parts : Halves (all_pressed table session ks) (λ a. own_typing table a (own_lines number lines))
+        (dialogs number) [] (ended number)
+    parts =
+        halves (all_pressed table session ks) (λ a. own_typing table a (own_lines number lines)) (ended number)
+        known.leads
+
+    led : Leads (all_pressed table session ks) parts.first [] (ends parts.middle)
+    led =
+        subst (λ t. Leads (all_pressed table session ks) parts.first t (ends parts.middle))
+        (no_front parts.printed parts.more parts.prints) parts.leads
+
+    led_on : Leads (own_typing table parts.middle (own_lines number lines)) parts.rest [] (ends (ended number))
+    led_on =
+        subst (λ t. Leads (own_typing table parts.middle (own_lines number lines)) parts.rest t
+        (ends (ended number)))
+        (sym (parts.prints ∙ ap (λ p. p ++ parts.more) (no_front parts.printed parts.more parts.prints)))
+        parts.on
+
+    taking : taken (all_pressed table session ks) (given number) ≡ Some (parts.middle, answers_of parts.rest)
+    taking =
+        ap (taken (all_pressed table session ks))
+        (known.given ∙ ap answers_of parts.is ∙ map-append (λ pair. pair.1) parts.first parts.rest)
+        ∙ taken-led parts.middle (answers_of parts.rest) led
+
+    answered : IsAnsweredAlone files (states number) parts.first
+        × IsAnsweredAlone files (after_calls (states number) (calls_of parts.first)) parts.rest
+    answered =
+        alone-halves files (states number) parts.first parts.rest
+        (subst (IsAnsweredAlone files (states number)) parts.is known.answered)
+
+    -- its calls are the typist's own, and so is the session behind them
+    own : (list_all (is_own (typist_of number)) (calls_of parts.first) ≡ true) × IsOwn (typist_of number) parts.middle
+    own =
+        own_led (typist_of number) (IsOwn (typist_of number)) led
+        (keys_own (typist_of number) session ks known.starts.0)
+        (alone_gives_own (typist_of number) files (states number) parts.first answered.0)
+
+    both : IsAnsweredAlone files all parts.first
+        × LookAlike (typist_of number) (after_calls (states number) (calls_of parts.first))
+        (after_calls all (calls_of parts.first))
+    both =
+        own_dialog_alike (typist_of number) files (states number) all parts.first known.alike own.0 answered.0
+
+    -- what is known of each session behind the line
+    next : AreApart (with_session sessions number parts.middle) (with_given given number (answers_of parts.rest))
+        (with_one dialogs number parts.rest)
+        (with_one states number (after_calls (states number) (calls_of parts.first)))
+        (after_calls all (calls_of parts.first)) lines
+    next other other_named = by (other == number) refl
+      where
+        by : (b : Bool) → (other == number) ≡ b
+            → IsApart other (session_or_new (with_session sessions number parts.middle) other) (own_lines other lines)
+            (cond b (answers_of parts.rest) (given other)) (cond b parts.rest (dialogs other))
+            (cond b (after_calls (states number) (calls_of parts.first)) (states other))
+            (after_calls all (calls_of parts.first))
+        by true is =
+            let same : other ≡ number = eqb-true other number is in
+            subst (λ n. IsApart n (session_or_new (with_session sessions number parts.middle) n) (own_lines n lines)
+            (answers_of parts.rest) parts.rest (after_calls (states number) (calls_of parts.first))
+            (after_calls all (calls_of parts.first))) (sym same)
+            (subst (λ (s : Session). IsApart number s (own_lines number lines) (answers_of parts.rest) parts.rest
+            (after_calls (states number) (calls_of parts.first)) (after_calls all (calls_of parts.first)))
+            (sym (session-put sessions number parts.middle))
+            (record {
+              given = refl;
+              leads = led_on;
+              answered = answered.1;
+              alike = both.1;
+              starts = starts-on (typist_of number) parts.middle (own_lines number lines) own.1 known.starts.1;
+            }))
+        by false differ =
+            subst (λ (s : Session). IsApart other s (own_lines other lines) (given other) (dialogs other)
+            (states other) (after_calls all (calls_of parts.first)))
+            (sym (session-others sessions number parts.middle other differ))
+            (kept (subst (λ (ls : List Line). IsApart other (session_or_new sessions other) ls (given other)
+            (dialogs other) (states other) all) (own-other keys_line lines other differ)
+            (are other other_named)))
+          where
+            kept : IsApart other (session_or_new sessions other) (own_lines other lines) (given other)
+                (dialogs other) (states other) all
+                → IsApart other (session_or_new sessions other) (own_lines other lines) (given other)
+                (dialogs other) (states other) (after_calls all (calls_of parts.first))
+            kept before = record {
+              given = before.given;
+              leads = before.leads;
+              answered = before.answered;
+              alike =
+                  others-leave (typist_of number) other (calls_of parts.first) (states other) all
+                  (apart number other is_named other_named differ) (private number is_named) own.0 before.alike;
+              starts = before.starts;
+            }
+
+    -- what comes behind its keys where one caller types all lines
+    abbrev typed_behind : Session → Asking
+    typed_behind after = prints (output_line number after) (typing table (with_session sessions number after) lines)
+
+    alone-keys : woven table sessions given (keys_line ∷ lines)
+        ≡ printed_alone files all (typing table sessions (keys_line ∷ lines))
+    alone-keys =
+        ap (λ t. elim t [
+          | None ↦ []
+          | Some (after, left) ↦
+              output_line number after
+              ++ woven table (with_session sessions number after) (with_given given number left) lines
+        ]) taking
+        ∙ ap (λ text. output_line number parts.middle ++ text)
+        (behind (with_session sessions number parts.middle) (with_given given number (answers_of parts.rest))
+        (with_one dialogs number parts.rest)
+        (with_one states number (after_calls (states number) (calls_of parts.first)))
+        (after_calls all (calls_of parts.first))
+        (and_parts (named number) (list_all (λ line. named (session_of line)) lines) names).1 next)
+        ∙ sym (alone-led files all parts.middle typed_behind led both.0)
+
+  alone-none : Alone []
+  alone-none sessions given dialogs states all names are = sym (append-nil (closing_lines sessions))
+
+  -- any lines
+  pub alone-woven : (lines : List Line) → Alone lines
+  alone-woven [] = alone-none
+  alone-woven (Keys number ks ∷ lines) = alone-keys number ks lines (alone-woven lines)
+  alone-woven (Opening number typist book ∷ lines) = alone-opened number typist book lines (alone-woven lines)

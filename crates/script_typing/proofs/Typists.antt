@@ -1,0 +1,334 @@
+-- A script whose typists are apart prints what it prints where all calls are answered one after another.
+use Rattle.std.proofs.Common.{◌≡◌, ◌≢◌, ◌∙◌, ap, sym, subst, refl, arith, ℕ, ◌+◌, ◌≤◌, ◌<◌, ◌==◌, Bool, true, false}
+use Rattle.std.proofs.Common.{cond}
+use Rattle.std.proofs.Common.{◌&&◌, ◌||◌, not, None, Some, List, [], ◌∷◌, length, drop, get_or, map, inl, inr}
+use Rattle.std.proofs.lemmas.Bool.{and_parts, and_from, cases_order, eqb-true, eqb-false, eq-eqb, ne_eqb}
+use Rattle.std.proofs.lemmas.Bool.{not_from_false, not-true}
+use Rattle.std.proofs.lemmas.List.{length-map, get_or-map}
+use Rattle.std.specs.List.{cons_option, list_all}
+use Rattle.romaji_rules.specs.declared.rule.Rule.{Rule}
+use Rattle.skk_calls.specs.declared.entry.Entry.{Entry}
+use Rattle.skk_calls.specs.Histories.{Opening as opening_value, dialog}
+use Rattle.skk_calls.specs.Interactions.{Dialog, Leads, ends, calls_of, IsAnsweredAlone, printed_alone}
+use Rattle.skk_calls.specs.Openings.{is_reply}
+use Rattle.dict_laws.specs.OwnBooks.{is_own, is_own_entry, is_apart, gives_own, GivesOwn, AsksOwn}
+use Rattle.dict_laws.specs.OwnBookLaws.{only_followed, own_entries, own_led}
+use Rattle.skk_text.specs.PairsLaws.{list_all-filter}
+use Rattle.skk_text.specs.declared.key.Key.{Key}
+use Rattle.key_scripts.specs.Script.{session_of, own_lines, gives_keys, opens_well, OpenFirst}
+use Rattle.key_scripts.specs.declared.line.Line.{Line}
+use Rattle.key_scripts.specs.declared.line.Line.TheVariants.{Keys, Opening}
+use Rattle.session_machine.specs.OwnSessions.{IsOwn}
+use Rattle.session_machine.specs.Pressed.{all_pressed}
+use Rattle.session_machine.specs.Session.{Session, new_session}
+use Rattle.script_typing.specs.Callers.{LeadFrom}
+use Rattle.script_typing.specs.MapLaws.{Ascend}
+use Rattle.script_typing.specs.Typed.{typing}
+use Rattle.script_typing.specs.Woven.{Tasks, tasks_of, lines_at, own_typing, woven, place_of, answers_by}
+use Rattle.script_typing.specs.Woven.{first_session, is_private, are_apart, differ}
+use Rattle.script_typing.proofs.Apart.{StartsOwn, starts-on, IsApart, alone-woven}
+use Rattle.script_typing.proofs.Places.{number_at, first_at, place-at, number-at, lines-here, lines-there, first-at}
+use Rattle.script_typing.proofs.Places.{are_some, some-placed, all-named, all-at, differ-at}
+use Rattle.script_typing.proofs.Tasks.{ascend-tasks, own-lines_of}
+
+-- Histories
+
+-- what holds of each number that has said something holds of each entry's
+by-entries : (test : ℕ → Bool) (history : List Entry)
+    → ((number : ℕ) → (dialog history number ≢ []) → test number ≡ true)
+    → list_all (λ entry. test entry.number) history ≡ true
+by-entries test [] holds = refl
+by-entries test (entry ∷ history) holds =
+    and_from (test entry.number) (list_all (λ e. test e.number) history)
+    (holds entry.number (some (entry.number == entry.number) (ne entry.number)))
+    (by-entries test history (λ number said. holds number (λ none. said (rest number (entry.number == number) none))))
+  where
+    ne : (number : ℕ) → (number == number) ≡ true
+    ne number = eq-eqb number number refl
+
+    some : (b : Bool) → b ≡ true
+        → cons_option (cond b (Some (entry.call, entry.answer)) None) (dialog history entry.number) ≢ []
+    some true is none = cc (none)
+    some false is none = absurd (cc (is))
+
+    rest : (number : ℕ) (b : Bool)
+        → cons_option (cond b (Some (entry.call, entry.answer)) None) (dialog history number) ≡ []
+        → dialog history number ≡ []
+    rest number true none = absurd (cc (none))
+    rest number false none = none
+
+-- where no entry was refused, no call of a caller was
+served-by : (history : List Entry) (number : ℕ) → list_all (λ entry. is_reply entry.answer) history ≡ true
+    → list_all (λ pair. is_reply pair.1) (dialog history number) ≡ true
+served-by [] number served = refl
+served-by (entry ∷ history) number served =
+    by (entry.number == number) (parts.0) (served-by history number parts.1)
+  where
+    parts : (is_reply entry.answer ≡ true) × (list_all (λ e. is_reply e.answer) history ≡ true)
+    parts = and_parts (is_reply entry.answer) (list_all (λ e. is_reply e.answer) history) served
+
+    by : (b : Bool) → is_reply entry.answer ≡ true
+        → list_all (λ pair. is_reply pair.1) (dialog history number) ≡ true
+        → list_all (λ pair. is_reply pair.1)
+        (cons_option (cond b (Some (entry.call, entry.answer)) None) (dialog history number)) ≡ true
+    by true first rest =
+        and_from (is_reply entry.answer) (list_all (λ pair. is_reply pair.1) (dialog history number)) first rest
+    by false first rest = rest
+
+-- Ends of tasks
+
+module _ (table : List Rule) (said : ℕ → Dialog) where
+  -- the session that the lines of a number's task lead to
+  abbrev end_at : (place : ℕ) (tasks : Tasks) → LeadFrom table said place tasks → ℕ → Session
+  end_at place [] leads number = new_session number number
+  end_at place (task ∷ tasks) leads number =
+      cond (task.0 == number) leads.0.0 (end_at (place + 1) tasks leads.1 number)
+
+  -- what the caller of its place has said leads to it
+  lead-at : (place : ℕ) (tasks : Tasks) (leads : LeadFrom table said place tasks) (number : ℕ)
+      → place_of tasks number < length tasks
+      → Leads (own_typing table (new_session number number) (lines_at tasks number))
+      (said (place + place_of tasks number)) [] (ends (end_at place tasks leads number))
+  lead-at place [] leads number within = absurd (omega (arith, within))
+  lead-at place (task ∷ tasks) leads number within =
+      by (task.0 == number) refl within (lead-at (place + 1) tasks leads.1 number)
+    where
+      by : (b : Bool) → (task.0 == number) ≡ b → cond b 0 (place_of tasks number + 1) < length (task ∷ tasks)
+          → (place_of tasks number < length tasks
+          → Leads (own_typing table (new_session number number) (lines_at tasks number))
+          (said (place + 1 + place_of tasks number)) [] (ends (end_at (place + 1) tasks leads.1 number)))
+          → Leads (own_typing table (new_session number number) (lines_at (task ∷ tasks) number))
+          (said (place + cond b 0 (place_of tasks number + 1))) []
+          (ends (cond b leads.0.0 (end_at (place + 1) tasks leads.1 number)))
+      by true is within_all rest =
+          let here : place ≡ place + 0 = omega arith in
+          subst (λ p. Leads (own_typing table (new_session number number) (lines_at (task ∷ tasks) number)) (said p) []
+          (ends leads.0.0)) here
+          (subst (λ (ls : List Line). Leads (own_typing table (new_session number number) ls) (said place) []
+          (ends leads.0.0)) (sym (lines-here task tasks number is))
+          (subst (λ n. Leads (own_typing table (new_session n n) task.1) (said place) [] (ends leads.0.0))
+          (eqb-true task.0 number is) leads.0.1))
+      by false is within_all rest =
+          let there : place + 1 + place_of tasks number ≡ place + (place_of tasks number + 1) = omega arith in
+          subst (λ p. Leads (own_typing table (new_session number number) (lines_at (task ∷ tasks) number)) (said p) []
+          (ends (end_at (place + 1) tasks leads.1 number))) there
+          (subst (λ (ls : List Line). Leads (own_typing table (new_session number number) ls)
+          (said (place + 1 + place_of tasks number)) [] (ends (end_at (place + 1) tasks leads.1 number)))
+          (sym (lines-there task tasks number is)) (rest (omega (arith, within_all))))
+
+module _ (table : List Rule)
+    (new_own : (typist : ℕ) → IsOwn typist (new_session typist typist))
+    (keys_own : (typist : ℕ) (session : Session) (ks : List Key) → IsOwn typist session
+    → AsksOwn typist (IsOwn typist) (all_pressed table session ks)) where
+  -- own lines ask a typist's own calls alone
+  asks-own : (typist : ℕ) (session : Session) (own : List Line) → StartsOwn typist session own
+      → AsksOwn typist (IsOwn typist) (own_typing table session own)
+  asks-own typist session [] starts = starts
+  asks-own typist session (Keys number ks ∷ lines) starts =
+      only_followed (λ call. is_own typist call ≡ true) (λ given. gives_own typist given ≡ true) (IsOwn typist)
+      (IsOwn typist) (all_pressed table session ks) (λ after. own_typing table after lines)
+      (keys_own typist session ks starts.0)
+      (λ after own. asks-own typist after lines (starts-on typist after lines own starts.1))
+  asks-own typist session (Opening number opened book ∷ lines) starts =
+      asks-own typist (new_session opened book) lines
+      (starts-on typist (new_session opened book) lines
+      (subst (λ t. IsOwn typist (new_session t book)) (sym starts.0)
+      (subst (λ b. IsOwn typist (new_session typist b)) (sym starts.1) (new_own typist)))
+      starts.2)
+
+  -- own lines begin with the session of a typist that is private
+  starts : (number : ℕ) (own : List Line) → list_all opens_well own ≡ true
+      → list_all gives_keys (drop 1 own) ≡ true → is_private (first_session number own) ≡ true
+      → StartsOwn (first_session number own).typist (new_session number number) own
+  starts number [] well keys private = new_own number
+  starts number (Keys named ks ∷ lines) well keys private = (new_own number, keys)
+  starts number (Opening named typist book ∷ lines) well keys private = (
+    refl,
+    own (book == 0) (book == typist) refl refl
+        (and_parts (book == 0 || book == typist) (list_all opens_well lines) well).0
+        (and_parts (not (typist == 0)) (not (book == 0)) private).1,
+    keys,
+  )
+    where
+      own : (shared own : Bool) → (book == 0) ≡ shared → (book == typist) ≡ own → (shared || own) ≡ true
+          → not shared ≡ true → book ≡ typist
+      own true is_own is same either nonzero = absurd (cc (nonzero))
+      own false true is same either nonzero = eqb-true book typist same
+      own false false is same either nonzero = absurd (cc (either))
+
+  module _ (opening : opening_value) (history : List Entry) (lines : List Line)
+      (given_own : (typist number : ℕ) → GivesOwn typist (dialog history number))
+      (answered_alone : (typist_of : ℕ → ℕ) (number : ℕ) → list_all (is_own_entry typist_of) history ≡ true
+      → list_all (is_apart typist_of number) history ≡ true
+      → list_all (λ pair. is_reply pair.1) (dialog history number) ≡ true
+      → IsAnsweredAlone opening.files opening.state (dialog history number))
+      (well : list_all opens_well lines ≡ true) (first : OpenFirst lines)
+      (served : list_all (λ entry. is_reply entry.answer) history ≡ true)
+      (strangers : (number : ℕ) → length (tasks_of lines) ≤ number → dialog history number ≡ [])
+      (leads : LeadFrom table (dialog history) 0 (tasks_of lines)) (apart : are_apart lines ≡ true) where
+    abbrev tasks : Tasks
+    tasks = tasks_of lines
+
+    abbrev typist_at : ℕ → ℕ
+    typist_at place = (first_at tasks place).typist
+
+    abbrev ended : ℕ → Session
+    ended = end_at table (dialog history) 0 tasks leads
+
+    ascend : Ascend tasks
+    ascend = ascend-tasks [] lines tt
+
+    parts : (list_all is_private (map (λ task. first_session task.0 task.1) tasks) ≡ true)
+        × (differ (map (λ (s : Session). s.typist) (map (λ task. first_session task.0 task.1) tasks)) ≡ true)
+    parts =
+        and_parts (list_all is_private (map (λ task. first_session task.0 task.1) tasks))
+        (differ (map (λ (s : Session). s.typist) (map (λ task. first_session task.0 task.1) tasks))) apart
+
+    private-at : (place : ℕ) → place < length tasks → is_private (first_at tasks place) ≡ true
+    private-at place within =
+        all-at is_private (map (λ task. first_session task.0 task.1) tasks) place (new_session 0 0)
+        (omega (arith, within, length-map tasks (λ (task : ℕ × List Line). first_session task.0 task.1))) parts.0
+
+    -- no typist is 0
+    not-shared : (place : ℕ) → place < length tasks → (typist_at place == 0) ≡ false
+    not-shared place within =
+        not-true (typist_at place == 0)
+        (and_parts (not (typist_at place == 0)) (not ((first_at tasks place).book == 0)) (private-at place within)).0
+
+    -- own lines start as their typist's
+    starts-at : (number : ℕ) → place_of tasks number < length tasks
+        → StartsOwn (typist_at (place_of tasks number)) (new_session number number) (own_lines number lines)
+    starts-at number within =
+        subst (λ (s : Session). StartsOwn s.typist (new_session number number) (own_lines number lines))
+        (sym is)
+        (starts number (own_lines number lines) (list_all-filter opens_well (λ l. session_of l == number) lines well)
+        (first number)
+        (subst (λ (s : Session). is_private s ≡ true) is (private-at (place_of tasks number) within)))
+      where
+        is : first_at tasks (place_of tasks number) ≡ first_session number (own_lines number lines)
+        is = first-at tasks number within ∙ ap (first_session number) (sym (own-lines_of lines number))
+
+    -- what its caller has said leads own lines to their end
+    leads-at : (number : ℕ) → place_of tasks number < length tasks
+        → Leads (own_typing table (new_session number number) (own_lines number lines))
+        (dialog history (place_of tasks number)) [] (ends (ended number))
+    leads-at number within =
+        subst (λ (ls : List Line). Leads (own_typing table (new_session number number) ls)
+        (dialog history (place_of tasks number)) [] (ends (ended number))) (sym (own-lines_of lines number))
+        (subst (λ p. Leads (own_typing table (new_session number number) (lines_at tasks number)) (dialog history p) []
+        (ends (ended number))) (omega arith) (lead-at table (dialog history) 0 tasks leads number within))
+
+    -- so its calls are its typist's own
+    own-named : (number : ℕ) → place_of tasks number < length tasks
+        → list_all (is_own (typist_at (place_of tasks number))) (calls_of (dialog history (place_of tasks number)))
+        ≡ true
+    own-named number within =
+        let typist = typist_at (place_of tasks number) in
+        (own_led typist (IsOwn typist) (leads-at number within)
+        (asks-own typist (new_session number number) (own_lines number lines) (starts-at number within))
+        (given_own typist (place_of tasks number))).0
+
+    own-at : (place : ℕ) → list_all (is_own (typist_at place)) (calls_of (dialog history place)) ≡ true
+    own-at place =
+        elim (cases_order place (length tasks)) [
+          | inl same ↦ none (strangers place (omega (arith, same)))
+          | inr (inl less) ↦
+              let is = place-at tasks place ascend less in
+              subst (λ p. list_all (is_own (typist_at p)) (calls_of (dialog history p)) ≡ true) is
+              (own-named (number_at tasks place) (omega (arith, is, less)))
+          | inr (inr more) ↦ none (strangers place (omega (arith, more)))
+        ]
+      where
+        none : dialog history place ≡ [] → list_all (is_own (typist_at place)) (calls_of (dialog history place)) ≡ true
+        none is = ap (λ (d : Dialog). list_all (is_own (typist_at place)) (calls_of d)) is
+
+    abbrev typists : List ℕ
+    typists = map (λ (s : Session). s.typist) (map (λ task. first_session task.0 task.1) tasks)
+
+    typists-long : length typists ≡ length tasks
+    typists-long =
+        length-map (map (λ (task : ℕ × List Line). first_session task.0 task.1) tasks) (λ (s : Session). s.typist)
+        ∙ length-map tasks (λ (task : ℕ × List Line). first_session task.0 task.1)
+
+    typist-there : (place : ℕ) → place < length tasks → get_or typists place 0 ≡ typist_at place
+    typist-there place less =
+        get_or-map (λ (s : Session). s.typist) (map (λ task. first_session task.0 task.1) tasks) place
+        (new_session 0 0) 0
+        (omega (arith, less, length-map tasks (λ (task : ℕ × List Line). first_session task.0 task.1)))
+
+    -- typists at different places differ
+    differs : (place other : ℕ) → place < length tasks → other < length tasks → place ≢ other
+        → (typist_at other == typist_at place) ≡ false
+    differs place other within also places =
+        ne_eqb (typist_at other) (typist_at place)
+        (λ same. differ-at typists place other parts.1 (omega (arith, within, typists-long))
+        (omega (arith, also, typists-long)) places
+        (typist-there place within ∙ sym same ∙ sym (typist-there other also)))
+
+    -- each entry is of a caller, or of one that is apart from it
+    apart-from : (place : ℕ) → place < length tasks → list_all (is_apart typist_at place) history ≡ true
+    apart-from place within = by-entries (λ other. other == place
+        || (not (typist_at other == typist_at place) && not (typist_at other == 0))) history holds
+      where
+        holds : (other : ℕ) → (dialog history other ≢ [])
+            → (other == place || (not (typist_at other == typist_at place) && not (typist_at other == 0))) ≡ true
+        holds other said =
+            elim (cases_order other (length tasks)) [
+              | inl same ↦ absurd (said (strangers other (omega (arith, same))))
+              | inr (inl less) ↦ by (other == place) refl less
+              | inr (inr more) ↦ absurd (said (strangers other (omega (arith, more))))
+            ]
+          where
+            by : (b : Bool) → (other == place) ≡ b → other < length tasks
+                → (b || (not (typist_at other == typist_at place) && not (typist_at other == 0))) ≡ true
+            by true is less = refl
+            by false is less =
+                and_from (not (typist_at other == typist_at place)) (not (typist_at other == 0))
+                (not_from_false (typist_at other == typist_at place)
+                (differs place other within less (λ same. eqb-false other place is (sym same))))
+                (not_from_false (typist_at other == 0) (not-shared other less))
+
+    -- so each caller is answered as if it called alone
+    alone-at : (place : ℕ) → place < length tasks
+        → IsAnsweredAlone opening.files opening.state (dialog history place)
+    alone-at place within =
+        answered_alone typist_at place (own_entries typist_at history own-at) (apart-from place within)
+        (served-by history place served)
+
+    abbrev named : ℕ → Bool
+    named number = are_some (own_lines number lines)
+
+    placed : (number : ℕ) → named number ≡ true → place_of tasks number < length tasks
+    placed number is = some-placed tasks number (ap are_some (sym (own-lines_of lines number)) ∙ is)
+
+    abbrev typist_of : ℕ → ℕ
+    typist_of number = typist_at (place_of tasks number)
+
+    pub typists-apart : woven table [] (answers_by (dialog history) tasks) lines
+        ≡ printed_alone opening.files opening.state (typing table [] lines)
+    typists-apart =
+        alone-woven opening.files table typist_of named apart-named
+        (λ number is. not-shared (place_of tasks number) (placed number is)) new_own keys_own ended lines []
+        (answers_by (dialog history) tasks) (λ number. dialog history (place_of tasks number))
+        (λ number. opening.state) opening.state (all-named [] lines) known
+      where
+        apart-named : (number other : ℕ) → named number ≡ true → named other ≡ true → (other == number) ≡ false
+            → (typist_of number == typist_of other) ≡ false
+        apart-named number other is also differ_is =
+            differs (place_of tasks other) (place_of tasks number) (placed other also) (placed number is)
+            (λ same. eqb-false other number differ_is
+            (sym (number-at tasks other (placed other also)) ∙ ap (number_at tasks) same
+            ∙ number-at tasks number (placed number is)))
+
+        known : (number : ℕ) → named number ≡ true
+            → IsApart opening.files table typist_of named apart-named
+            (λ n is. not-shared (place_of tasks n) (placed n is)) new_own keys_own ended number
+            (new_session number number) (own_lines number lines) (answers_by (dialog history) tasks number)
+            (dialog history (place_of tasks number)) opening.state opening.state
+        known number is = record {
+          given = refl;
+          leads = leads-at number (placed number is);
+          answered = alone-at (place_of tasks number) (placed number is);
+          alike = (refl, refl, refl);
+          starts = starts-at number (placed number is);
+        }

@@ -1,0 +1,24 @@
+//! What is typed for a script: what its lines ask and print, by one caller or by a caller for each session.
+//!
+//! It stands on `skk_text`, `skk_outside` for its gate, `skk_calls`, `romaji_rules`, `key_scripts` and
+//! `session_machine`. What the lines of a script ask and print is one interaction (`typing` in the specs), whose calls
+//! one caller makes. Where each session has a caller of its own, `cut_script` cuts the lines among the sessions, and
+//! `type_tasks` lets an office admit a caller for each, and types each session's own lines by a worker, in a thread of
+//! its own where one can be started. What is then printed is `woven`: the output lines in the order of the script.
+#![tactic(auto)]
+
+mod cutting;
+mod laws;
+mod office;
+mod pages;
+mod printing;
+mod typed;
+mod worker;
+mod working;
+
+pub use cutting::{Cut, cut_script};
+pub use laws::{callers_have_asked, callers_have_ended, pages_are_woven, typists_apart_type_alone};
+pub use office::type_tasks;
+pub use pages::Pages;
+pub use printing::{push_closing_line, push_number, push_output_line};
+pub use typed::Typed;

@@ -1,0 +1,92 @@
+use Rattle.std.proofs.Common.{◌≡◌, ◌∙◌, sym, ap, subst, Option, Some, IfSome}
+use Rattle.std.specs.Option.{option_and_then}
+use Rattle.skk_outside.specs.Moved.{moved_shelf, moved_source, moved_sink}
+use Rattle.skk_top.specs.Command.{book_to_dump, script_typed, script_to_type}
+use Rattle.skk_top.specs.Disks.{moved_disk}
+use Rattle.skk_top.specs.DumpCommand.{LeavesDumped}
+use Rattle.skk_top.specs.Finishes.{run_of, HasFailed}
+use Rattle.skk_top.specs.TypeCommand.{LeavesTyped, TypesLines}
+use Rattle.skk_top.specs.declared.command.TypeOptions.{TypeOptions}
+use Rattle.skk_top.specs.declared.finish.Finish.{Finish}
+use Rattle.skk_top.proofs.Disks.{stands-finish, stands-quiet}
+use Rattle.skk_top.proofs.Outside.{outside-typed}
+use Rattle.skk_top.proofs.alone.run_alone.Goals as goal
+
+pub returns-clause-types : goal.returns-clause-types
+returns-clause-types g c =
+    let shelf = moved_shelf g.H.Shelf.file g.H.Outside.faults c.args.shelf.now c.run_by_one.new.shelf in
+    let input = moved_source g.I.Outside.left g.I.Outside.faults c.args.input.now c.run_by_one.new.input in
+    let out = moved_sink g.O.Outside.written g.O.Outside.faults c.args.out.now c.run_by_one.new.out in
+    let disk =
+    moved_disk g.D.Disk.tells g.D.Disk.seen g.D.Disk.time g.D.Outside.faults g.D.Disk.left_since c.args.disk
+    c.end_run-2.result.disk in
+    let options = c.in-Some-script_typed.options.now in
+    let named : script_to_type c.args.words.now ≡ Some options =
+    ap (option_and_then script_typed) (sym c.in-Some.ensures) ∙ sym c.in-Some-script_typed.ensures in
+    subst (λ (given : Option TypeOptions). IfSome given
+    (λ os. LeavesTyped TypesLines os (run_of c.end_run-2.result) shelf input out disk)) (sym named)
+    (rw c.end_run-2.ensures.finish c.run_by_one.ensures.leaves)
+
+pub returns-clause-outside : goal.returns-clause-outside
+returns-clause-outside g c is =
+    let D = g.D.Disk in
+    let shelf = moved_shelf g.H.Shelf.file g.H.Outside.faults c.args.shelf.now c.run_by_one.new.shelf in
+    let input = moved_source g.I.Outside.left g.I.Outside.faults c.args.input.now c.run_by_one.new.input in
+    let out = moved_sink g.O.Outside.written g.O.Outside.faults c.args.out.now c.run_by_one.new.out in
+    let finish = c.end_run-2.ensures.finish in
+    subst (λ (f : Finish g.row.D.Denot). HasFailed shelf input out
+    (moved_disk D.tells D.seen D.time g.D.Outside.faults D.left_since c.args.disk f.disk)) (sym finish)
+    (outside-typed c.in-Some-script_typed.options.now c.run_by_one.result shelf input out
+    (moved_disk D.tells D.seen D.time g.D.Outside.faults D.left_since c.args.disk c.run_by_one.result.disk)
+    (sym (ap (λ (f : Finish g.row.D.Denot). f.ended) finish) ∙ is) c.run_by_one.ensures.leaves)
+
+pub returns-in_default-clause-stands : goal.returns-in_default-clause-stands
+returns-in_default-clause-stands g c =
+    let D = g.D.Disk in
+    stands-finish D.tells D.seen D.time g.D.Outside.faults D.left_since c.args.disk c.without_calls.result
+    c.end_run.result c.end_run.ensures.finish
+    (stands-quiet D.tells D.seen D.time g.D.Outside.faults D.left_since c.args.disk (g.met.D.Disk.earlier c.args.disk) _
+    c.without_calls.result c.without_calls.ensures)
+
+pub returns-in-Some-file_checked-clause-stands : goal.returns-in-Some-file_checked-clause-stands
+returns-in-Some-file_checked-clause-stands g c =
+    let D = g.D.Disk in
+    let run = c.run_check.result in
+    stands-finish D.tells D.seen D.time g.D.Outside.faults D.left_since c.args.disk run
+    c.end_run-in-Some-file_checked.result c.end_run-in-Some-file_checked.ensures.finish
+    (stands-quiet D.tells D.seen D.time g.D.Outside.faults D.left_since c.args.disk (g.met.D.Disk.earlier c.args.disk)
+    run.ended run (λ i. record {
+      ended = run.ended;
+      chronicle = c.run_check.ensures.uncalled i;
+      disk = c.run_check.ensures.disk i;
+    }))
+
+pub returns-then-is_some-clause-dumps : goal.returns-then-is_some-clause-dumps
+returns-then-is_some-clause-dumps g c =
+    let D = g.D.Disk in
+    let out = moved_sink g.O.Outside.written g.O.Outside.faults c.args.out.now c.run_dump.new.out in
+    subst (λ (f : Finish g.row.D.Denot). IfSome (book_to_dump c.args.words.now) (λ options.
+    LeavesDumped options (run_of f) out
+    (moved_disk D.tells D.seen D.time g.D.Outside.faults D.left_since c.args.disk f.disk)))
+    (sym c.end_run-then-is_some.ensures.finish) c.run_dump.ensures.leaves
+
+pub returns-then-is_some-clause-stands : goal.returns-then-is_some-clause-stands
+returns-then-is_some-clause-stands g c =
+    let D = g.D.Disk in
+    stands-finish D.tells D.seen D.time g.D.Outside.faults D.left_since c.args.disk c.run_dump.result
+    c.end_run-then-is_some.result c.end_run-then-is_some.ensures.finish c.run_dump.ensures.stands
+
+pub returns-in_default-script_typed-clause-stands : goal.returns-in_default-script_typed-clause-stands
+returns-in_default-script_typed-clause-stands g c =
+    let D = g.D.Disk in
+    stands-finish D.tells D.seen D.time g.D.Outside.faults D.left_since c.args.disk
+    c.without_calls-in_default-script_typed.result c.end_run-in_default-script_typed.result
+    c.end_run-in_default-script_typed.ensures.finish
+    (stands-quiet D.tells D.seen D.time g.D.Outside.faults D.left_since c.args.disk (g.met.D.Disk.earlier c.args.disk) _
+    c.without_calls-in_default-script_typed.result c.without_calls-in_default-script_typed.ensures)
+
+pub returns-clause-stands : goal.returns-clause-stands
+returns-clause-stands g c =
+    let D = g.D.Disk in
+    stands-finish D.tells D.seen D.time g.D.Outside.faults D.left_since c.args.disk c.run_by_one.result
+    c.end_run-2.result c.end_run-2.ensures.finish c.run_by_one.ensures.stands

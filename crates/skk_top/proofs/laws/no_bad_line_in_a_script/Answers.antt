@@ -1,5 +1,0 @@
-use Rattle.skk_top.proofs.Scripts.{no_bad_line}
-use Rattle.skk_top.proofs.laws.no_bad_line_in_a_script.Goals as goal
-
-pub returns : goal.returns
-returns c = no_bad_line c.one_list_of_keys.ensures

@@ -1,6 +1,0 @@
-use Rattle.std.proofs.Common.{[]}
-use Rattle.skk_top.proofs.Scripts.{one_list_of_lines}
-use Rattle.skk_top.proofs.laws.one_script.Goals as goal
-
-pub returns : goal.returns
-returns c = one_list_of_lines c.one_list_of_keys.ensures []

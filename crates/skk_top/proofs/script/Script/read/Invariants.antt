@@ -1,9 +1,0 @@
-use Rattle.std.proofs.Common.{length}
-use Rattle.skk_top.proofs.Reading.{AreRead}
-use Rattle.skk_top.proofs.script.Script.read.Given as goal
-
-abbrev pub invariant-loop-text : goal.invariant-loop-text
-invariant-loop-text l = AreRead l.bytes l.rest l.number l.lines l.named
-
-abbrev pub decreases-loop-text : goal.decreases-loop-text
-decreases-loop-text l = length l.rest

@@ -1,0 +1,47 @@
+use Rattle.std.proofs.Common.{◌≡◌, ◌∙◌, sym, ap, subst, Option, Some, IfSome}
+use Rattle.std.specs.Option.{option_and_then}
+use Rattle.skk_outside.specs.Moved.{moved_shelf, moved_source, moved_sink}
+use Rattle.skk_top.specs.Command.{script_in_threads, script_to_weave}
+use Rattle.skk_top.specs.Disks.{moved_disk}
+use Rattle.skk_top.specs.Finishes.{run_of, HasFailed}
+use Rattle.skk_top.specs.TypeCommand.{LeavesTyped}
+use Rattle.skk_top.specs.WeaveCommand.{WeavesLines}
+use Rattle.skk_top.specs.declared.command.TypeOptions.{TypeOptions}
+use Rattle.skk_top.specs.declared.finish.Finish.{Finish}
+use Rattle.skk_top.proofs.Disks.{stands-finish}
+use Rattle.skk_top.proofs.Outside.{outside-woven}
+use Rattle.skk_top.proofs.waiting.run.Goals as goal
+
+pub returns-clause-types : goal.returns-clause-types
+returns-clause-types g c =
+    let shelf = moved_shelf g.H.Shelf.file g.H.Outside.faults c.args.shelf.now c.run_by_each.new.shelf in
+    let input = moved_source g.I.Outside.left g.I.Outside.faults c.args.input.now c.run_by_each.new.input in
+    let out = moved_sink g.O.Outside.written g.O.Outside.faults c.args.out.now c.run_by_each.new.out in
+    let disk =
+    moved_disk g.D.Disk.tells g.D.Disk.seen g.D.Disk.time g.D.Outside.faults g.D.Disk.left_since c.args.disk
+    c.end_run.result.disk in
+    let options = c.in-Some-script_in_threads.options.now in
+    let named : script_to_weave c.args.words.now ≡ Some options =
+    ap (option_and_then script_in_threads) (sym c.in-Some.ensures) ∙ sym c.in-Some-script_in_threads.ensures in
+    subst (λ (given : Option TypeOptions). IfSome given
+    (λ os. LeavesTyped WeavesLines os (run_of c.end_run.result) shelf input out disk)) (sym named)
+    (rw c.end_run.ensures.finish c.run_by_each.ensures.leaves)
+
+pub returns-clause-outside : goal.returns-clause-outside
+returns-clause-outside g c is =
+    let D = g.D.Disk in
+    let shelf = moved_shelf g.H.Shelf.file g.H.Outside.faults c.args.shelf.now c.run_by_each.new.shelf in
+    let input = moved_source g.I.Outside.left g.I.Outside.faults c.args.input.now c.run_by_each.new.input in
+    let out = moved_sink g.O.Outside.written g.O.Outside.faults c.args.out.now c.run_by_each.new.out in
+    let finish = c.end_run.ensures.finish in
+    subst (λ (f : Finish g.row.D.Denot). HasFailed shelf input out
+    (moved_disk D.tells D.seen D.time g.D.Outside.faults D.left_since c.args.disk f.disk)) (sym finish)
+    (outside-woven c.in-Some-script_in_threads.options.now c.run_by_each.result shelf input out
+    (moved_disk D.tells D.seen D.time g.D.Outside.faults D.left_since c.args.disk c.run_by_each.result.disk)
+    (sym (ap (λ (f : Finish g.row.D.Denot). f.ended) finish) ∙ is) c.run_by_each.ensures.leaves)
+
+pub returns-clause-stands : goal.returns-clause-stands
+returns-clause-stands g c =
+    let D = g.D.Disk in
+    stands-finish D.tells D.seen D.time g.D.Outside.faults D.left_since c.args.disk c.run_by_each.result
+    c.end_run.result c.end_run.ensures.finish c.run_by_each.ensures.stands

@@ -1,0 +1,100 @@
+ghost use Rattle.std.specs.Prelude.{◌≡◌, ◌≤◌, ◌↔◌, ◌+◌, [], None, IsSome, IfSome, IsErrOf, false};
+ghost use Rattle.std.specs.Io.KnownBytes.{Keeps};
+ghost use Rattle.skk_disk.specs.Steps.{ComeFrom};
+ghost use Rattle.skk_journal.specs.Images.{SameOther};
+ghost use Rattle.skk_outside.specs.Moved.{moved_shelf, moved_source, moved_sink};
+ghost use Rattle.skk_outside.specs.Taken.{TakesAtMost};
+ghost use Rattle.skk_outside.specs.declared.source.TheConstants.{PIECE};
+ghost use Rattle.skk_top.specs.CheckCommand.{LeavesChecked};
+ghost use Rattle.skk_top.specs.Command.{command_of, script_to_type, file_to_check, book_to_dump};
+ghost use Rattle.skk_top.specs.Command.{do_open, are_built_words, waits};
+ghost use Rattle.skk_top.specs.Disks.{moved_disk, StandsSince};
+ghost use Rattle.skk_top.specs.DumpCommand.{LeavesDumped};
+ghost use Rattle.skk_top.specs.Finishes.{run_of, HasFailed};
+ghost use Rattle.key_scripts.specs.Script.{script_limit};
+ghost use Rattle.skk_top.specs.Status.{Tells, run_status, run_message};
+ghost use Rattle.skk_top.specs.TypeCommand.{LeavesTyped, TypesLines};
+
+use crate::check_command::run_check;
+use crate::command::read_command;
+use crate::dump_command::run_dump;
+use crate::fault::{RunFault, end_run};
+use crate::finish::{Finish, Run};
+use crate::one_caller::run_by_one;
+use skk_disk::Disk;
+use skk_outside::{Shelf, Sink, Source};
+use skk_text::Text;
+use std::alloc::Global;
+
+/// All that the program does. The words are those behind the program's name.
+///
+/// A write on `err` that fails changes no status. Of the input at most one piece more is read than a
+/// script may have, and of a file than a rule file or a dictionary may have.
+#[tactic(auto, using(crate::proofs::Runs::untouched))]
+pub fn run_alone<H: Shelf, D: Disk, I: Source, O: Sink, E: Sink>(
+    alloc: Global,
+    words: &[Text],
+    shelf: &mut H,
+    disk: D,
+    input: &mut I,
+    out: &mut O,
+    err: &mut E,
+) -> Finish<D>
+    requires alone { waits words.now ≡ false }
+    // The status is made of how the run ended, and so is what is told on standard error.
+    ensures status { result.status ≡ run_status result.ended }
+    ensures told { Tells (run_message result.ended) (moved_sink E.written E.faults err.old err.new) }
+
+    // Words that are no command, or a command that is not built.
+    ensures words { IsErrOf result.ended RunFault.Words ↔ (command_of words.now ≡ None) }
+    ensures not_built { IsErrOf result.ended RunFault.NotBuilt
+        ↔ (IsSome (command_of words.now) × (are_built_words words.now ≡ false)) }
+    ensures unread { script_to_type words.now ≡ None → Keeps (I.left input.old) (I.left input.new) }
+    ensures untouched { are_built_words words.now ≡ false → Keeps (O.written out.old) (O.written out.new) }
+    ensures taken { TakesAtMost (I.left input.old) (I.left input.new) (script_limit + PIECE) }
+    ensures uncalled { script_to_type words.now ≡ None → result.chronicle ≡ [] }
+    ensures unopened { do_open words.now ≡ false → result.disk ≡ disk }
+
+    // A call on the outside failed where the run ended so.
+    ensures outside { IsErrOf result.ended RunFault.Outside → HasFailed
+        (moved_shelf H.file H.faults shelf.old shelf.new) (moved_source I.left I.faults input.old input.new)
+        (moved_sink O.written O.faults out.old out.new)
+        (moved_disk D.tells D.seen D.time D.faults D.left_since disk result.disk) }
+
+    // No count of faults falls.
+    ensures shelf_counted { H.faults shelf.old ≤ H.faults shelf.new }
+    ensures disk_counted { D.faults disk ≤ D.faults result.disk }
+    ensures input_counted { I.faults input.old ≤ I.faults input.new }
+    ensures out_counted { O.faults out.old ≤ O.faults out.new }
+    ensures err_counted { E.faults err.old ≤ E.faults err.new }
+
+    // What each command leaves.
+    ensures types { IfSome (script_to_type words.now) (λ options. LeavesTyped TypesLines options (run_of result)
+        (moved_shelf H.file H.faults shelf.old shelf.new) (moved_source I.left I.faults input.old input.new)
+        (moved_sink O.written O.faults out.old out.new)
+        (moved_disk D.tells D.seen D.time D.faults D.left_since disk result.disk)) }
+    ensures checks { IfSome (file_to_check words.now) (λ name. LeavesChecked name (run_of result)
+        (moved_shelf H.file H.faults shelf.old shelf.new) (moved_sink O.written O.faults out.old out.new)) }
+    ensures dumps { IfSome (book_to_dump words.now) (λ options. LeavesDumped options (run_of result)
+        (moved_sink O.written O.faults out.old out.new)
+        (moved_disk D.tells D.seen D.time D.faults D.left_since disk result.disk)) }
+
+    // What a stop at any moment of the run leaves of the disk; and the second file is as it was.
+    ensures stands { StandsSince result.chronicle
+        (moved_disk D.tells D.seen D.time D.faults D.left_since disk result.disk) }
+    ensures other { ComeFrom SameOther (D.left_since disk (D.time disk)) (D.left_since result.disk (D.time disk)) }
+{
+    let Some(command) = read_command(words) else {
+        return end_run(Run::without_calls(Err(RunFault::Words), disk), err);
+    };
+    if let Some(name) = command.file_checked() {
+        return end_run(run_check(alloc, &name, shelf, disk, out), err);
+    }
+    if command.book_dumped().is_some() {
+        return end_run(run_dump(alloc, words, disk, out), err);
+    }
+    let Some(options) = command.script_typed() else {
+        return end_run(Run::without_calls(Err(RunFault::NotBuilt), disk), err);
+    };
+    end_run(run_by_one(alloc, options, shelf, disk, input, out), err)
+}

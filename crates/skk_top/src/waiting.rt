@@ -1,0 +1,111 @@
+ghost use Rattle.std.specs.Prelude.{◌≡◌, ◌≤◌, ◌↔◌, ◌+◌, [], None, IfSome, IsErrOf, true};
+ghost use Rattle.std.specs.Io.KnownBytes.{Keeps};
+ghost use Rattle.skk_disk.specs.Steps.{ComeFrom};
+ghost use Rattle.skk_journal.specs.Images.{SameOther};
+ghost use Rattle.skk_outside.specs.Moved.{moved_shelf, moved_source, moved_sink};
+ghost use Rattle.skk_outside.specs.Taken.{TakesAtMost};
+ghost use Rattle.skk_outside.specs.declared.source.TheConstants.{PIECE};
+ghost use Rattle.key_scripts.specs.Script.{script_limit};
+ghost use Rattle.skk_top.specs.Command.{script_to_weave, waits};
+ghost use Rattle.skk_top.specs.Disks.{moved_disk, StandsSince};
+ghost use Rattle.skk_top.specs.Finishes.{run_of, HasFailed};
+ghost use Rattle.skk_top.specs.Status.{Tells, run_status, run_message};
+ghost use Rattle.skk_top.specs.TypeCommand.{LeavesTyped};
+ghost use Rattle.skk_top.specs.WeaveCommand.{WeavesLines};
+
+use crate::caller_each::run_by_each;
+use crate::command::read_command;
+use crate::fault::{RunFault, end_run, end_uncalled};
+use crate::finish::Finish;
+use skk_disk::Disk;
+use skk_outside::{Gate, Listener, Shelf, Sink, Source};
+use skk_text::Text;
+use std::alloc::Global;
+use std::sync::Wait;
+use std::thread::Threads;
+
+/// Whether what the words ask for may wait: to serve connections, or to give each session a thread. Takes no memory.
+pub fn waits(words: &[Text]) -> bool
+    ensures { result ≡ waits words.now }
+{
+    match read_command(words) {
+        Some(command) => command.waits(),
+        None => false,
+    }
+}
+
+/// All that the program does where what the words ask for may wait: it starts threads, and waits for them. The words
+/// are those behind the program's name. What is said of `run_alone` is said of it too.
+#[tactic(auto, using(crate::proofs::Runs::untouched))]
+pub fn run<
+    H: Shelf,
+    D: Disk + Drop + Send,
+    I: Source,
+    O: Sink,
+    E: Sink,
+    N: Listener,
+    G: Gate + Sync,
+    R: Threads + Wait + Copy + Send + Sync,
+>(
+    rt: R,
+    alloc: Global,
+    words: &[Text],
+    shelf: &mut H,
+    disk: D,
+    input: &mut I,
+    out: &mut O,
+    err: &mut E,
+    net: &mut N,
+    gate: &G,
+) -> Finish<D>
+    requires waiting { waits words.now ≡ true }
+
+    // The status is made of how the run ended, and so is what is told on standard error.
+    ensures status { result.status ≡ run_status result.ended }
+    ensures told { Tells (run_message result.ended) (moved_sink E.written E.faults err.old err.new) }
+
+    // A command that is not built.
+    ensures not_built { IsErrOf result.ended RunFault.NotBuilt ↔ (script_to_weave words.now ≡ None) }
+    ensures unread { script_to_weave words.now ≡ None → Keeps (I.left input.old) (I.left input.new) }
+    ensures untouched { script_to_weave words.now ≡ None → Keeps (O.written out.old) (O.written out.new) }
+    ensures taken { TakesAtMost (I.left input.old) (I.left input.new) (script_limit + PIECE) }
+    ensures uncalled { script_to_weave words.now ≡ None → result.chronicle ≡ [] }
+    ensures unopened { script_to_weave words.now ≡ None → result.disk ≡ disk }
+    ensures unaccepted { net.new ≡ net.old }
+
+    // A call on the outside failed where the run ended so.
+    ensures outside { IsErrOf result.ended RunFault.Outside → HasFailed
+        (moved_shelf H.file H.faults shelf.old shelf.new) (moved_source I.left I.faults input.old input.new)
+        (moved_sink O.written O.faults out.old out.new)
+        (moved_disk D.tells D.seen D.time D.faults D.left_since disk result.disk) }
+
+    // No count of faults falls.
+    ensures shelf_counted { H.faults shelf.old ≤ H.faults shelf.new }
+    ensures disk_counted { D.faults disk ≤ D.faults result.disk }
+    ensures input_counted { I.faults input.old ≤ I.faults input.new }
+    ensures out_counted { O.faults out.old ≤ O.faults out.new }
+    ensures err_counted { E.faults err.old ≤ E.faults err.new }
+
+    // What the command leaves.
+    ensures types { IfSome (script_to_weave words.now) (λ options. LeavesTyped WeavesLines options (run_of result)
+        (moved_shelf H.file H.faults shelf.old shelf.new) (moved_source I.left I.faults input.old input.new)
+        (moved_sink O.written O.faults out.old out.new)
+        (moved_disk D.tells D.seen D.time D.faults D.left_since disk result.disk)) }
+
+    // What a stop at any moment of the run leaves of the disk; and the second file is as it was.
+    ensures stands { StandsSince result.chronicle
+        (moved_disk D.tells D.seen D.time D.faults D.left_since disk result.disk) }
+    ensures other { ComeFrom SameOther (D.left_since disk (D.time disk)) (D.left_since result.disk (D.time disk)) }
+{
+    let _ = net;
+    let Some(command) = read_command(words) else {
+        return end_uncalled(RunFault::Words, disk, err);
+    };
+    let Some(options) = command.script_in_threads() else {
+        return end_uncalled(RunFault::NotBuilt, disk, err);
+    };
+    end_run(
+        run_by_each(rt, alloc, options, shelf, disk, input, out, gate),
+        err,
+    )
+}

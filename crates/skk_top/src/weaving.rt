@@ -1,0 +1,80 @@
+ghost use Rattle.std.specs.Prelude.{◌≡◌, ◌≤◌, [], OnOk, OnErr, IfErr, encode_utf8_all};
+ghost use Rattle.skk_outside.specs.Moved.{moved_sink};
+ghost use Rattle.skk_outside.specs.Written.{AppendsPrefix};
+ghost use Rattle.script_typing.specs.Pages.{text_of_pages, woven_pages};
+ghost use Rattle.skk_top.specs.Page.{Printed, StopsPrinting};
+ghost use Rattle.skk_top.specs.WeaveCommand.{LeavesPages};
+
+use crate::fault::RunFault;
+use crate::page::{print, print_full};
+use crate::typing::close_sessions;
+use script_typing::Typed;
+use skk_outside::Sink;
+use skk_text::Text;
+use std::alloc::Global;
+
+/// Prints what was typed by workers: the output lines in the order of the script, up to the first that is wanting, and
+/// behind all of them the closing lines. Where a worker was out of memory it ends so, and what it left is written.
+pub fn print_woven<O: Sink>(
+    alloc: Global,
+    order: &[u8],
+    typed: Typed,
+    out: &mut O,
+) -> Result<(), RunFault>
+    ensures leaves { LeavesPages order.now typed result (moved_sink O.written O.faults out.old out.new) }
+    ensures counted { O.faults out.old ≤ O.faults out.new }
+{
+    print_left(alloc, order, typed, out)?;
+    out.flush()?;
+    Ok(())
+}
+
+// Prints what was typed, and writes it.
+fn print_left<O: Sink>(
+    alloc: Global,
+    order: &[u8],
+    typed: Typed,
+    out: &mut O,
+) -> Result<(), RunFault>
+    ensures leaves { LeavesPages order.now typed result (moved_sink O.written O.faults out.old out.new) }
+    ensures counted { O.faults out.old ≤ O.faults out.new }
+{
+    let mut typed = typed;
+    let mut page = Text::new(alloc);
+    print_pages(alloc, order, &mut typed, &mut page, out)?;
+    if !typed.whole {
+        print(out, &page)?;
+        return Err(RunFault::Memory);
+    }
+    close_sessions(alloc, &typed.sessions, &mut page, out)?;
+    print(out, &page)?;
+    Ok(())
+}
+
+// Prints the output lines, up to the first that is wanting. What is not written yet is left in the page.
+fn print_pages<O: Sink>(
+    alloc: Global,
+    order: &[u8],
+    typed: &mut Typed,
+    page: &mut Text,
+    out: &mut O,
+) -> Result<(), RunFault>
+    requires { page.old ≡ [] }
+    ensures ok { OnOk result (Printed (O.written out.old) (O.written out.new) page.new []
+        (text_of_pages (woven_pages order.now typed.old.pages.entries))) }
+    ensures err { OnErr result (AppendsPrefix (O.written out.old) (O.written out.new)
+        (encode_utf8_all (text_of_pages (woven_pages order.now typed.old.pages.entries)))) }
+    ensures stopped { IfErr result (StopsPrinting (moved_sink O.written O.faults out.old out.new)) }
+    ensures counted { O.faults out.old ≤ O.faults out.new }
+    ensures sessions { typed.new.sessions.entries ≡ typed.old.sessions.entries }
+    ensures whole { typed.new.whole ≡ typed.old.whole }
+{
+    for number in order {
+        let Some(line) = typed.next_page(*number) else {
+            return Ok(());
+        };
+        page.push_str(line.as_str())?;
+        print_full(alloc, out, page)?;
+    }
+    Ok(())
+}
