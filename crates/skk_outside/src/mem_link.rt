@@ -5,8 +5,8 @@ ghost use Rattle.skk_outside.specs.Faults.{Rose};
 ghost use Rattle.skk_outside.specs.Memory.{no_call_yet, after_success, after_failure, FailsNext, bytes_of_pieces};
 ghost use Rattle.skk_outside.specs.Memory.{first_nonempty_piece};
 
-use crate::calls::Calls;
 use crate::link::Link;
+use crate::mem_sink::MemSink;
 use crate::outside::{Failed, Outside};
 use crate::pieces::Pieces;
 use crate::sink::Sink;
@@ -20,9 +20,9 @@ use std::marker::Model;
 #[derive(Debug, Drop)]
 pub struct MemLink {
     pieces: Pieces,
-    written: Vec<u8>,
+    // Its calls are those of the link.
+    sink: MemSink,
     closed: bool,
-    calls: Calls,
 }
 
 impl Model for MemLink {
@@ -30,7 +30,7 @@ impl Model for MemLink {
 
     ghost Value = { LinkState };
 
-    ghost view = { λ l. record { pieces = l.pieces; written = l.written.items; closed = l.closed; count = l.calls } };
+    ghost view = { λ l. record { pieces = l.pieces; written = l.sink.written; closed = l.closed; count = l.sink.count } };
 }
 
 impl MemLink {
@@ -44,9 +44,8 @@ impl MemLink {
     {
         MemLink {
             pieces: Pieces::new(pieces),
-            written: Vec::new(alloc),
+            sink: MemSink::new(alloc, fails),
             closed: false,
-            calls: Calls::new(fails),
         }
     }
 
@@ -54,7 +53,7 @@ impl MemLink {
     pub fn written(&self) -> &[u8]
         ensures { result.now ≡ self.now.written }
     {
-        self.written.as_slice()
+        self.sink.written()
     }
 
     /// Whether it was closed.
@@ -89,7 +88,7 @@ impl Source for MemLink {
         ensures ok { OnOk result (self.new.count ≡ after_success self.old.count) }
         ensures err { OnErr result (self.new.count ≡ after_failure self.old.count) }
     {
-        self.calls.next()?;
+        self.sink.calls.next()?;
         Ok(self.pieces.read(into))
     }
 }
@@ -111,11 +110,7 @@ impl Sink for MemLink {
         ensures ok { OnOk result (self.new.count ≡ after_success self.old.count) }
         ensures err { OnErr result (self.new.count ≡ after_failure self.old.count) }
     {
-        self.calls.next()?;
-        if self.written.extend_from_slice(from).is_err() {
-            return Err(self.calls.fail());
-        }
-        Ok(from.len())
+        self.sink.write(from)
     }
 
     fn flush(&mut self) -> Result<(), Failed>
@@ -128,7 +123,7 @@ impl Sink for MemLink {
         ensures ok { OnOk result (self.new.count ≡ after_success self.old.count) }
         ensures err { OnErr result (self.new.count ≡ after_failure self.old.count) }
     {
-        self.calls.next()
+        self.sink.flush()
     }
 }
 

@@ -14,7 +14,7 @@ use std::marker::Model;
 #[derive(Debug, Drop)]
 pub struct MemSink {
     written: Vec<u8>,
-    calls: Calls,
+    pub(crate) calls: Calls,
 }
 
 impl Model for MemSink {

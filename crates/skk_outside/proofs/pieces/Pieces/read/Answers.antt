@@ -1,4 +1,4 @@
-use Rattle.std.proofs.Common.{◌≡◌, ◌<◌, ◌∙◌, ap, sym, arith, length, min, ℕ, ◌+◌, [], ◌++◌, take}
+use Rattle.std.proofs.Common.{◌≡◌, ◌<◌, ◌∙◌, ap, sym, arith, length, min, ◌+◌, [], ◌++◌, take}
 use Rattle.skk_outside.specs.Memory.{bytes_of_pieces, first_nonempty_piece}
 use Rattle.skk_outside.specs.Pieces.{pieces_left}
 use Rattle.skk_outside.proofs.PiecesLeft.{first_nonempty_piece-here, bytes_of_pieces-read}
