@@ -11,11 +11,13 @@ use skk_calls::{Books, Row, RowKey, Rows, Walk};
 use skk_text::{Copies, Memory, Text};
 use std::alloc::Global;
 use std::marker::Model;
+use std::sync::Arc;
 
-/// The system files: the rows of each, in the files' order. No file has two rows of one key.
+/// The system files: the rows of each, in the files' order. No file has two rows of one key. They never change, and
+/// threads may share them.
 #[derive(Drop)]
 pub struct System {
-    files: Vec<SystemFile>,
+    files: Arc<Vec<SystemFile>>,
 }
 
 impl Model for System {
@@ -27,9 +29,9 @@ impl Model for System {
 
     ghost Value = { List (List Row) };
 
-    ghost view = { λ s. map rows_in s.files.items };
+    ghost view = { λ s. map rows_in s.files.value.items };
 
-    ghost invariant = { λ s. list_all is_file (map rows_in s.files.items) ≡ true };
+    ghost invariant = { λ s. list_all is_file (map rows_in s.files.value.items) ≡ true };
 }
 
 impl System {
@@ -47,6 +49,7 @@ impl System {
         for book in books.into_vec() {
             files.push(SystemFile::Rows(RowFile::of_book(alloc, book)?))?;
         }
+        let files = Arc::new(alloc, files)?;
         Ok(System { files })
     }
 
@@ -60,7 +63,17 @@ impl System {
             let _bytes = file.bytes();
             system.push(SystemFile::Bytes(file))?;
         }
-        Ok(System { files: system })
+        let files = Arc::new(alloc, system)?;
+        Ok(System { files })
+    }
+
+    /// The same files once more, which lie where they lay. Takes constant time and no memory; `Memory` only where they
+    /// are shared some 2^63 times.
+    pub fn share(&self) -> Result<System, Memory>
+        ensures { IfOk result (λ shared. shared ≡ self.now) }
+    {
+        let files = Arc::try_clone(&self.files)?;
+        Ok(System { files })
     }
 
     /// How many files there are. Takes no memory.
@@ -77,7 +90,7 @@ impl System {
         ensures { IfOk result (λ rows. rows ≡ filter_map (row_in key.now) self.now) }
     {
         let mut found = Rows::new(alloc);
-        for file in &self.files {
+        for file in self.files.as_slice() {
             if let Some(row) = row_of(alloc, file, key)? {
                 found.push(row)?;
             }

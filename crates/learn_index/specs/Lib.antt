@@ -1,3 +1,4 @@
+pub mod FileRows
 pub mod Index
 pub mod Kept
 pub mod Plans

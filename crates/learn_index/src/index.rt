@@ -7,6 +7,7 @@ ghost use Rattle.skk_calls.specs.Rows.{Row as row_value};
 ghost use Rattle.skk_calls.specs.States.{empty_state, row_at, rows_ascend, rows_of, count_of, state_with};
 ghost use Rattle.skk_calls.specs.States.{is_valid, fits_count};
 ghost use Rattle.skk_calls.specs.Tallies.{count_rows};
+ghost use Rattle.learn_index.specs.FileRows.{AreFileRows};
 ghost use Rattle.learn_index.specs.Index.{spare_of};
 ghost use Rattle.learn_index.specs.Kept.{keeps_book};
 ghost use Rattle.learn_index.specs.Plans.{is_question, IsPlanned, IsMade, HasRoom};
@@ -21,6 +22,7 @@ use crate::plan::Plan;
 use crate::planning::{
     learning_is_call, plan_learn, plan_purge, plan_unlearn, purge_is_call, unlearning_is_call,
 };
+use crate::rows_of_files::{FileRows, file_rows};
 use dict_laws::changes_keep_states_valid;
 use dict_layers::System;
 use ordered_lists::{has_key_at, item_of};
@@ -60,19 +62,35 @@ impl Index {
         }
     }
 
-    /// What a look-up or a completion is answered over these system files. A look-up takes a logarithm in the rows of a
-    /// book and of a file, and time in the candidates that it gives; a completion takes these logarithms too, time in
-    /// the rows of a book with a reading that begins with the prefix, with one logarithm in their number, and a step of
-    /// a walk for each reading that it goes over in a file.
+    /// What a look-up or a completion is answered over these system files. Costs what `file_rows` and `answer_over`
+    /// cost together.
     pub fn answer(&self, alloc: Global, system: &System, call: &Call) -> Result<Reply, Memory>
         requires { is_question call.now ≡ true }
         ensures value { IfOk result (λ reply. reply ≡ answer system.now self.now.state call.now) }
         ensures may { IfOk result (λ reply. may_reply call.now reply ≡ true) }
     {
+        self.answer_over(alloc, system, file_rows(alloc, system, call), call)
+    }
+
+    /// What a look-up or a completion is answered over these system files, of which these rows were found for it. A
+    /// look-up takes a logarithm in the rows of a book, and time in the candidates that it gives; a completion takes
+    /// this logarithm and one in the rows of a file, time in the rows of a book with a reading that begins with the
+    /// prefix, with one logarithm in their number, and a step of a walk for each reading that it goes over in a file.
+    pub fn answer_over(
+        &self,
+        alloc: Global,
+        system: &System,
+        found: FileRows,
+        call: &Call,
+    ) -> Result<Reply, Memory>
+        requires question { is_question call.now ≡ true }
+        requires found { AreFileRows system.now call.now found }
+        ensures value { IfOk result (λ reply. reply ≡ answer system.now self.now.state call.now) }
+        ensures may { IfOk result (λ reply. may_reply call.now reply ≡ true) }
+    {
         match call {
             Call::Lookup { who, key, okuri } => {
-                let rows = system.find(alloc, key)?;
-                let cands = found_cands(self, alloc, rows, *who, key, okuri.as_ref())?;
+                let cands = found_cands(self, alloc, found?, *who, key, okuri.as_ref())?;
                 Ok(Reply::Found(cands))
             }
             Call::Complete { who, prefix } => {

@@ -2,9 +2,10 @@
 //!
 //! It stands on `skk_text`, `ordered_lists`, `skk_calls`, `dict_laws`, `dict_rows`, `dict_files`, `dict_layers` and
 //! `dict_complete`. An `Index` stands for a state of `skk_calls`. It answers look-ups and completions over its books
-//! and the system files. A change is planned first, which takes all memory that the change needs and changes nothing,
-//! and then applied, which takes none and can't fail: a layer above writes the change to a disk in between; where
-//! there is no disk `serve` does both. `put`, `drop_row` and `set_count` rebuild a state from what was written.
+//! and the system files; what the files have for a look-up, which no change of a book changes, may be found before, by
+//! `file_rows`. A change is planned first, which takes all memory that the change needs and changes nothing, and then
+//! applied, which takes none and can't fail: a layer above writes the change to a disk in between; where there is no
+//! disk `serve` does both. `put`, `drop_row` and `set_count` rebuild a state from what was written.
 #![tactic(auto)]
 
 mod book;
@@ -15,8 +16,10 @@ mod kept_row;
 mod layering;
 mod plan;
 mod planning;
+mod rows_of_files;
 mod serving;
 
 pub use index::Index;
 pub use kept_row::KeptRow;
 pub use plan::Plan;
+pub use rows_of_files::{FileRows, file_rows};

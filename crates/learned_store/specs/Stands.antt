@@ -1,11 +1,14 @@
 -- What the notes of a dictionary's history and the disk under it stand for, at each moment.
 use Rattle.std.specs.Prelude.{◌≡◌, ⊤, ℕ, ◌<◌, ◌≤◌, true, Option, None, Some, List, [], ◌∷◌, ◌++◌, All, Contains}
 use Rattle.skk_outside.specs.Faults.{Rose}
+use Rattle.skk_calls.specs.declared.answer.Answer.{Answer}
 use Rattle.skk_calls.specs.declared.answer.Answer.TheVariants.{Refused}
 use Rattle.skk_calls.specs.declared.answer.Refusal.TheVariants.{Disk}
+use Rattle.skk_calls.specs.declared.call.Call.{Call}
 use Rattle.skk_calls.specs.declared.chronicle.Noted.{Noted}
 use Rattle.skk_calls.specs.declared.chronicle.Noted.TheVariants.{Opened, Entered}
 use Rattle.skk_calls.specs.Chronicles.{history_of, is_chronicle}
+use Rattle.skk_calls.specs.Dictionary.{may_answer}
 use Rattle.skk_calls.specs.Histories.{Opening, room, state_after, states_left}
 use Rattle.skk_calls.specs.Openings.{IsLegalOver}
 use Rattle.skk_calls.specs.States.{State}
@@ -95,6 +98,18 @@ pub record Stands {D : Type 0} (time faults : D → ℕ) (left_since : D → ℕ
 pub record NotedStore (D : Type 0) : Type 0 where
   pub store : OpenStore D
   pub notes : List Noted
+
+-- a call of a caller with this answer makes this noted store of that one: each clause of `Noting::serve`, by its name
+pub record NotesCall {D : Type 0} (time faults : D → ℕ) (left_since : D → ℕ → Image → Type 0) (old new : NotedStore D)
+    (number : ℕ) (call : Call) (answer : Answer) : Type 0 where
+  pub notes : new.notes
+      ≡ old.notes ++ Entered number call answer (time new.store.journal.disk) (faults new.store.journal.disk) ∷ []
+  pub may : may_answer call answer ≡ true
+  pub other : ComeFrom SameOther (left_since old.store.journal.disk (time old.store.journal.disk))
+      (left_since new.store.journal.disk (time old.store.journal.disk))
+  pub past : Passes (time old.store.journal.disk) (time new.store.journal.disk)
+      (left_since old.store.journal.disk) (left_since new.store.journal.disk)
+  pub counted : faults old.store.journal.disk ≤ faults new.store.journal.disk
 
 -- the note of an opening
 abbrev pub opening_note : Opening → Noted

@@ -7,13 +7,15 @@ ghost use Rattle.skk_calls.specs.Chronicles.{history_of};
 ghost use Rattle.skk_calls.specs.Dictionary.{is_fit, may_answer};
 ghost use Rattle.skk_calls.specs.Tallies.{tally_of};
 ghost use Rattle.skk_journal.specs.Images.{SameOther};
+ghost use Rattle.learn_index.specs.FileRows.{AreFileRows};
 ghost use Rattle.learned_store.specs.Stores.{opening_now, Keeps, Recovers};
-ghost use Rattle.learned_store.specs.Stands.{Stands, StandsOver, RecoverAmong, left_behind, opening_note};
+ghost use Rattle.learned_store.specs.Stands.{Stands, StandsOver, RecoverAmong, NotesCall, left_behind, opening_note};
 
 use crate::closed::Closed;
 use crate::learned_name::LearnedName;
 use crate::store::Store;
 use dict_laws::counting_comes_to_the_tally;
+use learn_index::{FileRows, file_rows};
 use skk_calls::{Answer, Call, Chronicle, Noted, Tally};
 use skk_disk::Disk;
 use skk_trace::{Shows, Trace};
@@ -84,8 +86,18 @@ impl<D: Disk, N: LearnedName> Noting<D, N> {
             (D.left_since self.old.store.journal.disk) (D.left_since self.new.store.journal.disk) }
         ensures counted { D.faults self.old.store.journal.disk ≤ D.faults self.new.store.journal.disk }
     {
+        let found = file_rows(alloc, self.store.system(), call);
+        self.serve_over(alloc, number, found, call)
+    }
+
+    /// Answers a call of a caller as `serve` does, where the files' rows for it were found before.
+    pub fn serve_over(&mut self, alloc: Global, number: u32, found: FileRows, call: &Call) -> Answer
+        requires fit { is_fit call.now ≡ true }
+        requires found { AreFileRows N.opening.files call.now found }
+        ensures { NotesCall D.time D.faults D.left_since self.old self.new number call.now result }
+    {
         counting_comes_to_the_tally();
-        let answer = self.store.serve(alloc, call);
+        let answer = self.store.serve_over(alloc, found, call);
         self.tally.count(&answer);
         self.trace.note(&Served {
             store: &self.store,

@@ -8,6 +8,7 @@ ghost use Rattle.skk_calls.specs.Histories.{after_answer, need, tells_change, Is
 ghost use Rattle.skk_calls.specs.States.{State, rows_of};
 ghost use Rattle.skk_calls.specs.Tallies.{count_rows};
 ghost use Rattle.dict_format.specs.PrintedFiles.{printed_file};
+ghost use Rattle.learn_index.specs.FileRows.{AreFileRows};
 ghost use Rattle.learn_index.specs.Plans.{is_question};
 ghost use Rattle.skk_journal.specs.Images.{Each, SameOther};
 ghost use Rattle.learned_store.specs.Served.{Serves};
@@ -16,7 +17,7 @@ ghost use Rattle.learned_store.specs.Stores.{opening_now, Keeps, RecoversOneOf, 
 use crate::changing::change;
 use dict_format::print_file;
 use dict_layers::System;
-use learn_index::Index;
+use learn_index::{FileRows, Index, file_rows};
 use skk_calls::{Answer, Call, Refusal};
 use skk_disk::Disk;
 use skk_journal::Journal;
@@ -115,8 +116,18 @@ impl<D: Disk> Store<D> {
             (D.left_since self.old.journal.disk) (D.left_since self.new.journal.disk) }
         ensures counted { D.faults self.old.journal.disk ≤ D.faults self.new.journal.disk }
     {
+        let found = file_rows(alloc, &self.system, call);
+        self.serve_over(alloc, found, call)
+    }
+
+    /// Answers a call as `serve` does, where the files' rows for it were found before.
+    pub fn serve_over(&mut self, alloc: Global, found: FileRows, call: &Call) -> Answer
+        requires fit { is_fit call.now ≡ true }
+        requires found { AreFileRows self.old.files call.now found }
+        ensures { Serves D.time D.faults D.left_since self.old self.new call.now result }
+    {
         match call {
-            Call::Lookup { .. } | Call::Complete { .. } => self.answer(alloc, call),
+            Call::Lookup { .. } | Call::Complete { .. } => self.answer(alloc, found, call),
             Call::Learn { .. } | Call::Purge { .. } | Call::Unlearn { .. } => {
                 self.change(alloc, call)
             }
@@ -133,11 +144,12 @@ impl<D: Disk> Store<D> {
     }
 
     // Answers a look-up or a completion.
-    fn answer(&self, alloc: Global, call: &Call) -> Answer
-        requires { is_question call.now ≡ true }
+    fn answer(&self, alloc: Global, found: FileRows, call: &Call) -> Answer
+        requires question { is_question call.now ≡ true }
+        requires found { AreFileRows self.now.files call.now found }
         ensures { Serves D.time D.faults D.left_since self.now self.now call.now result }
     {
-        match self.index.answer(alloc, &self.system, call) {
+        match self.index.answer_over(alloc, &self.system, found, call) {
             Ok(reply) => Answer::Done(reply),
             Err(Memory) => Answer::Refused(Refusal::Memory),
         }

@@ -12,22 +12,26 @@ use crate::locked::Locked;
 use crate::pass::{Pass, Slip, Slips};
 use crate::roll::Roll;
 use desk_history::{DeskName, History, Pen, RollSeat};
+use dict_layers::System;
 use learned_store::{Closed, LearnedName, NoDesk, Noting, Store};
 use skk_calls::Office;
 use skk_disk::Disk;
 use skk_text::Memory;
 use std::alloc::Global;
+use std::hint::spin_loop;
 use std::marker::PhantomData;
-use std::sync::{Mutex, Wait};
+use std::sync::{Mutex, MutexGuard, Wait};
 
-/// A learned dictionary behind a lock, which the callers that it admits share. `N` names its history and what the store
-/// was opened with.
+/// A learned dictionary behind a lock, which the callers that it admits share, and the system files beside it, which
+/// never change. `N` names its history and what the store was opened with.
 #[derive(Drop)]
 pub struct Desk<D: Disk, N: DeskName + LearnedName, R: Wait + Copy> {
     pub(crate) history: History,
+    pub(crate) system: System,
     pub(crate) locked: Mutex<Locked<D, N>>,
     pub(crate) rt: R,
     pub ghost named: { history ≡ N.table },
+    pub ghost files: { system ≡ N.opening.files },
 }
 
 impl<D: Disk, N: DeskName + LearnedName, R: Wait + Copy> Desk<D, N, R> {
@@ -50,9 +54,13 @@ impl<D: Disk, N: DeskName + LearnedName, R: Wait + Copy> Desk<D, N, R> {
         ensures roll { IfOk result (λ opened. opened.1 ≡ 0) }
         ensures back { IfErr result (λ none. none.store ≡ store) }
     {
+        let Ok(system) = store.system().share() else {
+            return Err(NoDesk { store });
+        };
         let noting = Noting::new(alloc, store)?;
         let desk = Desk {
             history,
+            system,
             locked: Mutex::new(Locked { noting, pen }),
             rt,
         };
@@ -85,6 +93,7 @@ impl<D: Disk, N: DeskName + LearnedName, R: Wait + Copy> Desk<D, N, R> {
     {
         let Desk {
             history,
+            system: _,
             locked,
             rt: _,
         } = self;
@@ -92,6 +101,33 @@ impl<D: Disk, N: DeskName + LearnedName, R: Wait + Copy> Desk<D, N, R> {
         end_callers(&history, &mut pen, slips);
         history.end_roll(&mut pen, roll.seat);
         noting.close()
+    }
+}
+
+// How often a caller looks whether the lock is free before it sleeps until it is, and how many turns it waits between
+// two looks. A call holds the lock for some microseconds, a thread that slept takes longer to go on, and one that looks
+// all the time slows the one that holds the lock.
+const LOOKS: u32 = 100;
+
+const TURNS: u32 = 16;
+
+impl<D: Disk, N: DeskName + LearnedName, R: Wait + Copy> Desk<D, N, R> {
+    // Takes the lock, when it is free.
+    pub(crate) fn lock(&self) -> MutexGuard<'_, Locked<D, N>> {
+        for _ in 0..LOOKS {
+            if let Some(locked) = self.locked.try_lock() {
+                return locked;
+            }
+            pause();
+        }
+        self.locked.lock(&self.rt)
+    }
+}
+
+// Waits for some turns without sleeping.
+fn pause() {
+    for _ in 0..TURNS {
+        spin_loop();
     }
 }
 

@@ -1,8 +1,10 @@
 ghost use Rattle.std.specs.Prelude.{◌≡◌, true};
 ghost use Rattle.skk_calls.specs.Dictionary.{is_fit, may_answer};
+ghost use Rattle.learn_index.specs.FileRows.{AreFileRows};
 ghost use Rattle.shared_desk.specs.Told.{Extends};
 
 use desk_history::{CallerSeat, DeskName, History, Pen};
+use learn_index::FileRows;
 use learned_store::{LearnedName, Noting};
 use skk_calls::{Answer, Call};
 use skk_disk::Disk;
@@ -41,16 +43,18 @@ impl<D: Disk, N: DeskName + LearnedName> Locked<D, N> {
         alloc: Global,
         history: &History,
         seat: &mut CallerSeat,
+        found: FileRows,
         call: &Call,
     ) -> Answer
         requires fit { is_fit call.now ≡ true }
+        requires found { AreFileRows N.opening.files call.now found }
         requires history { history.now ≡ N.table }
         requires seat { seat.old.table ≡ N.table }
         ensures table { seat.new.table ≡ N.table }
         ensures told { Extends N.opening seat.old call.now result seat.new }
         ensures may { may_answer call.now result ≡ true }
     {
-        let answer = self.noting.serve(alloc, seat.number(), call);
+        let answer = self.noting.serve_over(alloc, seat.number(), found, call);
         // The store that is read tells that its history is legal.
         let _store = self.noting.store();
         history.enter(&mut self.pen, seat, call, &answer);

@@ -4,6 +4,7 @@ ghost use Rattle.shared_desk.specs.Told.{Extends};
 
 use crate::desk::Desk;
 use desk_history::{CallerSeat, DeskName};
+use learn_index::file_rows;
 use learned_store::LearnedName;
 use skk_calls::{Answer, Call, Caller, Kept};
 use skk_disk::Disk;
@@ -39,7 +40,8 @@ impl<D: Disk, N: DeskName + LearnedName, R: Wait + Copy> Caller for Pass<'_, D, 
         self.seat.number()
     }
 
-    /// Waits for the desk's lock, and holds it for this call alone. Takes no more memory than the store.
+    /// Waits for the desk's lock, at first without sleeping, and holds it for this call alone; what the system files
+    /// have for it was found before that. Takes no more memory than the store.
     fn call(&mut self, alloc: Global, call: &Call) -> Answer
         requires { is_fit call.now ≡ true }
         ensures said { self.new.mine ≡ self.old.mine ++ (call.now, result) ∷ [] }
@@ -47,8 +49,9 @@ impl<D: Disk, N: DeskName + LearnedName, R: Wait + Copy> Caller for Pass<'_, D, 
         ensures may { may_answer call.now result ≡ true }
         ensures told { Extends N.opening self.old call.now result self.new }
     {
-        let mut locked = self.desk.locked.lock(&self.desk.rt);
-        locked.call(alloc, &self.desk.history, &mut self.seat, call)
+        let found = file_rows(alloc, &self.desk.system, call);
+        let mut locked = self.desk.lock();
+        locked.call(alloc, &self.desk.history, &mut self.seat, found, call)
     }
 }
 

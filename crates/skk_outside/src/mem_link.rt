@@ -30,7 +30,12 @@ impl Model for MemLink {
 
     ghost Value = { LinkState };
 
-    ghost view = { λ l. record { pieces = l.pieces; written = l.sink.written; closed = l.closed; count = l.sink.count } };
+    ghost view = { λ l. record {
+      pieces = l.pieces;
+      written = l.sink.written;
+      closed = l.closed;
+      count = l.sink.count;
+    } };
 }
 
 impl MemLink {

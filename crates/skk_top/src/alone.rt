@@ -18,8 +18,8 @@ ghost use Rattle.skk_top.specs.TypeCommand.{LeavesTyped, TypesLines};
 use crate::check_command::run_check;
 use crate::command::read_command;
 use crate::dump_command::run_dump;
-use crate::fault::{RunFault, end_run};
-use crate::finish::{Finish, Run};
+use crate::fault::{RunFault, end_run, end_uncalled};
+use crate::finish::Finish;
 use crate::one_caller::run_by_one;
 use skk_disk::Disk;
 use skk_outside::{Shelf, Sink, Source};
@@ -85,7 +85,7 @@ pub fn run_alone<H: Shelf, D: Disk, I: Source, O: Sink, E: Sink>(
     ensures other { ComeFrom SameOther (D.left_since disk (D.time disk)) (D.left_since result.disk (D.time disk)) }
 {
     let Some(command) = read_command(words) else {
-        return end_run(Run::without_calls(Err(RunFault::Words), disk), err);
+        return end_uncalled(RunFault::Words, disk, err);
     };
     if let Some(name) = command.file_checked() {
         return end_run(run_check(alloc, &name, shelf, disk, out), err);
@@ -94,7 +94,7 @@ pub fn run_alone<H: Shelf, D: Disk, I: Source, O: Sink, E: Sink>(
         return end_run(run_dump(alloc, words, disk, out), err);
     }
     let Some(options) = command.script_typed() else {
-        return end_run(Run::without_calls(Err(RunFault::NotBuilt), disk), err);
+        return end_uncalled(RunFault::NotBuilt, disk, err);
     };
     end_run(run_by_one(alloc, options, shelf, disk, input, out), err)
 }

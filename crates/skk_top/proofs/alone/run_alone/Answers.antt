@@ -40,20 +40,12 @@ returns-clause-outside g c is =
     (moved_disk D.tells D.seen D.time g.D.Outside.faults D.left_since c.args.disk c.run_by_one.result.disk)
     (sym (ap (λ (f : Finish g.row.D.Denot). f.ended) finish) ∙ is) c.run_by_one.ensures.leaves)
 
-pub returns-in_default-clause-stands : goal.returns-in_default-clause-stands
-returns-in_default-clause-stands g c =
-    let D = g.D.Disk in
-    stands-finish D.tells D.seen D.time g.D.Outside.faults D.left_since c.args.disk c.without_calls.result
-    c.end_run.result c.end_run.ensures.finish
-    (stands-quiet D.tells D.seen D.time g.D.Outside.faults D.left_since c.args.disk (g.met.D.Disk.earlier c.args.disk) _
-    c.without_calls.result c.without_calls.ensures)
-
 pub returns-in-Some-file_checked-clause-stands : goal.returns-in-Some-file_checked-clause-stands
 returns-in-Some-file_checked-clause-stands g c =
     let D = g.D.Disk in
     let run = c.run_check.result in
     stands-finish D.tells D.seen D.time g.D.Outside.faults D.left_since c.args.disk run
-    c.end_run-in-Some-file_checked.result c.end_run-in-Some-file_checked.ensures.finish
+    c.end_run.result c.end_run.ensures.finish
     (stands-quiet D.tells D.seen D.time g.D.Outside.faults D.left_since c.args.disk (g.met.D.Disk.earlier c.args.disk)
     run.ended run (λ i. record {
       ended = run.ended;
@@ -75,15 +67,6 @@ returns-then-is_some-clause-stands g c =
     let D = g.D.Disk in
     stands-finish D.tells D.seen D.time g.D.Outside.faults D.left_since c.args.disk c.run_dump.result
     c.end_run-then-is_some.result c.end_run-then-is_some.ensures.finish c.run_dump.ensures.stands
-
-pub returns-in_default-script_typed-clause-stands : goal.returns-in_default-script_typed-clause-stands
-returns-in_default-script_typed-clause-stands g c =
-    let D = g.D.Disk in
-    stands-finish D.tells D.seen D.time g.D.Outside.faults D.left_since c.args.disk
-    c.without_calls-in_default-script_typed.result c.end_run-in_default-script_typed.result
-    c.end_run-in_default-script_typed.ensures.finish
-    (stands-quiet D.tells D.seen D.time g.D.Outside.faults D.left_since c.args.disk (g.met.D.Disk.earlier c.args.disk) _
-    c.without_calls-in_default-script_typed.result c.without_calls-in_default-script_typed.ensures)
 
 pub returns-clause-stands : goal.returns-clause-stands
 returns-clause-stands g c =

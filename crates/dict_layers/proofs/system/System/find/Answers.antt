@@ -18,7 +18,7 @@ found_more h f xs i d low =
 
 pub loop-file-preserved : goal.loop-file-preserved
 loop-file-preserved c =
-    let files = c.deref-file-items.result.now in
+    let files = c.as_slice-file-items.result.now in
     let i = c.loop-file.file-index in
     let row_of = row_in c.args.key.now in
     let so_far = filter_map row_of (map rows_in (take i files)) in

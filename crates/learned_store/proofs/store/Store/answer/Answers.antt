@@ -19,7 +19,7 @@ returns-in-Ok g c =
     subst (λ (s : OpenStore _). Serves D.Disk.time D.Outside.faults D.Disk.left_since s s call (Done c.in-Ok.reply))
     c.self.view_is
     (quiet D.Disk.time D.Outside.faults D.Disk.left_since store call (Done c.in-Ok.reply) c.in-Ok.ensures.value
-    c.in-Ok.ensures.may (question_still store.state call c.requires))
+    c.in-Ok.ensures.may (question_still store.state call c.requires.question))
 
 pub returns-in-Err : goal.returns-in-Err
 returns-in-Err g c =

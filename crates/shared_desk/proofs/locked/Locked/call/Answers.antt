@@ -11,17 +11,16 @@ use Rattle.shared_desk.proofs.locked.Locked.call.Goals as goal
 pub invariant_of-self : goal.invariant_of-self
 invariant_of-self g c =
     let notes = c.self.inside.noting.notes in
-    let disk = c.serve-answer.new.self.store.journal.disk in
-    let note : Noted =
-    Entered c.args.seat.now.number c.args.call.now c.serve-answer.result (g.D.Disk.time disk) (g.D.Outside.faults disk)
-    in
-    let entry : Entry =
-    record { number = c.args.seat.now.number; call = c.args.call.now; answer = c.serve-answer.result } in
-    let noted : c.serve-answer.new.self.notes ≡ notes ++ note ∷ [] =
-    c.serve-answer.ensures.notes
-    ∙ ap (λ n. notes ++ Entered n c.args.call.now c.serve-answer.result (g.D.Disk.time disk) (g.D.Outside.faults disk)
-    ∷ []) c.number.ensures in
-    let history : history_of c.serve-answer.new.self.notes ≡ history_of notes ++ entry ∷ [] =
+    let disk = c.serve_over-answer.new.self.store.journal.disk in
+    let call = c.args.call.now in
+    let given = c.serve_over-answer.result in
+    let time = g.D.Disk.time disk in
+    let faults = g.D.Outside.faults disk in
+    let note : Noted = Entered c.args.seat.now.number call given time faults in
+    let entry : Entry = record { number = c.args.seat.now.number; call = call; answer = given } in
+    let noted : c.serve_over-answer.new.self.notes ≡ notes ++ note ∷ [] =
+    c.serve_over-answer.ensures.notes ∙ ap (λ n. notes ++ Entered n call given time faults ∷ []) c.number.ensures in
+    let history : history_of c.serve_over-answer.new.self.notes ≡ history_of notes ++ entry ∷ [] =
     ap history_of noted ∙ history-more notes note in
     c.enter.ensures.pen
     ∙ ap (λ (p : PenState). record p { seen = p.seen ++ entry ∷ [] }) c.self.invariant
@@ -30,10 +29,10 @@ invariant_of-self g c =
 pub returns-clause-told : goal.returns-clause-told
 returns-clause-told g c =
     let entry : Entry =
-    record { number = c.args.seat.now.number; call = c.args.call.now; answer = c.serve-answer.result } in
+    record { number = c.args.seat.now.number; call = c.args.call.now; answer = c.serve_over-answer.result } in
     let seen : c.enter.new.seat.seen ≡ c.self.inside.pen.seen ++ entry ∷ [] =
     ap (λ (s : CallerState). s.seen) c.enter.ensures.seat ∙ ap (λ (p : PenState). p.seen) c.enter.ensures.pen in
-    let whole : c.enter.new.seat.seen ≡ history_of c.serve-answer.new.self.notes =
+    let whole : c.enter.new.seat.seen ≡ history_of c.serve_over-answer.new.self.notes =
     ap (λ (s : CallerState). s.seen) c.enter.ensures.seat
     ∙ ap (λ (p : PenState). p.seen) (invariant_of-self g c) in
     record {
