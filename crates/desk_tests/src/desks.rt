@@ -1,43 +1,127 @@
-use crate::left::reopened;
-use crate::sharing::share;
+use crate::left::{Left, reopened};
+use crate::sharing::{Shared, share};
 use crate::shift::Shift;
+use crate::worker::Notes;
 use skk_calls::Tally;
 use skk_disk::MemDisk;
+use std::alloc::Global;
+use std::process::Abort;
+use std::sync::Wait;
 use std::test::Fail;
+use std::thread::Threads;
+
+// The tests run these functions, which know as little of the runtime as they need: what is called with the real one
+// takes long to prove.
+
+// The desk over the learned file of a disk in memory, the calls of which with these numbers fail, after a shift.
+fn shared_after<R: Threads + Wait + Abort + Copy + Drop + Send + Sync>(
+    rt: R,
+    alloc: Global,
+    fails: &[u64],
+    shift: Shift,
+) -> Result<Shared<MemDisk>, Fail> {
+    let disk = MemDisk::new(alloc, fails.to_vec(alloc)?);
+    share(rt, alloc, disk, shift)
+}
+
+// What is left of that desk, of which the tally and the number of the recorded calls of the disk are told.
+fn left_after<R: Threads + Wait + Abort + Copy + Drop + Send + Sync>(
+    rt: R,
+    alloc: Global,
+    fails: &[u64],
+    shift: Shift,
+    (tally, calls): (Tally, usize),
+) -> Result<Left<MemDisk>, Fail> {
+    let shared = shared_after(rt, alloc, fails, shift)?;
+    reopened(&rt, alloc, shared, tally, calls)
+}
+
+fn work_in_turn<R: Threads + Wait + Abort + Copy + Drop + Send + Sync>(
+    rt: R,
+    alloc: Global,
+) -> Result<(), Fail> {
+    let shared = shared_after(rt, alloc, &[], Shift::InTurn)?;
+    expect_found(&rt, &shared.one, &shared.two);
+    Ok(())
+}
+
+// Tells the numbers of two workers, and what the second one found.
+fn expect_found<R: Abort>(rt: &R, one: &Notes, two: &Notes) {
+    assert_eq!(rt; (one.number, two.number), (0, 1));
+    assert_eq!(rt; two.found.as_str(), "感じ; 漢字; 幹事;宴会の ");
+}
+
+fn work_at_once<R: Threads + Wait + Abort + Copy + Drop + Send + Sync>(
+    rt: R,
+    alloc: Global,
+) -> Result<(), Fail> {
+    let shift = Shift::AtOnce {
+        cycles: 625,
+        words: 4,
+    };
+    let told = (Tally::new(10_000, 0, 3, false, false, false), 40_008);
+    let mut left = left_after(rt, alloc, &[], shift, told)?;
+    expect_all_learnt(&rt, alloc, &mut left)
+}
+
+fn expect_all_learnt<R: Abort>(
+    rt: &R,
+    alloc: Global,
+    left: &mut Left<MemDisk>,
+) -> Result<(), Fail> {
+    let counts = [
+        left.one.own.count(),
+        left.two.own.count(),
+        left.one.shared.count(),
+        left.two.shared.count(),
+    ];
+    assert_eq!(rt; counts, [2_500, 2_500, 2_500, 2_500]);
+    left.expect_words(rt, alloc, 1, "甲03/甲02/甲01/甲00/")?;
+    left.expect_words(rt, alloc, 2, "乙03/乙02/乙01/乙00/")?;
+    left.expect_shared(rt, alloc, 8)?;
+    left.expect_stamps(rt, alloc);
+    Ok(())
+}
+
+fn work_and_fail<R: Threads + Wait + Abort + Copy + Drop + Send + Sync>(
+    rt: R,
+    alloc: Global,
+) -> Result<(), Fail> {
+    let shift = Shift::AtOnce {
+        cycles: 1,
+        words: 50,
+    };
+    let told = (Tally::new(193, 0, 3, false, true, false), 799);
+    let mut left = left_after(rt, alloc, FAILING, shift, told)?;
+    expect_most_learnt(&rt, alloc, &mut left)
+}
+
+fn expect_most_learnt<R: Abort>(
+    rt: &R,
+    alloc: Global,
+    left: &mut Left<MemDisk>,
+) -> Result<(), Fail> {
+    assert_eq!(rt; (left.refused(), left.made()), (7, 193));
+    let words = left.one.own.words(rt, alloc);
+    left.expect_words(rt, alloc, 1, words.as_str())?;
+    let words = left.two.own.words(rt, alloc);
+    left.expect_words(rt, alloc, 2, words.as_str())?;
+    let count = left.shared_count();
+    left.expect_shared(rt, alloc, count)?;
+    left.expect_stamps(rt, alloc);
+    Ok(())
+}
 
 #[test]
 fn one_learns_and_another_finds(rt: HostRuntime) -> Result<(), Fail> {
-    let alloc = rt.alloc();
-    let disk = MemDisk::new(alloc, Vec::new(alloc));
-    let shared = share(rt, alloc, disk, Shift::InTurn)?;
-    assert_eq!(rt; shared.one.number, 0);
-    assert_eq!(rt; shared.two.number, 1);
-    assert_eq!(rt; shared.two.found.as_str(), "感じ; 漢字; 幹事;宴会の ");
-    Ok(())
+    work_in_turn(rt, rt.alloc())
 }
 
 // Each thread makes 10,000 calls: 2,500 words are learnt in its own book and 2,500 in the shared one, and each is
 // looked up. A learning is four calls of the disk, and the opening has eight that are recorded.
 #[test]
 fn two_threads_learn(rt: HostRuntime) -> Result<(), Fail> {
-    let alloc = rt.alloc();
-    let disk = MemDisk::new(alloc, Vec::new(alloc));
-    let shift = Shift::AtOnce {
-        cycles: 625,
-        words: 4,
-    };
-    let shared = share(rt, alloc, disk, shift)?;
-    let tally = Tally::new(10_000, 0, 3, false, false, false);
-    let mut left = reopened(&rt, alloc, shared, tally, 40_008)?;
-    assert_eq!(rt; left.one.own.count(), 2_500);
-    assert_eq!(rt; left.two.own.count(), 2_500);
-    assert_eq!(rt; left.one.shared.count(), 2_500);
-    assert_eq!(rt; left.two.shared.count(), 2_500);
-    left.expect_words(&rt, alloc, 1, "甲03/甲02/甲01/甲00/")?;
-    left.expect_words(&rt, alloc, 2, "乙03/乙02/乙01/乙00/")?;
-    left.expect_shared(&rt, alloc, 8)?;
-    left.expect_stamps(&rt, alloc);
-    Ok(())
+    work_at_once(rt, rt.alloc())
 }
 
 // The calls of the disk with these numbers fail. The tenth is the first call of the first learning, of four: a write
@@ -51,23 +135,5 @@ const FAILING: &[u64] = &[18, 24, 31, 41, 43, 402, 601];
 // are that fail is not said.
 #[test]
 fn two_threads_on_a_failing_disk(rt: HostRuntime) -> Result<(), Fail> {
-    let alloc = rt.alloc();
-    let disk = MemDisk::new(alloc, FAILING.to_vec(alloc)?);
-    let shift = Shift::AtOnce {
-        cycles: 1,
-        words: 50,
-    };
-    let shared = share(rt, alloc, disk, shift)?;
-    let tally = Tally::new(193, 0, 3, false, true, false);
-    let mut left = reopened(&rt, alloc, shared, tally, 799)?;
-    assert_eq!(rt; left.refused(), 7);
-    assert_eq!(rt; left.made(), 193);
-    let words = left.one.own.words(&rt, alloc);
-    left.expect_words(&rt, alloc, 1, words.as_str())?;
-    let words = left.two.own.words(&rt, alloc);
-    left.expect_words(&rt, alloc, 2, words.as_str())?;
-    let count = left.shared_count();
-    left.expect_shared(&rt, alloc, count)?;
-    left.expect_stamps(&rt, alloc);
-    Ok(())
+    work_and_fail(rt, rt.alloc())
 }

@@ -3,7 +3,7 @@ use crate::sharing::{Shared, opened};
 use crate::worker::Notes;
 use learned_store::{Closed, Store};
 use skk_calls::Tally;
-use skk_disk::MemDisk;
+use skk_disk::{Disk, MemDisk};
 use std::alloc::Global;
 use std::process::Abort;
 use std::test::Fail;
@@ -13,10 +13,10 @@ const EMPTY_ROW: usize = 57;
 
 // What is left of a desk that two workers shared: what they were told, and its learned file, opened again.
 #[derive(Drop)]
-pub(crate) struct Left {
+pub(crate) struct Left<D> {
     pub(crate) one: Notes,
     pub(crate) two: Notes,
-    store: Store<MemDisk>,
+    store: Store<D>,
 }
 
 // Tells what the calls came to, and how many calls of the disk are recorded, and opens the learned file again, which
@@ -27,17 +27,28 @@ pub(crate) fn reopened<R: Abort>(
     shared: Shared<MemDisk>,
     tally: Tally,
     calls: usize,
-) -> Result<Left, Fail> {
+) -> Result<Left<MemDisk>, Fail> {
     let Shared { closed, one, two } = shared;
     assert_eq!(rt; closed.tally, tally);
     assert_eq!(rt; closed.disk.made().len(), calls);
-    let Closed { disk, .. } = closed;
-    let store = opened(alloc, disk)?;
-    assert_eq!(rt; store.rows(), tally.rows());
+    let store = opened_again(rt, alloc, closed, tally.rows())?;
     Ok(Left { one, two, store })
 }
 
-impl Left {
+// The learned file of a disk that is left, opened again, which has so many rows.
+fn opened_again<R: Abort, D: Disk + Drop>(
+    rt: &R,
+    alloc: Global,
+    closed: Closed<D>,
+    rows: u64,
+) -> Result<Store<D>, Fail> {
+    let Closed { disk, .. } = closed;
+    let store = opened(alloc, disk)?;
+    assert_eq!(rt; store.rows(), rows);
+    Ok(store)
+}
+
+impl<D: Disk> Left<D> {
     // How many words were learnt.
     pub(crate) fn made(&self) -> usize {
         self.one.made().saturating_add(self.two.made())
@@ -115,7 +126,12 @@ impl Left {
 }
 
 // The stamp that a word gets that is learnt in a book of a store.
-fn stamp_in<R: Abort>(rt: &R, alloc: Global, store: &mut Store<MemDisk>, book: u16) -> Option<u64> {
+fn stamp_in<R: Abort, D: Disk>(
+    rt: &R,
+    alloc: Global,
+    store: &mut Store<D>,
+    book: u16,
+) -> Option<u64> {
     let call = learning(rt, alloc, book, "新");
     let answer = store.serve(alloc, &call);
     stamp_of(rt, &answer)

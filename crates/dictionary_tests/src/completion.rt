@@ -4,8 +4,9 @@ use crate::making::text;
 use dict_complete::complete;
 use dict_files::{DictionaryFile, DictionaryFiles};
 use dict_layers::System;
-use skk_text::{Text, Texts};
+use skk_text::Texts;
 use std::alloc::Global;
+use std::process::Abort;
 use std::test::Fail;
 
 const WORDS: &str = ";; okuri-ari entries.\nおおk /大/多/[く/多/]/[き/大/]/\nうごk /動/[く/動/]/\n\
@@ -17,7 +18,16 @@ const CRAB: &str = "かに /蟹/\nかい /貝/\nきく /菊/\nかわ /(skk-ignor
 const TURTLE: &str = "かい /貝/\nかめ /亀/\nか /蚊/\nかるた /歌留多/\n";
 
 // Readings of two books, two files, a prefix, and what is given.
-const JOINED: [(&str, &str, &str, &str, &str, &str); 11] = [
+type Joined = (
+    &'static str,
+    &'static str,
+    &'static str,
+    &'static str,
+    &'static str,
+    &'static str,
+);
+
+const JOINED: [Joined; 11] = [
     ("", "", WORDS, "", "か", "かんじ"),
     ("", "", WORDS, "", "かんじ", ""),
     ("", "", WORDS, "", "", "#ねん 125 p# かんじ ちょう>"),
@@ -32,7 +42,9 @@ const JOINED: [(&str, &str, &str, &str, &str, &str); 11] = [
 ];
 
 // How many readings the typist's book has and how many the file, how many are given, and the last of them.
-const COUNTED: [(usize, usize, usize, &str); 8] = [
+type Counted = (usize, usize, usize, &'static str);
+
+const COUNTED: [Counted; 8] = [
     (0, 255, 255, "あ254"),
     (0, 256, 256, "あ255"),
     (0, 257, 256, "あ255"),
@@ -95,33 +107,58 @@ complete 5 か = かに かき かさ かん
 
 #[test]
 fn readings_are_joined(rt: HostRuntime) -> Result<(), Fail> {
-    let alloc = rt.alloc();
-    for (newest, shared, file, other, prefix, wanted) in JOINED {
-        let system = files_of(alloc, file, other)?;
-        let (newest, shared) = (texts(alloc, newest)?, texts(alloc, shared)?);
-        let given = complete(alloc, &newest, &shared, &system, &text(alloc, prefix)?)?;
-        let mut told = String::new(alloc);
-        add_texts(&mut told, &given)?;
-        assert_eq!(rt; told.trim(), wanted, "behind {prefix}");
+    for row in &JOINED {
+        expect_joined(&rt, rt.alloc(), row)?;
     }
     Ok(())
 }
 
+fn expect_joined<R: Abort>(rt: &R, alloc: Global, row: &Joined) -> Result<(), Fail> {
+    let (newest, shared, file, other, prefix, wanted) = *row;
+    let books = (texts(alloc, newest)?, texts(alloc, shared)?);
+    let given = given_of(alloc, &books, file, other, prefix)?;
+    let mut told = String::new(alloc);
+    add_texts(&mut told, &given)?;
+    assert_eq!(rt; told.trim(), wanted, "{row:?}");
+    Ok(())
+}
+
+// What is given of the readings of two books and two files.
+fn given_of(
+    alloc: Global,
+    (newest, shared): &(Texts, Texts),
+    file: &str,
+    other: &str,
+    prefix: &str,
+) -> Result<Texts, Fail> {
+    let system = files_of(alloc, file, other)?;
+    Ok(complete(alloc, newest, shared, &system, &text(alloc, prefix)?)?)
+}
+
 #[test]
 fn readings_are_256_at_most(rt: HostRuntime) -> Result<(), Fail> {
-    let alloc = rt.alloc();
-    let (none, prefix) = (Texts::new(alloc), text(alloc, "あ")?);
-    for (in_book, in_file, count, last) in COUNTED {
-        let newest = texts(alloc, &numbered(alloc, in_book, " ")?)?;
-        let system = files_of(alloc, &numbered(alloc, in_file, " /亜/\n")?, "")?;
-        let given = complete(alloc, &newest, &none, &system, &prefix)?;
-        assert_eq!(rt; given.len(), count);
-        assert_eq!(rt;
-            given.as_slice().last().map(|text| text.as_str()),
-            Some(last)
-        );
+    for row in &COUNTED {
+        expect_counted(&rt, rt.alloc(), row)?;
     }
     Ok(())
+}
+
+fn expect_counted<R: Abort>(rt: &R, alloc: Global, row: &Counted) -> Result<(), Fail> {
+    let (in_book, in_file, count, last) = *row;
+    let newest = texts(alloc, &numbered(alloc, in_book, " ")?)?;
+    let file = numbered(alloc, in_file, " /亜/\n")?;
+    let given = given_of(alloc, &(newest, Texts::new(alloc)), &file, "", "あ")?;
+    expect_last(rt, &given, count, last);
+    Ok(())
+}
+
+// Tells how many texts there are, and the last of them.
+fn expect_last<R: Abort>(rt: &R, texts: &Texts, count: usize, last: &str) {
+    assert_eq!(rt; texts.len(), count);
+    assert_eq!(rt;
+        texts.as_slice().last().map(|text| text.as_str()),
+        Some(last)
+    );
 }
 
 #[test]

@@ -2,9 +2,10 @@ use crate::making::text;
 use dict_files::{DictionaryFile, DictionaryFiles, walks_go_over_completions};
 use dict_format::{FileFault, print_line, read_file};
 use dict_layers::System;
-use skk_calls::{Books, Part, RowKey, Walk};
+use skk_calls::{Books, Part, RowKey, Rows, Walk};
 use skk_text::{Bytes, Text, TextFault};
 use std::alloc::Global;
+use std::process::Abort;
 use std::test::Fail;
 
 // Keys with two lines, and bad lines before them.
@@ -101,12 +102,21 @@ fn file_of(alloc: Global, file: &str) -> Result<System, Fail> {
 
 // The lines of the rows of a key.
 fn lines_of(alloc: Global, system: &System, part: Part, reading: &str) -> Result<Text, Fail> {
-    let key = RowKey::new(part, text(alloc, reading)?).ok();
+    match RowKey::new(part, text(alloc, reading)?) {
+        Ok(key) => lines_of_key(alloc, system, &key),
+        Err(_) => Ok(Text::new(alloc)),
+    }
+}
+
+fn lines_of_key(alloc: Global, system: &System, key: &RowKey) -> Result<Text, Fail> {
+    let rows = system.find(alloc, key)?;
+    lines_of_rows(alloc, &rows)
+}
+
+fn lines_of_rows(alloc: Global, rows: &Rows) -> Result<Text, Fail> {
     let mut lines = Text::new(alloc);
-    if let Some(key) = key {
-        for row in system.find(alloc, &key)?.iter() {
-            lines.push_str(print_line(alloc, row)?.as_str())?;
-        }
+    for row in rows.iter() {
+        lines.push_str(print_line(alloc, row)?.as_str())?;
     }
     Ok(lines)
 }
@@ -116,10 +126,7 @@ fn readings_of(alloc: Global, system: &System) -> Result<Text, Fail> {
     let mut readings = Text::new(alloc);
     let mut low = Text::new(alloc);
     for _ in 0..10 {
-        if system.files() == 0 {
-            return Ok(readings);
-        }
-        let Some(next) = system.above(alloc, 0, &low)? else {
+        let Some(next) = next_reading(alloc, system, &low)? else {
             return Ok(readings);
         };
         readings.push(' ')?;
@@ -129,66 +136,114 @@ fn readings_of(alloc: Global, system: &System) -> Result<Text, Fail> {
     Ok(readings)
 }
 
+// The next reading of the first file, where there are a file and a reading.
+fn next_reading(alloc: Global, system: &System, low: &Text) -> Result<Option<Text>, Fail> {
+    if system.files() == 0 {
+        return Ok(None);
+    }
+    Ok(system.above(alloc, 0, low)?)
+}
+
 #[test]
 fn files_as_they_lie_have_the_rows_that_are_read(rt: HostRuntime) -> Result<(), Fail> {
-    let alloc = rt.alloc();
     walks_go_over_completions();
-    for file in FILES {
-        let rows = rows_of(alloc, file)?;
-        let lies = file_of(alloc, file)?;
-        assert_eq!(rt; lies.file_count(), 1);
-        for (part, reading) in KEYS {
-            let wanted = lines_of(alloc, &rows, part, reading)?;
-            let found = lines_of(alloc, &lies, part, reading)?;
-            assert_eq!(rt; found.as_str(), wanted.as_str(), "of {reading} in {file}");
-        }
-        let wanted = readings_of(alloc, &rows)?;
-        let found = readings_of(alloc, &lies)?;
-        assert_eq!(rt; found.as_str(), wanted.as_str(), "in {file}");
+    for file in &FILES {
+        expect_same_file(&rt, rt.alloc(), file)?;
+    }
+    Ok(())
+}
+
+fn expect_same_file<R: Abort>(rt: &R, alloc: Global, file: &str) -> Result<(), Fail> {
+    let rows = rows_of(alloc, file)?;
+    let lies = file_of(alloc, file)?;
+    expect_same(rt, alloc, &rows, &lies)
+}
+
+// Tells that a file as it lies has the rows and the readings of its rows in memory.
+fn expect_same<R: Abort>(rt: &R, alloc: Global, rows: &System, lies: &System) -> Result<(), Fail> {
+    assert_eq!(rt; lies.file_count(), 1);
+    for (part, reading) in &KEYS {
+        let wanted = lines_of(alloc, rows, *part, reading)?;
+        expect_lines(rt, alloc, lies, (*part, *reading), wanted.as_str())?;
+    }
+    let wanted = readings_of(alloc, rows)?;
+    expect_readings(rt, alloc, lies, wanted.as_str())
+}
+
+// Tells which lines the rows of a key have.
+fn expect_lines<R: Abort>(
+    rt: &R,
+    alloc: Global,
+    lies: &System,
+    (part, reading): (Part, &str),
+    wanted: &str,
+) -> Result<(), Fail> {
+    let lines = lines_of(alloc, lies, part, reading)?;
+    assert_eq!(rt; lines.as_str(), wanted, "of {reading}");
+    Ok(())
+}
+
+// Tells which readings the first file has.
+fn expect_readings<R: Abort>(
+    rt: &R,
+    alloc: Global,
+    lies: &System,
+    wanted: &str,
+) -> Result<(), Fail> {
+    let readings = readings_of(alloc, lies)?;
+    assert_eq!(rt; readings.as_str(), wanted);
+    Ok(())
+}
+
+// A file, a key, and its line.
+const FIRST_LINES: [(&str, Part, &str, &str); 13] = [
+    (TWICE, Part::Nasi, "かんじ", "かんじ /漢字/"),
+    (BAD_FIRST, Part::Nasi, "かんじ", "かんじ /感じ;感/"),
+    (PARTS, Part::Ari, "おおk", "おおk /大/[く/多/]/"),
+    (PARTS, Part::Nasi, "い", "い /胃;note/"),
+    (RETURNS, Part::Nasi, "い", "い /胃/"),
+    (MARKED, Part::Nasi, "あ", "あ /亜/"),
+    (MARKED, Part::Ari, "あk", "あk /開/"),
+    (PARTS_TWICE, Part::Nasi, "い", "い /胃/"),
+    (PARTS_TWICE, Part::Ari, "いt", "いt /行/"),
+    (UNENDED, Part::Nasi, "い", "い /胃/"),
+    (COMMENTS, Part::Nasi, "い", "い /意/"),
+    (UNSORTED, Part::Nasi, "い", "い /胃/"),
+    (UNSORTED, Part::Ari, "んn", ""),
+];
+
+// A file, and its readings.
+const READINGS: [(&str, &str); 6] = [
+    ("", ""),
+    (BAD_FIRST, " かんじ"),
+    (PARTS, " あ い いい"),
+    (HIDING, " え"),
+    (UNSORTED, " あ い い! いあ いい んn"),
+    (MIXED, " Ka ka か が ーか"),
+];
+
+#[test]
+fn the_first_line_of_a_key_that_spells_a_row_counts(rt: HostRuntime) -> Result<(), Fail> {
+    for (file, part, reading, line) in &FIRST_LINES {
+        let lies = file_of(rt.alloc(), file)?;
+        expect_lines(&rt, rt.alloc(), &lies, (*part, *reading), line)?;
     }
     Ok(())
 }
 
 #[test]
-fn the_first_line_of_a_key_that_spells_a_row_counts(rt: HostRuntime) -> Result<(), Fail> {
-    let alloc = rt.alloc();
-    for (file, part, reading, line) in [
-        (TWICE, Part::Nasi, "かんじ", "かんじ /漢字/"),
-        (BAD_FIRST, Part::Nasi, "かんじ", "かんじ /感じ;感/"),
-        (PARTS, Part::Ari, "おおk", "おおk /大/[く/多/]/"),
-        (PARTS, Part::Nasi, "い", "い /胃;note/"),
-        (RETURNS, Part::Nasi, "い", "い /胃/"),
-        (MARKED, Part::Nasi, "あ", "あ /亜/"),
-        (MARKED, Part::Ari, "あk", "あk /開/"),
-        (PARTS_TWICE, Part::Nasi, "い", "い /胃/"),
-        (PARTS_TWICE, Part::Ari, "いt", "いt /行/"),
-        (UNENDED, Part::Nasi, "い", "い /胃/"),
-        (COMMENTS, Part::Nasi, "い", "い /意/"),
-        (UNSORTED, Part::Nasi, "い", "い /胃/"),
-        (UNSORTED, Part::Ari, "んn", ""),
-    ] {
-        let lies = file_of(alloc, file)?;
-        let found = lines_of(alloc, &lies, part, reading)?;
-        assert_eq!(rt; found.as_str(), line, "of {reading}");
-    }
-    for (file, readings) in [
-        ("", ""),
-        (BAD_FIRST, " かんじ"),
-        (PARTS, " あ い いい"),
-        (HIDING, " え"),
-        (UNSORTED, " あ い い! いあ いい んn"),
-        (MIXED, " Ka ka か が ーか"),
-    ] {
-        let found = readings_of(alloc, &file_of(alloc, file)?)?;
-        assert_eq!(rt; found.as_str(), readings);
+fn readings_are_gone_over_in_order(rt: HostRuntime) -> Result<(), Fail> {
+    for (file, readings) in &READINGS {
+        let lies = file_of(rt.alloc(), file)?;
+        expect_readings(&rt, rt.alloc(), &lies, readings)?;
     }
     Ok(())
 }
 
 #[test]
 fn files_that_are_no_text_are_refused(rt: HostRuntime) -> Result<(), Fail> {
-    let alloc = rt.alloc();
-    let fault = DictionaryFile::open(alloc, bytes(alloc, b"\xE3\x81\x82 /\xA4\xA2/\n")?).err();
+    let file = bytes(rt.alloc(), b"\xE3\x81\x82 /\xA4\xA2/\n")?;
+    let fault = DictionaryFile::open(rt.alloc(), file).err();
     assert_eq!(rt;
         fault,
         Some(FileFault::NoText(TextFault::NotUtf8 { at: 5 }))

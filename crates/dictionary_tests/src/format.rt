@@ -1,12 +1,13 @@
 use crate::making::text;
 use dict_format::{
-    FileFault, LineFault, LineReason, files_list_one_thing, lines_spell_one_row,
+    BadLines, FileFault, LineFault, LineReason, files_list_one_thing, lines_spell_one_row,
     lines_spell_rows_or_have_reasons, print_file, print_item, print_line,
     printing_order_moves_rows, read_file, read_line,
 };
-use skk_calls::{Cand, Part};
+use skk_calls::{Book, Cand, Part};
 use skk_text::{Memory, Text, TextFault};
 use std::alloc::Global;
+use std::process::Abort;
 use std::test::Fail;
 
 // A text that is `start`, `unit` so many times, and then `end`.
@@ -32,233 +33,267 @@ fn printed_line(alloc: Global, part: Part, line: &Text) -> Result<Text, LineFaul
     Ok(print_line(alloc, &row)?)
 }
 
+// Lines, each with its part and with the canonical line of its row.
+const LINES: &[(Part, &str, &str)] = &[
+    // what stands is printed as it stands
+    (Part::Nasi, "かんじ /漢字/幹事;宴会の/感じ/", "かんじ /漢字/幹事;宴会の/感じ/"),
+    (Part::Nasi, "#ねん /#1年/#3年/#0年/", "#ねん /#1年/#3年/#0年/"),
+    (Part::Nasi, "125 /東京都葛飾区/", "125 /東京都葛飾区/"),
+    (Part::Nasi, "p# /#4/", "p# /#4/"),
+    (Part::Nasi, "ちょう> /超/", "ちょう> /超/"),
+    (Part::Ari, "うごk /動/[く/動/]/", "うごk /動/[く/動/]/"),
+    (
+        Part::Ari,
+        "おおk /大/多/[く/多/]/[き/大/]/",
+        "おおk /大/多/[く/多/]/[き/大/]/",
+    ),
+    (Part::Ari, "いt /言/行/[った/言/]/", "いt /言/行/[った/言/]/"),
+    // kanji, notes in kanji and kana, of which one begins as a form does, and forms: a note keeps each of its bytes
+    (
+        Part::Nasi,
+        "OMG /the Object Management Group;CORBA策定のための組織/(concat \"http:\\057\\057www.omg.org\\057\")/",
+        "OMG /the Object Management Group;CORBA策定のための組織/(concat \"http:\\057\\057www.omg.org\\057\")/",
+    ),
+    (
+        Part::Nasi,
+        "りっそく /律速;(concat \"複要素が絡み合う事柄\\057\")の要素/入出力;イオ/(concat \"I\\057Oポート\")/",
+        "りっそく /律速;(concat \"複要素が絡み合う事柄\\057\")の要素/入出力;イオ/(concat \"I\\057Oポート\")/",
+    ),
+    // several spaces, an empty word, a word that came before
+    (Part::Nasi, "か   /蚊//蚊;むし/", "か /蚊/"),
+    // a bracket in the okuri-nasi part, and a closing one alone
+    (
+        Part::Nasi,
+        "か /[x/]/y/",
+        "か /(concat \"[x\")/(concat \"]\")/y/",
+    ),
+    (Part::Ari, "かk /]/", "かk /(concat \"]\")/"),
+    // repeated blocks, an empty one, an okurigana that is none, a note and a bracket in a block
+    (
+        Part::Ari,
+        "おおk /[く/多/]/[き/大/]/[く/大/多/]/",
+        "おおk /[く/多/大/]/[き/大/]/",
+    ),
+    (
+        Part::Ari,
+        "おおk /[く/]/[き/大;x/[y/]/[k/大/]/",
+        "おおk /[き/大/(concat \"[y\")/]/",
+    ),
+    // strings
+    (
+        Part::Nasi,
+        "か /(concat \"\\057\\073\")/",
+        "か /(concat \"\\057\\073\")/",
+    ),
+    (
+        Part::Nasi,
+        "か /(concat \"a\\\"b\\\\c\\r\\n\")/",
+        "か /(concat \"a\\\"b\\\\c\\r\\n\")/",
+    ),
+    (Part::Nasi, "か /(concat \"a\\177b\")/", "か /a\u{7F}b/"),
+    (
+        Part::Nasi,
+        "か /(concat \"\\141;b\")/",
+        "か /(concat \"(concat \\\"\\\\141\");b\")/",
+    ),
+    // forms that are none
+    (
+        Part::Nasi,
+        "か /(concat \"\\200\")/",
+        "か /(concat \"(concat \\\"\\\\200\\\")\")/",
+    ),
+    (
+        Part::Nasi,
+        "か /(concat \"\\t\")/",
+        "か /(concat \"(concat \\\"\\\\t\\\")\")/",
+    ),
+    (
+        Part::Nasi,
+        "か /(concat \"a\" \"b\")/",
+        "か /(concat \"(concat \\\"a\\\" \\\"b\\\")\")/",
+    ),
+    // marks
+    (
+        Part::Nasi,
+        "か /(skk-ignore-dic-word \"x\" \"y\")/z/(skk-ignore-dic-word \"x\" \"\" \"w\")/",
+        "か /z/(skk-ignore-dic-word \"x\" \"y\" \"w\")/",
+    ),
+    (
+        Part::Nasi,
+        "か /(skk-ignore-dic-word  \"x\")/(skk-ignore-dic-word)/",
+        "か /(concat \"(skk-ignore-dic-word  \\\"x\\\")\")/(skk-ignore-dic-word)/",
+    ),
+];
+
 #[test]
 fn lines_are_read_and_printed(rt: HostRuntime) -> Result<(), Fail> {
-    let alloc = rt.alloc();
-    for (part, line, canonical) in [
-        // what stands is printed as it stands
-        (Part::Nasi, "かんじ /漢字/幹事;宴会の/感じ/", "かんじ /漢字/幹事;宴会の/感じ/"),
-        (Part::Nasi, "#ねん /#1年/#3年/#0年/", "#ねん /#1年/#3年/#0年/"),
-        (Part::Nasi, "125 /東京都葛飾区/", "125 /東京都葛飾区/"),
-        (Part::Nasi, "p# /#4/", "p# /#4/"),
-        (Part::Nasi, "ちょう> /超/", "ちょう> /超/"),
-        (Part::Ari, "うごk /動/[く/動/]/", "うごk /動/[く/動/]/"),
-        (
-            Part::Ari,
-            "おおk /大/多/[く/多/]/[き/大/]/",
-            "おおk /大/多/[く/多/]/[き/大/]/",
-        ),
-        (Part::Ari, "いt /言/行/[った/言/]/", "いt /言/行/[った/言/]/"),
-        // kanji, notes in kanji and kana, of which one begins as a form does, and forms: a note keeps each of its bytes
-        (
-            Part::Nasi,
-            "OMG /the Object Management Group;CORBA策定のための組織/(concat \"http:\\057\\057www.omg.org\\057\")/",
-            "OMG /the Object Management Group;CORBA策定のための組織/(concat \"http:\\057\\057www.omg.org\\057\")/",
-        ),
-        (
-            Part::Nasi,
-            "りっそく /律速;(concat \"複要素が絡み合う事柄\\057\")の要素/入出力;イオ/(concat \"I\\057Oポート\")/",
-            "りっそく /律速;(concat \"複要素が絡み合う事柄\\057\")の要素/入出力;イオ/(concat \"I\\057Oポート\")/",
-        ),
-        // several spaces, an empty word, a word that came before
-        (Part::Nasi, "か   /蚊//蚊;むし/", "か /蚊/"),
-        // a bracket in the okuri-nasi part, and a closing one alone
-        (
-            Part::Nasi,
-            "か /[x/]/y/",
-            "か /(concat \"[x\")/(concat \"]\")/y/",
-        ),
-        (Part::Ari, "かk /]/", "かk /(concat \"]\")/"),
-        // repeated blocks, an empty one, an okurigana that is none, a note and a bracket in a block
-        (
-            Part::Ari,
-            "おおk /[く/多/]/[き/大/]/[く/大/多/]/",
-            "おおk /[く/多/大/]/[き/大/]/",
-        ),
-        (
-            Part::Ari,
-            "おおk /[く/]/[き/大;x/[y/]/[k/大/]/",
-            "おおk /[き/大/(concat \"[y\")/]/",
-        ),
-        // strings
-        (
-            Part::Nasi,
-            "か /(concat \"\\057\\073\")/",
-            "か /(concat \"\\057\\073\")/",
-        ),
-        (
-            Part::Nasi,
-            "か /(concat \"a\\\"b\\\\c\\r\\n\")/",
-            "か /(concat \"a\\\"b\\\\c\\r\\n\")/",
-        ),
-        (Part::Nasi, "か /(concat \"a\\177b\")/", "か /a\u{7F}b/"),
-        (
-            Part::Nasi,
-            "か /(concat \"\\141;b\")/",
-            "か /(concat \"(concat \\\"\\\\141\");b\")/",
-        ),
-        // forms that are none
-        (
-            Part::Nasi,
-            "か /(concat \"\\200\")/",
-            "か /(concat \"(concat \\\"\\\\200\\\")\")/",
-        ),
-        (
-            Part::Nasi,
-            "か /(concat \"\\t\")/",
-            "か /(concat \"(concat \\\"\\\\t\\\")\")/",
-        ),
-        (
-            Part::Nasi,
-            "か /(concat \"a\" \"b\")/",
-            "か /(concat \"(concat \\\"a\\\" \\\"b\\\")\")/",
-        ),
-        // marks
-        (
-            Part::Nasi,
-            "か /(skk-ignore-dic-word \"x\" \"y\")/z/(skk-ignore-dic-word \"x\" \"\" \"w\")/",
-            "か /z/(skk-ignore-dic-word \"x\" \"y\" \"w\")/",
-        ),
-        (
-            Part::Nasi,
-            "か /(skk-ignore-dic-word  \"x\")/(skk-ignore-dic-word)/",
-            "か /(concat \"(skk-ignore-dic-word  \\\"x\\\")\")/(skk-ignore-dic-word)/",
-        ),
-    ] {
-        match printed_line(alloc, part, &text(alloc, line)?) {
-            Ok(again) => assert_eq!(rt; again.as_str(), canonical),
-            Err(fault) => assert!(rt; false, "at {line:?}: {fault:?}"),
-        }
+    for (part, line, canonical) in LINES {
+        expect_line(&rt, rt.alloc(), *part, line, canonical)?;
     }
     Ok(())
 }
 
-#[test]
-fn lines_are_refused_by_their_first_reason(rt: HostRuntime) -> Result<(), Fail> {
-    let alloc = rt.alloc();
-    for (part, start, unit, count, end, reason) in [
-        (Part::Nasi, "か /蚊", "", 0, "", Some(LineReason::NoSlash)),
-        (Part::Nasi, "か /", "", 0, "", Some(LineReason::NoSlash)),
-        (Part::Nasi, "か //", "", 0, "", Some(LineReason::Empty)),
-        (
-            Part::Nasi,
-            "か /(skk-ignore-dic-word \"\")/",
-            "",
-            0,
-            "",
-            Some(LineReason::Empty),
-        ),
-        (
-            Part::Ari,
-            "おおk /大/[く/多/",
-            "",
-            0,
-            "",
-            Some(LineReason::Block),
-        ),
-        (Part::Ari, "おお /大/", "", 0, "", Some(LineReason::OkuriKey)),
-        (Part::Ari, "k /大/", "", 0, "", Some(LineReason::OkuriKey)),
-        (Part::Nasi, "か", "", 0, "", Some(LineReason::NoSpace)),
-        (Part::Nasi, " /か/", "", 0, "", Some(LineReason::BadReading)),
-        (
-            Part::Nasi,
-            ";か /か/",
-            "",
-            0,
-            "",
-            Some(LineReason::BadReading),
-        ),
-        (
-            Part::Nasi,
-            "か\u{7F} /か/",
-            "",
-            0,
-            "",
-            Some(LineReason::BadReading),
-        ),
-        (
-            Part::Nasi,
-            "\t",
-            "か",
-            200,
-            " /か/",
-            Some(LineReason::BadReading),
-        ),
-        (Part::Nasi, "", "a", 254, " /か/", None),
-        (
-            Part::Nasi,
-            "",
-            "a",
-            255,
-            " /か/",
-            Some(LineReason::LongReading),
-        ),
-        (Part::Ari, "", "a", 255, " /か/", None),
-        (
-            Part::Ari,
-            "",
-            "a",
-            256,
-            " /か/",
-            Some(LineReason::LongReading),
-        ),
-        (Part::Nasi, "か /", "a", 4_095, "/", None),
-        (
-            Part::Nasi,
-            "か /b/",
-            "a",
-            4_096,
-            "/",
-            Some(LineReason::LongCandidate),
-        ),
-        (Part::Nasi, "か /b;", "a", 4_094, "/", None),
-        (
-            Part::Nasi,
-            "か /b;",
-            "a",
-            4_095,
-            "/",
-            Some(LineReason::LongCandidate),
-        ),
-        (Part::Nasi, "か /(concat \"", "\\141", 4_095, "\")/", None),
-        (
-            Part::Nasi,
-            "か /(concat \"",
-            "\\141",
-            4_096,
-            "\")/",
-            Some(LineReason::LongCandidate),
-        ),
-        (Part::Nasi, "aa /", "b/", 32_765, "/", None),
-        (
-            Part::Nasi,
-            "aaa /",
-            "b/",
-            32_765,
-            "/",
-            Some(LineReason::LongLine),
-        ),
-    ] {
-        let line = long_text(alloc, start, unit, count, end)?;
-        let fault = printed_line(alloc, part, &line).err();
-        assert_eq!(rt;
-            fault,
-            reason.map(LineFault::Reason),
-            "at {start:?} and {count}"
-        );
+fn expect_line<R: Abort>(
+    rt: &R,
+    alloc: Global,
+    part: Part,
+    line: &str,
+    canonical: &str,
+) -> Result<(), Memory> {
+    match printed_line(alloc, part, &text(alloc, line)?) {
+        Ok(again) => assert_eq!(rt; again.as_str(), canonical),
+        Err(fault) => assert!(rt; false, "at {line:?}: {fault:?}"),
     }
     Ok(())
+}
+
+// The part of a line; the line, which is a text, another one so many times, and an end; and the first reason for which
+// it is refused.
+type RefusedRow = (
+    Part,
+    &'static str,
+    &'static str,
+    usize,
+    &'static str,
+    Option<LineReason>,
+);
+
+const REFUSED: &[RefusedRow] = &[
+    (Part::Nasi, "か /蚊", "", 0, "", Some(LineReason::NoSlash)),
+    (Part::Nasi, "か /", "", 0, "", Some(LineReason::NoSlash)),
+    (Part::Nasi, "か //", "", 0, "", Some(LineReason::Empty)),
+    (
+        Part::Nasi,
+        "か /(skk-ignore-dic-word \"\")/",
+        "",
+        0,
+        "",
+        Some(LineReason::Empty),
+    ),
+    (
+        Part::Ari,
+        "おおk /大/[く/多/",
+        "",
+        0,
+        "",
+        Some(LineReason::Block),
+    ),
+    (Part::Ari, "おお /大/", "", 0, "", Some(LineReason::OkuriKey)),
+    (Part::Ari, "k /大/", "", 0, "", Some(LineReason::OkuriKey)),
+    (Part::Nasi, "か", "", 0, "", Some(LineReason::NoSpace)),
+    (Part::Nasi, " /か/", "", 0, "", Some(LineReason::BadReading)),
+    (
+        Part::Nasi,
+        ";か /か/",
+        "",
+        0,
+        "",
+        Some(LineReason::BadReading),
+    ),
+    (
+        Part::Nasi,
+        "か\u{7F} /か/",
+        "",
+        0,
+        "",
+        Some(LineReason::BadReading),
+    ),
+    (
+        Part::Nasi,
+        "\t",
+        "か",
+        200,
+        " /か/",
+        Some(LineReason::BadReading),
+    ),
+    (Part::Nasi, "", "a", 254, " /か/", None),
+    (
+        Part::Nasi,
+        "",
+        "a",
+        255,
+        " /か/",
+        Some(LineReason::LongReading),
+    ),
+    (Part::Ari, "", "a", 255, " /か/", None),
+    (
+        Part::Ari,
+        "",
+        "a",
+        256,
+        " /か/",
+        Some(LineReason::LongReading),
+    ),
+    (Part::Nasi, "か /", "a", 4_095, "/", None),
+    (
+        Part::Nasi,
+        "か /b/",
+        "a",
+        4_096,
+        "/",
+        Some(LineReason::LongCandidate),
+    ),
+    (Part::Nasi, "か /b;", "a", 4_094, "/", None),
+    (
+        Part::Nasi,
+        "か /b;",
+        "a",
+        4_095,
+        "/",
+        Some(LineReason::LongCandidate),
+    ),
+    (Part::Nasi, "か /(concat \"", "\\141", 4_095, "\")/", None),
+    (
+        Part::Nasi,
+        "か /(concat \"",
+        "\\141",
+        4_096,
+        "\")/",
+        Some(LineReason::LongCandidate),
+    ),
+    (Part::Nasi, "aa /", "b/", 32_765, "/", None),
+    (
+        Part::Nasi,
+        "aaa /",
+        "b/",
+        32_765,
+        "/",
+        Some(LineReason::LongLine),
+    ),
+];
+
+#[test]
+fn lines_are_refused_by_their_first_reason(rt: HostRuntime) -> Result<(), Fail> {
+    for row in REFUSED {
+        expect_refused(&rt, rt.alloc(), row)?;
+    }
+    Ok(())
+}
+
+fn expect_refused<R: Abort>(rt: &R, alloc: Global, row: &RefusedRow) -> Result<(), Memory> {
+    let (part, start, unit, count, end, reason) = *row;
+    let line = long_text(alloc, start, unit, count, end)?;
+    let fault = printed_line(alloc, part, &line).err();
+    assert_eq!(rt; fault, reason.map(LineFault::Reason), "{row:?}");
+    Ok(())
+}
+
+const ITEMS: &[(&str, &str, &str)] = &[
+    ("[x", "", "(concat \"[x\")"),
+    ("a;b", "宴会の", "(concat \"a\\073b\");宴会の"),
+];
+
+// The item of a word and its note.
+fn printed_item(alloc: Global, word: &str, note: &str) -> Result<Text, Fail> {
+    let cand = Cand::new(text(alloc, word)?, text(alloc, note)?)?;
+    Ok(print_item(alloc, &cand)?)
 }
 
 #[test]
 fn items_are_printed(rt: HostRuntime) -> Result<(), Fail> {
-    let alloc = rt.alloc();
-    for (word, note, item) in [
-        ("[x", "", "(concat \"[x\")"),
-        ("a;b", "宴会の", "(concat \"a\\073b\");宴会の"),
-    ] {
-        let cand = Cand::new(text(alloc, word)?, text(alloc, note)?)?;
-        assert_eq!(rt; print_item(alloc, &cand)?.as_str(), item);
+    for (word, note, item) in ITEMS {
+        let printed = printed_item(rt.alloc(), word, note)?;
+        assert_eq!(rt; printed.as_str(), *item);
     }
     lines_spell_one_row();
     lines_spell_rows_or_have_reasons();
@@ -277,47 +312,77 @@ p# /#4/
 ちょう> /超/
 ";
 
+// A file, how its rows are printed, and its bad lines by their numbers, each with its reason.
+type FileRow = (&'static str, &'static str, &'static [(usize, LineReason)]);
+
+const FILES: &[FileRow] = &[
+    (S, S, &[]),
+    ("", ";; okuri-ari entries.\n;; okuri-nasi entries.\n", &[]),
+    // a mark at the head, no part line, rows out of order, and no LF at the end
+    (
+        "\u{FEFF}かん /漢/\nか /蚊/\nか /香/",
+        ";; okuri-ari entries.\n;; okuri-nasi entries.\nか /蚊/\nかん /漢/\n",
+        &[(3, LineReason::Twice)],
+    ),
+    // CR LF, blanks at the end, comments and empty lines
+    (
+        ";c\r\n\r\n;; okuri-ari entries. \r\nおおk /大/ \t\r\n;; okuri-nasi entries.\r\nか /蚊/\r",
+        ";; okuri-ari entries.\nおおk /大/\n;; okuri-nasi entries.\nか /蚊/\n",
+        &[],
+    ),
+    // a part that comes again, and one reading in both parts
+    (
+        ";; okuri-ari entries.\nak /a/\nakk /b/\n;; okuri-nasi entries.\nak /c/\n;; okuri-ari entries.\nak /d/\n\
+            く /e\n",
+        ";; okuri-ari entries.\nakk /b/\nak /a/\n;; okuri-nasi entries.\nak /c/\n",
+        &[(7, LineReason::Twice), (8, LineReason::OkuriKey)],
+    ),
+    (
+        ";; -*- mode: fundamental; coding: utf-8 -*-\n;; okuri-ari entries.\n;; okuri-nasi entries.\nあい /愛/\n\
+            か /蚊\n",
+        ";; okuri-ari entries.\n;; okuri-nasi entries.\nあい /愛/\n",
+        &[(5, LineReason::NoSlash)],
+    ),
+];
+
+// Tells how a file is printed, and its bad lines.
+fn expect_file<R: Abort>(rt: &R, alloc: Global, row: &FileRow) -> Result<(), Fail> {
+    let (file, printed, bad) = *row;
+    let listed = read_file(alloc, file.as_bytes())?;
+    expect_printed(rt, alloc, &listed.book, printed)?;
+    expect_bad(rt, &listed.bad, bad);
+    Ok(())
+}
+
+fn expect_printed<R: Abort>(
+    rt: &R,
+    alloc: Global,
+    book: &Book,
+    printed: &str,
+) -> Result<(), Memory> {
+    let text = print_file(alloc, book)?;
+    assert_eq!(rt; text.as_str(), printed);
+    Ok(())
+}
+
+fn expect_bad<R: Abort>(rt: &R, found: &BadLines, bad: &[(usize, LineReason)]) {
+    assert_eq!(rt; found.len(), bad.len(), "at {bad:?}");
+    for (found, wanted) in found.as_slice().iter().zip(bad) {
+        assert_eq!(rt; (found.line, found.reason), *wanted, "at {bad:?}");
+    }
+}
+
+// Why a file is not read.
+fn fault_of(alloc: Global, file: &[u8]) -> Option<FileFault> {
+    read_file(alloc, file).err()
+}
+
 #[test]
 fn files_are_read_and_printed(rt: HostRuntime) -> Result<(), Fail> {
-    let alloc = rt.alloc();
-    let none: &[(usize, LineReason)] = &[];
-    for (file, printed, bad) in [
-        (S, S, none),
-        ("", ";; okuri-ari entries.\n;; okuri-nasi entries.\n", none),
-        // a mark at the head, no part line, rows out of order, and no LF at the end
-        (
-            "\u{FEFF}かん /漢/\nか /蚊/\nか /香/",
-            ";; okuri-ari entries.\n;; okuri-nasi entries.\nか /蚊/\nかん /漢/\n",
-            &[(3, LineReason::Twice)],
-        ),
-        // CR LF, blanks at the end, comments and empty lines
-        (
-            ";c\r\n\r\n;; okuri-ari entries. \r\nおおk /大/ \t\r\n;; okuri-nasi entries.\r\nか /蚊/\r",
-            ";; okuri-ari entries.\nおおk /大/\n;; okuri-nasi entries.\nか /蚊/\n",
-            none,
-        ),
-        // a part that comes again, and one reading in both parts
-        (
-            ";; okuri-ari entries.\nak /a/\nakk /b/\n;; okuri-nasi entries.\nak /c/\n;; okuri-ari entries.\nak /d/\n\
-            く /e\n",
-            ";; okuri-ari entries.\nakk /b/\nak /a/\n;; okuri-nasi entries.\nak /c/\n",
-            &[(7, LineReason::Twice), (8, LineReason::OkuriKey)],
-        ),
-        (
-            ";; -*- mode: fundamental; coding: utf-8 -*-\n;; okuri-ari entries.\n;; okuri-nasi entries.\nあい /愛/\n\
-            か /蚊\n",
-            ";; okuri-ari entries.\n;; okuri-nasi entries.\nあい /愛/\n",
-            &[(5, LineReason::NoSlash)],
-        ),
-    ] {
-        let listed = read_file(alloc, file.as_bytes())?;
-        assert_eq!(rt; print_file(alloc, &listed.book)?.as_str(), printed);
-        assert_eq!(rt; listed.bad.len(), bad.len(), "at {file:?}");
-        for (found, wanted) in listed.bad.as_slice().iter().zip(bad) {
-            assert_eq!(rt; (found.line, found.reason), *wanted, "at {file:?}");
-        }
+    for row in FILES {
+        expect_file(&rt, rt.alloc(), row)?;
     }
-    let fault = read_file(alloc, b";; okuri-nasi entries.\n\xA4\xA2").err();
+    let fault = fault_of(rt.alloc(), b";; okuri-nasi entries.\n\xA4\xA2");
     assert_eq!(rt;
         fault,
         Some(FileFault::NoText(TextFault::NotUtf8 { at: 23 }))

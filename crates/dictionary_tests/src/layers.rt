@@ -200,7 +200,11 @@ fn row(
 ) -> Result<Row, Fail> {
     let cands = cands(alloc, cand_table)?;
     let blocks = blocks(alloc, block_table)?;
-    let hides = texts(alloc, hides)?;
+    row_with(key, cands, blocks, texts(alloc, hides)?)
+}
+
+// The row that has these parts.
+fn row_with(key: RowKey, cands: Cands, blocks: Blocks, hides: Texts) -> Result<Row, Fail> {
     let is_row = is_row(&key, &cands, &blocks, &hides);
     if is_row {
         Ok(Row::new(key, cands, blocks, hides, 0))
@@ -234,35 +238,71 @@ fn expect(rt: &impl Abort, cands: &Cands, table: &[(&str, &str)]) {
     }
 }
 
-fn row_of_many(alloc: Global) -> Result<Row, Fail> {
-    row(
-        alloc,
-        key(alloc, Part::Ari, "おおk")?,
-        &[("大", ""), ("多", "おおい")],
-        &[("く", "多"), ("き", "大"), ("い", "覆")],
-        &[],
-    )
+// The row of a key with okurigana.
+fn ari_row(
+    alloc: Global,
+    cand_table: &[(&str, &str)],
+    block_table: &[(&str, &str)],
+    hides: &[&str],
+) -> Result<Row, Fail> {
+    let key = key(alloc, Part::Ari, "おおk")?;
+    row(alloc, key, cand_table, block_table, hides)
 }
+
+// The row of a key with a word.
+fn word_row(alloc: Global, part: Part, reading: &str) -> Result<Row, Fail> {
+    let key = key(alloc, part, reading)?;
+    row(alloc, key, &[("下", "")], &[], &[])
+}
+
+// The row of a key that hides that word.
+fn hiding_row(alloc: Global, reading: &str) -> Result<Row, Fail> {
+    let key = key(alloc, Part::Nasi, reading)?;
+    row(alloc, key, &[], &[], &["下"])
+}
+
+// The candidates of a row of many, and its blocks.
+const MANY: [(&str, &str); 2] = [("大", ""), ("多", "おおい")];
+
+const BLOCKS: [(&str, &str); 3] = [("く", "多"), ("き", "大"), ("い", "覆")];
+
+// An okurigana, which none stands for where it is empty, and the candidates of that row in their order for it.
+const IN_ORDER: [(&str, &[(&str, &str)]); 5] = [
+    ("く", &[("多", "おおい"), ("大", "")]),
+    ("き", &[("大", ""), ("多", "おおい")]),
+    ("い", &[("覆", ""), ("大", ""), ("多", "おおい")]),
+    ("た", &[("大", ""), ("多", "おおい")]),
+    ("", &[("大", ""), ("多", "おおい")]),
+];
 
 #[test]
 fn words_of_a_block_stand_first(rt: HostRuntime) -> Result<(), Fail> {
-    let alloc = rt.alloc();
-    let row = row_of_many(alloc)?;
-    for (okuri, table) in [
-        ("く", [("多", "おおい"), ("大", "")].as_slice()),
-        ("き", &[("大", ""), ("多", "おおい")]),
-        ("い", &[("覆", ""), ("大", ""), ("多", "おおい")]),
-        ("た", &[("大", ""), ("多", "おおい")]),
-    ] {
-        let okuri = Okuri::new(text(alloc, okuri)?)?;
-        expect(&rt, &cands_in_order(alloc, &row, Some(&okuri))?, table);
+    let row = ari_row(rt.alloc(), &MANY, &BLOCKS, &[])?;
+    for (okuri, table) in &IN_ORDER {
+        expect_order(&rt, rt.alloc(), &row, okuri, table)?;
     }
-    expect(
-        &rt,
-        &cands_in_order(alloc, &row, None)?,
-        &[("大", ""), ("多", "おおい")],
-    );
     Ok(())
+}
+
+fn expect_order<R: Abort>(
+    rt: &R,
+    alloc: Global,
+    row: &Row,
+    okuri: &str,
+    table: &[(&str, &str)],
+) -> Result<(), Fail> {
+    let cands = cands_for(alloc, row, okuri)?;
+    expect(rt, &cands, table);
+    Ok(())
+}
+
+// The candidates of a row in their order for an okurigana, where there is one.
+fn cands_for(alloc: Global, row: &Row, okuri: &str) -> Result<Cands, Fail> {
+    if okuri.is_empty() {
+        return Ok(cands_in_order(alloc, row, None)?);
+    }
+    let okuri = Okuri::new(text(alloc, okuri)?)?;
+    Ok(cands_in_order(alloc, row, Some(&okuri))?)
 }
 
 // The candidates of two layers for an okurigana: of a row that hides words, and of one with a block.
@@ -273,14 +313,8 @@ fn cands_of_two_layers(
     hides: &[&str],
     lower: &[(&str, &str)],
 ) -> Result<DistinctCands, Fail> {
-    let hiding = row(alloc, key(alloc, Part::Ari, "おおk")?, upper, &[], hides)?;
-    let blocked = row(
-        alloc,
-        key(alloc, Part::Ari, "おおk")?,
-        lower,
-        &[("く", "多")],
-        &[],
-    )?;
+    let hiding = ari_row(alloc, upper, &[], hides)?;
+    let blocked = ari_row(alloc, lower, &[("く", "多")], &[])?;
     both(alloc, &hiding, &blocked, okuri)
 }
 
@@ -325,52 +359,58 @@ fn blocks_of_lower_layers_count(rt: HostRuntime) -> Result<(), Fail> {
 fn file(alloc: Global, table: &[(Part, &str)], hiding: &str) -> Result<Book, Fail> {
     let mut rows = Rows::new(alloc);
     for (part, reading) in table {
-        rows.push(row(alloc, key(alloc, *part, reading)?, &[("下", "")], &[], &[])?)?;
+        rows.push(word_row(alloc, *part, reading)?)?;
     }
-    rows.push(row(alloc, key(alloc, Part::Nasi, hiding)?, &[], &[], &["下"])?)?;
+    rows.push(hiding_row(alloc, hiding)?)?;
     book(rows)
 }
 
+const FILE_KEYS: [(Part, &str); 8] = [
+    (Part::Nasi, "ちょう>"),
+    (Part::Ari, "おおk"),
+    (Part::Nasi, "p#"),
+    (Part::Nasi, "かんじ"),
+    (Part::Ari, "うごk"),
+    (Part::Nasi, "125"),
+    (Part::Nasi, "#ねん"),
+    (Part::Ari, "いt"),
+];
+
 fn system(alloc: Global) -> Result<System, Fail> {
     let mut books = Books::new(alloc);
-    books.push(file(
-        alloc,
-        &[
-            (Part::Nasi, "ちょう>"),
-            (Part::Ari, "おおk"),
-            (Part::Nasi, "p#"),
-            (Part::Nasi, "かんじ"),
-            (Part::Ari, "うごk"),
-            (Part::Nasi, "125"),
-            (Part::Nasi, "#ねん"),
-            (Part::Ari, "いt"),
-        ],
-        "だれ",
-    )?)?;
+    books.push(file(alloc, &FILE_KEYS, "だれ")?)?;
     books.push(file(alloc, &[(Part::Nasi, "かんじ")], "p#")?)?;
     Ok(System::of_books(alloc, books)?)
 }
 
+// A key, and how many rows it has.
+const COUNTS: [(Part, &str, usize); 9] = [
+    (Part::Nasi, "かんじ", 2),
+    (Part::Nasi, "#ねん", 1),
+    (Part::Nasi, "ちょう>", 1),
+    (Part::Nasi, "p#", 2),
+    (Part::Ari, "いt", 1),
+    (Part::Ari, "おおk", 1),
+    (Part::Nasi, "おおk", 0),
+    (Part::Nasi, "か", 0),
+    (Part::Ari, "んz", 0),
+];
+
 #[test]
 fn rows_of_a_key_are_found(rt: HostRuntime) -> Result<(), Fail> {
-    let alloc = rt.alloc();
-    let system = system(alloc)?;
-    for (part, reading, count) in [
-        (Part::Nasi, "かんじ", 2),
-        (Part::Nasi, "#ねん", 1),
-        (Part::Nasi, "ちょう>", 1),
-        (Part::Nasi, "p#", 2),
-        (Part::Ari, "いt", 1),
-        (Part::Ari, "おおk", 1),
-        (Part::Nasi, "おおk", 0),
-        (Part::Nasi, "か", 0),
-        (Part::Ari, "んz", 0),
-    ] {
-        let key = key(alloc, part, reading)?;
-        let found = system.find(alloc, &key)?;
-        assert_eq!(rt; found.len(), count, "at {reading}");
+    let system = system(rt.alloc())?;
+    for (part, reading, count) in &COUNTS {
+        let found = count_of(rt.alloc(), &system, *part, reading)?;
+        assert_eq!(rt; found, *count, "at {reading}");
     }
     Ok(())
+}
+
+// How many rows of a key a system has.
+fn count_of(alloc: Global, system: &System, part: Part, reading: &str) -> Result<usize, Fail> {
+    let key = key(alloc, part, reading)?;
+    let found = system.find(alloc, &key)?;
+    Ok(found.len())
 }
 
 // The next reading of a file above another is this one, or there is none and this is empty.
@@ -392,22 +432,24 @@ fn expect_next(
     Ok(())
 }
 
+// A file, a reading, and the next one.
+const NEXT: [(usize, &str, &str); 9] = [
+    (0, "", "#ねん"),
+    (0, "#ねん", "125"),
+    (0, "125", "p#"),
+    (0, "p#", "かんじ"),
+    (0, "か", "かんじ"),
+    (0, "かんじ", "ちょう>"),
+    (0, "ちょう>", ""),
+    (1, "", "かんじ"),
+    (1, "かんじ", ""),
+];
+
 #[test]
 fn readings_are_gone_over(rt: HostRuntime) -> Result<(), Fail> {
-    let alloc = rt.alloc();
-    let system = system(alloc)?;
-    for (file, low, wanted) in [
-        (0, "", "#ねん"),
-        (0, "#ねん", "125"),
-        (0, "125", "p#"),
-        (0, "p#", "かんじ"),
-        (0, "か", "かんじ"),
-        (0, "かんじ", "ちょう>"),
-        (0, "ちょう>", ""),
-        (1, "", "かんじ"),
-        (1, "かんじ", ""),
-    ] {
-        expect_next(&rt, alloc, &system, file, low, wanted)?;
+    let system = system(rt.alloc())?;
+    for (file, low, wanted) in &NEXT {
+        expect_next(&rt, rt.alloc(), &system, *file, low, wanted)?;
     }
     Ok(())
 }

@@ -203,22 +203,24 @@ impl Desk {
 
     fn run_lines(&mut self, rt: &impl Abort, alloc: Global, script: &str) -> Result<(), Fail> {
         for line in script.trim().lines() {
-            let (command, wanted) = line.split_once('=').ok_or("no `=`")?;
-            let told = self.run(alloc, &parts(command))?;
-            assert_eq!(rt; told.as_str(), wanted.trim(), "at {line}");
+            self.run_line(rt, alloc, line)?;
         }
+        Ok(())
+    }
+
+    fn run_line(&mut self, rt: &impl Abort, alloc: Global, line: &str) -> Result<(), Fail> {
+        let (command, wanted) = line.split_once('=').ok_or("no `=`")?;
+        let told = self.run(alloc, &parts(command))?;
+        assert_eq!(rt; told.as_str(), wanted.trim(), "at {line}");
         Ok(())
     }
 
     // Runs a command, and gives what it tells.
     fn run(&mut self, alloc: Global, line: &Line) -> Result<String, Fail> {
         match line.command {
-            "learn" => self.learn(alloc, line),
-            "purge" => self.purge(alloc, line),
+            "learn" | "purge" | "find" | "complete" => self.ask_line(alloc, line),
             "forge" => self.forge(alloc, line),
             "unlearn" => self.unlearn(alloc, line.number),
-            "find" => self.find(alloc, line),
-            "complete" => self.complete(alloc, line),
             "file" => self.file(alloc, line),
             "block" => self.block(alloc, line),
             "put" => self.put(alloc, line),
@@ -229,16 +231,28 @@ impl Desk {
         }
     }
 
+    // Asks the call of a line.
+    fn ask_line(&mut self, alloc: Global, line: &Line) -> Result<String, Fail> {
+        let call = call_of(alloc, line)?;
+        self.ask(alloc, call)
+    }
+
     // Asks a call, tells its reply, and keeps what was learnt.
     fn ask(&mut self, alloc: Global, call: Call) -> Result<String, Fail>
         requires { is_fit call ≡ true }
     {
         let reply = self.reply(alloc, call)?;
         let told = reply_text(alloc, &reply)?;
+        self.keep(reply)?;
+        Ok(told)
+    }
+
+    // Keeps what was learnt, where a reply tells of that.
+    fn keep(&mut self, reply: Reply) -> Result<(), AllocError> {
         if let Some(learned) = learned_of(reply) {
             self.learnings.push(learned)?;
         }
-        Ok(told)
+        Ok(())
     }
 
     // The reply to a call. Calls are let go here alone: each place where one is takes long to prove.
@@ -258,25 +272,6 @@ impl Desk {
         Ok(self.index.apply(plan))
     }
 
-    fn learn(&mut self, alloc: Global, line: &Line) -> Result<String, Fail> {
-        let call = Call::Learn {
-            book: line.number,
-            key: key(alloc, line.reading)?,
-            okuri: okuri(alloc, line.okuri)?,
-            cand: cand(alloc, line.word)?,
-        };
-        self.ask(alloc, call)
-    }
-
-    fn purge(&mut self, alloc: Global, line: &Line) -> Result<String, Fail> {
-        let call = Call::Purge {
-            book: line.number,
-            key: key(alloc, line.reading)?,
-            word: word(alloc, line.word)?,
-        };
-        self.ask(alloc, call)
-    }
-
     // Keeps as learnt what was never learnt.
     fn forge(&mut self, alloc: Global, line: &Line) -> Result<String, Fail> {
         let key = key(alloc, line.reading)?;
@@ -293,23 +288,6 @@ impl Desk {
         }
         let learned = self.learnings.remove(place);
         self.ask(alloc, Call::Unlearn { learned })
-    }
-
-    fn find(&mut self, alloc: Global, line: &Line) -> Result<String, Fail> {
-        let call = Call::Lookup {
-            who: line.number,
-            key: key(alloc, line.reading)?,
-            okuri: okuri(alloc, line.word)?,
-        };
-        self.ask(alloc, call)
-    }
-
-    fn complete(&mut self, alloc: Global, line: &Line) -> Result<String, Fail> {
-        let call = Call::Complete {
-            who: line.number,
-            prefix: text(alloc, line.reading)?,
-        };
-        self.ask(alloc, call)
     }
 
     // Makes a book the one system file, or this and another the two.
@@ -380,6 +358,58 @@ impl Desk {
             _ => Ok(format!(in alloc; "{}", self.index.rows())?),
         }
     }
+}
+
+// The call of a line.
+fn call_of(alloc: Global, line: &Line) -> Result<Call, Fail>
+    ensures { IfOk result (λ call. is_fit call ≡ true) }
+{
+    match line.command {
+        "learn" => learning(alloc, line),
+        "purge" => purging(alloc, line),
+        "find" => finding(alloc, line),
+        _ => completing(alloc, line),
+    }
+}
+
+fn learning(alloc: Global, line: &Line) -> Result<Call, Fail>
+    ensures { IfOk result (λ call. is_fit call ≡ true) }
+{
+    Ok(Call::Learn {
+        book: line.number,
+        key: key(alloc, line.reading)?,
+        okuri: okuri(alloc, line.okuri)?,
+        cand: cand(alloc, line.word)?,
+    })
+}
+
+fn purging(alloc: Global, line: &Line) -> Result<Call, Fail>
+    ensures { IfOk result (λ call. is_fit call ≡ true) }
+{
+    Ok(Call::Purge {
+        book: line.number,
+        key: key(alloc, line.reading)?,
+        word: word(alloc, line.word)?,
+    })
+}
+
+fn finding(alloc: Global, line: &Line) -> Result<Call, Fail>
+    ensures { IfOk result (λ call. is_fit call ≡ true) }
+{
+    Ok(Call::Lookup {
+        who: line.number,
+        key: key(alloc, line.reading)?,
+        okuri: okuri(alloc, line.word)?,
+    })
+}
+
+fn completing(alloc: Global, line: &Line) -> Result<Call, Fail>
+    ensures { IfOk result (λ call. is_fit call ≡ true) }
+{
+    Ok(Call::Complete {
+        who: line.number,
+        prefix: text(alloc, line.reading)?,
+    })
 }
 
 // What a command tells that tells nothing.

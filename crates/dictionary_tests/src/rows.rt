@@ -6,6 +6,7 @@ use dict_rows::{learn_row, line_length, purge_row};
 use skk_calls::{Cand, Okuri, Part, Row, RowKey};
 use skk_text::{Text, Texts};
 use std::alloc::{AllocError, Global};
+use std::process::Abort;
 use std::test::Fail;
 
 // A key; what is learnt, behind a `+`, with its note behind a `|` and its okurigana behind a `*`, and what is purged,
@@ -226,10 +227,15 @@ fn changes_make_rows(rt: HostRuntime) -> Result<(), Fail> {
     let alloc = rt.alloc();
     assert_eq!(rt; CHANGES.trim().lines().count(), 14);
     for line in CHANGES.trim().lines() {
-        let (case, wanted) = line.split_once(" = ").ok_or("no ` = `")?;
-        let shown = row_text_after(alloc, case)?;
-        assert_eq!(rt; shown.as_str(), wanted, "after {case}");
+        expect_row(&rt, alloc, line)?;
     }
+    Ok(())
+}
+
+fn expect_row<R: Abort>(rt: &R, alloc: Global, line: &str) -> Result<(), Fail> {
+    let (case, wanted) = line.split_once(" = ").ok_or("no ` = `")?;
+    let shown = row_text_after(alloc, case)?;
+    assert_eq!(rt; shown.as_str(), wanted, "after {case}");
     Ok(())
 }
 
@@ -238,9 +244,14 @@ fn lines_have_lengths(rt: HostRuntime) -> Result<(), Fail> {
     let alloc = rt.alloc();
     assert_eq!(rt; LENGTHS.trim().lines().count(), 9);
     for line in LENGTHS.trim().lines() {
-        let (case, wanted) = line.split_once(" = ").ok_or("no ` = `")?;
-        let wanted: u64 = wanted.parse()?;
-        assert_eq!(rt; length_after(alloc, case)?, wanted, "after {case}");
+        expect_length(&rt, alloc, line)?;
     }
+    Ok(())
+}
+
+fn expect_length<R: Abort>(rt: &R, alloc: Global, line: &str) -> Result<(), Fail> {
+    let (case, wanted) = line.split_once(" = ").ok_or("no ` = `")?;
+    let wanted: u64 = wanted.parse()?;
+    assert_eq!(rt; length_after(alloc, case)?, wanted, "after {case}");
     Ok(())
 }

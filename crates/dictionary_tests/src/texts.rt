@@ -57,17 +57,19 @@ fn keys_are_printed_as_they_are_read(rt: HostRuntime) -> Result<(), Fail> {
     Ok(())
 }
 
+const FAULTS: &[(&[u8], KeyFault)] = &[
+    (b"ab<x>\t", KeyFault::BadName { at: 2 }),
+    (b"<lt", KeyFault::BadName { at: 0 }),
+    (b"<LT>", KeyFault::BadName { at: 0 }),
+    (b"<lt>\t<", KeyFault::NotAscii { at: 4 }),
+    (b"a\x7F", KeyFault::NotAscii { at: 1 }),
+    (b"a\x80", KeyFault::NotAscii { at: 1 }),
+];
+
 #[test]
 fn key_text_is_read_up_to_its_first_fault(rt: HostRuntime) -> Result<(), Fail> {
-    for (bytes, fault) in [
-        (b"ab<x>\t".as_slice(), KeyFault::BadName { at: 2 }),
-        (b"<lt".as_slice(), KeyFault::BadName { at: 0 }),
-        (b"<LT>".as_slice(), KeyFault::BadName { at: 0 }),
-        (b"<lt>\t<".as_slice(), KeyFault::NotAscii { at: 4 }),
-        (b"a\x7F".as_slice(), KeyFault::NotAscii { at: 1 }),
-        (b"a\x80".as_slice(), KeyFault::NotAscii { at: 1 }),
-    ] {
-        assert_eq!(rt; read_keys(rt.alloc(), bytes).err(), Some(fault));
+    for (bytes, fault) in FAULTS {
+        assert_eq!(rt; read_keys(rt.alloc(), bytes).err(), Some(*fault));
     }
     Ok(())
 }

@@ -2,23 +2,59 @@ use crate::journals::text;
 use skk_disk::{Disk, FileDisk, MadeCall, MemDisk, Which};
 use skk_outside::Failed;
 use std::alloc::{AllocError, Global};
-use std::fs;
+use std::fs::{self, Files};
+use std::os::unix::fs::FileExt;
 use std::process::Abort;
 use std::test::Fail;
 
-// What a read of a file from a place on gives, with all of the buffer then, which was dots.
-type Reading = (Which, u64, Result<usize, Failed>, &'static str);
+// A call of a disk and its answer. Of a read there is the place that is read from, and behind the answer all of the
+// buffer then, which was dots.
+#[derive(Clone, Copy, Debug)]
+enum Step<'a> {
+    Len(Which, Result<u64, Failed>),
+    Read(Which, u64, Result<usize, Failed>, &'a str),
+    Write(Which, u64, &'a str, Result<(), Failed>),
+    Cut(Which, u64, Result<(), Failed>),
+    Sync(Which, Result<(), Failed>),
+}
 
-fn expect_read<R: Abort, D: Disk>(
+// Makes calls of a disk one after another. What its answers say besides is none of a test's business, and a call that
+// stands alone is proved in a moment.
+fn expect_steps<R: Abort, D: Disk>(
     rt: &R,
     alloc: Global,
     disk: &mut D,
-    reading: &Reading,
+    steps: &[Step],
 ) -> Result<(), AllocError> {
-    let (file, at, answer, left) = *reading;
-    let mut into = vec![in alloc; b'.'; left.len()]?;
-    assert_eq!(rt; disk.read_at(file, at, &mut into), answer, "{reading:?}");
-    assert_eq!(rt; into.as_slice(), left.as_bytes(), "{reading:?}");
+    for step in steps {
+        expect_step(rt, alloc, disk, *step)?;
+    }
+    Ok(())
+}
+
+fn expect_step<R: Abort, D: Disk>(
+    rt: &R,
+    alloc: Global,
+    disk: &mut D,
+    step: Step,
+) -> Result<(), AllocError> {
+    match step {
+        Step::Len(file, answer) => assert_eq!(rt; disk.len(file), answer, "{step:?}"),
+        Step::Read(file, at, answer, left) => {
+            let mut into = vec![in alloc; b'.'; left.len()]?;
+            assert_eq!(rt; disk.read_at(file, at, &mut into), answer, "{step:?}");
+            assert_eq!(rt; into.as_slice(), left.as_bytes(), "{step:?}");
+        }
+        Step::Write(file, at, from, answer) => {
+            assert_eq!(rt;
+                disk.write_at(file, at, from.as_bytes()),
+                answer,
+                "{step:?}"
+            );
+        }
+        Step::Cut(file, len, answer) => assert_eq!(rt; disk.cut(file, len), answer, "{step:?}"),
+        Step::Sync(file, answer) => assert_eq!(rt; disk.sync(file), answer, "{step:?}"),
+    }
     Ok(())
 }
 
@@ -39,52 +75,51 @@ fn records_what_failed(made: &[MadeCall]) -> bool {
     )
 }
 
+const FAILING: &[Step<'static>] = &[
+    Step::Write(Which::A, 0, "abc", Ok(())),
+    Step::Write(Which::A, 1, "xyz", Err(Failed)),
+    Step::Len(Which::A, Ok(3)),
+    Step::Cut(Which::A, 1, Err(Failed)),
+    Step::Sync(Which::A, Ok(())),
+    Step::Sync(Which::A, Err(Failed)),
+    Step::Read(Which::A, 0, Ok(3), "abc."),
+    Step::Read(Which::A, 0, Err(Failed), "."),
+    Step::Len(Which::B, Ok(0)),
+    Step::Len(Which::A, Err(Failed)),
+];
+
 #[test]
 fn a_disk_in_memory_fails_at_the_calls_that_are_to_fail(rt: HostRuntime) -> Result<(), Fail> {
     let alloc = rt.alloc();
     let mut disk = MemDisk::new(alloc, vec![in alloc; 2, 4, 6, 8, 10]?);
-    assert_eq!(rt; disk.write_at(Which::A, 0, b"abc"), Ok(()));
-    assert_eq!(rt; disk.write_at(Which::A, 1, b"xyz"), Err(Failed));
-    assert_eq!(rt; disk.len(Which::A), Ok(3));
-    assert_eq!(rt; disk.cut(Which::A, 1), Err(Failed));
-    assert_eq!(rt; disk.sync(Which::A), Ok(()));
-    assert_eq!(rt; disk.sync(Which::A), Err(Failed));
-    expect_read(&rt, alloc, &mut disk, &(Which::A, 0, Ok(3), "abc."))?;
-    expect_read(&rt, alloc, &mut disk, &(Which::A, 0, Err(Failed), "."))?;
-    assert_eq!(rt; disk.len(Which::B), Ok(0));
-    assert_eq!(rt; disk.len(Which::A), Err(Failed));
+    expect_steps(&rt, alloc, &mut disk, FAILING)?;
     assert!(rt; records_what_failed(disk.made()));
     Ok(())
 }
 
-// Calls that change the first file, and what a read of it from its second byte on gives afterwards.
-fn change_first_file<R: Abort, D: Disk>(
-    rt: &R,
-    alloc: Global,
-    disk: &mut D,
-) -> Result<(), AllocError> {
-    assert_eq!(rt; disk.write_at(Which::A, 2, b"abcd"), Ok(()));
-    expect_read(rt, alloc, disk, &(Which::A, 1, Ok(5), "\0abcd."))?;
-    assert_eq!(rt; disk.write_at(Which::A, 3, b"xy"), Ok(()));
-    expect_read(rt, alloc, disk, &(Which::A, 1, Ok(4), "\0axy"))?;
-    assert_eq!(rt; disk.cut(Which::A, 9), Ok(()));
-    assert_eq!(rt; disk.len(Which::A), Ok(6));
-    assert_eq!(rt; disk.cut(Which::A, 4), Ok(()));
-    expect_read(rt, alloc, disk, &(Which::A, 1, Ok(3), "\0ax."))?;
-    expect_read(rt, alloc, disk, &(Which::A, 4, Ok(0), "."))?;
-    expect_read(rt, alloc, disk, &(Which::A, 1 << 40, Ok(0), "."))?;
-    assert_eq!(rt; disk.write_at(Which::A, 1, b""), Ok(()));
-    assert_eq!(rt; disk.write_at(Which::A, 6, b""), Ok(()));
-    expect_read(rt, alloc, disk, &(Which::A, 3, Ok(3), "x\0\0."))?;
-    assert_eq!(rt; disk.sync(Which::A), Ok(()));
-    assert_eq!(rt; disk.len(Which::B), Ok(0));
-    Ok(())
-}
+// Changes of the first file, and what a read of it from its second byte on gives afterwards.
+const CHANGES: &[Step<'static>] = &[
+    Step::Write(Which::A, 2, "abcd", Ok(())),
+    Step::Read(Which::A, 1, Ok(5), "\0abcd."),
+    Step::Write(Which::A, 3, "xy", Ok(())),
+    Step::Read(Which::A, 1, Ok(4), "\0axy"),
+    Step::Cut(Which::A, 9, Ok(())),
+    Step::Len(Which::A, Ok(6)),
+    Step::Cut(Which::A, 4, Ok(())),
+    Step::Read(Which::A, 1, Ok(3), "\0ax."),
+    Step::Read(Which::A, 4, Ok(0), "."),
+    Step::Read(Which::A, 1 << 40, Ok(0), "."),
+    Step::Write(Which::A, 1, "", Ok(())),
+    Step::Write(Which::A, 6, "", Ok(())),
+    Step::Read(Which::A, 3, Ok(3), "x\0\0."),
+    Step::Sync(Which::A, Ok(())),
+    Step::Len(Which::B, Ok(0)),
+];
 
 #[test]
 fn a_disk_in_memory_is_written_cut_and_read(rt: HostRuntime) -> Result<(), Fail> {
     let mut disk = MemDisk::new(rt.alloc(), Vec::new(rt.alloc()));
-    change_first_file(&rt, rt.alloc(), &mut disk)?;
+    expect_steps(&rt, rt.alloc(), &mut disk, CHANGES)?;
     let written = matches!(
         disk.made(),
         [
@@ -100,32 +135,64 @@ fn a_disk_in_memory_is_written_cut_and_read(rt: HostRuntime) -> Result<(), Fail>
     Ok(())
 }
 
+// Makes calls of the disk that two files of the system are.
+fn expect_files<R: Abort + Files>(
+    rt: &R,
+    alloc: Global,
+    a: &str,
+    b: &str,
+    steps: &[Step],
+) -> Result<(), AllocError>
+where
+    R::File: FileExt,
+{
+    let a = text(alloc, a)?;
+    let mut disk = FileDisk::new(rt, a, text(alloc, b)?);
+    expect_steps(rt, alloc, &mut disk, steps)
+}
+
 const FOLDER: &str = "learned_tests_disk";
+
+const WRITTEN: &[Step<'static>] = &[
+    Step::Read(Which::A, 0, Ok(6), "\0\0ax\0\0."),
+    Step::Len(Which::B, Err(Failed)),
+    Step::Sync(Which::B, Err(Failed)),
+];
+
+const SHUT: &[Step<'static>] = &[
+    Step::Write(Which::A, 0, "x", Err(Failed)),
+    Step::Sync(Which::A, Err(Failed)),
+];
+
+const FULL: &[Step<'static>] = &[
+    Step::Write(Which::A, 0, "x", Err(Failed)),
+    Step::Write(Which::A, 0, "", Ok(())),
+];
 
 #[test]
 fn files_of_the_system_are_a_disk(rt: HostRuntime) -> Result<(), Fail> {
-    let alloc = rt.alloc();
     // One that an earlier run left, which was stopped.
     let _ = fs::remove_dir_all(&rt, FOLDER);
     fs::create_dir(&rt, FOLDER)?;
-    let a = text(alloc, "learned_tests_disk/a")?;
-    let mut disk = FileDisk::new(&rt, a, text(alloc, "learned_tests_disk/b")?);
-    change_first_file(&rt, alloc, &mut disk)?;
+    expect_files(
+        &rt,
+        rt.alloc(),
+        "learned_tests_disk/a",
+        "learned_tests_disk/b",
+        CHANGES,
+    )?;
     // Another one finds in it what was written; its second file is in a folder that is not there.
-    let a = text(alloc, "learned_tests_disk/a")?;
-    let mut again = FileDisk::new(&rt, a, text(alloc, "learned_tests_disk/no/b")?);
-    expect_read(&rt, alloc, &mut again, &(Which::A, 0, Ok(6), "\0\0ax\0\0."))?;
-    assert_eq!(rt; again.len(Which::B), Err(Failed));
-    assert_eq!(rt; again.sync(Which::B), Err(Failed));
+    expect_files(
+        &rt,
+        rt.alloc(),
+        "learned_tests_disk/a",
+        "learned_tests_disk/no/b",
+        WRITTEN,
+    )?;
     // A folder in which nothing can be made.
-    let a = text(alloc, "/proc/learned_tests_a")?;
-    let mut shut = FileDisk::new(&rt, a, text(alloc, "/dev/null")?);
-    assert_eq!(rt; shut.write_at(Which::A, 0, b"x"), Err(Failed));
-    assert_eq!(rt; shut.sync(Which::A), Err(Failed));
+    expect_files(&rt, rt.alloc(), "/proc/learned_tests_a", "/dev/null", SHUT)?;
     // A device that is full.
-    let mut full = FileDisk::new(&rt, text(alloc, "/dev/full")?, text(alloc, "/dev/null")?);
-    assert_eq!(rt; full.write_at(Which::A, 0, b"x"), Err(Failed));
-    assert_eq!(rt; full.write_at(Which::A, 0, b""), Ok(()));
+    expect_files(&rt, rt.alloc(), "/dev/full", "/dev/null", FULL)?;
     fs::remove_dir_all(&rt, FOLDER)?;
     Ok(())
 }

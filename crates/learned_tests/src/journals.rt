@@ -27,10 +27,20 @@ pub(crate) fn disk_of<R: Abort>(
 ) -> Result<MemDisk, AllocError> {
     let mut disk = MemDisk::new(alloc, fails.to_vec(alloc)?);
     if !bytes.is_empty() {
-        assert_eq!(rt; disk.write_at(Which::A, 0, bytes), Ok(()));
-        assert_eq!(rt; disk.sync(Which::A), Ok(()));
+        write(rt, &mut disk, 0, bytes);
+        sync(rt, &mut disk);
     }
     Ok(disk)
+}
+
+// Writes bytes at a place of the first file of a disk.
+fn write<R: Abort, D: Disk>(rt: &R, disk: &mut D, at: u64, bytes: &[u8]) {
+    assert_eq!(rt; disk.write_at(Which::A, at, bytes), Ok(()));
+}
+
+// Syncs the first file of a disk.
+fn sync<R: Abort, D: Disk>(rt: &R, disk: &mut D) {
+    assert_eq!(rt; disk.sync(Which::A), Ok(()));
 }
 
 // Tells that the first file of a disk has these bytes.
@@ -55,19 +65,32 @@ fn expect_records<R: Abort>(rt: &R, records: &Records, expected: &[(u64, &[u8])]
     }
 }
 
-// Opens the learned file of a disk, which has these records.
-fn open<R: Abort, D: Disk + Drop>(
-    rt: &R,
-    alloc: Global,
-    disk: D,
-    expected: &[(u64, &[u8])],
-) -> Result<Journal<D>, Fail> {
-    match Journal::open(alloc, disk) {
-        Ok((journal, records)) => {
-            expect_records(rt, &records, expected);
-            Ok(journal)
+// What is asked of a journal, and its answer: to add a record within a limit, to repair what is in doubt, where its
+// records end, and whether one is in doubt.
+#[derive(Clone, Copy, Debug)]
+enum Step<'a> {
+    Append(u64, &'a [u8], Result<(), AppendFault>),
+    Repair(Result<(), Failed>),
+    End(u64),
+    InDoubt(bool),
+}
+
+// Asks a journal one step after another. Each stands in a call of its own that tells its caller nothing, so that the
+// proof of a test carries nothing from step to step.
+fn expect_steps<R: Abort, D: Disk>(rt: &R, journal: &mut Journal<D>, steps: &[Step]) {
+    for step in steps {
+        expect_step(rt, journal, *step);
+    }
+}
+
+fn expect_step<R: Abort, D: Disk>(rt: &R, journal: &mut Journal<D>, step: Step) {
+    match step {
+        Step::Append(limit, payload, answer) => {
+            assert_eq!(rt; append(rt, journal, limit, payload), answer, "{step:?}");
         }
-        Err(unopened) => Err(Fail::new(unopened.why)),
+        Step::Repair(answer) => assert_eq!(rt; journal.repair(), answer, "{step:?}"),
+        Step::End(end) => assert_eq!(rt; journal.end(), end, "{step:?}"),
+        Step::InDoubt(doubt) => assert_eq!(rt; journal.in_doubt(), doubt, "{step:?}"),
     }
 }
 
@@ -84,26 +107,60 @@ fn append<R: Abort, D: Disk>(
     journal.append(limit, payload)
 }
 
+// Opens the learned file of a disk, which has these records, asks steps of it, and gives the disk back.
+fn expect_journal<R: Abort, D: Disk + Drop>(
+    rt: &R,
+    alloc: Global,
+    disk: D,
+    records: &[(u64, &[u8])],
+    steps: &[Step],
+) -> Result<D, Fail> {
+    let mut journal = open(rt, alloc, disk, records)?;
+    expect_steps(rt, &mut journal, steps);
+    Ok(journal.close())
+}
+
+// Opens the learned file of a disk, which has these records.
+fn open<R: Abort, D: Disk + Drop>(
+    rt: &R,
+    alloc: Global,
+    disk: D,
+    expected: &[(u64, &[u8])],
+) -> Result<Journal<D>, Fail> {
+    match Journal::open(alloc, disk) {
+        Ok((journal, records)) => {
+            expect_records(rt, &records, expected);
+            Ok(journal)
+        }
+        Err(unopened) => Err(Fail::new(unopened.why)),
+    }
+}
+
+// The disk of a learned file that is not opened, and why.
+fn unopened<D: Disk + Drop>(alloc: Global, disk: D) -> Option<Unopened<D>> {
+    Journal::open(alloc, disk).err()
+}
+
 #[test]
 fn an_empty_file_is_made_anew_and_a_record_is_its_bytes(rt: HostRuntime) -> Result<(), Fail> {
     let alloc = rt.alloc();
-    let disk = disk_of(&rt, alloc, b"", &[])?;
-    let mut journal = open(&rt, alloc, disk, &[])?;
-    assert_eq!(rt; journal.end(), 18);
     let full = AppendFault::Full {
         end: 18,
         need: 43,
         limit: 60,
     };
-    assert_eq!(rt; append(&rt, &mut journal, 60, LEARNING), Err(full));
-    assert_eq!(rt; append(&rt, &mut journal, 61, LEARNING), Ok(()));
-    assert_eq!(rt; journal.end(), 61);
-    let mut disk = journal.close();
+    let steps = [
+        Step::End(18),
+        Step::Append(60, LEARNING, Err(full)),
+        Step::Append(61, LEARNING, Ok(())),
+        Step::End(61),
+    ];
+    let disk = disk_of(&rt, alloc, b"", &[])?;
+    let mut disk = expect_journal(&rt, alloc, disk, &[], &steps)?;
     assert_eq!(rt; disk.made().len(), 12);
     expect_file(&rt, alloc, &mut disk, LEARNT_FILE)?;
-    let journal = open(&rt, alloc, disk, &[(17, LEARNING)])?;
-    assert_eq!(rt; journal.end(), 61);
-    assert!(rt; !journal.in_doubt());
+    let steps = [Step::End(61), Step::InDoubt(false)];
+    expect_journal(&rt, alloc, disk, &[(17, LEARNING)], &steps)?;
     Ok(())
 }
 
@@ -119,26 +176,36 @@ enum Row {
 
 // Opens a file, and tells that a file that is refused, or has records, is the same afterwards.
 fn expect_row<R: Abort>(rt: &R, alloc: Global, bytes: &[u8], row: Row) -> Result<(), Fail> {
+    let left = match row {
+        Row::Anew => NEW_FILE,
+        _ => bytes,
+    };
     let disk = disk_of(rt, alloc, bytes, &[])?;
-    let mut disk = match (Journal::open(alloc, disk), row) {
-        (Ok((journal, records)), Row::Anew) => {
-            assert!(rt; records.is_empty());
-            let mut disk = journal.close();
-            expect_file(rt, alloc, &mut disk, NEW_FILE)?;
-            return Ok(());
-        }
-        (Ok((journal, records)), Row::Records(expected)) => {
-            expect_records(rt, &records, expected);
+    let mut disk = opened_as(rt, alloc, disk, row);
+    expect_file(rt, alloc, &mut disk, left)?;
+    Ok(())
+}
+
+// The disk of a learned file that is opened as a row has it.
+fn opened_as<R: Abort, D: Disk + Drop>(rt: &R, alloc: Global, disk: D, row: Row) -> D {
+    match Journal::open(alloc, disk) {
+        Ok((journal, records)) => {
+            expect_opened(rt, &records, row);
             journal.close()
         }
-        (Err(Unopened { disk, why }), row) => {
+        Err(Unopened { disk, why }) => {
             expect_fault(rt, &why, row);
             disk
         }
-        _ => return Err(Fail::new(format_args!("{row:?} is opened"))),
-    };
-    expect_file(rt, alloc, &mut disk, bytes)?;
-    Ok(())
+    }
+}
+
+fn expect_opened<R: Abort>(rt: &R, records: &Records, row: Row) {
+    match row {
+        Row::Anew => expect_records(rt, records, &[]),
+        Row::Records(expected) => expect_records(rt, records, expected),
+        _ => assert!(rt; false, "{row:?} is opened"),
+    }
 }
 
 fn expect_fault<R: Abort>(rt: &R, why: &OpenFault, row: Row) {
@@ -218,44 +285,58 @@ fn records_of_any_length_are_read_part_by_part(rt: HostRuntime) -> Result<(), Fa
     let longest = vec![in alloc; b'a'; PAYLOAD_LIMIT]?;
     assert_eq!(rt; longest.len(), 131_072);
     let long = vec![in alloc; 1; 70_000]?;
-    let disk = disk_of(&rt, alloc, b"", &[])?;
-    let mut journal = open(&rt, alloc, disk, &[])?;
-    let payloads: &[&[u8]] = &[b"x", &longest, &long, &long, b"y", &longest, b"z"];
-    for payload in payloads {
-        assert_eq!(rt; append(&rt, &mut journal, 1 << 28, payload), Ok(()));
-    }
-    assert_eq!(rt; journal.end(), 402_200);
+    expect_lengths(&rt, alloc, &longest, &long)
+}
+
+fn expect_lengths<R: Abort>(
+    rt: &R,
+    alloc: Global,
+    longest: &[u8],
+    long: &[u8],
+) -> Result<(), Fail> {
+    const LIMIT: u64 = 1 << 28;
+    let steps = [
+        Step::Append(LIMIT, b"x", Ok(())),
+        Step::Append(LIMIT, longest, Ok(())),
+        Step::Append(LIMIT, long, Ok(())),
+        Step::Append(LIMIT, long, Ok(())),
+        Step::Append(LIMIT, b"y", Ok(())),
+        Step::Append(LIMIT, longest, Ok(())),
+        Step::Append(LIMIT, b"z", Ok(())),
+        Step::End(402_200),
+    ];
     let expected: &[(u64, &[u8])] = &[
         (17, b"x"),
-        (23, &longest),
-        (131_100, &long),
-        (201_105, &long),
+        (23, longest),
+        (131_100, long),
+        (201_105, long),
         (271_110, b"y"),
-        (271_116, &longest),
+        (271_116, longest),
         (402_193, b"z"),
     ];
-    let mut disk = journal.close();
-    open(&rt, alloc, disk, expected)?;
-    // One byte too many.
-    disk = disk_of(&rt, alloc, &NEW_FILE[..17], &[])?;
-    assert_eq!(rt; disk.write_at(Which::A, 17, b"\x01\x01\0\x02\0"), Ok(()));
-    assert_eq!(rt; disk.write_at(Which::A, 22, &longest), Ok(()));
-    assert_eq!(rt; disk.write_at(Which::A, 22 + 131_072, b"a\0"), Ok(()));
-    let Err(unopened) = Journal::open(alloc, disk) else {
-        return Err(Fail::new("a record that is too long is opened"));
-    };
+    let disk = disk_of(rt, alloc, b"", &[])?;
+    let disk = expect_journal(rt, alloc, disk, &[], &steps)?;
+    expect_journal(rt, alloc, disk, expected, &[])?;
+    Ok(())
+}
+
+#[test]
+fn a_record_may_not_be_one_byte_too_long(rt: HostRuntime) -> Result<(), Fail> {
+    let alloc = rt.alloc();
+    let longest = vec![in alloc; b'a'; 131_072]?;
+    let mut disk = disk_of(&rt, alloc, &NEW_FILE[..17], &[])?;
+    write(&rt, &mut disk, 17, b"\x01\x01\0\x02\0");
+    write(&rt, &mut disk, 22, &longest);
+    write(&rt, &mut disk, 22 + 131_072, b"a\0");
+    let unopened = unopened(alloc, disk).ok_or("a record that is too long is opened")?;
     expect_fault(&rt, &unopened.why, Row::BadRecord(17, &[]));
     Ok(())
 }
 
-// An opened file with one record, the calls of whose disk with these numbers fail: the next call is the eighth.
-fn with_failing_calls<R: Abort>(
-    rt: &R,
-    alloc: Global,
-    fails: &[u64],
-) -> Result<Journal<MemDisk>, Fail> {
-    let disk = disk_of(rt, alloc, LEARNT_FILE, fails)?;
-    open(rt, alloc, disk, &[(17, LEARNING)])
+// A disk whose file has one record, the calls of which with these numbers fail: the first one behind its opening is
+// the eighth.
+fn failing_disk<R: Abort>(rt: &R, alloc: Global, fails: &[u64]) -> Result<MemDisk, AllocError> {
+    disk_of(rt, alloc, LEARNT_FILE, fails)
 }
 
 // What the calls of a disk were, from a number of them on.
@@ -266,86 +347,111 @@ pub(crate) fn kinds<R: Abort>(
 ) -> Result<String, AllocError> {
     let mut kinds = String::new(alloc);
     for call in made {
-        kinds.push(match call {
-            MadeCall::Write { .. } => 'w',
-            MadeCall::TornWrite { .. } => 'W',
-            MadeCall::Cut { .. } => 'c',
-            MadeCall::TornCut { .. } => 'C',
-            MadeCall::Sync { .. } => 's',
-        })?;
+        kinds.push(kind_of(call))?;
     }
     assert!(rt; kinds.len() == made.len());
     Ok(kinds)
 }
 
+fn kind_of(call: &MadeCall) -> char {
+    match call {
+        MadeCall::Write { .. } => 'w',
+        MadeCall::TornWrite { .. } => 'W',
+        MadeCall::Cut { .. } => 'c',
+        MadeCall::TornCut { .. } => 'C',
+        MadeCall::Sync { .. } => 's',
+    }
+}
+
+// Tells what the calls of a disk were.
+fn expect_kinds<R: Abort>(
+    rt: &R,
+    alloc: Global,
+    disk: &MemDisk,
+    wanted: &str,
+) -> Result<(), AllocError> {
+    let kinds = kinds(rt, alloc, disk.made())?;
+    assert_eq!(rt; kinds.as_str(), wanted);
+    Ok(())
+}
+
 #[test]
 fn a_record_whose_calls_fail_is_in_doubt_from_the_third_on(rt: HostRuntime) -> Result<(), Fail> {
-    let alloc = rt.alloc();
-    let rows: &[(u64, bool, &str)] = &[
+    for (call, doubt, made) in [
         (8, false, "wssWwsws"),
         (9, false, "wsswwsws"),
         (10, true, "wsswsWwswsws"),
         (11, true, "wsswswwswsws"),
-    ];
-    for (call, doubt, made) in rows {
-        let mut journal = with_failing_calls(&rt, alloc, &[*call])?;
-        assert_eq!(rt;
-            append(&rt, &mut journal, 1000, b"x"),
-            Err(AppendFault::Disk)
-        );
-        assert_eq!(rt; journal.in_doubt(), *doubt, "call {call}");
-        assert_eq!(rt; journal.end(), 61);
-        assert_eq!(rt; journal.repair(), Ok(()));
-        assert_eq!(rt; append(&rt, &mut journal, 1000, b"y"), Ok(()));
-        let disk = journal.close();
-        assert_eq!(rt;
-            kinds(&rt, alloc, disk.made())?.as_str(),
-            *made,
-            "call {call}"
-        );
-        open(&rt, alloc, disk, &[(17, LEARNING), (60, b"y")])?;
+    ] {
+        expect_doubt(&rt, rt.alloc(), call, doubt, made)?;
     }
+    Ok(())
+}
+
+fn expect_doubt<R: Abort>(
+    rt: &R,
+    alloc: Global,
+    call: u64,
+    doubt: bool,
+    made: &str,
+) -> Result<(), Fail> {
+    let steps = [
+        Step::Append(1000, b"x", Err(AppendFault::Disk)),
+        Step::InDoubt(doubt),
+        Step::End(61),
+        Step::Repair(Ok(())),
+        Step::Append(1000, b"y", Ok(())),
+    ];
+    let disk = failing_disk(rt, alloc, &[call])?;
+    let disk = expect_journal(rt, alloc, disk, &[(17, LEARNING)], &steps)?;
+    expect_kinds(rt, alloc, &disk, made)?;
+    expect_journal(rt, alloc, disk, &[(17, LEARNING), (60, b"y")], &[])?;
     Ok(())
 }
 
 #[test]
 fn a_doubt_stands_until_it_is_repaired(rt: HostRuntime) -> Result<(), Fail> {
     let alloc = rt.alloc();
-    let mut journal = with_failing_calls(&rt, alloc, &[11, 12, 14])?;
-    assert_eq!(rt;
-        append(&rt, &mut journal, 1000, b"x"),
-        Err(AppendFault::Disk)
-    );
-    assert_eq!(rt; journal.repair(), Err(Failed));
-    assert_eq!(rt; journal.repair(), Err(Failed));
-    assert!(rt; journal.in_doubt());
-    assert_eq!(rt; journal.repair(), Ok(()));
-    assert!(rt; !journal.in_doubt());
-    let disk = journal.close();
-    assert_eq!(rt; kinds(&rt, alloc, disk.made())?.as_str(), "wsswswWwws");
-    open(&rt, alloc, disk, &[(17, LEARNING)])?;
+    let steps = [
+        Step::Append(1000, b"x", Err(AppendFault::Disk)),
+        Step::Repair(Err(Failed)),
+        Step::Repair(Err(Failed)),
+        Step::InDoubt(true),
+        Step::Repair(Ok(())),
+        Step::InDoubt(false),
+    ];
+    let disk = failing_disk(&rt, alloc, &[11, 12, 14])?;
+    let disk = expect_journal(&rt, alloc, disk, &[(17, LEARNING)], &steps)?;
+    expect_kinds(&rt, alloc, &disk, "wsswswWwws")?;
+    expect_journal(&rt, alloc, disk, &[(17, LEARNING)], &[])?;
     Ok(())
+}
+
+// Tells that the opening of a file fails at a call of the disk, which it gives back: then the file has these records.
+fn expect_given_back<R: Abort>(
+    rt: &R,
+    alloc: Global,
+    bytes: &[u8],
+    call: u64,
+    records: &[(u64, &[u8])],
+) -> Result<MemDisk, Fail> {
+    let disk = disk_of(rt, alloc, bytes, &[call])?;
+    let Some(Unopened { disk, why }) = unopened(alloc, disk) else {
+        return Err(Fail::new(format_args!("call {call} does not fail")));
+    };
+    assert!(rt; matches!(why, OpenFault::Disk), "call {call}: {why}");
+    expect_journal(rt, alloc, disk, records, &[])
 }
 
 #[test]
 fn an_opening_whose_calls_fail_gives_the_disk_back(rt: HostRuntime) -> Result<(), Fail> {
     let alloc = rt.alloc();
     for call in 1..=9 {
-        let disk = disk_of(&rt, alloc, b"", &[call])?;
-        let Err(Unopened { disk, why }) = Journal::open(alloc, disk) else {
-            return Err(Fail::new(format_args!("call {call} does not fail")));
-        };
-        assert!(rt; matches!(why, OpenFault::Disk), "call {call}: {why}");
-        let mut disk = open(&rt, alloc, disk, &[])?.close();
+        let mut disk = expect_given_back(&rt, alloc, b"", call, &[])?;
         expect_file(&rt, alloc, &mut disk, NEW_FILE)?;
     }
     for call in 3..=7 {
-        let disk = disk_of(&rt, alloc, LEARNT_FILE, &[call])?;
-        let Err(Unopened { disk, why }) = Journal::open(alloc, disk) else {
-            return Err(Fail::new(format_args!("call {call} does not fail")));
-        };
-        assert!(rt; matches!(why, OpenFault::Disk), "call {call}: {why}");
-        open(&rt, alloc, disk, &[(17, LEARNING)])?;
+        expect_given_back(&rt, alloc, LEARNT_FILE, call, &[(17, LEARNING)])?;
     }
     Ok(())
 }
@@ -364,11 +470,20 @@ fn a_file_of_the_system_is_a_journal(rt: HostRuntime) -> Result<(), Fail> {
     fs::create_dir(&rt, FOLDER)?;
     let a = text(alloc, "learned_tests_journal/a")?;
     let disk = FileDisk::new(&rt, a, text(alloc, "learned_tests_journal/b")?);
-    let mut journal = open(&rt, alloc, disk, &[])?;
-    assert_eq!(rt; append(&rt, &mut journal, 1000, LEARNING), Ok(()));
-    let mut disk = journal.close();
-    expect_file(&rt, alloc, &mut disk, LEARNT_FILE)?;
-    open(&rt, alloc, disk, &[(17, LEARNING)])?;
+    expect_learnt_file(&rt, alloc, disk)?;
     fs::remove_dir_all(&rt, FOLDER)?;
+    Ok(())
+}
+
+// Learns in the new file of a disk.
+fn expect_learnt_file<R: Abort, D: Disk + Drop>(
+    rt: &R,
+    alloc: Global,
+    disk: D,
+) -> Result<(), Fail> {
+    let steps = [Step::Append(1000, LEARNING, Ok(()))];
+    let mut disk = expect_journal(rt, alloc, disk, &[], &steps)?;
+    expect_file(rt, alloc, &mut disk, LEARNT_FILE)?;
+    expect_journal(rt, alloc, disk, &[(17, LEARNING)], &[])?;
     Ok(())
 }

@@ -218,7 +218,8 @@ fn a_file_takes_what_its_limit_leaves(rt: HostRuntime) -> Result<(), Fail> {
 fn a_learning_is_a_record(rt: HostRuntime) -> Result<(), Fail> {
     let alloc = rt.alloc();
     let steps = [Step::Learn("かんじ", "漢字")];
-    let mut disk = disk_after(alloc, &[], 64, &steps, &mut String::new(alloc))?;
+    let disk = MemDisk::new(alloc, Vec::new(alloc));
+    let mut disk = disk_after(alloc, disk, 64, &steps, &mut String::new(alloc))?;
     expect_file(&rt, alloc, &mut disk, LEARNT_FILE)?;
     Ok(())
 }
@@ -230,16 +231,27 @@ fn expect_cases<R: Abort>(rt: &R, alloc: Global, cases: &[Case]) -> Result<(), F
     Ok(())
 }
 
-// Asks for the steps of a case over a new file, closes it, and opens it again.
 fn expect_case<R: Abort>(rt: &R, alloc: Global, case: &Case) -> Result<(), Fail> {
-    let (fails, limit, steps, wanted, made) = *case;
-    let mut told = String::new(alloc);
-    let disk = disk_after(alloc, fails, limit, steps, &mut told)?;
-    let calls = kinds(rt, alloc, disk.made())?;
-    assert_eq!(rt; calls.as_str(), made, "at {fails:?} and {limit}");
-    add_lines(&mut told, alloc, disk)?;
-    assert_eq!(rt; told.as_str(), wanted, "at {fails:?} and {limit}");
+    let (fails, limit, _, wanted, made) = *case;
+    let (calls, told) = told_of(rt, alloc, case)?;
+    assert_eq!(rt;
+        (calls.as_str(), told.as_str()),
+        (made, wanted),
+        "at {fails:?} and {limit}"
+    );
     Ok(())
+}
+
+// Asks for the steps of a case over a new file, closes it, and opens it again: the calls of the disk up to then, and
+// what is told.
+fn told_of<R: Abort>(rt: &R, alloc: Global, case: &Case) -> Result<(String, String), Fail> {
+    let (fails, limit, steps, ..) = *case;
+    let disk = MemDisk::new(alloc, fails.to_vec(alloc)?);
+    let mut told = String::new(alloc);
+    let disk = disk_after(alloc, disk, limit, steps, &mut told)?;
+    let calls = kinds(rt, alloc, disk.made())?;
+    add_lines(&mut told, alloc, disk)?;
+    Ok((calls, told))
 }
 
 // The line that the row comes to has exactly 65,535 bytes: the reading and ` /` have 3, each of 15 words 4,096 with
@@ -388,31 +400,30 @@ fn expect_opened<R: Abort>(
 }
 
 // The lines of book 1 of the learned file of a disk, or why that is refused.
-fn opening_text(alloc: Global, disk: MemDisk) -> Result<String, Fail> {
+fn opening_text<D: Disk + Drop>(alloc: Global, disk: D) -> Result<String, Fail> {
     match open_file(alloc, disk, FAR)? {
         Ok(store) => lines(alloc, &store),
         Err(unopened) => Ok(format!(in alloc; "{}", unopened.why)?),
     }
 }
 
-// Opens a new file with a limit, the calls of whose disk with these numbers fail, asks for steps, and closes it.
-fn disk_after(
+// Opens the new file of a disk with a limit, asks for steps, and closes it.
+fn disk_after<D: Disk + Drop>(
     alloc: Global,
-    fails: &[u64],
+    disk: D,
     limit: u64,
     steps: &[Step],
     told: &mut String,
-) -> Result<MemDisk, Fail> {
-    let disk = MemDisk::new(alloc, fails.to_vec(alloc)?);
+) -> Result<D, Fail> {
     let mut store = opened_file(alloc, disk, limit)?;
     ask_each(alloc, &mut store, steps, told)?;
     Ok(store.close())
 }
 
 // Asks for steps one after another, and adds what the answers tell.
-fn ask_each(
+fn ask_each<D: Disk>(
     alloc: Global,
-    store: &mut Store<MemDisk>,
+    store: &mut Store<D>,
     steps: &[Step],
     told: &mut String,
 ) -> Result<(), Fail> {
@@ -424,9 +435,9 @@ fn ask_each(
 }
 
 // Asks for a step, adds what the answer tells, and keeps what was learnt.
-fn ask(
+fn ask<D: Disk>(
     alloc: Global,
-    store: &mut Store<MemDisk>,
+    store: &mut Store<D>,
     step: Step,
     learnings: &mut Vec<Learned>,
     told: &mut String,
@@ -434,6 +445,11 @@ fn ask(
     let call = call_of(alloc, step, learnings)?;
     let answer = answer(alloc, store, call);
     add_answer(told, alloc, &answer)?;
+    keep(learnings, answer)
+}
+
+// Keeps what was learnt, where an answer tells of that.
+fn keep(learnings: &mut Vec<Learned>, answer: Answer) -> Result<(), Fail> {
     if let Some(learned) = learned_of(answer) {
         learnings.push(learned)?;
     }
@@ -441,7 +457,7 @@ fn ask(
 }
 
 // The answer to a call. Calls are let go here alone: each place where one is takes long to prove.
-fn answer(alloc: Global, store: &mut Store<MemDisk>, call: Call) -> Answer
+fn answer<D: Disk>(alloc: Global, store: &mut Store<D>, call: Call) -> Answer
     requires { is_fit call ≡ true }
 {
     answer_to(alloc, store, &call)
@@ -455,11 +471,11 @@ fn answer_to<D: Disk>(alloc: Global, store: &mut Store<D>, call: &Call) -> Answe
 }
 
 // Opens the learned file of a disk over no system files.
-fn open_file(
+fn open_file<D: Disk + Drop>(
     alloc: Global,
-    disk: MemDisk,
+    disk: D,
     limit: u64,
-) -> Result<Result<Store<MemDisk>, Unopened<MemDisk>>, Memory> {
+) -> Result<Result<Store<D>, Unopened<D>>, Memory> {
     let system = System::of_books(alloc, Books::new(alloc))?;
     Ok(open_over(alloc, disk, system, limit))
 }
@@ -475,7 +491,7 @@ fn open_over<D: Disk>(
 }
 
 // Opens the learned file of a disk, which is one.
-fn opened_file(alloc: Global, disk: MemDisk, limit: u64) -> Result<Store<MemDisk>, Fail> {
+fn opened_file<D: Disk + Drop>(alloc: Global, disk: D, limit: u64) -> Result<Store<D>, Fail> {
     match open_file(alloc, disk, limit)? {
         Ok(store) => Ok(store),
         Err(unopened) => Err(Fail::new(unopened.why)),
@@ -483,13 +499,13 @@ fn opened_file(alloc: Global, disk: MemDisk, limit: u64) -> Result<Store<MemDisk
 }
 
 // Adds the lines of book 1 of the learned file of a disk.
-fn add_lines(told: &mut String, alloc: Global, disk: MemDisk) -> Result<(), Fail> {
+fn add_lines<D: Disk + Drop>(told: &mut String, alloc: Global, disk: D) -> Result<(), Fail> {
     let store = opened_file(alloc, disk, FAR)?;
     Ok(told.push_str(&lines(alloc, &store)?)?)
 }
 
 // The lines of book 1, without the part lines.
-fn lines(alloc: Global, store: &Store<MemDisk>) -> Result<String, Fail> {
+fn lines<D: Disk>(alloc: Global, store: &Store<D>) -> Result<String, Fail> {
     let dump = store.dump(alloc, 1)?;
     let lines = dump
         .as_str()

@@ -1,10 +1,13 @@
+ghost use Rattle.std.specs.Prelude.{◌≡◌, true};
+ghost use Rattle.numeric_entries.specs.Numbers.{are_numbers};
+
 use crate::distinct::distinct;
 use candidate_state::{
-    BothFound, CandsDo, Found, Picking, ShownList, press_cands, shown_numbers, shown_plain,
+    BothFound, CandsDo, Found, Picking, Shown, ShownList, press_cands, shown_numbers, shown_plain,
 };
 use numeric_entries::number_key;
 use skk_calls::{Cand, Cands, Part, RowKey};
-use skk_text::{Copies, Notice, Text, read_keys};
+use skk_text::{Copies, Notice, Text, Texts, read_keys};
 use std::alloc::Global;
 use std::process::Abort;
 use std::test::Fail;
@@ -53,44 +56,73 @@ fn picking_after(
 }
 
 // Of so many candidates behind these keys: the place, whether a purge is asked for, and what the last key does.
+const PICKINGS: [(usize, &str, &str); 23] = [
+    (1, " ", "0 false Register"),
+    (1, "x", "0 false Back"),
+    (1, "<cj>", "0 false Choose { place: 0, then: Nothing }"),
+    (4, "   ", "3 false Stay(Empty)"),
+    (4, "    ", "3 false Register"),
+    (4, "  x", "1 false Stay(Empty)"),
+    (4, " <cg>", "1 false Back"),
+    (4, " <bs>", "1 false Choose { place: 1, then: Delete }"),
+    (4, " <ret>", "1 false Choose { place: 1, then: Newline }"),
+    (4, " >", "1 false Choose { place: 1, then: OpenSuffix }"),
+    (
+        4,
+        " k",
+        "1 false Choose { place: 1, then: Read(Char(107)) }",
+    ),
+    (4, " X", "1 true Stay(Empty)"),
+    (4, " XY", "1 false Purge"),
+    (4, " Xx", "1 false Stay(Empty)"),
+    (5, "    ", "4 false Stay(Empty)"),
+    (5, "    a", "4 false Choose { place: 4, then: Nothing }"),
+    (5, "    s", "4 false Stay(NoCandidate)"),
+    (11, "    l", "4 false Choose { place: 10, then: Nothing }"),
+    (11, "     ", "4 false Register"),
+    (12, "     ", "11 false Stay(Empty)"),
+    (12, "     <bs>x", "3 false Stay(Empty)"),
+    (12, "    <cg>", "4 false Back"),
+    (12, "    X", "4 false Stay(Empty)"),
+];
+
 #[test]
 fn keys_pick_candidates(rt: HostRuntime) -> Result<(), Fail> {
-    let alloc = rt.alloc();
-    for (count, keys, wanted) in [
-        (1, " ", "0 false Register"),
-        (1, "x", "0 false Back"),
-        (1, "<cj>", "0 false Choose { place: 0, then: Nothing }"),
-        (4, "   ", "3 false Stay(Empty)"),
-        (4, "    ", "3 false Register"),
-        (4, "  x", "1 false Stay(Empty)"),
-        (4, " <cg>", "1 false Back"),
-        (4, " <bs>", "1 false Choose { place: 1, then: Delete }"),
-        (4, " <ret>", "1 false Choose { place: 1, then: Newline }"),
-        (4, " >", "1 false Choose { place: 1, then: OpenSuffix }"),
-        (
-            4,
-            " k",
-            "1 false Choose { place: 1, then: Read(Char(107)) }",
-        ),
-        (4, " X", "1 true Stay(Empty)"),
-        (4, " XY", "1 false Purge"),
-        (4, " Xx", "1 false Stay(Empty)"),
-        (5, "    ", "4 false Stay(Empty)"),
-        (5, "    a", "4 false Choose { place: 4, then: Nothing }"),
-        (5, "    s", "4 false Stay(NoCandidate)"),
-        (11, "    l", "4 false Choose { place: 10, then: Nothing }"),
-        (11, "     ", "4 false Register"),
-        (12, "     ", "11 false Stay(Empty)"),
-        (12, "     <bs>x", "3 false Stay(Empty)"),
-        (12, "    <cg>", "4 false Back"),
-        (12, "    X", "4 false Stay(Empty)"),
-    ] {
-        let (picking, done) = picking_after(&rt, alloc, count, keys)?;
-        let (place, asked) = (picking.place(), picking.is_asked());
-        let outcome = format!(in alloc; "{place} {asked} {done:?}")?;
-        assert_eq!(rt; outcome.as_str(), wanted, "{keys:?} at {count}");
+    for (count, keys, wanted) in &PICKINGS {
+        expect_picking(&rt, rt.alloc(), *count, keys, wanted)?;
     }
     Ok(())
+}
+
+fn expect_picking<R: Abort>(
+    rt: &R,
+    alloc: Global,
+    count: usize,
+    keys: &str,
+    wanted: &str,
+) -> Result<(), Fail> {
+    let (picking, done) = picking_after(rt, alloc, count, keys)?;
+    let outcome = picking_text(alloc, &picking, done)?;
+    assert_eq!(rt; outcome.as_str(), wanted, "{keys:?} at {count}");
+    Ok(())
+}
+
+fn picking_text(alloc: Global, picking: &Picking, done: CandsDo) -> Result<String, Fail> {
+    let (place, asked) = (picking.place(), picking.is_asked());
+    Ok(format!(in alloc; "{place} {asked} {done:?}")?)
+}
+
+// A candidate that is shown: its reading, its word, its text and its note.
+type ShownRow = (&'static str, &'static str, &'static str, &'static str);
+
+fn expect_shown<R: Abort>(rt: &R, shown: &Shown, row: &ShownRow) {
+    let (reading, word, text, note) = *row;
+    assert_eq!(rt; shown.key.reading().as_str(), reading);
+    assert_eq!(rt; shown.cand.word().as_str(), word);
+    assert_eq!(rt;
+        (shown.text.as_str(), shown.cand.note().as_str()),
+        (text, note)
+    );
 }
 
 #[test]
@@ -98,46 +130,49 @@ fn the_first_of_each_word_is_shown(rt: HostRuntime) -> Result<(), Fail> {
     let alloc = rt.alloc();
     let list = shown_list(alloc, "幹事/宴会の 漢字/ 幹事/x", 3)?;
     assert_eq!(rt; list.len(), 2);
-    for (place, (word, note)) in [("幹事", "宴会の"), ("漢字", "")].iter().enumerate() {
-        let shown = list.at(place);
-        assert_eq!(rt; shown.key.reading().as_str(), "すう");
-        assert_eq!(rt;
-            (shown.text.as_str(), shown.cand.note().as_str()),
-            (*word, *note)
-        );
-    }
+    expect_shown(&rt, &list.at(0), &("すう", "幹事", "幹事", "宴会の"));
+    expect_shown(&rt, &list.at(1), &("すう", "漢字", "漢字", ""));
     Ok(())
 }
 
 // A word as it was found stands before a number that is filled, and of equal texts the first is shown.
+const BOTH: [ShownRow; 4] = [
+    ("9ねん", "九年", "九年", ""),
+    ("9ねん", "9年", "9年", "数字"),
+    ("#ねん", "#1年", "９年", ""),
+    ("#ねん", "#4", "9", "#4"),
+];
+
 #[test]
 fn words_of_both_keys_are_shown(rt: HostRuntime) -> Result<(), Fail> {
-    let alloc = rt.alloc();
+    let list = list_of_both(&rt, rt.alloc())?;
+    assert_eq!(rt; list.len(), 4);
+    for (place, row) in BOTH.iter().enumerate() {
+        expect_shown(&rt, &list.at(place), row);
+    }
+    Ok(())
+}
+
+// The candidates that are shown of a reading and of the key of its numbers.
+fn list_of_both<R: Abort>(rt: &R, alloc: Global) -> Result<ShownList, Fail> {
     let reading = text(alloc, "9ねん")?;
     let number_key = number_key(alloc, &reading)?.ok_or("no number")?;
     let (key, numbers) = number_key.into_parts();
-    let both = BothFound {
-        plain: found(alloc, reading, "九年/ 9年/数字", 2)?,
-        numbered: found(alloc, key, "#0年/ #1年/ #3年/漢字 #4/#4", 4)?,
-    };
     let firsts = numbers.copy(alloc)?;
+    let plain = found(alloc, reading, "九年/ 9年/数字", 2)?;
+    let numbered = found(alloc, key, "#0年/ #1年/ #3年/漢字 #4/#4", 4)?;
+    shown_both(rt, alloc, BothFound { plain, numbered }, &numbers, &firsts)
+}
+
+fn shown_both<R: Abort>(
+    rt: &R,
+    alloc: Global,
+    both: BothFound,
+    numbers: &Texts,
+    firsts: &Texts,
+) -> Result<ShownList, Fail>
+    requires { are_numbers numbers.now ≡ true }
+{
     assert_eq!(rt; firsts.len(), numbers.len());
-    let list = shown_numbers(alloc, both, &numbers, &firsts)?;
-    let wanted = [
-        ("9ねん", "九年", "九年", ""),
-        ("9ねん", "9年", "9年", "数字"),
-        ("#ねん", "#1年", "９年", ""),
-        ("#ねん", "#4", "9", "#4"),
-    ];
-    assert_eq!(rt; list.len(), wanted.len());
-    for (place, (reading, word, text, note)) in wanted.iter().enumerate() {
-        let shown = list.at(place);
-        assert_eq!(rt; shown.key.reading().as_str(), *reading);
-        assert_eq!(rt; shown.cand.word().as_str(), *word);
-        assert_eq!(rt;
-            (shown.text.as_str(), shown.cand.note().as_str()),
-            (*text, *note)
-        );
-    }
-    Ok(())
+    Ok(shown_numbers(alloc, both, numbers, firsts)?)
 }

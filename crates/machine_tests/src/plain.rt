@@ -2,6 +2,7 @@ use kana_input::{Plain, PlainThen, press_plain};
 use romaji_rules::Rules;
 use skk_text::{Text, read_keys};
 use std::alloc::Global;
+use std::process::Abort;
 use std::test::Fail;
 
 // What is typed in hiragana mode; `=`; and then all that is inserted, what waits, the mode, and
@@ -37,12 +38,14 @@ fn keys_are_read_in_the_plain_state(rt: HostRuntime) -> Result<(), Fail> {
     let rules = Rules::standard(alloc)?;
     assert_eq!(rt; CASES.split_whitespace().count(), 24);
     for case in CASES.split_whitespace() {
-        let (keys, wanted) = case.split_once('=').ok_or("no `=`")?;
-        assert_eq!(rt;
-            outcome_of(alloc, &rules, keys)?.as_str(),
-            wanted,
-            "typed {keys}"
-        );
+        expect_case(&rt, alloc, &rules, case)?;
     }
+    Ok(())
+}
+
+fn expect_case<R: Abort>(rt: &R, alloc: Global, rules: &Rules, case: &str) -> Result<(), Fail> {
+    let (keys, wanted) = case.split_once('=').ok_or("no `=`")?;
+    let outcome = outcome_of(alloc, rules, keys)?;
+    assert_eq!(rt; outcome.as_str(), wanted, "typed {keys}");
     Ok(())
 }

@@ -7,6 +7,7 @@ use romaji_rules::Rules;
 use skk_calls::{Part, RowKey};
 use skk_text::{Copies, Key, Notice, Text, Texts, read_keys};
 use std::alloc::{AllocError, Global};
+use std::process::Abort;
 use std::test::Fail;
 
 // What is typed into a new reading, where `_` is the space; `=`; the reading, with `*` before the kana of an okurigana
@@ -88,15 +89,45 @@ fn keys_make_a_reading(rt: HostRuntime) -> Result<(), Fail> {
     let rules = Rules::standard(alloc)?;
     assert_eq!(rt; CASES.split_whitespace().count(), 42);
     for case in CASES.split_whitespace() {
-        let (keys, wanted) = case.split_once('=').ok_or("no `=`")?;
-        let mut reading = Reading::new(alloc);
-        let done = press_keys(alloc, &mut reading, &rules, keys)?;
-        assert_eq!(rt;
-            case_text(alloc, &reading, done)?.as_str(),
-            wanted,
-            "typed {keys}"
-        );
+        expect_case(&rt, alloc, &rules, case, "")?;
     }
+    Ok(())
+}
+
+// Types the keys of a case into a new reading, or into one in which these keys were completed.
+fn expect_case<R: Abort>(
+    rt: &R,
+    alloc: Global,
+    rules: &Rules,
+    case: &str,
+    completed: &str,
+) -> Result<(), Fail> {
+    let (keys, wanted) = case.split_once('=').ok_or("no `=`")?;
+    let outcome = outcome_of(rt, alloc, rules, keys, completed)?;
+    assert_eq!(rt; outcome.as_str(), wanted, "typed {keys}");
+    Ok(())
+}
+
+fn outcome_of<R: Abort>(
+    rt: &R,
+    alloc: Global,
+    rules: &Rules,
+    keys: &str,
+    completed: &str,
+) -> Result<String, Fail> {
+    let mut reading = Reading::new(alloc);
+    if !completed.is_empty() {
+        press_keys(alloc, &mut reading, rules, completed)?;
+        complete(rt, alloc, &mut reading)?;
+    }
+    let done = press_keys(alloc, &mut reading, rules, keys)?;
+    Ok(case_text(alloc, &reading, done)?)
+}
+
+// Completes a reading.
+fn complete<R: Abort>(rt: &R, alloc: Global, reading: &mut Reading) -> Result<(), Fail> {
+    let notice = reading.complete(alloc, completions(alloc)?)?;
+    assert_eq!(rt; notice, Notice::Empty);
     Ok(())
 }
 
@@ -134,26 +165,17 @@ fn completions_are_gone_over(rt: HostRuntime) -> Result<(), Fail> {
     let rules = Rules::standard(alloc)?;
     assert_eq!(rt; COMPLETED.split_whitespace().count(), 12);
     for case in COMPLETED.split_whitespace() {
-        let (keys, wanted) = case.split_once('=').ok_or("no `=`")?;
-        let mut reading = Reading::new(alloc);
-        press_keys(alloc, &mut reading, &rules, "ka")?;
-        assert_eq!(rt;
-            reading.complete(alloc, completions(alloc)?)?,
-            Notice::Empty
-        );
-        let done = press_keys(alloc, &mut reading, &rules, keys)?;
-        assert_eq!(rt;
-            case_text(alloc, &reading, done)?.as_str(),
-            wanted,
-            "typed {keys}"
-        );
+        expect_case(&rt, alloc, &rules, case, "ka")?;
     }
-    let mut reading = Reading::new(alloc);
-    assert_eq!(rt;
-        reading.complete(alloc, Texts::new(alloc))?,
-        Notice::NoCompletion
-    );
+    let notice = notice_of_none(alloc)?;
+    assert_eq!(rt; notice, Notice::NoCompletion);
     Ok(())
+}
+
+// What a reading tells that nothing completes.
+fn notice_of_none(alloc: Global) -> Result<Notice, Fail> {
+    let mut reading = Reading::new(alloc);
+    Ok(reading.complete(alloc, Texts::new(alloc))?)
 }
 
 // The reading after keys.
@@ -182,15 +204,26 @@ fn okuri_of(alloc: Global, reading: &Reading) -> Result<String, Fail> {
     Ok(String::from_str(alloc, kana)?)
 }
 
+// Tells the key and the okurigana that a reading is converted by.
+fn expect_key<R: Abort>(
+    rt: &R,
+    alloc: Global,
+    reading: &Reading,
+    key: &str,
+    okuri: &str,
+) -> Result<(), Fail> {
+    assert!(rt; reading.text().byte_len() > 0);
+    let found = (key_of(alloc, reading)?, okuri_of(alloc, reading)?);
+    assert_eq!(rt; (found.0.as_str(), found.1.as_str()), (key, okuri));
+    Ok(())
+}
+
 // A reading is converted by its text, with the letter of an okurigana.
 #[test]
 fn readings_are_converted_by_their_keys(rt: HostRuntime) -> Result<(), Fail> {
     let alloc = rt.alloc();
     let reading = reading_after(alloc, Reading::new(alloc), "ugoKu")?;
-    assert!(rt; reading.text().byte_len() > 0);
-    assert_eq!(rt; key_of(alloc, &reading)?.as_str(), "Ari うごk");
-    assert_eq!(rt; okuri_of(alloc, &reading)?.as_str(), "く");
-    Ok(())
+    expect_key(&rt, alloc, &reading, "Ari うごk", "く")
 }
 
 // An abbreviation is converted as it was typed.
@@ -198,8 +231,5 @@ fn readings_are_converted_by_their_keys(rt: HostRuntime) -> Result<(), Fail> {
 fn abbreviations_are_converted_by_themselves(rt: HostRuntime) -> Result<(), Fail> {
     let alloc = rt.alloc();
     let reading = reading_after(alloc, Reading::abbrev(alloc), "Vim9_")?;
-    assert!(rt; reading.text().byte_len() > 0);
-    assert_eq!(rt; key_of(alloc, &reading)?.as_str(), "Nasi Vim9");
-    assert_eq!(rt; okuri_of(alloc, &reading)?.as_str(), "-");
-    Ok(())
+    expect_key(&rt, alloc, &reading, "Nasi Vim9", "-")
 }

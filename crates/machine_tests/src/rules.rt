@@ -1,6 +1,7 @@
 use romaji_rules::{Kana, Out, Pending, RuleFault, Rules};
 use skk_text::{Copies, Memory, Text, TextFault};
 use std::alloc::Global;
+use std::process::Abort;
 use std::test::Fail;
 
 // Each input of the standard table, and each followed by `a`: what is typed, `=`, what comes out in
@@ -73,12 +74,16 @@ fn reads_the_standard_table(rt: HostRuntime) -> Result<(), Fail> {
     let rules = Rules::standard(alloc)?;
     assert_eq!(rt; CASES.split_whitespace().count(), 476);
     for case in CASES.split_whitespace() {
-        let (letters, wanted) = case.split_once('=').ok_or("no `=`")?;
-        let (hira, pending) = wanted.split_once(':').ok_or("no `:`")?;
-        let (out, left) = output_of(alloc, &rules, letters)?;
-        assert_eq!(rt; out.as_str(), hira, "typed {letters}");
-        assert_eq!(rt; left.as_str(), pending, "left by {letters}");
+        expect_case(&rt, alloc, &rules, case)?;
     }
+    Ok(())
+}
+
+fn expect_case<R: Abort>(rt: &R, alloc: Global, rules: &Rules, case: &str) -> Result<(), Fail> {
+    let (letters, wanted) = case.split_once('=').ok_or("no `=`")?;
+    let wanted = wanted.split_once(':').ok_or("no `:`")?;
+    let (out, left) = output_of(alloc, rules, letters)?;
+    assert_eq!(rt; (out.as_str(), left.as_str()), wanted, "typed {letters}");
     Ok(())
 }
 
@@ -123,53 +128,57 @@ fn fault_of(alloc: Global, file: &str) -> Option<RuleFault> {
     Rules::read(alloc, file.as_bytes()).err()
 }
 
+// A file, and its fault, if it has one.
+const RULE_FILES: &[(&str, Option<RuleFault>)] = &[
+    ("", None),
+    ("ka\t\tか\tカ\n", None),
+    (
+        "ka\t\tか\tカ\nka\t\tか\tカ\n",
+        Some(RuleFault::Twice { line: 2 }),
+    ),
+    ("kk\tk\tっ\tッ\n", None),
+    ("a\tb\tあ\tア\n", Some(RuleFault::BadNext { line: 1 })),
+    // a comment, an empty line, and CR before LF
+    ("# か\r\n\r\nka\t\tか\tカ\r\nki\t\tき\tキ", None),
+    // a last line keeps its CR, and a mark at the beginning stays
+    ("ka\t\tか\tカ\r", Some(RuleFault::BadLine { line: 1 })),
+    ("\u{FEFF}ka\t\tか\tカ\n", Some(RuleFault::BadLine { line: 1 })),
+    // inputs of 8 and 9 bytes, and one with an upper-case letter
+    ("abcdefgh\t\tあ\tア\n", None),
+    ("abcdefghi\t\tあ\tア\n", Some(RuleFault::BadLine { line: 1 })),
+    ("kA\t\tか\tカ\n", Some(RuleFault::BadLine { line: 1 })),
+    // next texts of 8 and 9 bytes
+    ("a\tabcdefgh\tあ\tア\n", Some(RuleFault::BadNext { line: 1 })),
+    ("a\tabcdefghi\tあ\tア\n", Some(RuleFault::BadLine { line: 1 })),
+    // outputs of 24 and 25 bytes, an empty one, and one with a space
+    ("a\t\tああああああああ\tア\n", None),
+    ("a\t\tああああああああa\tア\n", Some(RuleFault::BadLine { line: 1 })),
+    ("a\t\t\t\n", None),
+    ("a\t\tあ \tア\n", Some(RuleFault::BadLine { line: 1 })),
+    // three fields, and five
+    ("a\t\tあ\n", Some(RuleFault::BadLine { line: 1 })),
+    ("a\t\tあ\tア\t\n", Some(RuleFault::BadLine { line: 1 })),
+    // the input of a rule with a next text begins another
+    (
+        "k\tk\tっ\tッ\nka\t\tか\tカ\n",
+        Some(RuleFault::BadNext { line: 1 }),
+    ),
+    // of two faults the first line is told, and a fault of a line by itself before one among all
+    (
+        "a\tb\tあ\tア\na\t\tあ\tア\nA\n",
+        Some(RuleFault::Twice { line: 2 }),
+    ),
+    (
+        "a\t\tあ\tア\nA\na\t\tあ\tア\n",
+        Some(RuleFault::BadLine { line: 2 }),
+    ),
+];
+
 #[test]
 fn rule_files_are_read_or_refused(rt: HostRuntime) -> Result<(), Fail> {
-    for (file, fault) in [
-        ("", None),
-        ("ka\t\tか\tカ\n", None),
-        (
-            "ka\t\tか\tカ\nka\t\tか\tカ\n",
-            Some(RuleFault::Twice { line: 2 }),
-        ),
-        ("kk\tk\tっ\tッ\n", None),
-        ("a\tb\tあ\tア\n", Some(RuleFault::BadNext { line: 1 })),
-        // a comment, an empty line, and CR before LF
-        ("# か\r\n\r\nka\t\tか\tカ\r\nki\t\tき\tキ", None),
-        // a last line keeps its CR, and a mark at the beginning stays
-        ("ka\t\tか\tカ\r", Some(RuleFault::BadLine { line: 1 })),
-        ("\u{FEFF}ka\t\tか\tカ\n", Some(RuleFault::BadLine { line: 1 })),
-        // inputs of 8 and 9 bytes, and one with an upper-case letter
-        ("abcdefgh\t\tあ\tア\n", None),
-        ("abcdefghi\t\tあ\tア\n", Some(RuleFault::BadLine { line: 1 })),
-        ("kA\t\tか\tカ\n", Some(RuleFault::BadLine { line: 1 })),
-        // next texts of 8 and 9 bytes
-        ("a\tabcdefgh\tあ\tア\n", Some(RuleFault::BadNext { line: 1 })),
-        ("a\tabcdefghi\tあ\tア\n", Some(RuleFault::BadLine { line: 1 })),
-        // outputs of 24 and 25 bytes, an empty one, and one with a space
-        ("a\t\tああああああああ\tア\n", None),
-        ("a\t\tああああああああa\tア\n", Some(RuleFault::BadLine { line: 1 })),
-        ("a\t\t\t\n", None),
-        ("a\t\tあ \tア\n", Some(RuleFault::BadLine { line: 1 })),
-        // three fields, and five
-        ("a\t\tあ\n", Some(RuleFault::BadLine { line: 1 })),
-        ("a\t\tあ\tア\t\n", Some(RuleFault::BadLine { line: 1 })),
-        // the input of a rule with a next text begins another
-        (
-            "k\tk\tっ\tッ\nka\t\tか\tカ\n",
-            Some(RuleFault::BadNext { line: 1 }),
-        ),
-        // of two faults the first line is told, and a fault of a line by itself before one among all
-        (
-            "a\tb\tあ\tア\na\t\tあ\tア\nA\n",
-            Some(RuleFault::Twice { line: 2 }),
-        ),
-        (
-            "a\t\tあ\tア\nA\na\t\tあ\tア\n",
-            Some(RuleFault::BadLine { line: 2 }),
-        ),
-    ] {
-        assert!(rt; fault_of(rt.alloc(), file) == fault, "{file}");
+    for (file, fault) in RULE_FILES {
+        let told = fault_of(rt.alloc(), file);
+        assert!(rt; told == *fault, "{file}");
     }
     Ok(())
 }
@@ -186,20 +195,39 @@ fn many_rules(alloc: Global, count: usize) -> Result<Text, Memory> {
     Ok(file)
 }
 
+// Tells the fault of a file of so many rules, if it has one.
+fn expect_many<R: Abort>(
+    rt: &R,
+    alloc: Global,
+    count: usize,
+    fault: Option<RuleFault>,
+) -> Result<(), Memory> {
+    let file = many_rules(alloc, count)?;
+    expect_fault(rt, alloc, file.as_str().as_bytes(), fault);
+    Ok(())
+}
+
+// Tells the fault of a file, if it has one.
+fn expect_fault<R: Abort>(rt: &R, alloc: Global, file: &[u8], fault: Option<RuleFault>) {
+    assert!(rt; Rules::read(alloc, file).err() == fault);
+}
+
 #[test]
 fn rule_files_have_limits(rt: HostRuntime) -> Result<(), Fail> {
-    let alloc = rt.alloc();
-    let most = many_rules(alloc, 4096)?;
-    assert!(rt; fault_of(alloc, most.as_str()) == None);
-    let more = many_rules(alloc, 4097)?;
-    assert!(rt; fault_of(alloc, more.as_str()) == Some(RuleFault::BadLine { line: 4097 }));
-    let mut bytes = Vec::new(alloc);
+    expect_many(&rt, rt.alloc(), 4096, None)?;
+    expect_many(
+        &rt,
+        rt.alloc(),
+        4097,
+        Some(RuleFault::BadLine { line: 4097 }),
+    )?;
+    let mut bytes = Vec::new(rt.alloc());
     bytes.resize(1_048_576, b'#')?;
-    assert!(rt; Rules::read(alloc, &bytes).is_ok());
+    expect_fault(&rt, rt.alloc(), &bytes, None);
     bytes.push(b'#')?;
     let long = TextFault::TooLong { bytes: 1_048_577 };
-    assert!(rt; Rules::read(alloc, &bytes).err() == Some(RuleFault::NoText(long)));
+    expect_fault(&rt, rt.alloc(), &bytes, Some(RuleFault::NoText(long)));
     let invalid = TextFault::NotUtf8 { at: 1 };
-    assert!(rt; Rules::read(alloc, b"#\xFFa").err() == Some(RuleFault::NoText(invalid)));
+    expect_fault(&rt, rt.alloc(), b"#\xFFa", Some(RuleFault::NoText(invalid)));
     Ok(())
 }

@@ -8,10 +8,12 @@ use crate::distinct::distinct;
 use romaji_rules::Rules;
 use session_machine::Session;
 use skk_calls::{
-    Answer, Call, Caller, Cand, Cands, DialogTrace, Learned, Part, Refusal, Reply, RowKey,
+    Answer, Call, Caller, Cand, Cands, DialogTrace, DistinctCands, Learned, Part, Refusal, Reply,
+    RowKey,
 };
-use skk_text::{Copies, Memory, Mode, Text, Texts, read_keys};
+use skk_text::{Copies, Keys, Memory, Mode, Text, Texts, read_keys};
 use std::alloc::Global;
+use std::process::Abort;
 use std::test::Fail;
 
 // The candidates of every key, each with its note.
@@ -75,15 +77,27 @@ fn lookup_answer(alloc: Global, word: &str) -> Answer
     ensures { (who : ℕ) (key : RowKey) (okuri : Option (List ℕ))
         → may_answer (calls.Lookup who key okuri) result ≡ true }
 {
-    let found = match (word.parse(), word) {
-        (Ok(count), _) => first_cands(alloc, count),
-        (_, "long") => long_cands(alloc),
-        (_, "memory") => Err(Memory),
-        _ => listed_cands(alloc, word),
-    };
-    match found.and_then(|cands| distinct(alloc, cands)) {
+    match distinct_cands(alloc, word) {
         Ok(cands) => Answer::Done(Reply::Found(cands)),
         Err(_) => Answer::Refused(Refusal::Memory),
+    }
+}
+
+// The candidates that a look-up finds, the first of each word.
+fn distinct_cands(alloc: Global, word: &str) -> Result<DistinctCands, Memory> {
+    let cands = cands_by(alloc, word)?;
+    distinct(alloc, cands)
+}
+
+// The candidates that a look-up finds by a word.
+fn cands_by(alloc: Global, word: &str) -> Result<Cands, Memory> {
+    if let Ok(count) = word.parse() {
+        return first_cands(alloc, count);
+    }
+    match word {
+        "long" => long_cands(alloc),
+        "memory" => Err(Memory),
+        _ => listed_cands(alloc, word),
     }
 }
 
@@ -221,10 +235,20 @@ fn listed_readings(alloc: Global, words: &str) -> Result<Texts, Memory>
 // and its calls are answered by these words.
 fn session_after(alloc: Global, keys: &str, words: &str) -> Result<Session, Fail> {
     let rules = Rules::standard(alloc)?;
-    let keys = read_keys(alloc, keys.replace(alloc, "_", " ")?.as_bytes())?;
+    let keys = keys_of(alloc, keys)?;
+    session_by(alloc, &rules, &keys, words)
+}
+
+// The keys of a text, where `_` is the space.
+fn keys_of(alloc: Global, text: &str) -> Result<Keys, Fail> {
+    let text = text.replace(alloc, "_", " ")?;
+    Ok(read_keys(alloc, text.as_bytes())?)
+}
+
+fn session_by(alloc: Global, rules: &Rules, keys: &Keys, words: &str) -> Result<Session, Fail> {
     let said = DialogTrace::new(alloc)?;
     let mut caller = Finder { words, said };
-    Ok(Session::new(alloc, 7, 0).play(alloc, &rules, keys.as_slice(), &mut caller)?)
+    Ok(Session::new(alloc, 7, 0).play(alloc, rules, keys.as_slice(), &mut caller)?)
 }
 
 // What is typed; the words that its calls are answered by; `=`; and the display and the notice behind it. A call for
@@ -464,7 +488,7 @@ A_I_U_E_O_A_I_Ka_lx<ret><ret> 0 0 0 0 0 0 0 0 learned disk=[[[[[[辞書登録]]]
 ";
 
 // What a case has of a session.
-fn case_text(alloc: Global, session: Session) -> Result<String, Fail> {
+fn case_text(alloc: Global, session: &Session) -> Result<String, Fail> {
     let display = session.display(alloc)?;
     let notice = session.notice(alloc)?;
     let display = display.as_str();
@@ -476,16 +500,23 @@ fn sessions_are_shown(rt: HostRuntime) -> Result<(), Fail> {
     let alloc = rt.alloc();
     assert_eq!(rt; CASES.lines().count(), 232);
     for case in CASES.lines().skip(1) {
-        let (typing, wanted) = case.split_once('=').ok_or("no `=`")?;
-        let (keys, words) = typing.split_once(' ').ok_or("no space")?;
-        let session = session_after(alloc, keys, words)?;
-        assert_eq!(rt;
-            case_text(alloc, session)?.as_str(),
-            wanted,
-            "typed {typing}"
-        );
+        expect_case(&rt, alloc, case)?;
     }
     Ok(())
+}
+
+fn expect_case<R: Abort>(rt: &R, alloc: Global, case: &str) -> Result<(), Fail> {
+    let (typing, wanted) = case.split_once('=').ok_or("no `=`")?;
+    let told = told_of(alloc, typing)?;
+    assert_eq!(rt; told.as_str(), wanted, "typed {typing}");
+    Ok(())
+}
+
+// What a case has of the session after what is typed.
+fn told_of(alloc: Global, typing: &str) -> Result<String, Fail> {
+    let (keys, words) = typing.split_once(' ').ok_or("no space")?;
+    let session = session_after(alloc, keys, words)?;
+    case_text(alloc, &session)
 }
 
 // The session after the choices of so many long candidates, one after another, and then these keys, whose calls are
@@ -509,54 +540,83 @@ fn what_is_inserted_fits_up_to_the_limit(rt: HostRuntime) -> Result<(), Fail> {
     let alloc = rt.alloc();
     for (keys, words) in [("Ka_<cj>", "long learned"), ("Ko_lx<ret>", "0 learned")] {
         let session = session_after_long(alloc, MANY, keys, words)?;
-        assert_eq!(rt; session.text().byte_len(), MANY * LONG, "typed {keys}");
-        assert_eq!(rt; session.notice(alloc)?.as_str(), "limit", "typed {keys}");
+        expect_length(&rt, alloc, &session, MANY * LONG, "limit")?;
     }
     Ok(())
 }
 
+// Tells how many bytes the text of a session has, and its notice.
+fn expect_length<R: Abort>(
+    rt: &R,
+    alloc: Global,
+    session: &Session,
+    length: usize,
+    notice: &str,
+) -> Result<(), Fail> {
+    let told = session.notice(alloc)?;
+    assert_eq!(rt;
+        (session.text().byte_len(), told.as_str()),
+        (length, notice)
+    );
+    Ok(())
+}
+
 // A word of more than 4,095 bytes stays in its registration, also where its last choice was learnt or refused.
+const REGISTERED: [(&str, &str, usize, &str); 4] = [
+    (
+        "Ko_Ka_<cj>Ka_<ret>",
+        "0 long learned long learned",
+        0,
+        "limit",
+    ),
+    ("Ko_Ka_<cj>Ka_<ret>", "0 long learned long disk", 0, "limit"),
+    (
+        "Ko_Ka_<cj>Ka_<cj><bs><ret>",
+        "0 long learned long disk learned",
+        4_095,
+        "",
+    ),
+    (
+        "Ko_Ka_<cj>Ka_<ret><bs><ret>",
+        "0 long learned long learned disk",
+        4_095,
+        "refused disk",
+    ),
+];
+
 #[test]
 fn registered_words_have_a_limit(rt: HostRuntime) -> Result<(), Fail> {
-    let alloc = rt.alloc();
-    for (keys, words, length, notice) in [
-        (
-            "Ko_Ka_<cj>Ka_<ret>",
-            "0 long learned long learned",
-            0,
-            "limit",
-        ),
-        ("Ko_Ka_<cj>Ka_<ret>", "0 long learned long disk", 0, "limit"),
-        (
-            "Ko_Ka_<cj>Ka_<cj><bs><ret>",
-            "0 long learned long disk learned",
-            4_095,
-            "",
-        ),
-        (
-            "Ko_Ka_<cj>Ka_<ret><bs><ret>",
-            "0 long learned long learned disk",
-            4_095,
-            "refused disk",
-        ),
-    ] {
-        let session = session_after(alloc, keys, words)?;
-        assert_eq!(rt; session.text().byte_len(), length, "typed {keys}");
-        assert_eq!(rt; session.notice(alloc)?.as_str(), notice, "typed {keys}");
+    for (keys, words, length, notice) in &REGISTERED {
+        let session = session_after(rt.alloc(), keys, words)?;
+        expect_length(&rt, rt.alloc(), &session, *length, notice)?;
     }
     Ok(())
 }
 
 #[test]
 fn sessions_have_a_mode_and_a_text(rt: HostRuntime) -> Result<(), Fail> {
-    let alloc = rt.alloc();
-    let session = session_after(alloc, "KanaL<tab>Ka", "")?;
-    assert_eq!(rt; session.mode(), Mode::Wide);
-    assert_eq!(rt; session.text().as_str(), "かなＫａ");
+    let session = session_after(rt.alloc(), "KanaL<tab>Ka", "")?;
+    expect_text(&rt, &session, Mode::Wide, "かなＫａ");
+    expect_page(&rt, rt.alloc(), &session, "全英\tかなＫａ\t\nかなＫａ")
+}
+
+// Tells the mode and the text of a session.
+fn expect_text<R: Abort>(rt: &R, session: &Session, mode: Mode, text: &str) {
+    assert_eq!(rt; session.mode(), mode);
+    assert_eq!(rt; session.text().as_str(), text);
+}
+
+// Tells the line of a session with its text behind it.
+fn expect_page<R: Abort>(
+    rt: &R,
+    alloc: Global,
+    session: &Session,
+    wanted: &str,
+) -> Result<(), Fail> {
     let mut page = Text::new(alloc);
     session.push_line(alloc, &mut page)?;
     session.push_text(&mut page)?;
-    assert_eq!(rt; page.as_str(), "全英\tかなＫａ\t\nかなＫａ");
+    assert_eq!(rt; page.as_str(), wanted);
     Ok(())
 }
 
@@ -564,13 +624,7 @@ fn sessions_have_a_mode_and_a_text(rt: HostRuntime) -> Result<(), Fail> {
 fn sessions_in_a_registration_have_the_mode_inside_and_the_text_outside(
     rt: HostRuntime,
 ) -> Result<(), Fail> {
-    let alloc = rt.alloc();
-    let session = session_after(alloc, "aKo_iKi_lu", "0 0")?;
-    assert_eq!(rt; session.mode(), Mode::Ascii);
-    assert_eq!(rt; session.text().as_str(), "あ");
-    let mut page = Text::new(alloc);
-    session.push_line(alloc, &mut page)?;
-    session.push_text(&mut page)?;
-    assert_eq!(rt; page.as_str(), "SKK\t[[辞書登録]] き: u\t\nあ");
-    Ok(())
+    let session = session_after(rt.alloc(), "aKo_iKi_lu", "0 0")?;
+    expect_text(&rt, &session, Mode::Ascii, "あ");
+    expect_page(&rt, rt.alloc(), &session, "SKK\t[[辞書登録]] き: u\t\nあ")
 }

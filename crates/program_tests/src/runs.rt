@@ -1,10 +1,11 @@
 ghost use Rattle.std.specs.Prelude.{Some};
 
-use skk_disk::MemDisk;
-use skk_outside::{Failed, MemShelf, MemSink, MemSource, Outside, Sink};
+use skk_disk::{Disk, MemDisk};
+use skk_outside::{Failed, MemShelf, MemSink, MemSource, Outside, Shelf, Sink, Source};
 use skk_text::{Bytes, Text};
 use skk_top::{run_alone, waits};
 use std::alloc::{AllocError, Global};
+use std::process::Abort;
 use std::test::Fail;
 
 const LINES: &[u8] = b"1:kitte\n1:kanji\n1:zl\n";
@@ -28,44 +29,71 @@ fn type_lines<O: Sink>(
     let words = [Text::of(String::from_str(alloc, "type")?)];
     let mut shelf = MemShelf::new(Vec::new(alloc), Vec::new(alloc));
     let disk = MemDisk::new(alloc, Vec::new(alloc));
-    if waits(&words) {
-        return Ok(WAITING);
+    Ok(status_of(alloc, &words, &mut shelf, disk, &mut input, out, err))
+}
+
+// The status of a run of words that may not wait. What is promised of a run is long: it is met here alone, and its
+// callers know nothing of it.
+fn status_of<H: Shelf, D: Disk + Drop, I: Source, O: Sink, E: Sink>(
+    alloc: Global,
+    words: &[Text],
+    shelf: &mut H,
+    disk: D,
+    input: &mut I,
+    out: &mut O,
+    err: &mut E,
+) -> u8 {
+    if waits(words) {
+        return WAITING;
     }
-    Ok(run_alone(alloc, &words, &mut shelf, disk, &mut input, out, err).status)
+    run_alone(alloc, words, shelf, disk, input, out, err).status
 }
 
 // The script is read in two pieces and then to its end; the output is written at once and flushed; a fault is told
 // in one write.
+// The numbers of the read, of the call that writes and of the one that tells that are to fail; the status; and what is
+// written and told.
+type FailingRow = (u64, u64, u64, u8, &'static str, &'static str);
+
+const FAILING: [FailingRow; 9] = [
+    (0, 0, 0, 0, TYPED, ""),
+    (1, 0, 0, 4, "", "skk: outside\n"),
+    (2, 0, 0, 4, "", "skk: outside\n"),
+    (3, 0, 0, 4, "", "skk: outside\n"),
+    (4, 0, 0, 0, TYPED, ""),
+    (0, 1, 0, 4, "", "skk: outside\n"),
+    (0, 2, 0, 4, TYPED, "skk: outside\n"),
+    (0, 3, 0, 0, TYPED, ""),
+    (1, 0, 1, 4, "", ""),
+];
+
 #[test]
 fn calls_that_fail_end_the_run(rt: HostRuntime) -> Result<(), Fail> {
-    let alloc = rt.alloc();
-    for (read, write, tell, status, out, err) in [
-        (0, 0, 0, 0, TYPED, ""),
-        (1, 0, 0, 4, "", "skk: outside\n"),
-        (2, 0, 0, 4, "", "skk: outside\n"),
-        (3, 0, 0, 4, "", "skk: outside\n"),
-        (4, 0, 0, 0, TYPED, ""),
-        (0, 1, 0, 4, "", "skk: outside\n"),
-        (0, 2, 0, 4, TYPED, "skk: outside\n"),
-        (0, 3, 0, 0, TYPED, ""),
-        (1, 0, 1, 4, "", ""),
-    ] {
-        let mut written = MemSink::new(alloc, vec![in alloc; write]?);
-        let mut told = MemSink::new(alloc, vec![in alloc; tell]?);
-        let ended = type_lines(alloc, read, &mut written, &mut told)?;
-        assert_eq!(rt; ended, status, "at {read}, {write} and {tell}");
-        assert_eq!(rt;
-            written.written(),
-            out.as_bytes(),
-            "at {read}, {write} and {tell}"
-        );
-        assert_eq!(rt;
-            told.written(),
-            err.as_bytes(),
-            "at {read}, {write} and {tell}"
-        );
+    for row in &FAILING {
+        expect_failing(&rt, rt.alloc(), row)?;
     }
     Ok(())
+}
+
+fn expect_failing<R: Abort>(rt: &R, alloc: Global, row: &FailingRow) -> Result<(), Fail> {
+    let (read, write, tell, status, out, err) = *row;
+    let mut written = MemSink::new(alloc, vec![in alloc; write]?);
+    let mut told = MemSink::new(alloc, vec![in alloc; tell]?);
+    let ended = type_lines(alloc, read, &mut written, &mut told)?;
+    expect_ended(rt, ended, status);
+    expect_written(rt, &written, out);
+    expect_written(rt, &told, err);
+    Ok(())
+}
+
+// Tells the status of a run.
+fn expect_ended<R: Abort>(rt: &R, ended: u8, status: u8) {
+    assert_eq!(rt; ended, status);
+}
+
+// Tells what was written to a sink.
+fn expect_written<R: Abort>(rt: &R, sink: &MemSink, wanted: &str) {
+    assert_eq!(rt; sink.written(), wanted.as_bytes(), "{wanted:?}");
 }
 
 // A file in which the okuri-ari part comes behind a row without okurigana.
@@ -93,58 +121,52 @@ fn check_file(
         Text::of(String::from_str(alloc, name)?),
     ];
     let disk = MemDisk::new(alloc, Vec::new(alloc));
-    if waits(&words) {
-        return Ok(WAITING);
-    }
-    Ok(run_alone(alloc, &words, &mut shelf, disk, &mut input, out, err).status)
+    Ok(status_of(alloc, &words, &mut shelf, disk, &mut input, out, err))
 }
+
+// A name, the numbers of the read and of the call that writes that are to fail, the status, and what is written and
+// told.
+type CheckedRow = (&'static str, u64, u64, u8, &'static str, &'static str);
+
+// The content of the file `words`, and what is checked.
+const CHECKINGS: [(&str, CheckedRow); 8] = [
+    (SMALL, ("words", 0, 0, 0, CHECKED, "")),
+    (SMALL, ("words", 1, 0, 4, "", "skk: outside\n")),
+    (SMALL, ("words", 2, 0, 4, "", "skk: outside\n")),
+    (SMALL, ("words", 3, 0, 0, CHECKED, "")),
+    (SMALL, ("words", 0, 1, 4, "", "skk: outside\n")),
+    (SMALL, ("words", 0, 2, 4, CHECKED, "skk: outside\n")),
+    (
+        "",
+        ("words", 0, 0, 0, "okuri-ari 0 okuri-nasi 0 bad 0\n", ""),
+    ),
+    ("", ("nowhere", 0, 0, 4, "", "skk: outside\n")),
+];
+
+const NO_TEXT: CheckedRow = ("words", 0, 0, 3, "", "skk: dictionary 1 byte 10\n");
 
 // A file is read in one piece and then to its end; the output is written at once and flushed.
 #[test]
 fn files_are_checked(rt: HostRuntime) -> Result<(), Fail> {
-    let alloc = rt.alloc();
-    let small = ("words", SMALL.as_bytes());
-    for (file, read, write, status, out, err) in [
-        (small, 0, 0, 0, CHECKED, ""),
-        (small, 1, 0, 4, "", "skk: outside\n"),
-        (small, 2, 0, 4, "", "skk: outside\n"),
-        (small, 3, 0, 0, CHECKED, ""),
-        (small, 0, 1, 4, "", "skk: outside\n"),
-        (small, 0, 2, 4, CHECKED, "skk: outside\n"),
-        (
-            ("words", NO_UTF8),
-            0,
-            0,
-            3,
-            "",
-            "skk: dictionary 1 byte 10\n",
-        ),
-        (
-            ("words", b""),
-            0,
-            0,
-            0,
-            "okuri-ari 0 okuri-nasi 0 bad 0\n",
-            "",
-        ),
-        (("nowhere", b""), 0, 0, 4, "", "skk: outside\n"),
-    ] {
-        let mut written = MemSink::new(alloc, vec![in alloc; write]?);
-        let mut told = MemSink::new(alloc, Vec::new(alloc));
-        let ended = check_file(alloc, file, read, &mut written, &mut told)?;
-        let name = file.0;
-        assert_eq!(rt; ended, status, "{name} at {read} and {write}");
-        assert_eq!(rt;
-            written.written(),
-            out.as_bytes(),
-            "{name} at {read} and {write}"
-        );
-        assert_eq!(rt;
-            told.written(),
-            err.as_bytes(),
-            "{name} at {read} and {write}"
-        );
+    for (content, row) in &CHECKINGS {
+        expect_checked(&rt, rt.alloc(), content.as_bytes(), row)?;
     }
+    expect_checked(&rt, rt.alloc(), NO_UTF8, &NO_TEXT)
+}
+
+fn expect_checked<R: Abort>(
+    rt: &R,
+    alloc: Global,
+    content: &[u8],
+    row: &CheckedRow,
+) -> Result<(), Fail> {
+    let (name, read, write, status, out, err) = *row;
+    let mut written = MemSink::new(alloc, vec![in alloc; write]?);
+    let mut told = MemSink::new(alloc, Vec::new(alloc));
+    let ended = check_file(alloc, (name, content), read, &mut written, &mut told)?;
+    expect_ended(rt, ended, status);
+    expect_written(rt, &written, out);
+    expect_written(rt, &told, err);
     Ok(())
 }
 
@@ -171,17 +193,35 @@ impl Sink for OneByOne {
 // Each byte is written by a call of its own, and the flush is the last call.
 #[test]
 fn bytes_are_written_one_by_one(rt: HostRuntime) -> Result<(), Fail> {
-    let alloc = rt.alloc();
     let whole = TYPED.as_bytes();
-    for call in 1..=whole.len() as u64 + 2 {
-        let mut out = OneByOne(MemSink::new(alloc, vec![in alloc; call]?));
-        let mut err = MemSink::new(alloc, Vec::new(alloc));
-        let status = type_lines(alloc, 0, &mut out, &mut err)?;
-        let written = out.0.written();
-        let failed = call < whole.len() as u64 + 2;
-        assert_eq!(rt; status, if failed { 4 } else { 0 }, "at call {call}");
-        assert_eq!(rt; written.len() as u64, (call - 1).min(whole.len() as u64));
-        assert!(rt; whole.starts_with(written), "at call {call}");
+    let last = whole.len() as u64 + 2;
+    for call in 1..=last {
+        expect_one_by_one(&rt, rt.alloc(), call, call == last)?;
     }
     Ok(())
+}
+
+// Has the call of a number fail. No call has the last number, and that run ends well.
+fn expect_one_by_one<R: Abort>(
+    rt: &R,
+    alloc: Global,
+    call: u64,
+    is_last: bool,
+) -> Result<(), Fail> {
+    let mut out = OneByOne(MemSink::new(alloc, vec![in alloc; call]?));
+    let mut err = MemSink::new(alloc, Vec::new(alloc));
+    let status = type_lines(alloc, 0, &mut out, &mut err)?;
+    expect_ended(rt, status, if is_last { 0 } else { 4 });
+    expect_begun(rt, out.0.written(), call);
+    Ok(())
+}
+
+// Tells that what was written is the bytes of the calls before this one.
+fn expect_begun<R: Abort>(rt: &R, written: &[u8], call: u64) {
+    let whole = TYPED.as_bytes();
+    assert_eq!(rt;
+        written.len() as u64,
+        call.saturating_sub(1).min(whole.len() as u64)
+    );
+    assert!(rt; whole.starts_with(written), "at call {call}");
 }

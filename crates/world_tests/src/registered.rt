@@ -6,8 +6,8 @@ use dict_layers::System;
 use learn_index::Index;
 use romaji_rules::Rules;
 use session_machine::Session;
-use skk_calls::{Answer, Books, Call, Caller, DialogTrace, Refusal};
-use skk_text::{Memory, read_keys};
+use skk_calls::{Answer, Books, Call, Caller, DialogTrace, Refusal, Rows};
+use skk_text::{Memory, Text, read_keys};
 use std::alloc::Global;
 use std::test::Fail;
 
@@ -58,18 +58,37 @@ fn new_learner(alloc: Global) -> Result<Learner, Fail> {
 // A word that a line of a dictionary can't hold as it is stands in its book quoted.
 #[test]
 fn a_registered_word_is_a_line_of_its_book(rt: HostRuntime) -> Result<(), Fail> {
-    let alloc = rt.alloc();
-    let mut learner = new_learner(alloc)?;
-    let keys = read_keys(alloc, b"/ao land/or;x<ret>/ao ")?;
+    let mut learner = new_learner(rt.alloc())?;
+    let display = display_after(rt.alloc(), &mut learner, "/ao land/or;x<ret>/ao ")?;
+    let lines = lines_of(rt.alloc(), &learner.index)?;
+    assert_eq!(rt; display.as_str(), "and/or;x▼and/or;x");
+    assert_eq!(rt; lines.as_str(), "ao /(concat \"and\\057or\\073x\")/\n");
+    Ok(())
+}
+
+// The display of a session after these keys.
+fn display_after(alloc: Global, learner: &mut Learner, keys: &str) -> Result<Text, Fail> {
+    let session = session_after(alloc, learner, keys)?;
+    Ok(session.display(alloc)?)
+}
+
+fn session_after(alloc: Global, learner: &mut Learner, keys: &str) -> Result<Session, Fail> {
+    let keys = read_keys(alloc, keys.as_bytes())?;
     let rules = Rules::standard(alloc)?;
-    let session = Session::new(alloc, 1, 1).play(alloc, &rules, keys.as_slice(), &mut learner)?;
-    assert_eq!(rt; session.display(alloc)?.as_str(), "and/or;x▼and/or;x");
-    let book = learner.index.book(alloc, 1)?;
+    Ok(Session::new(alloc, 1, 1).play(alloc, &rules, keys.as_slice(), learner)?)
+}
+
+// The lines of the first book.
+fn lines_of(alloc: Global, index: &Index) -> Result<String, Fail> {
+    let book = index.book(alloc, 1)?;
+    lines_of_rows(alloc, book.rows())
+}
+
+fn lines_of_rows(alloc: Global, rows: &Rows) -> Result<String, Fail> {
     let mut lines = String::new(alloc);
-    for row in book.rows().iter() {
+    for row in rows.iter() {
         lines.push_str(print_line(alloc, row)?.as_str())?;
         lines.push('\n')?;
     }
-    assert_eq!(rt; lines.as_str(), "ao /(concat \"and\\057or\\073x\")/\n");
-    Ok(())
+    Ok(lines)
 }

@@ -19,6 +19,12 @@ fn new_world(alloc: Global) -> Result<World, Fail> {
     Ok(World::new(alloc, &[(1, 0), (2, 0)], Rules::standard(alloc)?, system)?)
 }
 
+// A world of one session in its own book over no dictionary.
+fn small_world(alloc: Global) -> Result<World, Fail> {
+    let system = System::of_books(alloc, Books::new(alloc))?;
+    Ok(World::new(alloc, &[(1, 1)], Rules::standard(alloc)?, system)?)
+}
+
 // The world after an event, and whether that came: the world is handed back where it may not come now.
 fn step(alloc: Global, world: World, event: Event) -> Result<(World, bool), Fail> {
     match world.step(alloc, event) {
@@ -89,9 +95,12 @@ fn told(alloc: Global, world: &World, place: usize, came: bool) -> Result<String
     }
 }
 
+// A command, a place, a word, and what is told.
+type Line = (&'static str, usize, &'static str, &'static str);
+
 // Two sessions learn in the shared book, and overtake each other. Each cause for which an event may not come now stands
 // among the lines.
-const LINES: &[(&str, usize, &str, &str)] = &[
+const LINES: &[Line] = &[
     ("serve", 0, "", "not now"),
     ("serve", 2, "", "not now"),
     ("refuse", 0, "memory", "not now"),
@@ -151,28 +160,46 @@ const LINES: &[(&str, usize, &str, &str)] = &[
 ];
 
 // Nothing was asked at first, and a key that asks nothing is shown at once.
+const ONE_SESSION: &[Line] = &[("serve", 0, "", "not now"), ("keys", 0, "a", "あ|")];
+
 #[test]
 fn a_world_of_one_session_steps(rt: HostRuntime) -> Result<(), Fail> {
-    let alloc = rt.alloc();
-    let system = System::of_books(alloc, Books::new(alloc))?;
-    let world = World::new(alloc, &[(1, 1)], Rules::standard(alloc)?, system)?;
-    let (world, came) = step(alloc, world, Event::Serve(0))?;
-    assert!(rt; !came);
-    let (world, came) = start_keys(alloc, world, 0, "a")?;
-    assert!(rt; came);
-    assert_eq!(rt; shown(alloc, &world, 0)?.as_str(), "あ|");
-    Ok(())
+    let world = small_world(rt.alloc())?;
+    expect_lines(&rt, rt.alloc(), world, ONE_SESSION)
 }
 
 #[test]
 fn worlds_step(rt: HostRuntime) -> Result<(), Fail> {
-    let alloc = rt.alloc();
-    let mut world = new_world(alloc)?;
-    let mut came = true;
-    for (command, place, word, wanted) in LINES {
-        (world, came) = run(alloc, world, command, *place, word)?;
-        let told = told(alloc, &world, *place, came)?;
-        assert_eq!(rt; told.as_str(), *wanted, "at {command} {place} {word}");
+    let world = new_world(rt.alloc())?;
+    expect_lines(&rt, rt.alloc(), world, LINES)
+}
+
+// Tells what each of these commands leaves, one after another.
+fn expect_lines<R: Abort>(rt: &R, alloc: Global, world: World, lines: &[Line]) -> Result<(), Fail> {
+    let mut world = world;
+    for line in lines {
+        world = after_line(rt, alloc, world, line)?;
     }
+    Ok(())
+}
+
+// The world after a command, of which this is told.
+fn after_line<R: Abort>(rt: &R, alloc: Global, world: World, line: &Line) -> Result<World, Fail> {
+    let (command, place, word, _) = *line;
+    let (world, came) = run(alloc, world, command, place, word)?;
+    expect_told(rt, alloc, &world, came, line)?;
+    Ok(world)
+}
+
+fn expect_told<R: Abort>(
+    rt: &R,
+    alloc: Global,
+    world: &World,
+    came: bool,
+    line: &Line,
+) -> Result<(), Fail> {
+    let (_, place, _, wanted) = *line;
+    let told = told(alloc, world, place, came)?;
+    assert_eq!(rt; told.as_str(), wanted, "at {line:?}");
     Ok(())
 }
