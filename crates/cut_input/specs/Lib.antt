@@ -1,0 +1,3 @@
+pub mod PieceLaws
+pub mod Pieces
+pub mod RestLaws
