@@ -1,0 +1,4 @@
+pub mod Feeding
+pub mod Fronts
+pub mod Replies
+pub mod Requests
