@@ -39,13 +39,13 @@ line-follows text rest (Some (Opening session typist book)) number mark spells s
       (Opening session typist book, refl, (one.0, sym one.1, spells.1, spells.2, sym one.2)),
     )
 
--- a typist, `,` and a book are what the number, the byte behind it and the rest say
-pub owner-follows : (text rest : List ℕ) (number mark typist book : ℕ) → number ≤ 99999 → (¬ IsInRange 48 57 mark)
-    → text ≡ decimal number ++ mark ∷ rest →
-    IsTypist typist → text ≡ decimal typist ++ 44 ∷ decimal book
-    → (number ≡ typist) × (mark ≡ 44) × (rest ≡ decimal book)
-owner-follows text rest number mark typist book small no_digit e typist_small other_e =
-    one_number text rest (decimal book) number mark typist 44 small no_digit e (omega arith) comma_no_digit other_e
+-- a typist, a byte and a book are what the number, the byte behind it and the rest say
+pub owner-follows : (text rest : List ℕ) (number mark between typist book : ℕ) → number ≤ 99999
+    → (¬ IsInRange 48 57 mark) → text ≡ decimal number ++ mark ∷ rest → (¬ IsInRange 48 57 between) →
+    IsTypist typist → text ≡ decimal typist ++ between ∷ decimal book
+    → (number ≡ typist) × (mark ≡ between) × (rest ≡ decimal book)
+owner-follows text rest number mark between typist book small no_digit e other_no_digit typist_small other_e =
+    one_number text rest (decimal book) number mark typist between small no_digit e (omega arith) other_no_digit other_e
 
 pub book-small : (typist book : ℕ) → IsTypist typist → (book ≡ 0) ⊎ (book ≡ typist) → book ≤ 99999
 book-small typist book small own = elim own [ inl e ↦ omega arith | inr e ↦ omega arith ]

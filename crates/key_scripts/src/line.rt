@@ -1,7 +1,7 @@
 ghost use Rattle.std.specs.Prelude.{◌≡◌, ◌≢◌, ◌<◌, ◌≤◌, ◌⊎◌, [], ◌++◌, ◌∷◌, IfOk, IsErrOf, IfSome, IsNone, MatchOption};
 ghost use Rattle.std.specs.Prelude.{ℕ, Option, List, length, slice_index};
 ghost use Rattle.std.specs.Fmt.{decimal};
-ghost use Rattle.skk_text.specs.Characters.{code};
+ghost use Rattle.std.specs.Int.{IsInRange};
 ghost use Rattle.skk_text.specs.Lines.{lines_of};
 ghost use Rattle.key_scripts.specs.Script.{Spells, Follows, IsTypist};
 ghost use Rattle.key_scripts.specs.declared.line.Line.{Line};
@@ -102,7 +102,7 @@ fn read_behind(alloc: Global, session: u8, mark: u8, rest: &[u8]) -> Result<Line
                 LineFault::NoLine,
             ),
         },
-        b'=' => match typist_and_book(rest) {
+        b'=' => match typist_and_book(rest, b',') {
             Some((typist, book)) => Ok(Line::Opening {
                 session,
                 typist,
@@ -114,15 +114,17 @@ fn read_behind(alloc: Global, session: u8, mark: u8, rest: &[u8]) -> Result<Line
     }
 }
 
-// The typist and the book of an opening line, which stand behind its `=`.
-fn typist_and_book(text: &[u8]) -> Option<(u16, u16)>
+/// The typist and the book that a text writes, with a byte between them that is no digit. The book is the shared one
+/// or the typist's.
+pub fn typist_and_book(text: &[u8], between: u8) -> Option<(u16, u16)>
+    requires { ¬ IsInRange 48 57 between }
     ensures some { IfSome result (λ found. IsTypist found.0 × ((found.1 ≡ 0) ⊎ (found.1 ≡ found.0))
-        × (text.now ≡ decimal found.0 ++ code "," ∷ decimal found.1)) }
+        × (text.now ≡ decimal found.0 ++ between ∷ decimal found.1)) }
     ensures none { IsNone result → (typist book : ℕ) → IsTypist typist → ((book ≡ 0) ⊎ (book ≡ typist))
-        → text.now ≢ decimal typist ++ code "," ∷ decimal book }
+        → text.now ≢ decimal typist ++ between ∷ decimal book }
 {
     let (typist, mark, rest) = number_then(text)?;
-    if typist > 65535 || mark != b',' {
+    if typist > 65535 || mark != between {
         return None;
     }
     let book = number(rest)?;
