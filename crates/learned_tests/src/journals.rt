@@ -288,11 +288,11 @@ fn records_of_any_length_are_read_part_by_part(rt: HostRuntime) -> Result<(), Fa
     expect_lengths(&rt, alloc, &longest, &long)
 }
 
-fn expect_lengths<R: Abort>(
+fn expect_lengths<'x, R: Abort>(
     rt: &R,
     alloc: Global,
-    longest: &[u8],
-    long: &[u8],
+    longest: &'x [u8],
+    long: &'x [u8],
 ) -> Result<(), Fail> {
     const LIMIT: u64 = 1 << 28;
     let steps = [
