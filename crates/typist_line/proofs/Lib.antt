@@ -1,0 +1,6 @@
+pub mod Lines
+pub mod Pressing
+pub mod Results
+pub mod Standing
+pub mod Talks
+mod TypistExamples

@@ -1,0 +1,3 @@
+pub mod Conversations
+pub mod TypedLines
+pub mod Typings

@@ -1,0 +1,17 @@
+ghost use Rattle.std.specs.Prelude.{◌≡◌, ◌↔◌, ℕ, List, true};
+ghost use Rattle.romaji_rules.specs.declared.rule.Rule.{Rule};
+ghost use Rattle.skk_calls.specs.Interactions.{ends, Leads};
+ghost use Rattle.typist_line.specs.Conversations.{Conversation, Converses, IsClosed};
+ghost use Rattle.typist_line.specs.Typings.{StandsSo, Talk, is_over};
+ghost use Rattle.typist_line.specs.declared.typing.Typist.{Typist};
+
+/// However a typist's connection stands behind bytes, its talk is that of what the bytes come to, up to there; and it
+/// is over exactly where they end it.
+pub fn bytes_lead_a_typist()
+    ensures talk { (rules : List Rule) (bytes : List ℕ) (talk : Talk) (typist : Typist) (begun : List ℕ)
+        → StandsSo rules bytes talk typist begun
+        → (meaning : Conversation) × Converses rules bytes meaning
+        × Leads meaning talk.dialog talk.text (ends typist) }
+    ensures over { (rules : List Rule) (bytes : List ℕ) (talk : Talk) (typist : Typist) (begun : List ℕ)
+        → StandsSo rules bytes talk typist begun → (is_over typist ≡ true) ↔ IsClosed bytes }
+{}
