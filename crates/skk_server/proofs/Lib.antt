@@ -1,0 +1,5 @@
+pub mod Requests
+pub mod Results
+pub mod Standing
+pub mod Turns
+pub mod Typists
