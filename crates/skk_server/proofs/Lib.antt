@@ -1,3 +1,4 @@
+pub mod Fronts
 pub mod Requests
 pub mod Results
 pub mod Standing

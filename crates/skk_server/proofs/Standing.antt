@@ -18,6 +18,7 @@ use Rattle.skk_server.specs.Connections.{more, Stand, is_typist, client, Means, 
 use Rattle.skk_server.specs.Ends.{AnswersAll, AnswersSome}
 use Rattle.skk_server.specs.Turns.{StandsAt, Begins, Answers, Breaks, AnswersOf, BreaksOf}
 use Rattle.skk_server.specs.Turns.{AnswersBytes, BreaksBytes, ClientStands, TypistStands}
+use Rattle.skk_server.proofs.Fronts.{FrontsFirst, answers-some}
 use Rattle.skk_server.proofs.Requests.{nothing-asked, client-all, client-by, client-new}
 use Rattle.skk_server.proofs.Typists.{LeadsThere, typist-all, first_of, typing-new}
 
@@ -60,19 +61,11 @@ answers-all rules (TypistTalk typing) bytes dialog sent there ((behind, e), goes
 
 -- what was answered whole was answered in part, also where not all of it was sent
 pub all-some : (rules : List Rule) (bytes : List ℕ) (dialog : Dialog) (sent replies : List ℕ) (stand : Stand)
-    → AnswersAll rules bytes dialog replies stand → IsPrefix sent replies → AnswersSome rules bytes dialog sent
-all-some rules bytes dialog sent replies stand all begun =
-    record {
-      front = bytes;
-      rest = [];
-      bytes_are = sym (append-nil bytes);
-      exchange = all.0;
-      means = all.1;
-      replies = replies;
-      to = ends stand;
-      led = all.2;
-      begun = begun;
-    }
+    → FrontsFirst → AnswersAll rules bytes dialog replies stand → IsPrefix sent replies
+    → AnswersSome rules bytes dialog sent
+all-some rules bytes dialog sent replies stand fronts all begun =
+    answers-some rules bytes bytes [] dialog sent replies all.0 (ends stand) fronts (sym (append-nil bytes)) all.1
+    all.2 begun
 
 -- and where less was sent
 pub some-less : (rules : List Rule) (bytes : List ℕ) (dialog : Dialog) (sent less : List ℕ)
@@ -91,6 +84,7 @@ some-less rules bytes dialog sent less some (rest, e) =
         rest ++ some.begun.0,
         some.begun.1 ∙ ap (λ s. s ++ some.begun.0) e ∙ append_assoc less rest some.begun.0,
       );
+      first_of_all = some.first_of_all;
     }
 
 -- what was sent before is sent, and then the first of more
@@ -184,23 +178,15 @@ answers-client rules piece feeder feeder' before after Over (dialog, sent, adds,
   ),
 )
 
-pub breaks-client : (rules : List Rule) (piece : List ℕ) (feeder : Feeding) (before after : Heard)
+pub breaks-client : (rules : List Rule) (piece : List ℕ) (feeder : Feeding) (before after : Heard) → FrontsFirst
     → BreaksBytes piece feeder before after → BreaksOf rules piece (Client feeder) before after
-breaks-client rules piece feeder before after (dialog, sent, adds, breaks) = (
+breaks-client rules piece feeder before after fronts (dialog, sent, adds, breaks) = (
   dialog,
   sent,
   adds,
   λ bytes known known_sent suits at.
       let (front, rest, e, to, led) = breaks bytes known known_sent at in
-      record {
-        front = front;
-        rest = rest;
-        bytes_are = e;
-        exchange = client front;
-        means = means-front-client rules front rest suits.1 suits.0 (sym e ∙ suits.2) suits.3;
-        replies = known_sent ++ sent;
-        to = to;
-        led = led;
-        begun = ([], sym (append-nil (known_sent ++ sent)));
-      },
+      answers-some rules (bytes ++ piece) front rest (known ++ dialog) (known_sent ++ sent) (known_sent ++ sent)
+      (client front) to fronts e (means-front-client rules front rest suits.1 suits.0 (sym e ∙ suits.2) suits.3) led
+      ([], sym (append-nil (known_sent ++ sent))),
 )

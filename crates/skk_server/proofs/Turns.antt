@@ -18,6 +18,7 @@ use Rattle.skk_server.specs.Connections.{more, over}
 use Rattle.skk_server.specs.Ends.{MovedLink, AnswersAll, AnswersSome, AnswersFront, EndsBy, Serves, longest_piece}
 use Rattle.skk_server.specs.Ends.{most_bytes, moved_link}
 use Rattle.skk_server.specs.Turns.{StandsAt, Goes, Answers, Breaks, StopsReading, TakesTurn, EndsTurn, ServesSoFar}
+use Rattle.skk_server.proofs.Fronts.{FrontsFirst}
 use Rattle.skk_server.proofs.Standing.{answers-all, all-some, some-less, prefix-behind, nothing-means}
 use Rattle.skk_server.proofs.Typists.{LeadsThere}
 
@@ -57,9 +58,9 @@ with-nothing P bytes dialog sent p =
 
 -- nothing was read
 pub ends-unread : (rules : List Rule) (link : MovedLink) (said : Dialog) (talk : Talk) (taken : ℕ) (end : End)
-    → LeadsThere → StopsReading link end → link.written' ≡ link.written → taken ≤ most_bytes
+    → LeadsThere → FrontsFirst → StopsReading link end → link.written' ≡ link.written → taken ≤ most_bytes
     → EndsTurn rules link said said talk taken end
-ends-unread rules link said talk taken end there stops kept few =
+ends-unread rules link said talk taken end there fronts stops kept few =
     record {
       piece = [];
       dialog = [];
@@ -83,7 +84,7 @@ ends-unread rules link said talk taken end there stops kept few =
         → AnswersAll rules bytes known known_sent more → EndsBy rules link bytes known known_sent end'
     ends bytes known known_sent Closed stops' all = inr (all, stops'.1)
     ends bytes known known_sent LinkFault stops' all = (
-      all-some rules bytes known known_sent known_sent more all ([], sym (append-nil known_sent)),
+      all-some rules bytes known known_sent known_sent more fronts all ([], sym (append-nil known_sent)),
       front-all rules bytes known known_sent all,
       stops'.1,
     )
@@ -92,21 +93,22 @@ ends-unread rules link said talk taken end there stops kept few =
 
 -- what goes on or is over was answered
 goes-some : (rules : List Rule) (talk : Talk) (bytes : List ℕ) (dialog : Dialog) (sent less : List ℕ) (going : Going)
-    → LeadsThere → Goes rules talk bytes dialog sent going → IsPrefix less sent → AnswersSome rules bytes dialog less
-goes-some rules talk bytes dialog sent less More there goes begun =
-    all-some rules bytes dialog less sent more (answers-all rules talk bytes dialog sent there goes) begun
-goes-some rules talk bytes dialog sent less Over there goes begun =
-    all-some rules bytes dialog less sent over goes begun
+    → LeadsThere → FrontsFirst → Goes rules talk bytes dialog sent going → IsPrefix less sent
+    → AnswersSome rules bytes dialog less
+goes-some rules talk bytes dialog sent less More there fronts goes begun =
+    all-some rules bytes dialog less sent more fronts (answers-all rules talk bytes dialog sent there goes) begun
+goes-some rules talk bytes dialog sent less Over there fronts goes begun =
+    all-some rules bytes dialog less sent over fronts goes begun
 
 -- bytes were read and answered, and a write failed
 pub ends-unsent : (rules : List Rule) (link : MovedLink) (said said' : Dialog) (talk talk' : Talk) (taken : ℕ)
-    (piece : List ℕ) (out out' less : List ℕ) (going : Going) → LeadsThere
+    (piece : List ℕ) (out out' less : List ℕ) (going : Going) → LeadsThere → FrontsFirst
     → Answers rules piece talk talk' (record { said = said; out = out }) (record { said = said'; out = out' }) going
     → out ≡ [] → IsPrefix less out' → Consumes link.left link.left' piece → Appends link.written link.written' less
     → length piece ≤ longest_piece → taken + length piece ≤ most_bytes → Rose link.faults link.faults'
     → EndsTurn rules link said said' talk taken LinkFault
-ends-unsent rules link said said' talk talk' taken piece out out' less going there (dialog, sent, adds, goes) none
-    begun takes writes short few rose =
+ends-unsent rules link said said' talk talk' taken piece out out' less going there fronts (dialog, sent, adds, goes)
+    none begun takes writes short few rose =
     record {
       piece = piece;
       dialog = dialog;
@@ -117,7 +119,7 @@ ends-unsent rules link said said' talk talk' taken piece out out' less going the
       few = few;
       ends_so = λ bytes known known_sent at. (
         goes-some rules talk' (bytes ++ piece) (known ++ dialog) (known_sent ++ sent) (known_sent ++ less) going there
-            (goes bytes known known_sent at) (prefix-behind known_sent sent less (begun-of begun)),
+            fronts (goes bytes known known_sent at) (prefix-behind known_sent sent less (begun-of begun)),
         record {
           front = bytes;
           rest = piece;
@@ -298,8 +300,8 @@ so-far-limit rules link said said' talk taken there so_far full =
 
 -- memory was out before anything was read
 pub unserved : {L : Type 0} (rules : List Rule) (left written : L → Told) (faults : L → ℕ) (link : L) (said : Dialog)
-    → Serves rules (moved_link left written faults link link) said said Memory
-unserved rules left written faults link said =
+    → FrontsFirst → Serves rules (moved_link left written faults link link) said said Memory
+unserved rules left written faults link said fronts =
     record {
       bytes = [];
       dialog = [];
@@ -308,5 +310,5 @@ unserved rules left written faults link said =
       few = omega (arith);
       says = sym (append-nil said);
       writes = Appends-nil (written link);
-      ends_so = all-some rules [] [] [] [] more (nothing-means rules) ([], refl);
+      ends_so = all-some rules [] [] [] [] more fronts (nothing-means rules) ([], refl);
     }

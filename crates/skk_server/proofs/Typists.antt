@@ -20,6 +20,7 @@ use Rattle.skk_server.specs.declared.talk.Talk.TheVariants.{Typist as TypistTalk
 use Rattle.skk_server.specs.Connections.{more, over, stand_of, in_bytes, is_typist, Means, MeansOf}
 use Rattle.skk_server.specs.Ends.{AnswersAll, AnswersSome}
 use Rattle.skk_server.specs.Turns.{Suits, TypistStands, Goes, AnswersOf, BreaksOf}
+use Rattle.skk_server.proofs.Fronts.{FrontsFirst, answers-some}
 
 -- the first of bytes, or another where there is none
 abbrev pub first_of : ℕ → List ℕ → ℕ
@@ -132,9 +133,9 @@ typist-on rules piece typing typing' before after typist types is = (
         (both-sent text types.talk.text known_sent sent_is)
 
 -- or some of them were
-pub typist-broken : (rules : List Rule) (piece : List ℕ) (typing : TypingView) (before after : Heard)
+pub typist-broken : (rules : List Rule) (piece : List ℕ) (typing : TypingView) (before after : Heard) → FrontsFirst
     → Stops rules piece typing before after → BreaksOf rules piece (TypistTalk typing) before after
-typist-broken rules piece typing before after stops = (
+typist-broken rules piece typing before after fronts stops = (
   stops.talk.dialog,
   encode_utf8_all stops.talk.text,
   stops.grows,
@@ -148,19 +149,13 @@ typist-broken rules piece typing before after stops = (
     by bytes known known_sent suits (text, typist, is, goes, stands', sent_is) =
         let broken = stops.breaks bytes (record { dialog = known; text = text }) stands' in
         let sent = known_sent ++ encode_utf8_all stops.talk.text in
-        record {
-          front = broken.front;
-          rest = broken.rest;
-          bytes_are = broken.bytes_are;
-          exchange = in_bytes broken.meaning;
-          means = means-front rules broken.front broken.rest suits.0 broken.meaning
-              (sym broken.bytes_are ∙ suits.1) broken.converses;
-          replies = sent;
-          to = in_bytes broken.to;
-          led = subst (λ (s : List ℕ). Leads (in_bytes broken.meaning) (known ++ stops.talk.dialog) s
-              (in_bytes broken.to)) (sym (both-sent text stops.talk.text known_sent sent_is)) (in-bytes broken.led);
-          begun = ([], sym (append-nil sent));
-        }
+        answers-some rules (bytes ++ piece) broken.front broken.rest (known ++ stops.talk.dialog) sent sent
+        (in_bytes broken.meaning) (in_bytes broken.to) fronts broken.bytes_are
+        (means-front rules broken.front broken.rest suits.0 broken.meaning (sym broken.bytes_are ∙ suits.1)
+        broken.converses)
+        (subst (λ (s : List ℕ). Leads (in_bytes broken.meaning) (known ++ stops.talk.dialog) s (in_bytes broken.to))
+        (sym (both-sent text stops.talk.text known_sent sent_is)) (in-bytes broken.led))
+        ([], sym (append-nil sent))
 
 -- the same by the result of the call that types them
 pub typist-answers : (rules : List Rule) (piece : List ℕ) (typing typing' : TypingView) (before after : Heard)

@@ -45,7 +45,7 @@ abbrev pub AnswersAll : List Rule → List ℕ → Dialog → List ℕ → Stand
 AnswersAll rules bytes dialog sent stand =
     (exchange : Exchange) × Means rules bytes exchange × Leads exchange dialog sent (ends stand)
 
--- the first of what a front of bytes asks was asked, and the first bytes were sent of what is sent for it
+-- the first of what a front of bytes asks was asked, and the first bytes sent for it; and so it is for all the bytes
 pub record AnswersSome (rules : List Rule) (bytes : List ℕ) (dialog : Dialog) (sent : List ℕ) : Type 0 where
   pub front : List ℕ
   pub rest : List ℕ
@@ -56,6 +56,8 @@ pub record AnswersSome (rules : List Rule) (bytes : List ℕ) (dialog : Dialog) 
   pub to : Exchange
   pub led : Leads exchange dialog replies to
   pub begun : IsPrefix sent replies
+  pub first_of_all : (whole : Exchange) → Means rules bytes whole
+      → (behind : Exchange) × Leads whole dialog replies behind
 
 -- bytes but for the last that were read at once were answered, behind which the connection goes on
 pub record AnswersFront (rules : List Rule) (bytes : List ℕ) (dialog : Dialog) (sent : List ℕ) : Type 0 where

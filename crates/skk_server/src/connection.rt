@@ -7,6 +7,7 @@ ghost use Rattle.skk_server.specs.Ends.{moved_link, most_bytes, longest_piece};
 ghost use Rattle.skk_server.specs.Turns.{TakesTurn, EndsTurn, HasRoom, IsReady, StopsReading};
 
 use crate::end::End;
+use crate::laws::exchange_of_a_front;
 use crate::page::Page;
 use crate::talk::Talk;
 use romaji_rules::Rules;
@@ -68,6 +69,7 @@ impl Connection {
         ensures counted { K.faults link.old ≤ K.faults link.new }
     {
         bytes_lead_a_typist();
+        exchange_of_a_front();
         let count = match self.read(link) {
             Ok(count) => count,
             Err(end) => return Err(end),

@@ -9,6 +9,7 @@
 mod client;
 mod connection;
 mod end;
+mod laws;
 mod page;
 mod serving;
 mod talk;

@@ -5,6 +5,7 @@ ghost use Rattle.skk_server.specs.Connections.{is_typist};
 ghost use Rattle.skk_server.specs.Turns.{Answers, Breaks, AnswersOf, BreaksOf, Begins};
 
 use crate::client::answer_client;
+use crate::laws::exchange_of_a_front;
 use crate::page::Page;
 use romaji_rules::Rules;
 use skk_calls::Caller;
@@ -59,6 +60,7 @@ impl Talk {
             (heard C.said caller.old page.old.bytes.items) (heard C.said caller.new page.new.bytes.items)) }
         ensures number { C.number caller.new ≡ C.number caller.old }
     {
+        exchange_of_a_front();
         match self {
             Talk::New => Ok(Going::More),
             Talk::Client(feeder) => answer_client(alloc, feeder, bytes, caller, page),
@@ -114,6 +116,7 @@ fn answer_typist<C: Caller>(
         (heard C.said caller.old page.old.bytes.items) (heard C.said caller.new page.new.bytes.items)) }
     ensures number { C.number caller.new ≡ C.number caller.old }
 {
+    exchange_of_a_front();
     let going = run_typist(lines, alloc, bytes, rules, caller, &mut page.bytes);
     page.count_lines();
     going

@@ -6,7 +6,6 @@ use Rattle.std.proofs.lemmas.Grind.{flat_map-append}
 use Rattle.skk_text.specs.Counts.{last_count}
 use Rattle.exact_readers.specs.Cuts.{cut}
 use Rattle.exact_readers.specs.CutLaws.{cut-nowhere}
-use Rattle.exact_readers.specs.ExactLaws.{option_map-some}
 use Rattle.exact_readers.specs.Formats.{SpellsMany}
 use Rattle.exact_readers.specs.ManyLaws.{taken-some, taken-complete, many-append, many-one}
 use Rattle.cut_input.specs.Pieces.{GoesOn}
@@ -26,7 +25,7 @@ use Rattle.skkserv_proto.specs.Requests.{IsOpen, command_at, ends_reading, longe
 use Rattle.skkserv_proto.specs.Requests.{end_in}
 use Rattle.skkserv_proto.specs.Requests.{all_asked, requests, reading_in, bad_in, first_bad, bad_at}
 use Rattle.skkserv_proto.proofs.Tokens.{token-exact, step-reading, step-open, step-end, step-long, bad-long, bad-open}
-use Rattle.skkserv_proto.proofs.Tokens.{bad-end, is-bad, requests-on, bad-on, no-tokens, bad-here}
+use Rattle.skkserv_proto.proofs.Tokens.{bad-end, is-bad, requests-on, bad-on, no-tokens, bad-here, end-stays, bad-stays}
 use Rattle.skkserv_proto.proofs.Tokens.{goes-on, within as within-rest, requests-here}
 
 -- What is kept
@@ -226,54 +225,28 @@ reads-stays place count fed more none (inl ended) after is before was =
     let here : Fed before (record { place = places.Ended; fed = count }) =
     subst (λ p. Fed before (record { place = p; fed = count })) ended was in
     let (byte, behind, command, rest_is) = here.0.1 in
-    let rest = (tokens_of before).1 in
-    let step = step-end byte (behind ++ fed) command in
-    let tokens = no-tokens (byte ∷ (behind ++ fed)) step in
-    let last : (tokens_of (before ++ fed)).1 ≡ byte ∷ (behind ++ fed) =
-    ap (λ parts. parts.1) (goes-on before fed) ∙ ap (λ ys. (tokens_of (ys ++ fed)).1) rest_is
-    ∙ ap (λ parts. parts.1) tokens in
+    let stays = end-stays before fed byte behind command rest_is in
     let bad : first_bad (before ++ fed) ≡ None =
     bad-on before fed
     ∙ ap (option_map (λ at. length before - length (tokens_of before).1 + at))
-    (ap (λ ys. first_bad (ys ++ fed)) rest_is ∙ bad-here (byte ∷ (behind ++ fed)) step
+    (ap (λ ys. first_bad (ys ++ fed)) rest_is
+    ∙ bad-here (byte ∷ (behind ++ fed)) (step-end byte (behind ++ fed) command)
     ∙ bad-end byte (behind ++ fed) command) in
-    let values : (tokens_of (before ++ fed)).0 ≡ (tokens_of before).0 =
-    ap (λ parts. parts.0) (goes-on before fed)
-    ∙ ap (λ ys. (tokens_of before).0 ++ (tokens_of (ys ++ fed)).0) rest_is
-    ∙ ap (λ (parts : List (List Request) × List ℕ). (tokens_of before).0 ++ parts.0) tokens
-    ∙ append-nil (tokens_of before).0 in
-    let end_is : end_in (tokens_of (before ++ fed)).1 ≡ end_in (tokens_of before).1 =
-    ap end_in last ∙ (let one : end_in (byte ∷ (behind ++ fed)) ≡ end_in (byte ∷ behind) = refl in one)
-    ∙ sym (ap end_in rest_is) in
     subst (λ p. Fed (before ++ fed) (record { place = p; fed = min (count + length fed) last_count })
     × (requests (before ++ fed) ≡ requests before ++ more)) (sym (is ∙ ended)) (
-      (
-        (bad, (byte, behind ++ fed, command, last)),
-        counted before fed count here.1,
-      ),
-      ap (λ vs. all_asked vs ++ end_in (tokens_of (before ++ fed)).1) values
-          ∙ ap (λ ys. all_asked (tokens_of before).0 ++ ys) end_is
-          ∙ sym (append-nil (requests before)) ∙ ap (λ ys. requests before ++ ys) (sym none),
+      ((bad, (byte, behind ++ fed, command, stays.1)), counted before fed count here.1),
+      stays.0 ∙ sym (append-nil (requests before)) ∙ ap (λ ys. requests before ++ ys) (sym none),
     )
 reads-stays place count fed more none (inr (at, bad_place)) after is before was =
     let here : Fed before (record { place = places.Bad at; fed = count }) =
     subst (λ p. Fed before (record { place = p; fed = count })) bad_place was in
     let (place_of, found, at_is) = here.0 in
-    let rest = (tokens_of before).1 in
-    let (inner, bad, sum) = option_map-some (bad_in rest) (λ n. length before - length rest + n) (0 + place_of) found in
-    let facts = is-bad rest inner bad in
-    let later = is-bad (rest ++ fed) inner (facts.stays fed) in
-    let bad' : first_bad (before ++ fed) ≡ Some (0 + place_of) =
-    bad-on before fed
-    ∙ ap (option_map (λ n. length before - length rest + n))
-    (bad-here (rest ++ fed) later.no_token ∙ facts.stays fed)
-    ∙ ap Some sum in
-    let asked : requests (before ++ fed) ≡ requests before ++ more =
-    requests-on before fed facts.no_end
-    ∙ ap (λ ys. requests before ++ ys) (requests-here (rest ++ fed) later.no_token ∙ later.no_end ∙ sym none) in
+    let stays = bad-stays before fed (0 + place_of) found in
     subst (λ p. Fed (before ++ fed) (record { place = p; fed = min (count + length fed) last_count })
-    × (requests (before ++ fed) ≡ requests before ++ more)) (sym (is ∙ bad_place))
-    (((place_of, bad', at_is), counted before fed count here.1), asked)
+    × (requests (before ++ fed) ≡ requests before ++ more)) (sym (is ∙ bad_place)) (
+      ((place_of, stays.1, at_is), counted before fed count here.1),
+      stays.0 ∙ sym (append-nil (requests before)) ∙ ap (λ ys. requests before ++ ys) (sym none),
+    )
 
 -- Reading from a command on
 

@@ -6,7 +6,7 @@ use Rattle.std.proofs.lemmas.Bool.{lt-ltb, le-ltb, ltb-true}
 use Rattle.std.proofs.lemmas.Grind.{flat_map-append}
 use Rattle.exact_readers.specs.Cuts.{cut}
 use Rattle.exact_readers.specs.Exact.{IsExact}
-use Rattle.exact_readers.specs.ExactLaws.{one_as-exact, both-exact, either-exact, mapped-exact}
+use Rattle.exact_readers.specs.ExactLaws.{one_as-exact, both-exact, either-exact, mapped-exact, option_map-some}
 use Rattle.exact_readers.specs.Formats.{one_as, both}
 use Rattle.exact_readers.specs.ManyLaws.{taken-none}
 use Rattle.cut_input.specs.PieceLaws.{piece-exact, piece-here, piece-open, piece-long, long-more}
@@ -17,7 +17,7 @@ use Rattle.skkserv_proto.specs.declared.command.Wants.{Wants}
 use Rattle.skkserv_proto.specs.declared.request.Request.{Request}
 use Rattle.skkserv_proto.specs.Requests.{command_at, ends_reading, longest_reading, ended_reading, wanted_by}
 use Rattle.skkserv_proto.specs.Requests.{wanted_at, asking, asked_by, asked_alone, with_reading, token, tokens_of}
-use Rattle.skkserv_proto.specs.Requests.{end_in, all_asked, requests, reading_in, bad_by, bad_in, first_bad}
+use Rattle.skkserv_proto.specs.Requests.{end_by, end_in, all_asked, requests, reading_in, bad_by, bad_in, first_bad}
 
 -- Tokens are exact
 
@@ -207,3 +207,57 @@ bad-here bytes none =
 pub requests-here : (bytes : List ℕ) → token.step bytes ≡ None → requests bytes ≡ end_in bytes
 requests-here bytes none =
     ap (λ (parts : List (List Request) × List ℕ). all_asked parts.0 ++ end_in parts.1) (no-tokens bytes none)
+
+-- behind the end it stays, and nothing more is asked
+pub end-stays : (bytes fed : List ℕ) (byte : ℕ) (behind : List ℕ) → command_at byte ≡ commands.End
+    → (tokens_of bytes).1 ≡ byte ∷ behind
+    → (requests (bytes ++ fed) ≡ requests bytes) × ((tokens_of (bytes ++ fed)).1 ≡ byte ∷ (behind ++ fed))
+end-stays bytes fed byte behind command rest_is =
+    let tokens = no-tokens (byte ∷ (behind ++ fed)) (step-end byte (behind ++ fed) command) in
+    let all : tokens_of (bytes ++ fed) ≡ ((tokens_of bytes).0 ++ [], byte ∷ (behind ++ fed)) =
+    goes-on bytes fed
+    ∙ ap (λ ys. ((tokens_of bytes).0 ++ (tokens_of (ys ++ fed)).0, (tokens_of (ys ++ fed)).1)) rest_is
+    ∙ ap (λ (parts : List (List Request) × List ℕ). ((tokens_of bytes).0 ++ parts.0, parts.1)) tokens in (
+      ap (λ (parts : List (List Request) × List ℕ). all_asked parts.0 ++ end_in parts.1) all
+          ∙ ap (λ values. all_asked values ++ end_by (command_at byte)) (append-nil (tokens_of bytes).0)
+          ∙ ap (λ ys. all_asked (tokens_of bytes).0 ++ ys) (sym (ap end_in rest_is)),
+      ap (λ (parts : List (List Request) × List ℕ). parts.1) all,
+    )
+
+-- behind a bad byte this stays the first, and nothing more is asked
+pub bad-stays : (bytes fed : List ℕ) (at : ℕ) → first_bad bytes ≡ Some at
+    → (requests (bytes ++ fed) ≡ requests bytes) × (first_bad (bytes ++ fed) ≡ Some at)
+bad-stays bytes fed at found =
+    let rest = (tokens_of bytes).1 in
+    let (inner, bad, sum) = option_map-some (bad_in rest) (λ n. length bytes - length rest + n) at found in
+    let facts = is-bad rest inner bad in
+    let later = is-bad (rest ++ fed) inner (facts.stays fed) in (
+      requests-on bytes fed facts.no_end
+          ∙ ap (λ ys. requests bytes ++ ys) (requests-here (rest ++ fed) later.no_token ∙ later.no_end)
+          ∙ append-nil (requests bytes),
+      bad-on bytes fed
+          ∙ ap (option_map (λ n. length bytes - length rest + n))
+          (bad-here (rest ++ fed) later.no_token ∙ facts.stays fed)
+          ∙ ap Some sum,
+    )
+
+-- what bytes ask is the first of what is asked with more behind them
+pub requests-more : (bytes fed : List ℕ) → (more : List Request) × (requests (bytes ++ fed) ≡ requests bytes ++ more)
+requests-more bytes fed = by (tokens_of bytes).1 refl
+  where
+    on : end_in (tokens_of bytes).1 ≡ [] → (more : List Request) × (requests (bytes ++ fed) ≡ requests bytes ++ more)
+    on none = (requests ((tokens_of bytes).1 ++ fed), requests-on bytes fed none)
+
+    at : (byte : ℕ) (behind : List ℕ) → (tokens_of bytes).1 ≡ byte ∷ behind → (command : Command)
+        → command_at byte ≡ command → (more : List Request) × (requests (bytes ++ fed) ≡ requests bytes ++ more)
+    at byte behind e commands.End f = ([], (end-stays bytes fed byte behind f e).0 ∙ sym (append-nil (requests bytes)))
+    at byte behind e commands.LineEnd f = on (ap end_in e ∙ ap end_by f)
+    at byte behind e commands.Version f = on (ap end_in e ∙ ap end_by f)
+    at byte behind e commands.Host f = on (ap end_in e ∙ ap end_by f)
+    at byte behind e (commands.Reading wants) f = on (ap end_in e ∙ ap end_by f)
+    at byte behind e commands.Other f = on (ap end_in e ∙ ap end_by f)
+
+    by : (rest : List ℕ) → (tokens_of bytes).1 ≡ rest
+        → (more : List Request) × (requests (bytes ++ fed) ≡ requests bytes ++ more)
+    by [] e = on (ap end_in e)
+    by (byte ∷ behind) e = at byte behind e (command_at byte) refl

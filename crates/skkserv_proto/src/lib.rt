@@ -10,6 +10,7 @@ mod calling;
 mod command;
 mod feeder;
 mod front;
+mod laws;
 mod next;
 mod place;
 mod reading;
@@ -18,5 +19,6 @@ mod request;
 
 pub use calling::request_call;
 pub use feeder::{FeedFault, Feeder};
+pub use laws::requests_of_a_front;
 pub use reply::reply_bytes;
 pub use request::Request;

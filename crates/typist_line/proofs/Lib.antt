@@ -1,3 +1,5 @@
+pub mod Fronts
+pub mod KeyTexts
 pub mod Lines
 pub mod Pressing
 pub mod Results

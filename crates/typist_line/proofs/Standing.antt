@@ -34,7 +34,7 @@ use Rattle.typist_line.proofs.Talks.{opened-on}
 -- Lines
 
 -- what stands behind the last line decides how it goes on
-lines-on : (bytes more : List ℕ)
+pub lines-on : (bytes more : List ℕ)
     → lines_in (bytes ++ more)
     ≡ ((lines_in bytes).0 ++ (lines_in ((lines_in bytes).1 ++ more)).0, (lines_in ((lines_in bytes).1 ++ more)).1)
 lines-on bytes more = taken-on ended_line (piece-exact is_line_feed longest_line) bytes more
@@ -91,14 +91,16 @@ too-long begun bytes goes long =
       lt-ltb longest_line (length (begun_piece is_line_feed (begun ++ bytes))) longer,
     )
 
--- and stays so
-stays-long : (rest more : List ℕ) → is_too_long rest ≡ true
-    → (lines_in (rest ++ more) ≡ ([], rest ++ more)) × (is_too_long (rest ++ more) ≡ true)
+-- and stays so, and no line ends
+pub stays-long : (rest more : List ℕ) → is_too_long rest ≡ true
+    → ((lines_in (rest ++ more)).0 ≡ []) × (is_too_long (lines_in (rest ++ more)).1 ≡ true)
 stays-long rest more long =
     let longer = long-more is_line_feed longest_line rest more
-    (ltb-true longest_line (length (begun_piece is_line_feed rest)) long) in (
-      unended (rest ++ more) (piece-long is_line_feed longest_line (rest ++ more) longer),
-      lt-ltb longest_line (length (begun_piece is_line_feed (rest ++ more))) longer,
+    (ltb-true longest_line (length (begun_piece is_line_feed rest)) long) in
+    let none = unended (rest ++ more) (piece-long is_line_feed longest_line (rest ++ more) longer) in (
+      ap (λ p. p.0) none,
+      ap (λ p. is_too_long p.1) none
+          ∙ lt-ltb longest_line (length (begun_piece is_line_feed (rest ++ more))) longer,
     )
 
 -- a line that has begun is not too long
@@ -159,9 +161,7 @@ over-stays rules bytes more talk over =
     let rest = (lines_in bytes).1 in
     let later = lines_in (rest ++ more) in
     let all = over-means rules (lines_in bytes).0 later.0 (is_too_long rest) (is_too_long later.1) over.meaning
-    over.converses over.closed
-    (λ long. let stays = stays-long rest more long in
-    (ap (λ p. p.0) stays.0, ap (λ p. is_too_long p.1) stays.0 ∙ stays.1)) in
+    over.converses over.closed (stays-long rest more) in
     record {
       meaning = over.meaning;
       converses = converses-by rules (bytes ++ more) later.1 ((lines_in bytes).0 ++ later.0) (is_too_long later.1)

@@ -9,6 +9,8 @@ use Rattle.session_machine.specs.Session.{Session, new_session}
 use Rattle.typist_line.specs.declared.typing.Typist.{Typist}
 use Rattle.typist_line.specs.declared.typing.Typist.TheVariants.{New, Typing, Over}
 use Rattle.typist_line.specs.Conversations.{Conversation, typed, opened, fault_reply}
+use Rattle.typist_line.specs.FirstLaws.{first-followed}
+use Rattle.typist_line.specs.Firsts.{IsFirstOf}
 use Rattle.typist_line.specs.TypedLines.{Opening, KeyLine, keys, bad}
 
 -- what follows on what follows
@@ -63,3 +65,13 @@ opened-on rules opening lines more long dialog text session led =
     subst (λ meaning. Leads meaning dialog text (typed rules session more long))
     (ap (prints (line first)) (sym (typed-on rules first lines more long)))
     (leads-followed led (further rules more long))
+
+-- and what it comes to is the first of what it comes to with them
+pub opened-first : (rules : List Rule) (opening : Opening) (lines more : List KeyLine) (long : Bool)
+    → IsFirstOf (opened rules opening lines false) (opened rules opening (lines ++ more) long)
+opened-first rules opening lines more long =
+    let first = new_session opening.typist opening.book in (
+      refl,
+      subst (IsFirstOf (typed rules first lines false)) (sym (typed-on rules first lines more long))
+          (first-followed (typed rules first lines false) (further rules more long)),
+    )

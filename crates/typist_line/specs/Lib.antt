@@ -1,3 +1,5 @@
 pub mod Conversations
+pub mod FirstLaws
+pub mod Firsts
 pub mod TypedLines
 pub mod Typings

@@ -1,7 +1,8 @@
-ghost use Rattle.std.specs.Prelude.{◌≡◌, ◌↔◌, ℕ, List, true};
+ghost use Rattle.std.specs.Prelude.{◌≡◌, ◌↔◌, ◌++◌, ℕ, List, true};
 ghost use Rattle.romaji_rules.specs.declared.rule.Rule.{Rule};
 ghost use Rattle.skk_calls.specs.Interactions.{ends, Leads};
 ghost use Rattle.typist_line.specs.Conversations.{Conversation, Converses, IsClosed};
+ghost use Rattle.typist_line.specs.Firsts.{IsFirstOf};
 ghost use Rattle.typist_line.specs.Typings.{StandsSo, Talk, is_over};
 ghost use Rattle.typist_line.specs.declared.typing.Typist.{Typist};
 
@@ -14,4 +15,10 @@ pub fn bytes_lead_a_typist()
         × Leads meaning talk.dialog talk.text (ends typist) }
     ensures over { (rules : List Rule) (bytes : List ℕ) (talk : Talk) (typist : Typist) (begun : List ℕ)
         → StandsSo rules bytes talk typist begun → (is_over typist ≡ true) ↔ IsClosed bytes }
+{}
+
+/// What a front of the bytes of a typist's connection comes to is the first of what all of them come to.
+pub fn conversation_of_a_front()
+    ensures { (rules : List Rule) (front rest : List ℕ) (meaning whole : Conversation) → Converses rules front meaning
+        → Converses rules (front ++ rest) whole → IsFirstOf meaning whole }
 {}

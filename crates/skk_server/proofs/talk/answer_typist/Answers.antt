@@ -31,5 +31,5 @@ returns-clause-err g c =
     (heard said c.run_typist-going.new.caller items)))
     (sym (ap (λ bytes. bytes.items) c.count_lines.ensures))
     (on_err_weaker c.run_typist-going.result
-    (typist-broken c.args.rules.now c.args.bytes.now lines before after)
+    (typist-broken c.args.rules.now c.args.bytes.now lines before after c.exchange_of_a_front.ensures)
     c.run_typist-going.ensures.stops)

@@ -12,7 +12,8 @@ returns-in-Err-clause-err g c =
     ends-unread c.args.rules.now
     (moved_link g.K.Outside.left g.K.Outside.written g.K.Outside.faults c.args.link.now c.read.new.link)
     (g.C.Caller.said c.args.caller.now) c.args.self.now.talk c.args.self.now.taken c.in-Err.end
-    c.bytes_lead_a_typist.ensures.talk c.in-Err.ensures.err c.read.ensures.written (omega (arith, c.requires.left))
+    c.bytes_lead_a_typist.ensures.talk c.exchange_of_a_front.ensures c.in-Err.ensures.err c.read.ensures.written
+    (omega (arith, c.requires.left))
 
 pub returns-in-Err-default-clause-err : goal.returns-in-Err-default-clause-err
 returns-in-Err-default-clause-err g c =
@@ -53,7 +54,7 @@ returns-in-Ok-Err-clause-err g c =
     ends-unsent c.args.rules.now (moved_link left written faults c.args.link.now c.send-sent.new.link)
     (said c.args.caller.now) (said c.answer-going.new.caller) c.args.self.now.talk c.answer-going.new.self
     c.args.self.now.taken piece c.read.new.self.page.bytes.items c.answer-going.new.page.bytes.items some.0 going
-    c.bytes_lead_a_typist.ensures.talk
+    c.bytes_lead_a_typist.ensures.talk c.exchange_of_a_front.ensures
     (subst (λ talk. Answers c.args.rules.now piece talk c.answer-going.new.self before after going) c.read.ensures.talk
     (at_ok (Answers c.args.rules.now piece c.read.new.self.talk c.answer-going.new.self before after)
     c.answer-going.result going c.in-Ok-Err.is-0 c.answer-going.ensures.ok))

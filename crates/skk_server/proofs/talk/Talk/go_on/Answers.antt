@@ -37,7 +37,7 @@ returns-in-Client-clause-err g c =
     let after = heard said c.answer_client.new.caller c.answer_client.new.page.bytes.items in
     subst (λ talk. OnErr c.answer_client.result (BreaksOf rules bytes talk before after)) (sym c.in-Client.is)
     (on_err_weaker c.answer_client.result
-    (λ breaks. breaks-client rules bytes c.in-Client.feeder before after breaks)
+    (breaks-client rules bytes c.in-Client.feeder before after c.exchange_of_a_front.ensures)
     c.answer_client.ensures.err)
 
 pub returns-in-Typist-clause-err : goal.returns-in-Typist-clause-err
