@@ -1,3 +1,4 @@
+pub mod ConnectionExamples
 pub mod Fronts
 pub mod Requests
 pub mod Results
