@@ -7,7 +7,7 @@ use Rattle.romaji_rules.specs.declared.rule.Rule.{Rule}
 use Rattle.skk_outside.specs.Faults.{Rose}
 use Rattle.skk_outside.specs.Moved.{Told}
 use Rattle.skk_outside.specs.Written.{IsPrefix}
-use Rattle.skk_calls.specs.Interactions.{Dialog}
+use Rattle.skk_calls.specs.Interactions.{ends, Dialog, here}
 use Rattle.typist_line.specs.declared.typing.Going.{Going}
 use Rattle.typist_line.specs.declared.typing.Going.TheVariants.{More, Over}
 use Rattle.skk_server.specs.declared.end.End.{End}
@@ -300,8 +300,9 @@ so-far-limit rules link said said' talk taken there so_far full =
 
 -- memory was out before anything was read
 pub unserved : {L : Type 0} (rules : List Rule) (left written : L → Told) (faults : L → ℕ) (link : L) (said : Dialog)
-    → FrontsFirst → Serves rules (moved_link left written faults link link) said said Memory
-unserved rules left written faults link said fronts =
+    → Serves rules (moved_link left written faults link link) said said Memory
+unserved rules left written faults link said =
+    let nothing = nothing-means rules in
     record {
       bytes = [];
       dialog = [];
@@ -310,5 +311,16 @@ unserved rules left written faults link said fronts =
       few = omega (arith);
       says = sym (append-nil said);
       writes = Appends-nil (written link);
-      ends_so = all-some rules [] [] [] [] more fronts (nothing-means rules) ([], refl);
+      ends_so = record {
+        front = [];
+        rest = [];
+        bytes_are = refl;
+        exchange = nothing.0;
+        means = nothing.1;
+        replies = [];
+        to = ends more;
+        led = nothing.2;
+        begun = ([], refl);
+        first_of_all = λ whole means. (whole, here whole);
+      };
     }

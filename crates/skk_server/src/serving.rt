@@ -3,7 +3,6 @@ ghost use Rattle.skk_server.specs.Ends.{Serves, moved_link};
 
 use crate::connection::{Connection, MOST_BYTES};
 use crate::end::End;
-use crate::laws::exchange_of_a_front;
 use romaji_rules::Rules;
 use skk_calls::Caller;
 use skk_outside::{Gate, Link};
@@ -45,7 +44,6 @@ fn serve_turns<K: Link, C: Caller, G: Gate>(
     ensures counted { K.faults link.old ≤ K.faults link.new }
 {
     bytes_lead_a_typist();
-    exchange_of_a_front();
     let Ok(mut connection) = Connection::new(alloc) else {
         return End::Memory;
     };

@@ -6,7 +6,7 @@ use Rattle.skk_server.proofs.Turns.{unserved, so-far-new, so-far-on, so-far-ends
 pub returns-in_default-clause-serves : goal.returns-in_default-clause-serves
 returns-in_default-clause-serves g c =
     unserved c.args.rules.now g.K.Outside.left g.K.Outside.written g.K.Outside.faults c.args.link.now
-    (g.C.Caller.said c.args.caller.now) c.exchange_of_a_front.ensures
+    (g.C.Caller.said c.args.caller.now)
 
 pub loop-connection-init : goal.loop-connection-init
 loop-connection-init g c = (

@@ -1,0 +1,51 @@
+-- What is known of the works under way.
+use Rattle.std.specs.Prelude.{◌≡◌, ⊤, ℕ, ◌+◌, true, List, [], ◌∷◌}
+use Rattle.romaji_rules.specs.declared.rule.Rule.{Rule}
+use Rattle.skk_server.specs.declared.promised.Promised.{Promised}
+use Rattle.skk_server.specs.declared.work.Work.{Work}
+use Rattle.skk_server.specs.declared.work.Work.TheVariants.{Running, Done, Refused}
+use Rattle.skk_server.specs.Visits.{SeenLink, SeenCaller, HasWorked}
+
+-- the link that a work began with
+abbrev pub begun : {L C : Type 0} → Work L C → L
+begun (Running handle) = handle.promise.link.value
+begun (Done worked was) = was.link.value
+begun (Refused link was) = was.value
+
+-- how many passes a work has
+abbrev pub passes_of : {L C : Type 0} → Work L C → ℕ
+passes_of (Running handle) = 1
+passes_of (Done worked was) = 1
+passes_of (Refused link was) = 0
+
+-- how many passes works have
+abbrev pub passes_under_way : {L C : Type 0} → List (Work L C) → ℕ
+passes_under_way [] = 0
+passes_under_way (work ∷ works) = passes_of work + passes_under_way works
+
+-- a work began by these rules, with a caller of this number that had said nothing
+abbrev pub BeganWith : {L C : Type 0} → List Rule → SeenCaller C → ℕ → Promised L C → Type 0
+BeganWith rules callers number promise =
+    (promise.rules.value ≡ rules) × (callers.number promise.pass.value ≡ number)
+    × (callers.said promise.pass.value ≡ [])
+
+-- a link was closed, and nothing else was done with it
+pub record IsClosed {L : Type 0} (links : SeenLink L) (link link' : L) : Type 0 where
+  pub closed_is : links.closed link' ≡ true
+  pub left_is : links.left link' ≡ links.left link
+  pub written_is : links.written link' ≡ links.written link
+  pub faults_is : links.faults link' ≡ links.faults link
+
+-- a work is under way by these rules, with a caller of this number; one without a caller is the last
+abbrev pub IsUnderWay : {L C : Type 0} → List Rule → SeenLink L → SeenCaller C → ℕ → Work L C → List (Work L C) → Type 0
+IsUnderWay rules links callers number (Running handle) behind = BeganWith rules callers number handle.promise
+IsUnderWay rules links callers number (Done worked was) behind =
+    BeganWith rules callers number was
+    × HasWorked links callers was.rules.value was.link.value was.pass.value worked.link worked.pass worked.end
+IsUnderWay rules links callers number (Refused link was) behind = IsClosed links was.value link × (behind ≡ [])
+
+-- works are under way, oldest first, with callers whose numbers count on from the first
+abbrev pub AreUnderWay : {L C : Type 0} → List Rule → SeenLink L → SeenCaller C → ℕ → List (Work L C) → Type 0
+AreUnderWay rules links callers first [] = ⊤
+AreUnderWay rules links callers first (work ∷ works) =
+    IsUnderWay rules links callers first work works × AreUnderWay rules links callers (first + 1) works

@@ -1,0 +1,111 @@
+ghost use Rattle.std.specs.Prelude.{◌≡◌, ◌<◌, ◌+◌, ◌++◌, [], ◌∷◌};
+ghost use Rattle.std.specs.Prelude.{vec_len, vec_capacity};
+ghost use Rattle.std.specs.VecDeque.{deque_len, deque_capacity};
+ghost use Rattle.skk_server.specs.Services.{seen_listener};
+ghost use Rattle.skk_server.specs.Stages.{GivesBack, HasPlaces, CountsStay, Stage};
+ghost use Rattle.skk_server.specs.Visits.{seen_link, seen_caller};
+
+use crate::end::End;
+use crate::hall::Hall;
+use crate::promised::Worked;
+use crate::start::Start;
+use crate::work::Work;
+use skk_calls::{Caller, Kept, Office};
+use skk_outside::{Link, Listener};
+use std::thread::Threads;
+
+impl<L: Link, C: Caller, S: Kept> Hall<L, C, S> {
+    /// Waits until every connection under way has ended, and gives their links back.
+    pub(crate) fn see_all_off<R: Threads, N: Listener<Link = L>, W: Office<Pass = C, Slip = S>>(
+        &mut self,
+        rt: &R,
+        net: &mut N,
+        office: &W,
+        start: &Start<N>,
+    )
+        requires places { HasPlaces self.old }
+        requires stage { Stage (seen_listener N.coming N.over N.out N.faults)
+            (seen_link L.left L.written L.faults L.closed) (seen_caller C.number C.said) (seen_caller S.number S.said)
+            start.now net.old self.old }
+        ensures none { deque_len self.new.works ≡ 0 }
+        ensures counts { CountsStay self.old self.new }
+        ensures coming { N.coming net.new ≡ N.coming net.old }
+        ensures faults { N.faults net.new ≡ N.faults net.old }
+        ensures stage { Stage (seen_listener N.coming N.over N.out N.faults)
+            (seen_link L.left L.written L.faults L.closed) (seen_caller C.number C.said) (seen_caller S.number S.said)
+            start.now net.new self.new }
+    {
+        for _ in 0..self.works.len() {
+            self.see_oldest_off(rt, net, office, start);
+        }
+    }
+
+    /// Waits until the oldest connection under way has ended, and gives its link back.
+    pub(crate) fn see_oldest_off<R: Threads, N: Listener<Link = L>, W: Office<Pass = C, Slip = S>>(
+        &mut self,
+        rt: &R,
+        net: &mut N,
+        office: &W,
+        start: &Start<N>,
+    )
+        requires some { 0 < deque_len self.old.works }
+        requires places { HasPlaces self.old }
+        requires stage { Stage (seen_listener N.coming N.over N.out N.faults)
+            (seen_link L.left L.written L.faults L.closed) (seen_caller C.number C.said) (seen_caller S.number S.said)
+            start.now net.old self.old }
+        ensures one_less { deque_len self.new.works + 1 ≡ deque_len self.old.works }
+        ensures places { HasPlaces self.new }
+        ensures counts { CountsStay self.old self.new }
+        ensures coming { N.coming net.new ≡ N.coming net.old }
+        ensures faults { N.faults net.new ≡ N.faults net.old }
+        ensures stage { Stage (seen_listener N.coming N.over N.out N.faults)
+            (seen_link L.left L.written L.faults L.closed) (seen_caller C.number C.said) (seen_caller S.number S.said)
+            start.now net.new self.new }
+    {
+        let Some(work) = self.works.pop_front() else {
+            unreachable!();
+        };
+        match work {
+            Work::Running(handle) => self.part_from(net, office, handle.join(rt)),
+            Work::Done(worked, _) => self.part_from(net, office, worked),
+            Work::Refused(link, _) => self.give_back(net, link, End::Memory),
+        }
+    }
+
+    // Takes apart what a worker hands back: rests the caller, and gives the link back.
+    fn part_from<N: Listener<Link = L>, W: Office<Pass = C, Slip = S>>(
+        &mut self,
+        net: &mut N,
+        office: &W,
+        worked: Worked<L, C>,
+    )
+        requires out { 0 < N.out net.old }
+        requires passes_fit { vec_len self.old.passes < vec_capacity self.old.passes }
+        requires ends_fit { vec_len self.old.ends < vec_capacity self.old.ends }
+        ensures slip { (slip : _) × (self.new.passes.items ≡ self.old.passes.items ++ slip ∷ [])
+            × (S.number slip ≡ C.number worked.pass) × (S.said slip ≡ C.said worked.pass) }
+        ensures ends { self.new.ends.items ≡ self.old.ends.items ++ worked.end ∷ [] }
+        ensures gives_back { GivesBack (seen_listener N.coming N.over N.out N.faults) net.old net.new worked.link }
+        ensures works { self.new.works ≡ self.old.works }
+        ensures passes_kept { vec_capacity self.new.passes ≡ vec_capacity self.old.passes }
+        ensures ends_kept { vec_capacity self.new.ends ≡ vec_capacity self.old.ends }
+    {
+        let Worked { link, pass, end } = worked;
+        self.passes.push_reserved(office.rest(pass));
+        self.give_back(net, link, end);
+    }
+
+    // Gives a link back whose connection ended so.
+    fn give_back<N: Listener<Link = L>>(&mut self, net: &mut N, link: L, end: End)
+        requires out { 0 < N.out net.old }
+        requires fits { vec_len self.old.ends < vec_capacity self.old.ends }
+        ensures ends { self.new.ends.items ≡ self.old.ends.items ++ end ∷ [] }
+        ensures gives_back { GivesBack (seen_listener N.coming N.over N.out N.faults) net.old net.new link }
+        ensures works { self.new.works ≡ self.old.works }
+        ensures passes { self.new.passes ≡ self.old.passes }
+        ensures kept { vec_capacity self.new.ends ≡ vec_capacity self.old.ends }
+    {
+        net.done(link);
+        self.ends.push_reserved(end);
+    }
+}

@@ -1,0 +1,193 @@
+ghost use Rattle.std.specs.Prelude.{◌≡◌, ◌≤◌, ◌<◌, ◌+◌, OnOk, IfOk, IfErr};
+ghost use Rattle.skk_server.specs.Services.{EndsServing, seen_listener};
+ghost use Rattle.skk_server.specs.Stages.{accepted_in, passes_in, HasPlaces, HasPlace, CountsStay, Stage, AddsWork};
+ghost use Rattle.skk_server.specs.Stages.{TakesLink, TakesNone, EndsTaking};
+ghost use Rattle.skk_server.specs.Visits.{seen_link, seen_caller};
+
+use crate::hall::{Hall, WORKERS};
+use crate::served_end::ServedEnd;
+use crate::start::Start;
+use crate::work::{begin, refuse};
+use romaji_rules::Rules;
+use skk_calls::{Caller, Kept, Office};
+use skk_outside::{Failed, Gate, Link, Listener};
+use skk_text::Memory;
+use std::alloc::Global;
+use std::thread::{Scope, Threads};
+
+impl<'s, L: Link + Send + Drop + 's, C: Caller + Send + Drop + 's, S: Kept> Hall<L, C, S> {
+    /// Takes connections in until there are as many as asked for, or none can come, or a call fails.
+    pub(crate) fn take_all<
+        E,
+        R: Threads,
+        N: Listener<Link = L>,
+        W: Office<Pass = C, Slip = S>,
+        G: Gate + Sync,
+    >(
+        &mut self,
+        scope: &'s Scope<'s, E>,
+        rt: &R,
+        alloc: Global,
+        net: &mut N,
+        connections: u32,
+        rules: &'s Rules,
+        office: &W,
+        roll: &mut W::Roll,
+        gate: &'s G,
+        start: &Start<N>,
+    ) -> ServedEnd
+        requires owns { W.owns office.now roll.old }
+        requires few { W.drawn roll.old + connections ≤ 4294967295 }
+        requires rules { start.now.rules.value ≡ rules.now }
+        requires drawn { W.drawn roll.old ≡ start.now.first + passes_in self.old }
+        requires none { (accepted_in self.old ≡ 0) × (passes_in self.old ≡ 0) }
+        requires places { HasPlaces self.old }
+        requires stage { Stage (seen_listener N.coming N.over N.out N.faults)
+            (seen_link L.left L.written L.faults L.closed) (seen_caller C.number C.said) (seen_caller S.number S.said)
+            start.now net.old self.old }
+        ensures owned { W.owns office.now roll.new }
+        ensures drawn { W.drawn roll.new ≡ start.now.first + passes_in self.new }
+        ensures few { accepted_in self.new ≤ connections }
+        ensures ends { EndsServing (seen_listener N.coming N.over N.out N.faults) start.now.net.value net.new
+            connections (accepted_in self.new) (passes_in self.new) result }
+        ensures places { HasPlaces self.new }
+        ensures stage { Stage (seen_listener N.coming N.over N.out N.faults)
+            (seen_link L.left L.written L.faults L.closed) (seen_caller C.number C.said) (seen_caller S.number S.said)
+            start.now net.new self.new }
+    {
+        for _ in 0..connections {
+            if let Err(end) = self.take_one(
+                scope, rt, alloc, net, rules, office, roll, gate, start,
+            ) {
+                return end;
+            }
+        }
+        ServedEnd::Done
+    }
+
+    // Takes a connection in, when the oldest under way has ended where there are as many as may be. An end is told as
+    // an error.
+    fn take_one<
+        E,
+        R: Threads,
+        N: Listener<Link = L>,
+        W: Office<Pass = C, Slip = S>,
+        G: Gate + Sync,
+    >(
+        &mut self,
+        scope: &'s Scope<'s, E>,
+        rt: &R,
+        alloc: Global,
+        net: &mut N,
+        rules: &'s Rules,
+        office: &W,
+        roll: &mut W::Roll,
+        gate: &'s G,
+        start: &Start<N>,
+    ) -> Result<(), ServedEnd>
+        requires owns { W.owns office.now roll.old }
+        requires room { W.drawn roll.old < 4294967295 }
+        requires rules { start.now.rules.value ≡ rules.now }
+        requires drawn { W.drawn roll.old ≡ start.now.first + passes_in self.old }
+        requires level { passes_in self.old ≡ accepted_in self.old }
+        requires places { HasPlaces self.old }
+        requires stage { Stage (seen_listener N.coming N.over N.out N.faults)
+            (seen_link L.left L.written L.faults L.closed) (seen_caller C.number C.said) (seen_caller S.number S.said)
+            start.now net.old self.old }
+        ensures owned { W.owns office.now roll.new }
+        ensures drawn { W.drawn roll.new ≡ start.now.first + passes_in self.new }
+        ensures one_more { accepted_in self.new ≤ accepted_in self.old + 1 }
+        ensures ok { OnOk result ((accepted_in self.new ≡ accepted_in self.old + 1)
+            × (passes_in self.new ≡ passes_in self.old + 1)) }
+        ensures err { IfErr result (λ end. EndsTaking (seen_listener N.coming N.over N.out N.faults) net.old net.new
+            self.old self.new end) }
+        ensures places { HasPlaces self.new }
+        ensures stage { Stage (seen_listener N.coming N.over N.out N.faults)
+            (seen_link L.left L.written L.faults L.closed) (seen_caller C.number C.said) (seen_caller S.number S.said)
+            start.now net.new self.new }
+    {
+        if let Err(Memory) = self.make_place(rt, net, office, start) {
+            return Err(ServedEnd::Memory);
+        }
+        match accept(net) {
+            Ok(link) => self.welcome(scope, alloc, rules, office, roll, gate, link),
+            Err(end) => Err(end),
+        }
+    }
+
+    // Makes room for one connection more, and for what it leaves.
+    fn make_place<R: Threads, N: Listener<Link = L>, W: Office<Pass = C, Slip = S>>(
+        &mut self,
+        rt: &R,
+        net: &mut N,
+        office: &W,
+        start: &Start<N>,
+    ) -> Result<(), Memory>
+        requires places { HasPlaces self.old }
+        requires stage { Stage (seen_listener N.coming N.over N.out N.faults)
+            (seen_link L.left L.written L.faults L.closed) (seen_caller C.number C.said) (seen_caller S.number S.said)
+            start.now net.old self.old }
+        ensures ok { OnOk result (HasPlace self.new) }
+        ensures places { HasPlaces self.new }
+        ensures counts { CountsStay self.old self.new }
+        ensures coming { N.coming net.new ≡ N.coming net.old }
+        ensures faults { N.faults net.new ≡ N.faults net.old }
+        ensures stage { Stage (seen_listener N.coming N.over N.out N.faults)
+            (seen_link L.left L.written L.faults L.closed) (seen_caller C.number C.said) (seen_caller S.number S.said)
+            start.now net.new self.new }
+    {
+        if self.works.len() == WORKERS {
+            self.see_oldest_off(rt, net, office, start);
+        }
+        self.passes.reserve(self.works.len() + 1)?;
+        self.ends.reserve(self.works.len() + 1)?;
+        Ok(())
+    }
+
+    // Begins to serve a connection with a caller of its own. Where there is no memory for one it is closed, and that is
+    // told as an error.
+    fn welcome<E, W: Office<Pass = C, Slip = S>, G: Gate + Sync>(
+        &mut self,
+        scope: &'s Scope<'s, E>,
+        alloc: Global,
+        rules: &'s Rules,
+        office: &W,
+        roll: &mut W::Roll,
+        gate: &'s G,
+        link: L,
+    ) -> Result<(), ServedEnd>
+        requires owns { W.owns office.now roll.old }
+        requires room { W.drawn roll.old < 4294967295 }
+        requires place { HasPlace self.old }
+        ensures owned { W.owns office.now roll.new }
+        ensures adds { AddsWork rules.now (seen_link L.left L.written L.faults L.closed) (seen_caller C.number C.said)
+            (W.drawn roll.old) (W.drawn roll.new) link self.old self.new }
+        ensures ok { OnOk result (W.drawn roll.new ≡ W.drawn roll.old + 1) }
+        ensures err { IfErr result (λ end. (end ≡ ServedEnd.Memory) × (W.drawn roll.new ≡ W.drawn roll.old)) }
+        ensures places { HasPlaces self.new }
+    {
+        match office.admit(alloc, roll) {
+            Ok(pass) => {
+                self.works
+                    .push_back_reserved(begin(scope, alloc, rules, gate, link, pass));
+                Ok(())
+            }
+            Err(Memory) => {
+                self.works.push_back_reserved(refuse(link));
+                Err(ServedEnd::Memory)
+            }
+        }
+    }
+}
+
+// Accepts a link. An end is told as an error.
+fn accept<N: Listener>(net: &mut N) -> Result<N::Link, ServedEnd>
+    ensures ok { IfOk result (λ link. TakesLink (seen_listener N.coming N.over N.out N.faults) net.old net.new link) }
+    ensures err { IfErr result (λ end. TakesNone (seen_listener N.coming N.over N.out N.faults) net.old net.new end) }
+{
+    match net.accept() {
+        Ok(Some(link)) => Ok(link),
+        Ok(None) => Err(ServedEnd::Done),
+        Err(Failed) => Err(ServedEnd::Fault),
+    }
+}
