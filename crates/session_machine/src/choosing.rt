@@ -92,6 +92,7 @@ fn learn<C: Caller>(
     let shown = conversion.picking.shown_list().at(place);
     let call = insert_choice(session, alloc, conversion.reading.reading(), shown, piece)?;
     let answer = caller.call(alloc, &call);
+    drop(call);
     take_learning(session, conversion, piece, answer);
     apply_choice(session, alloc, rules, then, caller)
 }
@@ -108,9 +109,8 @@ fn insert_choice(
         ≡ Learn session.old.book shown.entry.key.now (okuri_of reading.now) shown.entry.cand.now) }
     ensures inserted { OnOk result (session.new ≡ with_piece session.old piece.now) }
 {
-    let call = learning(alloc, session.book, reading, shown)?;
     session.frame.text.push_str(piece.as_str())?;
-    Ok(call)
+    learning(alloc, session.book, reading, shown)
 }
 
 // The call that learns a candidate that was found for a reading.

@@ -31,6 +31,7 @@ pub(crate) fn complete<C: Caller>(
         prefix: reading.text().copy(alloc)?,
     };
     let answer = caller.call(alloc, &call);
+    drop(call);
     take_completions(session, alloc, reading, answer)
 }
 

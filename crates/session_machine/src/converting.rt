@@ -62,6 +62,7 @@ fn look_key_up<C: Caller>(
         okuri: reading.okuri(alloc)?,
     };
     let answer = caller.call(alloc, &call);
+    drop(call);
     Ok(key_found(key, found_by(answer)))
 }
 

@@ -50,7 +50,7 @@ impl Session {
     {
         match &mut self.frame.state {
             State::Plain(waiting) => *waiting = pending,
-            state => *state = State::Plain(pending),
+            state => drop(mem::replace(state, State::Plain(pending))),
         }
     }
 
@@ -58,14 +58,14 @@ impl Session {
     pub(crate) fn put_frame(&mut self, frame: Frame)
         ensures { self.new ≡ with_frame self.old frame }
     {
-        self.frame = frame;
+        drop(mem::replace(&mut self.frame, frame));
     }
 
     // Puts another state into the frame.
     pub(crate) fn put_state(&mut self, state: State)
         ensures { self.new ≡ with_state self.old state }
     {
-        self.frame.state = state;
+        drop(mem::replace(&mut self.frame.state, state));
     }
 
     // Notes what a step tells, where it tells something.

@@ -60,7 +60,9 @@ fn look_number_up<C: Caller>(
         key: RowKey::new(Part::Nasi, number.copy(alloc)?).unwrap(),
         okuri: None,
     };
-    Ok(caller.call(alloc, &call))
+    let answer = caller.call(alloc, &call);
+    drop(call);
+    Ok(answer)
 }
 
 // What stands for a number that was looked up: the word of the first candidate, or else its digits.

@@ -11,13 +11,25 @@ use skk_text::{Memory, Mode, Text};
 use std::alloc::Global;
 
 /// A text that keys are typed into: the typist's line, or a word that is being registered.
-#[derive(Drop)]
 pub struct Frame {
     pub text: Text,
     pub mode: Mode,
     pub state: State,
     /// What was chosen last, while it can be taken back.
     pub last_choice: Option<Choice>,
+}
+
+// Written out, as are those of the types below, so that whatever lets one go makes one call.
+impl Drop for Frame {
+    fn drop(self) {
+        let Frame {
+            text: _,
+            mode: _,
+            state,
+            last_choice: _,
+        } = self;
+        drop(state);
+    }
 }
 
 /// What a frame's next key goes to.
@@ -32,15 +44,21 @@ pub enum State {
 }
 
 /// Candidates that are shown for a reading.
-#[derive(Drop)]
 pub struct Conversion {
     /// As it was when it was converted.
     pub reading: Headword,
     pub picking: Picking,
 }
 
+impl Drop for Conversion {
+    fn drop(self) {
+        let Conversion { reading, picking } = self;
+        drop(reading);
+        drop(picking);
+    }
+}
+
 /// What was chosen of candidates, and what it takes to take it back.
-#[derive(Drop)]
 pub struct Choice {
     /// How many characters were put at the end of the text.
     pub inserted: usize,
@@ -54,13 +72,37 @@ pub struct Choice {
     pub learned: Option<Learned>,
 }
 
+impl Drop for Choice {
+    fn drop(self) {
+        let Choice {
+            inserted: _,
+            end: _,
+            mode: _,
+            conversion: _,
+            learned,
+        } = self;
+        drop(learned);
+    }
+}
+
 /// A frame outside a registration (辞書登録), which waits for the word of its reading.
-#[derive(Drop)]
 pub struct OuterFrame {
     pub text: Text,
     pub mode: Mode,
     pub waiting: Waiting,
     pub last_choice: Option<Choice>,
+}
+
+impl Drop for OuterFrame {
+    fn drop(self) {
+        let OuterFrame {
+            text: _,
+            mode: _,
+            waiting,
+            last_choice: _,
+        } = self;
+        drop(waiting);
+    }
 }
 
 /// What a registration was opened for, and what stands there again where it is cancelled.
@@ -89,11 +131,18 @@ impl Frame {
     pub(crate) fn outside(self, waiting: Waiting) -> OuterFrame
         ensures { result ≡ outside self waiting }
     {
+        let Frame {
+            text,
+            mode,
+            state,
+            last_choice,
+        } = self;
+        drop(state);
         OuterFrame {
-            text: self.text,
-            mode: self.mode,
+            text,
+            mode,
             waiting,
-            last_choice: self.last_choice,
+            last_choice,
         }
     }
 }
@@ -103,11 +152,17 @@ impl OuterFrame {
     pub(crate) fn as_before(self) -> Frame
         ensures { result ≡ as_before self }
     {
+        let OuterFrame {
+            text,
+            mode,
+            waiting,
+            last_choice,
+        } = self;
         Frame {
-            text: self.text,
-            mode: self.mode,
-            state: self.waiting.into_state(),
-            last_choice: self.last_choice,
+            text,
+            mode,
+            state: waiting.into_state(),
+            last_choice,
         }
     }
 
@@ -115,14 +170,47 @@ impl OuterFrame {
     pub(crate) fn with_word(self, piece: &Text) -> Result<Frame, Memory>
         ensures { IfOk result (λ frame. frame ≡ with_word self piece.now) }
     {
-        let mut text = self.text;
+        let OuterFrame {
+            mut text,
+            mode,
+            waiting,
+            last_choice: _,
+        } = self;
+        drop(waiting);
         text.push_str(piece.as_str())?;
         Ok(Frame {
             text,
-            mode: self.mode,
+            mode,
             state: State::Plain(Pending::new()),
             last_choice: None,
         })
+    }
+}
+
+impl Conversion {
+    // The reading that was converted. The candidates go.
+    pub(crate) fn into_reading(self) -> Reading
+        ensures { result ≡ self.reading }
+    {
+        let Conversion { reading, picking } = self;
+        drop(picking);
+        reading.into_reading()
+    }
+}
+
+impl Choice {
+    // The candidates, and what was learnt.
+    pub(crate) fn into_parts(self) -> (Conversion, Option<Learned>)
+        ensures { result ≡ (self.conversion, self.learned) }
+    {
+        let Choice {
+            inserted: _,
+            end: _,
+            mode: _,
+            conversion,
+            learned,
+        } = self;
+        (conversion, learned)
     }
 }
 

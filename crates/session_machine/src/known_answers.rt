@@ -8,6 +8,7 @@ use crate::copying::{copy_answer, copy_call};
 use skk_calls::{Answer, Call, Refusal};
 use skk_text::Memory;
 use std::alloc::Global;
+use std::mem;
 
 // Answers that are known, and are given to calls one after another. The call behind them is kept, and refused, and so
 // are those that follow.
@@ -79,7 +80,7 @@ fn keep(alloc: Global, known: &mut KnownAnswers<'_>, call: &Call)
     ensures same { record known.new { stage = known.old.stage } ≡ known.old }
     ensures kept { Keeps call.now known.new.stage }
 {
-    known.stage = kept(alloc, call);
+    drop(mem::replace(&mut known.stage, kept(alloc, call)));
 }
 
 // The stage in which a call is kept.
@@ -110,7 +111,7 @@ fn give<'a>(
             answer
         }
         Err(Memory) => {
-            known.stage = Stage::Failed;
+            drop(mem::replace(&mut known.stage, Stage::Failed));
             Answer::Refused(Refusal::Memory)
         }
     }

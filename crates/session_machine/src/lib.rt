@@ -7,6 +7,9 @@
 //! (`pressed` in the specs): it ends with the session after the key, or makes a call and goes on by the answer.
 //! `Session::press` promises that the session is the one that the tree comes to by the answers that its caller gave,
 //! and that the calls it made are those that the tree asks, none more. `printing` shows a session as it is printed.
+
+// A value that holds much is let go by name, as in `drop(answer)`, or by a `drop` that is written out beside its type:
+// its letting go is proved once then, and not at each place.
 #![tactic(auto)]
 
 mod answer_kinds;

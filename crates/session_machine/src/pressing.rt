@@ -169,19 +169,9 @@ fn press_in_picking<C: Caller>(
     ensures { Says (picking_pressed rules.now session.old conversion key) (after result session.new)
         (spoken C.number C.said caller.old) (spoken C.number C.said caller.new) }
 {
-    let Conversion {
-        reading,
-        mut picking,
-    } = conversion;
-    let done = press_cands(&mut picking, key);
-    apply_picking(
-        session,
-        alloc,
-        rules,
-        Conversion { reading, picking },
-        done,
-        caller,
-    )
+    let mut conversion = conversion;
+    let done = press_cands(&mut conversion.picking, key);
+    apply_picking(session, alloc, rules, conversion, done, caller)
 }
 
 // Does what a key of the candidate state does.
@@ -206,7 +196,7 @@ fn apply_picking<C: Caller>(
             Ok(())
         }
         CandsDo::Back => {
-            session.put_state(State::Reading(conversion.reading.into_reading()));
+            session.put_state(State::Reading(conversion.into_reading()));
             Ok(())
         }
         CandsDo::Register => register(session, alloc, Waiting::Picking(conversion)),

@@ -29,7 +29,9 @@ pub(crate) fn purge<C: Caller>(
         .at(conversion.picking.place());
     let call = purging(alloc, session.book, shown)?;
     let answer = caller.call(alloc, &call);
+    drop(call);
     take_purge(session, conversion, &answer);
+    drop(answer);
     Ok(())
 }
 

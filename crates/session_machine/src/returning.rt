@@ -52,7 +52,10 @@ pub(crate) fn put_return<C: Caller>(
         }
         Return::Learn { call, piece } => {
             let answer = caller.call(alloc, &call);
-            take_registration(session, &piece, &answer)
+            drop(call);
+            let done = take_registration(session, &piece, &answer);
+            drop(answer);
+            done
         }
     }
 }

@@ -29,9 +29,10 @@ impl Drop for Session {
             typist: _,
             book: _,
             frame: _,
-            outer: _,
+            outer,
             notice: _,
         } = self;
+        drop(outer);
     }
 }
 

@@ -34,9 +34,10 @@ fn go_before(session: &mut Session, choice: Choice) -> Option<Learned>
 {
     delete_chars(&mut session.frame.text, choice.inserted);
     session.frame.mode = choice.mode;
-    session.put_state(State::Picking(choice.conversion));
+    let (conversion, learned) = choice.into_parts();
+    session.put_state(State::Picking(conversion));
     session.frame.last_choice = None;
-    choice.learned
+    learned
 }
 
 // Takes back what was learnt, if anything was.
@@ -54,6 +55,9 @@ fn unlearn<C: Caller>(
         session.notice = SessionNotice::Undone;
         return;
     };
-    let answer = caller.call(alloc, &Call::Unlearn { learned });
+    let call = Call::Unlearn { learned };
+    let answer = caller.call(alloc, &call);
+    drop(call);
     session.notice = notice_of(&answer);
+    drop(answer);
 }
