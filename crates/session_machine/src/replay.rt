@@ -35,11 +35,21 @@ impl AnswersName for Brand {
 }
 
 // A caller that gives known answers. Contracts see what it has said, the answers that are left, and where it stands.
-#[derive(Drop)]
 pub(crate) struct Replay<'a, N: AnswersName> {
     known: KnownAnswers<'a>,
     said: DialogTrace,
     answers: PhantomData<N>,
+}
+
+impl<N: AnswersName> Drop for Replay<'_, N> {
+    fn drop(self) {
+        let Replay {
+            known,
+            said: _,
+            answers: _,
+        } = self;
+        drop(known);
+    }
 }
 
 impl<'a, N: AnswersName> Model for Replay<'a, N> {
