@@ -31,6 +31,7 @@ pub(crate) fn confirm<C: Caller>(
         session.note(Notice::Limit);
         return Ok(());
     }
+    drop(reading);
     session.frame.text.push_str(piece.as_str())?;
     apply_confirmed(session, alloc, then, caller)
 }

@@ -138,7 +138,8 @@ impl Session {
         requires { may_answer_all (pressed rules.now self.now key) answers.now ≡ true }
         ensures { IfOk result (λ end. end ≡ end_of (pressed rules.now self.now key) answers.now) }
     {
-        let Replayed { end, .. } = replay(self, alloc, rules, key, answers)?;
+        let Replayed { next, end } = replay(self, alloc, rules, key, answers)?;
+        drop(next);
         Ok(end)
     }
 
