@@ -3,6 +3,7 @@ use Rattle.std.proofs.Common.{◌≡◌, ◌≢◌, ◌⊎◌, ◌≤◌, sym, r
 use Rattle.std.proofs.Common.{◌∙◌, subst, arith, inl, inr, rules, Result, Ok, Err, IsErrAnd, IsErrOf}
 use Rattle.std.specs.Fmt.{decimal}
 use Rattle.std.specs.Int.{IsInRange}
+use Rattle.std.proofs.lemmas.Fmt.{decimal_injective}
 use Rattle.std.proofs.lemmas.List.{append_assoc}
 use Rattle.skk_text.specs.KeyText.{spelled}
 use Rattle.key_scripts.specs.Script.{IsSession, IsTypist, Spells, Follows}
@@ -49,6 +50,19 @@ owner-follows text rest number mark between typist book small no_digit e other_n
 
 pub book-small : (typist book : ℕ) → IsTypist typist → (book ≡ 0) ⊎ (book ≡ typist) → book ≤ 99999
 book-small typist book small own = elim own [ inl e ↦ omega arith | inr e ↦ omega arith ]
+
+-- so a text writes one typist and one book
+pub same_opening : (between typist book other other_book : ℕ) → (¬ IsInRange 48 57 between) → IsTypist typist
+    → (book ≡ 0) ⊎ (book ≡ typist) → IsTypist other → (other_book ≡ 0) ⊎ (other_book ≡ other)
+    → decimal typist ++ between ∷ decimal book ≡ decimal other ++ between ∷ decimal other_book
+    → (typist ≡ other) × (book ≡ other_book)
+same_opening between typist book other other_book no_digit small own other_small other_own e =
+    let one =
+    owner-follows (decimal typist ++ between ∷ decimal book) (decimal book) typist between between other other_book
+    (omega (arith, small)) no_digit refl no_digit other_small e in
+    let bound = book-small typist book small own in
+    let bound' = book-small other other_book other_small other_own in
+    (one.0, decimal_injective book other_book (omega (arith, bound)) (omega (arith, bound')) one.2)
 
 -- what follows a session's number and the byte behind it is what the whole line says
 pub follows-line : (text rest : List ℕ) (line : Line) (number mark : ℕ) → IsSession number

@@ -5,7 +5,6 @@ use Rattle.std.proofs.Common.{Contains}
 use Rattle.std.specs.Fmt.{decimal}
 use Rattle.std.specs.Int.{IsInRange}
 use Rattle.std.proofs.lemmas.Bool.{and_from, cases_order, eq-eqb, eqb-true, or_left, or_right}
-use Rattle.std.proofs.lemmas.Fmt.{decimal_injective}
 use Rattle.std.proofs.lemmas.List.{append_assoc, append-nil, length-append, get_or_append_left}
 use Rattle.std.proofs.lemmas.List.Elements.{filter-append}
 use Rattle.std.proofs.lemmas.List.Folds.{list_all-append}
@@ -16,8 +15,8 @@ use Rattle.key_scripts.specs.Script.{Spells, Follows, Says, MayFollow, IsFirstBa
 use Rattle.key_scripts.specs.Script.{session_of, gives_keys, own_lines, OpenFirst}
 use Rattle.key_scripts.specs.declared.line.Line.{Line}
 use Rattle.key_scripts.specs.declared.line.Line.TheVariants.{Keys, Opening}
-use Rattle.key_scripts.proofs.Numbers.{one_number, decimal-digit_at, decimal-length}
-use Rattle.key_scripts.proofs.LineReading.{line-follows, colon_no_digit, equals_no_digit, comma_no_digit, book-small}
+use Rattle.key_scripts.proofs.Numbers.{decimal-digit_at, decimal-length}
+use Rattle.key_scripts.proofs.LineReading.{line-follows, colon_no_digit, equals_no_digit, comma_no_digit, same_opening}
 
 -- a text is the spelling of one list of keys at most
 abbrev pub OneListOfKeys : Type 0
@@ -61,12 +60,10 @@ same_follows unique number mark rest (Opening session typist book) (Keys session
     absurd (omega (arith, follows.1, others.1))
 same_follows unique number mark rest (Opening session typist book) (Opening session' typist' book') follows others =
     let same : session ≡ session' = follows.0 ∙ sym others.0 in
-    let one = one_number rest (decimal book) (decimal book') typist 44 typist' 44 (omega arith) comma_no_digit follows.4
-    (omega arith) comma_no_digit others.4 in
+    let one = same_opening 44 typist book typist' book' comma_no_digit follows.2 follows.3 others.2 others.3
+    (sym follows.4 ∙ others.4) in
     let same_typist : typist ≡ typist' = one.0 in
-    let bound = book-small typist book follows.2 follows.3 in
-    let bound' = book-small typist' book' others.2 others.3 in
-    let same_book : book ≡ book' = decimal_injective book book' (omega arith) (omega arith) one.2 in cc
+    let same_book : book ≡ book' = one.1 in cc
 
 -- a text that begins with a session says one line
 one_follows : OneListOfKeys → (text rest : List ℕ) (line : Line) (other : Option Line) (session mark : ℕ)

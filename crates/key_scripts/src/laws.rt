@@ -1,5 +1,7 @@
-ghost use Rattle.std.specs.Prelude.{◌≡◌, ℕ, List, []};
-ghost use Rattle.key_scripts.specs.Script.{Says, IsFirstBad};
+ghost use Rattle.std.specs.Prelude.{◌≡◌, ◌⊎◌, ◌++◌, ◌∷◌, ℕ, List, []};
+ghost use Rattle.std.specs.Fmt.{decimal};
+ghost use Rattle.std.specs.Int.{IsInRange};
+ghost use Rattle.key_scripts.specs.Script.{IsTypist, Says, IsFirstBad};
 ghost use Rattle.key_scripts.specs.declared.line.Line.{Line};
 
 use skk_text::one_list_of_keys;
@@ -27,3 +29,11 @@ pub fn one_bad_line()
 {
     one_list_of_keys();
 }
+
+/// A text writes one typist and one book at most, with a byte between them that is no digit.
+pub fn one_typist_and_book()
+    ensures { (between typist book other other_book : ℕ) → ¬ IsInRange 48 57 between → IsTypist typist
+        → (book ≡ 0) ⊎ (book ≡ typist) → IsTypist other → (other_book ≡ 0) ⊎ (other_book ≡ other)
+        → decimal typist ++ between ∷ decimal book ≡ decimal other ++ between ∷ decimal other_book
+        → (typist ≡ other) × (book ≡ other_book) }
+{}

@@ -11,6 +11,6 @@ mod line;
 mod number;
 mod script;
 
-pub use laws::{no_bad_line_in_a_script, one_bad_line, one_script};
+pub use laws::{no_bad_line_in_a_script, one_bad_line, one_script, one_typist_and_book};
 pub use line::{Line, typist_and_book};
 pub use script::{Script, ScriptFault};

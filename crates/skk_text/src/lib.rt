@@ -24,7 +24,7 @@ pub use copies::Copies;
 pub use kana::{to_hiragana, to_katakana, to_wide};
 pub use key::{Key, Keys};
 pub use key_text::{KeyFault, print_keys, read_keys};
-pub use laws::{kana_pairs, one_list_of_keys};
+pub use laws::{kana_pairs, one_fault_of_key_text, one_list_of_keys};
 pub use memory::Memory;
 pub use mode::Mode;
 pub use notice::Notice;

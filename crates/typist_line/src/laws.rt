@@ -6,6 +6,9 @@ ghost use Rattle.typist_line.specs.Firsts.{IsFirstOf};
 ghost use Rattle.typist_line.specs.Typings.{StandsSo, Talk, is_over};
 ghost use Rattle.typist_line.specs.declared.typing.Typist.{Typist};
 
+use key_scripts::one_typist_and_book;
+use skk_text::{one_fault_of_key_text, one_list_of_keys};
+
 /// However a typist's connection stands behind bytes, its talk is that of what the bytes come to, up to there; and it
 /// is over exactly where they end it.
 pub fn bytes_lead_a_typist()
@@ -21,4 +24,8 @@ pub fn bytes_lead_a_typist()
 pub fn conversation_of_a_front()
     ensures { (rules : List Rule) (front rest : List ℕ) (meaning whole : Conversation) → Converses rules front meaning
         → Converses rules (front ++ rest) whole → IsFirstOf meaning whole }
-{}
+{
+    one_list_of_keys();
+    one_fault_of_key_text();
+    one_typist_and_book();
+}
