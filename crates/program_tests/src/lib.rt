@@ -10,3 +10,5 @@ mod outside;
 mod runs;
 #[cfg(test)]
 mod side_by_side;
+#[cfg(test)]
+mod sockets;

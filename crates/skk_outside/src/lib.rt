@@ -1,6 +1,6 @@
 //! The outside as the program sees it: sources of bytes, sinks for them, links that are both,
 //! listeners to which links come, and shelves of named files; the forms of them in memory, and the
-//! adapters of real streams and of the system's files.
+//! adapters of real streams, of the system's TCP connections and of its files.
 //!
 //! It stands on `skk_text`. Each of them has two meanings: what it holds, where it tells that, and a
 //! count of faults. A source holds the bytes that are left, a sink those that were written, a link
@@ -16,6 +16,7 @@ mod calls;
 mod copying;
 mod count;
 mod gate;
+mod host_listener;
 mod host_shelf;
 mod link;
 mod listener;
@@ -30,12 +31,14 @@ mod reader_source;
 mod shelf;
 mod sink;
 mod source;
+mod stream_link;
 mod writer_sink;
 
 pub use calls::Calls;
 pub use copying::copy_what_fits;
 pub use count::Count;
 pub use gate::{Gate, Open};
+pub use host_listener::HostListener;
 pub use host_shelf::HostShelf;
 pub use link::Link;
 pub use listener::Listener;
@@ -49,4 +52,5 @@ pub use reader_source::ReaderSource;
 pub use shelf::{Shelf, read_named_file};
 pub use sink::{Sink, write_all};
 pub use source::{PIECE, ReadFault, Source, read_to_end};
+pub use stream_link::StreamLink;
 pub use writer_sink::WriterSink;

@@ -1,0 +1,129 @@
+ghost use Rattle.std.specs.Prelude.{◌≡◌, ◌≤◌, ◌<◌, true, false, None, length, is_none, IfOk, OnOk, OnErr};
+ghost use Rattle.std.specs.Io.{ReadsAtMost, WritesAtMost};
+ghost use Rattle.std.specs.Io.KnownBytes.{Keeps, ReadConsumes, WriteAppends};
+ghost use Rattle.skk_text.specs.Counts.{one_more};
+ghost use Rattle.skk_outside.specs.Faults.{Rose};
+
+use crate::count::Count;
+use crate::link::Link;
+use crate::outside::{Failed, Outside};
+use crate::sink::Sink;
+use crate::source::Source;
+use std::io::{Read, Write};
+use std::net::{OpenStream, Shutdown};
+use std::time::Duration;
+
+/// A link over a stream of the system, as a TCP connection. It tells nothing of what is to come and what was written.
+/// A call that goes well leaves the count of faults, and one that fails raises it by one; on a closed link each fails.
+#[derive(Drop)]
+pub struct StreamLink<S> {
+    // None once it is closed.
+    stream: Option<S>,
+    faults: Count,
+}
+
+impl<S> StreamLink<S> {
+    /// The link of a connected stream.
+    pub fn new(stream: S) -> StreamLink<S>
+        ensures faults { ⟦<StreamLink<S> as Outside>⟧.faults result ≡ 0 }
+    {
+        StreamLink {
+            stream: Some(stream),
+            faults: Count::new(),
+        }
+    }
+}
+
+impl<S> Outside for StreamLink<S> {
+    ghost faults = { λ l. l.faults };
+}
+
+impl<S: Read> Source for StreamLink<S> {
+    /// Waits for bytes, or for the end of what the peer sends.
+    fn read(&mut self, into: &mut [u8]) -> Result<usize, Failed>
+        ensures bound { ReadsAtMost result into.new }
+        ensures bytes { ReadConsumes None None result into.new }
+        ensures failed { OnErr result (Rose self.old.faults self.new.faults) }
+        ensures counted { self.old.faults ≤ self.new.faults }
+        ensures no_fault { OnOk result (self.new.faults ≡ self.old.faults) }
+        ensures one_fault { OnErr result (self.new.faults ≡ one_more self.old.faults) }
+    {
+        if let Some(stream) = &mut self.stream {
+            if let Ok(n) = stream.read(into) {
+                return Ok(n);
+            }
+        }
+        Err(self.faults.fail())
+    }
+}
+
+impl<S: Write> Sink for StreamLink<S> {
+    /// Hands bytes to the system, and waits where it takes none. A write of 0 bytes of some is a fault.
+    fn write(&mut self, from: &[u8]) -> Result<usize, Failed>
+        ensures bound { WritesAtMost result from.now }
+        ensures progress { 0 < length from.now → IfOk result (λ n. 1 ≤ n) }
+        ensures bytes { WriteAppends None None result from.now }
+        ensures failed { OnErr result (Rose self.old.faults self.new.faults) }
+        ensures counted { self.old.faults ≤ self.new.faults }
+        ensures no_fault { OnOk result (self.new.faults ≡ self.old.faults) }
+        ensures one_fault { OnErr result (self.new.faults ≡ one_more self.old.faults) }
+    {
+        if let Some(stream) = &mut self.stream {
+            match stream.write(from) {
+                Ok(n) if n > 0 || from.is_empty() => return Ok(n),
+                _ => {}
+            }
+        }
+        Err(self.faults.fail())
+    }
+
+    fn flush(&mut self) -> Result<(), Failed>
+        ensures bytes { Keeps None None }
+        ensures failed { OnErr result (Rose self.old.faults self.new.faults) }
+        ensures counted { self.old.faults ≤ self.new.faults }
+        ensures no_fault { OnOk result (self.new.faults ≡ self.old.faults) }
+        ensures one_fault { OnErr result (self.new.faults ≡ one_more self.old.faults) }
+    {
+        if let Some(stream) = &mut self.stream {
+            if stream.flush().is_ok() {
+                return Ok(());
+            }
+        }
+        Err(self.faults.fail())
+    }
+}
+
+impl<S: Read + Write + OpenStream + Drop> Link for StreamLink<S> {
+    ghost closed = { λ l. is_none l.stream };
+
+    /// Waits for a peer that still sends for at most a second or so, so that what was written reaches it: the system
+    /// gives up what is under way where bytes of the peer were not read.
+    fn close(&mut self)
+        ensures closed { is_none self.new.stream ≡ true }
+        ensures faults { self.new.faults ≡ self.old.faults }
+    {
+        if let Some(stream) = self.stream.take() {
+            hang_up(stream);
+        }
+    }
+}
+
+// How often, and for how many milliseconds at most each time, a peer is waited for whose connection is over.
+const LAST_READS: u32 = 16;
+
+const LAST_WAIT: u64 = 50;
+
+// Tells the peer that nothing more comes, and reads on until it does the same, or is too slow or tells too much.
+fn hang_up<S: Read + OpenStream + Drop>(mut stream: S) {
+    let wait = Some(Duration::from_millis(LAST_WAIT));
+    if stream.shutdown(Shutdown::Write).is_err() || stream.set_read_timeout(wait).is_err() {
+        return;
+    }
+    let mut rest = [0; 4096];
+    for _ in 0..LAST_READS {
+        match stream.read(&mut rest) {
+            Ok(n) if n > 0 => {}
+            _ => return,
+        }
+    }
+}
