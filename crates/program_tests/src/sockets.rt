@@ -44,7 +44,6 @@ fn bytes_cross_a_port(rt: HostRuntime) -> Result<(), Fail> {
     let mut told = Vec::new(rt.alloc());
     peer.read_to_end(&mut told)?;
     assert_eq!(rt; told.as_slice(), b"4a \n".as_slice());
-    net.done(link);
     Ok(())
 }
 
@@ -59,7 +58,6 @@ fn a_closed_link_fails(rt: HostRuntime) -> Result<(), Fail> {
     assert_eq!(rt; link.write(b"a"), Err(Failed));
     assert_eq!(rt; link.flush(), Err(Failed));
     link.close();
-    net.done(link);
     Ok(())
 }
 
