@@ -11,15 +11,29 @@ use session_machine::Session;
 use skk_calls::{Answer, Answers, Call};
 use skk_text::{Key, Keys, Memory};
 use std::alloc::Global;
+use std::mem;
 
 // A session, the keys that ended since it was new, and the key under way, where there is one.
-#[derive(Drop)]
 pub(crate) struct Seat {
     pub(crate) typist: u16,
     pub(crate) book: u16,
     pub(crate) keys: Keys,
     pub(crate) session: Session,
     pub(crate) under_way: Option<UnderWay>,
+}
+
+impl Drop for Seat {
+    fn drop(self) {
+        let Seat {
+            typist: _,
+            book: _,
+            keys: _,
+            session,
+            under_way,
+        } = self;
+        drop(session);
+        drop(under_way);
+    }
 }
 
 // A key that has not ended, and the answers that its calls got.
@@ -103,10 +117,10 @@ impl Seat {
         match self.session.end_by(alloc, rules, key, &answers)? {
             Some(session) => {
                 self.keys.push(key)?;
-                self.session = session;
-                self.under_way = None;
+                drop(mem::replace(&mut self.session, session));
+                drop(mem::replace(&mut self.under_way, None));
             }
-            None => self.under_way = Some(UnderWay { key, answers }),
+            None => drop(mem::replace(&mut self.under_way, Some(UnderWay { key, answers }))),
         }
         Ok(())
     }

@@ -13,7 +13,6 @@ use std::marker::Model;
 
 /// Sessions over one dictionary, with one history of their calls. Contracts see its seats, its history, the state that
 /// this was opened with, and the state of the dictionary.
-#[derive(Drop)]
 pub struct World {
     pub(crate) rules: Rules,
     pub(crate) system: System,
@@ -22,6 +21,25 @@ pub struct World {
     pub(crate) history: Vec<Entry>,
     // The state that the history was opened with, for contracts alone.
     pub(crate) opened: Trace<State>,
+}
+
+// Written out, as is that of a seat, so that whatever lets one go makes one call.
+impl Drop for World {
+    fn drop(self) {
+        let World {
+            rules,
+            system,
+            index,
+            seats,
+            history,
+            opened: _,
+        } = self;
+        drop(rules);
+        drop(system);
+        drop(index);
+        drop(seats);
+        drop(history);
+    }
 }
 
 impl Model for World {
