@@ -317,6 +317,7 @@ module _ {N L C S : Type 0} (nets : SeenListener N L) (links : SeenLink L) (call
             ∙ append-nil (map (λ visit. visit.link) stage.visits));
         gives_back = stage.gives_back;
         none_out = omega (arith, stage.out_is, over);
+        counted = stage.counted;
         count_is = count_is ∙ ends;
         few = omega (arith, few, accepted);
         ends_are = ap (λ ends. ends.items) ends_are ∙ stage.ends_are;
@@ -381,6 +382,7 @@ none-serves rules nets links slips asked net drawn answered count_is no_passes n
       comes = nothing-came (nets.coming net);
       gives_back = nothing-over (nets.over net);
       none_out = refl;
+      counted = omega arith;
       count_is = count_is;
       few = omega arith;
       ends_are = no_ends;

@@ -37,6 +37,7 @@ pub record ServesAll {N L S : Type 0} (rules : List Rule) (nets : SeenListener N
   pub comes : nets.coming net ≡ option_map (λ rest. map (λ visit. visit.link) visits ++ rest) (nets.coming net')
   pub gives_back : nets.over net' ≡ option_map (λ before. before ++ map (λ visit. visit.link') visits) (nets.over net)
   pub none_out : nets.out net' ≡ nets.out net
+  pub counted : nets.faults net ≤ nets.faults net'
   pub count_is : answered.count ≡ length visits
   pub few : length visits ≤ asked
   pub ends_are : answered.ends.items ≡ map (λ visit. visit.end) visits
