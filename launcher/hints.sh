@@ -146,7 +146,10 @@ hint() {
         1) usage | while IFS= read -r line; do tell "$line"; done ;;
         2) look_at_script ;;
         3) look_at_files "$@" ;;
-        4) each_file look_for "$@" ;;
+        4)
+            each_file look_for "$@"
+            [ "$1" != serve ] || tell 'another program may have the port: --port N takes another one'
+            ;;
         5) tell 'the learned file was left as it is: it is another file, or a record of it is damaged at that byte' ;;
         7) tell 'a change had no room within --limit: what was written is whole, but not all of it was learnt' ;;
     esac

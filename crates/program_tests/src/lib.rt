@@ -9,6 +9,8 @@ mod outside;
 #[cfg(test)]
 mod runs;
 #[cfg(test)]
+mod served;
+#[cfg(test)]
 mod side_by_side;
 #[cfg(test)]
 mod sockets;

@@ -20,11 +20,26 @@ const ALONE: u8 = 255;
 // How often a caller looks whether the other has come, at most.
 const TURNS: u32 = 1_000_000;
 
-// A gate that holds each of two callers at its second line until the other has come to its own.
+/// A gate that holds each of two callers at its second step until the other has come to its own.
 #[derive(Drop)]
-struct Meeting {
+pub struct Meeting {
     come: AtomicU32,
     is_missed: AtomicBool,
+}
+
+impl Meeting {
+    /// Nobody has come yet.
+    pub fn new() -> Meeting {
+        Meeting {
+            come: AtomicU32::new(0),
+            is_missed: AtomicBool::new(false),
+        }
+    }
+
+    /// Whether one of them waited for the other in vain.
+    pub fn is_missed(&self) -> bool {
+        self.is_missed.load(Ordering::SeqCst)
+    }
 }
 
 impl Gate for Meeting {
@@ -76,14 +91,11 @@ fn type_by_two<R: Threads + Wait + Copy + Send + Sync>(
 #[test]
 fn two_typed(rt: HostRuntime) -> Result<(), Fail> {
     let alloc = rt.alloc();
-    let meeting = Meeting {
-        come: AtomicU32::new(0),
-        is_missed: AtomicBool::new(false),
-    };
+    let meeting = Meeting::new();
     let mut out = MemSink::new(alloc, Vec::new(alloc));
     let status = type_by_two(rt, alloc, &meeting, &mut out)?;
     assert_eq!(rt; status, 0);
     assert_eq!(rt; out.written(), TYPED.as_bytes());
-    assert!(rt; !meeting.is_missed.load(Ordering::SeqCst));
+    assert!(rt; !meeting.is_missed());
     Ok(())
 }

@@ -2,7 +2,7 @@
 #![tactic(auto)]
 
 use skk_disk::{Disk, FileDisk, MemDisk};
-use skk_outside::{HostShelf, MemListener, Open, ReaderSource, WriterSink};
+use skk_outside::{HostListener, HostShelf, Open, ReaderSource, WriterSink};
 use skk_text::{Memory, Text};
 use skk_top::{RunFault, learned_name, run, run_alone, tell_end, waits};
 use std::io::ErrorKind;
@@ -75,7 +75,7 @@ fn run_over<D: Disk + Drop + Send, R: Threads + Wait + Copy + Send + Sync>(
     let mut out = WriterSink::new(host.stdout());
     let mut err = WriterSink::new(host.stderr());
     if waits(words) {
-        let mut net = MemListener::new(alloc, Vec::new(alloc), Vec::new(alloc));
+        let mut net = HostListener::new(host);
         let finish = run(
             rt, alloc, words, &mut shelf, disk, &mut input, &mut out, &mut err, &mut net, &Open,
         );

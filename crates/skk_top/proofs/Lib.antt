@@ -14,6 +14,8 @@ mod RangeExamples
 pub mod Ranges
 mod RelationExamples
 mod RunExamples
+mod ServeExamples
+pub mod Visits
 pub mod RunFiles
 pub mod Runs
 pub mod SettingLists

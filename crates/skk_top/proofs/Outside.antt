@@ -1,6 +1,7 @@
 -- A run that ends since a call on the outside failed had one that failed.
-use Rattle.std.proofs.Common.{◌≡◌, inl, inr, sym, ◌∙◌, refl, subst, arith, ℕ, ◌≤◌, Bool, true, false}
+use Rattle.std.proofs.Common.{◌≡◌, ◌⊎◌, inl, inr, sym, ◌∙◌, refl, subst, arith, ℕ, ◌≤◌, Bool, true, false}
 use Rattle.std.proofs.Common.{Ok, Err, IfErr, IsErrAnd, List, [], ◌∷◌}
+use Rattle.std.specs.List.{list_any}
 use Rattle.skk_calls.specs.declared.answer.Answer.TheVariants.{Done, Refused}
 use Rattle.skk_calls.specs.declared.answer.Refusal.TheVariants as refusals
 use Rattle.skk_calls.specs.declared.chronicle.Noted.{Noted}
@@ -10,15 +11,18 @@ use Rattle.skk_calls.specs.Histories.{Opening}
 use Rattle.skk_calls.specs.Tallies.{Tally, tally_of, has_answer, lacks_disk}
 use Rattle.skk_outside.specs.Faults.{Rose}
 use Rattle.skk_outside.specs.Moved.{MovedShelf, MovedSource, MovedSink}
+use Rattle.skk_server.specs.Visits.{Visit}
 use Rattle.learned_store.specs.Stands.{GoOn}
 use Rattle.skk_top.specs.Disks.{MovedDisk}
 use Rattle.skk_top.specs.Finishes.{HasFailed}
 use Rattle.skk_top.specs.Page.{StopsPrinting}
-use Rattle.skk_top.specs.Status.{Ended, ended_by}
+use Rattle.skk_top.specs.ServeCommand.{MovedListener, StopsServing, LeavesPort, wants_memory, LeavesServed}
+use Rattle.skk_top.specs.Status.{Ended, ended_by, with_want}
 use Rattle.romaji_rules.specs.declared.rule.Rule.{Rule}
 use Rattle.key_scripts.specs.declared.line.Line.{Line}
 use Rattle.skk_top.specs.TypeCommand.{LeavesTyped, Manner, TypesLines}
 use Rattle.skk_top.specs.WeaveCommand.{WeavesLines}
+use Rattle.skk_top.specs.declared.command.ServeOptions.{ServeOptions}
 use Rattle.skk_top.specs.declared.command.TypeOptions.{TypeOptions}
 use Rattle.skk_top.specs.declared.fault.RunFault.{RunFault}
 use Rattle.skk_top.specs.declared.fault.RunFault.TheVariants.{Outside, Memory}
@@ -101,3 +105,41 @@ module _ {D : Type 0} (options : TypeOptions) (run : Run D) (shelf : MovedShelf)
   outside-woven =
       outside-by WeavesLines (λ opening rules lines counted left.
       typed opening counted left.typed (sym left.ends ∙ is) left.kept.goes_on left.stopped)
+
+module _ {D L : Type 0} (options : ServeOptions) (run : Run D) (shelf : MovedShelf) (input : MovedSource)
+    (out : MovedSink) (net : MovedListener L) (disk : MovedDisk) (is : run.ended ≡ Err Outside) where
+  abbrev SomeFailed : Type 0
+  SomeFailed = HasFailed shelf input out disk ⊎ Rose net.faults net.faults'
+
+  -- serving stopped for a call on the sink or on the listener
+  stopped : StopsServing out net Outside → SomeFailed
+  stopped (inl rose) = inl (inr (inr (inl rose)))
+  stopped (inr rose) = inr rose
+
+  -- connections were served up to such an end
+  served : (asked : ℕ) (visits : List (Visit L)) (opening : Opening) → disk.before.faults ≤ opening.faults
+      → (served : Ended)
+      → ended_by served (with_want (list_any (λ (visit : Visit L). wants_memory visit.end) visits)
+      (tally_of opening.state (history_of run.chronicle))) ≡ Err Outside
+      → GoOn opening.time opening.faults run.chronicle disk.after.time disk.after.faults
+      → LeavesPort asked visits served out net → SomeFailed
+  served asked visits opening counted (Ok done) ends on port =
+      let refused = ended-for-disk (with_want (list_any (λ (visit : Visit L). wants_memory visit.end) visits)
+      (tally_of opening.state (history_of run.chronicle))) ends in
+      let rose = refused-rose opening.time opening.faults run.chronicle disk.after.time disk.after.faults on refused in
+      inl (inr (inr (inr (omega (arith, counted, rose)))))
+  served asked visits opening counted (Err fault) ends on (inl lacks) = inr lacks.failed
+  served asked visits opening counted (Err fault) ends on (inr serves) =
+      let same : fault ≡ Outside = cc ends in stopped (subst (StopsServing out net) same serves.stopped)
+
+  pub outside-served : LeavesServed options run shelf out net disk → SomeFailed
+  outside-served (inl ends) = inl (inl (caused run.ended Outside _ is ends.0.0.cause))
+  outside-served (inr named) = elim named.served [
+    | inl refused ↦ inl (inr (inr (inr (caused run.ended Outside _ is refused.0.cause))))
+    | inr opened ↦ elim opened.served [
+      | inl none ↦ let same : Outside ≡ Memory = caused run.ended Outside (λ fault. fault ≡ Memory) is none.0.cause in
+          absurd (cc)
+      | inr left ↦ served options.connections left.visits opened.opening opened.opened.counted left.served
+          (sym left.ends ∙ is) left.kept.goes_on left.port
+    ]
+  ]

@@ -14,7 +14,7 @@ use Rattle.std.proofs.lemmas.Map.Entries.{All-lookup}
 use Rattle.std.proofs.lemmas.Option.{IfSome_then, none-some}
 use Rattle.skk_top.specs.Arguments.{options, option_named, value_of, place}
 use Rattle.skk_top.specs.Command.{takes, required, optional, command, command_with, command_named, command_of}
-use Rattle.skk_top.specs.Command.{book_dumped, book_to_dump}
+use Rattle.skk_top.specs.Command.{book_dumped, book_to_dump, port_served, port_to_serve}
 use Rattle.skk_top.specs.Ranges.{LiesFrom, HasNumbersInRange}
 use Rattle.skk_top.specs.Settings.{setting, takes_value, option_alone, option_with, option_cut, name_or_cut, whole}
 use Rattle.skk_top.specs.Settings.{begun, with_setting, settings_of, is_of, times, number_in, value_given, number_given}
@@ -29,6 +29,7 @@ use Rattle.skk_top.specs.declared.argument.Takes.TheVariants.{Nothing, Name, Num
 use Rattle.skk_top.specs.declared.command.Command.{Command}
 use Rattle.skk_top.specs.declared.command.Command.TheVariants as commands
 use Rattle.skk_top.specs.declared.command.DumpOptions.{DumpOptions}
+use Rattle.skk_top.specs.declared.command.ServeOptions.{ServeOptions}
 use Rattle.skk_top.specs.declared.command_name.CommandName.{CommandName}
 use Rattle.skk_top.specs.declared.command_name.CommandName.TheVariants.{TypeScript, Serve, Check, Dump, Load}
 use Rattle.skk_top.specs.declared.setting.Setting.{Setting}
@@ -261,3 +262,19 @@ pub books-in-range : (words : List (List ℕ)) → IfSome (book_to_dump words) (
 books-in-range words =
     IfSome-and_then (λ (o : DumpOptions). o.book ≤ 65535) book_dumped (command_of words)
     (IfSome_then (command_of words) (words-in_range words) dumped-in-range)
+
+-- those of a port and of the connections to it do
+abbrev pub IsService : ServeOptions → Type 0
+IsService options = LiesFrom 1 65535 options.port × LiesFrom 1 1000000 options.connections
+
+served-in-range : (command : Command) → HasNumbersInRange command → IfSome (port_served command) IsService
+served-in-range (commands.TypeScript given) range = tt
+served-in-range (commands.Serve given) range = (range.1, range.2)
+served-in-range (commands.Check file) range = tt
+served-in-range (commands.Dump given) range = tt
+served-in-range (commands.Load given) range = tt
+
+pub ports-in-range : (words : List (List ℕ)) → IfSome (port_to_serve words) IsService
+ports-in-range words =
+    IfSome-and_then IsService port_served (command_of words)
+    (IfSome_then (command_of words) (words-in_range words) served-in-range)

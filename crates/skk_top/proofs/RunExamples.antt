@@ -11,7 +11,8 @@ use Rattle.skk_top.specs.Page.{StopsPrinting}
 use Rattle.skk_top.specs.RunFiles.{HasTextFlaw, IsLonger, RefusesBytes, RefusesFile}
 use Rattle.skk_top.specs.RunRules.{AreRules, HasRulesFlaw, IsNamed, RefusesRules}
 use Rattle.key_scripts.specs.Script.{IsFirstBad}
-use Rattle.skk_top.specs.TypeCommand.{HasScriptFlaw, RefusesFiles}
+use Rattle.skk_top.specs.NamedFiles.{RefusesFiles}
+use Rattle.skk_top.specs.TypeCommand.{HasScriptFlaw}
 use Rattle.skk_top.proofs.Dictionaries.{are_dictionaries}
 use Rattle.skk_top.specs.declared.fault.RunFault.TheVariants.{Words, Refused, Outside, Memory, NotBuilt}
 use Rattle.skk_top.specs.declared.run_file.Flaw.TheVariants.{TooLong, Byte, Line}

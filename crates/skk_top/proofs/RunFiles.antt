@@ -15,7 +15,7 @@ use Rattle.dict_format.specs.declared.file.FileFault.TheVariants as files
 use Rattle.skk_top.specs.Dictionaries.{HasDictionaryFlaw, RefusesDictionaries, fault_of_file}
 use Rattle.skk_top.specs.RunFiles.{RefusesFile, RefusesBytes, IsLonger}
 use Rattle.skk_top.specs.RunRules.{AreRules, HasRulesFlaw, RefusesRules, fault_of_rules}
-use Rattle.skk_top.specs.TypeCommand.{RefusesFiles}
+use Rattle.skk_top.specs.NamedFiles.{RefusesFiles}
 use Rattle.skk_top.specs.declared.fault.RunFault.{RunFault}
 use Rattle.skk_top.specs.declared.fault.RunFault.TheVariants.{Refused, Outside, Memory}
 use Rattle.skk_top.specs.declared.run_file.Flaw.{Flaw}

@@ -6,11 +6,12 @@ use Rattle.std.specs.Fmt.{digits}
 use Rattle.std.specs.List.{filter}
 use Rattle.std.specs.Option.{option_map}
 use Rattle.skk_top.specs.Command.{command_of, limit_of, script_to_type, file_to_check, book_to_dump, do_open}
-use Rattle.skk_top.specs.Command.{are_built_words, learned_named}
+use Rattle.skk_top.specs.Command.{are_built_words, are_built_to_wait, learned_named, port_to_serve}
 use Rattle.skk_text.specs.Lines.{with_first}
 use Rattle.skk_top.specs.Words.{is_name, number_within, cut}
 use Rattle.skk_top.specs.declared.command.Command.{Command}
 use Rattle.skk_top.specs.declared.command.Command.TheVariants.{TypeScript, Serve, Check, Dump, Load}
+use Rattle.skk_top.specs.declared.command.ServeOptions.{ServeOptions}
 use Rattle.skk_top.specs.declared.command.TypeOptions.{TypeOptions}
 
 -- the words of a line, between single spaces
@@ -190,7 +191,7 @@ cuts : map (λ text. cut (codes text)) ("" ∷ "a" ∷ "=" ∷ "a=" ∷ "=b" ∷
     ∷ Some (codes "a", codes "b=c") ∷ Some (codes "ab", codes "=") ∷ []
 cuts = refl
 
--- what is built: `type` without threads, `check` and `dump`
+-- what is built of what may not wait: `type` without threads, `check` and `dump`
 abbrev some_lines : List String
 some_lines =
     "type" ∷ "type --limit 268435456" ∷ "type --limit 64" ∷ "type --dict a" ∷ "type --rules a" ∷ "type --learned a"
@@ -205,7 +206,21 @@ built : map (λ line. are_built_words (words line)) some_lines
 unfolding digits
 built = refl
 
--- of these all but `check` open the learned file
+-- and of what may wait: `type` with threads, and `serve`
+built_to_wait : map (λ line. are_built_to_wait (words line)) some_lines
+    ≡ false ∷ false ∷ false ∷ false ∷ false ∷ false ∷ true ∷ false ∷ true ∷ false ∷ false ∷ true ∷ false ∷ false ∷ false
+    ∷ false ∷ false ∷ false ∷ false ∷ []
+unfolding digits
+built_to_wait = refl
+
+ports_to_serve : map (λ line. option_map {U = ℕ × ℕ} (λ (options : ServeOptions). (options.port, options.connections))
+    (port_to_serve (words line)))
+    ("serve --learned a" ∷ "serve --learned a --port 65535 --connections=7" ∷ "type --threads" ∷ [])
+    ≡ Some (1178, 1000000) ∷ Some (65535, 7) ∷ None ∷ []
+unfolding digits
+ports_to_serve = refl
+
+-- of the former all but `check` open the learned file
 opening : map (λ line. do_open (words line)) some_lines
     ≡ true ∷ true ∷ true ∷ true ∷ true ∷ true ∷ false ∷ true ∷ false ∷ true ∷ true ∷ false ∷ false ∷ false ∷ false
     ∷ true ∷ false ∷ false ∷ true ∷ []
@@ -214,7 +229,7 @@ opening = refl
 
 typed_with : map (λ line. option_map {U = Option (List ℕ) × List (List ℕ) × Option (List ℕ) × ℕ}
     (λ (options : TypeOptions).
-    (options.rules, options.dictionaries.items, options.learned, limit_of options)) (script_to_type (words line)))
+    (options.rules, options.dictionaries.items, options.learned, limit_of options.limit)) (script_to_type (words line)))
     some_lines
     ≡ Some (None, [], None, 268435456) ∷ Some (None, [], None, 268435456) ∷ Some (None, [], None, 64)
     ∷ Some (None, codes "a" ∷ [], None, 268435456) ∷ Some (Some (codes "a"), [], None, 268435456)

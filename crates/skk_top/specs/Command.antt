@@ -102,9 +102,9 @@ command_of [] = None
 command_of (word ∷ words) =
     option_and_then (λ name. option_and_then (command_with name) (settings_of words)) (command_named word)
 
--- the most bytes of the learned file: those that the options give, or the greatest limit
-abbrev pub limit_of : TypeOptions → ℕ
-limit_of options = unwrap_or options.limit 268435456
+-- the most bytes of the learned file: those that are given, or the greatest limit
+abbrev pub limit_of : Option ℕ → ℕ
+limit_of given = unwrap_or given 268435456
 
 -- the options of a command that is to type a script, where no session has a thread of its own
 abbrev pub script_typed : Command → Option TypeOptions
@@ -121,6 +121,14 @@ script_in_threads (commands.Serve options) = None
 script_in_threads (commands.Check file) = None
 script_in_threads (commands.Dump options) = None
 script_in_threads (commands.Load options) = None
+
+-- the options of a command that is to serve connections
+abbrev pub port_served : Command → Option ServeOptions
+port_served (commands.TypeScript options) = None
+port_served (commands.Serve options) = Some options
+port_served (commands.Check file) = None
+port_served (commands.Dump options) = None
+port_served (commands.Load options) = None
 
 -- whether a command may wait: one that serves, or that gives each session a thread
 abbrev pub may_wait : Command → Bool
@@ -154,6 +162,10 @@ script_to_type words = option_and_then script_typed (command_of words)
 abbrev pub script_to_weave : List (List ℕ) → Option TypeOptions
 script_to_weave words = option_and_then script_in_threads (command_of words)
 
+-- the options, where words are `serve`
+abbrev pub port_to_serve : List (List ℕ) → Option ServeOptions
+port_to_serve words = option_and_then port_served (command_of words)
+
 -- whether words are a command that may wait
 abbrev pub waits : List (List ℕ) → Bool
 waits words = unwrap_or (option_map may_wait (command_of words)) false
@@ -173,6 +185,10 @@ do_open words = is_some (script_to_type words) || is_some (book_to_dump words)
 -- whether words are a command that is built so far: one that opens the learned file, or `check`
 abbrev pub are_built_words : List (List ℕ) → Bool
 are_built_words words = do_open words || is_some (file_to_check words)
+
+-- whether words are a command that may wait and is built so far: `type` with threads, or `serve`
+abbrev pub are_built_to_wait : List (List ℕ) → Bool
+are_built_to_wait words = is_some (script_to_weave words) || is_some (port_to_serve words)
 
 -- the name of the learned file of a command, where one is given
 abbrev pub learned_of : Command → Option (List ℕ)

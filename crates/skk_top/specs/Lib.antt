@@ -7,10 +7,12 @@ pub mod Disks
 pub mod DumpCommand
 pub mod DumpWords
 pub mod Finishes
+pub mod NamedFiles
 pub mod Page
 pub mod Ranges
 pub mod RunFiles
 pub mod RunRules
+pub mod ServeCommand
 pub mod Settings
 pub mod Status
 pub mod TypeCommand

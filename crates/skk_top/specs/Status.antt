@@ -1,5 +1,5 @@
 -- How a run ends: its status, and its line on standard error.
-use Rattle.std.specs.Prelude.{◌⊎◌, ℕ, if◌then◌else◌, Result, Ok, Err, List, ◌++◌, [], ◌∷◌, codes}
+use Rattle.std.specs.Prelude.{◌⊎◌, ◌||◌, ℕ, Bool, if◌then◌else◌, Result, Ok, Err, List, ◌++◌, [], ◌∷◌, codes}
 use Rattle.std.specs.Fmt.{decimal}
 use Rattle.std.specs.Io.KnownBytes.{Appends}
 use Rattle.skk_calls.specs.Tallies.{Tally}
@@ -49,8 +49,12 @@ abbrev pub run_status : Ended → ℕ
 run_status (Ok done) = 0
 run_status (Err fault) = status_of fault
 
--- how a run ends by how its typing ended and what its calls came to: where it was typed whole, a change that the disk
--- failed is a failure of the outside; else a call was refused as out of memory; else the learned file was full
+-- a tally with a want of memory beside that of the calls, where there was one
+abbrev pub with_want : Bool → Tally → Tally
+with_want wanted tally = record tally { memory = wanted || tally.memory }
+
+-- how a run ends by how its typing or serving ended and what its calls came to: where it was done whole, a change that
+-- the disk failed is a failure of the outside; else a call was refused as out of memory; else the learned file was full
 abbrev pub ended_by : Ended → Tally → Ended
 ended_by (Ok done) tally =
     if tally.disk then Err Outside else if tally.memory then Err Memory else if tally.full then Err JournalFull

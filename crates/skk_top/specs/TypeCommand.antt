@@ -1,10 +1,8 @@
 -- What a run of `type` leaves.
-use Rattle.std.specs.Prelude.{◌≡◌, ◌⊎◌, ◌≤◌, ◌<◌, ⊤, ℕ, true, Some, Option, List, [], IfErr, IfSome, OnOk}
-use Rattle.std.specs.Prelude.{length, map, encode_utf8_all}
+use Rattle.std.specs.Prelude.{◌≡◌, ◌⊎◌, ◌≤◌, ◌<◌, ℕ, true, Some, List, [], IfErr, IfSome, OnOk, length}
+use Rattle.std.specs.Prelude.{encode_utf8_all}
 use Rattle.std.specs.Io.KnownBytes.{Appends, IsAtEnd, Keeps}
-use Rattle.std.specs.Option.{option_map}
-use Rattle.skk_outside.specs.Faults.{Rose}
-use Rattle.skk_outside.specs.Moved.{Told, MovedShelf, MovedSource, MovedSink}
+use Rattle.skk_outside.specs.Moved.{MovedShelf, MovedSource, MovedSink}
 use Rattle.skk_outside.specs.Written.{AppendsPrefix}
 use Rattle.romaji_rules.specs.declared.rule.Rule.{Rule}
 use Rattle.skk_calls.specs.declared.answer.Answer.{Answer}
@@ -16,49 +14,27 @@ use Rattle.skk_calls.specs.Openings.{IsLegalOver, said_in, are_of_one, are_serve
 use Rattle.skk_calls.specs.Rows.{Row}
 use Rattle.skk_calls.specs.Tallies.{tally_of}
 use Rattle.skk_text.specs.Lines.{lines_of}
-use Rattle.skk_top.specs.Dictionaries.{AreRowsOf, HasDictionaryFlaw, IsFirst}
+use Rattle.skk_top.specs.Dictionaries.{AreRowsOf}
 use Rattle.skk_top.specs.Command.{limit_of}
 use Rattle.skk_top.specs.Disks.{DiskNow, MovedDisk, RefusesLearned, IsOpening, KeepsDisk}
 use Rattle.skk_top.specs.Finishes.{EndsUnbegun}
+use Rattle.skk_top.specs.NamedFiles.{rules_named, dictionaries_named, RefusesNamed}
 use Rattle.skk_top.specs.Page.{StopsPrinting}
 use Rattle.skk_top.specs.RunFiles.{RefusesFile}
-use Rattle.skk_top.specs.RunRules.{AreRules, HasRulesFlaw, IsNamed}
+use Rattle.skk_top.specs.RunRules.{AreRules}
 use Rattle.key_scripts.specs.Script.{IsScript, IsFirstBad, script_limit}
 use Rattle.skk_top.specs.Status.{Ended, ended_by}
 use Rattle.script_typing.specs.Typed.{Asking, typed_alone, typing}
 use Rattle.skk_top.specs.declared.command.TypeOptions.{TypeOptions}
 use Rattle.skk_top.specs.declared.fault.RunFault.{RunFault}
-use Rattle.skk_top.specs.declared.fault.RunFault.TheVariants.{Refused, Outside, Memory}
+use Rattle.skk_top.specs.declared.fault.RunFault.TheVariants.{Memory}
 use Rattle.skk_top.specs.declared.finish.Run.{Run}
 use Rattle.key_scripts.specs.declared.line.Line.{Line}
 use Rattle.skk_top.specs.declared.run_file.Flaw.{Flaw}
 use Rattle.skk_top.specs.declared.run_file.Flaw.TheVariants as flaws
-use Rattle.skk_top.specs.declared.run_file.RunFile.TheVariants.{Script, Rules, Dictionary}
+use Rattle.skk_top.specs.declared.run_file.RunFile.TheVariants.{Script}
 
 -- What reading leaves
-
--- the file of the rules, where the options name one
-abbrev pub rules_named : TypeOptions → MovedShelf → Option Told
-rules_named options shelf = option_map shelf.file options.rules
-
--- the files of the dictionaries that the options name
-abbrev pub dictionaries_named : TypeOptions → MovedShelf → List Told
-dictionaries_named options shelf = map shelf.file options.dictionaries.items
-
--- why files are not had, those of the rules and of dictionaries: the rules are refused, which are read first, or else
--- the first file that is no dictionary, or a call on the shelf failed, or memory is out
-abbrev pub RefusesFiles : Option Told → List Told → ℕ → ℕ → RunFault → Type 0
-RefusesFiles source files faults faults' (Refused Rules flaw) = IsNamed source (HasRulesFlaw flaw)
-RefusesFiles source files faults faults' (Refused (Dictionary number) flaw) =
-    ((rules : List Rule) × AreRules source rules) × IsFirst (HasDictionaryFlaw flaw) number files
-RefusesFiles source files faults faults' Outside = Rose faults faults'
-RefusesFiles source files faults faults' Memory = ⊤
-RefusesFiles source files faults faults' fault = ⊥
-
--- why the files that the options name are not had
-abbrev pub RefusesNamed : TypeOptions → MovedShelf → RunFault → Type 0
-RefusesNamed options shelf =
-    RefusesFiles (rules_named options shelf) (dictionaries_named options shelf) shelf.faults shelf.faults'
 
 -- bytes are no script, for this flaw: they are too many, or else this line of them is the first bad one
 abbrev pub HasScriptFlaw : Flaw → List ℕ → Type 0
@@ -145,14 +121,15 @@ pub record TypesNamed {D : Type 0} (Lines : Manner D) (options : TypeOptions) (r
     (input : MovedSource) (out : MovedSink) (disk : MovedDisk) : Type 0 where
   pub rules : List Rule
   pub books : List (List Row)
-  pub are_rules : AreRules (rules_named options shelf) rules
-  pub are_rows : AreRowsOf books (dictionaries_named options shelf)
-  pub typed : LeavesLearned Lines (limit_of options) books rules run input out disk
+  pub are_rules : AreRules (rules_named options.rules shelf) rules
+  pub are_rows : AreRowsOf books (dictionaries_named options.dictionaries.items shelf)
+  pub typed : LeavesLearned Lines (limit_of options.limit) books rules run input out disk
 
 -- what a run of `type` leaves: a file that the options name is refused, and the input is not read and the disk not
 -- touched, or they were read
 abbrev pub LeavesTyped : {D : Type 0} → Manner D → TypeOptions → Run D → MovedShelf → MovedSource → MovedSink
     → MovedDisk → Type 0
 LeavesTyped Lines options run shelf input out disk =
-    (EndsUnbegun (RefusesNamed options shelf) run out × Keeps input.left input.left' × disk.is_untouched)
+    (EndsUnbegun (RefusesNamed options.rules options.dictionaries.items shelf) run out
+    × Keeps input.left input.left' × disk.is_untouched)
     ⊎ TypesNamed Lines options run shelf input out disk

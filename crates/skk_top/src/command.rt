@@ -2,7 +2,7 @@ ghost use Rattle.std.specs.Prelude.{◌≡◌, ◌<◌, if◌then◌else◌, Som
 ghost use Rattle.std.specs.Option.{option_copied};
 ghost use Rattle.skk_top.specs.Command.{command_of, type_options, serve_options, dump_options, load_options, limit_of};
 ghost use Rattle.skk_top.specs.Command.{script_typed, script_in_threads, may_wait, file_checked, book_dumped};
-ghost use Rattle.skk_top.specs.Command.{learned_of};
+ghost use Rattle.skk_top.specs.Command.{learned_of, port_served};
 ghost use Rattle.skk_top.specs.Settings.{times};
 ghost use Rattle.skk_top.specs.declared.argument.Argument.TheVariants.{Dictionary};
 
@@ -86,6 +86,18 @@ impl<'a> Command<'a> {
         }
     }
 
+    /// The options of the port that it is to serve.
+    pub fn port_served(&self) -> Option<&ServeOptions<'a>>
+        ensures { option_copied result ≡ port_served self.now }
+    {
+        match self {
+            Command::Serve(options) => Some(options),
+            Command::TypeScript(_) | Command::Check(_) | Command::Dump(_) | Command::Load(_) => {
+                None
+            }
+        }
+    }
+
     /// Whether it may wait.
     pub fn waits(&self) -> bool
         ensures { result ≡ may_wait self.now }
@@ -157,7 +169,7 @@ impl<'a> TypeOptions<'a> {
 
     /// The most bytes of the learned file.
     pub fn limit(&self) -> u64
-        ensures { result ≡ limit_of self.now }
+        ensures { result ≡ limit_of self.now.limit }
     {
         self.limit.unwrap_or(LIMIT)
     }
@@ -194,6 +206,13 @@ impl<'a> ServeOptions<'a> {
             port: settings.number_or(PORT, Argument::Port),
             connections: settings.number_or(CONNECTIONS, Argument::Connections),
         })
+    }
+
+    /// The most bytes of the learned file.
+    pub fn limit(&self) -> u64
+        ensures { result ≡ limit_of self.now.limit }
+    {
+        self.limit.unwrap_or(LIMIT)
     }
 }
 

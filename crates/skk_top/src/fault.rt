@@ -178,8 +178,8 @@ fn tell_flaw<E: Sink>(flaw: Flaw, err: &mut E) -> Result<(), Failed>
     }
 }
 
-// Writes bytes, and behind them a number in decimal.
-fn write_numbered<E: Sink>(err: &mut E, before: &[u8], number: u64) -> Result<(), Failed>
+/// Writes bytes, and behind them a number in decimal.
+pub fn write_numbered<E: Sink>(err: &mut E, before: &[u8], number: u64) -> Result<(), Failed>
     ensures { Writes (before.now ++ decimal number) result (moved_sink E.written E.faults err.old err.new) }
 {
     write(err, before)?;

@@ -1,5 +1,5 @@
 ghost use Rattle.std.specs.Prelude.{◌≡◌, []};
-ghost use Rattle.skk_top.specs.Status.{ended_by};
+ghost use Rattle.skk_top.specs.Status.{ended_by, with_want};
 
 use crate::fault::RunFault;
 use skk_calls::{Chronicle, Tally};
@@ -42,9 +42,16 @@ pub struct Finish<D> {
 pub fn end_by(ended: Result<(), RunFault>, tally: &Tally) -> Result<(), RunFault>
     ensures { result ≡ ended_by ended tally.now }
 {
+    end_wanting(ended, tally, false)
+}
+
+/// How a run ends by how its typing or serving ended, what its calls came to, and whether memory was out elsewhere.
+pub fn end_wanting(ended: Result<(), RunFault>, tally: &Tally, wanted: bool) -> Result<(), RunFault>
+    ensures { result ≡ ended_by ended (with_want wanted tally.now) }
+{
     match ended {
         Ok(()) if tally.disk() => Err(RunFault::Outside),
-        Ok(()) if tally.memory() => Err(RunFault::Memory),
+        Ok(()) if wanted || tally.memory() => Err(RunFault::Memory),
         Ok(()) if tally.full() => Err(RunFault::JournalFull),
         ended => ended,
     }

@@ -6,24 +6,19 @@ ghost use Rattle.skk_outside.specs.Moved.{MovedSink, moved_shelf, moved_source};
 ghost use Rattle.skk_outside.specs.Taken.{TakesAtMost};
 ghost use Rattle.skk_outside.specs.declared.source.TheConstants.{PIECE};
 ghost use Rattle.learned_store.specs.Stores.{opening_now, Keeps};
-ghost use Rattle.skk_top.specs.Dictionaries.{AreRowsOf};
 ghost use Rattle.skk_top.specs.Disks.{disk_now, moved_disk, RunsOver, StandsSince};
-ghost use Rattle.skk_top.specs.RunRules.{AreRules};
 ghost use Rattle.key_scripts.specs.Script.{IsScript, script_limit};
-ghost use Rattle.skk_top.specs.TypeCommand.{rules_named, dictionaries_named, RefusesNamed, RefusesScript};
-ghost use Rattle.skk_top.specs.TypeCommand.{LeavesBegun, LeavesScript, LeavesLearned, LeavesTyped};
+ghost use Rattle.skk_top.specs.TypeCommand.{RefusesScript, LeavesBegun, LeavesScript, LeavesLearned, LeavesTyped};
 ghost use Rattle.skk_top.specs.declared.finish.Run.{Run as run_value};
 
 use crate::command::TypeOptions;
-use crate::dictionary::open_dictionaries;
 use crate::fault::RunFault;
 use crate::finish::Run;
 use crate::manner::Manner;
-use crate::rule_file::read_rules;
+use crate::opening::{Table, end_unopened, open_learned, read_table};
 use crate::run_file::RunFile;
-use dict_layers::System;
 use key_scripts::Script;
-use learned_store::{Store, files_are_recovered_in_one_way};
+use learned_store::Store;
 use romaji_rules::Rules;
 use skk_disk::Disk;
 use skk_outside::{Shelf, Source, read_to_end};
@@ -32,13 +27,6 @@ use std::alloc::Global;
 
 /// The most bytes of a script.
 const SCRIPT_LIMIT: usize = 4_194_304;
-
-/// What a script is typed by.
-#[derive(Drop)]
-struct Table {
-    rules: Rules,
-    system: System,
-}
 
 /// A script that was read and is to be typed.
 #[derive(Drop)]
@@ -90,29 +78,10 @@ pub fn begin<M: Manner<D>, H: Shelf, D: Disk, I: Source>(
     ensures ended_counted { IfErr result (λ run. D.faults disk ≤ D.faults run.disk) }
     ensures input_counted { I.faults input.old ≤ I.faults input.new }
 {
-    match read_table(alloc, options, shelf) {
+    match read_table(alloc, &options.rules, &options.dictionaries, shelf) {
         Ok(table) => begin_learned::<M, D, I>(alloc, options.limit(), table, disk, input),
-        Err(fault) => Err(Run::without_calls(Err(fault), disk)),
+        Err(fault) => Err(end_unopened(fault, disk)),
     }
-}
-
-// Reads the rules and then the dictionaries that the options name, and keeps their rows as system files.
-fn read_table<H: Shelf>(
-    alloc: Global,
-    options: &TypeOptions,
-    shelf: &mut H,
-) -> Result<Table, RunFault>
-    ensures rules { IfOk result
-        (λ table. AreRules (rules_named options.now (moved_shelf H.file H.faults shelf.old shelf.new)) table.rules) }
-    ensures rows { IfOk result (λ table. AreRowsOf table.system
-        (dictionaries_named options.now (moved_shelf H.file H.faults shelf.old shelf.new))) }
-    ensures refused { IfErr result (RefusesNamed options.now (moved_shelf H.file H.faults shelf.old shelf.new)) }
-    ensures counted { H.faults shelf.old ≤ H.faults shelf.new }
-{
-    let rules = read_rules(alloc, shelf, &options.rules)?;
-    let files = open_dictionaries(alloc, shelf, options.dictionaries.as_slice())?;
-    let system = System::of_files(alloc, files)?;
-    Ok(Table { rules, system })
 }
 
 // Opens the learned file, reads a script, and checks it whole.
@@ -151,11 +120,10 @@ fn begin_learned<M: Manner<D>, D: Disk, I: Source>(
     ensures ended_counted { IfErr result (λ run. D.faults disk ≤ D.faults run.disk) }
     ensures input_counted { I.faults input.old ≤ I.faults input.new }
 {
-    files_are_recovered_in_one_way();
     let Table { rules, system } = table;
-    match Store::open(alloc, disk, system, limit) {
+    match open_learned(alloc, disk, system, limit) {
         Ok(store) => begin_script::<M, D, I>(alloc, rules, store, input),
-        Err(unopened) => Err(Run::without_calls(Err(RunFault::from(unopened.why)), unopened.disk)),
+        Err(run) => Err(run),
     }
 }
 

@@ -1,14 +1,18 @@
-ghost use Rattle.std.specs.Prelude.{◌≡◌, ◌≤◌, ◌↔◌, ◌+◌, [], None, IfSome, IsErrOf, true};
+ghost use Rattle.std.specs.Prelude.{◌≡◌, ◌⊎◌, ◌≤◌, ◌↔◌, ◌+◌, [], None, IfSome, IsErrOf, true, false};
 ghost use Rattle.std.specs.Io.KnownBytes.{Keeps};
 ghost use Rattle.skk_disk.specs.Steps.{ComeFrom};
 ghost use Rattle.skk_journal.specs.Images.{SameOther};
+ghost use Rattle.skk_outside.specs.Faults.{Rose};
 ghost use Rattle.skk_outside.specs.Moved.{moved_shelf, moved_source, moved_sink};
 ghost use Rattle.skk_outside.specs.Taken.{TakesAtMost};
 ghost use Rattle.skk_outside.specs.declared.source.TheConstants.{PIECE};
 ghost use Rattle.key_scripts.specs.Script.{script_limit};
-ghost use Rattle.skk_top.specs.Command.{script_to_weave, waits};
+ghost use Rattle.skk_server.specs.Services.{seen_listener};
+ghost use Rattle.skk_server.specs.Visits.{seen_link};
+ghost use Rattle.skk_top.specs.Command.{script_to_weave, port_to_serve, are_built_to_wait, waits};
 ghost use Rattle.skk_top.specs.Disks.{moved_disk, StandsSince};
 ghost use Rattle.skk_top.specs.Finishes.{run_of, HasFailed};
+ghost use Rattle.skk_top.specs.ServeCommand.{LeavesServed, moved_listener};
 ghost use Rattle.skk_top.specs.Status.{Tells, run_status, run_message};
 ghost use Rattle.skk_top.specs.TypeCommand.{LeavesTyped};
 ghost use Rattle.skk_top.specs.WeaveCommand.{WeavesLines};
@@ -17,6 +21,7 @@ use crate::caller_each::run_by_each;
 use crate::command::read_command;
 use crate::fault::{RunFault, end_run, end_uncalled};
 use crate::finish::Finish;
+use crate::serve_command::run_serve;
 use skk_disk::Disk;
 use skk_outside::{Gate, Listener, Shelf, Sink, Source};
 use skk_text::Text;
@@ -43,7 +48,7 @@ pub fn run<
     I: Source,
     O: Sink,
     E: Sink,
-    N: Listener,
+    N: Listener<Link: Send + Drop>,
     G: Gate + Sync,
     R: Threads + Wait + Copy + Send + Sync,
 >(
@@ -65,19 +70,20 @@ pub fn run<
     ensures told { Tells (run_message result.ended) (moved_sink E.written E.faults err.old err.new) }
 
     // A command that is not built.
-    ensures not_built { IsErrOf result.ended RunFault.NotBuilt ↔ (script_to_weave words.now ≡ None) }
+    ensures not_built { IsErrOf result.ended RunFault.NotBuilt ↔ (are_built_to_wait words.now ≡ false) }
     ensures unread { script_to_weave words.now ≡ None → Keeps (I.left input.old) (I.left input.new) }
-    ensures untouched { script_to_weave words.now ≡ None → Keeps (O.written out.old) (O.written out.new) }
+    ensures untouched { are_built_to_wait words.now ≡ false → Keeps (O.written out.old) (O.written out.new) }
     ensures taken { TakesAtMost (I.left input.old) (I.left input.new) (script_limit + PIECE) }
-    ensures uncalled { script_to_weave words.now ≡ None → result.chronicle ≡ [] }
-    ensures unopened { script_to_weave words.now ≡ None → result.disk ≡ disk }
-    ensures unaccepted { net.new ≡ net.old }
+    ensures uncalled { are_built_to_wait words.now ≡ false → result.chronicle ≡ [] }
+    ensures unopened { are_built_to_wait words.now ≡ false → result.disk ≡ disk }
+    ensures unasked { port_to_serve words.now ≡ None → net.new ≡ net.old }
 
     // A call on the outside failed where the run ended so.
     ensures outside { IsErrOf result.ended RunFault.Outside → HasFailed
         (moved_shelf H.file H.faults shelf.old shelf.new) (moved_source I.left I.faults input.old input.new)
         (moved_sink O.written O.faults out.old out.new)
-        (moved_disk D.tells D.seen D.time D.faults D.left_since disk result.disk) }
+        (moved_disk D.tells D.seen D.time D.faults D.left_since disk result.disk)
+        ⊎ Rose (N.faults net.old) (N.faults net.new) }
 
     // No count of faults falls.
     ensures shelf_counted { H.faults shelf.old ≤ H.faults shelf.new }
@@ -85,11 +91,17 @@ pub fn run<
     ensures input_counted { I.faults input.old ≤ I.faults input.new }
     ensures out_counted { O.faults out.old ≤ O.faults out.new }
     ensures err_counted { E.faults err.old ≤ E.faults err.new }
+    ensures net_counted { N.faults net.old ≤ N.faults net.new }
 
-    // What the command leaves.
+    // What each command leaves.
     ensures types { IfSome (script_to_weave words.now) (λ options. LeavesTyped WeavesLines options (run_of result)
         (moved_shelf H.file H.faults shelf.old shelf.new) (moved_source I.left I.faults input.old input.new)
         (moved_sink O.written O.faults out.old out.new)
+        (moved_disk D.tells D.seen D.time D.faults D.left_since disk result.disk)) }
+    ensures serves { IfSome (port_to_serve words.now) (λ options. LeavesServed options (run_of result)
+        (moved_shelf H.file H.faults shelf.old shelf.new) (moved_sink O.written O.faults out.old out.new)
+        (moved_listener (seen_listener N.coming N.over N.out N.faults)
+        (seen_link N.Link.left N.Link.written N.Link.faults N.Link.closed) net.old net.new)
         (moved_disk D.tells D.seen D.time D.faults D.left_since disk result.disk)) }
 
     // What a stop at any moment of the run leaves of the disk; and the second file is as it was.
@@ -97,10 +109,15 @@ pub fn run<
         (moved_disk D.tells D.seen D.time D.faults D.left_since disk result.disk) }
     ensures other { ComeFrom SameOther (D.left_since disk (D.time disk)) (D.left_since result.disk (D.time disk)) }
 {
-    let _ = net;
     let Some(command) = read_command(words) else {
         return end_uncalled(RunFault::Words, disk, err);
     };
+    if let Some(options) = command.port_served() {
+        return end_run(
+            run_serve(rt, alloc, options, shelf, disk, out, net, gate),
+            err,
+        );
+    }
     let Some(options) = command.script_in_threads() else {
         return end_uncalled(RunFault::NotBuilt, disk, err);
     };

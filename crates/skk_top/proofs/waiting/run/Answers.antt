@@ -1,16 +1,79 @@
-use Rattle.std.proofs.Common.{◌≡◌, ◌∙◌, sym, ap, subst, Option, Some, IfSome}
+use Rattle.std.proofs.Common.{◌≡◌, ◌⊎◌, ◌∙◌, sym, ap, subst, inl, Option, Some, IfSome}
 use Rattle.std.specs.Option.{option_and_then}
+use Rattle.skk_outside.specs.Faults.{Rose}
 use Rattle.skk_outside.specs.Moved.{moved_shelf, moved_source, moved_sink}
-use Rattle.skk_top.specs.Command.{script_in_threads, script_to_weave}
+use Rattle.skk_server.specs.Services.{seen_listener}
+use Rattle.skk_server.specs.Visits.{seen_link}
+use Rattle.skk_top.specs.Command.{port_served, port_to_serve, script_in_threads, script_to_weave}
 use Rattle.skk_top.specs.Disks.{moved_disk}
 use Rattle.skk_top.specs.Finishes.{run_of, HasFailed}
+use Rattle.skk_top.specs.ServeCommand.{LeavesServed, moved_listener}
 use Rattle.skk_top.specs.TypeCommand.{LeavesTyped}
 use Rattle.skk_top.specs.WeaveCommand.{WeavesLines}
+use Rattle.skk_top.specs.declared.command.ServeOptions.{ServeOptions}
 use Rattle.skk_top.specs.declared.command.TypeOptions.{TypeOptions}
 use Rattle.skk_top.specs.declared.finish.Finish.{Finish}
 use Rattle.skk_top.proofs.Disks.{stands-finish}
-use Rattle.skk_top.proofs.Outside.{outside-woven}
+use Rattle.skk_top.proofs.Outside.{outside-served, outside-woven}
+use Rattle.skk_top.proofs.Ranges.{IsService, ports-in-range}
 use Rattle.skk_top.proofs.waiting.run.Goals as goal
+
+-- Connections that are served
+
+pub run_serve-requires-clause-port : goal.run_serve-requires-clause-port
+run_serve-requires-clause-port g c κs within =
+    let named : port_to_serve c.args.words.now ≡ Some c.in-Some-port_served.options.now =
+    ap (option_and_then port_served) (sym c.in-Some.ensures) ∙ sym c.in-Some-port_served.ensures in
+    (subst (λ (given : Option ServeOptions). IfSome given IsService) named (ports-in-range c.args.words.now)).0
+
+pub run_serve-requires-clause-connections : goal.run_serve-requires-clause-connections
+run_serve-requires-clause-connections g c κs within =
+    let named : port_to_serve c.args.words.now ≡ Some c.in-Some-port_served.options.now =
+    ap (option_and_then port_served) (sym c.in-Some.ensures) ∙ sym c.in-Some-port_served.ensures in
+    (subst (λ (given : Option ServeOptions). IfSome given IsService) named (ports-in-range c.args.words.now)).1
+
+pub returns-in-Some-port_served-clause-serves : goal.returns-in-Some-port_served-clause-serves
+returns-in-Some-port_served-clause-serves g c =
+    let shelf = moved_shelf g.H.Shelf.file g.H.Outside.faults c.args.shelf.now c.run_serve.new.shelf in
+    let out = moved_sink g.O.Outside.written g.O.Outside.faults c.args.out.now c.run_serve.new.out in
+    let net =
+    moved_listener (seen_listener g.N.Listener.coming g.N.Listener.over g.N.Listener.out g.N.Outside.faults)
+    (seen_link g.N.Link.Outside.left g.N.Link.Outside.written g.N.Link.Outside.faults g.N.Link.Link.closed)
+    c.args.net.now c.run_serve.new.net in
+    let disk =
+    moved_disk g.D.Disk.tells g.D.Disk.seen g.D.Disk.time g.D.Outside.faults g.D.Disk.left_since c.args.disk
+    c.end_run.result.disk in
+    let named : port_to_serve c.args.words.now ≡ Some c.in-Some-port_served.options.now =
+    ap (option_and_then port_served) (sym c.in-Some.ensures) ∙ sym c.in-Some-port_served.ensures in
+    subst (λ (given : Option ServeOptions). IfSome given
+    (λ os. LeavesServed os (run_of c.end_run.result) shelf out net disk)) (sym named)
+    (rw c.end_run.ensures.finish c.run_serve.ensures.leaves)
+
+pub returns-in-Some-port_served-clause-outside : goal.returns-in-Some-port_served-clause-outside
+returns-in-Some-port_served-clause-outside g c is =
+    let D = g.D.Disk in
+    let shelf = moved_shelf g.H.Shelf.file g.H.Outside.faults c.args.shelf.now c.run_serve.new.shelf in
+    let input = moved_source g.I.Outside.left g.I.Outside.faults c.args.input.now c.args.input.now in
+    let out = moved_sink g.O.Outside.written g.O.Outside.faults c.args.out.now c.run_serve.new.out in
+    let net =
+    moved_listener (seen_listener g.N.Listener.coming g.N.Listener.over g.N.Listener.out g.N.Outside.faults)
+    (seen_link g.N.Link.Outside.left g.N.Link.Outside.written g.N.Link.Outside.faults g.N.Link.Link.closed)
+    c.args.net.now c.run_serve.new.net in
+    let finish = c.end_run.ensures.finish in
+    subst (λ (f : Finish g.row.D.Denot). HasFailed shelf input out
+    (moved_disk D.tells D.seen D.time g.D.Outside.faults D.left_since c.args.disk f.disk)
+    ⊎ Rose net.faults net.faults') (sym finish)
+    (outside-served c.in-Some-port_served.options.now c.run_serve.result shelf input out net
+    (moved_disk D.tells D.seen D.time g.D.Outside.faults D.left_since c.args.disk c.run_serve.result.disk)
+    (sym (ap (λ (f : Finish g.row.D.Denot). f.ended) finish) ∙ is) c.run_serve.ensures.leaves)
+
+pub returns-in-Some-port_served-clause-stands : goal.returns-in-Some-port_served-clause-stands
+returns-in-Some-port_served-clause-stands g c =
+    let D = g.D.Disk in
+    stands-finish D.tells D.seen D.time g.D.Outside.faults D.left_since c.args.disk c.run_serve.result
+    c.end_run.result c.end_run.ensures.finish c.run_serve.ensures.stands
+
+-- A script that is typed
 
 pub returns-clause-types : goal.returns-clause-types
 returns-clause-types g c =
@@ -19,13 +82,13 @@ returns-clause-types g c =
     let out = moved_sink g.O.Outside.written g.O.Outside.faults c.args.out.now c.run_by_each.new.out in
     let disk =
     moved_disk g.D.Disk.tells g.D.Disk.seen g.D.Disk.time g.D.Outside.faults g.D.Disk.left_since c.args.disk
-    c.end_run.result.disk in
+    c.end_run-2.result.disk in
     let options = c.in-Some-script_in_threads.options.now in
     let named : script_to_weave c.args.words.now ≡ Some options =
     ap (option_and_then script_in_threads) (sym c.in-Some.ensures) ∙ sym c.in-Some-script_in_threads.ensures in
     subst (λ (given : Option TypeOptions). IfSome given
-    (λ os. LeavesTyped WeavesLines os (run_of c.end_run.result) shelf input out disk)) (sym named)
-    (rw c.end_run.ensures.finish c.run_by_each.ensures.leaves)
+    (λ os. LeavesTyped WeavesLines os (run_of c.end_run-2.result) shelf input out disk)) (sym named)
+    (rw c.end_run-2.ensures.finish c.run_by_each.ensures.leaves)
 
 pub returns-clause-outside : goal.returns-clause-outside
 returns-clause-outside g c is =
@@ -33,15 +96,15 @@ returns-clause-outside g c is =
     let shelf = moved_shelf g.H.Shelf.file g.H.Outside.faults c.args.shelf.now c.run_by_each.new.shelf in
     let input = moved_source g.I.Outside.left g.I.Outside.faults c.args.input.now c.run_by_each.new.input in
     let out = moved_sink g.O.Outside.written g.O.Outside.faults c.args.out.now c.run_by_each.new.out in
-    let finish = c.end_run.ensures.finish in
-    subst (λ (f : Finish g.row.D.Denot). HasFailed shelf input out
+    let finish = c.end_run-2.ensures.finish in
+    inl (subst (λ (f : Finish g.row.D.Denot). HasFailed shelf input out
     (moved_disk D.tells D.seen D.time g.D.Outside.faults D.left_since c.args.disk f.disk)) (sym finish)
     (outside-woven c.in-Some-script_in_threads.options.now c.run_by_each.result shelf input out
     (moved_disk D.tells D.seen D.time g.D.Outside.faults D.left_since c.args.disk c.run_by_each.result.disk)
-    (sym (ap (λ (f : Finish g.row.D.Denot). f.ended) finish) ∙ is) c.run_by_each.ensures.leaves)
+    (sym (ap (λ (f : Finish g.row.D.Denot). f.ended) finish) ∙ is) c.run_by_each.ensures.leaves))
 
 pub returns-clause-stands : goal.returns-clause-stands
 returns-clause-stands g c =
     let D = g.D.Disk in
     stands-finish D.tells D.seen D.time g.D.Outside.faults D.left_since c.args.disk c.run_by_each.result
-    c.end_run.result c.end_run.ensures.finish c.run_by_each.ensures.stands
+    c.end_run-2.result c.end_run-2.ensures.finish c.run_by_each.ensures.stands

@@ -1,0 +1,5 @@
+use Rattle.skk_top.proofs.finish.end_by.Goals as goal
+
+-- no want of memory leaves the tally
+pub returns : goal.returns
+returns c = c.end_wanting.ensures

@@ -1,0 +1,49 @@
+use Rattle.std.proofs.Common.{sym, subst, IsErrAnd}
+use Rattle.skk_top.specs.Disks.{moved_disk, RefusesLearned}
+use Rattle.skk_top.specs.declared.finish.Run.{Run}
+use Rattle.skk_top.proofs.Disks.{stands-refused, stands-opened, other-opened, opened-so, refuses-learned}
+use Rattle.skk_top.proofs.opening.open_learned.Goals as goal
+
+-- the learned file was opened
+pub returns-in-Ok-clause-opened : goal.returns-in-Ok-clause-opened
+returns-in-Ok-clause-opened g c run =
+    let D = g.D.Disk in
+    opened-so D.tells D.seen D.time g.D.Outside.faults D.left_since c.args.disk run.disk c.in-Ok.store c.args.system
+    c.args.limit c.in-Ok.ensures.files c.in-Ok.ensures.limit c.in-Ok.ensures.opened c.in-Ok.ensures.past
+    c.in-Ok.ensures.counted c.in-Ok.ensures.keeps
+
+pub returns-in-Ok-clause-stands : goal.returns-in-Ok-clause-stands
+returns-in-Ok-clause-stands g c run runs =
+    let D = g.D.Disk in
+    let laws = g.met.D.Disk in
+    let store = c.in-Ok.store in
+    stands-opened D.tells D.seen D.time g.D.Outside.faults D.left_since laws.earlier laws.reads_image
+    laws.tells_images c.files_are_recovered_in_one_way.ensures.file c.args.disk store.journal.disk
+    run.disk store.state run.chronicle c.in-Ok.ensures.opened c.in-Ok.ensures.past c.in-Ok.ensures.images runs
+
+pub returns-in-Ok-clause-other : goal.returns-in-Ok-clause-other
+returns-in-Ok-clause-other g c run runs =
+    let D = g.D.Disk in
+    let laws = g.met.D.Disk in
+    let store = c.in-Ok.store in
+    other-opened D.tells D.seen D.time g.D.Outside.faults D.left_since laws.earlier laws.reads_image
+    laws.tells_images c.files_are_recovered_in_one_way.ensures.file c.args.disk store.journal.disk
+    run.disk store.state run.chronicle c.in-Ok.ensures.past c.in-Ok.ensures.other runs
+
+-- the learned file was refused
+pub returns-in-Err-clause-refused : goal.returns-in-Err-clause-refused
+returns-in-Err-clause-refused g c =
+    let D = g.D.Disk in
+    let disk = moved_disk D.tells D.seen D.time g.D.Outside.faults D.left_since c.args.disk c.in-Err.unopened.disk in
+    subst (λ (r : Run g.row.D.Denot). IsErrAnd r.ended
+    (RefusesLearned (moved_disk D.tells D.seen D.time g.D.Outside.faults D.left_since c.args.disk r.disk)))
+    (sym c.without_calls.ensures)
+    (subst (RefusesLearned disk) (sym c.from.ensures)
+    (refuses-learned disk c.in-Err.unopened.why c.in-Err.ensures.refused c.in-Err.ensures.failed))
+
+pub returns-in-Err-clause-ended_stands : goal.returns-in-Err-clause-ended_stands
+returns-in-Err-clause-ended_stands g c =
+    let D = g.D.Disk in
+    stands-refused D.tells D.seen D.time g.D.Outside.faults D.left_since c.args.disk c.in-Err.unopened.disk
+    (g.met.D.Disk.earlier c.in-Err.unopened.disk) _ c.without_calls.result c.without_calls.ensures
+    c.in-Err.ensures.images

@@ -1,0 +1,46 @@
+use Rattle.std.proofs.Common.{◌⊎◌, ℕ, subst, sym, refl, inl, inr}
+use Rattle.skk_outside.specs.Moved.{moved_shelf, moved_sink}
+use Rattle.skk_server.specs.Services.{seen_listener}
+use Rattle.skk_server.specs.Visits.{seen_link}
+use Rattle.skk_top.specs.Disks.{moved_disk, RefusesLearned}
+use Rattle.skk_top.specs.ServeCommand.{EndsUnasked, LeavesServed, ServesOpened, moved_listener}
+use Rattle.skk_top.specs.declared.finish.Run.{Run}
+use Rattle.skk_top.proofs.Runs.{Keeps-self}
+use Rattle.skk_top.proofs.serve_command.run_serve.Goals as goal
+
+-- the files that are named were read
+pub returns-in-Ok-clause-leaves : goal.returns-in-Ok-clause-leaves
+returns-in-Ok-clause-leaves g c =
+    let D = g.D.Disk in
+    let table = c.in-Ok.table in
+    let run = c.serve_learned.result in
+    let out = moved_sink g.O.Outside.written g.O.Outside.faults c.args.out.now c.serve_learned.new.out in
+    let net =
+    moved_listener (seen_listener g.P.Listener.coming g.P.Listener.over g.P.Listener.out g.P.Outside.faults)
+    (seen_link g.P.Link.Outside.left g.P.Link.Outside.written g.P.Link.Outside.faults g.P.Link.Link.closed)
+    c.args.net.now c.serve_learned.new.net in
+    let disk = moved_disk D.tells D.seen D.time g.D.Outside.faults D.left_since c.args.disk run.disk in
+    inr (record {
+      rules = table.rules;
+      books = table.system;
+      are_rules = c.in-Ok.ensures.rules;
+      are_rows = c.in-Ok.ensures.rows;
+      served = subst (λ (n : ℕ). EndsUnasked (RefusesLearned disk) run out net
+          ⊎ ServesOpened c.args.options.now.connections n table.system table.rules run out net disk) c.limit.ensures
+          c.serve_learned.ensures.leaves;
+    })
+
+-- one of them is refused
+pub returns-in-Err-clause-leaves : goal.returns-in-Err-clause-leaves
+returns-in-Err-clause-leaves g c =
+    let D = g.D.Disk in
+    let shelf = moved_shelf g.H.Shelf.file g.H.Outside.faults c.args.shelf.now c.read_table.new.shelf in
+    let out = moved_sink g.O.Outside.written g.O.Outside.faults c.args.out.now c.args.out.now in
+    let net =
+    moved_listener (seen_listener g.P.Listener.coming g.P.Listener.over g.P.Listener.out g.P.Outside.faults)
+    (seen_link g.P.Link.Outside.left g.P.Link.Outside.written g.P.Link.Outside.faults g.P.Link.Link.closed)
+    c.args.net.now c.args.net.now in
+    subst (λ (r : Run g.row.D.Denot). LeavesServed c.args.options.now r shelf out net
+    (moved_disk D.tells D.seen D.time g.D.Outside.faults D.left_since c.args.disk r.disk))
+    (sym c.end_unopened.ensures.run)
+    (inl ((record { cause = c.in-Err.ensures.refused; uncalled = refl; unwritten = Keeps-self _ }, refl), refl))

@@ -1,0 +1,49 @@
+use Rattle.std.proofs.Common.{All, List, sym, subst}
+use Rattle.skk_calls.specs.Chronicles.{history_of}
+use Rattle.skk_calls.specs.Histories.{state_after}
+use Rattle.skk_outside.specs.Moved.{moved_sink}
+use Rattle.skk_server.specs.Services.{seen_listener}
+use Rattle.skk_server.specs.Visits.{seen_link}
+use Rattle.desk_history.specs.Seats.{CallerState}
+use Rattle.learned_store.specs.Stands.{RecoverAmong, left_behind}
+use Rattle.shared_desk.specs.Told.{Stood}
+use Rattle.skk_top.specs.Disks.{KeepsDisk, disk_now}
+use Rattle.skk_top.specs.ServeCommand.{ServesByOffice, ServesConnections, moved_listener}
+use Rattle.skk_top.specs.Status.{Ended}
+use Rattle.skk_top.proofs.Visits.{desk_slips, serves-closed}
+use Rattle.skk_top.proofs.serve_command.serve_at.Goals as goal
+
+-- what the callers said for the connections, and what the desk leaves
+pub returns-clause-leaves : goal.returns-clause-leaves
+returns-clause-leaves g c =
+    let D = g.D.Disk in
+    let asked = c.args.service.connections in
+    let table = c.args.rules.now in
+    let opening = g.N.OpeningName.opening in
+    let chronicle = c.close-closed.result.chronicle in
+    let history = history_of chronicle in
+    let closed = c.close-closed.ensures in
+    let outcome = c.serve_port-outcome.result in
+    let out = moved_sink g.O.Outside.written g.O.Outside.faults c.args.out.now c.serve_port-outcome.new.out in
+    let net =
+    moved_listener (seen_listener g.P.Listener.coming g.P.Listener.over g.P.Listener.out g.P.Outside.faults)
+    (seen_link g.P.Link.Outside.left g.P.Link.Outside.written g.P.Link.Outside.faults g.P.Link.Link.closed)
+    c.args.net.now c.serve_port-outcome.new.net in
+    let serves = subst (λ n. ServesByOffice asked table desk_slips n c.serve_port-outcome.new.roll outcome out net)
+    c.requires.nobody c.serve_port-outcome.ensures.serves in
+    let stood = subst (λ (slips : List CallerState). All (Stood history) slips) c.of.ensures closed.slips in
+    let stands = closed.stands in
+    let keeps = subst (λ (d : g.row.D.Denot). KeepsDisk opening chronicle
+    (disk_now D.time g.D.Outside.faults D.left_since d)) (sym stands.1) (record {
+      moments = stands.2.moments;
+      now = subst (λ (d : g.row.D.Denot). RecoverAmong (state_after opening.state history)
+          (left_behind opening.state chronicle) (D.left_since d (D.time d))) stands.1 closed.now;
+      goes_on = stands.2.goes_on;
+    }) in
+    subst (λ (e : Ended). ServesConnections asked opening table
+    (record { ended = e; chronicle = chronicle; disk = c.close-closed.result.disk }) out net
+    (disk_now D.time g.D.Outside.faults D.left_since c.close-closed.result.disk)) (sym c.end_wanting.ensures)
+    (serves-closed asked opening table chronicle c.close-closed.result.disk c.close-closed.result.tally
+    c.wants_memory-wanted.result c.serve_port-outcome.new.roll outcome out net
+    (disk_now D.time g.D.Outside.faults D.left_since c.close-closed.result.disk) serves stood closed.strangers
+    stands.2.legal keeps closed.tally c.wants_memory-wanted.ensures)

@@ -1,0 +1,274 @@
+ghost use Rattle.std.specs.Prelude.{◌≡◌, ◌⊎◌, ◌≤◌, ◌+◌, ℕ, [], None};
+ghost use Rattle.learned_store.specs.Stands.{Stands, StandsOver};
+ghost use Rattle.learned_store.specs.Stores.{OpenStore, opening_now, Keeps, Recovers};
+ghost use Rattle.skk_disk.specs.Image.{Image};
+ghost use Rattle.skk_disk.specs.Moments.{SameImages};
+ghost use Rattle.skk_disk.specs.Steps.{ComeFrom};
+ghost use Rattle.skk_journal.specs.Images.{SameOther};
+ghost use Rattle.skk_outside.specs.Moved.{moved_shelf, moved_sink};
+ghost use Rattle.skk_server.specs.Services.{seen_listener};
+ghost use Rattle.skk_server.specs.Visits.{seen_link};
+ghost use Rattle.skk_top.specs.Disks.{disk_now, moved_disk, RunsOver, StandsSince, RefusesLearned};
+ghost use Rattle.skk_top.specs.Ranges.{LiesFrom};
+ghost use Rattle.skk_top.specs.ServeCommand.{LeavesServed, EndsUnasked, ServesOpened, ServesConnections};
+ghost use Rattle.skk_top.specs.ServeCommand.{moved_listener};
+
+use crate::command::ServeOptions;
+use crate::fault::RunFault;
+use crate::finish::{Run, end_wanting};
+use crate::opening::{Table, end_unopened, open_learned, read_table};
+use crate::serving::{Outcome, Service, serve_port};
+use desk_history::{DeskName, History, Pen, RollSeat};
+use learned_store::{LearnedName, Store};
+use romaji_rules::Rules;
+use shared_desk::{Desk, Roll, Slips};
+use skk_disk::Disk;
+use skk_outside::{Gate, Listener, Shelf, Sink};
+use skk_text::Memory;
+use std::alloc::Global;
+use std::marker::Brand;
+use std::sync::Wait;
+use std::thread::Threads;
+
+/// The command `serve`: reads the rules, then the dictionaries, opens the learned file and then the port, and serves
+/// its connections, each by a caller of its own. Where one of them is not had the run ends, and prints nothing.
+pub fn run_serve<
+    H: Shelf,
+    D: Disk + Drop + Send,
+    O: Sink,
+    P: Listener<Link: Send + Drop>,
+    R: Threads + Wait + Copy + Send + Sync,
+    G: Gate + Sync,
+>(
+    rt: R,
+    alloc: Global,
+    options: &ServeOptions,
+    shelf: &mut H,
+    disk: D,
+    out: &mut O,
+    net: &mut P,
+    gate: &G,
+) -> Run<D>
+    requires port { LiesFrom 1 65535 options.now.port }
+    requires connections { LiesFrom 1 1000000 options.now.connections }
+    ensures leaves { LeavesServed options.now result (moved_shelf H.file H.faults shelf.old shelf.new)
+        (moved_sink O.written O.faults out.old out.new)
+        (moved_listener (seen_listener P.coming P.over P.out P.faults)
+        (seen_link P.Link.left P.Link.written P.Link.faults P.Link.closed) net.old net.new)
+        (moved_disk D.tells D.seen D.time D.faults D.left_since disk result.disk) }
+    ensures stands { StandsSince result.chronicle
+        (moved_disk D.tells D.seen D.time D.faults D.left_since disk result.disk) }
+    ensures other { ComeFrom SameOther (D.left_since disk (D.time disk)) (D.left_since result.disk (D.time disk)) }
+    ensures shelf_counted { H.faults shelf.old ≤ H.faults shelf.new }
+    ensures disk_counted { D.faults disk ≤ D.faults result.disk }
+    ensures out_counted { O.faults out.old ≤ O.faults out.new }
+    ensures net_counted { P.faults net.old ≤ P.faults net.new }
+{
+    let service = Service {
+        port: options.port as u16,
+        connections: options.connections as u32,
+    };
+    match read_table(alloc, &options.rules, &options.dictionaries, shelf) {
+        Ok(table) => serve_learned(
+            rt,
+            alloc,
+            service,
+            options.limit(),
+            table,
+            disk,
+            out,
+            net,
+            gate,
+        ),
+        Err(fault) => end_unopened(fault, disk),
+    }
+}
+
+// Opens the learned file, and serves the port.
+fn serve_learned<
+    D: Disk + Drop + Send,
+    O: Sink,
+    P: Listener<Link: Send + Drop>,
+    R: Threads + Wait + Copy + Send + Sync,
+    G: Gate + Sync,
+>(
+    rt: R,
+    alloc: Global,
+    service: Service,
+    limit: u64,
+    table: Table,
+    disk: D,
+    out: &mut O,
+    net: &mut P,
+    gate: &G,
+) -> Run<D>
+    requires connections { LiesFrom 1 1000000 service.connections }
+    ensures leaves { EndsUnasked
+        (RefusesLearned (moved_disk D.tells D.seen D.time D.faults D.left_since disk result.disk)) result
+        (moved_sink O.written O.faults out.old out.new)
+        (moved_listener (seen_listener P.coming P.over P.out P.faults)
+        (seen_link P.Link.left P.Link.written P.Link.faults P.Link.closed) net.old net.new)
+        ⊎ ServesOpened service.connections limit table.system table.rules result
+        (moved_sink O.written O.faults out.old out.new)
+        (moved_listener (seen_listener P.coming P.over P.out P.faults)
+        (seen_link P.Link.left P.Link.written P.Link.faults P.Link.closed) net.old net.new)
+        (moved_disk D.tells D.seen D.time D.faults D.left_since disk result.disk) }
+    ensures stands { StandsSince result.chronicle
+        (moved_disk D.tells D.seen D.time D.faults D.left_since disk result.disk) }
+    ensures other { ComeFrom SameOther (D.left_since disk (D.time disk)) (D.left_since result.disk (D.time disk)) }
+    ensures disk_counted { D.faults disk ≤ D.faults result.disk }
+    ensures out_counted { O.faults out.old ≤ O.faults out.new }
+    ensures net_counted { P.faults net.old ≤ P.faults net.new }
+{
+    let Table { rules, system } = table;
+    match open_learned(alloc, disk, system, limit) {
+        Ok(store) => serve_store(rt, alloc, service, &rules, store, out, net, gate),
+        Err(run) => run,
+    }
+}
+
+// Serves the port over a store that was just opened.
+fn serve_store<
+    D: Disk + Drop + Send,
+    O: Sink,
+    P: Listener<Link: Send + Drop>,
+    R: Threads + Wait + Copy + Send + Sync,
+    G: Gate + Sync,
+>(
+    rt: R,
+    alloc: Global,
+    service: Service,
+    rules: &Rules,
+    store: Store<D>,
+    out: &mut O,
+    net: &mut P,
+    gate: &G,
+) -> Run<D>
+    requires connections { LiesFrom 1 1000000 service.connections }
+    requires calm { Keeps D.time D.left_since store.journal store.state None }
+    ensures leaves { EndsUnasked (λ fault. fault ≡ RunFault.Memory) result
+        (moved_sink O.written O.faults out.old out.new)
+        (moved_listener (seen_listener P.coming P.over P.out P.faults)
+        (seen_link P.Link.left P.Link.written P.Link.faults P.Link.closed) net.old net.new)
+        ⊎ ServesConnections service.connections (opening_now D.time D.faults store) rules.now result
+        (moved_sink O.written O.faults out.old out.new)
+        (moved_listener (seen_listener P.coming P.over P.out P.faults)
+        (seen_link P.Link.left P.Link.written P.Link.faults P.Link.closed) net.old net.new)
+        (disk_now D.time D.faults D.left_since result.disk) }
+    ensures runs { RunsOver store.state result.chronicle
+        (disk_now D.time D.faults D.left_since store.journal.disk)
+        (disk_now D.time D.faults D.left_since result.disk) }
+    ensures out_counted { O.faults out.old ≤ O.faults out.new }
+    ensures net_counted { P.faults net.old ≤ P.faults net.new }
+{
+    match History::new(alloc) {
+        Ok(made) => serve_over::<Brand, D, O, P, R, G>(
+            rt, alloc, service, rules, made, store, out, net, gate,
+        ),
+        Err(Memory) => Run::without_calls(Err(RunFault::Memory), store.close()),
+    }
+}
+
+// Serves the port over a store that was just opened, by callers for whom `N` names the history and the opening to the
+// proof.
+fn serve_over<
+    N: DeskName + LearnedName + Send + Sync,
+    D: Disk + Drop + Send,
+    O: Sink,
+    P: Listener<Link: Send + Drop>,
+    R: Threads + Wait + Copy + Send + Sync,
+    G: Gate + Sync,
+>(
+    rt: R,
+    alloc: Global,
+    service: Service,
+    rules: &Rules,
+    made: (History, Pen, RollSeat),
+    store: Store<D>,
+    out: &mut O,
+    net: &mut P,
+    gate: &G,
+) -> Run<D>
+    requires connections { LiesFrom 1 1000000 service.connections }
+    requires calm { Keeps D.time D.left_since store.journal store.state None }
+    requires named { N.opening ≡ opening_now D.time D.faults store }
+    requires past { SameImages N.past (D.left_since store.journal.disk) }
+    requires history { made.0 ≡ N.table }
+    requires pen { made.1 ≡ record { table = made.0; seen = []; ended = []; roll = None } }
+    requires roll { made.2 ≡ record { table = made.0; drawn = 0 } }
+    ensures leaves { EndsUnasked (λ fault. fault ≡ RunFault.Memory) result
+        (moved_sink O.written O.faults out.old out.new)
+        (moved_listener (seen_listener P.coming P.over P.out P.faults)
+        (seen_link P.Link.left P.Link.written P.Link.faults P.Link.closed) net.old net.new)
+        ⊎ ServesConnections service.connections N.opening rules.now result
+        (moved_sink O.written O.faults out.old out.new)
+        (moved_listener (seen_listener P.coming P.over P.out P.faults)
+        (seen_link P.Link.left P.Link.written P.Link.faults P.Link.closed) net.old net.new)
+        (disk_now D.time D.faults D.left_since result.disk) }
+    ensures runs { RunsOver store.state result.chronicle
+        (disk_now D.time D.faults D.left_since store.journal.disk)
+        (disk_now D.time D.faults D.left_since result.disk) }
+    ensures out_counted { O.faults out.old ≤ O.faults out.new }
+    ensures net_counted { P.faults net.old ≤ P.faults net.new }
+{
+    let (history, pen, roll) = made;
+    match Desk::<D, N, R>::open(rt, alloc, store, history, pen, roll) {
+        Ok((desk, roll)) => serve_at(rt, alloc, service, rules, desk, roll, out, net, gate),
+        Err(none) => Run::without_calls(Err(RunFault::Memory), none.store.close()),
+    }
+}
+
+// Serves the port at a desk that has admitted nobody. A run of which a call was refused, or a connection ended for want
+// of memory, ends so where nothing else ended it before.
+fn serve_at<
+    N: DeskName + LearnedName + Send + Sync,
+    D: Disk + Drop + Send,
+    O: Sink,
+    P: Listener<Link: Send + Drop>,
+    R: Threads + Wait + Copy + Send + Sync,
+    G: Gate + Sync,
+>(
+    rt: R,
+    alloc: Global,
+    service: Service,
+    rules: &Rules,
+    desk: Desk<D, N, R>,
+    roll: Roll<N>,
+    out: &mut O,
+    net: &mut P,
+    gate: &G,
+) -> Run<D>
+    requires connections { LiesFrom 1 1000000 service.connections }
+    requires nobody { roll ≡ 0 }
+    ensures leaves { ServesConnections service.connections N.opening rules.now result
+        (moved_sink O.written O.faults out.old out.new)
+        (moved_listener (seen_listener P.coming P.over P.out P.faults)
+        (seen_link P.Link.left P.Link.written P.Link.faults P.Link.closed) net.old net.new)
+        (disk_now D.time D.faults D.left_since result.disk) }
+    ensures stands { (store : OpenStore _) × (result.disk ≡ store.journal.disk)
+        × Stands D.time D.faults D.left_since N.opening N.past result.chronicle store }
+    ensures since { (start : ℕ) →
+        ((time : ℕ) (image : Image) → start ≤ time → time ≤ N.opening.time → N.past time image
+        → Recovers N.opening.state image) →
+        StandsOver N.opening.state result.chronicle start (D.time result.disk) (D.left_since result.disk) }
+    ensures out_counted { O.faults out.old ≤ O.faults out.new }
+    ensures net_counted { P.faults net.old ≤ P.faults net.new }
+{
+    let mut roll = roll;
+    let office = &desk;
+    let outcome = serve_port(
+        &rt, alloc, service, rules, &office, &mut roll, out, net, gate,
+    );
+    let wanted = outcome.wants_memory();
+    let Outcome {
+        ended,
+        slips,
+        ends: _,
+    } = outcome;
+    let closed = desk.close(roll, Slips::of(slips));
+    Run {
+        ended: end_wanting(ended, &closed.tally, wanted),
+        chronicle: closed.chronicle,
+        disk: closed.disk,
+    }
+}

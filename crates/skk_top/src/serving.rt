@@ -1,0 +1,166 @@
+ghost use Rattle.std.specs.Prelude.{◌≡◌, ◌≤◌, ◌+◌, [], Err};
+ghost use Rattle.std.specs.List.{list_any};
+ghost use Rattle.skk_outside.specs.Moved.{moved_sink};
+ghost use Rattle.skk_server.specs.Services.{seen_listener};
+ghost use Rattle.skk_server.specs.Visits.{seen_link, seen_caller};
+ghost use Rattle.skk_top.specs.Page.{LeavesPrinted, Writes};
+ghost use Rattle.skk_top.specs.ServeCommand.{ServesByOffice, TellsEnd, moved_listener, ready_line, served_line};
+ghost use Rattle.skk_top.specs.ServeCommand.{wants_memory};
+
+use crate::fault::{RunFault, write_numbered};
+use crate::page::write;
+use romaji_rules::Rules;
+use skk_calls::Office;
+use skk_outside::{Failed, Gate, Listener, Sink};
+use skk_server::{End, Served, ServedEnd, serve_all};
+use std::alloc::Global;
+use std::sync::Wait;
+use std::thread::Threads;
+
+/// What is to be served.
+#[derive(Clone, Copy, Debug)]
+pub struct Service {
+    /// The port, on loopback.
+    pub port: u16,
+    /// How many connections.
+    pub connections: u32,
+}
+
+/// What the serving of a port came to.
+#[derive(Drop)]
+pub struct Outcome<S> {
+    /// How it ended by itself.
+    pub ended: Result<(), RunFault>,
+    /// What is left of the callers, in the order of their connections.
+    pub slips: Vec<S>,
+    /// How each connection ended, in their order.
+    pub ends: Vec<End>,
+}
+
+impl<S> Outcome<S> {
+    // No connection was served. Takes no memory.
+    fn of_none(alloc: Global, fault: RunFault) -> Outcome<S>
+        ensures ended { result.ended ≡ Err fault }
+        ensures slips { result.slips.items ≡ [] }
+        ensures ends { result.ends.items ≡ [] }
+    {
+        Outcome {
+            ended: Err(fault),
+            slips: Vec::new(alloc),
+            ends: Vec::new(alloc),
+        }
+    }
+
+    /// Whether a connection ended for want of memory.
+    pub fn wants_memory(&self) -> bool
+        ensures { result ≡ list_any wants_memory self.now.ends.items }
+    {
+        self.ends.iter().any(|end| wants_memory(*end))
+    }
+}
+
+// Whether a connection ended for want of memory.
+fn wants_memory(end: End) -> bool
+    ensures { result ≡ wants_memory end }
+{
+    match end {
+        End::Memory => true,
+        End::Closed | End::LinkFault | End::Limit => false,
+    }
+}
+
+/// Opens a port, tells that it is open, serves its connections by callers that an office admits, and tells how many
+/// were accepted. Where the port can't be opened, nothing is printed.
+pub fn serve_port<
+    O: Sink,
+    P: Listener<Link: Send + Drop>,
+    W: Office<Pass: Send + Drop, Slip: Drop>,
+    R: Threads + Wait + Sync,
+    G: Gate + Sync,
+>(
+    rt: &R,
+    alloc: Global,
+    service: Service,
+    rules: &Rules,
+    office: &W,
+    roll: &mut W::Roll,
+    out: &mut O,
+    net: &mut P,
+    gate: &G,
+) -> Outcome<W::Slip>
+    requires owns { W.owns office.now roll.old }
+    requires few { W.drawn roll.old + service.connections ≤ 4294967295 }
+    ensures serves { ServesByOffice service.connections rules.now (seen_caller W.Slip.number W.Slip.said)
+        (W.drawn roll.old) (W.drawn roll.new) result (moved_sink O.written O.faults out.old out.new)
+        (moved_listener (seen_listener P.coming P.over P.out P.faults)
+        (seen_link P.Link.left P.Link.written P.Link.faults P.Link.closed) net.old net.new) }
+    ensures out_counted { O.faults out.old ≤ O.faults out.new }
+    ensures net_counted { P.faults net.old ≤ P.faults net.new }
+    ensures owned { W.owns office.now roll.new }
+{
+    if let Err(Failed) = net.open(service.port) {
+        return Outcome::of_none(alloc, RunFault::Outside);
+    }
+    if let Err(fault) = print_ready(out) {
+        return Outcome::of_none(alloc, fault);
+    }
+    let Served {
+        count,
+        passes,
+        ends,
+        end,
+    } = serve_all(
+        rt,
+        alloc,
+        net,
+        service.connections,
+        rules,
+        office,
+        roll,
+        gate,
+    );
+    Outcome {
+        ended: end_serving(end, count, out),
+        slips: passes,
+        ends,
+    }
+}
+
+// Tells that the port is open.
+fn print_ready<O: Sink>(out: &mut O) -> Result<(), RunFault>
+    ensures { LeavesPrinted ready_line result (moved_sink O.written O.faults out.old out.new) }
+{
+    write(out, b"ready\n")?;
+    out.flush()?;
+    Ok(())
+}
+
+// Tells how many connections were accepted, where their serving is done.
+#[tactic(auto, using(crate::proofs::Runs::untouched))]
+fn end_serving<O: Sink>(end: ServedEnd, count: u32, out: &mut O) -> Result<(), RunFault>
+    ensures tells { TellsEnd end count result (moved_sink O.written O.faults out.old out.new) }
+    ensures counted { O.faults out.old ≤ O.faults out.new }
+{
+    match end {
+        ServedEnd::Done => print_served(count, out),
+        ServedEnd::Fault => Err(RunFault::Outside),
+        ServedEnd::Memory => Err(RunFault::Memory),
+    }
+}
+
+// Tells how many connections were accepted.
+fn print_served<O: Sink>(count: u32, out: &mut O) -> Result<(), RunFault>
+    ensures { LeavesPrinted (served_line count) result (moved_sink O.written O.faults out.old out.new) }
+{
+    write_served(count, out)?;
+    out.flush()?;
+    Ok(())
+}
+
+// Writes how many connections were accepted.
+fn write_served<O: Sink>(count: u32, out: &mut O) -> Result<(), Failed>
+    ensures { Writes (served_line count) result (moved_sink O.written O.faults out.old out.new) }
+{
+    write_numbered(out, b"served ", count as u64)?;
+    write(out, b"\n")
+}
