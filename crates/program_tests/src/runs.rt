@@ -170,6 +170,79 @@ fn expect_checked<R: Abort>(
     Ok(())
 }
 
+// Runs `load` with these numbers, with an input of which no read succeeds.
+fn load_lines(
+    alloc: Global,
+    (seed, sessions, lines): (&str, &str, &str),
+    out: &mut MemSink,
+    err: &mut MemSink,
+) -> Result<u8, AllocError> {
+    let mut shelf = MemShelf::new(Vec::new(alloc), Vec::new(alloc));
+    let mut input = MemSource::new(Vec::new(alloc), vec![in alloc; 1]?);
+    let words = [
+        Text::of(String::from_str(alloc, "load")?),
+        Text::of(String::from_str(alloc, seed)?),
+        Text::of(String::from_str(alloc, sessions)?),
+        Text::of(String::from_str(alloc, lines)?),
+    ];
+    let disk = MemDisk::new(alloc, Vec::new(alloc));
+    Ok(status_of(alloc, &words, &mut shelf, disk, &mut input, out, err))
+}
+
+// The options of a load, the number of the call that writes that is to fail, the status, and what is written and told.
+type LoadedRow = (
+    (&'static str, &'static str, &'static str),
+    u64,
+    u8,
+    &'static str,
+    &'static str,
+);
+
+const FEW: (&str, &str, &str) = ("--seed=0", "--sessions=2", "--lines=3");
+
+const FEW_LOADED: &str = "lines 6\nlearned 4\nrestored 1\nrows 3\nbytes 33\n";
+
+const LOADS: [LoadedRow; 6] = [
+    (FEW, 0, 0, FEW_LOADED, ""),
+    (FEW, 1, 4, "", "skk: outside\n"),
+    (FEW, 2, 4, FEW_LOADED, "skk: outside\n"),
+    (FEW, 3, 0, FEW_LOADED, ""),
+    (
+        ("--lines=1", "--seed=18446744073709551615", "--sessions=64"),
+        0,
+        0,
+        "lines 64\nlearned 47\nrestored 18\nrows 29\nbytes 305\n",
+        "",
+    ),
+    (
+        ("--lines=1", "--seed=1", "--sessions=65"),
+        0,
+        1,
+        "",
+        "skk: words\n",
+    ),
+];
+
+// The input is not read; the summary is written at once and flushed.
+#[test]
+fn loads_are_summed_up(rt: HostRuntime) -> Result<(), Fail> {
+    for row in &LOADS {
+        expect_loaded(&rt, rt.alloc(), row)?;
+    }
+    Ok(())
+}
+
+fn expect_loaded<R: Abort>(rt: &R, alloc: Global, row: &LoadedRow) -> Result<(), Fail> {
+    let (options, write, status, out, err) = *row;
+    let mut written = MemSink::new(alloc, vec![in alloc; write]?);
+    let mut told = MemSink::new(alloc, Vec::new(alloc));
+    let ended = load_lines(alloc, options, &mut written, &mut told)?;
+    expect_ended(rt, ended, status);
+    expect_written(rt, &written, out);
+    expect_written(rt, &told, err);
+    Ok(())
+}
+
 // A sink that takes one byte at a time.
 #[derive(Drop)]
 struct OneByOne(MemSink);

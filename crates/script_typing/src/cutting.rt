@@ -29,9 +29,21 @@ pub fn cut_script(alloc: Global, script: Script) -> Result<Cut, Memory>
     ensures opens { IfOk result (λ cut. All (λ lines. list_all opens_well lines ≡ true)
         (values_of cut.tasks.entries)) }
 {
+    cut_lines(alloc, script.into_lines())
+}
+
+/// Cuts lines among their sessions. Takes time in the number of lines, not in their keys, which it moves.
+pub fn cut_lines(alloc: Global, lines: Vec<Line>) -> Result<Cut, Memory>
+    requires { list_all opens_well lines.items ≡ true }
+    ensures tasks { IfOk result (λ cut. cut.tasks.entries ≡ tasks_of lines.items) }
+    ensures order { IfOk result (λ cut. cut.order.items ≡ numbers_printed lines.items) }
+    ensures ascend { IfOk result (λ cut. Ascend cut.tasks.entries) }
+    ensures few { IfOk result (λ cut. length cut.tasks.entries ≤ 256) }
+    ensures opens { IfOk result (λ cut. All (λ own. list_all opens_well own ≡ true) (values_of cut.tasks.entries)) }
+{
     let mut tasks = BTreeMap::new(alloc);
     let mut order = Vec::new(alloc);
-    for line in script.into_lines() {
+    for line in lines {
         push_number(&line, &mut order)?;
         push_line(alloc, line, &mut tasks)?;
     }

@@ -16,7 +16,7 @@ mod typed;
 mod worker;
 mod working;
 
-pub use cutting::{Cut, cut_script};
+pub use cutting::{Cut, cut_lines, cut_script};
 pub use laws::{callers_have_asked, callers_have_ended, pages_are_woven, typists_apart_type_alone};
 pub use office::type_tasks;
 pub use pages::Pages;

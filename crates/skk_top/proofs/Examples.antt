@@ -34,7 +34,7 @@ use Rattle.skk_top.specs.Status.{fault_of_opening}
 use Rattle.skk_top.specs.Status.{fault_of_read, fault_of_text, fault_of_script}
 use Rattle.script_typing.specs.Typed.{typing, typed_alone}
 use Rattle.skk_top.specs.declared.fault.RunFault.TheVariants.{Words, Refused, NotJournal, BadRecord, Outside, Memory}
-use Rattle.skk_top.specs.declared.fault.RunFault.TheVariants.{JournalFull, NotBuilt}
+use Rattle.skk_top.specs.declared.fault.RunFault.TheVariants.{JournalFull}
 use Rattle.skk_top.specs.declared.run_file.Flaw.TheVariants.{TooLong, Byte, Line}
 use Rattle.skk_top.specs.declared.run_file.RunFile.TheVariants.{Script, Rules, Dictionary}
 use Rattle.key_scripts.specs.declared.line.Line as lines
@@ -211,16 +211,16 @@ sessions_or_new = refl
 -- each fault with its status and its line
 statuses : map run_status
     (Ok tt ∷ Err Words ∷ Err (Refused Script TooLong) ∷ Err (Refused Script (Line 3)) ∷ Err (Refused Rules TooLong)
-    ∷ Err (Refused (Dictionary 1) (Byte 0)) ∷ Err Outside ∷ Err Memory ∷ Err NotBuilt ∷ [])
-    ≡ 0 ∷ 1 ∷ 2 ∷ 2 ∷ 3 ∷ 3 ∷ 4 ∷ 6 ∷ 8 ∷ []
+    ∷ Err (Refused (Dictionary 1) (Byte 0)) ∷ Err Outside ∷ Err Memory ∷ Err JournalFull ∷ [])
+    ≡ 0 ∷ 1 ∷ 2 ∷ 2 ∷ 3 ∷ 3 ∷ 4 ∷ 6 ∷ 7 ∷ []
 statuses = refl
 
 -- a line of a message
 abbrev told : String → List ℕ
 told text = codes text ++ 10 ∷ []
 
-messages : map run_message (Ok tt ∷ Err Words ∷ Err Outside ∷ Err Memory ∷ Err NotBuilt ∷ [])
-    ≡ [] ∷ told "skk: words" ∷ told "skk: outside" ∷ told "skk: memory" ∷ told "skk: not built" ∷ []
+messages : map run_message (Ok tt ∷ Err Words ∷ Err Outside ∷ Err Memory ∷ Err JournalFull ∷ [])
+    ≡ [] ∷ told "skk: words" ∷ told "skk: outside" ∷ told "skk: memory" ∷ told "skk: journal full" ∷ []
 messages = refl
 
 refusals_told : map message_of
@@ -239,8 +239,8 @@ came_to disk memory full = record empty_tally { disk = disk; memory = memory; fu
 ended_with_refusals : (map (ended_by (Ok tt)) (came_to false false false ∷ came_to true true true
     ∷ came_to true false false ∷ came_to false true true ∷ came_to false true false ∷ came_to false false true ∷ [])
     ≡ Ok tt ∷ Err Outside ∷ Err Outside ∷ Err Memory ∷ Err Memory ∷ Err JournalFull ∷ [])
-    × (map (ended_by (Err NotBuilt)) (came_to false false false ∷ came_to true true true ∷ [])
-    ≡ Err NotBuilt ∷ Err NotBuilt ∷ [])
+    × (map (ended_by (Err Words)) (came_to false false false ∷ came_to true true true ∷ [])
+    ≡ Err Words ∷ Err Words ∷ [])
 ended_with_refusals = (refl, refl)
 
 -- what a learned file that was not opened is for the run, its status and its words

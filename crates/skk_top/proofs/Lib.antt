@@ -1,3 +1,4 @@
+pub mod AloneCommands
 pub mod Begun
 mod CheckExamples
 pub mod Commands
@@ -7,8 +8,11 @@ pub mod DumpShapes
 pub mod DumpWalk
 mod Examples
 pub mod KeyLines
+pub mod LoadInput
+pub mod Loads
 pub mod ParsedNumbers
 pub mod Pages
+pub mod PlayedLines
 pub mod PrintedChecks
 mod RangeExamples
 pub mod Ranges
@@ -19,6 +23,7 @@ pub mod Visits
 pub mod RunFiles
 pub mod Runs
 pub mod SettingLists
+pub mod SharedLoads
 pub mod Tables
 pub mod Typed
 mod WordExamples

@@ -15,6 +15,7 @@ use Rattle.skk_server.specs.Visits.{Visit}
 use Rattle.learned_store.specs.Stands.{GoOn}
 use Rattle.skk_top.specs.Disks.{MovedDisk}
 use Rattle.skk_top.specs.Finishes.{HasFailed}
+use Rattle.skk_top.specs.LoadCommand.{LeavesLoaded, Loading, LoadsLines, LoadsTasks}
 use Rattle.skk_top.specs.Page.{StopsPrinting}
 use Rattle.skk_top.specs.ServeCommand.{MovedListener, StopsServing, LeavesPort, wants_memory, LeavesServed}
 use Rattle.skk_top.specs.Status.{Ended, ended_by, with_want}
@@ -22,6 +23,7 @@ use Rattle.romaji_rules.specs.declared.rule.Rule.{Rule}
 use Rattle.key_scripts.specs.declared.line.Line.{Line}
 use Rattle.skk_top.specs.TypeCommand.{LeavesTyped, Manner, TypesLines}
 use Rattle.skk_top.specs.WeaveCommand.{WeavesLines}
+use Rattle.skk_top.specs.declared.command.LoadOptions.{LoadOptions}
 use Rattle.skk_top.specs.declared.command.ServeOptions.{ServeOptions}
 use Rattle.skk_top.specs.declared.command.TypeOptions.{TypeOptions}
 use Rattle.skk_top.specs.declared.fault.RunFault.{RunFault}
@@ -64,8 +66,8 @@ ended-for-disk tally is = by tally.disk tally.memory tally.full is
     by false false true is = absurd (cc)
     by false false false is = absurd (cc)
 
-module _ {D : Type 0} (options : TypeOptions) (run : Run D) (shelf : MovedShelf) (input : MovedSource)
-    (out : MovedSink) (disk : MovedDisk) (is : run.ended ≡ Err Outside) where
+module _ {D : Type 0} (run : Run D) (shelf : MovedShelf) (input : MovedSource) (out : MovedSink) (disk : MovedDisk)
+    (is : run.ended ≡ Err Outside) where
   typed : (opening : Opening) → disk.before.faults ≤ opening.faults → (typed : Ended)
       → ended_by typed (tally_of opening.state (history_of run.chronicle)) ≡ Err Outside
       → GoOn opening.time opening.faults run.chronicle disk.after.time disk.after.faults
@@ -78,6 +80,31 @@ module _ {D : Type 0} (options : TypeOptions) (run : Run D) (shelf : MovedShelf)
       let same : fault ≡ Outside = cc ends in
       inr (inr (inl (subst (StopsPrinting out) same stopped)))
 
+  -- where the playing of a load ended so, a call failed for it
+  outside-load : (Lines : Loading D)
+      → ((opening : Opening) → disk.before.faults ≤ opening.faults → Lines opening run out disk.after
+      → HasFailed shelf input out disk) → LeavesLoaded Lines run out disk → HasFailed shelf input out disk
+  outside-load Lines played (inl refused) = inr (inr (inr (caused run.ended Outside _ is refused.cause)))
+  outside-load Lines played (inr opened) = elim opened.played [
+    | inl none ↦ let same : Outside ≡ Memory = caused run.ended Outside (λ fault. fault ≡ Memory) is none.cause in
+        absurd (cc)
+    | inr left ↦ played opened.opening opened.opened.counted left
+  ]
+
+  pub outside-loaded : (options : LoadOptions) → LeavesLoaded (LoadsLines options) run out disk
+      → HasFailed shelf input out disk
+  outside-loaded options =
+      outside-load (LoadsLines options) (λ opening counted left.
+      typed opening counted left.ended (sym left.ends ∙ is) left.kept.goes_on left.prints.stopped)
+
+  pub outside-shared : (options : LoadOptions) → LeavesLoaded (LoadsTasks options) run out disk
+      → HasFailed shelf input out disk
+  outside-shared options =
+      outside-load (LoadsTasks options) (λ opening counted left.
+      typed opening counted left.ended (sym left.ends ∙ is) left.kept.goes_on left.prints.stopped)
+
+module _ {D : Type 0} (options : TypeOptions) (run : Run D) (shelf : MovedShelf) (input : MovedSource)
+    (out : MovedSink) (disk : MovedDisk) (is : run.ended ≡ Err Outside) where
   -- where the typing of lines ended so, a call failed for it
   outside-by : (Lines : Manner D)
       → ((opening : Opening) (rules : List Rule) (lines : List Line) → disk.before.faults ≤ opening.faults
@@ -99,12 +126,13 @@ module _ {D : Type 0} (options : TypeOptions) (run : Run D) (shelf : MovedShelf)
   pub outside-typed : LeavesTyped TypesLines options run shelf input out disk → HasFailed shelf input out disk
   outside-typed =
       outside-by TypesLines (λ opening rules lines counted left.
-      typed opening counted left.typed (sym left.ends ∙ is) left.kept.goes_on left.prints.stopped)
+      typed run shelf input out disk is opening counted left.typed (sym left.ends ∙ is) left.kept.goes_on
+      left.prints.stopped)
 
   pub outside-woven : LeavesTyped WeavesLines options run shelf input out disk → HasFailed shelf input out disk
   outside-woven =
       outside-by WeavesLines (λ opening rules lines counted left.
-      typed opening counted left.typed (sym left.ends ∙ is) left.kept.goes_on left.stopped)
+      typed run shelf input out disk is opening counted left.typed (sym left.ends ∙ is) left.kept.goes_on left.stopped)
 
 module _ {D L : Type 0} (options : ServeOptions) (run : Run D) (shelf : MovedShelf) (input : MovedSource)
     (out : MovedSink) (net : MovedListener L) (disk : MovedDisk) (is : run.ended ≡ Err Outside) where

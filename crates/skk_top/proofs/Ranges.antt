@@ -14,7 +14,7 @@ use Rattle.std.proofs.lemmas.Map.Entries.{All-lookup}
 use Rattle.std.proofs.lemmas.Option.{IfSome_then, none-some}
 use Rattle.skk_top.specs.Arguments.{options, option_named, value_of, place}
 use Rattle.skk_top.specs.Command.{takes, required, optional, command, command_with, command_named, command_of}
-use Rattle.skk_top.specs.Command.{book_dumped, book_to_dump, port_served, port_to_serve}
+use Rattle.skk_top.specs.Command.{book_dumped, book_to_dump, load_in_threads, load_to_share, port_served, port_to_serve}
 use Rattle.skk_top.specs.Ranges.{LiesFrom, HasNumbersInRange}
 use Rattle.skk_top.specs.Settings.{setting, takes_value, option_alone, option_with, option_cut, name_or_cut, whole}
 use Rattle.skk_top.specs.Settings.{begun, with_setting, settings_of, is_of, times, number_in, value_given, number_given}
@@ -29,6 +29,7 @@ use Rattle.skk_top.specs.declared.argument.Takes.TheVariants.{Nothing, Name, Num
 use Rattle.skk_top.specs.declared.command.Command.{Command}
 use Rattle.skk_top.specs.declared.command.Command.TheVariants as commands
 use Rattle.skk_top.specs.declared.command.DumpOptions.{DumpOptions}
+use Rattle.skk_top.specs.declared.command.LoadOptions.{LoadOptions}
 use Rattle.skk_top.specs.declared.command.ServeOptions.{ServeOptions}
 use Rattle.skk_top.specs.declared.command_name.CommandName.{CommandName}
 use Rattle.skk_top.specs.declared.command_name.CommandName.TheVariants.{TypeScript, Serve, Check, Dump, Load}
@@ -273,6 +274,22 @@ served-in-range (commands.Serve given) range = (range.1, range.2)
 served-in-range (commands.Check file) range = tt
 served-in-range (commands.Dump given) range = tt
 served-in-range (commands.Load given) range = tt
+
+-- and those of a load
+abbrev pub IsLoad : LoadOptions → Type 0
+IsLoad options = (options.sessions ≤ 64) × (options.lines ≤ 20000)
+
+shared-in-range : (command : Command) → HasNumbersInRange command → IfSome (load_in_threads command) IsLoad
+shared-in-range (commands.TypeScript given) range = tt
+shared-in-range (commands.Serve given) range = tt
+shared-in-range (commands.Check file) range = tt
+shared-in-range (commands.Dump given) range = tt
+shared-in-range (commands.Load given) range = IfSome-if IsLoad given.threads given (λ e. (range.1.1, range.2.1))
+
+pub loads-in-range : (words : List (List ℕ)) → IfSome (load_to_share words) IsLoad
+loads-in-range words =
+    IfSome-and_then IsLoad load_in_threads (command_of words)
+    (IfSome_then (command_of words) (words-in_range words) shared-in-range)
 
 pub ports-in-range : (words : List (List ℕ)) → IfSome (port_to_serve words) IsService
 ports-in-range words =

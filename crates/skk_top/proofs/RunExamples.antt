@@ -14,7 +14,7 @@ use Rattle.key_scripts.specs.Script.{IsFirstBad}
 use Rattle.skk_top.specs.NamedFiles.{RefusesFiles}
 use Rattle.skk_top.specs.TypeCommand.{HasScriptFlaw}
 use Rattle.skk_top.proofs.Dictionaries.{are_dictionaries}
-use Rattle.skk_top.specs.declared.fault.RunFault.TheVariants.{Words, Refused, Outside, Memory, NotBuilt}
+use Rattle.skk_top.specs.declared.fault.RunFault.TheVariants.{Words, Refused, Outside, Memory, JournalFull}
 use Rattle.skk_top.specs.declared.run_file.Flaw.TheVariants.{TooLong, Byte, Line}
 use Rattle.skk_top.specs.declared.run_file.RunFile.TheVariants.{Script, Rules, Dictionary}
 
@@ -48,7 +48,7 @@ faults_of_reading : RefusesFile Script (IsLonger 4) (Some bytes) 2 3 Outside
     × RefusesFile Script (IsLonger 4) (Some bytes) 18446744073709551615 18446744073709551615 Outside
     × RefusesFile Script (IsLonger 4) (Some bytes) 3 3 Memory
     × (¬ RefusesFile Script (IsLonger 4) (Some bytes) 2 3 Words)
-    × (¬ RefusesFile Script (IsLonger 4) (Some bytes) 2 3 NotBuilt)
+    × (¬ RefusesFile Script (IsLonger 4) (Some bytes) 2 3 JournalFull)
 faults_of_reading = (lit≤ tt, λ rose. omega (arith, rose), lit≤ tt, tt, λ none. none, λ none. none)
 
 faults_of_bytes : RefusesBytes Script (IsLonger 3) bytes (Refused Script TooLong)
@@ -101,7 +101,7 @@ first_files = (
 
 -- what a run that names files may not end with
 not_of_files : (¬ RefusesFiles None [] 0 1 (Refused Script TooLong)) × (¬ RefusesFiles None [] 0 1 Words)
-    × (¬ RefusesFiles None [] 0 1 NotBuilt)
+    × (¬ RefusesFiles None [] 0 1 JournalFull)
     × (¬ RefusesFiles None [] 0 0 Outside) × RefusesFiles None [] 0 1 Outside × RefusesFiles None [] 0 0 Memory
     × (¬ RefusesFiles None [] 0 0 (Refused Rules TooLong)) × RefusesFiles (Some None) [] 0 0 (Refused Rules TooLong)
 not_of_files = (λ none. none, λ none. none, λ none. none, λ rose. omega (arith, rose), lit≤ tt, tt, λ none. none, tt)
@@ -127,7 +127,7 @@ sound = record { written = None; written' = None; faults = 3; faults' = 3 }
 -- printing stops for a call that failed, or for want of memory, and for nothing else
 printing_stops : StopsPrinting failed Outside × (¬ StopsPrinting sound Outside) × StopsPrinting sound Memory
     × (¬ StopsPrinting failed Words) × (¬ StopsPrinting failed (Refused Script TooLong))
-    × (¬ StopsPrinting failed NotBuilt)
+    × (¬ StopsPrinting failed JournalFull)
 printing_stops = (lit≤ tt, λ rose. omega (arith, rose), tt, λ none. none, λ none. none, λ none. none)
 
 -- each of the four may have failed

@@ -11,7 +11,7 @@ use Rattle.skk_server.specs.Visits.{SeenLink, Visit}
 use Rattle.skk_top.specs.ServeCommand.{MovedListener, ready_line, served_line, serve_lines, LacksPort, StopsServing}
 use Rattle.skk_top.specs.ServeCommand.{ServesVisits, AreServedFrom, wants_memory}
 use Rattle.skk_top.specs.Status.{Ended, ended_by, with_want}
-use Rattle.skk_top.specs.declared.fault.RunFault.TheVariants.{Words, Outside, Memory, JournalFull, NotBuilt}
+use Rattle.skk_top.specs.declared.fault.RunFault.TheVariants.{Words, Outside, Memory, JournalFull}
 
 -- both lines, with the number in decimal
 lines : (ready_line ≡ 114 ∷ 101 ∷ 97 ∷ 100 ∷ 121 ∷ 10 ∷ [])
@@ -67,9 +67,8 @@ module _ {L : Type 0} (links : SeenLink L) (one two one' two' : L) where
   stops : StopsServing (sink [] 2 3) (net 3 3) Outside × StopsServing (sink [] 3 3) (net 2 3) Outside
       × (¬ StopsServing (sink [] 3 3) (net 3 3) Outside) × StopsServing (sink [] 3 3) (net 3 3) Memory
       × (¬ StopsServing (sink [] 2 3) (net 2 3) Words) × (¬ StopsServing (sink [] 2 3) (net 2 3) JournalFull)
-      × (¬ StopsServing (sink [] 2 3) (net 2 3) NotBuilt)
   stops =
-      (inl (lit≤ tt), inr (lit≤ tt), λ rose. omega (arith, rose), tt, λ none. none, λ none. none, λ none. none)
+      (inl (lit≤ tt), inr (lit≤ tt), λ rose. omega (arith, rose), tt, λ none. none, λ none. none)
 
   -- where the port was not had, nothing is printed
   unopened : (¬ LacksPort [] (Err Outside) (sink ready_line 3 3) (net 2 3))

@@ -107,7 +107,7 @@ module _ (order : List ℕ) (typed : Typed) where
   }
 
 -- callers are as many as they have dialogs, and these are not more than the tasks
-asked-few : (table : List Rule) (tasks : Tasks) (dialogs : List Dialog) → HaveAsked table tasks dialogs
+pub asked-few : (table : List Rule) (tasks : Tasks) (dialogs : List Dialog) → HaveAsked table tasks dialogs
     → length dialogs ≤ length tasks
 asked-few table tasks [] asks = omega arith
 asked-few table [] (d ∷ dialogs) asks = absurd asks
@@ -135,7 +135,7 @@ told-callers history slips stood counted strangers = record {
         ∙ ap (λ ds. dialog history slip.number ∷ ds) (said these (All-tail (Stood history) slip these all))
 
 -- what was not touched was appended nothing
-keeps-appends : (old new : Told) → Keeps old new → Appends old new []
+pub keeps-appends : (old new : Told) → Keeps old new → Appends old new []
 keeps-appends None new keeps = search rules
 keeps-appends (Some bytes) None keeps = absurd keeps
 keeps-appends (Some bytes) (Some others) keeps = keeps ∙ sym (append-nil bytes)

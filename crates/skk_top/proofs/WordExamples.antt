@@ -6,7 +6,7 @@ use Rattle.std.specs.Fmt.{digits}
 use Rattle.std.specs.List.{filter}
 use Rattle.std.specs.Option.{option_map}
 use Rattle.skk_top.specs.Command.{command_of, limit_of, script_to_type, file_to_check, book_to_dump, do_open}
-use Rattle.skk_top.specs.Command.{are_built_words, are_built_to_wait, learned_named, port_to_serve}
+use Rattle.skk_top.specs.Command.{do_print, learned_named, port_to_serve}
 use Rattle.skk_text.specs.Lines.{with_first}
 use Rattle.skk_top.specs.Words.{is_name, number_within, cut}
 use Rattle.skk_top.specs.declared.command.Command.{Command}
@@ -191,7 +191,7 @@ cuts : map (λ text. cut (codes text)) ("" ∷ "a" ∷ "=" ∷ "a=" ∷ "=b" ∷
     ∷ Some (codes "a", codes "b=c") ∷ Some (codes "ab", codes "=") ∷ []
 cuts = refl
 
--- what is built of what may not wait: `type` without threads, `check` and `dump`
+-- what prints and does not wait: `type` and `load` without threads, `check` and `dump`
 abbrev some_lines : List String
 some_lines =
     "type" ∷ "type --limit 268435456" ∷ "type --limit 64" ∷ "type --dict a" ∷ "type --rules a" ∷ "type --learned a"
@@ -200,18 +200,11 @@ some_lines =
     ∷ "serve --learned a --dict b" ∷ "check a" ∷ "check" ∷ "check a b" ∷ "dump --learned a"
     ∷ "load --seed 1 --sessions 1 --lines 1" ∷ "typ" ∷ "dump --book 7 --learned=b" ∷ []
 
-built : map (λ line. are_built_words (words line)) some_lines
+printing : map (λ line. do_print (words line)) some_lines
     ≡ true ∷ true ∷ true ∷ true ∷ true ∷ true ∷ false ∷ true ∷ false ∷ true ∷ true ∷ false ∷ true ∷ false ∷ false
-    ∷ true ∷ false ∷ false ∷ true ∷ []
+    ∷ true ∷ true ∷ false ∷ true ∷ []
 unfolding digits
-built = refl
-
--- and of what may wait: `type` with threads, and `serve`
-built_to_wait : map (λ line. are_built_to_wait (words line)) some_lines
-    ≡ false ∷ false ∷ false ∷ false ∷ false ∷ false ∷ true ∷ false ∷ true ∷ false ∷ false ∷ true ∷ false ∷ false ∷ false
-    ∷ false ∷ false ∷ false ∷ false ∷ []
-unfolding digits
-built_to_wait = refl
+printing = refl
 
 ports_to_serve : map (λ line. option_map {U = ℕ × ℕ} (λ (options : ServeOptions). (options.port, options.connections))
     (port_to_serve (words line)))
@@ -223,7 +216,7 @@ ports_to_serve = refl
 -- of the former all but `check` open the learned file
 opening : map (λ line. do_open (words line)) some_lines
     ≡ true ∷ true ∷ true ∷ true ∷ true ∷ true ∷ false ∷ true ∷ false ∷ true ∷ true ∷ false ∷ false ∷ false ∷ false
-    ∷ true ∷ false ∷ false ∷ true ∷ []
+    ∷ true ∷ true ∷ false ∷ true ∷ []
 unfolding digits
 opening = refl
 

@@ -79,3 +79,26 @@ pub ruleset check_words = (
   okuri_nasi,
   bad,
 )
+
+-- what `load` prints
+pub lines : chars (codes "lines ") ≡ codes "lines "
+unfolding chars
+lines = refl
+
+pub learned : chars (codes "learned ") ≡ codes "learned "
+unfolding chars
+learned = refl
+
+pub restored : chars (codes "restored ") ≡ codes "restored "
+unfolding chars
+restored = refl
+
+pub rows : chars (codes "rows ") ≡ codes "rows "
+unfolding chars
+rows = refl
+
+pub bytes : chars (codes "bytes ") ≡ codes "bytes "
+unfolding chars
+bytes = refl
+
+pub ruleset summary_words = (lines, learned, restored, rows, bytes)

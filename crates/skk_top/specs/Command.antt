@@ -154,6 +154,22 @@ book_dumped (commands.Check file) = None
 book_dumped (commands.Dump options) = Some options
 book_dumped (commands.Load options) = None
 
+-- the options of a command that is to play the lines of a load, where no session has a thread of its own
+abbrev pub load_played : Command → Option LoadOptions
+load_played (commands.TypeScript options) = None
+load_played (commands.Serve options) = None
+load_played (commands.Check file) = None
+load_played (commands.Dump options) = None
+load_played (commands.Load options) = if options.threads then None else Some options
+
+-- the options of a command that is to play the lines of a load with a thread for each session
+abbrev pub load_in_threads : Command → Option LoadOptions
+load_in_threads (commands.TypeScript options) = None
+load_in_threads (commands.Serve options) = None
+load_in_threads (commands.Check file) = None
+load_in_threads (commands.Dump options) = None
+load_in_threads (commands.Load options) = if options.threads then Some options else None
+
 -- the options, where words are `type` without threads
 abbrev pub script_to_type : List (List ℕ) → Option TypeOptions
 script_to_type words = option_and_then script_typed (command_of words)
@@ -178,17 +194,21 @@ file_to_check words = option_and_then file_checked (command_of words)
 abbrev pub book_to_dump : List (List ℕ) → Option DumpOptions
 book_to_dump words = option_and_then book_dumped (command_of words)
 
--- whether words are a command that opens the learned file and is built so far: `type` without threads, or `dump`
+-- the options, where words are `load` without threads
+abbrev pub load_to_play : List (List ℕ) → Option LoadOptions
+load_to_play words = option_and_then load_played (command_of words)
+
+-- the options, where words are `load` with threads
+abbrev pub load_to_share : List (List ℕ) → Option LoadOptions
+load_to_share words = option_and_then load_in_threads (command_of words)
+
+-- whether words are a command that opens the learned file: `type` or `load` without threads, or `dump`
 abbrev pub do_open : List (List ℕ) → Bool
-do_open words = is_some (script_to_type words) || is_some (book_to_dump words)
+do_open words = is_some (script_to_type words) || (is_some (book_to_dump words) || is_some (load_to_play words))
 
--- whether words are a command that is built so far: one that opens the learned file, or `check`
-abbrev pub are_built_words : List (List ℕ) → Bool
-are_built_words words = do_open words || is_some (file_to_check words)
-
--- whether words are a command that may wait and is built so far: `type` with threads, or `serve`
-abbrev pub are_built_to_wait : List (List ℕ) → Bool
-are_built_to_wait words = is_some (script_to_weave words) || is_some (port_to_serve words)
+-- whether words are a command that prints: one that opens the learned file, or `check`
+abbrev pub do_print : List (List ℕ) → Bool
+do_print words = do_open words || is_some (file_to_check words)
 
 -- the name of the learned file of a command, where one is given
 abbrev pub learned_of : Command → Option (List ℕ)

@@ -7,8 +7,10 @@ pub mod Disks
 pub mod DumpCommand
 pub mod DumpWords
 pub mod Finishes
+pub mod LoadCommand
 pub mod NamedFiles
 pub mod Page
+pub mod Playing
 pub mod Ranges
 pub mod RunFiles
 pub mod RunRules

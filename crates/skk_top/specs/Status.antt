@@ -21,7 +21,7 @@ use Rattle.skk_top.specs.declared.run_file.Flaw.{Flaw}
 use Rattle.skk_top.specs.declared.run_file.Flaw.TheVariants.{TooLong, Byte, Line}
 use Rattle.skk_top.specs.declared.fault.RunFault.{RunFault}
 use Rattle.skk_top.specs.declared.fault.RunFault.TheVariants.{Words, Refused, NotJournal, BadRecord, Outside, Memory}
-use Rattle.skk_top.specs.declared.fault.RunFault.TheVariants.{JournalFull, NotBuilt}
+use Rattle.skk_top.specs.declared.fault.RunFault.TheVariants.{JournalFull}
 
 -- how a run ends: done, or with a fault
 abbrev pub Ended : Type 0
@@ -42,7 +42,6 @@ status_of (BadRecord at) = 5
 status_of Outside = 4
 status_of Memory = 6
 status_of JournalFull = 7
-status_of NotBuilt = 8
 
 -- the status of a run by how it ends
 abbrev pub run_status : Ended → ℕ
@@ -83,7 +82,6 @@ fault_words (BadRecord at) = codes "learned file record at " ++ decimal at
 fault_words Outside = codes "outside"
 fault_words Memory = codes "memory"
 fault_words JournalFull = codes "journal full"
-fault_words NotBuilt = codes "not built"
 
 -- the line of a fault on standard error, with its LF
 abbrev pub message_of : RunFault → List ℕ

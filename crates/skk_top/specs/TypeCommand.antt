@@ -9,7 +9,7 @@ use Rattle.skk_calls.specs.declared.answer.Answer.{Answer}
 use Rattle.skk_calls.specs.declared.chronicle.Noted.{Noted}
 use Rattle.skk_calls.specs.Chronicles.{history_of}
 use Rattle.skk_calls.specs.Histories.{Opening}
-use Rattle.skk_calls.specs.Interactions.{asked, printed, end_of, answers_of, calls_of}
+use Rattle.skk_calls.specs.Interactions.{Interaction, asked, printed, end_of, answers_of, calls_of}
 use Rattle.skk_calls.specs.Openings.{IsLegalOver, said_in, are_of_one, are_served}
 use Rattle.skk_calls.specs.Rows.{Row}
 use Rattle.skk_calls.specs.Tallies.{tally_of}
@@ -50,10 +50,11 @@ RefusesScript input = RefusesFile Script HasScriptFlaw input.left input.faults i
 
 -- a chronicle is legal over its opening; each entry is the one caller's; and its calls are those that an interaction
 -- asks, each by the answers before it
-pub record KeepsChronicle (opening : Opening) (asking : Asking) (chronicle : List Noted) : Type 0 where
-  pub legal : IsLegalOver opening chronicle
-  pub one : are_of_one chronicle ≡ true
-  pub asks : asked asking (answers_of (said_in chronicle 0)) ≡ calls_of (said_in chronicle 0)
+pub record KeepsChronicle {S : Type 0} (opening : Opening) (asking : Interaction S) (chronicle : List Noted) : Type 0
+  where
+    pub legal : IsLegalOver opening chronicle
+    pub one : are_of_one chronicle ≡ true
+    pub asks : asked asking (answers_of (said_in chronicle 0)) ≡ calls_of (said_in chronicle 0)
 
 -- What is printed
 

@@ -6,12 +6,13 @@ ghost use Rattle.skk_outside.specs.Moved.{moved_shelf, moved_source, moved_sink}
 ghost use Rattle.skk_outside.specs.Taken.{TakesAtMost};
 ghost use Rattle.skk_outside.specs.declared.source.TheConstants.{PIECE};
 ghost use Rattle.skk_top.specs.CheckCommand.{LeavesChecked};
-ghost use Rattle.skk_top.specs.Command.{command_of, script_to_type, file_to_check, book_to_dump};
-ghost use Rattle.skk_top.specs.Command.{do_open, are_built_words, waits};
+ghost use Rattle.skk_top.specs.Command.{command_of, script_to_type, file_to_check, book_to_dump, load_to_play};
+ghost use Rattle.skk_top.specs.Command.{do_open, do_print, waits};
 ghost use Rattle.skk_top.specs.Disks.{moved_disk, StandsSince};
 ghost use Rattle.skk_top.specs.DumpCommand.{LeavesDumped};
 ghost use Rattle.skk_top.specs.Finishes.{run_of, HasFailed};
 ghost use Rattle.key_scripts.specs.Script.{script_limit};
+ghost use Rattle.skk_top.specs.LoadCommand.{LeavesLoaded, LoadsLines};
 ghost use Rattle.skk_top.specs.Status.{Tells, run_status, run_message};
 ghost use Rattle.skk_top.specs.TypeCommand.{LeavesTyped, TypesLines};
 
@@ -20,13 +21,14 @@ use crate::command::read_command;
 use crate::dump_command::run_dump;
 use crate::fault::{RunFault, end_run, end_uncalled};
 use crate::finish::Finish;
+use crate::load_command::run_load_by_one;
 use crate::one_caller::run_by_one;
 use skk_disk::Disk;
 use skk_outside::{Shelf, Sink, Source};
 use skk_text::Text;
 use std::alloc::Global;
 
-/// All that the program does. The words are those behind the program's name.
+/// All that the program does where it does not wait. The words are those behind the program's name.
 ///
 /// A write on `err` that fails changes no status. Of the input at most one piece more is read than a
 /// script may have, and of a file than a rule file or a dictionary may have.
@@ -45,14 +47,12 @@ pub fn run_alone<H: Shelf, D: Disk, I: Source, O: Sink, E: Sink>(
     ensures status { result.status ≡ run_status result.ended }
     ensures told { Tells (run_message result.ended) (moved_sink E.written E.faults err.old err.new) }
 
-    // Words that are no command, or a command that is not built.
+    // Words that are no command, and what a command does not touch.
     ensures words { IsErrOf result.ended RunFault.Words ↔ (command_of words.now ≡ None) }
-    ensures not_built { IsErrOf result.ended RunFault.NotBuilt
-        ↔ (IsSome (command_of words.now) × (are_built_words words.now ≡ false)) }
     ensures unread { script_to_type words.now ≡ None → Keeps (I.left input.old) (I.left input.new) }
-    ensures untouched { are_built_words words.now ≡ false → Keeps (O.written out.old) (O.written out.new) }
+    ensures untouched { do_print words.now ≡ false → Keeps (O.written out.old) (O.written out.new) }
     ensures taken { TakesAtMost (I.left input.old) (I.left input.new) (script_limit + PIECE) }
-    ensures uncalled { script_to_type words.now ≡ None → result.chronicle ≡ [] }
+    ensures uncalled { script_to_type words.now ≡ None → load_to_play words.now ≡ None → result.chronicle ≡ [] }
     ensures unopened { do_open words.now ≡ false → result.disk ≡ disk }
 
     // A call on the outside failed where the run ended so.
@@ -78,6 +78,9 @@ pub fn run_alone<H: Shelf, D: Disk, I: Source, O: Sink, E: Sink>(
     ensures dumps { IfSome (book_to_dump words.now) (λ options. LeavesDumped options (run_of result)
         (moved_sink O.written O.faults out.old out.new)
         (moved_disk D.tells D.seen D.time D.faults D.left_since disk result.disk)) }
+    ensures loads { IfSome (load_to_play words.now) (λ options. LeavesLoaded (LoadsLines options) (run_of result)
+        (moved_sink O.written O.faults out.old out.new)
+        (moved_disk D.tells D.seen D.time D.faults D.left_since disk result.disk)) }
 
     // What a stop at any moment of the run leaves of the disk; and the second file is as it was.
     ensures stands { StandsSince result.chronicle
@@ -93,8 +96,11 @@ pub fn run_alone<H: Shelf, D: Disk, I: Source, O: Sink, E: Sink>(
     if command.book_dumped().is_some() {
         return end_run(run_dump(alloc, words, disk, out), err);
     }
-    let Some(options) = command.script_typed() else {
-        return end_uncalled(RunFault::NotBuilt, disk, err);
+    if let Some(options) = command.script_typed() {
+        return end_run(run_by_one(alloc, options, shelf, disk, input, out), err);
+    }
+    let Some(options) = command.load_played() else {
+        unreachable!();
     };
-    end_run(run_by_one(alloc, options, shelf, disk, input, out), err)
+    end_run(run_load_by_one(alloc, options, disk, out), err)
 }

@@ -2,7 +2,7 @@ ghost use Rattle.std.specs.Prelude.{◌≡◌, ◌<◌, if◌then◌else◌, Som
 ghost use Rattle.std.specs.Option.{option_copied};
 ghost use Rattle.skk_top.specs.Command.{command_of, type_options, serve_options, dump_options, load_options, limit_of};
 ghost use Rattle.skk_top.specs.Command.{script_typed, script_in_threads, may_wait, file_checked, book_dumped};
-ghost use Rattle.skk_top.specs.Command.{learned_of, port_served};
+ghost use Rattle.skk_top.specs.Command.{learned_of, port_served, load_played, load_in_threads};
 ghost use Rattle.skk_top.specs.Settings.{times};
 ghost use Rattle.skk_top.specs.declared.argument.Argument.TheVariants.{Dictionary};
 
@@ -93,6 +93,30 @@ impl<'a> Command<'a> {
         match self {
             Command::Serve(options) => Some(options),
             Command::TypeScript(_) | Command::Check(_) | Command::Dump(_) | Command::Load(_) => {
+                None
+            }
+        }
+    }
+
+    /// The options of the load whose lines it is to play, where no session has a thread of its own.
+    pub fn load_played(&self) -> Option<LoadOptions>
+        ensures { result ≡ load_played self.now }
+    {
+        match self {
+            Command::Load(options) => options.without_threads(),
+            Command::TypeScript(_) | Command::Serve(_) | Command::Check(_) | Command::Dump(_) => {
+                None
+            }
+        }
+    }
+
+    /// The options of the load whose lines it is to play with a thread for each session.
+    pub fn load_in_threads(&self) -> Option<LoadOptions>
+        ensures { result ≡ load_in_threads self.now }
+    {
+        match self {
+            Command::Load(options) => options.with_threads(),
+            Command::TypeScript(_) | Command::Serve(_) | Command::Check(_) | Command::Dump(_) => {
                 None
             }
         }
@@ -261,6 +285,20 @@ impl LoadOptions {
             lines: settings.number_or(0, Argument::Lines),
             threads: settings.is_given(Argument::Threads),
         }
+    }
+
+    // These options, where no session has a thread of its own.
+    fn without_threads(self) -> Option<LoadOptions>
+        ensures { result ≡ (if self.threads then None else Some self) }
+    {
+        if self.threads { None } else { Some(self) }
+    }
+
+    // These options, where each session has a thread of its own.
+    fn with_threads(self) -> Option<LoadOptions>
+        ensures { result ≡ (if self.threads then Some self else None) }
+    {
+        if self.threads { Some(self) } else { None }
     }
 }
 

@@ -83,8 +83,8 @@ fn print_book<D, O: Sink>(
     print_text(out, &text)
 }
 
-// Prints a text.
-fn print_text<O: Sink>(out: &mut O, text: &Text) -> Result<(), RunFault>
+/// Prints a text.
+pub fn print_text<O: Sink>(out: &mut O, text: &Text) -> Result<(), RunFault>
     ensures { LeavesPrinted (encode_utf8_all text.now) result
         (moved_sink O.written O.faults out.old out.new) }
 {

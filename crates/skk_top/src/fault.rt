@@ -33,8 +33,6 @@ pub enum RunFault {
     Memory,
     /// All was done but a change that the learned file had no room for.
     JournalFull,
-    /// The command is not built.
-    NotBuilt,
 }
 
 /// Ends a run: tells its fault on `err`, and answers the status to exit with beside how it ended, its chronicle and its
@@ -99,7 +97,6 @@ impl RunFault {
             RunFault::Outside => 4,
             RunFault::Memory => 6,
             RunFault::JournalFull => 7,
-            RunFault::NotBuilt => 8,
         }
     }
 
@@ -133,7 +130,6 @@ impl RunFault {
             RunFault::Outside => write(err, b"outside"),
             RunFault::Memory => write(err, b"memory"),
             RunFault::JournalFull => write(err, b"journal full"),
-            RunFault::NotBuilt => write(err, b"not built"),
         }
     }
 }

@@ -138,9 +138,9 @@ fn type_keys<C: Caller>(
     Ok(())
 }
 
-// Takes a session out, to be put back: it is new where it was not there, and a new one stands for it meanwhile.
+/// Takes a session out, to be put back: it is new where it was not there, and a new one stands for it meanwhile.
 #[tactic(auto, using(script_typing::specs::MapLaws::put_again))]
-fn take_session(
+pub fn take_session(
     alloc: Global,
     number: u8,
     sessions: &mut BTreeMap<u8, Session>,
@@ -160,8 +160,8 @@ fn new_session(alloc: Global, number: u8) -> Session
     Session::new(alloc, u16::from(number), u16::from(number))
 }
 
-// Puts a session into the place of its number, and hands out the one that was there.
-fn put_session(
+/// Puts a session into the place of its number, and hands out the one that was there.
+pub fn put_session(
     number: u8,
     session: Session,
     sessions: &mut BTreeMap<u8, Session>,

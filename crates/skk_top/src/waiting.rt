@@ -1,4 +1,4 @@
-ghost use Rattle.std.specs.Prelude.{◌≡◌, ◌⊎◌, ◌≤◌, ◌↔◌, ◌+◌, [], None, IfSome, IsErrOf, true, false};
+ghost use Rattle.std.specs.Prelude.{◌≡◌, ◌⊎◌, ◌≤◌, ◌+◌, None, IfSome, IsErrOf, true};
 ghost use Rattle.std.specs.Io.KnownBytes.{Keeps};
 ghost use Rattle.skk_disk.specs.Steps.{ComeFrom};
 ghost use Rattle.skk_journal.specs.Images.{SameOther};
@@ -9,9 +9,10 @@ ghost use Rattle.skk_outside.specs.declared.source.TheConstants.{PIECE};
 ghost use Rattle.key_scripts.specs.Script.{script_limit};
 ghost use Rattle.skk_server.specs.Services.{seen_listener};
 ghost use Rattle.skk_server.specs.Visits.{seen_link};
-ghost use Rattle.skk_top.specs.Command.{script_to_weave, port_to_serve, are_built_to_wait, waits};
+ghost use Rattle.skk_top.specs.Command.{script_to_weave, port_to_serve, load_to_share, waits};
 ghost use Rattle.skk_top.specs.Disks.{moved_disk, StandsSince};
 ghost use Rattle.skk_top.specs.Finishes.{run_of, HasFailed};
+ghost use Rattle.skk_top.specs.LoadCommand.{LeavesLoaded, LoadsTasks};
 ghost use Rattle.skk_top.specs.ServeCommand.{LeavesServed, moved_listener};
 ghost use Rattle.skk_top.specs.Status.{Tells, run_status, run_message};
 ghost use Rattle.skk_top.specs.TypeCommand.{LeavesTyped};
@@ -21,6 +22,7 @@ use crate::caller_each::run_by_each;
 use crate::command::read_command;
 use crate::fault::{RunFault, end_run, end_uncalled};
 use crate::finish::Finish;
+use crate::load_each::run_load_by_each;
 use crate::serve_command::run_serve;
 use skk_disk::Disk;
 use skk_outside::{Gate, Listener, Shelf, Sink, Source};
@@ -69,13 +71,9 @@ pub fn run<
     ensures status { result.status ≡ run_status result.ended }
     ensures told { Tells (run_message result.ended) (moved_sink E.written E.faults err.old err.new) }
 
-    // A command that is not built.
-    ensures not_built { IsErrOf result.ended RunFault.NotBuilt ↔ (are_built_to_wait words.now ≡ false) }
+    // What a command does not touch.
     ensures unread { script_to_weave words.now ≡ None → Keeps (I.left input.old) (I.left input.new) }
-    ensures untouched { are_built_to_wait words.now ≡ false → Keeps (O.written out.old) (O.written out.new) }
     ensures taken { TakesAtMost (I.left input.old) (I.left input.new) (script_limit + PIECE) }
-    ensures uncalled { are_built_to_wait words.now ≡ false → result.chronicle ≡ [] }
-    ensures unopened { are_built_to_wait words.now ≡ false → result.disk ≡ disk }
     ensures unasked { port_to_serve words.now ≡ None → net.new ≡ net.old }
 
     // A call on the outside failed where the run ended so.
@@ -103,6 +101,9 @@ pub fn run<
         (moved_listener (seen_listener N.coming N.over N.out N.faults)
         (seen_link N.Link.left N.Link.written N.Link.faults N.Link.closed) net.old net.new)
         (moved_disk D.tells D.seen D.time D.faults D.left_since disk result.disk)) }
+    ensures loads { IfSome (load_to_share words.now) (λ options. LeavesLoaded (LoadsTasks options) (run_of result)
+        (moved_sink O.written O.faults out.old out.new)
+        (moved_disk D.tells D.seen D.time D.faults D.left_since disk result.disk)) }
 
     // What a stop at any moment of the run leaves of the disk; and the second file is as it was.
     ensures stands { StandsSince result.chronicle
@@ -118,8 +119,11 @@ pub fn run<
             err,
         );
     }
+    if let Some(options) = command.load_in_threads() {
+        return end_run(run_load_by_each(rt, alloc, options, disk, out, gate), err);
+    }
     let Some(options) = command.script_in_threads() else {
-        return end_uncalled(RunFault::NotBuilt, disk, err);
+        unreachable!();
     };
     end_run(
         run_by_each(rt, alloc, options, shelf, disk, input, out, gate),

@@ -1,0 +1,3 @@
+pub mod Dictionary
+pub mod Draws
+pub mod Lines

@@ -1,0 +1,244 @@
+-- What the playing of a load's lines leaves, of what its parts leave.
+use Rattle.std.proofs.Common.{◌≡◌, ◌≤◌, ◌+◌, ◌∙◌, ap, ap₂, sym, subst, refl, rules, ℕ, true, ◌==◌}
+use Rattle.std.proofs.Common.{unwrap_or, Option, IsSome}
+use Rattle.std.proofs.Common.{Some, Result, Ok, Err, OnOk, OnErr, List, [], ◌∷◌, ◌++◌, min, encode_utf8_all, arith}
+use Rattle.std.proofs.lemmas.Bool.{and_parts, eqb-true}
+use Rattle.std.proofs.lemmas.List.Sums.{sum_by-cons}
+use Rattle.std.proofs.lemmas.Result.{on_ok_weaker}
+use Rattle.std.specs.Io.KnownBytes.{Appends, Keeps}
+use Rattle.std.specs.List.{list_all, sum_by}
+use Rattle.skk_outside.specs.Moved.{MovedSink}
+use Rattle.romaji_rules.specs.Standard.{standard}
+use Rattle.skk_text.specs.Counts.{last_count}
+use Rattle.skk_text.specs.Text.{byte_len}
+use Rattle.skk_text.specs.declared.memory.Memory.{Memory as no_memory}
+use Rattle.skk_calls.specs.declared.answer.Answer.{Answer}
+use Rattle.skk_calls.specs.declared.answer.Answer.TheVariants.{Done}
+use Rattle.skk_calls.specs.declared.call.Call.{Call}
+use Rattle.skk_calls.specs.declared.chronicle.Noted.{Noted}
+use Rattle.skk_calls.specs.declared.entry.Entry.{Entry}
+use Rattle.skk_calls.specs.Chronicles.{history_of}
+use Rattle.skk_calls.specs.Dictionary.{answer, after}
+use Rattle.skk_calls.specs.Histories.{Opening, dialog}
+use Rattle.skk_calls.specs.InteractionLaws.{led-end}
+use Rattle.skk_calls.specs.Interactions.{Interaction, ends, Dialog, Leads, here, asking, printing}
+use Rattle.skk_calls.specs.Interactions.{answers_of, asked, calls_of, end_of, IsAnsweredAlone}
+use Rattle.skk_calls.specs.Openings.{IsLegalOver, said_in, are_of_one, are_served}
+use Rattle.skk_calls.specs.Rows.{Row}
+use Rattle.skk_calls.specs.States.{State}
+use Rattle.skk_calls.specs.Tallies.{Tally, tally_of}
+use Rattle.session_machine.specs.Session.{Session, text_of}
+use Rattle.script_typing.specs.Sessions.{SessionMap}
+use Rattle.skk_top.specs.Disks.{DiskNow, KeepsDisk}
+use Rattle.skk_top.specs.LoadCommand.{load_lines, loaded_from, number_line, summed, LoadsLines}
+use Rattle.skk_top.specs.Page.{LeavesPrinted, StopsPrinting}
+use Rattle.skk_top.specs.Playing.{playing, sessions_behind, end_alone, history_alone, PlaysLines}
+use Rattle.skk_top.specs.Status.{Ended, ended_by}
+use Rattle.skk_top.specs.declared.command.LoadOptions.{LoadOptions}
+use Rattle.skk_top.specs.declared.fault.RunFault.TheVariants.{Memory}
+use Rattle.skk_top.proofs.PrintedChecks.{more}
+use Rattle.skk_top.proofs.Served.{answered_alone, where_done}
+use Rattle.skk_top.proofs.Weaves.{keeps-appends}
+
+-- Numbers
+
+-- what is added up as far as a number can tell, and then more, is all as far as it can tell
+pub added-up : (before first rest last : ℕ)
+    → min (min (before + first) last + rest) last ≡ min (before + (first + rest)) last
+added-up before first rest last = omega arith
+
+-- one session more in a count of bytes
+pub bytes-on : (rest next : SessionMap) (entry : ℕ × Session) (before after added all : ℕ) → rest ≡ entry ∷ next
+    → added ≡ byte_len (text_of entry.1) → after ≡ min (before + added) last_count
+    → min (before + sum_by (λ e. byte_len (text_of e.1)) rest) last_count ≡ all
+    → min (after + sum_by (λ e. byte_len (text_of e.1)) next) last_count ≡ all
+bytes-on rest next entry before after added all is long sum kept =
+    let f : ℕ × Session → ℕ = λ e. byte_len (text_of e.1) in
+    ap (λ n. min (n + sum_by f next) last_count) (sum ∙ ap (λ n. min (before + n) last_count) long)
+    ∙ added-up before (f entry) (sum_by f next) last_count
+    ∙ ap (λ n. min (before + n) last_count) (sym (ap (sum_by f) is ∙ sum_by-cons f entry next)) ∙ kept
+
+-- and where no session is left the count is whole
+pub bytes-done : (rest : SessionMap) (bytes all : ℕ) → rest ≡ [] → bytes ≤ last_count
+    → min (bytes + sum_by (λ e. byte_len (text_of e.1)) rest) last_count ≡ all → bytes ≡ all
+bytes-done rest bytes all is few kept =
+    let f : ℕ × Session → ℕ = λ e. byte_len (text_of e.1) in
+    let none : sum_by f rest ≡ 0 = ap (sum_by f) is in
+    let same : bytes ≡ min (bytes + sum_by f rest) last_count = omega (arith, few, none) in
+    same ∙ kept
+
+-- The summary
+
+-- a line of a word and a number behind a page
+pub line-pushed : (page next word word' : List ℕ) (number number' : ℕ) → next ≡ page ++ number_line word number
+    → word ≡ word' → number ≡ number' → next ≡ page ++ number_line word' number'
+line-pushed page next word word' number number' is words numbers =
+    is ∙ ap₂ (λ w n. page ++ number_line w n) words numbers
+
+-- five lines behind a page
+pub five-pushed : (page first second third fourth fifth a b c d e : List ℕ) → first ≡ page ++ a → second ≡ first ++ b
+    → third ≡ second ++ c → fourth ≡ third ++ d → fifth ≡ fourth ++ e
+    → fifth ≡ page ++ (a ++ (b ++ (c ++ (d ++ e))))
+five-pushed page first second third fourth fifth a b c d e is-a is-b is-c is-d is-e =
+    is-e ∙ more third d e fourth is-d ∙ more second c (d ++ e) third is-c ∙ more first b (c ++ (d ++ e)) second is-b
+    ∙ more page a (b ++ (c ++ (d ++ e))) first is-a
+
+-- Where the dictionary of one thread answers
+
+-- an entry by its parts
+entry-is : (number number' : ℕ) (call call' : Call) (given given' : Answer) → number ≡ number' → call ≡ call'
+    → given ≡ given'
+    → ◌≡◌ {A = Entry} (record { number = number; call = call; answer = given })
+    (record { number = number'; call = call'; answer = given' })
+entry-is number number' call call' given given' numbers calls givens =
+    ap (λ n. record { number = n; call = call; answer = given }) numbers
+    ∙ ap (λ k. record { number = number'; call = k; answer = given }) calls
+    ∙ ap (λ g. record { number = number'; call = call'; answer = g }) givens
+
+-- the first entry of the one caller is the first that it says
+dialog-first : (entry : Entry) (history : List Entry) → (entry.number == 0) ≡ true
+    → dialog (entry ∷ history) 0 ≡ (entry.call, entry.answer) ∷ dialog history 0
+dialog-first entry history one = rw one refl
+
+-- the history of one caller whose calls the dictionary of one thread answers is the one that this gives, and so is the
+-- value of its end
+pub alone-history : {S : Type 0} {from : Interaction S} {said : Dialog} {text : List ℕ} (value : S)
+    (files : List (List Row)) (state : State) (history : List Entry) → Leads from said text (ends value)
+    → said ≡ dialog history 0 → list_all (λ entry. entry.number == 0) history ≡ true → IsAnsweredAlone files state said
+    → (history ≡ history_alone files state from) × (value ≡ end_alone files state from)
+alone-history value files state [] (here _) is one alone = (refl, refl)
+alone-history value files state (entry ∷ history) (here _) is one alone =
+    let ones = and_parts (entry.number == 0) (list_all (λ other. other.number == 0) history) one in
+    let first = dialog-first entry history ones.0 in
+    absurd (cc (is ∙ first))
+alone-history value files state [] (asking call next given said text to way) is one alone = absurd (cc is)
+alone-history value files state (entry ∷ history) (asking call next given said text to way) is one alone =
+    let ones = and_parts (entry.number == 0) (list_all (λ other. other.number == 0) history) one in
+    let both : (call, given) ∷ said ≡ (entry.call, entry.answer) ∷ dialog history 0 =
+    is ∙ dialog-first entry history ones.0 in
+    let head : ◌≡◌ {A = Call × Answer} (call, given) (entry.call, entry.answer) = cc in
+    let calls : entry.call ≡ call = ap (λ (p : Call × Answer). p.0) (sym head) in
+    let givens : entry.answer ≡ given = ap (λ (p : Call × Answer). p.1) (sym head) in
+    let rest_is : said ≡ dialog history 0 = cc in
+    let rest = alone-history value files (after state call) history way rest_is ones.1 alone.1 in (
+      ap (λ h. entry ∷ h) (rest.0 ∙ ap (λ g. history_alone files (after state call) (next g)) alone.0)
+          ∙ ap (λ e. e ∷ history_alone files (after state call) (next (Done (answer files state call))))
+          (entry-is entry.number 0 entry.call call entry.answer (Done (answer files state call))
+          (eqb-true entry.number 0 ones.0) calls (givens ∙ alone.0)),
+      rest.1 ∙ ap (λ g. end_alone files (after state call) (next g)) alone.0,
+    )
+alone-history value files state history (printing first rest said text to way) is one alone =
+    alone-history value files state history way is one alone
+
+-- What is left
+
+-- what holds, holds where a run is done
+pub always : (ended : Ended) {P : Type 0} → P → OnOk ended P
+always (Ok done) p = p
+always (Err fault) p = tt
+
+module _ {D : Type 0} (options : LoadOptions) (opening : Opening) (chronicle : List Noted) (left : D) (tally : Tally)
+    (sessions : SessionMap) (out : MovedSink) (disk : DiskNow) (legal : IsLegalOver opening chronicle)
+    (one : are_of_one chronicle ≡ true) (keeps : KeepsDisk opening chronicle disk)
+    (counts : tally ≡ tally_of opening.state (history_of chronicle)) where
+  abbrev lines : Interaction SessionMap
+  lines = playing standard [] (load_lines options)
+
+  abbrev said : Dialog
+  said = said_in chronicle 0
+
+  abbrev Left : Ended → Type 0
+  Left ended =
+      LoadsLines options opening (record { ended = ended_by ended tally; chronicle = chronicle; disk = left }) out
+      disk
+
+  served : (ended : Ended) → OnOk (ended_by ended (tally_of opening.state (history_of chronicle)))
+      (are_served chronicle ≡ true)
+  served (Ok done) = where_done (history_of chronicle) opening.state
+  served (Err fault) = tt
+
+  -- lines that were played to their end, of which the summary was printed
+  played-whole : (ended : Ended) → asked lines (answers_of said) ≡ calls_of said → Leads lines said [] (ends sessions)
+      → LeavesPrinted (encode_utf8_all (summed options tally sessions)) ended out
+      → Left ended
+  played-whole ended asks leads prints = record {
+    ended = ended;
+    ends = ap (ended_by ended) counts;
+    chronicle = record { legal = legal; one = one; asks = asks };
+    kept = keeps;
+    taken = always ended (subst (λ (o : Option SessionMap). IsSome o) (sym is) is_there);
+    prints = subst (λ (t : Tally). LeavesPrinted (encode_utf8_all (summed options t
+        (sessions_behind standard (load_lines options) (answers_of said)))) ended out) counts
+        (subst (λ (s : SessionMap). LeavesPrinted (encode_utf8_all (summed options tally s)) ended out)
+        (sym (ap (λ o. unwrap_or o []) is)) prints);
+    served = subst (λ (t : Tally). OnOk (ended_by ended t) (are_served chronicle ≡ true)) (sym counts) (served ended);
+    alone = subst (λ (t : Tally). OnOk (ended_by ended t)
+        (Appends out.written out.written' (loaded_from opening.files opening.state options))) (sym counts)
+        (alone ended prints);
+  }
+    where
+      is : end_of lines (answers_of said) ≡ Some sessions
+      is = led-end leads
+
+      is_there : IsSome (Some sessions)
+      is_there = search rules
+
+      -- what was printed is what is printed where the dictionary of one thread answers
+      same : are_served chronicle ≡ true
+          → encode_utf8_all (summed options tally sessions) ≡ loaded_from opening.files opening.state options
+      same all =
+          let both =
+          alone-history sessions opening.files opening.state (history_of chronicle) leads refl one
+          (answered_alone opening (history_of chronicle) legal.1 all one) in
+          ap (λ (t : Tally). encode_utf8_all (summed options t sessions)) counts
+          ∙ ap₂ (λ (h : List Entry) (s : SessionMap). encode_utf8_all (summed options (tally_of opening.state h) s))
+          both.0 both.1
+
+      alone : (ended : Ended) → LeavesPrinted (encode_utf8_all (summed options tally sessions)) ended out
+          → OnOk (ended_by ended (tally_of opening.state (history_of chronicle)))
+          (Appends out.written out.written' (loaded_from opening.files opening.state options))
+      alone (Ok done) prints =
+          on_ok_weaker (ended_by (Ok done) (tally_of opening.state (history_of chronicle)))
+          (λ all. subst (Appends out.written out.written') (same all) prints.whole)
+          (where_done (history_of chronicle) opening.state)
+      alone (Err fault) prints = tt
+
+  -- lines for which memory was out, of which nothing was printed
+  played-cut : (ended : Ended) → asked lines (answers_of said) ≡ calls_of said → ended ≡ Err Memory
+      → Keeps out.written out.written' → out.faults ≤ out.faults'
+      → Left ended
+  played-cut (Ok done) asks is unwritten counted = absurd (cc is)
+  played-cut (Err fault) asks is unwritten counted =
+      let text = encode_utf8_all (summed options (tally_of opening.state (history_of chronicle))
+      (sessions_behind standard (load_lines options) (answers_of said))) in
+      let memory : fault ≡ Memory = cc is in
+      record {
+        ended = Err fault;
+        ends = refl;
+        chronicle = record { legal = legal; one = one; asks = asks };
+        kept = keeps;
+        taken = tt;
+        prints = record {
+          whole = tt;
+          prefix = ([], (text, refl), keeps-appends out.written out.written' unwritten);
+          stopped = subst (StopsPrinting out) (sym memory) tt;
+          counted = counted;
+        };
+        served = tt;
+        alone = tt;
+      }
+
+  -- by how the lines were played
+  pub loads-closed : (played : Result (Unit {0}) no_memory) (ended : Ended)
+      → PlaysLines standard (load_lines options) played sessions [] said
+      → OnOk played (LeavesPrinted (encode_utf8_all (summed options tally sessions)) ended out)
+      → OnErr played ((ended ≡ Err Memory) × Keeps out.written out.written') → out.faults ≤ out.faults'
+      → Left ended
+  loads-closed (Ok done) ended plays some none counted =
+      let grown : plays.dialog ≡ said = sym plays.grows in
+      played-whole ended (subst (λ (d : Dialog). asked lines (answers_of d) ≡ calls_of d) grown plays.calls)
+      (subst (λ (d : Dialog). Leads lines d [] (ends sessions)) grown plays.leads) some
+  loads-closed (Err lost) ended plays some none counted =
+      let grown : plays.dialog ≡ said = sym plays.grows in
+      played-cut ended (subst (λ (d : Dialog). asked lines (answers_of d) ≡ calls_of d) grown plays.calls) none.0 none.1
+      counted
