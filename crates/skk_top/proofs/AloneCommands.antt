@@ -3,13 +3,13 @@ use Rattle.std.proofs.Common.{◌≡◌, ◌≤◌, ◌∙◌, ap, sym, subst, �
 use Rattle.std.proofs.Common.{Option, None, Some, List}
 use Rattle.std.specs.Borrow.{Bor}
 use Rattle.std.specs.Option.{is_some, option_copied, option_map}
-use Rattle.skk_top.specs.Command.{book_dumped, command_of, file_checked, load_played, load_to_play, may_wait}
-use Rattle.skk_top.specs.Command.{load_in_threads, port_served, script_in_threads, script_typed, waits}
-use Rattle.skk_top.specs.Ranges.{HasNumbersInRange}
-use Rattle.skk_top.specs.declared.command.Command.{Command}
-use Rattle.skk_top.specs.declared.command.Command.TheVariants as commands
-use Rattle.skk_top.specs.declared.command.LoadOptions.{LoadOptions}
-use Rattle.skk_top.proofs.Ranges.{numbers_in_range}
+use Rattle.command_line.specs.Command.{book_dumped, command_of, file_checked, load_played, load_to_play, may_wait}
+use Rattle.command_line.specs.Command.{load_in_threads, port_served, script_in_threads, script_typed, waits}
+use Rattle.command_line.specs.RangeLaws.{numbers_in_range}
+use Rattle.command_line.specs.Ranges.{HasNumbersInRange}
+use Rattle.command_line.specs.declared.command.Command.{Command}
+use Rattle.command_line.specs.declared.command.Command.TheVariants as commands
+use Rattle.command_line.specs.declared.command.LoadOptions.{LoadOptions}
 
 -- where a test fails, what stands behind it is no answer
 kept : {X : Type 0} (b : Bool) (x : X) → b ≡ false → cond b None (Some x) ≡ None → ⊥

@@ -5,8 +5,8 @@ use Rattle.std.proofs.lemmas.List.Folds.{list_all-append}
 use Rattle.std.specs.List.{list_all}
 use Rattle.key_scripts.specs.Script.{opens_well}
 use Rattle.load_input.specs.Lines.{behind_line, behind_round, lines_drawn, round}
+use Rattle.command_line.specs.declared.command.LoadOptions.{LoadOptions}
 use Rattle.skk_top.specs.LoadCommand.{load_lines}
-use Rattle.skk_top.specs.declared.command.LoadOptions.{LoadOptions}
 
 round-open_well : (state session count : ℕ) → list_all opens_well (round state session count) ≡ true
 round-open_well state session zero = refl

@@ -29,12 +29,12 @@ use Rattle.skk_calls.specs.States.{State}
 use Rattle.skk_calls.specs.Tallies.{Tally, tally_of}
 use Rattle.session_machine.specs.Session.{Session, text_of}
 use Rattle.script_typing.specs.Sessions.{SessionMap}
+use Rattle.command_line.specs.declared.command.LoadOptions.{LoadOptions}
 use Rattle.skk_top.specs.Disks.{DiskNow, KeepsDisk}
 use Rattle.skk_top.specs.LoadCommand.{load_lines, loaded_from, number_line, summed, LoadsLines}
 use Rattle.skk_top.specs.Page.{LeavesPrinted, StopsPrinting}
 use Rattle.skk_top.specs.Playing.{playing, sessions_behind, end_alone, history_alone, PlaysLines}
 use Rattle.skk_top.specs.Status.{Ended, ended_by}
-use Rattle.skk_top.specs.declared.command.LoadOptions.{LoadOptions}
 use Rattle.skk_top.specs.declared.fault.RunFault.TheVariants.{Memory}
 use Rattle.skk_top.proofs.PrintedChecks.{more}
 use Rattle.skk_top.proofs.Served.{answered_alone, where_done}

@@ -13,6 +13,9 @@ use Rattle.skk_outside.specs.Faults.{Rose}
 use Rattle.skk_outside.specs.Moved.{MovedShelf, MovedSource, MovedSink}
 use Rattle.skk_server.specs.Visits.{Visit}
 use Rattle.learned_store.specs.Stands.{GoOn}
+use Rattle.command_line.specs.declared.command.LoadOptions.{LoadOptions}
+use Rattle.command_line.specs.declared.command.ServeOptions.{ServeOptions}
+use Rattle.command_line.specs.declared.command.TypeOptions.{TypeOptions}
 use Rattle.skk_top.specs.Disks.{MovedDisk}
 use Rattle.skk_top.specs.Finishes.{HasFailed}
 use Rattle.skk_top.specs.LoadCommand.{LeavesLoaded, Loading, LoadsLines, LoadsTasks}
@@ -23,9 +26,6 @@ use Rattle.romaji_rules.specs.declared.rule.Rule.{Rule}
 use Rattle.key_scripts.specs.declared.line.Line.{Line}
 use Rattle.skk_top.specs.TypeCommand.{LeavesTyped, Manner, TypesLines}
 use Rattle.skk_top.specs.WeaveCommand.{WeavesLines}
-use Rattle.skk_top.specs.declared.command.LoadOptions.{LoadOptions}
-use Rattle.skk_top.specs.declared.command.ServeOptions.{ServeOptions}
-use Rattle.skk_top.specs.declared.command.TypeOptions.{TypeOptions}
 use Rattle.skk_top.specs.declared.fault.RunFault.{RunFault}
 use Rattle.skk_top.specs.declared.fault.RunFault.TheVariants.{Outside, Memory}
 use Rattle.skk_top.specs.declared.finish.Run.{Run}

@@ -23,10 +23,6 @@ use Rattle.key_scripts.specs.declared.line.Line.{Line}
 use Rattle.skk_top.proofs.Served.{answered_alone, where_done}
 
 -- what is known of bytes that are told
-pub IfSome-all : {X : Type 0} (known : Option X) (P : X → Type 0) → ((x : X) → P x) → IfSome known P
-IfSome-all None P p = search rules
-IfSome-all (Some x) P p = p x
-
 pub each_some : {P Q : List ℕ → Type 0} (known : Told) → ((bytes : List ℕ) → P bytes → Q bytes) → IfSome known P
     → IfSome known Q
 each_some None q p = search rules

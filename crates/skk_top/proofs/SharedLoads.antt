@@ -22,12 +22,12 @@ use Rattle.script_typing.specs.Sessions.{SessionMap}
 use Rattle.script_typing.specs.Woven.{Tasks, task_typing, tasks_of}
 use Rattle.script_typing.specs.Workers.{AreDone, WorkedBy}
 use Rattle.script_typing.specs.declared.typed.Typed.{Typed}
+use Rattle.command_line.specs.declared.command.LoadOptions.{LoadOptions}
 use Rattle.skk_top.specs.Disks.{DiskNow, KeepsDisk}
 use Rattle.skk_top.specs.LoadCommand.{load_lines, summed, LoadsTasks}
 use Rattle.skk_top.specs.Page.{LeavesPrinted, StopsPrinting}
 use Rattle.skk_top.specs.Playing.{sessions_from}
 use Rattle.skk_top.specs.Status.{Ended, ended_by}
-use Rattle.skk_top.specs.declared.command.LoadOptions.{LoadOptions}
 use Rattle.skk_top.specs.declared.fault.RunFault.TheVariants.{Memory}
 use Rattle.skk_top.proofs.Served.{where_done}
 use Rattle.skk_top.proofs.Loads.{always}

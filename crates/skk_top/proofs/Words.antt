@@ -1,10 +1,6 @@
--- The characters of the empty text, and of the texts that are printed.
-use Rattle.std.proofs.Common.{◌≡◌, [], codes, refl}
+-- The characters of the texts that are printed.
+use Rattle.std.proofs.Common.{◌≡◌, codes, refl}
 use Rattle.std.specs.Str.{chars}
-
-pub empty : chars [] ≡ []
-unfolding chars
-empty = refl
 
 -- what `check` prints
 pub long_line : chars (codes "LongLine") ≡ codes "LongLine"

@@ -4,10 +4,10 @@ use Rattle.dict_format.specs.PrintedFiles.{printed_file}
 use Rattle.skk_calls.specs.Histories.{Opening}
 use Rattle.skk_calls.specs.States.{rows_of}
 use Rattle.skk_outside.specs.Moved.{MovedSink}
+use Rattle.command_line.specs.declared.command.DumpOptions.{DumpOptions}
 use Rattle.skk_top.specs.Disks.{MovedDisk, RefusesLearned, IsOpening}
 use Rattle.skk_top.specs.Finishes.{EndsUnbegun}
 use Rattle.skk_top.specs.Page.{LeavesPrinted}
-use Rattle.skk_top.specs.declared.command.DumpOptions.{DumpOptions}
 use Rattle.skk_top.specs.declared.finish.Run.{Run}
 
 -- the learned file was opened, and the book was printed as a dictionary file: all of it, or a prefix

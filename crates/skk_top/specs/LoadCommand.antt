@@ -22,6 +22,7 @@ use Rattle.load_input.specs.Lines.{lines_drawn}
 use Rattle.script_typing.specs.Callers.{EndFrom}
 use Rattle.script_typing.specs.Sessions.{SessionMap}
 use Rattle.script_typing.specs.Woven.{tasks_of}
+use Rattle.command_line.specs.declared.command.LoadOptions.{LoadOptions}
 use Rattle.skk_top.specs.Disks.{DiskNow, MovedDisk, RefusesLearned, IsOpening, KeepsDisk}
 use Rattle.skk_top.specs.Finishes.{EndsUnbegun}
 use Rattle.skk_top.specs.Page.{LeavesPrinted}
@@ -29,7 +30,6 @@ use Rattle.skk_top.specs.Playing.{playing, sessions_behind, sessions_from, end_a
 use Rattle.skk_top.specs.Status.{Ended, ended_by}
 use Rattle.skk_top.specs.TypeCommand.{KeepsChronicle}
 use Rattle.skk_top.specs.WeaveCommand.{KeepsCallers}
-use Rattle.skk_top.specs.declared.command.LoadOptions.{LoadOptions}
 use Rattle.skk_top.specs.declared.fault.RunFault.TheVariants.{Memory}
 use Rattle.skk_top.specs.declared.finish.Run.{Run}
 

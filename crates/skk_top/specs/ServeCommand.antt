@@ -22,7 +22,8 @@ use Rattle.skk_server.specs.declared.served_end.ServedEnd.{ServedEnd}
 use Rattle.skk_server.specs.declared.served_end.ServedEnd.TheVariants as stages
 use Rattle.skk_server.specs.Services.{SeenListener}
 use Rattle.skk_server.specs.Visits.{SeenLink, SeenCaller, Visit, IsServed, AreServed}
-use Rattle.skk_top.specs.Command.{limit_of}
+use Rattle.command_line.specs.Command.{limit_of}
+use Rattle.command_line.specs.declared.command.ServeOptions.{ServeOptions}
 use Rattle.skk_top.specs.Dictionaries.{AreRowsOf}
 use Rattle.skk_top.specs.Disks.{DiskNow, MovedDisk, RefusesLearned, IsOpening, KeepsDisk}
 use Rattle.skk_top.specs.Finishes.{EndsUnbegun}
@@ -30,7 +31,6 @@ use Rattle.skk_top.specs.NamedFiles.{rules_named, dictionaries_named, RefusesNam
 use Rattle.skk_top.specs.Page.{LeavesPrinted}
 use Rattle.skk_top.specs.RunRules.{AreRules}
 use Rattle.skk_top.specs.Status.{Ended, ended_by, with_want}
-use Rattle.skk_top.specs.declared.command.ServeOptions.{ServeOptions}
 use Rattle.skk_top.specs.declared.fault.RunFault.{RunFault}
 use Rattle.skk_top.specs.declared.fault.RunFault.TheVariants.{Outside, Memory}
 use Rattle.skk_top.specs.declared.finish.Run.{Run}

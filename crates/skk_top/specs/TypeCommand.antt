@@ -14,8 +14,9 @@ use Rattle.skk_calls.specs.Openings.{IsLegalOver, said_in, are_of_one, are_serve
 use Rattle.skk_calls.specs.Rows.{Row}
 use Rattle.skk_calls.specs.Tallies.{tally_of}
 use Rattle.skk_text.specs.Lines.{lines_of}
+use Rattle.command_line.specs.Command.{limit_of}
+use Rattle.command_line.specs.declared.command.TypeOptions.{TypeOptions}
 use Rattle.skk_top.specs.Dictionaries.{AreRowsOf}
-use Rattle.skk_top.specs.Command.{limit_of}
 use Rattle.skk_top.specs.Disks.{DiskNow, MovedDisk, RefusesLearned, IsOpening, KeepsDisk}
 use Rattle.skk_top.specs.Finishes.{EndsUnbegun}
 use Rattle.skk_top.specs.NamedFiles.{rules_named, dictionaries_named, RefusesNamed}
@@ -25,7 +26,6 @@ use Rattle.skk_top.specs.RunRules.{AreRules}
 use Rattle.key_scripts.specs.Script.{IsScript, IsFirstBad, script_limit}
 use Rattle.skk_top.specs.Status.{Ended, ended_by}
 use Rattle.script_typing.specs.Typed.{Asking, typed_alone, typing}
-use Rattle.skk_top.specs.declared.command.TypeOptions.{TypeOptions}
 use Rattle.skk_top.specs.declared.fault.RunFault.{RunFault}
 use Rattle.skk_top.specs.declared.fault.RunFault.TheVariants.{Memory}
 use Rattle.skk_top.specs.declared.finish.Run.{Run}

@@ -19,12 +19,12 @@ ghost use Rattle.skk_top.specs.Disks.{disk_now, moved_disk, RunsOver, StandsSinc
 ghost use Rattle.skk_top.specs.TypeCommand.{LeavesBegun, LeavesTyped};
 ghost use Rattle.skk_top.specs.WeaveCommand.{AreCutOf, LeavesPages, WeavesLines};
 
-use crate::command::TypeOptions;
 use crate::fault::RunFault;
 use crate::finish::{Run, end_by};
 use crate::manner::Manner;
 use crate::type_command::{Begun, begin};
 use crate::weaving::print_woven;
+use command_line::TypeOptions;
 use desk_history::{DeskName, History, Pen, RollSeat};
 use key_scripts::Script;
 use learned_store::{LearnedName, Store};

@@ -5,7 +5,7 @@ ghost use Rattle.skk_top.specs.CheckCommand.{LeavesChecked};
 use crate::checking::print_listed;
 use crate::dictionary::read_dictionary;
 use crate::finish::Run;
-use crate::word::Word;
+use command_line::Word;
 use skk_outside::{Shelf, Sink};
 use std::alloc::Global;
 

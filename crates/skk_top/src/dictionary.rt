@@ -5,7 +5,7 @@ ghost use Rattle.skk_top.specs.RunFiles.{RefusesFile, RefusesBytes};
 
 use crate::fault::RunFault;
 use crate::run_file::{RunFile, read_run_file};
-use crate::word::Word;
+use command_line::Word;
 use dict_files::{DictionaryFile, DictionaryFiles};
 use dict_format::{FILE_LIMIT, FileFault, Listed, read_file};
 use skk_outside::Shelf;

@@ -4,16 +4,15 @@ ghost use Rattle.skk_calls.specs.States.{rows_of};
 ghost use Rattle.skk_disk.specs.Steps.{ComeFrom};
 ghost use Rattle.skk_journal.specs.Images.{SameOther};
 ghost use Rattle.skk_outside.specs.Moved.{moved_sink};
-ghost use Rattle.skk_top.specs.Command.{book_to_dump};
+ghost use Rattle.command_line.specs.Command.{book_to_dump};
 ghost use Rattle.skk_top.specs.Disks.{moved_disk, StandsSince};
 ghost use Rattle.skk_top.specs.DumpCommand.{LeavesDumped};
 ghost use Rattle.skk_top.specs.Page.{LeavesPrinted};
 
-use crate::command::{DumpOptions, LIMIT};
-use crate::dump_words::{dump_options, words_of};
 use crate::fault::RunFault;
 use crate::finish::Run;
 use crate::page::print;
+use command_line::{DumpOptions, LIMIT, dump_options, words_of};
 use dict_files::DictionaryFiles;
 use dict_layers::System;
 use learned_store::{Store, files_are_recovered_in_one_way};

@@ -1,7 +1,7 @@
 ghost use Rattle.std.specs.Prelude.{◌≡◌, IfOk};
-ghost use Rattle.skk_top.specs.Command.{learned_named};
+ghost use Rattle.command_line.specs.Command.{learned_named};
 
-use crate::command::read_command;
+use command_line::read_command;
 use skk_text::{Memory, Text};
 use std::alloc::Global;
 

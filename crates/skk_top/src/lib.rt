@@ -8,24 +8,18 @@
 #![tactic(auto)]
 
 mod alone;
-mod argument;
 mod caller_each;
 mod check_command;
 mod checking;
-mod command;
-mod command_name;
 mod dictionary;
 mod dump_command;
-mod dump_words;
 mod fault;
 mod finish;
-mod laws;
 mod learned_file;
 mod load_command;
 mod load_each;
 mod load_opening;
 mod manner;
-mod number;
 mod one_caller;
 mod opening;
 mod page;
@@ -34,20 +28,15 @@ mod rule_file;
 mod run_file;
 mod serve_command;
 mod serving;
-mod setting;
-mod setting_words;
-mod settings;
 mod summary;
 mod type_command;
 mod typing;
 mod waiting;
 mod weaving;
-mod word;
 
 pub use alone::run_alone;
 pub use fault::{RunFault, end_run, tell_end};
 pub use finish::{Finish, Run};
-pub use laws::numbers_lie_in_their_ranges;
 pub use learned_file::learned_name;
 pub use run_file::{Flaw, RunFile};
 pub use waiting::{run, waits};

@@ -12,12 +12,12 @@ ghost use Rattle.skk_top.specs.Finishes.{EndsUnbegun};
 ghost use Rattle.skk_top.specs.LoadCommand.{load_lines, summed, LeavesLoaded, LoadsLines};
 ghost use Rattle.skk_top.specs.Page.{LeavesPrinted};
 
-use crate::command::LoadOptions;
 use crate::fault::RunFault;
 use crate::finish::{Run, end_by};
 use crate::load_opening::open_load;
 use crate::playing::play_lines;
 use crate::summary::print_summary;
+use command_line::LoadOptions;
 use key_scripts::Line;
 use learned_store::{Alone, LearnedName, Store};
 use load_input::draw_lines;

@@ -19,12 +19,12 @@ ghost use Rattle.skk_top.specs.Finishes.{EndsUnbegun};
 ghost use Rattle.skk_top.specs.LoadCommand.{load_lines, summed, LeavesLoaded, LoadsTasks};
 ghost use Rattle.skk_top.specs.Page.{LeavesPrinted};
 
-use crate::command::LoadOptions;
 use crate::fault::RunFault;
 use crate::finish::{Run, end_by};
 use crate::load_command::{Load, draw_load};
 use crate::load_opening::open_load;
 use crate::summary::print_summary;
+use command_line::LoadOptions;
 use desk_history::{DeskName, History, Pen, RollSeat};
 use key_scripts::Line;
 use learned_store::{LearnedName, Store};

@@ -9,9 +9,9 @@ ghost use Rattle.skk_top.specs.Finishes.{EndsUnbegun};
 ghost use Rattle.skk_top.specs.LoadCommand.{load_files};
 ghost use Rattle.skk_top.specs.declared.finish.Run.{Run as run_value};
 
-use crate::command::LIMIT;
 use crate::fault::RunFault;
 use crate::finish::Run;
+use command_line::LIMIT;
 use dict_layers::System;
 use learned_store::{Store, files_are_recovered_in_one_way};
 use load_input::load_dictionary;

@@ -11,12 +11,12 @@ ghost use Rattle.learned_store.specs.Stores.{opening_now, Keeps};
 ghost use Rattle.skk_top.specs.Disks.{disk_now, moved_disk, RunsOver, StandsSince};
 ghost use Rattle.skk_top.specs.TypeCommand.{LeavesBegun, LeavesTyped, TypesLines};
 
-use crate::command::TypeOptions;
 use crate::fault::RunFault;
 use crate::finish::{Run, end_by};
 use crate::manner::Manner;
 use crate::type_command::{Begun, begin};
 use crate::typing::type_script;
+use command_line::TypeOptions;
 use key_scripts::Script;
 use learned_store::{Alone, LearnedName, Store};
 use romaji_rules::Rules;

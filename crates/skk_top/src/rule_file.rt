@@ -6,7 +6,7 @@ ghost use Rattle.skk_top.specs.declared.run_file.RunFile.TheVariants.{Rules};
 
 use crate::fault::RunFault;
 use crate::run_file::{Flaw, RunFile, read_run_file};
-use crate::word::Word;
+use command_line::Word;
 use romaji_rules::{RULE_FILE_LIMIT, RuleFault, Rules};
 use skk_outside::Shelf;
 use std::alloc::Global;

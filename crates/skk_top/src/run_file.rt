@@ -2,7 +2,7 @@ ghost use Rattle.std.specs.Prelude.{◌≡◌, ◌≤◌, ◌<◌, ◌^◌, ℕ,
 ghost use Rattle.skk_top.specs.RunFiles.{RefusesFile, IsLonger};
 
 use crate::fault::RunFault;
-use crate::word::Word;
+use command_line::Word;
 use skk_outside::{ReadFault, Shelf, read_named_file};
 use skk_text::{Bytes, TextFault};
 use std::alloc::Global;

@@ -8,16 +8,16 @@ ghost use Rattle.skk_journal.specs.Images.{SameOther};
 ghost use Rattle.skk_outside.specs.Moved.{moved_shelf, moved_sink};
 ghost use Rattle.skk_server.specs.Services.{seen_listener};
 ghost use Rattle.skk_server.specs.Visits.{seen_link};
+ghost use Rattle.command_line.specs.Ranges.{LiesFrom};
 ghost use Rattle.skk_top.specs.Disks.{disk_now, moved_disk, RunsOver, StandsSince, RefusesLearned};
-ghost use Rattle.skk_top.specs.Ranges.{LiesFrom};
 ghost use Rattle.skk_top.specs.ServeCommand.{LeavesServed, EndsUnasked, ServesOpened, ServesConnections};
 ghost use Rattle.skk_top.specs.ServeCommand.{moved_listener};
 
-use crate::command::ServeOptions;
 use crate::fault::RunFault;
 use crate::finish::{Run, end_wanting};
 use crate::opening::{Table, end_unopened, open_learned, read_table};
 use crate::serving::{Outcome, Service, serve_port};
+use command_line::ServeOptions;
 use desk_history::{DeskName, History, Pen, RollSeat};
 use learned_store::{LearnedName, Store};
 use romaji_rules::Rules;

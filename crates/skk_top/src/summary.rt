@@ -4,9 +4,9 @@ ghost use Rattle.skk_outside.specs.Moved.{moved_sink};
 ghost use Rattle.skk_top.specs.LoadCommand.{number_line, summary, summed, text_bytes};
 ghost use Rattle.skk_top.specs.Page.{LeavesPrinted};
 
-use crate::command::LoadOptions;
 use crate::dump_command::print_text;
 use crate::fault::RunFault;
+use command_line::LoadOptions;
 use script_typing::push_number;
 use session_machine::Session;
 use skk_calls::Tally;

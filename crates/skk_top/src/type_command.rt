@@ -11,12 +11,12 @@ ghost use Rattle.key_scripts.specs.Script.{IsScript, script_limit};
 ghost use Rattle.skk_top.specs.TypeCommand.{RefusesScript, LeavesBegun, LeavesScript, LeavesLearned, LeavesTyped};
 ghost use Rattle.skk_top.specs.declared.finish.Run.{Run as run_value};
 
-use crate::command::TypeOptions;
 use crate::fault::RunFault;
 use crate::finish::Run;
 use crate::manner::Manner;
 use crate::opening::{Table, end_unopened, open_learned, read_table};
 use crate::run_file::RunFile;
+use command_line::TypeOptions;
 use key_scripts::Script;
 use learned_store::Store;
 use romaji_rules::Rules;

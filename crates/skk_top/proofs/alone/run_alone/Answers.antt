@@ -1,14 +1,14 @@
 use Rattle.std.proofs.Common.{◌≡◌, ◌∙◌, sym, ap, subst, Option, Some, IfSome}
 use Rattle.std.specs.Option.{option_and_then}
 use Rattle.skk_outside.specs.Moved.{moved_shelf, moved_source, moved_sink}
-use Rattle.skk_top.specs.Command.{book_to_dump, load_played, load_to_play, script_typed, script_to_type}
+use Rattle.command_line.specs.Command.{book_to_dump, load_played, load_to_play, script_typed, script_to_type}
+use Rattle.command_line.specs.declared.command.LoadOptions.{LoadOptions}
+use Rattle.command_line.specs.declared.command.TypeOptions.{TypeOptions}
 use Rattle.skk_top.specs.Disks.{moved_disk}
 use Rattle.skk_top.specs.DumpCommand.{LeavesDumped}
 use Rattle.skk_top.specs.Finishes.{run_of, HasFailed}
 use Rattle.skk_top.specs.LoadCommand.{LeavesLoaded, LoadsLines}
 use Rattle.skk_top.specs.TypeCommand.{LeavesTyped, TypesLines}
-use Rattle.skk_top.specs.declared.command.LoadOptions.{LoadOptions}
-use Rattle.skk_top.specs.declared.command.TypeOptions.{TypeOptions}
 use Rattle.skk_top.specs.declared.finish.Finish.{Finish}
 use Rattle.skk_top.proofs.AloneCommands.{loads-in-range, none-of, one-of-these}
 use Rattle.skk_top.proofs.Disks.{stands-finish, stands-quiet}

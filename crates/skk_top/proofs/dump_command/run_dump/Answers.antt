@@ -1,13 +1,14 @@
 use Rattle.std.proofs.Common.{◌≡◌, ◌≤◌, ◌∙◌, sym, ap, subst, refl, inl, Option, Some, IfSome}
 use Rattle.skk_outside.specs.Moved.{moved_sink}
-use Rattle.skk_top.specs.Command.{book_to_dump}
+use Rattle.command_line.specs.Command.{book_to_dump}
+use Rattle.command_line.specs.OptionLaws.{IfSome-all}
+use Rattle.command_line.specs.RangeLaws.{books-in-range}
+use Rattle.command_line.specs.declared.command.DumpOptions.{DumpOptions}
 use Rattle.skk_top.specs.Disks.{moved_disk}
 use Rattle.skk_top.specs.DumpCommand.{LeavesDumped}
-use Rattle.skk_top.specs.declared.command.DumpOptions.{DumpOptions}
 use Rattle.skk_top.specs.declared.finish.Run.{Run}
 use Rattle.skk_top.proofs.Disks.{stands-quiet}
-use Rattle.skk_top.proofs.Ranges.{books-in-range}
-use Rattle.skk_top.proofs.Runs.{IfSome-all, Keeps-self}
+use Rattle.skk_top.proofs.Runs.{Keeps-self}
 use Rattle.skk_top.proofs.dump_command.run_dump.Goals as goal
 
 pub returns-in_default-clause-stands : goal.returns-in_default-clause-stands

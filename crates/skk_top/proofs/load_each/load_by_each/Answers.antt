@@ -1,10 +1,10 @@
 use Rattle.std.proofs.Common.{◌≡◌, ◌⊎◌, ◌∙◌, ap, subst, []}
 use Rattle.learned_store.specs.Stores.{opening_now}
 use Rattle.skk_outside.specs.Moved.{moved_sink}
+use Rattle.command_line.specs.declared.command.LoadOptions.{LoadOptions}
 use Rattle.skk_top.specs.Disks.{disk_now}
 use Rattle.skk_top.specs.Finishes.{EndsUnbegun}
 use Rattle.skk_top.specs.LoadCommand.{LoadsTasks}
-use Rattle.skk_top.specs.declared.command.LoadOptions.{LoadOptions}
 use Rattle.skk_top.specs.declared.fault.RunFault.TheVariants.{Memory}
 use Rattle.skk_top.proofs.Disks.{runs-quiet}
 use Rattle.skk_top.proofs.load_each.load_by_each.Goals as goal

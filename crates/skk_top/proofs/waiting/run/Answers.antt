@@ -4,22 +4,22 @@ use Rattle.skk_outside.specs.Faults.{Rose}
 use Rattle.skk_outside.specs.Moved.{moved_shelf, moved_source, moved_sink}
 use Rattle.skk_server.specs.Services.{seen_listener}
 use Rattle.skk_server.specs.Visits.{seen_link}
-use Rattle.skk_top.specs.Command.{load_in_threads, load_to_share, port_served, port_to_serve, script_in_threads}
-use Rattle.skk_top.specs.Command.{script_to_weave}
+use Rattle.command_line.specs.Command.{load_in_threads, load_to_share, port_served, port_to_serve, script_in_threads}
+use Rattle.command_line.specs.Command.{script_to_weave}
+use Rattle.command_line.specs.RangeLaws.{IsLoad, IsService, loads-in-range, ports-in-range}
+use Rattle.command_line.specs.declared.command.LoadOptions.{LoadOptions}
+use Rattle.command_line.specs.declared.command.ServeOptions.{ServeOptions}
+use Rattle.command_line.specs.declared.command.TypeOptions.{TypeOptions}
 use Rattle.skk_top.specs.Disks.{moved_disk}
 use Rattle.skk_top.specs.Finishes.{run_of, HasFailed}
 use Rattle.skk_top.specs.LoadCommand.{LeavesLoaded, LoadsTasks}
 use Rattle.skk_top.specs.ServeCommand.{LeavesServed, moved_listener}
 use Rattle.skk_top.specs.TypeCommand.{LeavesTyped}
 use Rattle.skk_top.specs.WeaveCommand.{WeavesLines}
-use Rattle.skk_top.specs.declared.command.LoadOptions.{LoadOptions}
-use Rattle.skk_top.specs.declared.command.ServeOptions.{ServeOptions}
-use Rattle.skk_top.specs.declared.command.TypeOptions.{TypeOptions}
 use Rattle.skk_top.specs.declared.finish.Finish.{Finish}
 use Rattle.skk_top.proofs.AloneCommands.{none-of, one-that-waits}
 use Rattle.skk_top.proofs.Disks.{stands-finish}
 use Rattle.skk_top.proofs.Outside.{outside-served, outside-shared, outside-woven}
-use Rattle.skk_top.proofs.Ranges.{IsLoad, IsService, loads-in-range, ports-in-range}
 use Rattle.skk_top.proofs.waiting.run.Goals as goal
 
 -- Connections that are served

@@ -1,0 +1,76 @@
+-- Numbers on both sides of the ends of their ranges.
+use Rattle.std.proofs.Common.{◌^◌, ◌-◌, ℕ, false, Some, None, [], codes, arith}
+use Rattle.command_line.specs.Ranges.{HasNumbersInRange}
+use Rattle.command_line.specs.declared.command.Command.{Command}
+use Rattle.command_line.specs.declared.command.Command.TheVariants.{TypeScript, Serve, Dump, Load}
+
+-- commands with these numbers, and nothing else given
+abbrev typing : ℕ → Command
+typing limit =
+    TypeScript
+    (record { dictionaries = record { items = [] }; rules = None; learned = None; limit = Some limit; threads = false })
+
+abbrev serving : ℕ → ℕ → ℕ → Command
+serving limit port connections =
+    Serve (record {
+      learned = codes "L";
+      dictionaries = record { items = [] };
+      rules = None;
+      limit = Some limit;
+      port = port;
+      connections = connections;
+    })
+
+abbrev dumping : ℕ → Command
+dumping book = Dump (record { learned = codes "L"; book = book })
+
+abbrev loading : ℕ → ℕ → ℕ → Command
+loading seed sessions lines = Load (record { seed = seed; sessions = sessions; lines = lines; threads = false })
+
+-- the least and the greatest lie within
+within :
+    HasNumbersInRange (typing 64) × HasNumbersInRange (typing 268435456) × HasNumbersInRange (serving 64 1 1)
+    × HasNumbersInRange (serving 268435456 65535 1000000) × HasNumbersInRange (dumping 65535)
+    × HasNumbersInRange (loading 0 1 1) × HasNumbersInRange (loading (2 ^ 64 - 1) 64 20000)
+within = (
+  (omega arith, omega arith),
+  (omega arith, omega arith),
+  ((omega arith, omega arith), (omega arith, omega arith), (omega arith, omega arith)),
+  ((omega arith, omega arith), (omega arith, omega arith), (omega arith, omega arith)),
+  omega arith,
+  (omega arith, (omega arith, omega arith), (omega arith, omega arith)),
+  (omega arith, (omega arith, omega arith), (omega arith, omega arith)),
+)
+
+-- those beside them do not
+limit_outside : (HasNumbersInRange (typing 63) → ⊥) × (HasNumbersInRange (typing 268435457) → ⊥)
+limit_outside = (λ h. omega (arith, h.0), λ h. omega (arith, h.1))
+
+serving_outside :
+    (HasNumbersInRange (serving 63 1 1) → ⊥) × (HasNumbersInRange (serving 268435457 1 1) → ⊥)
+    × (HasNumbersInRange (serving 64 0 1) → ⊥)
+    × (HasNumbersInRange (serving 64 65536 1) → ⊥) × (HasNumbersInRange (serving 64 1 0) → ⊥)
+    × (HasNumbersInRange (serving 64 1 1000001) → ⊥)
+serving_outside = (
+  λ h. omega (arith, h.0.0),
+  λ h. omega (arith, h.0.1),
+  λ h. omega (arith, h.1.0),
+  λ h. omega (arith, h.1.1),
+  λ h. omega (arith, h.2.0),
+  λ h. omega (arith, h.2.1),
+)
+
+book_outside : HasNumbersInRange (dumping 65536) → ⊥
+book_outside h = omega (arith, h)
+
+loading_outside :
+    (HasNumbersInRange (loading (2 ^ 64) 1 1) → ⊥) × (HasNumbersInRange (loading 0 0 1) → ⊥)
+    × (HasNumbersInRange (loading 0 65 1) → ⊥)
+    × (HasNumbersInRange (loading 0 1 0) → ⊥) × (HasNumbersInRange (loading 0 1 20001) → ⊥)
+loading_outside = (
+  λ h. omega (arith, h.0),
+  λ h. omega (arith, h.1.0),
+  λ h. omega (arith, h.1.1),
+  λ h. omega (arith, h.2.0),
+  λ h. omega (arith, h.2.1),
+)

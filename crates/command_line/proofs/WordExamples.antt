@@ -1,0 +1,253 @@
+-- Words at small examples, each worked out by hand.
+use Rattle.std.proofs.Common.{◌≡◌, ◌==◌, ℕ, Bool, true, false, if◌then◌else◌, Option, None, Some, is_some, List, []}
+use Rattle.std.proofs.Common.{◌∷◌, refl, map, codes, replicate}
+use Prim.Native.String.{String}
+use Rattle.std.specs.Fmt.{digits}
+use Rattle.std.specs.List.{filter}
+use Rattle.std.specs.Option.{option_map}
+use Rattle.command_line.specs.Command.{command_of, limit_of, script_to_type, file_to_check, book_to_dump, do_open}
+use Rattle.command_line.specs.Command.{do_print, learned_named, port_to_serve}
+use Rattle.skk_text.specs.Lines.{with_first}
+use Rattle.command_line.specs.Words.{is_name, number_within, cut}
+use Rattle.command_line.specs.declared.command.Command.{Command}
+use Rattle.command_line.specs.declared.command.Command.TheVariants.{TypeScript, Serve, Check, Dump, Load}
+use Rattle.command_line.specs.declared.command.ServeOptions.{ServeOptions}
+use Rattle.command_line.specs.declared.command.TypeOptions.{TypeOptions}
+
+-- the words of a line, between single spaces
+abbrev split : List ℕ → List (List ℕ)
+split [] = [] ∷ []
+split (byte ∷ bytes) = if byte == 32 then [] ∷ split bytes else with_first byte (split bytes)
+
+abbrev words : String → List (List ℕ)
+words line = split (codes line)
+
+abbrev read : String → Option Command
+read line = command_of (words line)
+
+-- commands with their options
+abbrev type_with : List (List ℕ) → Option (List ℕ) → Option (List ℕ) → Option ℕ → Bool → Option Command
+type_with dictionaries rules learned limit threads =
+    Some (TypeScript (record {
+      dictionaries = record { items = dictionaries };
+      rules = rules;
+      learned = learned;
+      limit = limit;
+      threads = threads;
+    }))
+
+abbrev serve_with : String → List (List ℕ) → Option (List ℕ) → Option ℕ → ℕ → ℕ → Option Command
+serve_with learned dictionaries rules limit port connections =
+    Some (Serve (record {
+      learned = codes learned;
+      dictionaries = record { items = dictionaries };
+      rules = rules;
+      limit = limit;
+      port = port;
+      connections = connections;
+    }))
+
+abbrev load_with : ℕ → ℕ → ℕ → Bool → Option Command
+load_with seed sessions lines threads =
+    Some (Load (record { seed = seed; sessions = sessions; lines = lines; threads = threads }))
+
+-- the lines of these that are a command
+abbrev taken : List String → List String
+taken lines = filter (λ line. is_some (read line)) lines
+
+-- each option in both spellings, in any order; the dictionaries in theirs
+type_words : map read ("type" ∷ "type --dict a --rules b --learned c --limit 64 --threads"
+    ∷ "type --threads --limit=268435456 --learned=c --rules=b --dict=a"
+    ∷ "type --dict b --threads --dict=a --dict b" ∷ [])
+    ≡ type_with [] None None None false ∷ type_with (codes "a" ∷ []) (Some (codes "b")) (Some (codes "c")) (Some 64)
+    true ∷ type_with (codes "a" ∷ []) (Some (codes "b")) (Some (codes "c")) (Some 268435456) true
+    ∷ type_with (codes "b" ∷ codes "a" ∷ codes "b" ∷ []) None None None true ∷ []
+unfolding digits
+type_words = refl
+
+serve_words : map read ("serve --learned a" ∷ "serve --dict d --port 1 --learned=a --connections=1 --rules r --limit=65"
+    ∷ "serve --connections 1000000 --port=65535 --learned a" ∷ [])
+    ≡ serve_with "a" [] None None 1178 1000000 ∷ serve_with "a" (codes "d" ∷ []) (Some (codes "r")) (Some 65) 1 1
+    ∷ serve_with "a" [] None None 65535 1000000 ∷ []
+unfolding digits
+serve_words = refl
+
+check_words : map read ("check a" ∷ "check type" ∷ "check a=-b" ∷ "check =" ∷ "check 辞書-" ∷ [])
+    ≡ Some (Check (codes "a")) ∷ Some (Check (codes "type")) ∷ Some (Check (codes "a=-b")) ∷ Some (Check (codes "="))
+    ∷ Some (Check (codes "辞書-")) ∷ []
+check_words = refl
+
+abbrev dump_with : List ℕ → ℕ → Option Command
+dump_with learned book = Some (Dump (record { learned = learned; book = book }))
+
+dump_words : map read ("dump --learned a" ∷ "dump --book 0 --learned=a" ∷ "dump --learned a --book=65535" ∷ [])
+    ≡ dump_with (codes "a") 0 ∷ dump_with (codes "a") 0 ∷ dump_with (codes "a") 65535 ∷ []
+unfolding digits
+dump_words = refl
+
+load_words : map read ("load --seed 0 --sessions 1 --lines 1"
+    ∷ "load --threads --lines=20000 --sessions=64 --seed=18446744073709551615" ∷ [])
+    ≡ load_with 0 1 1 false ∷ load_with 18446744073709551615 64 20000 true ∷ []
+unfolding digits
+load_words = refl
+
+-- a value may hold a space, a `=` and a `-`, and be the name of a command
+values : map command_of ((codes "check" ∷ codes "a b" ∷ []) ∷ (codes "dump" ∷ codes "--learned= a" ∷ [])
+    ∷ words "dump --learned==" ∷ words "dump --learned a--book" ∷ words "dump --learned dump" ∷ [])
+    ≡ Some (Check (codes "a b")) ∷ dump_with (codes " a") 0 ∷ dump_with (codes "=") 0
+    ∷ dump_with (codes "a--book") 0 ∷ dump_with (codes "dump") 0 ∷ []
+values = refl
+
+-- sixteen dictionaries, and one more
+dictionaries : map (λ count. command_of (codes "type" ∷ replicate count (codes "--dict=a"))) (16 ∷ 17 ∷ 40 ∷ [])
+    ≡ type_with (replicate 16 (codes "a")) None None None false ∷ None ∷ None ∷ []
+dictionaries = refl
+
+served_dictionaries : map
+    (λ count. is_some (command_of (codes "serve" ∷ codes "--learned=a" ∷ replicate count (codes "--dict=a"))))
+    (16 ∷ 17 ∷ []) ≡ true ∷ false ∷ []
+served_dictionaries = refl
+
+-- no words, words that name no command, and too few and too many
+no_words : command_of [] ≡ None
+no_words = refl
+
+other_words : taken
+    ("" ∷ "typ" ∷ "types" ∷ "Type" ∷ "-type" ∷ "--type" ∷ "type=" ∷ " type" ∷ "type " ∷ "type type" ∷ "type a" ∷ "help"
+    ∷ "--help" ∷ "-h" ∷ "--" ∷ "-" ∷ "=" ∷ "type -h" ∷ "type --help" ∷ "type --version" ∷ "type --" ∷ "type -"
+    ∷ "type =" ∷ "type --=" ∷ "type --=a" ∷ "--threads type" ∷ "check" ∷ "check a b" ∷ "check " ∷ "check -" ∷ "check -a"
+    ∷ "check --" ∷ "check -- a" ∷ "check a --" ∷ "dump --learned a b" ∷ "serve --learned a b" ∷ [])
+    ≡ []
+other_words = refl
+
+-- an option without its value, or with one that is empty or begins with `-`; and one that takes none with a value
+bad_values : taken ("type --dict" ∷ "type --dict=" ∷ "type --dict " ∷ "type --dict -a" ∷ "type --dict=-a"
+    ∷ "type --dict - a" ∷ "type --dict --threads" ∷ "type --rules" ∷ "type --rules=" ∷ "type --learned -"
+    ∷ "type --learned=--" ∷ "type --threads="
+    ∷ "type --threads=x" ∷ "type --threads x" ∷ "type --dict = a" ∷ "type --dict a --limit" ∷ "dump --learned a --book"
+    ∷ "dump --learned" ∷ [])
+    ≡ []
+bad_values = refl
+
+-- a spelling that is no option's
+bad_spellings : taken ("type --dic a" ∷ "type --dicts a" ∷ "type --Dict a" ∷ "type -dict a" ∷ "type dict a"
+    ∷ "type ---dict a" ∷ "type --dict:a" ∷ "type -t" ∷ "type --thread" ∷ "type --threads " ∷ []) ≡ []
+bad_spellings = refl
+
+-- every option but `--dict` twice
+twice : taken ("type --rules a --rules a" ∷ "type --learned a --learned=a" ∷ "type --limit 64 --limit 64"
+    ∷ "type --threads --threads" ∷ "serve --learned a --learned b" ∷ "serve --learned a --port 1 --port 1"
+    ∷ "serve --learned a --connections 1 --connections 1" ∷ "dump --learned a --book 1 --book 1"
+    ∷ "load --seed 1 --seed 1 --sessions 1 --lines 1" ∷ "load --seed 1 --sessions 1 --sessions 1 --lines 1"
+    ∷ "load --seed 1 --sessions 1 --lines 1 --lines 1"
+    ∷ "load --seed 1 --sessions 1 --lines 1 --threads --threads" ∷ [])
+    ≡ []
+unfolding digits
+twice = refl
+
+-- a required option that is missing, and an option of another command
+missing : taken ("serve" ∷ "serve --port 1" ∷ "dump" ∷ "dump --book 1" ∷ "load" ∷ "load --sessions 1 --lines 1"
+    ∷ "load --seed 1 --lines 1" ∷ "load --seed 1 --sessions 1" ∷ []) ≡ []
+unfolding digits
+missing = refl
+
+of_another : taken ("type --port 1" ∷ "type --connections 1" ∷ "type --book 1" ∷ "type --seed 1" ∷ "type --sessions 1"
+    ∷ "type --lines 1" ∷ "serve --learned a --threads" ∷ "serve --learned a --book 1" ∷ "check a --dict a"
+    ∷ "check a --threads" ∷ "check --learned a"
+    ∷ "dump --learned a --limit 64" ∷ "dump --learned a --dict a" ∷ "dump --learned a --threads"
+    ∷ "dump --learned a --seed 1"
+    ∷ "load --seed 1 --sessions 1 --lines 1 --learned a" ∷ "load --seed 1 --sessions 1 --lines 1 --dict a"
+    ∷ "load --seed 1 --sessions 1 --lines 1 --limit 64" ∷ [])
+    ≡ []
+unfolding digits
+of_another = refl
+
+-- numbers one beyond each end of each range
+beyond : taken
+    ("type --limit 63" ∷ "type --limit 268435457" ∷ "serve --learned a --port 0" ∷ "serve --learned a --port 65536"
+    ∷ "serve --learned a --connections 0" ∷ "serve --learned a --connections 1000001" ∷ "dump --learned a --book 65536"
+    ∷ "load --seed 18446744073709551616 --sessions 1 --lines 1" ∷ "load --seed 1 --sessions 0 --lines 1"
+    ∷ "load --seed 1 --sessions 65 --lines 1" ∷ "load --seed 1 --sessions 1 --lines 0"
+    ∷ "load --seed 1 --sessions 1 --lines 20001" ∷ [])
+    ≡ []
+unfolding digits
+beyond = refl
+
+-- texts as numbers from 0 to 99
+numbers : map (λ text. number_within 0 99 (codes text)) ("0" ∷ "9" ∷ "10" ∷ "99" ∷ "100" ∷ "" ∷ "00" ∷ "01" ∷ "+1"
+    ∷ "-1" ∷ "-0" ∷ " 1" ∷ "1 " ∷ "1_0" ∷ "1.0" ∷ "0x1" ∷ "a" ∷ "1a" ∷ "１" ∷ "99999999999999999999999999" ∷ [])
+    ≡ Some 0 ∷ Some 9 ∷ Some 10 ∷ Some 99 ∷ None ∷ None ∷ None ∷ None ∷ None ∷ None ∷ None ∷ None ∷ None ∷ None ∷ None
+    ∷ None ∷ None ∷ None ∷ None ∷ None ∷ []
+unfolding digits
+numbers = refl
+
+-- what may be a name, and what is cut where
+names : map (λ text. is_name (codes text)) ("" ∷ "-" ∷ "-a" ∷ "a" ∷ "a-" ∷ " " ∷ "=" ∷ "ー" ∷ [])
+    ≡ false ∷ false ∷ false ∷ true ∷ true ∷ true ∷ true ∷ true ∷ []
+names = refl
+
+cuts : map (λ text. cut (codes text)) ("" ∷ "a" ∷ "=" ∷ "a=" ∷ "=b" ∷ "a=b" ∷ "a=b=c" ∷ "ab==" ∷ [])
+    ≡ None ∷ None ∷ Some ([], []) ∷ Some (codes "a", []) ∷ Some ([], codes "b") ∷ Some (codes "a", codes "b")
+    ∷ Some (codes "a", codes "b=c") ∷ Some (codes "ab", codes "=") ∷ []
+cuts = refl
+
+-- what prints and does not wait: `type` and `load` without threads, `check` and `dump`
+abbrev some_lines : List String
+some_lines =
+    "type" ∷ "type --limit 268435456" ∷ "type --limit 64" ∷ "type --dict a" ∷ "type --rules a" ∷ "type --learned a"
+    ∷ "type --threads" ∷ "type --dict a --dict=b" ∷ "type --dict a --threads" ∷ "type --rules a --dict b"
+    ∷ "type --rules a --limit 64"
+    ∷ "serve --learned a --dict b" ∷ "check a" ∷ "check" ∷ "check a b" ∷ "dump --learned a"
+    ∷ "load --seed 1 --sessions 1 --lines 1" ∷ "typ" ∷ "dump --book 7 --learned=b" ∷ []
+
+printing : map (λ line. do_print (words line)) some_lines
+    ≡ true ∷ true ∷ true ∷ true ∷ true ∷ true ∷ false ∷ true ∷ false ∷ true ∷ true ∷ false ∷ true ∷ false ∷ false
+    ∷ true ∷ true ∷ false ∷ true ∷ []
+unfolding digits
+printing = refl
+
+ports_to_serve : map (λ line. option_map {U = ℕ × ℕ} (λ (options : ServeOptions). (options.port, options.connections))
+    (port_to_serve (words line)))
+    ("serve --learned a" ∷ "serve --learned a --port 65535 --connections=7" ∷ "type --threads" ∷ [])
+    ≡ Some (1178, 1000000) ∷ Some (65535, 7) ∷ None ∷ []
+unfolding digits
+ports_to_serve = refl
+
+-- of the former all but `check` open the learned file
+opening : map (λ line. do_open (words line)) some_lines
+    ≡ true ∷ true ∷ true ∷ true ∷ true ∷ true ∷ false ∷ true ∷ false ∷ true ∷ true ∷ false ∷ false ∷ false ∷ false
+    ∷ true ∷ true ∷ false ∷ true ∷ []
+unfolding digits
+opening = refl
+
+typed_with : map (λ line. option_map {U = Option (List ℕ) × List (List ℕ) × Option (List ℕ) × ℕ}
+    (λ (options : TypeOptions).
+    (options.rules, options.dictionaries.items, options.learned, limit_of options.limit)) (script_to_type (words line)))
+    some_lines
+    ≡ Some (None, [], None, 268435456) ∷ Some (None, [], None, 268435456) ∷ Some (None, [], None, 64)
+    ∷ Some (None, codes "a" ∷ [], None, 268435456) ∷ Some (Some (codes "a"), [], None, 268435456)
+    ∷ Some (None, [], Some (codes "a"), 268435456) ∷ None
+    ∷ Some (None, codes "a" ∷ codes "b" ∷ [], None, 268435456) ∷ None
+    ∷ Some (Some (codes "a"), codes "b" ∷ [], None, 268435456) ∷ Some (Some (codes "a"), [], None, 64)
+    ∷ None ∷ None ∷ None ∷ None ∷ None ∷ None ∷ None ∷ None ∷ []
+unfolding digits
+typed_with = refl
+
+files_to_check : map (λ line. file_to_check (words line)) some_lines
+    ≡ None ∷ None ∷ None ∷ None ∷ None ∷ None ∷ None ∷ None ∷ None ∷ None ∷ None ∷ None ∷ Some (codes "a") ∷ None ∷ None
+    ∷ None ∷ None ∷ None ∷ None ∷ []
+unfolding digits
+files_to_check = refl
+
+books_to_dump : map (λ line. book_to_dump (words line)) some_lines
+    ≡ None ∷ None ∷ None ∷ None ∷ None ∷ None ∷ None ∷ None ∷ None ∷ None ∷ None ∷ None ∷ None ∷ None ∷ None
+    ∷ Some (record { learned = codes "a"; book = 0 }) ∷ None ∷ None
+    ∷ Some (record { learned = codes "b"; book = 7 }) ∷ []
+unfolding digits
+books_to_dump = refl
+
+learned_files : map (λ line. learned_named (words line)) some_lines
+    ≡ None ∷ None ∷ None ∷ None ∷ None ∷ Some (codes "a") ∷ None ∷ None ∷ None ∷ None ∷ None ∷ Some (codes "a") ∷ None
+    ∷ None ∷ None ∷ Some (codes "a") ∷ None ∷ None ∷ Some (codes "b") ∷ []
+unfolding digits
+learned_files = refl

@@ -1,0 +1,281 @@
+-- The numbers of commands lie in their ranges.
+use Rattle.std.proofs.Common.{◌≡◌, ◌≢◌, ◌≤◌, ◌∙◌, ◌&&◌, ◌==◌, sym, ap, subst, refl, ℕ, Bool, true, cond, if◌then◌else◌}
+use Rattle.std.proofs.Common.{Option, Some, None, List, [], ◌∷◌, length, arith, inl, inr, nat_le}
+use Rattle.std.specs.Bool.{⊤}
+use Rattle.std.specs.Fmt.{decimal}
+use Rattle.std.specs.List.{AllByRecursion, find, list_all, sum_by}
+use Rattle.std.specs.Option.{IfSome, option_map_or, option_and_then, unwrap_or}
+use Rattle.std.specs.Str.{bytes_eq}
+use Rattle.std.specs.Str.Parse.{digits_value}
+use Rattle.std.proofs.lemmas.Bool.{cases_Bool, cond_both, cond-true, cond-false, and_parts, leb-true, eqb-true}
+use Rattle.std.proofs.lemmas.List.Elements.{All-from_recursion}
+use Rattle.std.proofs.lemmas.List.Sums.{sum_by-cons}
+use Rattle.std.proofs.lemmas.Map.Entries.{All-lookup}
+use Rattle.std.proofs.lemmas.Option.{IfSome_then, none-some}
+use Rattle.command_line.specs.Arguments.{options, option_named, value_of, place}
+use Rattle.command_line.specs.Command.{takes, required, optional, command, command_with, command_named, command_of}
+use Rattle.command_line.specs.Command.{book_dumped, book_to_dump, load_in_threads, load_to_share, port_served}
+use Rattle.command_line.specs.Command.{port_to_serve}
+use Rattle.command_line.specs.OptionLaws.{IfSome-all, IfSome-map, IfSome-and_then, IfSome-map_or, IfSome-if}
+use Rattle.command_line.specs.Ranges.{LiesFrom, HasNumbersInRange}
+use Rattle.command_line.specs.Settings.{setting, takes_value, option_alone, option_with, option_cut, name_or_cut, whole}
+use Rattle.command_line.specs.Settings.{begun, with_setting, settings_of, is_of, times, number_in, value_given}
+use Rattle.command_line.specs.Settings.{number_given, number_or, is_within, fits}
+use Rattle.command_line.specs.Words.{is_name, number_within, cut}
+use Rattle.command_line.specs.declared.argument.Argument.{Argument}
+use Rattle.command_line.specs.declared.argument.Argument.TheVariants.{File, Limit, Port, Connections, Book, Seed}
+use Rattle.command_line.specs.declared.argument.Argument.TheVariants.{Sessions, Lines, Threads}
+use Rattle.command_line.specs.declared.argument.OptionRow.{OptionRow}
+use Rattle.command_line.specs.declared.argument.Takes.{Takes}
+use Rattle.command_line.specs.declared.argument.Takes.TheVariants.{Nothing, Name, Number}
+use Rattle.command_line.specs.declared.command.Command.{Command}
+use Rattle.command_line.specs.declared.command.Command.TheVariants as commands
+use Rattle.command_line.specs.declared.command.DumpOptions.{DumpOptions}
+use Rattle.command_line.specs.declared.command.LoadOptions.{LoadOptions}
+use Rattle.command_line.specs.declared.command.ServeOptions.{ServeOptions}
+use Rattle.command_line.specs.declared.command_name.CommandName.{CommandName}
+use Rattle.command_line.specs.declared.command_name.CommandName.TheVariants.{TypeScript, Serve, Check, Dump, Load}
+use Rattle.command_line.specs.declared.setting.Setting.{Setting}
+use Rattle.command_line.specs.declared.setting.Value.{Value}
+use Rattle.command_line.specs.declared.setting.Value.TheVariants as values
+
+-- what the argument at a place takes: a name, where no option gives it
+abbrev takes_at : ℕ → Takes
+takes_at number =
+    option_map_or (λ (row : List ℕ × OptionRow). row.1.takes)
+    (find (λ (row : List ℕ × OptionRow). place row.1.argument == number) options) Name
+
+-- each option takes what its argument takes
+abbrev IsRow : OptionRow → Type 0
+IsRow row = row.takes ≡ takes_at (place row.argument)
+
+named : (word : List ℕ) → IfSome (option_named word) IsRow
+named word =
+    All-lookup IsRow (bytes_eq word) options (All-from_recursion (λ (row : List ℕ × OptionRow). IsRow row.1) options (
+      refl,
+      (refl, (refl, (refl, (refl, (refl, (refl, (refl, (refl, (refl, (refl, tt)))))))))),
+    ))
+
+-- where a value is to be a number, it is one in the range
+abbrev IsTaken : Takes → Value → Type 0
+IsTaken Nothing value = ⊤
+IsTaken Name value = ⊤
+IsTaken (Number least most) value = (number : ℕ) × (value ≡ values.Number number) × LiesFrom least most number
+
+value-taken : (taken : Takes) (word : List ℕ) → IfSome (value_of taken word) (IsTaken taken)
+value-taken Nothing word = tt
+value-taken Name word = IfSome-if (λ value. ⊤) (is_name word) (values.Text word) (λ e. tt)
+value-taken (Number least most) word =
+    let number = digits_value 10 word in
+    IfSome-map (IsTaken (Number least most)) values.Number (number_within least most word)
+    (IfSome-if (λ n. IsTaken (Number least most) (values.Number n))
+    (bytes_eq word (decimal number) && (nat_le least number && nat_le number most)) number (λ e.
+    let bounds = and_parts (nat_le least number) (nat_le number most)
+    (and_parts (bytes_eq word (decimal number)) (nat_le least number && nat_le number most) e).1 in
+    (number, refl, (leb-true least number bounds.0, leb-true number most bounds.1))))
+
+-- so it is in each setting
+abbrev IsGiven : Setting → Type 0
+IsGiven given = IsTaken (takes_at (place given.argument)) given.value
+
+with-given : (row : OptionRow) (word : List ℕ) → IsRow row → IfSome (option_with row word) IsGiven
+with-given row word is =
+    IfSome-map IsGiven (setting row.argument) (value_of row.takes word)
+    (subst (λ t. IfSome (value_of row.takes word) (IsTaken t)) is (value-taken row.takes word))
+
+alone-given : (taken : Takes) (argument : Argument) → taken ≡ takes_at (place argument)
+    → IfSome (if takes_value taken then None else Some (setting argument values.Nothing)) IsGiven
+alone-given Nothing argument is = subst (λ t. IsTaken t values.Nothing) is tt
+alone-given Name argument is = tt
+alone-given (Number least most) argument is = tt
+
+cut-given : (word : List ℕ) → IfSome (name_or_cut word) IsGiven
+cut-given word =
+    cond_both (is_name word) (Some (setting File (values.Text word))) (option_and_then option_cut (cut word))
+    (λ o. IfSome o IsGiven) (λ e. tt) (λ e.
+    IfSome-and_then IsGiven option_cut (cut word)
+    (IfSome-all (cut word) (λ parts. IfSome (option_cut parts) IsGiven) (λ parts.
+    IfSome-and_then IsGiven (λ row. option_with row parts.1) (option_named parts.0)
+    (IfSome_then (option_named parts.0) (named parts.0) (λ row is. with-given row parts.1 is)))))
+
+whole-given : (word : List ℕ) → IfSome (whole word) IsGiven
+whole-given word =
+    IfSome-map_or IsGiven option_alone (option_named word) (name_or_cut word)
+    (IfSome_then (option_named word) (named word) (λ row is. alone-given row.takes row.argument is)) (cut-given word)
+
+begun-row : (word : List ℕ) → IfSome (begun word) IsRow
+begun-row word =
+    IfSome-and_then IsRow (λ row. if takes_value row.takes then Some row else None) (option_named word)
+    (IfSome_then (option_named word) (named word) (λ row is. IfSome-if IsRow (takes_value row.takes) row (λ e. is)))
+
+abbrev AreGiven : List Setting → Type 0
+AreGiven settings = AllByRecursion IsGiven settings
+
+one-more : (first : Option Setting) (others : Option (List Setting)) → IfSome first IsGiven → IfSome others AreGiven
+    → IfSome (with_setting first others) AreGiven
+one-more None others given more = tt
+one-more (Some first) None given more = tt
+one-more (Some first) (Some others) given more = (given, more)
+
+settings-given : (words : List (List ℕ)) → IfSome (settings_of words) AreGiven
+settings-given [] = tt
+settings-given (word ∷ []) = one-more (whole word) (Some []) (whole-given word) tt
+settings-given (word ∷ next ∷ words) =
+    IfSome-map_or AreGiven (λ row. with_setting (option_with row next) (settings_of words)) (begun word)
+    (with_setting (whole word) (settings_of (next ∷ words)))
+    (IfSome_then (begun word) (begun-row word)
+    (λ row is. one-more (option_with row next) (settings_of words) (with-given row next is) (settings-given words)))
+    (one-more (whole word) (settings_of (next ∷ words)) (whole-given word) (settings-given (next ∷ words)))
+
+-- the value of an argument
+value-given : (argument : Argument) (settings : List Setting) → AreGiven settings
+    → IfSome (value_given argument settings) (IsTaken (takes_at (place argument)))
+value-given argument [] given = tt
+value-given argument (first ∷ settings) given =
+    cond_both (is_of argument first) (Some first.value) (value_given argument settings)
+    (λ o. IfSome o (IsTaken (takes_at (place argument))))
+    (λ e. subst (λ p. IsTaken (takes_at p) first.value) (eqb-true (place first.argument) (place argument) e) given.0)
+    (λ e. value-given argument settings given.1)
+
+-- its number, where it is given
+number-given : (least most : ℕ) (value : Option Value) → IfSome value (IsTaken (Number least most))
+    → IfSome (option_and_then number_in value) (LiesFrom least most)
+number-given least most None taken = tt
+number-given least most (Some value) taken =
+    subst (λ v. IfSome (number_in v) (LiesFrom least most)) (sym taken.1) taken.2
+
+given-lies : (argument : Argument) (least most : ℕ) (settings : List Setting) → AreGiven settings
+    → takes_at (place argument) ≡ Number least most → IfSome (number_given argument settings) (LiesFrom least most)
+given-lies argument least most settings given is =
+    number-given least most (value_given argument settings)
+    (subst (λ t. IfSome (value_given argument settings) (IsTaken t)) is (value-given argument settings given))
+
+-- and where another stands for it if it is absent
+number-lies : (least most absent : ℕ) (value : Option Value) → IfSome value (IsTaken (Number least most))
+    → (value ≡ None → LiesFrom least most absent)
+    → LiesFrom least most (unwrap_or (option_and_then number_in value) absent)
+number-lies least most absent None taken lies = lies refl
+number-lies least most absent (Some value) taken lies =
+    subst (λ v. LiesFrom least most (unwrap_or (number_in v) absent)) (sym taken.1) taken.2
+
+lies-in : (argument : Argument) (least most absent : ℕ) (settings : List Setting) → AreGiven settings
+    → takes_at (place argument) ≡ Number least most
+    → (value_given argument settings ≡ None → LiesFrom least most absent)
+    → LiesFrom least most (number_or absent argument settings)
+lies-in argument least most absent settings given is lies =
+    number-lies least most absent (value_given argument settings)
+    (subst (λ t. IfSome (value_given argument settings) (IsTaken t)) is (value-given argument settings given)) lies
+
+-- one that is required is not absent
+there : (argument : Argument) (settings : List Setting) → 1 ≤ times argument settings
+    → value_given argument settings ≢ None
+there argument [] once = absurd (omega (arith, once))
+there argument (first ∷ settings) once =
+    elim (cases_Bool (is_of argument first)) [
+      | inl own ↦ λ e. none-some first.value
+          (sym e ∙ cond-true (is_of argument first) (Some first.value) (value_given argument settings) own)
+      | inr other ↦ λ e.
+          there argument settings
+          (omega (
+            arith,
+            once,
+            sum_by-cons (λ s. cond (is_of argument s) 1 0) first settings,
+            ap {B = ℕ} (λ (b : Bool). cond b 1 0) other,
+          ))
+          (sym (cond-false (is_of argument first) (Some first.value) (value_given argument settings) other) ∙ e)
+    ]
+
+needed : (argument : Argument) (settings : List Setting) → is_within settings (required argument) ≡ true
+    → value_given argument settings ≢ None
+needed argument settings within =
+    there argument settings (leb-true 1 (times argument settings)
+    (and_parts (nat_le 1 (times argument settings)) (nat_le (times argument settings) 1) within).0)
+
+-- a command with the settings that it takes
+in_range : (name : CommandName) (settings : List Setting) → AreGiven settings → fits (takes name) settings ≡ true
+    → HasNumbersInRange (command name settings)
+in_range TypeScript settings given fit = given-lies Limit 64 268435456 settings given refl
+in_range Serve settings given fit = (
+  given-lies Limit 64 268435456 settings given refl,
+  lies-in Port 1 65535 1178 settings given refl (λ e. (omega arith, omega arith)),
+  lies-in Connections 1 1000000 1000000 settings given refl (λ e. (omega arith, omega arith)),
+)
+in_range Check settings given fit = tt
+in_range Dump settings given fit = (lies-in Book 0 65535 0 settings given refl (λ e. (omega arith, omega arith))).1
+in_range Load settings given fit =
+    let rows = and_parts (list_all (is_within settings) (takes Load))
+    (sum_by (λ row. times row.0 settings) (takes Load) == length settings) fit in
+    let first = and_parts (is_within settings (required Seed))
+    (list_all (is_within settings) (required Sessions ∷ required Lines ∷ optional Threads ∷ [])) rows.0 in
+    let second = and_parts (is_within settings (required Sessions))
+    (list_all (is_within settings) (required Lines ∷ optional Threads ∷ [])) first.1 in
+    let third =
+    and_parts (is_within settings (required Lines)) (list_all (is_within settings) (optional Threads ∷ [])) second.1 in
+    let seed : LiesFrom 0 18446744073709551615 (number_or 0 Seed settings) =
+    lies-in Seed 0 18446744073709551615 0 settings given refl (λ e. (omega arith, omega arith)) in (
+      omega (arith, seed.1),
+      lies-in Sessions 1 64 0 settings given refl (λ e. absurd (needed Sessions settings second.0 e)),
+      lies-in Lines 1 20000 0 settings given refl (λ e. absurd (needed Lines settings third.0 e)),
+    )
+
+-- so it is with words that are a command
+words-in_range : (words : List (List ℕ)) → IfSome (command_of words) HasNumbersInRange
+words-in_range [] = tt
+words-in_range (word ∷ words) =
+    IfSome-and_then HasNumbersInRange (λ name. option_and_then (command_with name) (settings_of words))
+    (command_named word) (IfSome-all (command_named word)
+    (λ name. IfSome (option_and_then (command_with name) (settings_of words)) HasNumbersInRange) (λ name.
+    IfSome-and_then HasNumbersInRange (command_with name) (settings_of words)
+    (IfSome_then (settings_of words) (settings-given words) (λ settings given.
+    IfSome-if HasNumbersInRange (fits (takes name) settings) (command name settings) (in_range name settings given)))))
+
+-- each number of a command that words are lies in its range
+pub numbers_in_range : (words : List (List ℕ)) (read : Command) → command_of words ≡ Some read → HasNumbersInRange read
+numbers_in_range words read is = subst (λ o. IfSome o HasNumbersInRange) is (words-in_range words)
+
+dumped-in-range : (command : Command) → HasNumbersInRange command → IfSome (book_dumped command) (λ o. o.book ≤ 65535)
+dumped-in-range (commands.TypeScript given) range = tt
+dumped-in-range (commands.Serve given) range = tt
+dumped-in-range (commands.Check file) range = tt
+dumped-in-range (commands.Dump given) range = range
+dumped-in-range (commands.Load given) range = tt
+
+-- the number of a book lies in its range
+pub books-in-range : (words : List (List ℕ)) → IfSome (book_to_dump words) (λ o. o.book ≤ 65535)
+books-in-range words =
+    IfSome-and_then (λ (o : DumpOptions). o.book ≤ 65535) book_dumped (command_of words)
+    (IfSome_then (command_of words) (words-in_range words) dumped-in-range)
+
+-- a port and the number of the connections to it lie in their ranges
+abbrev pub IsService : ServeOptions → Type 0
+IsService options = LiesFrom 1 65535 options.port × LiesFrom 1 1000000 options.connections
+
+served-in-range : (command : Command) → HasNumbersInRange command → IfSome (port_served command) IsService
+served-in-range (commands.TypeScript given) range = tt
+served-in-range (commands.Serve given) range = (range.1, range.2)
+served-in-range (commands.Check file) range = tt
+served-in-range (commands.Dump given) range = tt
+served-in-range (commands.Load given) range = tt
+
+-- the sessions and the lines of a load are not too many
+abbrev pub IsLoad : LoadOptions → Type 0
+IsLoad options = (options.sessions ≤ 64) × (options.lines ≤ 20000)
+
+shared-in-range : (command : Command) → HasNumbersInRange command → IfSome (load_in_threads command) IsLoad
+shared-in-range (commands.TypeScript given) range = tt
+shared-in-range (commands.Serve given) range = tt
+shared-in-range (commands.Check file) range = tt
+shared-in-range (commands.Dump given) range = tt
+shared-in-range (commands.Load given) range = IfSome-if IsLoad given.threads given (λ e. (range.1.1, range.2.1))
+
+-- nor are those of a load with threads
+pub loads-in-range : (words : List (List ℕ)) → IfSome (load_to_share words) IsLoad
+loads-in-range words =
+    IfSome-and_then IsLoad load_in_threads (command_of words)
+    (IfSome_then (command_of words) (words-in_range words) shared-in-range)
+
+-- and the numbers of `serve` lie in their ranges
+pub ports-in-range : (words : List (List ℕ)) → IfSome (port_to_serve words) IsService
+ports-in-range words =
+    IfSome-and_then IsService port_served (command_of words)
+    (IfSome_then (command_of words) (words-in_range words) served-in-range)

@@ -1,0 +1,136 @@
+ghost use Rattle.std.specs.Prelude.{◌≡◌, Some};
+ghost use Rattle.command_line.specs.Arguments.{option_named, value_of};
+ghost use Rattle.command_line.specs.Settings.{takes_value, option_with, setting};
+ghost use Rattle.command_line.specs.declared.setting.Value.TheVariants as values;
+
+use crate::setting::{Setting, Value};
+use crate::word::Word;
+
+/// What a command can be given.
+#[derive(Clone, Copy, Debug, PartialEq, Eq)]
+pub enum Argument {
+    /// A file, by its bare name.
+    File,
+    /// The files of dictionaries.
+    Dictionary,
+    /// The file of romaji rules.
+    Rules,
+    /// The learned file.
+    Learned,
+    /// The most bytes of the learned file.
+    Limit,
+    /// The port that is served.
+    Port,
+    /// How many connections are served.
+    Connections,
+    /// The number of a book.
+    Book,
+    /// Where a load begins its drawing.
+    Seed,
+    /// How many sessions a load has.
+    Sessions,
+    /// How many lines each session of a load has.
+    Lines,
+    /// That sessions have threads of their own.
+    Threads,
+}
+
+/// What an option takes.
+#[derive(Clone, Copy, Debug, PartialEq, Eq)]
+pub enum Takes {
+    /// No value.
+    Nothing,
+    /// The name of a file.
+    Name,
+    /// A number, from the first to the second.
+    Number(u64, u64),
+}
+
+/// An option: the argument that it gives, and what it takes.
+#[derive(Clone, Copy, Debug, PartialEq, Eq)]
+pub struct OptionRow {
+    pub argument: Argument,
+    pub takes: Takes,
+}
+
+/// The option that a word spells: the table of all options.
+pub fn option_named(word: &Word) -> Option<OptionRow>
+    ensures { result ≡ option_named word.now }
+{
+    let (argument, takes) = match word.as_str() {
+        "--dict" => (Argument::Dictionary, Takes::Name),
+        "--rules" => (Argument::Rules, Takes::Name),
+        "--learned" => (Argument::Learned, Takes::Name),
+        "--limit" => (Argument::Limit, Takes::Number(64, 268_435_456)),
+        "--port" => (Argument::Port, Takes::Number(1, 65_535)),
+        "--connections" => (Argument::Connections, Takes::Number(1, 1_000_000)),
+        "--book" => (Argument::Book, Takes::Number(0, 65_535)),
+        "--seed" => (Argument::Seed, Takes::Number(0, u64::MAX)),
+        "--sessions" => (Argument::Sessions, Takes::Number(1, 64)),
+        "--lines" => (Argument::Lines, Takes::Number(1, 20_000)),
+        "--threads" => (Argument::Threads, Takes::Nothing),
+        _ => return None,
+    };
+    Some(OptionRow { argument, takes })
+}
+
+impl Takes {
+    // Whether a value is taken.
+    fn takes_value(self) -> bool
+        ensures { result ≡ takes_value self }
+    {
+        match self {
+            Takes::Nothing => false,
+            Takes::Name | Takes::Number(_, _) => true,
+        }
+    }
+
+    // The value that a word is, where it is one.
+    fn value<'a>(self, word: &Word<'a>) -> Option<Value<'a>>
+        ensures { result ≡ value_of self word.now }
+    {
+        match self {
+            Takes::Nothing => None,
+            Takes::Name => {
+                if !word.is_name() {
+                    return None;
+                }
+                Some(Value::Text(word.again()))
+            }
+            Takes::Number(least, most) => match word.number_within(least, most) {
+                Some(number) => Some(Value::Number(number)),
+                None => None,
+            },
+        }
+    }
+}
+
+impl OptionRow {
+    /// Whether the option takes a value.
+    pub fn takes_value(self) -> bool
+        ensures { result ≡ takes_value self.takes }
+    {
+        self.takes.takes_value()
+    }
+
+    /// The option without a value.
+    pub fn alone<'a>(self) -> Setting<'a>
+        ensures { result ≡ setting self.argument values.Nothing }
+    {
+        Setting {
+            argument: self.argument,
+            value: Value::Nothing,
+        }
+    }
+
+    /// The option with a word that is its value, where it is one.
+    pub fn with<'a>(self, word: &Word<'a>) -> Option<Setting<'a>>
+        ensures { result ≡ option_with self word.now }
+    {
+        let argument = self.argument;
+        match self.takes.value(word) {
+            Some(value) => Some(Setting { argument, value }),
+            None => None,
+        }
+    }
+}

@@ -1,0 +1,95 @@
+ghost use Rattle.std.specs.Prelude.{◌≡◌, ◌≤◌, length};
+ghost use Rattle.command_line.specs.Command.{command_named, command_with, takes};
+
+use crate::argument::Argument;
+use crate::command::{Command, DumpOptions, LoadOptions, ServeOptions, TypeOptions};
+use crate::settings::{DICTIONARIES, Settings};
+use crate::word::Word;
+
+/// A command by its name.
+#[derive(Clone, Copy, Debug, PartialEq, Eq)]
+pub enum CommandName {
+    TypeScript,
+    Serve,
+    Check,
+    Dump,
+    Load,
+}
+
+// What each command takes: the arguments, with the least and the most times that each is given.
+const TYPE_TAKES: [(Argument, usize, usize); 5] = [
+    (Argument::Dictionary, 0, DICTIONARIES),
+    (Argument::Rules, 0, 1),
+    (Argument::Learned, 0, 1),
+    (Argument::Limit, 0, 1),
+    (Argument::Threads, 0, 1),
+];
+
+const SERVE_TAKES: [(Argument, usize, usize); 6] = [
+    (Argument::Learned, 1, 1),
+    (Argument::Dictionary, 0, DICTIONARIES),
+    (Argument::Rules, 0, 1),
+    (Argument::Limit, 0, 1),
+    (Argument::Port, 0, 1),
+    (Argument::Connections, 0, 1),
+];
+
+const CHECK_TAKES: [(Argument, usize, usize); 1] = [(Argument::File, 1, 1)];
+
+const DUMP_TAKES: [(Argument, usize, usize); 2] = [
+    (Argument::Learned, 1, 1),
+    (Argument::Book, 0, 1),
+];
+
+const LOAD_TAKES: [(Argument, usize, usize); 4] = [
+    (Argument::Seed, 1, 1),
+    (Argument::Sessions, 1, 1),
+    (Argument::Lines, 1, 1),
+    (Argument::Threads, 0, 1),
+];
+
+/// The command that a word names.
+pub fn command_named(word: &Word) -> Option<CommandName>
+    ensures { result ≡ command_named word.now }
+{
+    match word.as_str() {
+        "type" => Some(CommandName::TypeScript),
+        "serve" => Some(CommandName::Serve),
+        "check" => Some(CommandName::Check),
+        "dump" => Some(CommandName::Dump),
+        "load" => Some(CommandName::Load),
+        _ => None,
+    }
+}
+
+impl CommandName {
+    /// The command with settings, where it takes them.
+    pub fn with<'a>(self, settings: &Settings<'a>) -> Option<Command<'a>>
+        ensures { result ≡ command_with self settings.now }
+    {
+        if !settings.fits(self.takes()) {
+            return None;
+        }
+        match self {
+            CommandName::TypeScript => Some(Command::TypeScript(TypeOptions::of(settings)?)),
+            CommandName::Serve => Some(Command::Serve(ServeOptions::of(settings)?)),
+            CommandName::Check => Some(Command::Check(settings.text(Argument::File))),
+            CommandName::Dump => Some(Command::Dump(DumpOptions::of(settings))),
+            CommandName::Load => Some(Command::Load(LoadOptions::of(settings))),
+        }
+    }
+
+    // What the command takes.
+    fn takes(self) -> &'static [(Argument, usize, usize)]
+        ensures value { result.now ≡ takes self }
+        ensures few { length result.now ≤ 16 }
+    {
+        match self {
+            CommandName::TypeScript => &TYPE_TAKES,
+            CommandName::Serve => &SERVE_TAKES,
+            CommandName::Check => &CHECK_TAKES,
+            CommandName::Dump => &DUMP_TAKES,
+            CommandName::Load => &LOAD_TAKES,
+        }
+    }
+}

@@ -1,8 +1,0 @@
-use Rattle.std.proofs.Common.{◌≡◌, drop}
-use Rattle.skk_top.specs.Settings.{value_given}
-use Rattle.skk_top.proofs.settings.Settings.value_given.Given as goal
-
--- the value is that of the settings that are left
-abbrev pub invariant-loop-setting : goal.invariant-loop-setting
-invariant-loop-setting l =
-    value_given l.argument (drop l.setting-index l.setting-items) ≡ value_given l.argument l.setting-items

@@ -1,5 +1,0 @@
-use Rattle.std.proofs.lemmas.Str.{encodes-chars}
-use Rattle.skk_top.proofs.word.Word.of_str.Goals as goal
-
-pub returns-clause-bytes : goal.returns-clause-bytes
-returns-clause-bytes c = encodes-chars c.args.text.now c.utf8.text
