@@ -14,3 +14,5 @@ mod served;
 mod side_by_side;
 #[cfg(test)]
 mod sockets;
+#[cfg(test)]
+mod statuses;

@@ -1,9 +1,9 @@
 ghost use Rattle.std.specs.Prelude.{Some};
 
-use skk_disk::{Disk, MemDisk};
-use skk_outside::{Failed, MemShelf, MemSink, MemSource, Outside, Shelf, Sink, Source};
+use crate::statuses::status_of;
+use skk_disk::MemDisk;
+use skk_outside::{Failed, MemShelf, MemSink, MemSource, Outside, Sink};
 use skk_text::{Bytes, Text};
-use skk_top::{run_alone, waits};
 use std::alloc::{AllocError, Global};
 use std::process::Abort;
 use std::test::Fail;
@@ -11,9 +11,6 @@ use std::test::Fail;
 const LINES: &[u8] = b"1:kitte\n1:kanji\n1:zl\n";
 
 const TYPED: &str = "1\tかな\tきって\t\n1\tかな\tきってかんじ\t\n1\tかな\tきってかんじ→\t\n1=きってかんじ→\n";
-
-// The status that no run ends with, for words that may wait.
-const WAITING: u8 = 255;
 
 // Runs the word `type` on the lines, which come in two pieces, with the number of the read that is to fail.
 fn type_lines<O: Sink>(
@@ -30,23 +27,6 @@ fn type_lines<O: Sink>(
     let mut shelf = MemShelf::new(Vec::new(alloc), Vec::new(alloc));
     let disk = MemDisk::new(alloc, Vec::new(alloc));
     Ok(status_of(alloc, &words, &mut shelf, disk, &mut input, out, err))
-}
-
-// The status of a run of words that may not wait. What is promised of a run is long: it is met here alone, and its
-// callers know nothing of it.
-fn status_of<H: Shelf, D: Disk + Drop, I: Source, O: Sink, E: Sink>(
-    alloc: Global,
-    words: &[Text],
-    shelf: &mut H,
-    disk: D,
-    input: &mut I,
-    out: &mut O,
-    err: &mut E,
-) -> u8 {
-    if waits(words) {
-        return WAITING;
-    }
-    run_alone(alloc, words, shelf, disk, input, out, err).status
 }
 
 // The script is read in two pieces and then to its end; the output is written at once and flushed; a fault is told

@@ -1,12 +1,12 @@
 ghost use Rattle.skk_disk.specs.Image.{empty_image};
 
 use crate::side_by_side::Meeting;
+use crate::statuses::status_in_threads;
 use skk_disk::{Disk, MemDisk, Which};
 use skk_outside::{
     Count, Failed, Gate, MemLink, MemListener, MemShelf, MemSink, MemSource, Open, Outside,
 };
 use skk_text::{Bytes, Text};
-use skk_top::{run, waits};
 use std::alloc::{AllocError, Global};
 use std::process::Abort;
 use std::sync::Wait;
@@ -15,9 +15,6 @@ use std::test::Fail;
 use std::thread::Threads;
 
 const WORDS: &str = ";; okuri-nasi entries.\n125 /東京都葛飾区/\nかんじ /漢字/幹事;宴会の/感じ/\n";
-
-// The status that no run ends with, for words that may not wait.
-const ALONE: u8 = 255;
 
 // A link: what each read of it gives, and the number of its call that is to fail.
 type Given = (&'static [&'static str], u64);
@@ -63,13 +60,9 @@ fn serve<D: Disk + Drop + Send, G: Gate + Sync, R: Threads + Wait + Copy + Send 
         Text::of(String::from_str(alloc, first)?),
         Text::of(String::from_str(alloc, second)?),
     ];
-    if !waits(&words) {
-        return Ok(ALONE);
-    }
-    let finish = run(
+    Ok(status_in_threads(
         rt, alloc, &words, &mut shelf, disk, &mut input, out, err, net, gate,
-    );
-    Ok(finish.status)
+    ))
 }
 
 // The numbers of the listener's call and of the call that writes that are to fail; how many connections are asked for;

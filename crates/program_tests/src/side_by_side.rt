@@ -1,7 +1,7 @@
+use crate::statuses::status_in_threads;
 use skk_disk::MemDisk;
 use skk_outside::{Gate, MemListener, MemShelf, MemSink, MemSource};
 use skk_text::{Bytes, Text};
-use skk_top::{run, waits};
 use std::alloc::{AllocError, Global};
 use std::sync::Wait;
 use std::sync::atomic::{AtomicBool, AtomicU32, Ordering};
@@ -13,9 +13,6 @@ const WORDS: &str = ";; okuri-nasi entries.\nかんじ /漢字/幹事;宴会の/
 const LINES: &str = "1:Kanji \n1: \n2:Kanji \n2: \n";
 
 const TYPED: &str = "1\tかな\t▼漢字\t\n1\tかな\t▼幹事\t;宴会の\n2\tかな\t▼漢字\t\n2\tかな\t▼幹事\t;宴会の\n1=\n2=\n";
-
-// The status that no run ends with, for words that may not wait.
-const ALONE: u8 = 255;
 
 // How often a caller looks whether the other has come, at most.
 const TURNS: u32 = 1_000_000;
@@ -78,13 +75,9 @@ fn type_by_two<R: Threads + Wait + Copy + Send + Sync>(
     let disk = MemDisk::new(alloc, Vec::new(alloc));
     let mut err = MemSink::new(alloc, Vec::new(alloc));
     let mut net = MemListener::new(alloc, Vec::new(alloc), Vec::new(alloc));
-    if !waits(&words) {
-        return Ok(ALONE);
-    }
-    let finish = run(
+    Ok(status_in_threads(
         rt, alloc, &words, &mut shelf, disk, &mut input, out, &mut err, &mut net, meeting,
-    );
-    Ok(finish.status)
+    ))
 }
 
 // Two sessions are typed at the same time: each waits for the other between its lines.
