@@ -1,14 +1,16 @@
 -- Sessions whose typists are apart print what they print where all calls are answered one after another.
 use Rattle.std.proofs.Common.{◌≡◌, ◌∙◌, ap, sym, subst, refl, ℕ, ◌==◌, Bool, true, false, cond}
 use Rattle.std.proofs.Common.{None, Some, List, [], ◌∷◌, ◌++◌, append_assoc}
-use Rattle.std.proofs.lemmas.Bool.{and_parts, eqb-true}
+use Rattle.std.proofs.lemmas.Bool.{and_parts, eq-eqb, eqb-true}
 use Rattle.std.proofs.lemmas.List.{append-nil, map-append}
-use Rattle.std.specs.List.{list_all}
+use Rattle.std.specs.List.{cons_option, fold, list_all}
 use Rattle.romaji_rules.specs.declared.rule.Rule.{Rule}
 use Rattle.skk_calls.specs.declared.answer.Answer.{Answer}
 use Rattle.skk_calls.specs.declared.call.Call.{Call}
 use Rattle.skk_calls.specs.Dictionary.{after}
-use Rattle.skk_calls.specs.Histories.{after_calls}
+use Rattle.skk_calls.specs.declared.entry.Entry.{Entry}
+use Rattle.skk_calls.specs.Histories.{after_calls, dialog}
+use Rattle.skk_calls.specs.InteractionLaws.{leads-on}
 use Rattle.skk_calls.specs.Interactions.{Interaction, ends, asks, prints, followed_by, Dialog, Leads, here, asking}
 use Rattle.skk_calls.specs.Interactions.{printing}
 use Rattle.skk_calls.specs.Interactions.{calls_of, answers_of, IsAnsweredAlone, printed_alone}
@@ -23,11 +25,14 @@ use Rattle.key_scripts.specs.declared.line.Line.TheVariants.{Keys, Opening}
 use Rattle.session_machine.specs.OwnSessions.{IsOwn}
 use Rattle.session_machine.specs.Pressed.{all_pressed}
 use Rattle.session_machine.specs.Session.{Session, new_session}
+use Rattle.script_typing.specs.MapLaws.{Ascend, ascend-put, by_number}
+use Rattle.script_typing.specs.Playing.{playing}
+use Rattle.script_typing.specs.PlayingLaws.{entries_by, said_in_all}
 use Rattle.script_typing.specs.Printing.{output_line}
 use Rattle.script_typing.specs.Sessions.{SessionMap, session_or_new, with_session}
 use Rattle.script_typing.specs.Typed.{closing_lines, typing, Asking}
-use Rattle.script_typing.specs.Woven.{own_typing, Given, with_given, taken, woven}
-use Rattle.script_typing.proofs.Weaving.{own-first, own-other, session-put, session-others}
+use Rattle.script_typing.specs.Woven.{Tasks, lines_at, with_line, own_typing, Given, with_given, taken, woven}
+use Rattle.script_typing.proofs.Weaving.{own-first, own-other, session-put, session-others, sessions-put}
 
 -- what an interaction leads to is taken from the head of its answers
 taken-led : {S : Type 0} {from : Interaction S} {dialog : Dialog} {text : List ℕ} (end : S) (more : List Answer)
@@ -112,6 +117,57 @@ alone-led files state end behind (printing first rest dialog text to way) alone 
     ap (λ t. first ++ t) (alone-led files state end behind way alone)
     ∙ sym (append_assoc first text (printed_alone files (after_calls state (calls_of dialog)) (behind end)))
 
+-- a dialog that the dictionary of one thread answers, and another behind it, are one
+alone-joined : (files : List (List Row)) (state : State) (first rest : Dialog)
+    → IsAnsweredAlone files state first → IsAnsweredAlone files (after_calls state (calls_of first)) rest
+    → IsAnsweredAlone files state (first ++ rest)
+alone-joined files state [] rest alone behind = behind
+alone-joined files state (pair ∷ first) rest alone behind =
+    (alone.0, alone-joined files (after state pair.0) first rest alone.1 behind)
+
+-- what an interaction leads to is where what follows behind it goes on
+led-followed : {S T : Type 0} {from : Interaction S} {dialog : Dialog} {text : List ℕ} (end : S)
+    (behind : S → Interaction T) → Leads from dialog text (ends end)
+    → Leads (followed_by from behind) dialog text (behind end)
+led-followed end behind (here from) = here (behind end)
+led-followed end behind (asking call next given dialog text to way) =
+    asking call (λ answer. followed_by (next answer) behind) given dialog text (behind end)
+    (led-followed end behind way)
+led-followed end behind (printing first rest dialog text to way) =
+    printing first (followed_by rest behind) dialog text (behind end) (led-followed end behind way)
+
+-- what has ended leads nowhere else
+ends-led : {S : Type 0} (value end : S) {dialog : Dialog} {text : List ℕ} → Leads (ends value) dialog text (ends end)
+    → (dialog ≡ []) × (value ≡ end)
+ends-led value end (here _) = (refl, refl)
+
+-- Entries of a caller
+
+-- a dialog and then a history say one behind the other
+said-entries : (number : ℕ) (first : Dialog) (history : List Entry)
+    → said_in_all (entries_by number first ++ history) ≡ first ++ said_in_all history
+said-entries number [] history = refl
+said-entries number (pair ∷ first) history = ap (λ d. pair ∷ d) (said-entries number first history)
+
+-- and of a caller what it has said in both
+dialog-entries : (number other : ℕ) (first : Dialog) (history : List Entry)
+    → dialog (entries_by number first ++ history) other ≡ cond (number == other) first [] ++ dialog history other
+dialog-entries number other [] history = by (number == other)
+  where
+    by : (b : Bool) → dialog history other ≡ cond b [] [] ++ dialog history other
+    by true = refl
+    by false = refl
+dialog-entries number other (pair ∷ first) history =
+    by (number == other) refl (dialog-entries number other first history)
+  where
+    by : (b : Bool) → (number == other) ≡ b
+        → dialog (entries_by number first ++ history) other
+        ≡ cond (number == other) first [] ++ dialog history other
+        → cons_option (cond b (Some pair) None) (dialog (entries_by number first ++ history) other)
+        ≡ cond b (pair ∷ first) [] ++ dialog history other
+    by true is rest = ap (λ d. pair ∷ d) (rest ∙ ap (λ b. cond b first [] ++ dialog history other) is)
+    by false is rest = rest ∙ ap (λ b. cond b first [] ++ dialog history other) is
+
 -- Sessions in front of lines
 
 -- own lines find a session that is a typist's own, or open one first, and open none behind that
@@ -186,63 +242,66 @@ module _ (files : List (List Row)) (table : List Rule) (typist_of : ℕ → ℕ)
   no_front [] behind is = refl
   no_front (x ∷ front) behind is = absurd (cc is)
 
+  -- what is known of each session behind an opening line
+  opened-next : (number typist book : ℕ) (lines : List Line) (sessions : SessionMap) (given : Given)
+      (dialogs : ℕ → Dialog) (states : ℕ → State) (all : State)
+      → AreApart sessions given dialogs states all (Opening number typist book ∷ lines)
+      → AreApart (with_session sessions number (new_session typist book)) given dialogs states all lines
+  opened-next number typist book lines sessions given dialogs states all are other is_named =
+      by (other == number) refl
+    where
+      opening_line : Line
+      opening_line = Opening number typist book
+
+      opened : Session
+      opened = new_session typist book
+
+      by : (b : Bool) → (other == number) ≡ b
+          → IsApart other (session_or_new (with_session sessions number (new_session typist book)) other)
+          (own_lines other lines) (given other) (dialogs other) (states other) all
+      by true is =
+          let same : other ≡ number = eqb-true other number is in
+          subst (λ n. IsApart n (session_or_new (with_session sessions number opened) n) (own_lines n lines)
+          (given n) (dialogs n) (states n) all) (sym same)
+          (subst (λ (s : Session). IsApart number s (own_lines number lines) (given number) (dialogs number)
+          (states number) all) (sym (session-put sessions number opened))
+          (begun (subst (λ (ls : List Line). IsApart number (session_or_new sessions number) ls (given number)
+          (dialogs number) (states number) all) (own-first opening_line lines)
+          (are number (subst (λ n. named n ≡ true) same is_named)))))
+        where
+          begun : IsApart number (session_or_new sessions number) (opening_line ∷ own_lines number lines)
+              (given number) (dialogs number) (states number) all
+              → IsApart number opened (own_lines number lines) (given number) (dialogs number) (states number) all
+          begun known = record {
+            given = known.given;
+            leads = known.leads;
+            answered = known.answered;
+            alike = known.alike;
+            starts =
+                starts-on (typist_of number) opened (own_lines number lines)
+                (subst (λ t. IsOwn (typist_of number) (new_session t book)) (sym known.starts.0)
+                (subst (λ b. IsOwn (typist_of number) (new_session (typist_of number) b)) (sym known.starts.1)
+                (new_own (typist_of number))))
+                known.starts.2;
+          }
+      by false differ =
+          subst (λ (s : Session). IsApart other s (own_lines other lines) (given other) (dialogs other)
+          (states other) all) (sym (session-others sessions number opened other differ))
+          (subst (λ (ls : List Line). IsApart other (session_or_new sessions other) ls (given other)
+          (dialogs other) (states other) all) (own-other opening_line lines other differ)
+          (are other is_named))
+
   -- an opening line in front
-  module _ (number typist book : ℕ) (lines : List Line) (behind : Alone lines) where
-    abbrev opening_line : Line
-    opening_line = Opening number typist book
-
-    abbrev opened : Session
-    opened = new_session typist book
-
-    alone-opened : Alone (opening_line ∷ lines)
-    alone-opened sessions given dialogs states all names are =
-        behind (with_session sessions number opened) given dialogs states all in_lines next
-      where
-        in_lines : list_all (λ line. named (session_of line)) lines ≡ true
-        in_lines =
-            (and_parts (named number) (list_all (λ line. named (session_of line)) lines) names).1
-
-        next : AreApart (with_session sessions number opened) given dialogs states all lines
-        next other is_named = by (other == number) refl
-          where
-            by : (b : Bool) → (other == number) ≡ b
-                → IsApart other (session_or_new (with_session sessions number opened) other) (own_lines other lines)
-                (given other) (dialogs other) (states other) all
-            by true is =
-                let same : other ≡ number = eqb-true other number is in
-                subst (λ n. IsApart n (session_or_new (with_session sessions number opened) n) (own_lines n lines)
-                (given n) (dialogs n) (states n) all) (sym same)
-                (subst (λ (s : Session). IsApart number s (own_lines number lines) (given number) (dialogs number)
-                (states number) all) (sym (session-put sessions number opened))
-                (begun (subst (λ (ls : List Line). IsApart number (session_or_new sessions number) ls (given number)
-                (dialogs number) (states number) all) (own-first opening_line lines)
-                (are number (subst (λ n. named n ≡ true) same is_named)))))
-              where
-                begun : IsApart number (session_or_new sessions number) (opening_line ∷ own_lines number lines)
-                    (given number) (dialogs number) (states number) all
-                    → IsApart number opened (own_lines number lines) (given number) (dialogs number) (states number) all
-                begun known = record {
-                  given = known.given;
-                  leads = known.leads;
-                  answered = known.answered;
-                  alike = known.alike;
-                  starts =
-                      starts-on (typist_of number) opened (own_lines number lines)
-                      (subst (λ t. IsOwn (typist_of number) (new_session t book)) (sym known.starts.0)
-                      (subst (λ b. IsOwn (typist_of number) (new_session (typist_of number) b)) (sym known.starts.1)
-                      (new_own (typist_of number))))
-                      known.starts.2;
-                }
-            by false differ =
-                subst (λ (s : Session). IsApart other s (own_lines other lines) (given other) (dialogs other)
-                (states other) all) (sym (session-others sessions number opened other differ))
-                (subst (λ (ls : List Line). IsApart other (session_or_new sessions other) ls (given other)
-                (dialogs other) (states other) all) (own-other opening_line lines other differ)
-                (are other is_named))
+  alone-opened : (number typist book : ℕ) (lines : List Line) → Alone lines
+      → Alone (Opening number typist book ∷ lines)
+  alone-opened number typist book lines behind sessions given dialogs states all names are =
+      behind (with_session sessions number (new_session typist book)) given dialogs states all
+      (and_parts (named number) (list_all (λ line. named (session_of line)) lines) names).1
+      (opened-next number typist book lines sessions given dialogs states all are)
 
   -- a line of keys in front
-  module _ (number : ℕ) (ks : List Key) (lines : List Line) (behind : Alone lines) (sessions : SessionMap)
-      (given : Given) (dialogs : ℕ → Dialog) (states : ℕ → State) (all : State)
+  module _ (number : ℕ) (ks : List Key) (lines : List Line) (sessions : SessionMap) (given : Given)
+      (dialogs : ℕ → Dialog) (states : ℕ → State) (all : State)
       (names : list_all (λ line. named (session_of line)) (Keys number ks ∷ lines) ≡ true)
       (are : AreApart sessions given dialogs states all (Keys number ks ∷ lines)) where
     abbrev keys_line : Line
@@ -358,9 +417,10 @@ module _ (files : List (List Row)) (table : List Rule) (typist_of : ℕ → ℕ)
     abbrev typed_behind : Session → Asking
     typed_behind after = prints (output_line number after) (typing table (with_session sessions number after) lines)
 
-    alone-keys : woven table sessions given (keys_line ∷ lines)
+    alone-keys : Alone lines
+        → woven table sessions given (keys_line ∷ lines)
         ≡ printed_alone files all (typing table sessions (keys_line ∷ lines))
-    alone-keys =
+    alone-keys behind =
         ap (λ t. elim t [
           | None ↦ []
           | Some (after, left) ↦
@@ -381,5 +441,155 @@ module _ (files : List (List Row)) (table : List Rule) (typist_of : ℕ → ℕ)
   -- any lines
   pub alone-woven : (lines : List Line) → Alone lines
   alone-woven [] = alone-none
-  alone-woven (Keys number ks ∷ lines) = alone-keys number ks lines (alone-woven lines)
+  alone-woven (Keys number ks ∷ lines) =
+      λ sessions given dialogs states all names are.
+      alone-keys number ks lines sessions given dialogs states all names are (alone-woven lines)
   alone-woven (Opening number typist book ∷ lines) = alone-opened number typist book lines (alone-woven lines)
+
+  -- Lines that one caller plays
+
+  module _ (place : ℕ → ℕ)
+      (places : (number other : ℕ) → named number ≡ true → named other ≡ true → (other == number) ≡ false
+      → (place number == place other) ≡ false) where
+    -- what lines come to where one caller plays them, from sessions on that have the numbers of tasks: entries that the
+    -- dictionary of one thread answers lead to the sessions behind the lines; those with the place of a session are
+    -- what its own caller says; and each session is the one that its own lines end with
+    pub record IsPlayed (sessions : SessionMap) (dialogs : ℕ → Dialog) (all : State) (tasks : Tasks)
+        (lines : List Line) : Type 0 where
+      pub history : List Entry
+      pub behind : SessionMap
+      pub leads : Leads (playing table sessions lines) (said_in_all history) [] (ends behind)
+      pub answered : IsAnsweredAlone files all (said_in_all history)
+      pub says : (number : ℕ) → named number ≡ true → dialog history (place number) ≡ dialogs number
+      pub strangers : (other : ℕ) → ((number : ℕ) → named number ≡ true → (place number == other) ≡ false)
+          → dialog history other ≡ []
+      pub ends_so : (number : ℕ) → named number ≡ true → session_or_new behind number ≡ ended number
+      pub numbers : behind ≡ by_number (session_or_new behind) (fold with_line tasks lines)
+
+    abbrev Played : List Line → Type 0
+    Played lines =
+        (sessions : SessionMap) (given : Given) (dialogs : ℕ → Dialog) (states : ℕ → State) (all : State)
+        (tasks : Tasks)
+        → list_all (λ line. named (session_of line)) lines ≡ true → Ascend tasks
+        → sessions ≡ by_number (session_or_new sessions) tasks
+        → AreApart sessions given dialogs states all lines → IsPlayed sessions dialogs all tasks lines
+
+    played-none : Played []
+    played-none sessions given dialogs states all tasks names ascend is are = record {
+      history = [];
+      behind = sessions;
+      leads = here (ends sessions);
+      answered = tt;
+      says = λ number is_named. sym (ends-led (session_or_new sessions number) (ended number)
+          (are number is_named).leads).0;
+      strangers = λ other none. refl;
+      ends_so = λ number is_named. (ends-led (session_or_new sessions number) (ended number)
+          (are number is_named).leads).1;
+      numbers = is;
+    }
+
+    played-opened : (number typist book : ℕ) (lines : List Line) → Played lines
+        → Played (Opening number typist book ∷ lines)
+    played-opened number typist book lines behind sessions given dialogs states all tasks names ascend is are =
+        let line = Opening number typist book in
+        let session = new_session typist book in
+        let rest = behind (with_session sessions number session) given dialogs states all (with_line tasks line)
+        (and_parts (named number) (list_all (λ l. named (session_of l)) lines) names).1
+        (ascend-put tasks number (lines_at tasks number ++ line ∷ []) ascend)
+        (sessions-put tasks sessions line session ascend is)
+        (opened-next number typist book lines sessions given dialogs states all are) in
+        record {
+          history = rest.history;
+          behind = rest.behind;
+          leads = rest.leads;
+          answered = rest.answered;
+          says = rest.says;
+          strangers = rest.strangers;
+          ends_so = rest.ends_so;
+          numbers = rest.numbers;
+        }
+
+    module _ (number : ℕ) (ks : List Key) (lines : List Line) (sessions : SessionMap) (given : Given)
+        (dialogs : ℕ → Dialog) (states : ℕ → State) (all : State) (tasks : Tasks)
+        (names : list_all (λ line. named (session_of line)) (Keys number ks ∷ lines) ≡ true)
+        (are : AreApart sessions given dialogs states all (Keys number ks ∷ lines)) where
+      abbrev keys_parts : Halves (all_pressed table (session_or_new sessions number) ks)
+          (λ a. own_typing table a (own_lines number lines)) (dialogs number) [] (ended number)
+      keys_parts = parts number ks lines sessions given dialogs states all names are
+
+      -- what the rest of the lines comes to
+      abbrev Rest : Type 0
+      Rest =
+          IsPlayed (with_session sessions number keys_parts.middle) (with_one dialogs number keys_parts.rest)
+          (after_calls all (calls_of keys_parts.first)) (with_line tasks (Keys number ks)) lines
+
+      named_here : named number ≡ true
+      named_here = (and_parts (named number) (list_all (λ l. named (session_of l)) lines) names).0
+
+      -- the entries of the line, and those of the rest
+      abbrev entries : Rest → List Entry
+      entries rest = entries_by (place number) keys_parts.first ++ rest.history
+
+      said_all : (rest : Rest) → said_in_all (entries rest) ≡ keys_parts.first ++ said_in_all rest.history
+      said_all rest = said-entries (place number) keys_parts.first rest.history
+
+      says_so : (rest : Rest) (other : ℕ) → named other ≡ true
+          → dialog (entries rest) (place other) ≡ dialogs other
+      says_so rest other also_named =
+          dialog-entries (place number) (place other) keys_parts.first rest.history
+          ∙ by (other == number) refl (rest.says other also_named)
+        where
+          by : (b : Bool) → (other == number) ≡ b
+              → dialog rest.history (place other) ≡ cond b keys_parts.rest (dialogs other)
+              → cond (place number == place other) keys_parts.first [] ++ dialog rest.history (place other)
+              ≡ dialogs other
+          by true is says =
+              let same : other ≡ number = eqb-true other number is in
+              ap (λ b. cond b keys_parts.first [] ++ dialog rest.history (place other))
+              (eq-eqb (place number) (place other) (ap place (sym same)))
+              ∙ ap (λ d. keys_parts.first ++ d) says ∙ sym keys_parts.is ∙ ap dialogs (sym same)
+          by false is says =
+              ap (λ b. cond b keys_parts.first [] ++ dialog rest.history (place other))
+              (places number other named_here also_named is)
+              ∙ says
+
+      played-keys : Rest → IsPlayed sessions dialogs all tasks (Keys number ks ∷ lines)
+      played-keys rest = record {
+        history = entries rest;
+        behind = rest.behind;
+        leads =
+            subst (λ (d : Dialog). Leads (playing table sessions (Keys number ks ∷ lines)) d [] (ends rest.behind))
+            (sym (said_all rest))
+            (leads-on (led-followed keys_parts.middle
+            (λ session. playing table (with_session sessions number session) lines)
+            (led number ks lines sessions given dialogs states all names are)) rest.leads);
+        answered =
+            subst (IsAnsweredAlone files all) (sym (said_all rest))
+            (alone-joined files all keys_parts.first (said_in_all rest.history)
+            (both number ks lines sessions given dialogs states all names are).0 rest.answered);
+        says = says_so rest;
+        strangers = λ other none.
+            dialog-entries (place number) other keys_parts.first rest.history
+            ∙ ap (λ b. cond b keys_parts.first [] ++ dialog rest.history other) (none number named_here)
+            ∙ rest.strangers other none;
+        ends_so = rest.ends_so;
+        numbers = rest.numbers;
+      }
+
+    -- any lines
+    pub played-apart : (lines : List Line) → Played lines
+    played-apart [] = played-none
+    played-apart (Keys number ks ∷ lines) =
+        λ sessions given dialogs states all tasks names ascend is are.
+        let middle = (parts number ks lines sessions given dialogs states all names are).middle in
+        let first = (parts number ks lines sessions given dialogs states all names are).first in
+        let left = (parts number ks lines sessions given dialogs states all names are).rest in
+        played-keys number ks lines sessions given dialogs states all tasks names are
+        (played-apart lines (with_session sessions number middle) (with_given given number (answers_of left))
+        (with_one dialogs number left) (with_one states number (after_calls (states number) (calls_of first)))
+        (after_calls all (calls_of first)) (with_line tasks (Keys number ks))
+        (and_parts (named number) (list_all (λ l. named (session_of l)) lines) names).1
+        (ascend-put tasks number (lines_at tasks number ++ Keys number ks ∷ []) ascend)
+        (sessions-put tasks sessions (Keys number ks) middle ascend is)
+        (next number ks lines sessions given dialogs states all names are))
+    played-apart (Opening number typist book ∷ lines) = played-opened number typist book lines (played-apart lines)

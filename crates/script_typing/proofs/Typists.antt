@@ -1,19 +1,25 @@
 -- A script whose typists are apart prints what it prints where all calls are answered one after another.
 use Rattle.std.proofs.Common.{◌≡◌, ◌≢◌, ◌∙◌, ap, sym, subst, refl, arith, ℕ, ◌+◌, ◌≤◌, ◌<◌, ◌==◌, Bool, true, false}
-use Rattle.std.proofs.Common.{cond}
+use Rattle.std.proofs.Common.{cond, suc, nat_lt, unwrap_or}
 use Rattle.std.proofs.Common.{◌&&◌, ◌||◌, not, None, Some, List, [], ◌∷◌, length, drop, get_or, map, inl, inr}
 use Rattle.std.proofs.lemmas.Bool.{and_parts, and_from, cases_order, eqb-true, eqb-false, eq-eqb, ne_eqb}
-use Rattle.std.proofs.lemmas.Bool.{not_from_false, not-true}
+use Rattle.std.proofs.lemmas.Bool.{not_from_false, not-true, ltb-true, lt-ltb}
+use Rattle.std.proofs.lemmas.List.Sums.{sum_by-cons}
 use Rattle.std.proofs.lemmas.List.{length-map, get_or-map}
-use Rattle.std.specs.List.{cons_option, list_all}
+use Rattle.std.specs.List.{cons_option, list_all, count_by}
 use Rattle.romaji_rules.specs.declared.rule.Rule.{Rule}
+use Rattle.skk_calls.specs.declared.answer.Answer.{Answer}
 use Rattle.skk_calls.specs.declared.entry.Entry.{Entry}
-use Rattle.skk_calls.specs.Histories.{Opening as opening_value, dialog}
+use Rattle.skk_calls.specs.Histories.{Opening as opening_value, after_entry, dialog, state_after}
+use Rattle.skk_calls.specs.InteractionLaws.{led-end}
 use Rattle.skk_calls.specs.Interactions.{Dialog, Leads, ends, calls_of, IsAnsweredAlone, printed_alone}
 use Rattle.skk_calls.specs.Openings.{is_reply}
+use Rattle.skk_calls.specs.States.{State}
+use Rattle.skk_calls.specs.Tallies.{tally_of, has_answer, tells_learned, tells_restored, lacks_memory, lacks_disk}
+use Rattle.skk_calls.specs.Tallies.{lacks_room}
 use Rattle.dict_laws.specs.OwnBooks.{is_own, is_own_entry, is_apart, gives_own, GivesOwn, AsksOwn}
 use Rattle.dict_laws.specs.OwnBookLaws.{only_followed, own_entries, own_led}
-use Rattle.skk_text.specs.PairsLaws.{list_all-filter}
+use Rattle.skk_text.specs.PairsLaws.{list_all-filter, list_all-weaker}
 use Rattle.skk_text.specs.declared.key.Key.{Key}
 use Rattle.key_scripts.specs.Script.{session_of, own_lines, gives_keys, opens_well, OpenFirst}
 use Rattle.key_scripts.specs.declared.line.Line.{Line}
@@ -22,11 +28,14 @@ use Rattle.session_machine.specs.OwnSessions.{IsOwn}
 use Rattle.session_machine.specs.Pressed.{all_pressed}
 use Rattle.session_machine.specs.Session.{Session, new_session}
 use Rattle.script_typing.specs.Callers.{LeadFrom}
-use Rattle.script_typing.specs.MapLaws.{Ascend}
+use Rattle.script_typing.specs.MapLaws.{Ascend, above-same, by_number}
+use Rattle.script_typing.specs.Playing.{playing, sessions_from, end_alone, history_alone}
+use Rattle.script_typing.specs.PlayingLaws.{entries_by, said_in_all, led-alone}
+use Rattle.script_typing.specs.Sessions.{session_or_new}
 use Rattle.script_typing.specs.Typed.{typing}
 use Rattle.script_typing.specs.Woven.{Tasks, tasks_of, lines_at, own_typing, woven, place_of, answers_by}
 use Rattle.script_typing.specs.Woven.{first_session, is_private, are_apart, differ}
-use Rattle.script_typing.proofs.Apart.{StartsOwn, starts-on, IsApart, alone-woven}
+use Rattle.script_typing.proofs.Apart.{StartsOwn, starts-on, IsApart, alone-woven, IsPlayed, played-apart}
 use Rattle.script_typing.proofs.Places.{number_at, first_at, place-at, number-at, lines-here, lines-there, first-at}
 use Rattle.script_typing.proofs.Places.{are_some, some-placed, all-named, all-at, differ-at}
 use Rattle.script_typing.proofs.Tasks.{ascend-tasks, own-lines_of}
@@ -75,6 +84,50 @@ served-by (entry ∷ history) number served =
         and_from (is_reply entry.answer) (list_all (λ pair. is_reply pair.1) (dialog history number)) first rest
     by false first rest = rest
 
+-- what a history comes to is told by its calls and answers alone
+state-of_one : (state : State) (history : List Entry)
+    → state_after state (entries_by 0 (said_in_all history)) ≡ state_after state history
+state-of_one state [] = refl
+state-of_one state (entry ∷ history) = state-of_one (after_entry state entry) history
+
+answers-of_one : (test : Answer → Bool) (history : List Entry)
+    → count_by (λ (e : Entry). test e.answer) (entries_by 0 (said_in_all history))
+    ≡ count_by (λ (e : Entry). test e.answer) history
+answers-of_one test [] = refl
+answers-of_one test (entry ∷ history) =
+    let weigh : Entry → ℕ = λ e. cond (test e.answer) 1 0 in
+    let one : Entry = record { number = 0; call = entry.call; answer = entry.answer } in
+    sum_by-cons weigh one (entries_by 0 (said_in_all history))
+    ∙ ap (λ n. weigh entry + n) (answers-of_one test history)
+    ∙ sym (sum_by-cons weigh entry history)
+
+any-of_one : (test : Answer → Bool) (history : List Entry)
+    → has_answer test (entries_by 0 (said_in_all history)) ≡ has_answer test history
+any-of_one test [] = refl
+any-of_one test (entry ∷ history) = ap (λ b. test entry.answer || b) (any-of_one test history)
+
+tally-of_one : (state : State) (history : List Entry)
+    → tally_of state (entries_by 0 (said_in_all history)) ≡ tally_of state history
+tally-of_one state history =
+    rw (
+      state-of_one state history,
+      answers-of_one tells_learned history,
+      answers-of_one tells_restored history,
+      any-of_one lacks_memory history,
+      any-of_one lacks_disk history,
+      any-of_one lacks_room history,
+    ) refl
+
+-- what functions that agree at each number of tasks make of them
+made-at : (f g : ℕ → Session) (tasks : Tasks)
+    → ((place : ℕ) → place < length tasks → f (number_at tasks place) ≡ g (number_at tasks place))
+    → by_number f tasks ≡ by_number g tasks
+made-at f g [] same = refl
+made-at f g (task ∷ tasks) same =
+    ap (λ v. (task.0, v) ∷ by_number f tasks) (same 0 (omega arith))
+    ∙ ap (λ es. (task.0, g task.0) ∷ es)
+    (made-at f g tasks (λ place within. same (suc place) (omega (arith, within))))
+
 -- Ends of tasks
 
 module _ (table : List Rule) (said : ℕ → Dialog) where
@@ -115,6 +168,22 @@ module _ (table : List Rule) (said : ℕ → Dialog) where
           (subst (λ (ls : List Line). Leads (own_typing table (new_session number number) ls)
           (said (place + 1 + place_of tasks number)) [] (ends (end_at (place + 1) tasks leads.1 number)))
           (sym (lines-there task tasks number is)) (rest (omega (arith, within_all))))
+
+-- the sessions behind the tasks are those that their lines lead to
+sessions-led : (table : List Rule) (said : ℕ → Dialog) (place : ℕ) (tasks : Tasks)
+    (leads : LeadFrom table said place tasks) → Ascend tasks
+    → sessions_from table said place tasks ≡ by_number (end_at table said place tasks leads) tasks
+sessions-led table said place [] leads ascend = refl
+sessions-led table said place (task ∷ tasks) leads ascend =
+    ap (λ o. (task.0, unwrap_or o (new_session task.0 task.0)) ∷ sessions_from table said (place + 1) tasks)
+    (led-end leads.0.1)
+    ∙ ap (λ b. (task.0, cond b leads.0.0 (end_at table said (place + 1) tasks leads.1 task.0))
+    ∷ sessions_from table said (place + 1) tasks) (sym (eq-eqb task.0 task.0 refl))
+    ∙ ap (λ es. (task.0, end_at table said place (task ∷ tasks) leads task.0) ∷ es)
+    (sessions-led table said (place + 1) tasks leads.1 ascend.1
+    ∙ above-same (end_at table said (place + 1) tasks leads.1) (end_at table said place (task ∷ tasks) leads) task.0
+    (λ other differ. ap (λ b. cond b leads.0.0 (end_at table said (place + 1) tasks leads.1 other))
+    (ne_eqb task.0 other (λ same. eqb-false other task.0 differ (sym same)))) tasks ascend.0)
 
 module _ (table : List Rule)
     (new_own : (typist : ℕ) → IsOwn typist (new_session typist typist))
@@ -295,14 +364,49 @@ module _ (table : List Rule)
         answered_alone typist_at place (own_entries typist_at history own-at) (apart-from place within)
         (served-by history place served)
 
+    -- a session is named where it has a place
     abbrev named : ℕ → Bool
-    named number = are_some (own_lines number lines)
+    named number = nat_lt (place_of tasks number) (length tasks)
 
     placed : (number : ℕ) → named number ≡ true → place_of tasks number < length tasks
-    placed number is = some-placed tasks number (ap are_some (sym (own-lines_of lines number)) ∙ is)
+    placed number is = ltb-true (place_of tasks number) (length tasks) is
+
+    names : list_all (λ line. named (session_of line)) lines ≡ true
+    names =
+        list_all-weaker (λ line. are_some (own_lines (session_of line) lines)) (λ line. named (session_of line))
+        (λ line some. lt-ltb (place_of tasks (session_of line)) (length tasks)
+        (some-placed tasks (session_of line) (ap are_some (sym (own-lines_of lines (session_of line))) ∙ some)))
+        lines (all-named [] lines)
 
     abbrev typist_of : ℕ → ℕ
     typist_of number = typist_at (place_of tasks number)
+
+    -- sessions that are named and differ have places that differ
+    places-differ : (number other : ℕ) → named number ≡ true → named other ≡ true → (other == number) ≡ false
+        → place_of tasks number ≢ place_of tasks other
+    places-differ number other is also differ_is same =
+        eqb-false other number differ_is
+        (sym (number-at tasks other (placed other also)) ∙ ap (number_at tasks) (sym same)
+        ∙ number-at tasks number (placed number is))
+
+    apart-named : (number other : ℕ) → named number ≡ true → named other ≡ true → (other == number) ≡ false
+        → (typist_of number == typist_of other) ≡ false
+    apart-named number other is also differ_is =
+        differs (place_of tasks other) (place_of tasks number) (placed other also) (placed number is)
+        (λ same. places-differ number other is also differ_is (sym same))
+
+    known : (number : ℕ) → named number ≡ true
+        → IsApart opening.files table typist_of named apart-named
+        (λ n is. not-shared (place_of tasks n) (placed n is)) new_own keys_own ended number
+        (new_session number number) (own_lines number lines) (answers_by (dialog history) tasks number)
+        (dialog history (place_of tasks number)) opening.state opening.state
+    known number is = record {
+      given = refl;
+      leads = leads-at number (placed number is);
+      answered = alone-at (place_of tasks number) (placed number is);
+      alike = (refl, refl, refl);
+      starts = starts-at number (placed number is);
+    }
 
     pub typists-apart : woven table [] (answers_by (dialog history) tasks) lines
         ≡ printed_alone opening.files opening.state (typing table [] lines)
@@ -310,25 +414,88 @@ module _ (table : List Rule)
         alone-woven opening.files table typist_of named apart-named
         (λ number is. not-shared (place_of tasks number) (placed number is)) new_own keys_own ended lines []
         (answers_by (dialog history) tasks) (λ number. dialog history (place_of tasks number))
-        (λ number. opening.state) opening.state (all-named [] lines) known
-      where
-        apart-named : (number other : ℕ) → named number ≡ true → named other ≡ true → (other == number) ≡ false
-            → (typist_of number == typist_of other) ≡ false
-        apart-named number other is also differ_is =
-            differs (place_of tasks other) (place_of tasks number) (placed other also) (placed number is)
-            (λ same. eqb-false other number differ_is
-            (sym (number-at tasks other (placed other also)) ∙ ap (number_at tasks) same
-            ∙ number-at tasks number (placed number is)))
+        (λ number. opening.state) opening.state names known
 
-        known : (number : ℕ) → named number ≡ true
-            → IsApart opening.files table typist_of named apart-named
-            (λ n is. not-shared (place_of tasks n) (placed n is)) new_own keys_own ended number
-            (new_session number number) (own_lines number lines) (answers_by (dialog history) tasks number)
-            (dialog history (place_of tasks number)) opening.state opening.state
-        known number is = record {
-          given = refl;
-          leads = leads-at number (placed number is);
-          answered = alone-at (place_of tasks number) (placed number is);
-          alike = (refl, refl, refl);
-          starts = starts-at number (placed number is);
-        }
+    -- Where one caller plays the lines
+
+    places-apart : (number other : ℕ) → named number ≡ true → named other ≡ true → (other == number) ≡ false
+        → (place_of tasks number == place_of tasks other) ≡ false
+    places-apart number other is also differ_is =
+        ne_eqb (place_of tasks number) (place_of tasks other) (places-differ number other is also differ_is)
+
+    played : IsPlayed opening.files table typist_of named apart-named
+        (λ n is. not-shared (place_of tasks n) (placed n is)) new_own keys_own ended (place_of tasks) places-apart []
+        (λ number. dialog history (place_of tasks number)) opening.state [] lines
+    played =
+        played-apart opening.files table typist_of named apart-named
+        (λ n is. not-shared (place_of tasks n) (placed n is)) new_own keys_own ended (place_of tasks) places-apart
+        lines [] (answers_by (dialog history) tasks) (λ number. dialog history (place_of tasks number))
+        (λ number. opening.state) opening.state [] names tt refl known
+
+    -- the number at a place is named
+    named-at : (place : ℕ) → place < length tasks → named (number_at tasks place) ≡ true
+    named-at place within =
+        lt-ltb (place_of tasks (number_at tasks place)) (length tasks)
+        (omega (arith, within, place-at tasks place ascend within))
+
+    -- each caller says the same in the history of one
+    said-same : (place : ℕ) → dialog played.history place ≡ dialog history place
+    said-same place =
+        elim (cases_order place (length tasks)) [
+          | inl same ↦ beyond (omega (arith, same))
+          | inr (inl less) ↦
+              subst (λ p. dialog played.history p ≡ dialog history p) (place-at tasks place ascend less)
+              (played.says (number_at tasks place) (named-at place less))
+          | inr (inr more) ↦ beyond (omega (arith, more))
+        ]
+      where
+        beyond : length tasks ≤ place → dialog played.history place ≡ dialog history place
+        beyond behind =
+            played.strangers place (λ number is. ne_eqb (place_of tasks number) place
+            (λ same. omega (arith, behind, same, placed number is)))
+            ∙ sym (strangers place behind)
+
+    -- callers that have said something have typists that differ
+    callers-differ : (first second : ℕ) → dialog history first ≢ [] → dialog history second ≢ []
+        → typist_at first ≡ typist_at second → first ≡ second
+    callers-differ first second some also same =
+        elim (cases_order first (length tasks)) [
+          | inl is ↦ absurd (some (strangers first (omega (arith, is))))
+          | inr (inl less) ↦ elim (cases_order second (length tasks)) [
+            | inl is ↦ absurd (also (strangers second (omega (arith, is))))
+            | inr (inl too) ↦ by (first == second) refl less too
+            | inr (inr more) ↦ absurd (also (strangers second (omega (arith, more))))
+          ]
+          | inr (inr more) ↦ absurd (some (strangers first (omega (arith, more))))
+        ]
+      where
+        by : (b : Bool) → (first == second) ≡ b → first < length tasks → second < length tasks → first ≡ second
+        by true is less too = eqb-true first second is
+        by false is less too =
+            absurd (cc (sym (differs second first too less (λ places. eqb-false first second is (sym places)))
+            ∙ eq-eqb (typist_at first) (typist_at second) same))
+
+    -- the sessions behind the lines are those that the callers' own lines end with
+    sessions-played : sessions_from table (dialog history) 0 tasks ≡ played.behind
+    sessions-played =
+        sessions-led table (dialog history) 0 tasks leads ascend
+        ∙ sym (played.numbers ∙ made-at (session_or_new played.behind) ended tasks
+        (λ place within. played.ends_so (number_at tasks place) (named-at place within)))
+
+    pub typists-play : ((typist_at' : ℕ → ℕ) (other : List Entry)
+        → ((number : ℕ) → dialog other number ≡ dialog history number)
+        → list_all (is_own_entry typist_at') history ≡ true
+        → ((first second : ℕ) → dialog history first ≢ [] → dialog history second ≢ []
+        → typist_at' first ≡ typist_at' second → first ≡ second)
+        → tally_of opening.state other ≡ tally_of opening.state history)
+        → (sessions_from table (dialog history) 0 tasks
+        ≡ end_alone opening.files opening.state (playing table [] lines))
+        × (tally_of opening.state history
+        ≡ tally_of opening.state (history_alone opening.files opening.state (playing table [] lines)))
+    typists-play one_tally =
+        let alone = led-alone played.behind opening.files opening.state played.leads played.answered in (
+          sessions-played ∙ sym alone.1,
+          sym (one_tally typist_at played.history said-same (own_entries typist_at history own-at) callers-differ)
+              ∙ sym (tally-of_one opening.state played.history)
+              ∙ ap (tally_of opening.state) (sym alone.0),
+        )

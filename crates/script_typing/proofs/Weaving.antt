@@ -89,7 +89,7 @@ session-others sessions number session other differ =
     ap (λ s. unwrap_or s (new_session other other)) (there-others sessions number session other differ)
 
 -- sessions by number with one put into its place
-sessions-put : (tasks : Tasks) (sessions : SessionMap) (line : Line) (session : Session) → Ascend tasks
+pub sessions-put : (tasks : Tasks) (sessions : SessionMap) (line : Line) (session : Session) → Ascend tasks
     → sessions ≡ by_number (session_or_new sessions) tasks
     → with_session sessions (session_of line) session
     ≡ by_number (session_or_new (with_session sessions (session_of line) session)) (with_line tasks line)

@@ -1,6 +1,8 @@
 pub mod Callers
 pub mod MapLaws
 pub mod Pages
+pub mod Playing
+pub mod PlayingLaws
 pub mod Printing
 pub mod Sessions
 pub mod Typed

@@ -266,7 +266,7 @@ by_number f entries = map (λ entry. (entry.0, f entry.0)) entries
 module _ {A B : Type 0} (f g : ℕ → B) (number : ℕ) (same : (other : ℕ) → (other == number) ≡ false → g other ≡ f other)
   where
     -- what is above a number is made the same
-    above-same : (entries : List (ℕ × A)) → AreAbove number entries → by_number f entries ≡ by_number g entries
+    pub above-same : (entries : List (ℕ × A)) → AreAbove number entries → by_number f entries ≡ by_number g entries
     above-same [] above = refl
     above-same (entry ∷ entries) above =
         let differ : (entry.0 == number) ≡ false = grind (arith, above.0) in

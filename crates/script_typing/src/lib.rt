@@ -17,7 +17,10 @@ mod worker;
 mod working;
 
 pub use cutting::{Cut, cut_lines, cut_script};
-pub use laws::{callers_have_asked, callers_have_ended, pages_are_woven, typists_apart_type_alone};
+pub use laws::{
+    callers_have_asked, callers_have_ended, pages_are_woven, sessions_of_their_own_are_apart,
+    typists_apart_play_alone, typists_apart_type_alone,
+};
 pub use office::type_tasks;
 pub use pages::Pages;
 pub use printing::{push_closing_line, push_number, push_output_line};

@@ -4,6 +4,7 @@ mod CheckExamples
 pub mod Dictionaries
 mod Examples
 pub mod KeyLines
+mod LoadExamples
 pub mod LoadInput
 pub mod Loads
 pub mod Pages

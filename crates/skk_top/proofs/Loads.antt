@@ -1,39 +1,36 @@
 -- What the playing of a load's lines leaves, of what its parts leave.
-use Rattle.std.proofs.Common.{◌≡◌, ◌≤◌, ◌+◌, ◌∙◌, ap, ap₂, sym, subst, refl, rules, ℕ, true, ◌==◌}
-use Rattle.std.proofs.Common.{unwrap_or, Option, IsSome}
+use Rattle.std.proofs.Common.{◌≡◌, ◌≤◌, ◌+◌, ◌∙◌, ap, ap₂, sym, subst, refl, rules, ℕ, Bool, true, false, cond, ◌==◌}
+use Rattle.std.proofs.Common.{unwrap_or, Option, None, IsSome}
 use Rattle.std.proofs.Common.{Some, Result, Ok, Err, OnOk, OnErr, List, [], ◌∷◌, ◌++◌, min, encode_utf8_all, arith}
 use Rattle.std.proofs.lemmas.Bool.{and_parts, eqb-true}
 use Rattle.std.proofs.lemmas.List.Sums.{sum_by-cons}
 use Rattle.std.proofs.lemmas.Result.{on_ok_weaker}
 use Rattle.std.specs.Io.KnownBytes.{Appends, Keeps}
-use Rattle.std.specs.List.{list_all, sum_by}
+use Rattle.std.specs.List.{cons_option, list_all, sum_by}
 use Rattle.skk_outside.specs.Moved.{MovedSink}
 use Rattle.romaji_rules.specs.Standard.{standard}
 use Rattle.skk_text.specs.Counts.{last_count}
 use Rattle.skk_text.specs.Text.{byte_len}
 use Rattle.skk_text.specs.declared.memory.Memory.{Memory as no_memory}
-use Rattle.skk_calls.specs.declared.answer.Answer.{Answer}
-use Rattle.skk_calls.specs.declared.answer.Answer.TheVariants.{Done}
-use Rattle.skk_calls.specs.declared.call.Call.{Call}
 use Rattle.skk_calls.specs.declared.chronicle.Noted.{Noted}
 use Rattle.skk_calls.specs.declared.entry.Entry.{Entry}
 use Rattle.skk_calls.specs.Chronicles.{history_of}
-use Rattle.skk_calls.specs.Dictionary.{answer, after}
+use Rattle.skk_calls.specs.Dictionary.{after}
 use Rattle.skk_calls.specs.Histories.{Opening, dialog}
 use Rattle.skk_calls.specs.InteractionLaws.{led-end}
-use Rattle.skk_calls.specs.Interactions.{Interaction, ends, Dialog, Leads, here, asking, printing}
-use Rattle.skk_calls.specs.Interactions.{answers_of, asked, calls_of, end_of, IsAnsweredAlone}
+use Rattle.skk_calls.specs.Interactions.{Interaction, ends, Dialog, Leads}
+use Rattle.skk_calls.specs.Interactions.{answers_of, asked, calls_of, end_of}
 use Rattle.skk_calls.specs.Openings.{IsLegalOver, said_in, are_of_one, are_served}
-use Rattle.skk_calls.specs.Rows.{Row}
-use Rattle.skk_calls.specs.States.{State}
 use Rattle.skk_calls.specs.Tallies.{Tally, tally_of}
 use Rattle.session_machine.specs.Session.{Session, text_of}
+use Rattle.script_typing.specs.Playing.{playing, sessions_behind}
+use Rattle.script_typing.specs.PlayingLaws.{entries_by, led-alone}
 use Rattle.script_typing.specs.Sessions.{SessionMap}
 use Rattle.command_line.specs.declared.command.LoadOptions.{LoadOptions}
 use Rattle.skk_top.specs.Disks.{DiskNow, KeepsDisk}
 use Rattle.skk_top.specs.LoadCommand.{load_lines, loaded_from, number_line, summed, LoadsLines}
 use Rattle.skk_top.specs.Page.{LeavesPrinted, StopsPrinting}
-use Rattle.skk_top.specs.Playing.{playing, sessions_behind, end_alone, history_alone, PlaysLines}
+use Rattle.skk_top.specs.Playing.{PlaysLines}
 use Rattle.skk_top.specs.Status.{Ended, ended_by}
 use Rattle.skk_top.specs.declared.fault.RunFault.TheVariants.{Memory}
 use Rattle.skk_top.proofs.PrintedChecks.{more}
@@ -85,50 +82,23 @@ five-pushed page first second third fourth fifth a b c d e is-a is-b is-c is-d i
 
 -- Where the dictionary of one thread answers
 
--- an entry by its parts
-entry-is : (number number' : ℕ) (call call' : Call) (given given' : Answer) → number ≡ number' → call ≡ call'
-    → given ≡ given'
-    → ◌≡◌ {A = Entry} (record { number = number; call = call; answer = given })
-    (record { number = number'; call = call'; answer = given' })
-entry-is number number' call call' given given' numbers calls givens =
-    ap (λ n. record { number = n; call = call; answer = given }) numbers
-    ∙ ap (λ k. record { number = number'; call = k; answer = given }) calls
-    ∙ ap (λ g. record { number = number'; call = call'; answer = g }) givens
+-- a history of the caller with the number 0 has the entries of what that says
+of-one : (history : List Entry) → list_all (λ entry. entry.number == 0) history ≡ true
+    → history ≡ entries_by 0 (dialog history 0)
+of-one [] one = refl
+of-one (entry ∷ history) one = by (entry.number == 0) refl (of-one history ones.1)
+  where
+    ones : ((entry.number == 0) ≡ true) × (list_all (λ other. other.number == 0) history ≡ true)
+    ones = and_parts (entry.number == 0) (list_all (λ other. other.number == 0) history) one
 
--- the first entry of the one caller is the first that it says
-dialog-first : (entry : Entry) (history : List Entry) → (entry.number == 0) ≡ true
-    → dialog (entry ∷ history) 0 ≡ (entry.call, entry.answer) ∷ dialog history 0
-dialog-first entry history one = rw one refl
-
--- the history of one caller whose calls the dictionary of one thread answers is the one that this gives, and so is the
--- value of its end
-pub alone-history : {S : Type 0} {from : Interaction S} {said : Dialog} {text : List ℕ} (value : S)
-    (files : List (List Row)) (state : State) (history : List Entry) → Leads from said text (ends value)
-    → said ≡ dialog history 0 → list_all (λ entry. entry.number == 0) history ≡ true → IsAnsweredAlone files state said
-    → (history ≡ history_alone files state from) × (value ≡ end_alone files state from)
-alone-history value files state [] (here _) is one alone = (refl, refl)
-alone-history value files state (entry ∷ history) (here _) is one alone =
-    let ones = and_parts (entry.number == 0) (list_all (λ other. other.number == 0) history) one in
-    let first = dialog-first entry history ones.0 in
-    absurd (cc (is ∙ first))
-alone-history value files state [] (asking call next given said text to way) is one alone = absurd (cc is)
-alone-history value files state (entry ∷ history) (asking call next given said text to way) is one alone =
-    let ones = and_parts (entry.number == 0) (list_all (λ other. other.number == 0) history) one in
-    let both : (call, given) ∷ said ≡ (entry.call, entry.answer) ∷ dialog history 0 =
-    is ∙ dialog-first entry history ones.0 in
-    let head : ◌≡◌ {A = Call × Answer} (call, given) (entry.call, entry.answer) = cc in
-    let calls : entry.call ≡ call = ap (λ (p : Call × Answer). p.0) (sym head) in
-    let givens : entry.answer ≡ given = ap (λ (p : Call × Answer). p.1) (sym head) in
-    let rest_is : said ≡ dialog history 0 = cc in
-    let rest = alone-history value files (after state call) history way rest_is ones.1 alone.1 in (
-      ap (λ h. entry ∷ h) (rest.0 ∙ ap (λ g. history_alone files (after state call) (next g)) alone.0)
-          ∙ ap (λ e. e ∷ history_alone files (after state call) (next (Done (answer files state call))))
-          (entry-is entry.number 0 entry.call call entry.answer (Done (answer files state call))
-          (eqb-true entry.number 0 ones.0) calls (givens ∙ alone.0)),
-      rest.1 ∙ ap (λ g. end_alone files (after state call) (next g)) alone.0,
-    )
-alone-history value files state history (printing first rest said text to way) is one alone =
-    alone-history value files state history way is one alone
+    by : (b : Bool) → (entry.number == 0) ≡ b → history ≡ entries_by 0 (dialog history 0)
+        → entry ∷ history
+        ≡ entries_by 0 (cons_option (cond b (Some (entry.call, entry.answer)) None) (dialog history 0))
+    by true own rest =
+        ap (λ n. record { number = n; call = entry.call; answer = entry.answer } ∷ history)
+        (eqb-true entry.number 0 ones.0)
+        ∙ ap (λ h. record { number = 0; call = entry.call; answer = entry.answer } ∷ h) rest
+    by false differs rest = absurd (cc (sym ones.0 ∙ differs))
 
 -- What is left
 
@@ -188,11 +158,11 @@ module _ {D : Type 0} (options : LoadOptions) (opening : Opening) (chronicle : L
           → encode_utf8_all (summed options tally sessions) ≡ loaded_from opening.files opening.state options
       same all =
           let both =
-          alone-history sessions opening.files opening.state (history_of chronicle) leads refl one
+          led-alone sessions opening.files opening.state leads
           (answered_alone opening (history_of chronicle) legal.1 all one) in
           ap (λ (t : Tally). encode_utf8_all (summed options t sessions)) counts
           ∙ ap₂ (λ (h : List Entry) (s : SessionMap). encode_utf8_all (summed options (tally_of opening.state h) s))
-          both.0 both.1
+          (of-one (history_of chronicle) one ∙ sym both.0) (sym both.1)
 
       alone : (ended : Ended) → LeavesPrinted (encode_utf8_all (summed options tally sessions)) ended out
           → OnOk (ended_by ended (tally_of opening.state (history_of chronicle)))

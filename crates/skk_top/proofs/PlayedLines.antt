@@ -1,5 +1,5 @@
 -- What the playing of lines comes to, of what their sessions come to.
-use Rattle.std.proofs.Common.{◌≡◌, ◌∙◌, ◌<◌, ◌+◌, ap, sym, subst, refl, rules, ℕ, Result, Ok, Err, IsErrAnd, List, []}
+use Rattle.std.proofs.Common.{◌≡◌, ◌∙◌, ◌<◌, ◌+◌, ap, sym, subst, rules, ℕ, Result, Ok, Err, IsErrAnd, List, []}
 use Rattle.std.proofs.Common.{◌∷◌, ◌++◌, append_assoc, length, drop, get_or}
 use Rattle.std.proofs.lemmas.List.{append-nil}
 use Rattle.romaji_rules.specs.declared.rule.Rule.{Rule}
@@ -7,12 +7,13 @@ use Rattle.skk_text.specs.declared.key.Key.{Key}
 use Rattle.skk_text.specs.declared.memory.Memory.{Memory}
 use Rattle.skk_calls.specs.InteractionLaws.{begins-followed, begins-leads, comes-begins, comes-followed, leads-on}
 use Rattle.skk_calls.specs.InteractionLaws.{led-asked}
-use Rattle.skk_calls.specs.Interactions.{Interaction, ends, Dialog, Leads, here}
+use Rattle.skk_calls.specs.Interactions.{Interaction, Dialog, Leads, here}
 use Rattle.session_machine.specs.Pressed.{all_pressed}
 use Rattle.session_machine.specs.Said.{Says, Spoken}
 use Rattle.session_machine.specs.Session.{Session, new_session}
+use Rattle.script_typing.specs.Playing.{playing}
 use Rattle.script_typing.specs.Sessions.{SessionMap, session_or_new, with_session}
-use Rattle.skk_top.specs.Playing.{Played, played, playing, PlaysLine, PlaysLines, LeadsTo}
+use Rattle.skk_top.specs.Playing.{Played, played, PlaysLine, PlaysLines, LeadsTo}
 use Rattle.key_scripts.specs.declared.line.Line.{Line}
 use Rattle.key_scripts.specs.declared.line.Line.TheVariants.{Keys, Opening}
 use Rattle.skk_top.proofs.Typed.{at-line}

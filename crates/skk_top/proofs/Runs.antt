@@ -1,5 +1,5 @@
 -- What runs leave, of what their parts leave.
-use Rattle.std.proofs.Common.{◌≡◌, sym, ap, subst, refl, rules, ℕ, Option, Some, None, List, []}
+use Rattle.std.proofs.Common.{◌≡◌, sym, ap, subst, refl, rules, ℕ, Some, None, List, []}
 use Rattle.std.proofs.Common.{Ok, Err, OnOk, IfSome, true, encode_utf8_all, arith}
 use Rattle.std.specs.Io.KnownBytes.{Appends, Keeps}
 use Rattle.std.proofs.KnownBytes.{Consumes-nil}

@@ -3,7 +3,8 @@ use Rattle.std.proofs.Common.{◌≡◌, ◌≤◌, ◌+◌, ◌∙◌, ap, ap�
 use Rattle.std.proofs.Common.{Option, Some}
 use Rattle.std.proofs.Common.{Result, Ok, Err, IfOk, OnOk, OnErr, List, [], ◌∷◌, length, map, encode_utf8_all, arith}
 use Rattle.std.proofs.lemmas.List.{length-map}
-use Rattle.std.specs.Io.KnownBytes.{Keeps}
+use Rattle.std.proofs.lemmas.Result.{on_ok_weaker}
+use Rattle.std.specs.Io.KnownBytes.{Appends, Keeps}
 use Rattle.skk_outside.specs.Moved.{MovedSink}
 use Rattle.romaji_rules.specs.Standard.{standard}
 use Rattle.romaji_rules.specs.declared.rule.Rule.{Rule}
@@ -18,15 +19,15 @@ use Rattle.skk_calls.specs.Tallies.{Tally, tally_of}
 use Rattle.session_machine.specs.Session.{Session, new_session}
 use Rattle.script_typing.specs.Callers.{AreCallers, AskFrom, CountFrom, EndFrom, LeadFrom}
 use Rattle.script_typing.specs.Pages.{PageMap}
+use Rattle.script_typing.specs.Playing.{playing, sessions_from, end_alone, history_alone}
 use Rattle.script_typing.specs.Sessions.{SessionMap}
 use Rattle.script_typing.specs.Woven.{Tasks, task_typing, tasks_of}
 use Rattle.script_typing.specs.Workers.{AreDone, WorkedBy}
 use Rattle.script_typing.specs.declared.typed.Typed.{Typed}
 use Rattle.command_line.specs.declared.command.LoadOptions.{LoadOptions}
 use Rattle.skk_top.specs.Disks.{DiskNow, KeepsDisk}
-use Rattle.skk_top.specs.LoadCommand.{load_lines, summed, LoadsTasks}
+use Rattle.skk_top.specs.LoadCommand.{load_lines, loaded_from, summed, LoadsTasks}
 use Rattle.skk_top.specs.Page.{LeavesPrinted, StopsPrinting}
-use Rattle.skk_top.specs.Playing.{sessions_from}
 use Rattle.skk_top.specs.Status.{Ended, ended_by}
 use Rattle.skk_top.specs.declared.fault.RunFault.TheVariants.{Memory}
 use Rattle.skk_top.proofs.Served.{where_done}
@@ -62,6 +63,17 @@ module _ {D : Type 0} (options : LoadOptions) (opening : Opening) (chronicle : L
   Left ended =
       LoadsTasks options opening (record { ended = ended_by ended tally; chronicle = chronicle; disk = left }) out disk
 
+  -- each of the callers has said all that its task asks, and none was refused: what that comes to is what it comes to
+  -- where the dictionary of one thread answers one caller
+  abbrev PlaysAlone : Type 0
+  PlaysAlone =
+      let lines = playing standard [] (load_lines options) in
+      ((number : ℕ) → length tasks ≤ number → said number ≡ []) → are_served chronicle ≡ true
+      → LeadFrom standard said 0 tasks
+      → (sessions_from standard said 0 tasks ≡ end_alone opening.files opening.state lines)
+      × (tally_of opening.state (history_of chronicle)
+      ≡ tally_of opening.state (history_alone opening.files opening.state lines))
+
   served : (ended : Ended) → OnOk (ended_by ended tally) (are_served chronicle ≡ true)
   served ended = subst (λ (t : Tally). OnOk (ended_by ended t) (are_served chronicle ≡ true)) (sym counts) (by ended)
     where
@@ -71,68 +83,93 @@ module _ {D : Type 0} (options : LoadOptions) (opening : Opening) (chronicle : L
       by (Err fault) = tt
 
   module _ (asks : AskFrom standard said 0 tasks) (strangers : (number : ℕ) → length tasks ≤ number → said number ≡ [])
-    where
-      -- tasks that were done whole, of which the summary was printed
-      shared-whole : (ended : Ended) (pages : PageMap) (sessions : SessionMap)
-          → AreDone standard true tasks dialogs pages sessions → EndFrom standard said 0 tasks
-          → LeavesPrinted (encode_utf8_all (summed options tally sessions)) ended out → Left ended
-      shared-whole ended pages sessions done all prints = record {
-        ended = ended;
-        ends = ap (ended_by ended) counts;
-        chronicle = record { legal = legal; asks = asks; strangers = strangers };
-        kept = keeps;
-        taken = always ended all;
-        prints = subst (λ (t : Tally). LeavesPrinted (encode_utf8_all (summed options t
-            (sessions_from standard said 0 tasks))) ended out) counts
-            (subst (λ (s : SessionMap). LeavesPrinted (encode_utf8_all (summed options tally s)) ended out)
-            (sym (sessions-done standard said 0 tasks numbers pages sessions callers.counted
-            (subst (λ (ds : List Dialog). AreDone standard true tasks ds pages sessions) callers.said_by done)))
-            prints);
-        served = served ended;
-      }
+      (plays_alone : PlaysAlone) where
+    -- tasks that were done whole, of which the summary was printed
+    shared-whole : (ended : Ended) (pages : PageMap) (sessions : SessionMap)
+        → AreDone standard true tasks dialogs pages sessions
+        → LeadFrom standard said 0 tasks × EndFrom standard said 0 tasks
+        → LeavesPrinted (encode_utf8_all (summed options tally sessions)) ended out → Left ended
+    shared-whole ended pages sessions done all prints = record {
+      ended = ended;
+      ends = ap (ended_by ended) counts;
+      chronicle = record { legal = legal; asks = asks; strangers = strangers };
+      kept = keeps;
+      taken = always ended all.1;
+      prints = subst (λ (t : Tally). LeavesPrinted (encode_utf8_all (summed options t
+          (sessions_from standard said 0 tasks))) ended out) counts
+          (subst (λ (s : SessionMap). LeavesPrinted (encode_utf8_all (summed options tally s)) ended out)
+          (sym done_so) prints);
+      served = served ended;
+      alone = subst (λ (t : Tally). OnOk (ended_by ended t)
+          (Appends out.written out.written' (loaded_from opening.files opening.state options))) (sym counts)
+          (alone ended prints);
+    }
+      where
+        done_so : sessions_from standard said 0 tasks ≡ sessions
+        done_so =
+            sessions-done standard said 0 tasks numbers pages sessions callers.counted
+            (subst (λ (ds : List Dialog). AreDone standard true tasks ds pages sessions) callers.said_by done)
 
-      -- tasks for which memory was out, of which nothing was printed
-      shared-cut : (ended : Ended) → ended ≡ Err Memory → Keeps out.written out.written' → out.faults ≤ out.faults'
-          → Left ended
-      shared-cut (Ok done) is unwritten counted = absurd (cc is)
-      shared-cut (Err fault) is unwritten counted =
-          let text = encode_utf8_all (summed options (tally_of opening.state (history_of chronicle))
-          (sessions_from standard said 0 tasks)) in
-          let memory : fault ≡ Memory = cc is in
-          record {
-            ended = Err fault;
-            ends = refl;
-            chronicle = record { legal = legal; asks = asks; strangers = strangers };
-            kept = keeps;
-            taken = tt;
-            prints = record {
-              whole = tt;
-              prefix = ([], (text, refl), keeps-appends out.written out.written' unwritten);
-              stopped = subst (StopsPrinting out) (sym memory) tt;
-              counted = counted;
-            };
-            served = tt;
-          }
+        -- what was printed is also what is printed where the dictionary of one thread answers
+        same : are_served chronicle ≡ true
+            → encode_utf8_all (summed options tally sessions) ≡ loaded_from opening.files opening.state options
+        same no_refusal =
+            let both = plays_alone strangers no_refusal all.0 in
+            ap₂ (λ (t : Tally) (s : SessionMap). encode_utf8_all (summed options t s)) (counts ∙ both.1)
+            (sym done_so ∙ both.0)
 
-      -- by how the work ended
-      shared-by : (typed : Result Typed no_memory) (ended : Ended)
-          → IfOk typed (λ t. AreDone standard t.whole tasks dialogs t.pages.entries t.sessions.entries)
-          → IfOk typed (λ t. t.whole ≡ true
-          → LeavesPrinted (encode_utf8_all (summed options tally t.sessions.entries)) ended out)
-          → IfOk typed (λ t. t.whole ≡ false → (ended ≡ Err Memory) × Keeps out.written out.written')
-          → OnErr typed ((ended ≡ Err Memory) × Keeps out.written out.written') → out.faults ≤ out.faults'
-          → ((pages : PageMap) (sessions : SessionMap) → AreDone standard true tasks dialogs pages sessions
-          → LeadFrom standard said 0 tasks × EndFrom standard said 0 tasks)
-          → Left ended
-      shared-by (Err lost) ended done whole cut none counted end_law = shared-cut ended none.0 none.1 counted
-      shared-by (Ok typed) ended done whole cut none counted end_law = by typed.whole refl done
-        where
-          by : (b : Bool) → typed.whole ≡ b
-              → AreDone standard b tasks dialogs typed.pages.entries typed.sessions.entries → Left ended
-          by true is all =
-              shared-whole ended typed.pages.entries typed.sessions.entries all
-              (end_law typed.pages.entries typed.sessions.entries all).1 (whole is)
-          by false is all = let lost = cut is in shared-cut ended lost.0 lost.1 counted
+        alone : (ended : Ended) → LeavesPrinted (encode_utf8_all (summed options tally sessions)) ended out
+            → OnOk (ended_by ended (tally_of opening.state (history_of chronicle)))
+            (Appends out.written out.written' (loaded_from opening.files opening.state options))
+        alone (Ok done) prints =
+            on_ok_weaker (ended_by (Ok done) (tally_of opening.state (history_of chronicle)))
+            (λ no_refusal. subst (Appends out.written out.written') (same no_refusal) prints.whole)
+            (where_done (history_of chronicle) opening.state)
+        alone (Err fault) prints = tt
+
+    -- tasks for which memory was out, of which nothing was printed
+    shared-cut : (ended : Ended) → ended ≡ Err Memory → Keeps out.written out.written' → out.faults ≤ out.faults'
+        → Left ended
+    shared-cut (Ok done) is unwritten counted = absurd (cc is)
+    shared-cut (Err fault) is unwritten counted =
+        let text = encode_utf8_all (summed options (tally_of opening.state (history_of chronicle))
+        (sessions_from standard said 0 tasks)) in
+        let memory : fault ≡ Memory = cc is in
+        record {
+          ended = Err fault;
+          ends = refl;
+          chronicle = record { legal = legal; asks = asks; strangers = strangers };
+          kept = keeps;
+          taken = tt;
+          prints = record {
+            whole = tt;
+            prefix = ([], (text, refl), keeps-appends out.written out.written' unwritten);
+            stopped = subst (StopsPrinting out) (sym memory) tt;
+            counted = counted;
+          };
+          served = tt;
+          alone = tt;
+        }
+
+    -- by how the work ended
+    shared-by : (typed : Result Typed no_memory) (ended : Ended)
+        → IfOk typed (λ t. AreDone standard t.whole tasks dialogs t.pages.entries t.sessions.entries)
+        → IfOk typed (λ t. t.whole ≡ true
+        → LeavesPrinted (encode_utf8_all (summed options tally t.sessions.entries)) ended out)
+        → IfOk typed (λ t. t.whole ≡ false → (ended ≡ Err Memory) × Keeps out.written out.written')
+        → OnErr typed ((ended ≡ Err Memory) × Keeps out.written out.written') → out.faults ≤ out.faults'
+        → ((pages : PageMap) (sessions : SessionMap) → AreDone standard true tasks dialogs pages sessions
+        → LeadFrom standard said 0 tasks × EndFrom standard said 0 tasks)
+        → Left ended
+    shared-by (Err lost) ended done whole cut none counted end_law = shared-cut ended none.0 none.1 counted
+    shared-by (Ok typed) ended done whole cut none counted end_law = by typed.whole refl done
+      where
+        by : (b : Bool) → typed.whole ≡ b
+            → AreDone standard b tasks dialogs typed.pages.entries typed.sessions.entries → Left ended
+        by true is all =
+            shared-whole ended typed.pages.entries typed.sessions.entries all
+            (end_law typed.pages.entries typed.sessions.entries all) (whole is)
+        by false is all = let lost = cut is in shared-cut ended lost.0 lost.1 counted
 
   pub shares-closed : (typed : Result Typed no_memory) (ended : Ended)
       → WorkedBy standard tasks 0 typed numbers dialogs → AskFrom standard said 0 tasks
@@ -142,9 +179,9 @@ module _ {D : Type 0} (options : LoadOptions) (opening : Opening) (chronicle : L
       → OnErr typed ((ended ≡ Err Memory) × Keeps out.written out.written') → out.faults ≤ out.faults'
       → ((pages : PageMap) (sessions : SessionMap) → AreDone standard true tasks dialogs pages sessions
       → LeadFrom standard said 0 tasks × EndFrom standard said 0 tasks)
-      → Left ended
-  shares-closed typed ended worked asks whole cut none counted end_law =
-      shared-by asks strangers typed ended worked.done whole cut none counted end_law
+      → PlaysAlone → Left ended
+  shares-closed typed ended worked asks whole cut none counted end_law plays_alone =
+      shared-by asks strangers plays_alone typed ended worked.done whole cut none counted end_law
     where
       strangers : (number : ℕ) → length tasks ≤ number → said number ≡ []
       strangers number behind =

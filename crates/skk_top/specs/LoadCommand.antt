@@ -20,13 +20,13 @@ use Rattle.session_machine.specs.Session.{text_of}
 use Rattle.load_input.specs.Dictionary.{dictionary_rows}
 use Rattle.load_input.specs.Lines.{lines_drawn}
 use Rattle.script_typing.specs.Callers.{EndFrom}
+use Rattle.script_typing.specs.Playing.{playing, sessions_behind, sessions_from, end_alone, history_alone}
 use Rattle.script_typing.specs.Sessions.{SessionMap}
 use Rattle.script_typing.specs.Woven.{tasks_of}
 use Rattle.command_line.specs.declared.command.LoadOptions.{LoadOptions}
 use Rattle.skk_top.specs.Disks.{DiskNow, MovedDisk, RefusesLearned, IsOpening, KeepsDisk}
 use Rattle.skk_top.specs.Finishes.{EndsUnbegun}
 use Rattle.skk_top.specs.Page.{LeavesPrinted}
-use Rattle.skk_top.specs.Playing.{playing, sessions_behind, sessions_from, end_alone, history_alone}
 use Rattle.skk_top.specs.Status.{Ended, ended_by}
 use Rattle.skk_top.specs.TypeCommand.{KeepsChronicle}
 use Rattle.skk_top.specs.WeaveCommand.{KeepsCallers}
@@ -105,6 +105,7 @@ pub record LoadsTasks {D : Type 0} (options : LoadOptions) (opening : Opening) (
   pub prints : LeavesPrinted (encode_utf8_all (summed options (tally_of opening.state (history_of run.chronicle))
       (sessions_from standard (said_in run.chronicle) 0 (tasks_of (load_lines options))))) ended out
   pub served : OnOk run.ended (are_served run.chronicle ≡ true)
+  pub alone : OnOk run.ended (Appends out.written out.written' (loaded_from opening.files opening.state options))
 
 -- what the loading leaves in some manner, over an opening
 abbrev pub Loading : Type 0 → Type 1

@@ -29,7 +29,10 @@ use desk_history::{DeskName, History, Pen, RollSeat};
 use key_scripts::Line;
 use learned_store::{LearnedName, Store};
 use romaji_rules::Rules;
-use script_typing::{Typed, callers_have_asked, callers_have_ended, cut_lines, type_tasks};
+use script_typing::{
+    Typed, callers_have_asked, callers_have_ended, cut_lines, sessions_of_their_own_are_apart,
+    type_tasks, typists_apart_play_alone,
+};
 use shared_desk::{Desk, Roll, Slips};
 use skk_calls::Tally;
 use skk_disk::Disk;
@@ -214,6 +217,8 @@ fn load_at<
 {
     callers_have_asked();
     callers_have_ended();
+    sessions_of_their_own_are_apart();
+    typists_apart_play_alone();
     let Shared {
         options,
         rules,

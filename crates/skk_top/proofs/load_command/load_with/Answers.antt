@@ -1,4 +1,4 @@
-use Rattle.std.proofs.Common.{◌≡◌, ◌∙◌, subst, List, []}
+use Rattle.std.proofs.Common.{◌∙◌, subst, List, []}
 use Rattle.romaji_rules.specs.Standard.{standard}
 use Rattle.romaji_rules.specs.declared.rule.Rule.{Rule}
 use Rattle.skk_outside.specs.Moved.{moved_sink}

@@ -12,6 +12,7 @@ use Rattle.shared_desk.specs.Told.{Stood}
 use Rattle.skk_top.specs.Disks.{KeepsDisk, disk_now}
 use Rattle.skk_top.specs.LoadCommand.{load_lines, LoadsTasks}
 use Rattle.skk_top.specs.Status.{Ended}
+use Rattle.skk_top.proofs.LoadInput.{drawn-give_keys, drawn-numbered}
 use Rattle.skk_top.proofs.SharedLoads.{shares-closed}
 use Rattle.skk_top.proofs.Weaves.{told-callers}
 use Rattle.skk_top.proofs.load_each.load_at.Goals as goal
@@ -58,4 +59,10 @@ returns-clause-leaves g c =
     (disk_now D.time g.D.Outside.faults D.left_since c.close-closed.result.disk) numbers dialogs stands.2.legal keeps
     closed.tally callers typed ended worked asks summed.whole summed.cut summed.none summed.counted
     (λ pages sessions done. c.callers_have_ended.ensures standard tasks (dialog history) numbers dialogs pages
-    sessions callers done))
+    sessions callers done)
+    (λ strangers served leads. c.typists_apart_play_alone.ensures standard (load_lines options) opening history
+    (c.sessions_of_their_own_are_apart.ensures.well (load_lines options) (drawn-give_keys options))
+    (c.sessions_of_their_own_are_apart.ensures.first (load_lines options) (drawn-give_keys options))
+    stands.2.legal.1 served strangers leads
+    (c.sessions_of_their_own_are_apart.ensures.apart (load_lines options) (drawn-give_keys options)
+    (drawn-numbered options))))

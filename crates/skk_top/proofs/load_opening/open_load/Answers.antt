@@ -1,4 +1,4 @@
-use Rattle.std.proofs.Common.{◌≡◌, ◌∙◌, sym, subst, refl}
+use Rattle.std.proofs.Common.{◌∙◌, sym, subst, refl}
 use Rattle.skk_top.specs.Disks.{moved_disk, RefusesLearned}
 use Rattle.skk_top.specs.Finishes.{EndsUnbegun}
 use Rattle.skk_top.specs.LoadCommand.{load_files}

@@ -1,8 +1,9 @@
 use Rattle.std.proofs.Common.{◌+◌, [], sym, subst, drop, arith, List}
 use Rattle.std.proofs.lemmas.List.{drop_all}
 use Rattle.key_scripts.specs.declared.line.Line.{Line}
+use Rattle.script_typing.specs.Playing.{playing}
 use Rattle.script_typing.specs.Sessions.{SessionMap}
-use Rattle.skk_top.specs.Playing.{playing, played, LeadsTo}
+use Rattle.skk_top.specs.Playing.{played, LeadsTo}
 use Rattle.skk_top.proofs.PlayedLines.{leads-line, leads-next, leads-start, leaves-cut, leaves-played}
 use Rattle.skk_top.proofs.playing.play_lines.Goals as goal
 

@@ -1,5 +1,6 @@
 use Rattle.std.proofs.Common.{[], drop}
-use Rattle.skk_top.specs.Playing.{playing, LeadsTo}
+use Rattle.script_typing.specs.Playing.{playing}
+use Rattle.skk_top.specs.Playing.{LeadsTo}
 use Rattle.skk_top.proofs.playing.play_lines.Given as goal
 
 -- what was said so far leads to the lines left

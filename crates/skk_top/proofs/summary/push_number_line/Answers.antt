@@ -1,4 +1,4 @@
-use Rattle.std.proofs.Common.{◌≡◌, ◌++◌, ◌∷◌, ◌∙◌, []}
+use Rattle.std.proofs.Common.{◌++◌, ◌∷◌, ◌∙◌, []}
 use Rattle.std.specs.Fmt.{decimal}
 use Rattle.std.specs.Str.{chars}
 use Rattle.skk_top.proofs.Pages.{each_ok}

@@ -1,4 +1,4 @@
-use Rattle.std.proofs.Common.{◌≡◌, ◌≤◌, ◌*◌, refl, codes, arith}
+use Rattle.std.proofs.Common.{◌≤◌, ◌*◌, refl, codes, arith}
 use Rattle.std.proofs.Math.Nat.{mul-le-mul}
 use Rattle.skk_top.specs.LoadCommand.{number_line}
 use Rattle.skk_top.proofs.Loads.{five-pushed, line-pushed}

@@ -1,0 +1,3 @@
+pub mod OwnBooksChanged
+pub mod Parts
+pub mod SameDialogs

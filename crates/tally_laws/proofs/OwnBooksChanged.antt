@@ -1,0 +1,272 @@
+-- What own calls leave of the book of their owner, and of the others.
+use Rattle.std.proofs.Common.{◌≡◌, ◌∙◌, ap, sym, subst, refl, ℕ, ◌+◌, ◌==◌, Bool, true, false, cond, not, nat_lt}
+use Rattle.std.proofs.Common.{Option, None, Some, List, [], ◌∷◌, find}
+use Rattle.std.specs.List.{cons_option, list_all}
+use Rattle.std.proofs.lemmas.Bool.{and_parts, eq-eqb, eqb-true}
+use Rattle.skk_calls.specs.declared.answer.Answer.{Answer}
+use Rattle.skk_calls.specs.declared.answer.Answer.TheVariants.{Done, Refused}
+use Rattle.skk_calls.specs.declared.book.NumberedBook.{NumberedBook}
+use Rattle.skk_calls.specs.declared.call.Call.{Call}
+use Rattle.skk_calls.specs.declared.call.Call.TheVariants.{Lookup, Complete, Learn, Purge, Unlearn}
+use Rattle.skk_calls.specs.declared.entry.Entry.{Entry}
+use Rattle.skk_calls.specs.Dictionary.{after, moves, state_moved}
+use Rattle.skk_calls.specs.Histories.{after_calls, after_answer, state_after}
+use Rattle.skk_calls.specs.Learning.{learnt, purged, unlearnt}
+use Rattle.skk_calls.specs.Openings.{is_reply}
+use Rattle.skk_calls.specs.Orders.{insert_by}
+use Rattle.skk_calls.specs.Rows.{RowKey, Row}
+use Rattle.skk_calls.specs.States.{State, book_at, book_rows, book_count, rows_of, count_of, row_at, with_row}
+use Rattle.skk_calls.specs.States.{without_book, state_with}
+use Rattle.dict_laws.specs.OwnBooks.{owner}
+use Rattle.tally_laws.proofs.Parts.{parts, part-own, part-other, with-first}
+
+-- the books of a number among books
+abbrev pub books_of : ℕ → List NumberedBook → List NumberedBook
+books_of number books = parts (λ (book : NumberedBook). book.number) (λ (book : NumberedBook). book) number books
+
+-- one book more, that is of the number or not
+own-more : (book : NumberedBook) (books : List NumberedBook) (number : ℕ) → (book.number == number) ≡ true
+    → books_of number (book ∷ books) ≡ book ∷ books_of number books
+own-more = part-own (λ (book : NumberedBook). book.number) (λ (book : NumberedBook). book)
+
+other-more : (book : NumberedBook) (books : List NumberedBook) (number : ℕ) → (book.number == number) ≡ false
+    → books_of number (book ∷ books) ≡ books_of number books
+other-more = part-other (λ (book : NumberedBook). book.number) (λ (book : NumberedBook). book)
+
+-- the first of them is the one that is found
+abbrev first_of : List NumberedBook → Option NumberedBook
+first_of [] = None
+first_of (book ∷ books) = Some book
+
+found-first : (books : List NumberedBook) (number : ℕ)
+    → find (λ book. book.number == number) books ≡ first_of (books_of number books)
+found-first [] number = refl
+found-first (book ∷ books) number = by (book.number == number) (found-first books number)
+  where
+    by : (b : Bool) → find (λ other. other.number == number) books ≡ first_of (books_of number books)
+        → cond b (Some book) (find (λ other. other.number == number) books)
+        ≡ first_of (cons_option (cond b (Some book) None) (books_of number books))
+    by true rest = refl
+    by false rest = rest
+
+-- a book that is put at its place among others
+module _ (before : NumberedBook → NumberedBook → Bool) (book : NumberedBook) (number : ℕ) where
+  put-other : (books : List NumberedBook) → (book.number == number) ≡ false
+      → books_of number (insert_by before book books) ≡ books_of number books
+  put-other [] differs = other-more book [] number differs
+  put-other (first ∷ books) differs = by (before book first) (put-other books differs)
+    where
+      by : (b : Bool) → books_of number (insert_by before book books) ≡ books_of number books
+          → books_of number (cond b (book ∷ first ∷ books) (first ∷ insert_by before book books))
+          ≡ books_of number (first ∷ books)
+      by true rest = other-more book (first ∷ books) number differs
+      by false rest =
+          with-first (λ (b : NumberedBook). b.number) (λ (b : NumberedBook). b) first (insert_by before book books)
+          books number rest
+
+  put-own : (books : List NumberedBook) → (book.number == number) ≡ true → books_of number books ≡ []
+      → books_of number (insert_by before book books) ≡ book ∷ []
+  put-own [] own none = own-more book [] number own
+  put-own (first ∷ books) own none =
+      by (before book first) (first.number == number) refl (put-own books own)
+    where
+      by : (b c : Bool) → (first.number == number) ≡ c
+          → (books_of number books ≡ [] → books_of number (insert_by before book books) ≡ book ∷ [])
+          → books_of number (cond b (book ∷ first ∷ books) (first ∷ insert_by before book books)) ≡ book ∷ []
+      by true c is rest = own-more book (first ∷ books) number own ∙ ap (λ bs. book ∷ bs) none
+      by false true is rest = absurd (cc (sym (own-more first books number is) ∙ none))
+      by false false is rest =
+          other-more first (insert_by before book books) number is
+          ∙ rest (sym (other-more first books number is) ∙ none)
+
+-- books without that of a number
+without-own : (books : List NumberedBook) (number : ℕ) → books_of number (without_book number books) ≡ []
+without-own [] number = refl
+without-own (book ∷ books) number = by (book.number == number) refl (without-own books number)
+  where
+    by : (b : Bool) → (book.number == number) ≡ b → books_of number (without_book number books) ≡ []
+        → books_of number (cond (not b) (book ∷ without_book number books) (without_book number books)) ≡ []
+    by true is rest = rest
+    by false is rest = other-more book (without_book number books) number is ∙ rest
+
+without-other : (books : List NumberedBook) (number other : ℕ) → (other == number) ≡ false
+    → books_of number (without_book other books) ≡ books_of number books
+without-other [] number other differs = refl
+without-other (book ∷ books) number other differs =
+    by (book.number == other) refl (without-other books number other differs)
+  where
+    by : (b : Bool) → (book.number == other) ≡ b
+        → books_of number (without_book other books) ≡ books_of number books
+        → books_of number (cond (not b) (book ∷ without_book other books) (without_book other books))
+        ≡ books_of number (book ∷ books)
+    by true is rest =
+        rest
+        ∙ sym (other-more book books number
+        (subst (λ n. (n == number) ≡ false) (sym (eqb-true book.number other is)) differs))
+    by false is rest =
+        with-first (λ (b : NumberedBook). b.number) (λ (b : NumberedBook). b) book (without_book other books) books
+        number rest
+
+-- two states have the same of a book
+abbrev pub SameBook : ℕ → State → State → Type 0
+SameBook number state other = books_of number other.books ≡ books_of number state.books
+
+module _ (number : ℕ) (state other : State) (same : SameBook number state other) where
+  same-at : book_at other number ≡ book_at state number
+  same-at = found-first other.books number ∙ ap first_of same ∙ sym (found-first state.books number)
+
+  pub same-rows : rows_of other number ≡ rows_of state number
+  same-rows = ap book_rows same-at
+
+  pub same-count : count_of other number ≡ count_of state number
+  same-count = ap book_count same-at
+
+-- books stand in the order of their numbers
+abbrev before : NumberedBook → NumberedBook → Bool
+before book other = nat_lt book.number other.number
+
+-- what a change of one row makes of the book of a number
+abbrev made : State → ℕ → ℕ → RowKey → Option Row → NumberedBook
+made state number count key row =
+    record { number = number; count = count; rows = with_row key row (rows_of state number) }
+
+changed-own : (state : State) (number count : ℕ) (key : RowKey) (row : Option Row)
+    → books_of number (state_with state number count key row).books ≡ made state number count key row ∷ []
+changed-own state number count key row =
+    put-own before (made state number count key row) number (without_book number state.books)
+    (eq-eqb number number refl) (without-own state.books number)
+
+changed-other : (state : State) (book count : ℕ) (key : RowKey) (row : Option Row) (number : ℕ)
+    → (book == number) ≡ false → SameBook number state (state_with state book count key row)
+changed-other state book count key row number differs =
+    put-other before (made state book count key row) number (without_book book state.books) differs
+    ∙ without-other state.books number book differs
+
+-- a call of another's leaves a book as it is
+pub others-leave : (state : State) (number : ℕ) (call : Call) → (owner call == number) ≡ false
+    → SameBook number state (after state call)
+others-leave state number call differs = by (moves state call) call differs
+  where
+    moved : (call : Call) → (owner call == number) ≡ false → SameBook number state (state_moved state call)
+    moved (Lookup who key okuri) differs = refl
+    moved (Complete who prefix) differs = refl
+    moved (Learn book key okuri cand) differs =
+        changed-other state book (count_of state book + 1) key
+        (Some (learnt (row_at state book key) key okuri cand (count_of state book + 1))) number differs
+    moved (Purge book key word) differs =
+        changed-other state book (count_of state book + 1) key
+        (Some (purged (row_at state book key) key word (count_of state book + 1))) number differs
+    moved (Unlearn learned) differs =
+        changed-other state learned.book (count_of state learned.book) learned.key (unlearnt learned) number differs
+
+    by : (b : Bool) (call : Call) → (owner call == number) ≡ false
+        → SameBook number state (cond b (state_moved state call) state)
+    by true call differs = moved call differs
+    by false call differs = refl
+
+module _ (state other : State) where
+  -- a change of the same book
+  both-changed : (number count count' : ℕ) (key : RowKey) (row row' : Option Row) → count' ≡ count → row' ≡ row
+      → SameBook number state other
+      → SameBook number (state_with state number count key row) (state_with other number count' key row')
+  both-changed number count count' key row row' counts rows same =
+      changed-own other number count' key row'
+      ∙ ap (λ n. made other number n key row' ∷ []) counts
+      ∙ ap (λ (r : Option Row). made other number count key r ∷ []) rows
+      ∙ ap (λ (rs : List Row). record { number = number; count = count; rows = with_row key row rs } ∷ [])
+      (same-rows number state other same)
+      ∙ sym (changed-own state number count key row)
+
+  -- whether it moves, and what it makes then
+  both-move : (call : Call) → SameBook (owner call) state other → moves other call ≡ moves state call
+  both-move (Lookup who key okuri) same = refl
+  both-move (Complete who prefix) same = refl
+  both-move (Learn book key okuri cand) same =
+      rw (same-count book state other same, same-rows book state other same) refl
+  both-move (Purge book key word) same =
+      rw (same-count book state other same, same-rows book state other same) refl
+  both-move (Unlearn learned) same = rw (same-rows learned.book state other same) refl
+
+  both-moved : (call : Call) → SameBook (owner call) state other
+      → SameBook (owner call) (state_moved state call) (state_moved other call)
+  both-moved (Lookup who key okuri) same = same
+  both-moved (Complete who prefix) same = same
+  both-moved (Learn book key okuri cand) same =
+      let counts = same-count book state other same in
+      let rows = same-rows book state other same in
+      both-changed book (count_of state book + 1) (count_of other book + 1) key
+      (Some (learnt (row_at state book key) key okuri cand (count_of state book + 1)))
+      (Some (learnt (row_at other book key) key okuri cand (count_of other book + 1)))
+      (ap (λ n. n + 1) counts) (rw (counts, rows) refl) same
+  both-moved (Purge book key word) same =
+      let counts = same-count book state other same in
+      let rows = same-rows book state other same in
+      both-changed book (count_of state book + 1) (count_of other book + 1) key
+      (Some (purged (row_at state book key) key word (count_of state book + 1)))
+      (Some (purged (row_at other book key) key word (count_of other book + 1)))
+      (ap (λ n. n + 1) counts) (rw (counts, rows) refl) same
+  both-moved (Unlearn learned) same =
+      both-changed learned.book (count_of state learned.book) (count_of other learned.book) learned.key
+      (unlearnt learned) (unlearnt learned) (same-count learned.book state other same) refl same
+
+  -- an own call leaves the same of its book in states that have the same of it
+  owner-leaves : (call : Call) → SameBook (owner call) state other
+      → SameBook (owner call) (after state call) (after other call)
+  owner-leaves call same =
+      subst (λ (b : Bool). SameBook (owner call) (after state call) (cond b (state_moved other call) other))
+      (sym (both-move call same)) (by (moves state call))
+    where
+      by : (b : Bool) → SameBook (owner call) (cond b (state_moved state call) state)
+          (cond b (state_moved other call) other)
+      by true = both-moved call same
+      by false = same
+
+  pub own-leaves : (number : ℕ) (call : Call) → (owner call == number) ≡ true → SameBook number state other
+      → SameBook number (after state call) (after other call)
+  own-leaves number call own same =
+      let is = eqb-true (owner call) number own in
+      subst (λ n. SameBook n (after state call) (after other call)) is
+      (owner-leaves call (subst (λ n. SameBook n state other) (sym is) same))
+
+-- the calls of a history that speak of the book of a number
+abbrev pub calls_on : ℕ → List Entry → List Call
+calls_on number history = parts (λ (entry : Entry). owner entry.call) (λ (entry : Entry). entry.call) number history
+
+-- what entries leave of a book, from states on that have the same of it
+abbrev Behind : ℕ → List Entry → State → Type 0
+Behind number history alone =
+    (next : State) → SameBook number alone next
+    → SameBook number (after_calls alone (calls_on number history)) (state_after next history)
+
+-- what a history leaves of a book is what these calls leave of it
+pub left-by-calls : (number : ℕ) (state alone : State) (history : List Entry)
+    → list_all (λ entry. is_reply entry.answer) history ≡ true → SameBook number alone state
+    → SameBook number (after_calls alone (calls_on number history)) (state_after state history)
+left-by-calls number state alone [] served same = same
+left-by-calls number state alone (entry ∷ history) served same =
+    by (owner entry.call == number) refl
+    (λ (next : State) (alike : SameBook number (after alone entry.call) next).
+    left-by-calls number next (after alone entry.call) history replies.1 alike)
+    (λ (next : State) (alike : SameBook number alone next). left-by-calls number next alone history replies.1 alike)
+  where
+    replies : (is_reply entry.answer ≡ true) × (list_all (λ e. is_reply e.answer) history ≡ true)
+    replies = and_parts (is_reply entry.answer) (list_all (λ e. is_reply e.answer) history) served
+
+    given : (answer : Answer) → is_reply answer ≡ true
+        → after_answer state entry.call answer ≡ after state entry.call
+    given (Done reply) is = refl
+    given (Refused refusal) is = absurd (cc is)
+
+    by : (b : Bool) → (owner entry.call == number) ≡ b → Behind number history (after alone entry.call)
+        → Behind number history alone
+        → SameBook number
+        (after_calls alone (cons_option (cond b (Some entry.call) None) (calls_on number history)))
+        (state_after (after_answer state entry.call entry.answer) history)
+    by true own moved still =
+        moved (after_answer state entry.call entry.answer)
+        (subst (λ (s : State). SameBook number (after alone entry.call) s) (sym (given entry.answer replies.0))
+        (own-leaves alone state number entry.call own same))
+    by false differs moved still =
+        still (after_answer state entry.call entry.answer)
+        (subst (λ (s : State). SameBook number alone s) (sym (given entry.answer replies.0))
+        (others-leave state number entry.call differs ∙ same))
