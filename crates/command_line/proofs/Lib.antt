@@ -1,7 +1,11 @@
 pub mod Commands
-pub mod DumpRead
-pub mod DumpShapes
-pub mod DumpWalk
+pub mod OptionCounts
+pub mod OptionFronts
+pub mod OptionNames
+pub mod OptionRows
+pub mod OptionWalk
+pub mod OptionsAsked
+pub mod OptionsRead
 pub mod ParsedNumbers
 mod RangeExamples
 pub mod SettingLists

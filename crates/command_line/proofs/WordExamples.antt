@@ -1,18 +1,22 @@
 -- Words at small examples, each worked out by hand.
 use Rattle.std.proofs.Common.{◌≡◌, ◌==◌, ℕ, Bool, true, false, if◌then◌else◌, Option, None, Some, is_some, List, []}
-use Rattle.std.proofs.Common.{◌∷◌, refl, map, codes, replicate}
+use Rattle.std.proofs.Common.{◌∷◌, refl, map, codes, length, replicate}
 use Prim.Native.String.{String}
 use Rattle.std.specs.Fmt.{digits}
 use Rattle.std.specs.List.{filter}
 use Rattle.std.specs.Option.{option_map}
+use Rattle.command_line.specs.Arguments.{name_at, place}
 use Rattle.command_line.specs.Command.{command_of, limit_of, script_to_type, file_to_check, book_to_dump, do_open}
-use Rattle.command_line.specs.Command.{do_print, learned_named, port_to_serve}
+use Rattle.command_line.specs.Command.{load_asked, load_to_play, load_to_share, do_print, learned_named, port_to_serve}
+use Rattle.command_line.specs.OptionWords.{option_app, settings_asked}
 use Rattle.skk_text.specs.Lines.{with_first}
 use Rattle.command_line.specs.Words.{is_name, number_within, cut}
+use Rattle.command_line.specs.declared.argument.Argument.TheVariants.{File, Dictionary, Limit, Seed, Threads}
 use Rattle.command_line.specs.declared.command.Command.{Command}
 use Rattle.command_line.specs.declared.command.Command.TheVariants.{TypeScript, Serve, Check, Dump, Load}
 use Rattle.command_line.specs.declared.command.ServeOptions.{ServeOptions}
 use Rattle.command_line.specs.declared.command.TypeOptions.{TypeOptions}
+use Rattle.command_line.specs.declared.command_name.CommandName.TheVariants as titles
 
 -- the words of a line, between single spaces
 abbrev split : List ℕ → List (List ℕ)
@@ -245,6 +249,39 @@ books_to_dump : map (λ line. book_to_dump (words line)) some_lines
     ∷ Some (record { learned = codes "b"; book = 7 }) ∷ []
 unfolding digits
 books_to_dump = refl
+
+loads_asked : map (λ line. load_asked (words line))
+    ("load --seed 5 --sessions 6 --lines 7" ∷ "load --threads --lines=8 --sessions=7 --seed 6"
+    ∷ "load --seed 5 --sessions 6" ∷ "type --threads" ∷ "dump --learned a" ∷ [])
+    ≡ Some (record { seed = 5; sessions = 6; lines = 7; threads = false })
+    ∷ Some (record { seed = 6; sessions = 7; lines = 8; threads = true }) ∷ None ∷ None ∷ None ∷ []
+unfolding digits
+loads_asked = refl
+
+-- a load is played by one caller, or by a caller for each session
+loads_shared : map {B = Bool × Bool}
+    (λ line. (is_some (load_to_play (words line)), is_some (load_to_share (words line))))
+    ("load --seed 5 --sessions 6 --lines 7" ∷ "load --threads --lines=8 --sessions=7 --seed 6" ∷ "type" ∷ [])
+    ≡ (true, false) ∷ (false, true) ∷ (false, false) ∷ []
+unfolding digits
+loads_shared = refl
+
+-- the names of options are their spellings behind two hyphens, and `clap` is told those of a command
+option_names : map (λ argument. name_at (place argument)) (Dictionary ∷ Limit ∷ Seed ∷ Threads ∷ File ∷ [])
+    ≡ codes "dict" ∷ codes "limit" ∷ codes "seed" ∷ codes "threads" ∷ [] ∷ []
+option_names = refl
+
+told : map {B = List ℕ × Option (List ℕ) × Bool} (λ rule. (rule.id, rule.long, rule.required))
+    (option_app titles.Dump).top.rules
+    ≡ (codes "learned", Some (codes "learned"), true) ∷ (codes "book", Some (codes "book"), false) ∷ []
+told = refl
+
+-- the settings of the words of one command alone
+asked : map (λ line. option_map length (settings_asked titles.Dump (words line)))
+    ("dump --learned a" ∷ "dump --learned a --book 1" ∷ "dump --book 1" ∷ "check a" ∷ "dump" ∷ [])
+    ≡ Some 1 ∷ Some 2 ∷ None ∷ None ∷ None ∷ []
+unfolding digits
+asked = refl
 
 learned_files : map (λ line. learned_named (words line)) some_lines
     ≡ None ∷ None ∷ None ∷ None ∷ None ∷ Some (codes "a") ∷ None ∷ None ∷ None ∷ None ∷ None ∷ Some (codes "a") ∷ None

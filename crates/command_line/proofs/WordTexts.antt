@@ -58,7 +58,7 @@ no-name (b ∷ bs) none = absurd (omega (arith, none))
 abbrev pub is_ascii : List ℕ → Bool
 is_ascii text = list_all (λ c. nat_lt c 128) text
 
-ascii : (text : List ℕ) → is_ascii text ≡ true → IsAscii text
+pub ascii : (text : List ℕ) → is_ascii text ≡ true → IsAscii text
 ascii [] all place = omega (arith, get_or_past {X = ℕ} [] place 0 (omega arith))
 ascii (c ∷ cs) all zero = ltb-true c 128 (and_parts (nat_lt c 128) (is_ascii cs) all).0
 ascii (c ∷ cs) all (suc place) = ascii cs (and_parts (nat_lt c 128) (is_ascii cs) all).1 place

@@ -1,8 +1,8 @@
 -- What commands can be given: the table of the options, and the values that they take.
-use Rattle.std.specs.Prelude.{ℕ, if◌then◌else◌, Option, Some, None, List, [], ◌∷◌, codes}
+use Rattle.std.specs.Prelude.{ℕ, ◌==◌, if◌then◌else◌, Option, Some, None, List, [], ◌∷◌, drop, find, codes}
 use Prim.Native.String.{String}
 use Rattle.std.specs.Map.{lookup}
-use Rattle.std.specs.Option.{option_map}
+use Rattle.std.specs.Option.{option_map, option_map_or}
 use Rattle.std.specs.Str.{bytes_eq}
 use Rattle.command_line.specs.Words.{is_name, number_within}
 use Rattle.command_line.specs.declared.argument.Argument.{Argument}
@@ -58,3 +58,15 @@ place Seed = 8
 place Sessions = 9
 place Lines = 10
 place Threads = 11
+
+-- the row of the table that gives the argument at a place
+abbrev pub row_at : ℕ → Option (List ℕ × OptionRow)
+row_at number = find (λ row. place row.1.argument == number) options
+
+-- what the argument at a place takes: a name, where no option gives it
+abbrev pub takes_at : ℕ → Takes
+takes_at number = option_map_or (λ row. row.1.takes) (row_at number) Name
+
+-- how the option of the argument at a place is spelled behind its two hyphens
+abbrev pub name_at : ℕ → List ℕ
+name_at number = option_map_or (λ row. drop 2 row.0) (row_at number) []

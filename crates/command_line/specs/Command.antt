@@ -1,6 +1,6 @@
 -- The commands, and the words that they are read from.
 use Rattle.std.specs.Prelude.{ℕ, Bool, true, false, ◌||◌, if◌then◌else◌, unwrap_or, Option, None, Some, List, [], ◌∷◌}
-use Rattle.std.specs.Prelude.{codes}
+use Rattle.std.specs.Prelude.{codes, map}
 use Rattle.std.specs.Map.{lookup}
 use Rattle.std.specs.Option.{is_some, option_and_then, option_map}
 use Rattle.std.specs.Str.{bytes_eq}
@@ -19,11 +19,17 @@ use Rattle.command_line.specs.declared.command.ServeOptions.{ServeOptions}
 use Rattle.command_line.specs.declared.command.TypeOptions.{TypeOptions}
 use Rattle.command_line.specs.declared.setting.Setting.{Setting}
 
+-- the word that names a command
+abbrev pub title : CommandName → List ℕ
+title TypeScript = codes "type"
+title Serve = codes "serve"
+title Check = codes "check"
+title Dump = codes "dump"
+title Load = codes "load"
+
 -- the words that name commands
 abbrev pub command_names : List (List ℕ × CommandName)
-command_names =
-    (codes "type", TypeScript) ∷ (codes "serve", Serve) ∷ (codes "check", Check) ∷ (codes "dump", Dump)
-    ∷ (codes "load", Load) ∷ []
+command_names = map (λ name. (title name, name)) (TypeScript ∷ Serve ∷ Check ∷ Dump ∷ Load ∷ [])
 
 -- the command that a word names
 abbrev pub command_named : List ℕ → Option CommandName
@@ -154,21 +160,29 @@ book_dumped (commands.Check file) = None
 book_dumped (commands.Dump options) = Some options
 book_dumped (commands.Load options) = None
 
+-- the options of a command that is to play the lines of a load
+abbrev pub load_of : Command → Option LoadOptions
+load_of (commands.TypeScript options) = None
+load_of (commands.Serve options) = None
+load_of (commands.Check file) = None
+load_of (commands.Dump options) = None
+load_of (commands.Load options) = Some options
+
+-- the options of a load, where no session has a thread of its own
+abbrev pub load_alone : LoadOptions → Option LoadOptions
+load_alone options = if options.threads then None else Some options
+
+-- the options of a load with a thread for each session
+abbrev pub load_shared : LoadOptions → Option LoadOptions
+load_shared options = if options.threads then Some options else None
+
 -- the options of a command that is to play the lines of a load, where no session has a thread of its own
 abbrev pub load_played : Command → Option LoadOptions
-load_played (commands.TypeScript options) = None
-load_played (commands.Serve options) = None
-load_played (commands.Check file) = None
-load_played (commands.Dump options) = None
-load_played (commands.Load options) = if options.threads then None else Some options
+load_played command = option_and_then load_alone (load_of command)
 
 -- the options of a command that is to play the lines of a load with a thread for each session
 abbrev pub load_in_threads : Command → Option LoadOptions
-load_in_threads (commands.TypeScript options) = None
-load_in_threads (commands.Serve options) = None
-load_in_threads (commands.Check file) = None
-load_in_threads (commands.Dump options) = None
-load_in_threads (commands.Load options) = if options.threads then Some options else None
+load_in_threads command = option_and_then load_shared (load_of command)
 
 -- the options, where words are `type` without threads
 abbrev pub script_to_type : List (List ℕ) → Option TypeOptions
@@ -193,6 +207,10 @@ file_to_check words = option_and_then file_checked (command_of words)
 -- the options, where words are `dump`
 abbrev pub book_to_dump : List (List ℕ) → Option DumpOptions
 book_to_dump words = option_and_then book_dumped (command_of words)
+
+-- the options, where words are `load`
+abbrev pub load_asked : List (List ℕ) → Option LoadOptions
+load_asked words = option_and_then load_of (command_of words)
 
 -- the options, where words are `load` without threads
 abbrev pub load_to_play : List (List ℕ) → Option LoadOptions

@@ -1,8 +1,9 @@
 pub mod Arguments
 pub mod Command
-pub mod DumpWords
 pub mod OptionLaws
+pub mod OptionWords
 pub mod RangeLaws
 pub mod Ranges
+pub mod SettingLaws
 pub mod Settings
 pub mod Words

@@ -1,29 +1,27 @@
 -- The numbers of commands lie in their ranges.
-use Rattle.std.proofs.Common.{◌≡◌, ◌≢◌, ◌≤◌, ◌∙◌, ◌&&◌, ◌==◌, sym, ap, subst, refl, ℕ, Bool, true, cond, if◌then◌else◌}
+use Rattle.std.proofs.Common.{◌≡◌, ◌≢◌, ◌≤◌, ◌∙◌, ◌&&◌, ◌==◌, sym, ap, subst, refl, ℕ, Bool, true, false, cond}
 use Rattle.std.proofs.Common.{Option, Some, None, List, [], ◌∷◌, length, arith, inl, inr, nat_le}
-use Rattle.std.specs.Bool.{⊤}
 use Rattle.std.specs.Fmt.{decimal}
-use Rattle.std.specs.List.{AllByRecursion, find, list_all, sum_by}
-use Rattle.std.specs.Option.{IfSome, option_map_or, option_and_then, unwrap_or}
+use Rattle.std.specs.List.{AllByRecursion, list_all, sum_by}
+use Rattle.std.specs.Option.{IfSome, option_and_then, unwrap_or}
 use Rattle.std.specs.Str.{bytes_eq}
 use Rattle.std.specs.Str.Parse.{digits_value}
 use Rattle.std.proofs.lemmas.Bool.{cases_Bool, cond_both, cond-true, cond-false, and_parts, leb-true, eqb-true}
-use Rattle.std.proofs.lemmas.List.Elements.{All-from_recursion}
 use Rattle.std.proofs.lemmas.List.Sums.{sum_by-cons}
-use Rattle.std.proofs.lemmas.Map.Entries.{All-lookup}
 use Rattle.std.proofs.lemmas.Option.{IfSome_then, none-some}
-use Rattle.command_line.specs.Arguments.{options, option_named, value_of, place}
+use Rattle.command_line.specs.Arguments.{option_named, value_of, place, takes_at}
 use Rattle.command_line.specs.Command.{takes, required, optional, command, command_with, command_named, command_of}
-use Rattle.command_line.specs.Command.{book_dumped, book_to_dump, load_in_threads, load_to_share, port_served}
+use Rattle.command_line.specs.Command.{book_dumped, book_to_dump, load_of, load_asked, port_served}
 use Rattle.command_line.specs.Command.{port_to_serve}
-use Rattle.command_line.specs.OptionLaws.{IfSome-all, IfSome-map, IfSome-and_then, IfSome-map_or, IfSome-if}
+use Rattle.command_line.specs.OptionLaws.{IfSome-all, IfSome-map, IfSome-and_then, IfSome-if}
 use Rattle.command_line.specs.Ranges.{LiesFrom, HasNumbersInRange}
-use Rattle.command_line.specs.Settings.{setting, takes_value, option_alone, option_with, option_cut, name_or_cut, whole}
-use Rattle.command_line.specs.Settings.{begun, with_setting, settings_of, is_of, times, number_in, value_given}
+use Rattle.command_line.specs.Settings.{setting, takes_value}
+use Rattle.command_line.specs.SettingLaws.{IsWritten, AreWritten, bare, alone, joined, apart, named, written}
+use Rattle.command_line.specs.Settings.{settings_of, is_of, times, number_in, value_given}
 use Rattle.command_line.specs.Settings.{number_given, number_or, is_within, fits}
-use Rattle.command_line.specs.Words.{is_name, number_within, cut}
+use Rattle.command_line.specs.Words.{is_name, number_within}
 use Rattle.command_line.specs.declared.argument.Argument.{Argument}
-use Rattle.command_line.specs.declared.argument.Argument.TheVariants.{File, Limit, Port, Connections, Book, Seed}
+use Rattle.command_line.specs.declared.argument.Argument.TheVariants.{Limit, Port, Connections, Book, Seed}
 use Rattle.command_line.specs.declared.argument.Argument.TheVariants.{Sessions, Lines, Threads}
 use Rattle.command_line.specs.declared.argument.OptionRow.{OptionRow}
 use Rattle.command_line.specs.declared.argument.Takes.{Takes}
@@ -39,32 +37,15 @@ use Rattle.command_line.specs.declared.setting.Setting.{Setting}
 use Rattle.command_line.specs.declared.setting.Value.{Value}
 use Rattle.command_line.specs.declared.setting.Value.TheVariants as values
 
--- what the argument at a place takes: a name, where no option gives it
-abbrev takes_at : ℕ → Takes
-takes_at number =
-    option_map_or (λ (row : List ℕ × OptionRow). row.1.takes)
-    (find (λ (row : List ℕ × OptionRow). place row.1.argument == number) options) Name
-
--- each option takes what its argument takes
-abbrev IsRow : OptionRow → Type 0
-IsRow row = row.takes ≡ takes_at (place row.argument)
-
-named : (word : List ℕ) → IfSome (option_named word) IsRow
-named word =
-    All-lookup IsRow (bytes_eq word) options (All-from_recursion (λ (row : List ℕ × OptionRow). IsRow row.1) options (
-      refl,
-      (refl, (refl, (refl, (refl, (refl, (refl, (refl, (refl, (refl, (refl, tt)))))))))),
-    ))
-
--- where a value is to be a number, it is one in the range
-abbrev IsTaken : Takes → Value → Type 0
-IsTaken Nothing value = ⊤
-IsTaken Name value = ⊤
+-- a value is what is taken, and where that is a number, it lies in the range
+abbrev pub IsTaken : Takes → Value → Type 0
+IsTaken Nothing value = value ≡ values.Nothing
+IsTaken Name value = (text : List ℕ) × (value ≡ values.Text text)
 IsTaken (Number least most) value = (number : ℕ) × (value ≡ values.Number number) × LiesFrom least most number
 
 value-taken : (taken : Takes) (word : List ℕ) → IfSome (value_of taken word) (IsTaken taken)
 value-taken Nothing word = tt
-value-taken Name word = IfSome-if (λ value. ⊤) (is_name word) (values.Text word) (λ e. tt)
+value-taken Name word = IfSome-if (IsTaken Name) (is_name word) (values.Text word) (λ e. (word, refl))
 value-taken (Number least most) word =
     let number = digits_value 10 word in
     IfSome-map (IsTaken (Number least most)) values.Number (number_within least most word)
@@ -74,61 +55,39 @@ value-taken (Number least most) word =
     (and_parts (bytes_eq word (decimal number)) (nat_le least number && nat_le number most) e).1 in
     (number, refl, (leb-true least number bounds.0, leb-true number most bounds.1))))
 
--- so it is in each setting
-abbrev IsGiven : Setting → Type 0
+-- so it is in a setting that is written
+abbrev pub IsGiven : Setting → Type 0
 IsGiven given = IsTaken (takes_at (place given.argument)) given.value
 
-with-given : (row : OptionRow) (word : List ℕ) → IsRow row → IfSome (option_with row word) IsGiven
-with-given row word is =
-    IfSome-map IsGiven (setting row.argument) (value_of row.takes word)
-    (subst (λ t. IfSome (value_of row.takes word) (IsTaken t)) is (value-taken row.takes word))
+taken-in : (spelling text : List ℕ) (row : OptionRow) (value : Value) → option_named spelling ≡ Some row
+    → value_of row.takes text ≡ Some value → IsGiven (setting row.argument value)
+taken-in spelling text row value spelled stands =
+    subst (λ t. IsTaken t value) (named spelling row spelled).0
+    (subst (λ o. IfSome o (IsTaken row.takes)) stands (value-taken row.takes text))
 
-alone-given : (taken : Takes) (argument : Argument) → taken ≡ takes_at (place argument)
-    → IfSome (if takes_value taken then None else Some (setting argument values.Nothing)) IsGiven
-alone-given Nothing argument is = subst (λ t. IsTaken t values.Nothing) is tt
-alone-given Name argument is = tt
-alone-given (Number least most) argument is = tt
+none-taken : (taken : Takes) → takes_value taken ≡ false → IsTaken taken values.Nothing
+none-taken Nothing none = refl
+none-taken Name none = cc
+none-taken (Number least most) none = cc
 
-cut-given : (word : List ℕ) → IfSome (name_or_cut word) IsGiven
-cut-given word =
-    cond_both (is_name word) (Some (setting File (values.Text word))) (option_and_then option_cut (cut word))
-    (λ o. IfSome o IsGiven) (λ e. tt) (λ e.
-    IfSome-and_then IsGiven option_cut (cut word)
-    (IfSome-all (cut word) (λ parts. IfSome (option_cut parts) IsGiven) (λ parts.
-    IfSome-and_then IsGiven (λ row. option_with row parts.1) (option_named parts.0)
-    (IfSome_then (option_named parts.0) (named parts.0) (λ row is. with-given row parts.1 is)))))
+is-given : (front : List (List ℕ)) (first : Setting) → IsWritten front first → IsGiven first
+is-given front first (bare word) = (word, refl)
+is-given front first (alone word row spelled none) =
+    subst (λ t. IsTaken t values.Nothing) (named word row spelled).0 (none-taken row.takes none)
+is-given front first (joined spelling text row value spelled stands) =
+    taken-in spelling text row value spelled stands
+is-given front first (apart spelling text row value spelled stands) = taken-in spelling text row value spelled stands
 
-whole-given : (word : List ℕ) → IfSome (whole word) IsGiven
-whole-given word =
-    IfSome-map_or IsGiven option_alone (option_named word) (name_or_cut word)
-    (IfSome_then (option_named word) (named word) (λ row is. alone-given row.takes row.argument is)) (cut-given word)
-
-begun-row : (word : List ℕ) → IfSome (begun word) IsRow
-begun-row word =
-    IfSome-and_then IsRow (λ row. if takes_value row.takes then Some row else None) (option_named word)
-    (IfSome_then (option_named word) (named word) (λ row is. IfSome-if IsRow (takes_value row.takes) row (λ e. is)))
-
-abbrev AreGiven : List Setting → Type 0
+-- and so in all that words write
+abbrev pub AreGiven : List Setting → Type 0
 AreGiven settings = AllByRecursion IsGiven settings
 
-one-more : (first : Option Setting) (others : Option (List Setting)) → IfSome first IsGiven → IfSome others AreGiven
-    → IfSome (with_setting first others) AreGiven
-one-more None others given more = tt
-one-more (Some first) None given more = tt
-one-more (Some first) (Some others) given more = (given, more)
-
-settings-given : (words : List (List ℕ)) → IfSome (settings_of words) AreGiven
-settings-given [] = tt
-settings-given (word ∷ []) = one-more (whole word) (Some []) (whole-given word) tt
-settings-given (word ∷ next ∷ words) =
-    IfSome-map_or AreGiven (λ row. with_setting (option_with row next) (settings_of words)) (begun word)
-    (with_setting (whole word) (settings_of (next ∷ words)))
-    (IfSome_then (begun word) (begun-row word)
-    (λ row is. one-more (option_with row next) (settings_of words) (with-given row next is) (settings-given words)))
-    (one-more (whole word) (settings_of (next ∷ words)) (whole-given word) (settings-given (next ∷ words)))
+pub are-given : (words : List (List ℕ)) (settings : List Setting) → AreWritten words settings → AreGiven settings
+are-given words [] is = tt
+are-given words (first ∷ settings) is = (is-given is.0 first is.3, are-given is.1 settings is.4)
 
 -- the value of an argument
-value-given : (argument : Argument) (settings : List Setting) → AreGiven settings
+pub value-given : (argument : Argument) (settings : List Setting) → AreGiven settings
     → IfSome (value_given argument settings) (IsTaken (takes_at (place argument)))
 value-given argument [] given = tt
 value-given argument (first ∷ settings) given =
@@ -144,7 +103,7 @@ number-given least most None taken = tt
 number-given least most (Some value) taken =
     subst (λ v. IfSome (number_in v) (LiesFrom least most)) (sym taken.1) taken.2
 
-given-lies : (argument : Argument) (least most : ℕ) (settings : List Setting) → AreGiven settings
+pub given-lies : (argument : Argument) (least most : ℕ) (settings : List Setting) → AreGiven settings
     → takes_at (place argument) ≡ Number least most → IfSome (number_given argument settings) (LiesFrom least most)
 given-lies argument least most settings given is =
     number-given least most (value_given argument settings)
@@ -167,7 +126,7 @@ lies-in argument least most absent settings given is lies =
     (subst (λ t. IfSome (value_given argument settings) (IsTaken t)) is (value-given argument settings given)) lies
 
 -- one that is required is not absent
-there : (argument : Argument) (settings : List Setting) → 1 ≤ times argument settings
+pub there : (argument : Argument) (settings : List Setting) → 1 ≤ times argument settings
     → value_given argument settings ≢ None
 there argument [] once = absurd (omega (arith, once))
 there argument (first ∷ settings) once =
@@ -226,8 +185,9 @@ words-in_range (word ∷ words) =
     (command_named word) (IfSome-all (command_named word)
     (λ name. IfSome (option_and_then (command_with name) (settings_of words)) HasNumbersInRange) (λ name.
     IfSome-and_then HasNumbersInRange (command_with name) (settings_of words)
-    (IfSome_then (settings_of words) (settings-given words) (λ settings given.
-    IfSome-if HasNumbersInRange (fits (takes name) settings) (command name settings) (in_range name settings given)))))
+    (IfSome_then (settings_of words) (written words) (λ settings is.
+    IfSome-if HasNumbersInRange (fits (takes name) settings) (command name settings)
+    (in_range name settings (are-given words settings is))))))
 
 -- each number of a command that words are lies in its range
 pub numbers_in_range : (words : List (List ℕ)) (read : Command) → command_of words ≡ Some read → HasNumbersInRange read
@@ -261,18 +221,18 @@ served-in-range (commands.Load given) range = tt
 abbrev pub IsLoad : LoadOptions → Type 0
 IsLoad options = (options.sessions ≤ 64) × (options.lines ≤ 20000)
 
-shared-in-range : (command : Command) → HasNumbersInRange command → IfSome (load_in_threads command) IsLoad
-shared-in-range (commands.TypeScript given) range = tt
-shared-in-range (commands.Serve given) range = tt
-shared-in-range (commands.Check file) range = tt
-shared-in-range (commands.Dump given) range = tt
-shared-in-range (commands.Load given) range = IfSome-if IsLoad given.threads given (λ e. (range.1.1, range.2.1))
+loaded-in-range : (command : Command) → HasNumbersInRange command → IfSome (load_of command) IsLoad
+loaded-in-range (commands.TypeScript given) range = tt
+loaded-in-range (commands.Serve given) range = tt
+loaded-in-range (commands.Check file) range = tt
+loaded-in-range (commands.Dump given) range = tt
+loaded-in-range (commands.Load given) range = (range.1.1, range.2.1)
 
--- nor are those of a load with threads
-pub loads-in-range : (words : List (List ℕ)) → IfSome (load_to_share words) IsLoad
+-- nor are those of words that are `load`
+pub loads-in-range : (words : List (List ℕ)) → IfSome (load_asked words) IsLoad
 loads-in-range words =
-    IfSome-and_then IsLoad load_in_threads (command_of words)
-    (IfSome_then (command_of words) (words-in_range words) shared-in-range)
+    IfSome-and_then IsLoad load_of (command_of words)
+    (IfSome_then (command_of words) (words-in_range words) loaded-in-range)
 
 -- and the numbers of `serve` lie in their ranges
 pub ports-in-range : (words : List (List ℕ)) → IfSome (port_to_serve words) IsService

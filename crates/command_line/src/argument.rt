@@ -1,5 +1,5 @@
 ghost use Rattle.std.specs.Prelude.{◌≡◌, Some};
-ghost use Rattle.command_line.specs.Arguments.{option_named, value_of};
+ghost use Rattle.command_line.specs.Arguments.{option_named, value_of, place, name_at, takes_at};
 ghost use Rattle.command_line.specs.Settings.{takes_value, option_with, setting};
 ghost use Rattle.command_line.specs.declared.setting.Value.TheVariants as values;
 
@@ -72,6 +72,35 @@ pub fn option_named(word: &Word) -> Option<OptionRow>
         _ => return None,
     };
     Some(OptionRow { argument, takes })
+}
+
+impl Argument {
+    /// How the option is spelled behind its two hyphens; nothing where no option gives the argument.
+    pub fn name<'a>(self) -> &'a str
+        ensures { result.now ≡ name_at (place self) }
+    {
+        match self {
+            Argument::File => "",
+            Argument::Dictionary => "dict",
+            Argument::Rules => "rules",
+            Argument::Learned => "learned",
+            Argument::Limit => "limit",
+            Argument::Port => "port",
+            Argument::Connections => "connections",
+            Argument::Book => "book",
+            Argument::Seed => "seed",
+            Argument::Sessions => "sessions",
+            Argument::Lines => "lines",
+            Argument::Threads => "threads",
+        }
+    }
+
+    /// Whether it is given with a value.
+    pub fn takes_value(self) -> bool
+        ensures { result ≡ takes_value (takes_at (place self)) }
+    {
+        self != Argument::Threads
+    }
 }
 
 impl Takes {

@@ -1,5 +1,5 @@
 ghost use Rattle.std.specs.Prelude.{◌≡◌, ◌≤◌, length};
-ghost use Rattle.command_line.specs.Command.{command_named, command_with, takes};
+ghost use Rattle.command_line.specs.Command.{command_named, command_with, takes, title};
 
 use crate::argument::Argument;
 use crate::command::{Command, DumpOptions, LoadOptions, ServeOptions, TypeOptions};
@@ -79,8 +79,21 @@ impl CommandName {
         }
     }
 
-    // What the command takes.
-    fn takes(self) -> &'static [(Argument, usize, usize)]
+    /// The word that names the command.
+    pub fn title<'a>(self) -> &'a str
+        ensures { result.now ≡ title self }
+    {
+        match self {
+            CommandName::TypeScript => "type",
+            CommandName::Serve => "serve",
+            CommandName::Check => "check",
+            CommandName::Dump => "dump",
+            CommandName::Load => "load",
+        }
+    }
+
+    /// What the command takes: the arguments, with the least and the most times that each is given.
+    pub fn takes(self) -> &'static [(Argument, usize, usize)]
         ensures value { result.now ≡ takes self }
         ensures few { length result.now ≤ 16 }
     {

@@ -1,15 +1,12 @@
 -- What is left of commands that do not wait, and of those that do, and the sessions of a load.
-use Rattle.std.proofs.Common.{◌≡◌, ◌≤◌, ◌∙◌, ap, sym, subst, ℕ, Bool, true, false, cond, unwrap_or}
+use Rattle.std.proofs.Common.{◌≡◌, ◌∙◌, ap, sym, ℕ, Bool, true, false, cond, unwrap_or}
 use Rattle.std.proofs.Common.{Option, None, Some, List}
 use Rattle.std.specs.Borrow.{Bor}
 use Rattle.std.specs.Option.{is_some, option_copied, option_map}
-use Rattle.command_line.specs.Command.{book_dumped, command_of, file_checked, load_played, load_to_play, may_wait}
+use Rattle.command_line.specs.Command.{book_dumped, command_of, file_checked, load_played, may_wait}
 use Rattle.command_line.specs.Command.{load_in_threads, port_served, script_in_threads, script_typed, waits}
-use Rattle.command_line.specs.RangeLaws.{numbers_in_range}
-use Rattle.command_line.specs.Ranges.{HasNumbersInRange}
 use Rattle.command_line.specs.declared.command.Command.{Command}
 use Rattle.command_line.specs.declared.command.Command.TheVariants as commands
-use Rattle.command_line.specs.declared.command.LoadOptions.{LoadOptions}
 
 -- where a test fails, what stands behind it is no answer
 kept : {X : Type 0} (b : Bool) (x : X) → b ≡ false → cond b None (Some x) ≡ None → ⊥
@@ -56,24 +53,3 @@ pub one-that-waits : (words : List (List ℕ)) (command : Command) → command_o
     → script_in_threads command ≡ None → ⊥
 one-that-waits words command is waiting =
     none-waits command (sym (ap (λ o. unwrap_or (option_map may_wait o) false) is) ∙ waiting)
-
--- the numbers of a load lie in their ranges
-options-in-range : (command : Command) (options : LoadOptions) → load_played command ≡ Some options
-    → HasNumbersInRange command → (options.sessions ≤ 64) × (options.lines ≤ 20000)
-options-in-range (commands.TypeScript given) options is range = absurd (cc is)
-options-in-range (commands.Serve given) options is range = absurd (cc is)
-options-in-range (commands.Check name) options is range = absurd (cc is)
-options-in-range (commands.Dump given) options is range = absurd (cc is)
-options-in-range (commands.Load given) options is range = by given.threads is
-  where
-    by : (threads : Bool) → cond threads None (Some given) ≡ Some options
-        → (options.sessions ≤ 64) × (options.lines ≤ 20000)
-    by true told = absurd (cc told)
-    by false told =
-        let same : given ≡ options = cc told in
-        subst (λ (o : LoadOptions). (o.sessions ≤ 64) × (o.lines ≤ 20000)) same (range.1.1, range.2.1)
-
-pub loads-in-range : (words : List (List ℕ)) (command : Command) (options : LoadOptions)
-    → command_of words ≡ Some command → load_played command ≡ Some options
-    → (options.sessions ≤ 64) × (options.lines ≤ 20000)
-loads-in-range words command options read is = options-in-range command options is (numbers_in_range words command read)

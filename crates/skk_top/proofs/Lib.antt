@@ -6,6 +6,7 @@ mod Examples
 pub mod KeyLines
 mod LoadExamples
 pub mod LoadInput
+pub mod LoadWords
 pub mod Loads
 pub mod Pages
 pub mod PlayedLines

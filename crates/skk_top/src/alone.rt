@@ -20,7 +20,7 @@ use crate::check_command::run_check;
 use crate::dump_command::run_dump;
 use crate::fault::{RunFault, end_run, end_uncalled};
 use crate::finish::Finish;
-use crate::load_command::run_load_by_one;
+use crate::load_words::run_load_alone;
 use crate::one_caller::run_by_one;
 use command_line::read_command;
 use skk_disk::Disk;
@@ -96,11 +96,11 @@ pub fn run_alone<H: Shelf, D: Disk, I: Source, O: Sink, E: Sink>(
     if command.book_dumped().is_some() {
         return end_run(run_dump(alloc, words, disk, out), err);
     }
-    if let Some(options) = command.script_typed() {
-        return end_run(run_by_one(alloc, options, shelf, disk, input, out), err);
+    if command.load_played().is_some() {
+        return end_run(run_load_alone(alloc, words, disk, out), err);
     }
-    let Some(options) = command.load_played() else {
+    let Some(options) = command.script_typed() else {
         unreachable!();
     };
-    end_run(run_load_by_one(alloc, options, disk, out), err)
+    end_run(run_by_one(alloc, options, shelf, disk, input, out), err)
 }

@@ -19,6 +19,7 @@ mod learned_file;
 mod load_command;
 mod load_each;
 mod load_opening;
+mod load_words;
 mod manner;
 mod one_caller;
 mod opening;

@@ -1,8 +1,8 @@
-use Rattle.std.proofs.Common.{◌≡◌, ◌∙◌, sym, ap, subst, Option, Some, IfSome}
-use Rattle.std.specs.Option.{option_and_then}
+use Rattle.std.proofs.Common.{◌≡◌, ◌∙◌, sym, ap, subst, true, Option, Some, IfSome}
+use Rattle.std.specs.Option.{is_some, option_and_then}
 use Rattle.skk_outside.specs.Moved.{moved_shelf, moved_source, moved_sink}
 use Rattle.command_line.specs.Command.{book_to_dump, load_played, load_to_play, script_typed, script_to_type}
-use Rattle.command_line.specs.declared.command.LoadOptions.{LoadOptions}
+use Rattle.command_line.specs.OptionLaws.{some-of}
 use Rattle.command_line.specs.declared.command.TypeOptions.{TypeOptions}
 use Rattle.skk_top.specs.Disks.{moved_disk}
 use Rattle.skk_top.specs.DumpCommand.{LeavesDumped}
@@ -10,33 +10,32 @@ use Rattle.skk_top.specs.Finishes.{run_of, HasFailed}
 use Rattle.skk_top.specs.LoadCommand.{LeavesLoaded, LoadsLines}
 use Rattle.skk_top.specs.TypeCommand.{LeavesTyped, TypesLines}
 use Rattle.skk_top.specs.declared.finish.Finish.{Finish}
-use Rattle.skk_top.proofs.AloneCommands.{loads-in-range, none-of, one-of-these}
 use Rattle.skk_top.proofs.Disks.{stands-finish, stands-quiet}
 use Rattle.skk_top.proofs.Outside.{outside-loaded, outside-typed}
 use Rattle.skk_top.proofs.alone.run_alone.Goals as goal
 
-pub returns-in-Some-script_typed-clause-types : goal.returns-in-Some-script_typed-clause-types
-returns-in-Some-script_typed-clause-types g c =
+pub returns-clause-types : goal.returns-clause-types
+returns-clause-types g c =
     let shelf = moved_shelf g.H.Shelf.file g.H.Outside.faults c.args.shelf.now c.run_by_one.new.shelf in
     let input = moved_source g.I.Outside.left g.I.Outside.faults c.args.input.now c.run_by_one.new.input in
     let out = moved_sink g.O.Outside.written g.O.Outside.faults c.args.out.now c.run_by_one.new.out in
     let disk =
     moved_disk g.D.Disk.tells g.D.Disk.seen g.D.Disk.time g.D.Outside.faults g.D.Disk.left_since c.args.disk
-    c.end_run-in-Some-script_typed.result.disk in
+    c.end_run-2.result.disk in
     let options = c.in-Some-script_typed.options.now in
     let named : script_to_type c.args.words.now ≡ Some options =
     ap (option_and_then script_typed) (sym c.in-Some.ensures) ∙ sym c.in-Some-script_typed.ensures in
     subst (λ (given : Option TypeOptions). IfSome given
-    (λ os. LeavesTyped TypesLines os (run_of c.end_run-in-Some-script_typed.result) shelf input out disk)) (sym named)
-    (rw c.end_run-in-Some-script_typed.ensures.finish c.run_by_one.ensures.leaves)
+    (λ os. LeavesTyped TypesLines os (run_of c.end_run-2.result) shelf input out disk)) (sym named)
+    (rw c.end_run-2.ensures.finish c.run_by_one.ensures.leaves)
 
-pub returns-in-Some-script_typed-clause-outside : goal.returns-in-Some-script_typed-clause-outside
-returns-in-Some-script_typed-clause-outside g c is =
+pub returns-clause-outside : goal.returns-clause-outside
+returns-clause-outside g c is =
     let D = g.D.Disk in
     let shelf = moved_shelf g.H.Shelf.file g.H.Outside.faults c.args.shelf.now c.run_by_one.new.shelf in
     let input = moved_source g.I.Outside.left g.I.Outside.faults c.args.input.now c.run_by_one.new.input in
     let out = moved_sink g.O.Outside.written g.O.Outside.faults c.args.out.now c.run_by_one.new.out in
-    let finish = c.end_run-in-Some-script_typed.ensures.finish in
+    let finish = c.end_run-2.ensures.finish in
     subst (λ (f : Finish g.row.D.Denot). HasFailed shelf input out
     (moved_disk D.tells D.seen D.time g.D.Outside.faults D.left_since c.args.disk f.disk)) (sym finish)
     (outside-typed c.in-Some-script_typed.options.now c.run_by_one.result shelf input out
@@ -71,47 +70,46 @@ returns-then-is_some-clause-stands g c =
     stands-finish D.tells D.seen D.time g.D.Outside.faults D.left_since c.args.disk c.run_dump.result
     c.end_run-then-is_some.result c.end_run-then-is_some.ensures.finish c.run_dump.ensures.stands
 
-pub returns-in-Some-script_typed-clause-stands : goal.returns-in-Some-script_typed-clause-stands
-returns-in-Some-script_typed-clause-stands g c =
-    let D = g.D.Disk in
-    stands-finish D.tells D.seen D.time g.D.Outside.faults D.left_since c.args.disk c.run_by_one.result
-    c.end_run-in-Some-script_typed.result c.end_run-in-Some-script_typed.ensures.finish c.run_by_one.ensures.stands
-
-pub run_load_by_one-requires : goal.run_load_by_one-requires
-run_load_by_one-requires g c =
-    let options = c.in-Some-load_played.options in
-    let range = loads-in-range c.args.words.now c.in-Some.command options (sym c.in-Some.ensures)
-    (sym c.in-Some-load_played.ensures) in
-    record { sessions = range.0; lines = range.1 }
-
-pub returns-clause-loads : goal.returns-clause-loads
-returns-clause-loads g c =
-    let D = g.D.Disk in
-    let out = moved_sink g.O.Outside.written g.O.Outside.faults c.args.out.now c.run_load_by_one.new.out in
-    let disk = moved_disk D.tells D.seen D.time g.D.Outside.faults D.left_since c.args.disk c.end_run-2.result.disk in
-    let options = c.in-Some-load_played.options in
-    let named : load_to_play c.args.words.now ≡ Some options =
-    ap (option_and_then load_played) (sym c.in-Some.ensures) ∙ sym c.in-Some-load_played.ensures in
-    subst (λ (given : Option LoadOptions). IfSome given
-    (λ os. LeavesLoaded (LoadsLines os) (run_of c.end_run-2.result) out disk)) (sym named)
-    (rw c.end_run-2.ensures.finish c.run_load_by_one.ensures.leaves)
-
-pub returns-clause-outside : goal.returns-clause-outside
-returns-clause-outside g c is =
-    let D = g.D.Disk in
-    let shelf = moved_shelf g.H.Shelf.file g.H.Outside.faults c.args.shelf.now c.args.shelf.now in
-    let input = moved_source g.I.Outside.left g.I.Outside.faults c.args.input.now c.args.input.now in
-    let out = moved_sink g.O.Outside.written g.O.Outside.faults c.args.out.now c.run_load_by_one.new.out in
-    let finish = c.end_run-2.ensures.finish in
-    subst (λ (f : Finish g.row.D.Denot). HasFailed shelf input out
-    (moved_disk D.tells D.seen D.time g.D.Outside.faults D.left_since c.args.disk f.disk)) (sym finish)
-    (outside-loaded c.run_load_by_one.result shelf input out
-    (moved_disk D.tells D.seen D.time g.D.Outside.faults D.left_since c.args.disk c.run_load_by_one.result.disk)
-    (sym (ap (λ (f : Finish g.row.D.Denot). f.ended) finish) ∙ is) c.in-Some-load_played.options
-    c.run_load_by_one.ensures.leaves)
-
 pub returns-clause-stands : goal.returns-clause-stands
 returns-clause-stands g c =
     let D = g.D.Disk in
-    stands-finish D.tells D.seen D.time g.D.Outside.faults D.left_since c.args.disk c.run_load_by_one.result
-    c.end_run-2.result c.end_run-2.ensures.finish c.run_load_by_one.ensures.stands
+    stands-finish D.tells D.seen D.time g.D.Outside.faults D.left_since c.args.disk c.run_by_one.result
+    c.end_run-2.result c.end_run-2.ensures.finish c.run_by_one.ensures.stands
+
+-- lines that are played
+pub run_load_alone-requires : goal.run_load_alone-requires
+run_load_alone-requires g c =
+    ap is_some (ap (option_and_then load_played) (sym c.in-Some.ensures) ∙ sym c.load_played.ensures)
+    ∙ sym c.is_some-2.ensures ∙ c.if-is_some-2.true
+
+pub returns-then-is_some-2-clause-loads : goal.returns-then-is_some-2-clause-loads
+returns-then-is_some-2-clause-loads g c =
+    let D = g.D.Disk in
+    let out = moved_sink g.O.Outside.written g.O.Outside.faults c.args.out.now c.run_load_alone.new.out in
+    subst (λ (f : Finish g.row.D.Denot). IfSome (load_to_play c.args.words.now) (λ options.
+    LeavesLoaded (LoadsLines options) (run_of f) out
+    (moved_disk D.tells D.seen D.time g.D.Outside.faults D.left_since c.args.disk f.disk)))
+    (sym c.end_run-then-is_some-2.ensures.finish) c.run_load_alone.ensures.leaves
+
+pub returns-then-is_some-2-clause-outside : goal.returns-then-is_some-2-clause-outside
+returns-then-is_some-2-clause-outside g c is =
+    let D = g.D.Disk in
+    let shelf = moved_shelf g.H.Shelf.file g.H.Outside.faults c.args.shelf.now c.args.shelf.now in
+    let input = moved_source g.I.Outside.left g.I.Outside.faults c.args.input.now c.args.input.now in
+    let out = moved_sink g.O.Outside.written g.O.Outside.faults c.args.out.now c.run_load_alone.new.out in
+    let finish = c.end_run-then-is_some-2.ensures.finish in
+    let some : is_some (load_to_play c.args.words.now) ≡ true =
+    ap is_some (ap (option_and_then load_played) (sym c.in-Some.ensures) ∙ sym c.load_played.ensures)
+    ∙ sym c.is_some-2.ensures ∙ c.if-is_some-2.true in
+    let one = some-of (load_to_play c.args.words.now) some c.run_load_alone.ensures.leaves in
+    subst (λ (f : Finish g.row.D.Denot). HasFailed shelf input out
+    (moved_disk D.tells D.seen D.time g.D.Outside.faults D.left_since c.args.disk f.disk)) (sym finish)
+    (outside-loaded c.run_load_alone.result shelf input out
+    (moved_disk D.tells D.seen D.time g.D.Outside.faults D.left_since c.args.disk c.run_load_alone.result.disk)
+    (sym (ap (λ (f : Finish g.row.D.Denot). f.ended) finish) ∙ is) one.0 one.1)
+
+pub returns-then-is_some-2-clause-stands : goal.returns-then-is_some-2-clause-stands
+returns-then-is_some-2-clause-stands g c =
+    let D = g.D.Disk in
+    stands-finish D.tells D.seen D.time g.D.Outside.faults D.left_since c.args.disk c.run_load_alone.result
+    c.end_run-then-is_some-2.result c.end_run-then-is_some-2.ensures.finish c.run_load_alone.ensures.stands

@@ -1,13 +1,13 @@
-use Rattle.std.proofs.Common.{◌≡◌, ◌⊎◌, ◌∙◌, sym, ap, subst, inl, Option, Some, IfSome}
-use Rattle.std.specs.Option.{option_and_then}
+use Rattle.std.proofs.Common.{◌≡◌, ◌⊎◌, ◌∙◌, sym, ap, subst, inl, true, Option, Some, IfSome}
+use Rattle.std.specs.Option.{is_some, option_and_then}
 use Rattle.skk_outside.specs.Faults.{Rose}
 use Rattle.skk_outside.specs.Moved.{moved_shelf, moved_source, moved_sink}
 use Rattle.skk_server.specs.Services.{seen_listener}
 use Rattle.skk_server.specs.Visits.{seen_link}
 use Rattle.command_line.specs.Command.{load_in_threads, load_to_share, port_served, port_to_serve, script_in_threads}
 use Rattle.command_line.specs.Command.{script_to_weave}
-use Rattle.command_line.specs.RangeLaws.{IsLoad, IsService, loads-in-range, ports-in-range}
-use Rattle.command_line.specs.declared.command.LoadOptions.{LoadOptions}
+use Rattle.command_line.specs.OptionLaws.{some-of}
+use Rattle.command_line.specs.RangeLaws.{IsService, ports-in-range}
 use Rattle.command_line.specs.declared.command.ServeOptions.{ServeOptions}
 use Rattle.command_line.specs.declared.command.TypeOptions.{TypeOptions}
 use Rattle.skk_top.specs.Disks.{moved_disk}
@@ -17,7 +17,6 @@ use Rattle.skk_top.specs.ServeCommand.{LeavesServed, moved_listener}
 use Rattle.skk_top.specs.TypeCommand.{LeavesTyped}
 use Rattle.skk_top.specs.WeaveCommand.{WeavesLines}
 use Rattle.skk_top.specs.declared.finish.Finish.{Finish}
-use Rattle.skk_top.proofs.AloneCommands.{none-of, one-that-waits}
 use Rattle.skk_top.proofs.Disks.{stands-finish}
 use Rattle.skk_top.proofs.Outside.{outside-served, outside-shared, outside-woven}
 use Rattle.skk_top.proofs.waiting.run.Goals as goal
@@ -79,50 +78,42 @@ returns-in-Some-port_served-clause-stands g c =
 
 -- A load
 
-pub run_load_by_each-requires-clause-sessions : goal.run_load_by_each-requires-clause-sessions
-run_load_by_each-requires-clause-sessions g c κs within =
-    let named : load_to_share c.args.words.now ≡ Some c.in-Some-load_in_threads.options =
-    ap (option_and_then load_in_threads) (sym c.in-Some.ensures) ∙ sym c.in-Some-load_in_threads.ensures in
-    (subst (λ (given : Option LoadOptions). IfSome given IsLoad) named (loads-in-range c.args.words.now)).0
+pub run_load_in_threads-requires-clause-shared : goal.run_load_in_threads-requires-clause-shared
+run_load_in_threads-requires-clause-shared g c κs within =
+    ap is_some (ap (option_and_then load_in_threads) (sym c.in-Some.ensures) ∙ sym c.load_in_threads.ensures)
+    ∙ sym c.is_some.ensures ∙ c.if-is_some.true
 
-pub run_load_by_each-requires-clause-lines : goal.run_load_by_each-requires-clause-lines
-run_load_by_each-requires-clause-lines g c κs within =
-    let named : load_to_share c.args.words.now ≡ Some c.in-Some-load_in_threads.options =
-    ap (option_and_then load_in_threads) (sym c.in-Some.ensures) ∙ sym c.in-Some-load_in_threads.ensures in
-    (subst (λ (given : Option LoadOptions). IfSome given IsLoad) named (loads-in-range c.args.words.now)).1
-
-pub returns-in-Some-load_in_threads-clause-loads : goal.returns-in-Some-load_in_threads-clause-loads
-returns-in-Some-load_in_threads-clause-loads g c =
+pub returns-then-is_some-clause-loads : goal.returns-then-is_some-clause-loads
+returns-then-is_some-clause-loads g c =
     let D = g.D.Disk in
-    let finish = c.end_run-in-Some-load_in_threads in
-    let out = moved_sink g.O.Outside.written g.O.Outside.faults c.args.out.now c.run_load_by_each.new.out in
-    let disk = moved_disk D.tells D.seen D.time g.D.Outside.faults D.left_since c.args.disk finish.result.disk in
-    let named : load_to_share c.args.words.now ≡ Some c.in-Some-load_in_threads.options =
-    ap (option_and_then load_in_threads) (sym c.in-Some.ensures) ∙ sym c.in-Some-load_in_threads.ensures in
-    subst (λ (given : Option LoadOptions). IfSome given
-    (λ os. LeavesLoaded (LoadsTasks os) (run_of finish.result) out disk)) (sym named)
-    (rw finish.ensures.finish c.run_load_by_each.ensures.leaves)
+    let out = moved_sink g.O.Outside.written g.O.Outside.faults c.args.out.now c.run_load_in_threads.new.out in
+    subst (λ (f : Finish g.row.D.Denot). IfSome (load_to_share c.args.words.now) (λ options.
+    LeavesLoaded (LoadsTasks options) (run_of f) out
+    (moved_disk D.tells D.seen D.time g.D.Outside.faults D.left_since c.args.disk f.disk)))
+    (sym c.end_run-then-is_some.ensures.finish) c.run_load_in_threads.ensures.leaves
 
-pub returns-in-Some-load_in_threads-clause-outside : goal.returns-in-Some-load_in_threads-clause-outside
-returns-in-Some-load_in_threads-clause-outside g c is =
+pub returns-then-is_some-clause-outside : goal.returns-then-is_some-clause-outside
+returns-then-is_some-clause-outside g c is =
     let D = g.D.Disk in
     let shelf = moved_shelf g.H.Shelf.file g.H.Outside.faults c.args.shelf.now c.args.shelf.now in
     let input = moved_source g.I.Outside.left g.I.Outside.faults c.args.input.now c.args.input.now in
-    let out = moved_sink g.O.Outside.written g.O.Outside.faults c.args.out.now c.run_load_by_each.new.out in
-    let finish = c.end_run-in-Some-load_in_threads.ensures.finish in
+    let out = moved_sink g.O.Outside.written g.O.Outside.faults c.args.out.now c.run_load_in_threads.new.out in
+    let finish = c.end_run-then-is_some.ensures.finish in
+    let some : is_some (load_to_share c.args.words.now) ≡ true =
+    ap is_some (ap (option_and_then load_in_threads) (sym c.in-Some.ensures) ∙ sym c.load_in_threads.ensures)
+    ∙ sym c.is_some.ensures ∙ c.if-is_some.true in
+    let one = some-of (load_to_share c.args.words.now) some c.run_load_in_threads.ensures.leaves in
     inl (subst (λ (f : Finish g.row.D.Denot). HasFailed shelf input out
     (moved_disk D.tells D.seen D.time g.D.Outside.faults D.left_since c.args.disk f.disk)) (sym finish)
-    (outside-shared c.run_load_by_each.result shelf input out
-    (moved_disk D.tells D.seen D.time g.D.Outside.faults D.left_since c.args.disk c.run_load_by_each.result.disk)
-    (sym (ap (λ (f : Finish g.row.D.Denot). f.ended) finish) ∙ is) c.in-Some-load_in_threads.options
-    c.run_load_by_each.ensures.leaves))
+    (outside-shared c.run_load_in_threads.result shelf input out
+    (moved_disk D.tells D.seen D.time g.D.Outside.faults D.left_since c.args.disk c.run_load_in_threads.result.disk)
+    (sym (ap (λ (f : Finish g.row.D.Denot). f.ended) finish) ∙ is) one.0 one.1))
 
-pub returns-in-Some-load_in_threads-clause-stands : goal.returns-in-Some-load_in_threads-clause-stands
-returns-in-Some-load_in_threads-clause-stands g c =
+pub returns-then-is_some-clause-stands : goal.returns-then-is_some-clause-stands
+returns-then-is_some-clause-stands g c =
     let D = g.D.Disk in
-    stands-finish D.tells D.seen D.time g.D.Outside.faults D.left_since c.args.disk c.run_load_by_each.result
-    c.end_run-in-Some-load_in_threads.result c.end_run-in-Some-load_in_threads.ensures.finish
-    c.run_load_by_each.ensures.stands
+    stands-finish D.tells D.seen D.time g.D.Outside.faults D.left_since c.args.disk c.run_load_in_threads.result
+    c.end_run-then-is_some.result c.end_run-then-is_some.ensures.finish c.run_load_in_threads.ensures.stands
 
 -- A script that is typed
 

@@ -1,0 +1,40 @@
+use Rattle.std.proofs.Common.{sym, subst, refl, inl}
+use Rattle.skk_outside.specs.Moved.{moved_sink}
+use Rattle.command_line.specs.Command.{load_alone, load_asked, load_to_play}
+use Rattle.command_line.specs.OptionLaws.{IfSome-all}
+use Rattle.skk_top.specs.Disks.{moved_disk}
+use Rattle.skk_top.specs.LoadCommand.{LeavesLoaded, LoadsLines}
+use Rattle.skk_top.specs.declared.finish.Run.{Run}
+use Rattle.skk_top.proofs.LoadWords.{asked_there, of_played, options_in_range, played_of}
+use Rattle.skk_top.proofs.Runs.{Keeps-self}
+use Rattle.skk_top.proofs.load_words.run_load_alone.Goals as goal
+
+pub options_of-requires : goal.options_of-requires
+options_of-requires g c =
+    let words = c.args.words.now in
+    asked_there load_alone (load_asked words) (load_to_play words) (played_of words) c.requires
+
+pub run_load_by_one-requires : goal.run_load_by_one-requires
+run_load_by_one-requires g c =
+    let range = options_in_range c.args.words.now c.in-Ok.options c.in-Ok.ensures in
+    record { sessions = range.0; lines = range.1 }
+
+pub returns-in_default-clause-leaves : goal.returns-in_default-clause-leaves
+returns-in_default-clause-leaves g c =
+    let D = g.D.Disk in
+    let out = moved_sink g.O.Outside.written g.O.Outside.faults c.args.out.now c.args.out.now in
+    IfSome-all (load_to_play c.args.words.now) _ (λ options.
+    subst (λ (r : Run g.row.D.Denot). LeavesLoaded (LoadsLines options) r out
+    (moved_disk D.tells D.seen D.time g.D.Outside.faults D.left_since c.args.disk r.disk))
+    (sym c.end_unopened.ensures.run)
+    (inl (record { cause = tt; uncalled = refl; unwritten = Keeps-self _ })))
+
+pub returns-clause-leaves : goal.returns-clause-leaves
+returns-clause-leaves g c =
+    let D = g.D.Disk in
+    let out = moved_sink g.O.Outside.written g.O.Outside.faults c.args.out.now c.run_load_by_one.new.out in
+    let run = c.run_load_by_one.result in
+    of_played c.args.words.now c.in-Ok.options
+    (λ options. LeavesLoaded (LoadsLines options) run out
+    (moved_disk D.tells D.seen D.time g.D.Outside.faults D.left_since c.args.disk run.disk))
+    c.in-Ok.ensures c.run_load_by_one.ensures.leaves

@@ -1,0 +1,43 @@
+use Rattle.std.proofs.Common.{sym, subst, refl, inl}
+use Rattle.skk_outside.specs.Moved.{moved_sink}
+use Rattle.command_line.specs.Command.{load_asked, load_shared, load_to_share}
+use Rattle.command_line.specs.OptionLaws.{IfSome-all}
+use Rattle.skk_top.specs.Disks.{moved_disk}
+use Rattle.skk_top.specs.LoadCommand.{LeavesLoaded, LoadsTasks}
+use Rattle.skk_top.specs.declared.finish.Run.{Run}
+use Rattle.skk_top.proofs.LoadWords.{asked_there, of_shared, options_in_range, shared_of}
+use Rattle.skk_top.proofs.Runs.{Keeps-self}
+use Rattle.skk_top.proofs.load_words.run_load_in_threads.Goals as goal
+
+pub options_of-requires : goal.options_of-requires
+options_of-requires g c =
+    let words = c.args.words.now in
+    asked_there load_shared (load_asked words) (load_to_share words) (shared_of words) c.requires.shared
+
+pub run_load_by_each-requires-clause-sessions : goal.run_load_by_each-requires-clause-sessions
+run_load_by_each-requires-clause-sessions g c κs within =
+    (options_in_range c.args.words.now c.in-Ok.options c.in-Ok.ensures).0
+
+pub run_load_by_each-requires-clause-lines : goal.run_load_by_each-requires-clause-lines
+run_load_by_each-requires-clause-lines g c κs within =
+    (options_in_range c.args.words.now c.in-Ok.options c.in-Ok.ensures).1
+
+pub returns-in_default-clause-leaves : goal.returns-in_default-clause-leaves
+returns-in_default-clause-leaves g c =
+    let D = g.D.Disk in
+    let out = moved_sink g.O.Outside.written g.O.Outside.faults c.args.out.now c.args.out.now in
+    IfSome-all (load_to_share c.args.words.now) _ (λ options.
+    subst (λ (r : Run g.row.D.Denot). LeavesLoaded (LoadsTasks options) r out
+    (moved_disk D.tells D.seen D.time g.D.Outside.faults D.left_since c.args.disk r.disk))
+    (sym c.end_unopened.ensures.run)
+    (inl (record { cause = tt; uncalled = refl; unwritten = Keeps-self _ })))
+
+pub returns-clause-leaves : goal.returns-clause-leaves
+returns-clause-leaves g c =
+    let D = g.D.Disk in
+    let out = moved_sink g.O.Outside.written g.O.Outside.faults c.args.out.now c.run_load_by_each.new.out in
+    let run = c.run_load_by_each.result in
+    of_shared c.args.words.now c.in-Ok.options
+    (λ options. LeavesLoaded (LoadsTasks options) run out
+    (moved_disk D.tells D.seen D.time g.D.Outside.faults D.left_since c.args.disk run.disk))
+    c.in-Ok.ensures c.run_load_by_each.ensures.leaves
