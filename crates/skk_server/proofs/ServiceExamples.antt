@@ -1,7 +1,7 @@
 -- What is said of connections that were served, and of how their serving ended, at some of them.
 use Rattle.std.proofs.Common.{◌≡◌, List, [], ◌∷◌, None, Some, refl, arith, inl, inr}
 use Rattle.romaji_rules.specs.declared.rule.Rule.{Rule}
-use Rattle.skk_server.specs.declared.served_end.ServedEnd.TheVariants.{Done, Fault}
+use Rattle.skk_server.specs.declared.served_end.ServedEnd.TheVariants.{Done, Fault, Memory}
 use Rattle.skk_server.specs.Services.{SeenListener, EndsServing}
 use Rattle.skk_server.specs.Visits.{SeenLink, SeenCaller, Visit, AreServed}
 
@@ -43,3 +43,7 @@ module _ {N L : Type 0} (nets : SeenListener N L) (net net' : N) where
   -- a link without a caller is accepted by nothing but want of memory
   pub refused-by-memory : EndsServing nets net net' 3 2 1 Fault → ⊥
   refused-by-memory ends = absurd (omega (arith, ends.0))
+
+  -- memory was not out where as many had a caller as were asked for
+  pub no-want-of-all : EndsServing nets net net' 3 3 3 Memory → ⊥
+  no-want-of-all ends = absurd (omega (arith, ends))

@@ -1,10 +1,12 @@
-//! The top call: all that the program does, over what it is handed of the outside.
+//! The top calls: all that the program does, over what it is handed of the outside.
 //!
-//! It stands on all crates below. `run_alone` reads the words to a command, runs it, tells on standard
-//! error why a run was not done, and answers the status, the chronicle of its calls and the disk. Each command
-//! has a module of its own and one relation that says what a run of it leaves. What is typed is answered over
-//! the system files and the learned file by the one caller of a run, which notes its calls; at each moment of a
-//! run a stop leaves a learned file that is opened as a state that a part of these calls may leave.
+//! It stands on the crates below that a command is made of; `command_line` reads the words to a command. `waits` tells
+//! whether what the words ask for may wait, and so which of the two top calls serves it: `run_alone` runs in one
+//! thread, and `run` starts threads and waits for them. Either one runs the command, tells on standard error why a run
+//! was not done, and answers the status, the chronicle of its calls and the disk. Each command has a module of its own
+//! and one relation that says what a run of it leaves. In one thread, the calls are those of one caller, which notes
+//! them; in threads, each session or connection has a caller of its own, and the calls of all are one history. At each
+//! moment of a run a stop leaves a learned file that is opened as a state that a part of these calls may leave.
 #![tactic(auto)]
 
 mod alone;
