@@ -3,7 +3,8 @@ use Rattle.std.proofs.Common.{◌≡◌, inl, inr, sym, ◌∙◌, ap, subst, re
 use Rattle.std.proofs.Common.{None}
 use Rattle.std.proofs.lemmas.List.Elements.{All-nil}
 use Rattle.skk_calls.specs.declared.chronicle.Noted.{Noted}
-use Rattle.skk_calls.specs.Histories.{Opening}
+use Rattle.skk_calls.specs.Chronicles.{history_of}
+use Rattle.skk_calls.specs.Histories.{Opening, state_after}
 use Rattle.skk_calls.specs.Rows.{Row}
 use Rattle.skk_calls.specs.States.{State}
 use Rattle.skk_disk.specs.Image.{Image}
@@ -128,6 +129,20 @@ keeps-closed time faults left_since opening past notes store stands now = record
   now = subst (λ (s : State). RecoverAmong s (left_behind opening.state notes)
       (left_since store.journal.disk (time store.journal.disk))) stands.state now;
   goes_on = stands.goes_on;
+}
+
+-- what the callers of a desk leave of the disk, which is closed then
+pub keeps-desk : {D : Type 0} (time faults : D → ℕ) (left_since : D → ℕ → Image → Type 0) (opening : Opening)
+    (past : ℕ → Image → Type 0) (notes : List Noted) (left : D) (store : OpenStore D) → left ≡ store.journal.disk
+    → Stands time faults left_since opening past notes store
+    → RecoverAmong (state_after opening.state (history_of notes)) (left_behind opening.state notes)
+    (left_since left (time left))
+    → KeepsDisk opening notes (disk_now time faults left_since left)
+keeps-desk {D} time faults left_since opening past notes left store is stands now = record {
+  moments = subst (λ (d : D). StandsOver opening.state notes opening.time (time d) (left_since d)) (sym is)
+      stands.moments;
+  now = now;
+  goes_on = subst (λ (d : D). GoOn opening.time opening.faults notes (time d) (faults d)) (sym is) stands.goes_on;
 }
 
 -- why a learned file is not had, by why it was not opened

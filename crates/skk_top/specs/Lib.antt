@@ -13,5 +13,6 @@ pub mod RunRules
 pub mod ServeCommand
 pub mod Status
 pub mod TypeCommand
+pub mod TypedTasks
 pub mod Typing
 pub mod WeaveCommand

@@ -20,7 +20,7 @@ use crate::check_command::run_check;
 use crate::dump_command::run_dump;
 use crate::fault::{RunFault, end_run, end_uncalled};
 use crate::finish::Finish;
-use crate::load_words::run_load_alone;
+use crate::load_command::run_load_by_one;
 use crate::one_caller::run_by_one;
 use command_line::read_command;
 use skk_disk::Disk;
@@ -97,7 +97,7 @@ pub fn run_alone<H: Shelf, D: Disk, I: Source, O: Sink, E: Sink>(
         return end_run(run_dump(alloc, words, disk, out), err);
     }
     if command.load_played().is_some() {
-        return end_run(run_load_alone(alloc, words, disk, out), err);
+        return end_run(run_load_by_one(alloc, words, disk, out), err);
     }
     let Some(options) = command.script_typed() else {
         unreachable!();

@@ -1,4 +1,5 @@
-ghost use Rattle.std.specs.Prelude.{◌≡◌, ◌≤◌, ◌⊎◌, [], None, Err, IfOk, OnErr, OnOk, encode_utf8_all};
+ghost use Rattle.std.specs.Prelude.{◌≡◌, ◌≤◌, ◌⊎◌, [], None, Err, IfOk, IfSome, IsSome, OnErr, OnOk};
+ghost use Rattle.std.specs.Prelude.{encode_utf8_all};
 ghost use Rattle.std.specs.Io.KnownBytes.{Keeps as keeps_bytes};
 ghost use Rattle.skk_calls.specs.Openings.{said_in};
 ghost use Rattle.skk_disk.specs.Moments.{SameImages};
@@ -7,6 +8,7 @@ ghost use Rattle.skk_journal.specs.Images.{SameOther};
 ghost use Rattle.skk_outside.specs.Moved.{moved_sink};
 ghost use Rattle.romaji_rules.specs.Standard.{standard};
 ghost use Rattle.learned_store.specs.Stores.{opening_now, Keeps};
+ghost use Rattle.command_line.specs.Command.{load_to_play};
 ghost use Rattle.skk_top.specs.Disks.{disk_now, moved_disk, RunsOver, StandsSince};
 ghost use Rattle.skk_top.specs.Finishes.{EndsUnbegun};
 ghost use Rattle.skk_top.specs.LoadCommand.{load_lines, summed, LeavesLoaded, LoadsLines};
@@ -14,7 +16,8 @@ ghost use Rattle.skk_top.specs.Page.{LeavesPrinted};
 
 use crate::fault::RunFault;
 use crate::finish::{Run, end_by};
-use crate::load_opening::open_load;
+use crate::load_opening::{open_load, options_of};
+use crate::opening::end_unopened;
 use crate::playing::play_lines;
 use crate::summary::print_summary;
 use command_line::LoadOptions;
@@ -26,7 +29,7 @@ use session_machine::Session;
 use skk_calls::Tally;
 use skk_disk::Disk;
 use skk_outside::Sink;
-use skk_text::{Memory, Sequence};
+use skk_text::{Memory, Sequence, Text};
 use std::alloc::Global;
 use std::collections::BTreeMap;
 use std::marker::Brand;
@@ -39,24 +42,27 @@ pub struct Load {
     pub lines: Sequence<Line>,
 }
 
-/// The command `load` where one caller makes all calls: opens the learned file, draws the lines, plays them, and prints
-/// a summary.
+/// The command `load` where one caller makes all calls, of its words: opens the learned file, draws the lines, plays
+/// them, and prints a summary.
 pub fn run_load_by_one<D: Disk, O: Sink>(
     alloc: Global,
-    options: LoadOptions,
+    words: &[Text],
     disk: D,
     out: &mut O,
 ) -> Run<D>
-    requires sessions { options.sessions ≤ 64 }
-    requires lines { options.lines ≤ 20000 }
-    ensures leaves { LeavesLoaded (LoadsLines options) result (moved_sink O.written O.faults out.old out.new)
-        (moved_disk D.tells D.seen D.time D.faults D.left_since disk result.disk) }
+    requires { IsSome (load_to_play words.now) }
+    ensures leaves { IfSome (load_to_play words.now) (λ options. LeavesLoaded (LoadsLines options) result
+        (moved_sink O.written O.faults out.old out.new)
+        (moved_disk D.tells D.seen D.time D.faults D.left_since disk result.disk)) }
     ensures stands { StandsSince result.chronicle
         (moved_disk D.tells D.seen D.time D.faults D.left_since disk result.disk) }
     ensures other { ComeFrom SameOther (D.left_since disk (D.time disk)) (D.left_since result.disk (D.time disk)) }
     ensures disk_counted { D.faults disk ≤ D.faults result.disk }
     ensures out_counted { O.faults out.old ≤ O.faults out.new }
 {
+    let Ok(options) = options_of(alloc, words) else {
+        return end_unopened(RunFault::Memory, disk);
+    };
     match open_load(alloc, disk) {
         Ok(store) => load_by_one(alloc, options, store, out),
         Err(run) => run,

@@ -21,7 +21,7 @@ ghost use Rattle.skk_top.specs.WeaveCommand.{WeavesLines};
 use crate::caller_each::run_by_each;
 use crate::fault::{RunFault, end_run, end_uncalled};
 use crate::finish::Finish;
-use crate::load_words::run_load_in_threads;
+use crate::load_each::run_load_by_each;
 use crate::serve_command::run_serve;
 use command_line::read_command;
 use skk_disk::Disk;
@@ -120,7 +120,7 @@ pub fn run<
         );
     }
     if command.load_in_threads().is_some() {
-        return end_run(run_load_in_threads(rt, alloc, words, disk, out, gate), err);
+        return end_run(run_load_by_each(rt, alloc, words, disk, out, gate), err);
     }
     let Some(options) = command.script_in_threads() else {
         unreachable!();

@@ -77,39 +77,39 @@ returns-clause-stands g c =
     c.end_run-2.result c.end_run-2.ensures.finish c.run_by_one.ensures.stands
 
 -- lines that are played
-pub run_load_alone-requires : goal.run_load_alone-requires
-run_load_alone-requires g c =
+pub run_load_by_one-requires : goal.run_load_by_one-requires
+run_load_by_one-requires g c =
     ap is_some (ap (option_and_then load_played) (sym c.in-Some.ensures) ∙ sym c.load_played.ensures)
     ∙ sym c.is_some-2.ensures ∙ c.if-is_some-2.true
 
 pub returns-then-is_some-2-clause-loads : goal.returns-then-is_some-2-clause-loads
 returns-then-is_some-2-clause-loads g c =
     let D = g.D.Disk in
-    let out = moved_sink g.O.Outside.written g.O.Outside.faults c.args.out.now c.run_load_alone.new.out in
+    let out = moved_sink g.O.Outside.written g.O.Outside.faults c.args.out.now c.run_load_by_one.new.out in
     subst (λ (f : Finish g.row.D.Denot). IfSome (load_to_play c.args.words.now) (λ options.
     LeavesLoaded (LoadsLines options) (run_of f) out
     (moved_disk D.tells D.seen D.time g.D.Outside.faults D.left_since c.args.disk f.disk)))
-    (sym c.end_run-then-is_some-2.ensures.finish) c.run_load_alone.ensures.leaves
+    (sym c.end_run-then-is_some-2.ensures.finish) c.run_load_by_one.ensures.leaves
 
 pub returns-then-is_some-2-clause-outside : goal.returns-then-is_some-2-clause-outside
 returns-then-is_some-2-clause-outside g c is =
     let D = g.D.Disk in
     let shelf = moved_shelf g.H.Shelf.file g.H.Outside.faults c.args.shelf.now c.args.shelf.now in
     let input = moved_source g.I.Outside.left g.I.Outside.faults c.args.input.now c.args.input.now in
-    let out = moved_sink g.O.Outside.written g.O.Outside.faults c.args.out.now c.run_load_alone.new.out in
+    let out = moved_sink g.O.Outside.written g.O.Outside.faults c.args.out.now c.run_load_by_one.new.out in
     let finish = c.end_run-then-is_some-2.ensures.finish in
     let some : is_some (load_to_play c.args.words.now) ≡ true =
     ap is_some (ap (option_and_then load_played) (sym c.in-Some.ensures) ∙ sym c.load_played.ensures)
     ∙ sym c.is_some-2.ensures ∙ c.if-is_some-2.true in
-    let one = some-of (load_to_play c.args.words.now) some c.run_load_alone.ensures.leaves in
+    let one = some-of (load_to_play c.args.words.now) some c.run_load_by_one.ensures.leaves in
     subst (λ (f : Finish g.row.D.Denot). HasFailed shelf input out
     (moved_disk D.tells D.seen D.time g.D.Outside.faults D.left_since c.args.disk f.disk)) (sym finish)
-    (outside-loaded c.run_load_alone.result shelf input out
-    (moved_disk D.tells D.seen D.time g.D.Outside.faults D.left_since c.args.disk c.run_load_alone.result.disk)
+    (outside-loaded c.run_load_by_one.result shelf input out
+    (moved_disk D.tells D.seen D.time g.D.Outside.faults D.left_since c.args.disk c.run_load_by_one.result.disk)
     (sym (ap (λ (f : Finish g.row.D.Denot). f.ended) finish) ∙ is) one.0 one.1)
 
 pub returns-then-is_some-2-clause-stands : goal.returns-then-is_some-2-clause-stands
 returns-then-is_some-2-clause-stands g c =
     let D = g.D.Disk in
-    stands-finish D.tells D.seen D.time g.D.Outside.faults D.left_since c.args.disk c.run_load_alone.result
-    c.end_run-then-is_some-2.result c.end_run-then-is_some-2.ensures.finish c.run_load_alone.ensures.stands
+    stands-finish D.tells D.seen D.time g.D.Outside.faults D.left_since c.args.disk c.run_load_by_one.result
+    c.end_run-then-is_some-2.result c.end_run-then-is_some-2.ensures.finish c.run_load_by_one.ensures.stands

@@ -1,15 +1,14 @@
 use Rattle.std.proofs.Common.{All, List, sym, subst}
 use Rattle.skk_calls.specs.Chronicles.{history_of}
-use Rattle.skk_calls.specs.Histories.{state_after}
 use Rattle.skk_outside.specs.Moved.{moved_sink}
 use Rattle.skk_server.specs.Services.{seen_listener}
 use Rattle.skk_server.specs.Visits.{seen_link}
 use Rattle.desk_history.specs.Seats.{CallerState}
-use Rattle.learned_store.specs.Stands.{RecoverAmong, left_behind}
 use Rattle.shared_desk.specs.Told.{Stood}
-use Rattle.skk_top.specs.Disks.{KeepsDisk, disk_now}
+use Rattle.skk_top.specs.Disks.{disk_now}
 use Rattle.skk_top.specs.ServeCommand.{ServesByOffice, ServesConnections, moved_listener}
 use Rattle.skk_top.specs.Status.{Ended}
+use Rattle.skk_top.proofs.Disks.{keeps-desk}
 use Rattle.skk_top.proofs.Visits.{desk_slips, serves-closed}
 use Rattle.skk_top.proofs.serve_command.serve_at.Goals as goal
 
@@ -33,13 +32,8 @@ returns-clause-leaves g c =
     c.requires.nobody c.serve_port-outcome.ensures.serves in
     let stood = subst (λ (slips : List CallerState). All (Stood history) slips) c.of.ensures closed.slips in
     let stands = closed.stands in
-    let keeps = subst (λ (d : g.row.D.Denot). KeepsDisk opening chronicle
-    (disk_now D.time g.D.Outside.faults D.left_since d)) (sym stands.1) (record {
-      moments = stands.2.moments;
-      now = subst (λ (d : g.row.D.Denot). RecoverAmong (state_after opening.state history)
-          (left_behind opening.state chronicle) (D.left_since d (D.time d))) stands.1 closed.now;
-      goes_on = stands.2.goes_on;
-    }) in
+    let keeps = keeps-desk D.time g.D.Outside.faults D.left_since opening g.N.LearnedName.past chronicle
+    c.close-closed.result.disk stands.0 stands.1 stands.2 closed.now in
     subst (λ (e : Ended). ServesConnections asked opening table
     (record { ended = e; chronicle = chronicle; disk = c.close-closed.result.disk }) out net
     (disk_now D.time g.D.Outside.faults D.left_since c.close-closed.result.disk)) (sym c.end_wanting.ensures)

@@ -78,42 +78,42 @@ returns-in-Some-port_served-clause-stands g c =
 
 -- A load
 
-pub run_load_in_threads-requires-clause-shared : goal.run_load_in_threads-requires-clause-shared
-run_load_in_threads-requires-clause-shared g c κs within =
+pub run_load_by_each-requires-clause-shared : goal.run_load_by_each-requires-clause-shared
+run_load_by_each-requires-clause-shared g c κs within =
     ap is_some (ap (option_and_then load_in_threads) (sym c.in-Some.ensures) ∙ sym c.load_in_threads.ensures)
     ∙ sym c.is_some.ensures ∙ c.if-is_some.true
 
 pub returns-then-is_some-clause-loads : goal.returns-then-is_some-clause-loads
 returns-then-is_some-clause-loads g c =
     let D = g.D.Disk in
-    let out = moved_sink g.O.Outside.written g.O.Outside.faults c.args.out.now c.run_load_in_threads.new.out in
+    let out = moved_sink g.O.Outside.written g.O.Outside.faults c.args.out.now c.run_load_by_each.new.out in
     subst (λ (f : Finish g.row.D.Denot). IfSome (load_to_share c.args.words.now) (λ options.
     LeavesLoaded (LoadsTasks options) (run_of f) out
     (moved_disk D.tells D.seen D.time g.D.Outside.faults D.left_since c.args.disk f.disk)))
-    (sym c.end_run-then-is_some.ensures.finish) c.run_load_in_threads.ensures.leaves
+    (sym c.end_run-then-is_some.ensures.finish) c.run_load_by_each.ensures.leaves
 
 pub returns-then-is_some-clause-outside : goal.returns-then-is_some-clause-outside
 returns-then-is_some-clause-outside g c is =
     let D = g.D.Disk in
     let shelf = moved_shelf g.H.Shelf.file g.H.Outside.faults c.args.shelf.now c.args.shelf.now in
     let input = moved_source g.I.Outside.left g.I.Outside.faults c.args.input.now c.args.input.now in
-    let out = moved_sink g.O.Outside.written g.O.Outside.faults c.args.out.now c.run_load_in_threads.new.out in
+    let out = moved_sink g.O.Outside.written g.O.Outside.faults c.args.out.now c.run_load_by_each.new.out in
     let finish = c.end_run-then-is_some.ensures.finish in
     let some : is_some (load_to_share c.args.words.now) ≡ true =
     ap is_some (ap (option_and_then load_in_threads) (sym c.in-Some.ensures) ∙ sym c.load_in_threads.ensures)
     ∙ sym c.is_some.ensures ∙ c.if-is_some.true in
-    let one = some-of (load_to_share c.args.words.now) some c.run_load_in_threads.ensures.leaves in
+    let one = some-of (load_to_share c.args.words.now) some c.run_load_by_each.ensures.leaves in
     inl (subst (λ (f : Finish g.row.D.Denot). HasFailed shelf input out
     (moved_disk D.tells D.seen D.time g.D.Outside.faults D.left_since c.args.disk f.disk)) (sym finish)
-    (outside-shared c.run_load_in_threads.result shelf input out
-    (moved_disk D.tells D.seen D.time g.D.Outside.faults D.left_since c.args.disk c.run_load_in_threads.result.disk)
+    (outside-shared c.run_load_by_each.result shelf input out
+    (moved_disk D.tells D.seen D.time g.D.Outside.faults D.left_since c.args.disk c.run_load_by_each.result.disk)
     (sym (ap (λ (f : Finish g.row.D.Denot). f.ended) finish) ∙ is) one.0 one.1))
 
 pub returns-then-is_some-clause-stands : goal.returns-then-is_some-clause-stands
 returns-then-is_some-clause-stands g c =
     let D = g.D.Disk in
-    stands-finish D.tells D.seen D.time g.D.Outside.faults D.left_since c.args.disk c.run_load_in_threads.result
-    c.end_run-then-is_some.result c.end_run-then-is_some.ensures.finish c.run_load_in_threads.ensures.stands
+    stands-finish D.tells D.seen D.time g.D.Outside.faults D.left_since c.args.disk c.run_load_by_each.result
+    c.end_run-then-is_some.result c.end_run-then-is_some.ensures.finish c.run_load_by_each.ensures.stands
 
 -- A script that is typed
 

@@ -1,7 +1,7 @@
 use Rattle.learned_store.specs.Stores.{opening_now}
-use Rattle.skk_top.proofs.caller_each.type_by_each.Given as goal
+use Rattle.skk_top.proofs.typed_tasks.type_by_callers.Given as goal
 
--- the script is typed over the store as it was just opened, with the history that was just made
+-- the tasks are typed over the store as it was just opened, with the history that was just made
 abbrev pub ghosts-type_over-N-DeskName : goal.ghosts-type_over-N-DeskName
 ghosts-type_over-N-DeskName g a = record { table = a.made.0 }
 

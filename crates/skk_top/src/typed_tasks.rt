@@ -1,0 +1,141 @@
+ghost use Rattle.std.specs.Prelude.{◌≡◌, ◌≤◌, ◌+◌, ℕ, [], None, true, All, IfOk, IfErr, length};
+ghost use Rattle.std.specs.List.{list_all};
+ghost use Rattle.std.specs.Map.{values_of};
+ghost use Rattle.key_scripts.specs.Script.{opens_well};
+ghost use Rattle.skk_disk.specs.Image.{Image};
+ghost use Rattle.skk_disk.specs.Moments.{SameImages};
+ghost use Rattle.learned_store.specs.Stands.{Stands, StandsOver};
+ghost use Rattle.learned_store.specs.Stores.{OpenStore, opening_now, Keeps, Recovers};
+ghost use Rattle.script_typing.specs.MapLaws.{Ascend};
+ghost use Rattle.skk_top.specs.Disks.{disk_now, RunsOver};
+ghost use Rattle.skk_top.specs.TypedTasks.{TypesTasks};
+
+use desk_history::{DeskName, History, Pen, RollSeat};
+use key_scripts::Line;
+use learned_store::{Closed, LearnedName, Store};
+use romaji_rules::Rules;
+use script_typing::{Typed, type_tasks};
+use shared_desk::{Desk, Roll, Slips};
+use skk_disk::Disk;
+use skk_outside::Gate;
+use skk_text::{Memory, Sequence};
+use std::alloc::Global;
+use std::collections::BTreeMap;
+use std::marker::Brand;
+use std::sync::Wait;
+use std::thread::Threads;
+
+/// What is left of tasks that were typed by callers of one dictionary, which was closed then.
+#[derive(Drop)]
+pub struct TypedTasks<D> {
+    /// What was typed; nothing where memory was out for the work as a whole.
+    pub typed: Result<Typed, Memory>,
+    /// What the calls came to, their history, and the disk.
+    pub closed: Closed<D>,
+}
+
+/// Types the lines of each session over a store that was just opened, by a caller of its own, in a thread of its own
+/// where one can be started, and closes the store. Where there is no memory to begin, gives back the disk.
+pub fn type_by_callers<
+    D: Disk + Drop + Send,
+    R: Threads + Wait + Copy + Send + Sync,
+    G: Gate + Sync,
+>(
+    rt: R,
+    alloc: Global,
+    rules: &Rules,
+    tasks: BTreeMap<u8, Sequence<Line>>,
+    store: Store<D>,
+    gate: &G,
+) -> Result<TypedTasks<D>, D>
+    requires calm { Keeps D.time D.left_since store.journal store.state None }
+    requires ascend { Ascend tasks.entries }
+    requires few { length tasks.entries ≤ 256 }
+    requires opens { All (λ lines. list_all opens_well lines ≡ true) (values_of tasks.entries) }
+    ensures types { IfOk result (λ left. TypesTasks (opening_now D.time D.faults store) rules.now tasks.entries left
+        (disk_now D.time D.faults D.left_since left.closed.disk)) }
+    ensures runs { IfOk result (λ left. RunsOver store.state left.closed.chronicle
+        (disk_now D.time D.faults D.left_since store.journal.disk)
+        (disk_now D.time D.faults D.left_since left.closed.disk)) }
+    ensures back { IfErr result (λ disk. disk ≡ store.journal.disk) }
+{
+    match History::new(alloc) {
+        Ok(made) => type_over::<Brand, D, R, G>(rt, alloc, rules, tasks, made, store, gate),
+        Err(Memory) => Err(store.close()),
+    }
+}
+
+// Types tasks over a store that was just opened, by callers for whom `N` names the history, which was just made, and
+// the opening to the proof.
+fn type_over<
+    N: DeskName + LearnedName + Send + Sync,
+    D: Disk + Drop + Send,
+    R: Threads + Wait + Copy + Send + Sync,
+    G: Gate + Sync,
+>(
+    rt: R,
+    alloc: Global,
+    rules: &Rules,
+    tasks: BTreeMap<u8, Sequence<Line>>,
+    made: (History, Pen, RollSeat),
+    store: Store<D>,
+    gate: &G,
+) -> Result<TypedTasks<D>, D>
+    requires calm { Keeps D.time D.left_since store.journal store.state None }
+    requires named { N.opening ≡ opening_now D.time D.faults store }
+    requires past { SameImages N.past (D.left_since store.journal.disk) }
+    requires history { made.0 ≡ N.table }
+    requires pen { made.1 ≡ record { table = made.0; seen = []; ended = []; roll = None } }
+    requires roll { made.2 ≡ record { table = made.0; drawn = 0 } }
+    requires ascend { Ascend tasks.entries }
+    requires few { length tasks.entries ≤ 256 }
+    requires opens { All (λ lines. list_all opens_well lines ≡ true) (values_of tasks.entries) }
+    ensures types { IfOk result (λ left. TypesTasks N.opening rules.now tasks.entries left
+        (disk_now D.time D.faults D.left_since left.closed.disk)) }
+    ensures runs { IfOk result (λ left. RunsOver store.state left.closed.chronicle
+        (disk_now D.time D.faults D.left_since store.journal.disk)
+        (disk_now D.time D.faults D.left_since left.closed.disk)) }
+    ensures back { IfErr result (λ disk. disk ≡ store.journal.disk) }
+{
+    let (history, pen, roll) = made;
+    match Desk::<D, N, R>::open(rt, alloc, store, history, pen, roll) {
+        Ok((desk, roll)) => Ok(type_at(rt, alloc, rules, tasks, desk, roll, gate)),
+        Err(none) => Err(none.store.close()),
+    }
+}
+
+// Types tasks at a desk that has admitted nobody, and closes it.
+fn type_at<
+    N: DeskName + LearnedName + Send + Sync,
+    D: Disk + Drop + Send,
+    R: Threads + Wait + Copy + Send + Sync,
+    G: Gate + Sync,
+>(
+    rt: R,
+    alloc: Global,
+    rules: &Rules,
+    tasks: BTreeMap<u8, Sequence<Line>>,
+    desk: Desk<D, N, R>,
+    roll: Roll<N>,
+    gate: &G,
+) -> TypedTasks<D>
+    requires nobody { roll ≡ 0 }
+    requires ascend { Ascend tasks.entries }
+    requires few { length tasks.entries ≤ 256 }
+    requires opens { All (λ lines. list_all opens_well lines ≡ true) (values_of tasks.entries) }
+    ensures types { TypesTasks N.opening rules.now tasks.entries result
+        (disk_now D.time D.faults D.left_since result.closed.disk) }
+    ensures stands { (store : OpenStore _) × (result.closed.disk ≡ store.journal.disk)
+        × Stands D.time D.faults D.left_since N.opening N.past result.closed.chronicle store }
+    ensures since { (start : ℕ) →
+        ((time : ℕ) (image : Image) → start ≤ time → time ≤ N.opening.time → N.past time image
+        → Recovers N.opening.state image) →
+        StandsOver N.opening.state result.closed.chronicle start (D.time result.closed.disk)
+        (D.left_since result.closed.disk) }
+{
+    let mut roll = roll;
+    let office = &desk;
+    let (typed, slips) = type_tasks(&rt, alloc, rules, tasks, &office, &mut roll, gate);
+    let closed = desk.close(roll, Slips::of(slips));
+    TypedTasks { typed, closed }
+}
