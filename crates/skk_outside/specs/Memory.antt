@@ -28,12 +28,13 @@ pub record LinkState : Type 0 where
   pub closed : Bool
   pub count : CallCount
 
--- the links that are still to come to a listener in memory, those that were taken back, how many are out, and its calls
--- so far
+-- the links that are still to come to a listener in memory, those that were taken back, how many are out, the port that
+-- was opened, where one was, and its calls so far
 pub record ListenerState : Type 0 where
   pub coming : List LinkState
   pub over : List LinkState
   pub out : ℕ
+  pub opened : Option ℕ
   pub count : CallCount
 
 -- what a shelf in memory has, each file with its name and its bytes, and its calls so far

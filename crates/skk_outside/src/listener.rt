@@ -1,4 +1,4 @@
-ghost use Rattle.std.specs.Prelude.{◌≡◌, ◌<◌, ◌≤◌, ◌+◌, ℕ, List, [], ◌∷◌, ◌++◌, Option, option_map, OnErr};
+ghost use Rattle.std.specs.Prelude.{◌≡◌, ◌<◌, ◌≤◌, ◌+◌, ℕ, List, [], ◌∷◌, ◌++◌, Option, Some, option_map, OnOk, OnErr};
 ghost use Rattle.skk_outside.specs.Faults.{Rose};
 ghost use Rattle.skk_outside.specs.Listeners.{Accepts, out_after};
 
@@ -19,8 +19,13 @@ pub trait Listener: Outside {
     /// How many links are out: they were accepted, and are not taken back yet.
     ghost out: { Self → ℕ };
 
+    /// The port that it listens on, where one was opened.
+    ghost opened: { Self → Option ℕ };
+
     /// Listens on a port of loopback.
     fn open(&mut self, port: u16) -> Result<(), Failed>
+        ensures opened { OnOk result (opened self.new ≡ Some port) }
+        ensures stays { OnErr result (opened self.new ≡ opened self.old) }
         ensures coming { coming self.new ≡ coming self.old }
         ensures over { over self.new ≡ over self.old }
         ensures out { out self.new ≡ out self.old }
@@ -33,6 +38,7 @@ pub trait Listener: Outside {
         ensures coming { Accepts (coming self.old) (coming self.new) result }
         ensures over { over self.new ≡ over self.old }
         ensures out { out self.new ≡ out_after (out self.old) result }
+        ensures opened { opened self.new ≡ opened self.old }
         ensures failed { OnErr result (Rose (Self.faults self.old) (Self.faults self.new)) }
         ensures counted { Self.faults self.old ≤ Self.faults self.new };
 
@@ -40,6 +46,7 @@ pub trait Listener: Outside {
     fn done(&mut self, link: Self::Link)
         requires { 0 < out self.old }
         ensures out { out self.new + 1 ≡ out self.old }
+        ensures opened { opened self.new ≡ opened self.old }
         ensures over { over self.new ≡ option_map (λ links. links ++ link ∷ []) (over self.old) }
         ensures coming { coming self.new ≡ coming self.old }
         ensures faults { Self.faults self.new ≡ Self.faults self.old };

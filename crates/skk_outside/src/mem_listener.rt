@@ -1,4 +1,4 @@
-ghost use Rattle.std.specs.Prelude.{◌≡◌, ◌↔◌, ◌<◌, ◌≤◌, ◌+◌, [], ◌∷◌, ◌++◌, Some, Err, IsErr, IfOk, OnOk, OnErr};
+ghost use Rattle.std.specs.Prelude.{◌≡◌, ◌↔◌, ◌<◌, ◌≤◌, ◌+◌, [], ◌∷◌, ◌++◌, None, Some, Err, IsErr, IfOk, OnOk, OnErr};
 ghost use Rattle.skk_outside.specs.Faults.{Rose};
 ghost use Rattle.skk_outside.specs.Listeners.{Accepts, out_after};
 ghost use Rattle.skk_outside.specs.Memory.{no_call_yet, after_success, after_failure, FailsNext};
@@ -18,6 +18,7 @@ pub struct MemListener {
     // It has room for each link that is out.
     over: Vec<MemLink>,
     out: usize,
+    opened: Option<u16>,
     calls: Calls,
 }
 
@@ -27,7 +28,13 @@ impl Model for MemListener {
 
     ghost Value = { ListenerState };
 
-    ghost view = { λ l. record { coming = l.coming.items; over = l.over.items; out = l.out; count = l.calls } };
+    ghost view = { λ l. record {
+      coming = l.coming.items;
+      over = l.over.items;
+      out = l.out;
+      opened = l.opened;
+      count = l.calls;
+    } };
 
     ghost invariant = { λ l. vec_len l.over + l.out ≤ vec_capacity l.over };
 }
@@ -39,12 +46,14 @@ impl MemListener {
         ensures coming { result.coming ≡ coming.items }
         ensures over { result.over ≡ [] }
         ensures out { result.out ≡ 0 }
+        ensures opened { result.opened ≡ None }
         ensures count { result.count ≡ no_call_yet fails.items }
     {
         MemListener {
             coming: VecDeque::from_vec(coming),
             over: Vec::new(alloc),
             out: 0,
+            opened: None,
             calls: Calls::new(fails),
         }
     }
@@ -70,7 +79,11 @@ impl Listener for MemListener {
 
     ghost out = { λ l. l.out };
 
-    fn open(&mut self, _port: u16) -> Result<(), Failed>
+    ghost opened = { λ l. l.opened };
+
+    fn open(&mut self, port: u16) -> Result<(), Failed>
+        ensures opened { OnOk result (self.new.opened ≡ Some port) }
+        ensures stays { OnErr result (self.new.opened ≡ self.old.opened) }
         ensures coming { self.new.coming ≡ self.old.coming }
         ensures over { self.new.over ≡ self.old.over }
         ensures out { self.new.out ≡ self.old.out }
@@ -80,7 +93,9 @@ impl Listener for MemListener {
         ensures ok { OnOk result (self.new.count ≡ after_success self.old.count) }
         ensures err { OnErr result (self.new.count ≡ after_failure self.old.count) }
     {
-        self.calls.next()
+        self.calls.next()?;
+        self.opened = Some(port);
+        Ok(())
     }
 
     /// Fails also where it is out of memory for the link when it comes back.
@@ -88,6 +103,7 @@ impl Listener for MemListener {
         ensures coming { Accepts (Some self.old.coming) (Some self.new.coming) result }
         ensures over { self.new.over ≡ self.old.over }
         ensures out { self.new.out ≡ out_after self.old.out result }
+        ensures opened { self.new.opened ≡ self.old.opened }
         ensures failed { OnErr result (Rose self.old.count.faults self.new.count.faults) }
         ensures counted { self.old.count.faults ≤ self.new.count.faults }
         ensures fails { FailsNext self.old.count → IsErr result }
@@ -108,6 +124,7 @@ impl Listener for MemListener {
     fn done(&mut self, link: MemLink)
         requires { 0 < self.old.out }
         ensures out { self.new.out + 1 ≡ self.old.out }
+        ensures opened { self.new.opened ≡ self.old.opened }
         ensures over { self.new.over ≡ self.old.over ++ link ∷ [] }
         ensures coming { self.new.coming ≡ self.old.coming }
         ensures count { self.new.count ≡ self.old.count }

@@ -9,26 +9,37 @@ use crate::link::Link;
 use crate::outside::{Failed, Outside};
 use crate::sink::Sink;
 use crate::source::Source;
-use std::io::{Read, Write};
+use std::io::{self, Read, Write};
 use std::net::{OpenStream, Shutdown};
 use std::time::Duration;
 
 /// A link over a stream of the system, as a TCP connection. It tells nothing of what is to come and what was written.
 /// A call that goes well leaves the count of faults, and one that fails raises it by one; on a closed link each fails.
+/// A peer that sends no first byte for 60 seconds, or takes none of what is written for as long, is a fault.
 #[derive(Drop)]
 pub struct StreamLink<S> {
     // None once it is closed.
     stream: Option<S>,
+    // Whether a byte has come.
+    is_begun: bool,
     faults: Count,
 }
 
-impl<S> StreamLink<S> {
+// For how many seconds a peer is waited for that has sent nothing yet, or takes nothing.
+const PATIENCE: u64 = 60;
+
+impl<S: OpenStream> StreamLink<S> {
     /// The link of a connected stream.
     pub fn new(stream: S) -> StreamLink<S>
         ensures faults { ⟦<StreamLink<S> as Outside>⟧.faults result ≡ 0 }
     {
+        let patience = Some(Duration::from_secs(PATIENCE));
+        // Where the system refuses, the peer is waited for without an end.
+        let _first = stream.set_read_timeout(patience);
+        let _taken = stream.set_write_timeout(patience);
         StreamLink {
             stream: Some(stream),
+            is_begun: false,
             faults: Count::new(),
         }
     }
@@ -38,8 +49,9 @@ impl<S> Outside for StreamLink<S> {
     ghost faults = { λ l. l.faults };
 }
 
-impl<S: Read> Source for StreamLink<S> {
-    /// Waits for bytes, or for the end of what the peer sends.
+impl<S: Read + OpenStream> Source for StreamLink<S> {
+    /// Waits for bytes, or for the end of what the peer sends: at most 60 seconds for the first, and without an end for
+    /// those behind it.
     fn read(&mut self, into: &mut [u8]) -> Result<usize, Failed>
         ensures bound { ReadsAtMost result into.new }
         ensures bytes { ReadConsumes None None result into.new }
@@ -49,7 +61,7 @@ impl<S: Read> Source for StreamLink<S> {
         ensures one_fault { OnErr result (self.new.faults ≡ one_more self.old.faults) }
     {
         if let Some(stream) = &mut self.stream {
-            if let Ok(n) = stream.read(into) {
+            if let Ok(n) = read_begun(stream, &mut self.is_begun, into) {
                 return Ok(n);
             }
         }
@@ -57,8 +69,25 @@ impl<S: Read> Source for StreamLink<S> {
     }
 }
 
+// Reads bytes of a stream. Behind the first ones no time is set.
+fn read_begun<S: Read + OpenStream>(
+    stream: &mut S,
+    is_begun: &mut bool,
+    into: &mut [u8],
+) -> io::Result<usize>
+    ensures { ReadsAtMost result into.new }
+{
+    let count = stream.read(into)?;
+    if !*is_begun {
+        stream.set_read_timeout(None)?;
+        *is_begun = true;
+    }
+    Ok(count)
+}
+
 impl<S: Write> Sink for StreamLink<S> {
-    /// Hands bytes to the system, and waits where it takes none. A write of 0 bytes of some is a fault.
+    /// Hands bytes to the system, and waits for at most 60 seconds where it takes none. A write of 0 bytes of some is a
+    /// fault.
     fn write(&mut self, from: &[u8]) -> Result<usize, Failed>
         ensures bound { WritesAtMost result from.now }
         ensures progress { 0 < length from.now → IfOk result (λ n. 1 ≤ n) }

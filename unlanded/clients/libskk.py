@@ -1,0 +1,10 @@
+import gi; gi.require_version('Skk','1.0')
+from gi.repository import Skk
+Skk.init()
+server = Skk.SkkServ.new("127.0.0.1", 11780, "UTF-8")
+ctx = Skk.Context.new([server])
+print(ctx.process_key_events("K a n j i SPC"), ctx.get_preedit(), ctx.get_output())
+ctx.process_key_events("SPC"); print(ctx.get_preedit())
+ctx.process_key_events("RET"); print(ctx.get_preedit(), ctx.poll_output())
+print(server.lookup("おおk", True) and [c.get_text() for c in server.lookup("おおk", True)])
+print(server.complete("かんじ")[:20])

@@ -1,0 +1,1 @@
+while true; do /work/tools/rlibs.sh; sleep 20; done
