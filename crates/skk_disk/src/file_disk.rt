@@ -8,48 +8,40 @@ use crate::host_file::HostFile;
 use crate::which::Which;
 use skk_outside::{Count, Failed, Outside};
 use skk_text::Text;
-use std::fs::Files;
+use std::fs::{File, Files};
 use std::io;
-use std::os::unix::fs::FileExt;
 
 /// A disk of two files of the system, each opened at the first call on it, and made then where it is absent. It tells
-/// nothing of what they hold: that the system keeps what was synced is trusted.
+/// nothing of what they hold: that the system keeps what was synced is trusted. One disk has a first file at a time: it
+/// is locked when it is opened, before anything is read of it, and up to the disk's end; each call on it fails where
+/// another disk has it, in this program or in another.
 #[derive(Drop)]
-pub struct FileDisk<R: Files> {
+pub struct FileDisk<R: Files<File = File>> {
     files: R,
-    a: HostFile<R>,
-    b: HostFile<R>,
+    a: HostFile,
+    b: HostFile,
     faults: Count,
 }
 
-impl<R: Files> FileDisk<R>
-where
-    R::File: FileExt,
-{
+impl<R: Files<File = File>> FileDisk<R> {
     /// The two files of these names that the runtime opens. Takes no memory.
     pub fn new(files: R, a: Text, b: Text) -> FileDisk<R>
         ensures { ⟦<FileDisk<R> as Outside>⟧.faults result ≡ 0 }
     {
         FileDisk {
             files,
-            a: HostFile::new(a),
+            a: HostFile::locked(a),
             b: HostFile::new(b),
             faults: Count::new(),
         }
     }
 }
 
-impl<R: Files> Outside for FileDisk<R>
-where
-    R::File: FileExt,
-{
+impl<R: Files<File = File>> Outside for FileDisk<R> {
     ghost faults = { λ d. d.faults };
 }
 
-impl<R: Files> Disk for FileDisk<R>
-where
-    R::File: FileExt,
-{
+impl<R: Files<File = File>> Disk for FileDisk<R> {
     ghost tells = { ⊥ };
 
     ghost time = { λ d. 0 };
@@ -95,11 +87,7 @@ where
     }
 }
 
-fn file_of<'a, R: Files>(
-    file: Which,
-    a: &'a mut HostFile<R>,
-    b: &'a mut HostFile<R>,
-) -> &'a mut HostFile<R> {
+fn file_of<'a>(file: Which, a: &'a mut HostFile, b: &'a mut HostFile) -> &'a mut HostFile {
     match file {
         Which::A => a,
         Which::B => b,

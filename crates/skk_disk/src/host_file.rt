@@ -8,38 +8,59 @@ use std::path::Path;
 
 // A file of the system by its name, which is opened at the first call on it, and made then where it is absent.
 #[derive(Drop)]
-pub(crate) struct HostFile<R: Files> {
+pub(crate) struct HostFile {
     name: Text,
-    file: Option<R::File>,
+    file: Option<File>,
+    // Whether it is locked when it is opened.
+    is_locked: bool,
     // Whether its folder was synced, by which the file has its name after a power cut too.
     is_named: bool,
 }
 
-impl<R: Files> HostFile<R>
-where
-    R::File: FileExt,
-{
+impl HostFile {
     // Not opened yet. Takes no memory.
-    pub(crate) fn new(name: Text) -> HostFile<R> {
+    pub(crate) fn new(name: Text) -> HostFile {
         HostFile {
             name,
             file: None,
+            is_locked: false,
             is_named: false,
         }
     }
 
-    pub(crate) fn len(&mut self, files: &R) -> io::Result<u64> {
+    // Not opened yet. From the first call on, that of another program on it fails that asks for the same, and so does
+    // each call on this where another has it. Takes no memory.
+    pub(crate) fn locked(name: Text) -> HostFile {
+        HostFile {
+            name,
+            file: None,
+            is_locked: true,
+            is_named: false,
+        }
+    }
+
+    pub(crate) fn len<R: Files<File = File>>(&mut self, files: &R) -> io::Result<u64> {
         Ok(self.open(files)?.metadata()?.len())
     }
 
-    pub(crate) fn read_at(&mut self, files: &R, at: u64, into: &mut [u8]) -> io::Result<usize>
+    pub(crate) fn read_at<R: Files<File = File>>(
+        &mut self,
+        files: &R,
+        at: u64,
+        into: &mut [u8],
+    ) -> io::Result<usize>
         ensures bound { ReadsAtMost result into.new }
     {
         self.open(files)?.read_at(into, at)
     }
 
     // Bytes are written whole, or there is a fault.
-    pub(crate) fn write_at(&mut self, files: &R, at: u64, from: &[u8]) -> io::Result<()> {
+    pub(crate) fn write_at<R: Files<File = File>>(
+        &mut self,
+        files: &R,
+        at: u64,
+        from: &[u8],
+    ) -> io::Result<()> {
         let file = self.open(files)?;
         if from.is_empty() && file.metadata()?.len() < at {
             // The system takes an empty write for none.
@@ -49,7 +70,7 @@ where
     }
 
     // The system would fill a shorter file up.
-    pub(crate) fn cut(&mut self, files: &R, len: u64) -> io::Result<()> {
+    pub(crate) fn cut<R: Files<File = File>>(&mut self, files: &R, len: u64) -> io::Result<()> {
         let file = self.open(files)?;
         if file.metadata()?.len() <= len {
             return Ok(());
@@ -58,7 +79,7 @@ where
     }
 
     // The first sync is one of the folder too: the file may have been made now, or by a program that was stopped.
-    pub(crate) fn sync(&mut self, files: &R) -> io::Result<()> {
+    pub(crate) fn sync<R: Files<File = File>>(&mut self, files: &R) -> io::Result<()> {
         self.open(files)?.sync_data()?;
         if !self.is_named {
             sync_folder(files, self.name.as_str())?;
@@ -67,16 +88,24 @@ where
         Ok(())
     }
 
-    fn open(&mut self, files: &R) -> io::Result<&R::File> {
+    fn open<R: Files<File = File>>(&mut self, files: &R) -> io::Result<&File> {
         let file = match self.file.take() {
             Some(file) => file,
-            None => open_or_make(files, self.name.as_str())?,
+            None => self.open_anew(files)?,
         };
         Ok(self.file.insert(file))
     }
+
+    fn open_anew<R: Files<File = File>>(&self, files: &R) -> io::Result<File> {
+        let file = open_or_make(files, self.name.as_str())?;
+        if self.is_locked {
+            file.try_lock()?;
+        }
+        Ok(file)
+    }
 }
 
-fn open_or_make<R: Files>(files: &R, name: &str) -> io::Result<R::File> {
+fn open_or_make<R: Files<File = File>>(files: &R, name: &str) -> io::Result<File> {
     let mut how = OpenOptions::new();
     how.read(true).write(true).create(true);
     how.open(files, name)
