@@ -7,9 +7,10 @@
 //!
 //! `FileDisk` is two files of the system. It is trusted: no clause says what they hold. It makes these calls
 //! of the system, and no other: `open` of a file for reading and writing, which makes it where it is absent,
-//! at the first call on it, and for the first file an exclusive `flock`; `fstat` for its length; `pread`, and `pwrite` until all bytes are written;
-//! `ftruncate` to a smaller length, and for an empty write behind the end to a greater one; `fdatasync` for a
-//! sync, and with a file's first one `open` and `fsync` of its folder, where the system lets it; and `close`.
+//! at the first call on it, and for the first file `flock`, exclusive and without waiting; `fstat` for its
+//! length; `pread`, and `pwrite` until all bytes are written; `ftruncate` to a smaller length, and for an empty
+//! write behind the end to a greater one; `fdatasync` for a sync, and with a file's first one `open` and `fsync`
+//! of its folder, where the system lets it; and `close`.
 #![tactic(auto)]
 
 mod call_record;

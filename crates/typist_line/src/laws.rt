@@ -20,6 +20,12 @@ pub fn bytes_lead_a_typist()
         → StandsSo rules bytes talk typist begun → (is_over typist ≡ true) ↔ IsClosed bytes }
 {}
 
+/// A typist's connection that is over stays so, with the same talk, whatever bytes come behind.
+pub fn over_stays_over()
+    ensures { (rules : List Rule) (bytes more : List ℕ) (talk : Talk) (begun later : List ℕ)
+        → StandsSo rules bytes talk Typist.Over begun → StandsSo rules (bytes ++ more) talk Typist.Over later }
+{}
+
 /// What a front of the bytes of a typist's connection comes to is the first of what all of them come to.
 pub fn conversation_of_a_front()
     ensures { (rules : List Rule) (front rest : List ℕ) (meaning whole : Conversation) → Converses rules front meaning

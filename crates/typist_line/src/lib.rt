@@ -13,6 +13,6 @@ mod replies;
 mod running;
 mod typing;
 
-pub use laws::{bytes_lead_a_typist, conversation_of_a_front};
+pub use laws::{bytes_lead_a_typist, conversation_of_a_front, over_stays_over};
 pub use running::run_typist;
 pub use typing::{Going, Typing};
