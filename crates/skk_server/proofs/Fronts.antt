@@ -18,7 +18,7 @@ use Rattle.typist_line.specs.FirstLaws.{leads-first, first-itself}
 use Rattle.typist_line.specs.Firsts.{IsFirstOf}
 use Rattle.skk_server.specs.Connections.{Exchange, more, answered, replied, served, client, in_bytes, Means, MeansOf}
 use Rattle.skk_server.specs.Ends.{AnswersSome}
-use Rattle.skk_server.proofs.Requests.{nothing-asked}
+use Rattle.skk_server.proofs.Requests.{RequestsMore, RequestsStay, nothing-asked}
 
 -- Clients
 
@@ -48,16 +48,6 @@ served-first (Host ∷ asked) later bad =
 served-first (Complete bytes ∷ asked) later bad =
     replied-first (Complete bytes) (served asked false) (served (asked ++ later) bad) (call_of (Complete bytes))
     (served-first asked later bad)
-
--- a front asks the first requests of all
-abbrev pub RequestsMore : Type 0
-RequestsMore = (front rest : List ℕ) → (later : List Request) × (requests (front ++ rest) ≡ requests front ++ later)
-
--- and no more where a byte of it is bad
-abbrev pub RequestsStay : Type 0
-RequestsStay =
-    (front rest : List ℕ) (at : ℕ) → first_bad front ≡ Some at
-    → (requests (front ++ rest) ≡ requests front) × (first_bad (front ++ rest) ≡ Some at)
 
 client-first : RequestsMore → RequestsStay → (front rest : List ℕ) → IsFirstOf (client front) (client (front ++ rest))
 client-first later stay front rest = by (first_bad front) refl

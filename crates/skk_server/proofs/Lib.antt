@@ -1,5 +1,6 @@
 pub mod ConnectionExamples
 pub mod Fronts
+pub mod Joins
 pub mod Requests
 pub mod Results
 mod ServiceExamples

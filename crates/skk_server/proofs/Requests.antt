@@ -27,6 +27,18 @@ use Rattle.skk_server.specs.Turns.{Adds, AnswersCall, BreaksCall, AnswersRequest
 use Rattle.skk_server.specs.Turns.{BreaksRequests, RefusesBehind, RequestsLead, ClientStands, ClientGoes}
 use Rattle.skk_server.specs.Turns.{AnswersBytes, BreaksBytes}
 
+-- Fronts
+
+-- a front asks the first requests of all
+abbrev pub RequestsMore : Type 0
+RequestsMore = (front rest : List ℕ) → (later : List Request) × (requests (front ++ rest) ≡ requests front ++ later)
+
+-- and no more where a byte of it is bad
+abbrev pub RequestsStay : Type 0
+RequestsStay =
+    (front rest : List ℕ) (at : ℕ) → first_bad front ≡ Some at
+    → (requests (front ++ rest) ≡ requests front) × (first_bad (front ++ rest) ≡ Some at)
+
 -- Single requests
 
 -- a call was asked, and its reply is not sent
@@ -268,12 +280,13 @@ none-bad bytes none = by (first_bad bytes) none
     by (Some at) e = absurd (none-some (min at last_count) (sym e))
 
 -- and where one is told, one is bad
-pub one-bad : (bytes : List ℕ) (at : ℕ) → bad_at bytes ≡ Some at → is_some (first_bad bytes) ≡ true
+pub one-bad : (bytes : List ℕ) (at : ℕ) → bad_at bytes ≡ Some at → (place : ℕ) × (first_bad bytes ≡ Some place)
 one-bad bytes at some = by (first_bad bytes) some
   where
-    by : (found : Option ℕ) → option_map (λ place. min place last_count) found ≡ Some at → is_some found ≡ true
+    by : (found : Option ℕ) → option_map (λ place. min place last_count) found ≡ Some at
+        → (place : ℕ) × (found ≡ Some place)
     by None e = absurd (none-some at e)
-    by (Some place) e = refl
+    by (Some place) e = (place, refl)
 
 -- no byte asks nothing, and none is bad
 pub nothing-asked : (requests [] ≡ []) × (first_bad [] ≡ None)
@@ -306,37 +319,40 @@ client-all bytes dialog sent feeder stands =
 
 -- its next bytes were answered
 pub client-on : (bytes : List ℕ) (feeder feeder' : Feeding) (asked : List Request) (dialog : Dialog) (sent : List ℕ)
-    (going : Going) → Reads feeder bytes feeder' asked
+    (going : Going) → RequestsMore → Reads feeder bytes feeder' asked
     → ((before : List ℕ) → Fed before feeder → bad_at (before ++ bytes) ≡ None)
     → RequestsLead asked dialog sent going
     → (earlier : List ℕ) (known : Dialog) (known_sent : List ℕ) → ClientStands earlier known known_sent feeder
     → ClientGoes (earlier ++ bytes) (known ++ dialog) (known_sent ++ sent) feeder' going
-client-on bytes feeder feeder' asked dialog sent More reads good led earlier known known_sent stands =
+client-on bytes feeder feeder' asked dialog sent More more' reads good led earlier known known_sent stands =
     let read = reads earlier stands.0 in (
       read.0,
       none-bad (earlier ++ bytes) (good earlier stands.0),
       subst (λ (all : List Request). RequestsLead all (known ++ dialog) (known_sent ++ sent) More) (sym read.1)
           (requests-on (requests earlier) asked known dialog known_sent sent More stands.2 led),
     )
-client-on bytes feeder feeder' asked dialog sent Over reads good led earlier known known_sent stands =
+client-on bytes feeder feeder' asked dialog sent Over more' reads good led earlier known known_sent stands = λ later.
     let read = reads earlier stands.0 in
-    client-by (earlier ++ bytes) ((requests earlier ++ asked) ++ []) (is_some (first_bad (earlier ++ bytes)))
-    (known ++ dialog) (known_sent ++ sent) (ends over)
-    (read.1 ∙ sym (append-nil (requests earlier ++ asked))) refl
-    (requests-on (requests earlier) asked known dialog known_sent sent Over stands.2 led []
-    (is_some (first_bad (earlier ++ bytes))))
+    let all = (earlier ++ bytes) ++ later in
+    let behind = more' (earlier ++ bytes) later in
+    client-by all ((requests earlier ++ asked) ++ behind.0) (is_some (first_bad all)) (known ++ dialog)
+    (known_sent ++ sent) (ends over) (behind.1 ∙ ap (λ some. some ++ behind.0) read.1) refl
+    (requests-on (requests earlier) asked known dialog known_sent sent Over stands.2 led behind.0
+    (is_some (first_bad all)))
 
 -- they were answered, and a bad byte behind them refused
 pub client-refused : (bytes : List ℕ) (feeder feeder' : Feeding) (asked : List Request) (dialog : Dialog)
-    (sent : List ℕ) (at : ℕ) → Reads feeder bytes feeder' asked
+    (sent : List ℕ) (at : ℕ) → RequestsStay → Reads feeder bytes feeder' asked
     → ((before : List ℕ) → Fed before feeder → bad_at (before ++ bytes) ≡ Some at)
     → Leads (served asked true) dialog sent (ends over)
     → (earlier : List ℕ) (known : Dialog) (known_sent : List ℕ) → ClientStands earlier known known_sent feeder
-    → Leads (client (earlier ++ bytes)) (known ++ dialog) (known_sent ++ sent) (ends over)
-client-refused bytes feeder feeder' asked dialog sent at reads bad led earlier known known_sent stands =
-    client-by (earlier ++ bytes) (requests earlier ++ asked) true (known ++ dialog) (known_sent ++ sent) (ends over)
-    (reads earlier stands.0).1 (one-bad (earlier ++ bytes) at (bad earlier stands.0))
-    (leads-on (stands.2 asked true) led)
+    → (later : List ℕ)
+    → Leads (client ((earlier ++ bytes) ++ later)) (known ++ dialog) (known_sent ++ sent) (ends over)
+client-refused bytes feeder feeder' asked dialog sent at stay reads bad led earlier known known_sent stands later =
+    let there = one-bad (earlier ++ bytes) at (bad earlier stands.0) in
+    let still = stay (earlier ++ bytes) later there.0 there.1 in
+    client-by ((earlier ++ bytes) ++ later) (requests earlier ++ asked) true (known ++ dialog) (known_sent ++ sent)
+    (ends over) (still.0 ∙ (reads earlier stands.0).1) (ap is_some still.1) (leads-on (stands.2 asked true) led)
 
 -- or some of them were
 pub client-broken : (bytes : List ℕ) (feeder feeder' : Feeding) (asked : List Request) (dialog : Dialog)
@@ -383,20 +399,20 @@ feeds-reads feeder feeder' bytes into into' none (read, e, reads) =
 
 -- what was read was answered
 pub read-answers : (bytes : List ℕ) (feeder feeder' : Feeding) (asked : List Request) (before after : Heard)
-    (going : Going) → Reads feeder bytes feeder' asked
+    (going : Going) → RequestsMore → Reads feeder bytes feeder' asked
     → ((earlier : List ℕ) → Fed earlier feeder → bad_at (earlier ++ bytes) ≡ None)
     → AnswersRequests asked before after going → AnswersBytes bytes feeder feeder' before after going
-read-answers bytes feeder feeder' asked before after going reads good (dialog, sent, adds, led) =
-    (dialog, sent, adds, client-on bytes feeder feeder' asked dialog sent going reads good led)
+read-answers bytes feeder feeder' asked before after going more' reads good (dialog, sent, adds, led) =
+    (dialog, sent, adds, client-on bytes feeder feeder' asked dialog sent going more' reads good led)
 
 -- and the bad byte behind it refused
 pub read-refuses : (bytes : List ℕ) (feeder feeder' : Feeding) (asked : List Request) (before after : Heard)
-    (going : Going) (at : ℕ) → Reads feeder bytes feeder' asked
+    (going : Going) (at : ℕ) → RequestsStay → Reads feeder bytes feeder' asked
     → ((earlier : List ℕ) → Fed earlier feeder → bad_at (earlier ++ bytes) ≡ Some at)
     → RefusesBehind asked before after going → AnswersBytes bytes feeder feeder' before after going
-read-refuses bytes feeder feeder' asked before after going at reads bad (dialog, sent, adds, over', led) =
+read-refuses bytes feeder feeder' asked before after going at stay reads bad (dialog, sent, adds, over', led) =
     subst (AnswersBytes bytes feeder feeder' before after) (sym over')
-    (dialog, sent, adds, client-refused bytes feeder feeder' asked dialog sent at reads bad led)
+    (dialog, sent, adds, client-refused bytes feeder feeder' asked dialog sent at stay reads bad led)
 
 -- or some of it was answered
 pub read-breaks : (bytes : List ℕ) (feeder feeder' : Feeding) (asked : List Request) (before after : Heard)

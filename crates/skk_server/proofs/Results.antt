@@ -1,5 +1,5 @@
 -- What is said of a result.
-use Rattle.std.proofs.Common.{◌≡◌, ℕ, Option, List, [], Result, Ok, Err, OnErr, OnOk, IfOk, sym, subst, append-nil}
+use Rattle.std.proofs.Common.{◌≡◌, ℕ, Option, List, [], Result, Ok, Err, OnErr, OnOk, IfOk, IfErr, IsErrAnd, sym, subst, append-nil}
 use Rattle.std.specs.Io.KnownBytes.{Appends}
 use Rattle.skk_outside.specs.Written.{AppendsPrefix}
 
@@ -22,3 +22,9 @@ pub written-some : {T E : Type 0} (r : Result T E) (before after : Option (List 
     → AppendsPrefix before after bytes
 written-some (Ok x) before after bytes ok err = (bytes, ([], sym (append-nil bytes)), ok)
 written-some (Err e) before after bytes ok err = err
+
+-- what holds of an error is said of a result that is this error
+pub if_err : {T E : Type 0} (P : E → Type 0) (r : Result T E) (e : E) → IsErrAnd r (λ given. given ≡ e) → P e
+    → IfErr r P
+if_err P (Ok x) e is p = tt
+if_err P (Err given) e is p = subst P (sym is) p

@@ -18,9 +18,10 @@ use Rattle.skk_server.specs.declared.work.Work.{Work}
 use Rattle.skk_server.specs.Ends.{Serves, moved_link}
 use Rattle.skk_server.specs.Services.{SeenListener, EndsServing, ServesAll}
 use Rattle.skk_server.specs.Stages.{accepted_in, passes_in, CountsStay, Stage, TakesLink, TakesNone, GivesBack}
-use Rattle.skk_server.specs.Stages.{AddsWork, Opens}
+use Rattle.skk_server.specs.Stages.{AddsWork, Opens, JoinsSome}
 use Rattle.skk_server.specs.Visits.{SeenLink, SeenCaller, Visit, ServesLink, IsServed, HasWorked, AreServed}
 use Rattle.skk_server.specs.Works.{begun, passes_under_way, BeganWith, IsClosed, IsUnderWay, AreUnderWay}
+use Rattle.skk_server.proofs.Joins.{begun-all, passes-all, length-all, way-all}
 use Rattle.skk_server.proofs.Turns.{unserved}
 use Rattle.skk_server.proofs.Visits.{more-came, more-over, served-more, served-last, slips-few, passes-few}
 use Rattle.skk_server.proofs.Visits.{passes-more, way-more}
@@ -137,6 +138,7 @@ module _ {N L C S : Type 0} (nets : SeenListener N L) (links : SeenLink L) (call
           ap length adds.works_are,
           length-append works (adds.work ∷ []),
         );
+        opened_is = takes.opened_is ∙ stage.opened_is;
         counted = omega (arith, stage.counted, takes.counted);
         ends_are = ap (λ ends. ends.items) adds.ends_stay ∙ stage.ends_are;
         level = λ some. ap (λ passes. length passes.items) adds.passes_stay ∙ both.0;
@@ -167,10 +169,49 @@ module _ {N L C S : Type 0} (nets : SeenListener N L) (links : SeenLink L) (call
             (sym none.coming_is) stage.comes;
         gives_back = none.over_is ∙ stage.gives_back;
         out_is = none.out_is ∙ stage.out_is;
+        opened_is = none.opened_is ∙ stage.opened_is;
         counted = omega (arith, stage.counted, none.counted);
         ends_are = stage.ends_are;
         level = stage.level;
       }
+
+  -- Workers end
+
+  -- some were joined, and all else is as it was
+  pub stage-joins : (net : N) (hall hall' : Hall L C S) → JoinsSome links callers hall hall'
+      → Stage nets links callers slips start net hall → Stage nets links callers slips start net hall'
+  stage-joins net hall hall' joins stage =
+      let works = hall.works.items in
+      let works' = hall'.works.items in
+      let length_is = length-all links callers works works' joins.joined in
+      record {
+        visits = stage.visits;
+        served = subst (λ passes. AreServed start.rules.value links slips start.first stage.visits passes.items)
+            (sym joins.passes_stay) stage.served;
+        under_way = subst (λ passes. AreUnderWay start.rules.value links callers
+            (start.first + length passes.items) works') (sym joins.passes_stay)
+            (way-all links callers start.rules.value (start.first + length hall.passes.items) works works' joins.joined
+            stage.under_way);
+        comes = subst (λ all. nets.coming start.net.value ≡ option_map (λ rest.
+            (map (λ visit. visit.link) stage.visits ++ all) ++ rest) (nets.coming net))
+            (sym (begun-all links callers works works' joins.joined)) stage.comes;
+        gives_back = stage.gives_back;
+        out_is = omega (arith, stage.out_is, length_is);
+        opened_is = stage.opened_is;
+        counted = stage.counted;
+        ends_are = ap (λ ends. ends.items) joins.ends_stay ∙ stage.ends_are;
+        level = λ some. ap (λ passes. length passes.items) joins.passes_stay
+            ∙ stage.level (omega (arith, some, length_is));
+      }
+
+  -- and as many connections and passes are counted
+  pub counts-join : (hall hall' : Hall L C S) → JoinsSome links callers hall hall' → CountsStay hall hall'
+  counts-join hall hall' joins =
+      let works = length-all links callers hall.works.items hall'.works.items joins.joined in
+      let passes = passes-all links callers hall.works.items hall'.works.items joins.joined in
+      let ends = ap (λ ends. length ends.items) joins.ends_stay in
+      let left = ap (λ passes. length passes.items) joins.passes_stay in
+      (omega (arith, works, ends), omega (arith, passes, left))
 
   -- The oldest ends
 
@@ -211,6 +252,7 @@ module _ {N L C S : Type 0} (nets : SeenListener N L) (links : SeenLink L) (call
             (more-over (nets.over start.net.value) (map (λ visit. visit.link') stage.visits) visit.link' (nets.over net)
             (nets.over net') stage.gives_back gives.over_is);
         out_is = omega (arith, gives.out_is, stage.out_is, ap length works_are, ap length works_left);
+        opened_is = gives.opened_is ∙ stage.opened_is;
         counted = omega (arith, stage.counted, gives.faults_is);
         ends_are = ends_are ∙ (ap (λ ends. ends ++ visit.end ∷ []) stage.ends_are
             ∙ sym (map-append (λ visit. visit.end) stage.visits (visit ∷ [])));
@@ -289,6 +331,7 @@ module _ {N L C S : Type 0} (nets : SeenListener N L) (links : SeenLink L) (call
         gives_back = nothing-over (nets.over net) ∙ ap (λ n. option_map (λ before. before ++ []) (nets.over n))
             (sym opens.net_is);
         out_is = omega (arith, ap nets.out opens.net_is, ap length opens.no_works);
+        opened_is = sym (ap nets.opened opens.net_is);
         counted = omega (arith, ap nets.faults opens.net_is);
         ends_are = opens.no_ends;
         level = λ some. ap length opens.no_passes;
@@ -317,6 +360,7 @@ module _ {N L C S : Type 0} (nets : SeenListener N L) (links : SeenLink L) (call
             ∙ append-nil (map (λ visit. visit.link) stage.visits));
         gives_back = stage.gives_back;
         none_out = omega (arith, stage.out_is, over);
+        opened_is = stage.opened_is;
         counted = stage.counted;
         count_is = count_is ∙ ends;
         few = omega (arith, few, accepted);
@@ -382,6 +426,7 @@ none-serves rules nets links slips asked net drawn answered count_is no_passes n
       comes = nothing-came (nets.coming net);
       gives_back = nothing-over (nets.over net);
       none_out = refl;
+      opened_is = refl;
       counted = omega arith;
       count_is = count_is;
       few = omega arith;

@@ -67,6 +67,14 @@ all-some rules bytes dialog sent replies stand fronts all begun =
     answers-some rules bytes bytes [] dialog sent replies all.0 (ends stand) fronts (sym (append-nil bytes)) all.1
     all.2 begun
 
+-- and where more bytes came
+pub some-wider : (rules : List Rule) (bytes later : List ℕ) (dialog : Dialog) (sent : List ℕ) → FrontsFirst
+    → AnswersSome rules bytes dialog sent → AnswersSome rules (bytes ++ later) dialog sent
+some-wider rules bytes later dialog sent fronts some =
+    answers-some rules (bytes ++ later) some.front (some.rest ++ later) dialog sent some.replies some.exchange some.to
+    fronts (ap (λ b. b ++ later) some.bytes_are ∙ append_assoc some.front some.rest later) some.means some.led
+    some.begun
+
 -- and where less was sent
 pub some-less : (rules : List Rule) (bytes : List ℕ) (dialog : Dialog) (sent less : List ℕ)
     → AnswersSome rules bytes dialog sent → IsPrefix less sent → AnswersSome rules bytes dialog less
@@ -171,10 +179,10 @@ answers-client rules piece feeder feeder' before after Over (dialog, sent, adds,
   dialog,
   sent,
   adds,
-  λ bytes known known_sent suits at. (
-    client (bytes ++ piece),
-    means-client rules (bytes ++ piece) suits.1 suits.0 suits.2 suits.3,
-    goes bytes known known_sent at,
+  λ bytes known known_sent suits at later. (
+    client ((bytes ++ piece) ++ later),
+    means-client rules ((bytes ++ piece) ++ later) (suits.1 ++ later) suits.0 (ap (λ b. b ++ later) suits.2) suits.3,
+    goes bytes known known_sent at later,
   ),
 )
 

@@ -1,6 +1,6 @@
 -- How a connection is served, turn by turn.
 use Rattle.std.proofs.Common.{◌≡◌, ◌<◌, ◌≤◌, ℕ, ◌+◌, List, [], ◌++◌, length, refl, sym, ap, ◌∙◌, subst, arith}
-use Rattle.std.proofs.Common.{append-nil, append_assoc, length-append, inl, inr}
+use Rattle.std.proofs.Common.{append-nil, append_assoc, length-append, ◌⊎◌, inl, inr}
 use Rattle.std.proofs.KnownBytes.{Appends-nil, Appends-trans, Consumes-nil, Consumes-trans}
 use Rattle.std.specs.Io.KnownBytes.{Appends, Consumes}
 use Rattle.romaji_rules.specs.declared.rule.Rule.{Rule}
@@ -18,8 +18,9 @@ use Rattle.skk_server.specs.Connections.{more, over}
 use Rattle.skk_server.specs.Ends.{MovedLink, AnswersAll, AnswersSome, AnswersFront, EndsBy, Serves, longest_piece}
 use Rattle.skk_server.specs.Ends.{most_bytes, moved_link}
 use Rattle.skk_server.specs.Turns.{StandsAt, Goes, Answers, Breaks, StopsReading, TakesTurn, EndsTurn, ServesSoFar}
+use Rattle.skk_server.specs.Turns.{IsSent, EndsIn, AnswersPart, EndsPart, AnswersRead, EndsRead}
 use Rattle.skk_server.proofs.Fronts.{FrontsFirst}
-use Rattle.skk_server.proofs.Standing.{answers-all, all-some, some-less, prefix-behind, nothing-means}
+use Rattle.skk_server.proofs.Standing.{answers-all, all-some, some-less, some-wider, prefix-behind, nothing-means}
 use Rattle.skk_server.proofs.Typists.{LeadsThere}
 
 -- Faults
@@ -49,12 +50,13 @@ front-all rules bytes dialog sent all =
     }
 
 -- a property of bytes, a dialog and what is sent is one of them with nothing more
-with-nothing : (P : List ℕ → Dialog → List ℕ → Type 0) (bytes : List ℕ) (dialog : Dialog) (sent : List ℕ)
-    → P bytes dialog sent → P (bytes ++ []) (dialog ++ []) (sent ++ [])
-with-nothing P bytes dialog sent p =
-    subst (λ (b : List ℕ). P b (dialog ++ []) (sent ++ [])) (sym (append-nil bytes))
+with-nothing : (P : List ℕ → Dialog → List ℕ → Type 0) (bytes : List ℕ) (dialog : Dialog) (sent nothing : List ℕ)
+    → nothing ≡ [] → P bytes dialog sent → P (bytes ++ []) (dialog ++ []) (sent ++ nothing)
+with-nothing P bytes dialog sent nothing none p =
+    subst (λ (n : List ℕ). P (bytes ++ []) (dialog ++ []) (sent ++ n)) (sym none)
+    (subst (λ (b : List ℕ). P b (dialog ++ []) (sent ++ [])) (sym (append-nil bytes))
     (subst (λ (d : Dialog). P bytes d (sent ++ [])) (sym (append-nil dialog))
-    (subst (λ (s : List ℕ). P bytes dialog s) (sym (append-nil sent)) p))
+    (subst (λ (s : List ℕ). P bytes dialog s) (sym (append-nil sent)) p)))
 
 -- nothing was read
 pub ends-unread : (rules : List Rule) (link : MovedLink) (said : Dialog) (talk : Talk) (taken : ℕ) (end : End)
@@ -70,7 +72,7 @@ ends-unread rules link said talk taken end there fronts stops kept few =
       says = sym (append-nil said);
       few = omega (arith, few);
       ends_so = λ bytes known known_sent at.
-          with-nothing (λ b d s. EndsBy rules link b d s end) bytes known known_sent
+          with-nothing (λ b d s. EndsBy rules link b d s end) bytes known known_sent [] refl
           (ends bytes known known_sent end stops (answers-all rules talk bytes known known_sent there at));
     }
   where
@@ -91,119 +93,291 @@ ends-unread rules link said talk taken end there fronts stops kept few =
     ends bytes known known_sent Limit stops' all = absurd stops'
     ends bytes known known_sent Memory stops' all = absurd stops'
 
--- what goes on or is over was answered
-goes-some : (rules : List Rule) (talk : Talk) (bytes : List ℕ) (dialog : Dialog) (sent less : List ℕ) (going : Going)
-    → LeadsThere → FrontsFirst → Goes rules talk bytes dialog sent going → IsPrefix less sent
-    → AnswersSome rules bytes dialog less
-goes-some rules talk bytes dialog sent less More there fronts goes begun =
-    all-some rules bytes dialog less sent more fronts (answers-all rules talk bytes dialog sent there goes) begun
-goes-some rules talk bytes dialog sent less Over there fronts goes begun =
-    all-some rules bytes dialog less sent over fronts goes begun
+-- what goes on or is over was answered, also where more bytes stand behind
+goes-some : (rules : List Rule) (talk : Talk) (bytes later : List ℕ) (dialog : Dialog) (sent less : List ℕ)
+    (going : Going) → LeadsThere → FrontsFirst → Goes rules talk bytes dialog sent going → IsPrefix less sent
+    → AnswersSome rules (bytes ++ later) dialog less
+goes-some rules talk bytes later dialog sent less More there fronts goes begun =
+    some-wider rules bytes later dialog less fronts
+    (all-some rules bytes dialog less sent more fronts (answers-all rules talk bytes dialog sent there goes) begun)
+goes-some rules talk bytes later dialog sent less Over there fronts goes begun =
+    all-some rules (bytes ++ later) dialog less sent over fronts (goes later) begun
 
--- bytes were read and answered, and a write failed
-pub ends-unsent : (rules : List Rule) (link : MovedLink) (said said' : Dialog) (talk talk' : Talk) (taken : ℕ)
-    (piece : List ℕ) (out out' less : List ℕ) (going : Going) → LeadsThere → FrontsFirst
-    → Answers rules piece talk talk' (record { said = said; out = out }) (record { said = said'; out = out' }) going
-    → out ≡ [] → IsPrefix less out' → Consumes link.left link.left' piece → Appends link.written link.written' less
-    → length piece ≤ longest_piece → taken + length piece ≤ most_bytes → Rose link.faults link.faults'
-    → EndsTurn rules link said said' talk taken LinkFault
-ends-unsent rules link said said' talk talk' taken piece out out' less going there fronts (dialog, sent, adds, goes)
-    none begun takes writes short few rose =
+-- Parts of what was read
+
+-- the replies of a part were kept
+pub part-kept : (rules : List Rule) (written : Told) (said said' : Dialog) (talk talk' : Talk) (part : List ℕ)
+    (out out' : List ℕ)
+    → Answers rules part talk talk' (record { said = said; out = out }) (record { said = said'; out = out' }) More
+    → AnswersPart rules written written said said' talk talk' out out' part
+part-kept rules written said said' talk talk' part out out' (dialog, sent, adds, goes) =
+    record { dialog = dialog; replies = sent; says = adds.0; stands = goes; kept_so = inl (refl, adds.1) }
+
+-- or sent
+pub part-sent : (rules : List Rule) (written written' : Told) (said said' : Dialog) (talk talk' : Talk)
+    (part : List ℕ) (out out' : List ℕ)
+    → Answers rules part talk talk' (record { said = said; out = out }) (record { said = said'; out = out' }) More
+    → Appends written written' out' → AnswersPart rules written written' said said' talk talk' out [] part
+part-sent rules written written' said said' talk talk' part out out' (dialog, sent, adds, goes) writes =
     record {
-      piece = piece;
       dialog = dialog;
-      sent = less;
-      takes = takes;
+      replies = sent;
+      says = adds.0;
+      stands = goes;
+      kept_so = inr (subst (Appends written written') adds.1 writes, refl);
+    }
+
+-- they were sent, and the connection is over
+pub part-over : (rules : List Rule) (link : MovedLink) (said said' : Dialog) (talk talk' : Talk) (part : List ℕ)
+    (out out' : List ℕ)
+    → Answers rules part talk talk' (record { said = said; out = out }) (record { said = said'; out = out' }) Over
+    → Appends link.written link.written' out' → EndsPart rules link said said' talk out part Closed
+part-over rules link said said' talk talk' part out out' (dialog, sent, adds, goes) writes =
+    record {
+      dialog = dialog;
+      replies = sent;
+      sent = out';
+      says = adds.0;
       writes = writes;
-      says = adds.0;
-      few = few;
-      ends_so = λ bytes known known_sent at. (
-        goes-some rules talk' (bytes ++ piece) (known ++ dialog) (known_sent ++ sent) (known_sent ++ less) going there
-            fronts (goes bytes known known_sent at) (prefix-behind known_sent sent less (begun-of begun)),
-        record {
-          front = bytes;
-          rest = piece;
-          bytes_are = refl;
-          few = short;
-          asked = known;
-          asked_then = dialog;
-          dialog_is = refl;
-          replies = known_sent;
-          replies_then = less;
-          sent_is = refl;
-          answers = answers-all rules talk bytes known known_sent there at;
-        },
-        rose,
-      );
+      sent_so = adds.1;
+      rose = λ other. cc (other);
+      ends_so = λ bytes known known_sent at later less all.
+          subst (λ (s : List ℕ). AnswersAll rules ((bytes ++ part) ++ later) (known ++ dialog) s over) (sym all)
+          (goes bytes known known_sent at later);
     }
-  where
-    begun-of : IsPrefix less out' → IsPrefix less sent
-    begun-of (rest, e) = (rest, sym (adds.1 ∙ ap (λ o. o ++ sent) none) ∙ e)
 
--- bytes were read and answered, and the replies sent, by which the connection is over
-pub ends-over : (rules : List Rule) (link : MovedLink) (said said' : Dialog) (talk talk' : Talk) (taken : ℕ)
-    (piece : List ℕ) (out out' : List ℕ)
-    → Answers rules piece talk talk' (record { said = said; out = out }) (record { said = said'; out = out' }) Over
-    → out ≡ [] → Consumes link.left link.left' piece → Appends link.written link.written' out'
-    → taken + length piece ≤ most_bytes → EndsTurn rules link said said' talk taken Closed
-ends-over rules link said said' talk talk' taken piece out out' (dialog, sent, adds, goes) none takes writes few =
+-- the first of them were sent, and then a write failed
+pub part-unsent : (rules : List Rule) (link : MovedLink) (said said' : Dialog) (talk talk' : Talk) (part : List ℕ)
+    (out out' less : List ℕ) (going : Going) → LeadsThere → FrontsFirst
+    → Answers rules part talk talk' (record { said = said; out = out }) (record { said = said'; out = out' }) going
+    → IsPrefix less out' → Appends link.written link.written' less → Rose link.faults link.faults'
+    → EndsPart rules link said said' talk out part LinkFault
+part-unsent rules link said said' talk talk' part out out' less going there fronts (dialog, sent, adds, goes) begun
+    writes rose =
     record {
-      piece = piece;
       dialog = dialog;
-      sent = sent;
-      takes = takes;
-      writes = subst (Appends link.written link.written') (adds.1 ∙ ap (λ o. o ++ sent) none) writes;
+      replies = sent;
+      sent = less;
       says = adds.0;
-      few = few;
-      ends_so = λ bytes known known_sent at. inl (goes bytes known known_sent at);
+      writes = writes;
+      sent_so = (begun.0, sym adds.1 ∙ begun.1);
+      rose = λ same. rose;
+      ends_so = λ bytes known known_sent at later few first.
+          goes-some rules talk' (bytes ++ part) later (known ++ dialog) (known_sent ++ sent) few going there fronts
+          (goes bytes known known_sent at) first;
     }
 
--- bytes were read, and memory was out
-pub ends-broken : (rules : List Rule) (link : MovedLink) (said said' : Dialog) (talk : Talk) (taken : ℕ)
-    (piece : List ℕ) (out out' less : List ℕ)
-    → Breaks rules piece talk (record { said = said; out = out }) (record { said = said'; out = out' })
-    → out ≡ [] → IsPrefix less out' → Consumes link.left link.left' piece → Appends link.written link.written' less
-    → taken + length piece ≤ most_bytes → EndsTurn rules link said said' talk taken Memory
-ends-broken rules link said said' talk taken piece out out' less (dialog, sent, adds, breaks) none begun takes writes
+-- memory was out, and what there was of them was sent, or the first of it
+pub part-broken : (rules : List Rule) (link : MovedLink) (said said' : Dialog) (talk : Talk) (part : List ℕ)
+    (out out' less : List ℕ) → FrontsFirst
+    → Breaks rules part talk (record { said = said; out = out }) (record { said = said'; out = out' })
+    → IsPrefix less out' → Appends link.written link.written' less
+    → EndsPart rules link said said' talk out part Memory
+part-broken rules link said said' talk part out out' less fronts (dialog, sent, adds, breaks) begun writes =
+    record {
+      dialog = dialog;
+      replies = sent;
+      sent = less;
+      says = adds.0;
+      writes = writes;
+      sent_so = (begun.0, sym adds.1 ∙ begun.1);
+      rose = λ other. cc (other);
+      ends_so = λ bytes known known_sent at later few first.
+          some-wider rules (bytes ++ part) later (known ++ dialog) few fronts
+          (some-less rules (bytes ++ part) (known ++ dialog) (known_sent ++ sent) few (breaks bytes known known_sent at)
+          first);
+    }
+
+-- All that was read
+
+-- no part yet
+pub read-none : (rules : List Rule) (written : Told) (said : Dialog) (talk : Talk) (kept : List ℕ) → kept ≡ []
+    → AnswersRead rules written written said said talk talk kept []
+read-none rules written said talk kept none =
+    record {
+      dialog = [];
+      sent = [];
+      says = sym (append-nil said);
+      writes = Appends-nil written;
+      stands = λ bytes known known_sent at.
+          with-nothing (StandsAt rules talk) bytes known known_sent kept none at;
+    }
+
+-- what is sent behind what was kept, where a part was answered: what is kept then, or nothing
+kept-on : (written middle written' : Told) (sent kept kept' replies : List ℕ) → Appends written middle sent
+    → ((written' ≡ middle) × (kept' ≡ kept ++ replies)) ⊎ (Appends middle written' (kept ++ replies) × (kept' ≡ []))
+    → (sent' : List ℕ) × Appends written written' sent' × ((sent ++ kept) ++ replies ≡ sent' ++ kept')
+kept-on written middle written' sent kept kept' replies writes (inl (same, kept_is)) = (
+  sent,
+  subst (λ w. Appends written w sent) (sym same) writes,
+  append_assoc sent kept replies ∙ ap (λ k. sent ++ k) (sym kept_is),
+)
+kept-on written middle written' sent kept kept' replies writes (inr (further, none)) = (
+  sent ++ (kept ++ replies),
+  Appends-trans written middle written' sent (kept ++ replies) writes further,
+  append_assoc sent kept replies ∙ (sym (append-nil (sent ++ (kept ++ replies)))
+      ∙ ap (λ k. (sent ++ (kept ++ replies)) ++ k) (sym none)),
+)
+
+-- a part more
+pub read-on : (rules : List Rule) (written middle written' : Told) (said said' said'' : Dialog)
+    (talk talk' talk'' : Talk) (kept kept' front part : List ℕ)
+    → AnswersRead rules written middle said said' talk talk' kept front
+    → AnswersPart rules middle written' said' said'' talk' talk'' kept kept' part
+    → AnswersRead rules written written' said said'' talk talk'' kept' (front ++ part)
+read-on rules written middle written' said said' said'' talk talk' talk'' kept kept' front part read more' =
+    let sent = kept-on written middle written' read.sent kept kept' more'.replies read.writes more'.kept_so in
+    record {
+      dialog = read.dialog ++ more'.dialog;
+      sent = sent.0;
+      says = more'.says ∙ ap (λ d. d ++ more'.dialog) read.says ∙ append_assoc said read.dialog more'.dialog;
+      writes = sent.1;
+      stands = λ bytes known known_sent at.
+          subst (λ (b : List ℕ). StandsAt rules talk'' b (known ++ (read.dialog ++ more'.dialog))
+          (known_sent ++ (sent.0 ++ kept'))) (append_assoc bytes front part)
+          (subst (λ (d : Dialog). StandsAt rules talk'' ((bytes ++ front) ++ part) d (known_sent ++ (sent.0 ++ kept')))
+          (append_assoc known read.dialog more'.dialog)
+          (subst (λ (s : List ℕ). StandsAt rules talk'' ((bytes ++ front) ++ part)
+          ((known ++ read.dialog) ++ more'.dialog) s)
+          (append_assoc known_sent (read.sent ++ kept) more'.replies ∙ ap (λ s. known_sent ++ s) sent.2)
+          (more'.stands (bytes ++ front) (known ++ read.dialog) (known_sent ++ (read.sent ++ kept))
+          (read.stands bytes known known_sent at))));
+    }
+
+first-behind : (known sent kept replies less : List ℕ) → IsPrefix less (kept ++ replies)
+    → IsPrefix (known ++ (sent ++ less)) ((known ++ (sent ++ kept)) ++ replies)
+first-behind known sent kept replies less begun =
+    subst (IsPrefix (known ++ (sent ++ less)))
+    (ap (λ l. known ++ l) (sym (append_assoc sent kept replies)) ∙ sym (append_assoc known (sent ++ kept) replies))
+    (prefix-behind known (sent ++ (kept ++ replies)) (sent ++ less)
+    (prefix-behind sent (kept ++ replies) less begun))
+
+-- so much of all replies was sent, where so much of those of a part and those before it was
+sent-behind : (known sent kept replies less : List ℕ) (end : End) → IsSent less (kept ++ replies) end
+    → IsSent (known ++ (sent ++ less)) ((known ++ (sent ++ kept)) ++ replies) end
+sent-behind known sent kept replies less Closed is =
+    ap (λ l. known ++ (sent ++ l)) is
+    ∙ (ap (λ l. known ++ l) (sym (append_assoc sent kept replies)) ∙ sym (append_assoc known (sent ++ kept) replies))
+sent-behind known sent kept replies less LinkFault is = first-behind known sent kept replies less is
+sent-behind known sent kept replies less Limit is = first-behind known sent kept replies less is
+sent-behind known sent kept replies less Memory is = first-behind known sent kept replies less is
+
+-- the connection ends with a part, behind which other bytes may have been read
+pub read-ends : {L : Type 0} (rules : List Rule) (left written : L → Told) (faults : L → ℕ) (first middle last : L)
+    (said said' said'' : Dialog) (talk talk' : Talk) (kept front part later piece : List ℕ) (end : End)
+    → AnswersRead rules (written first) (written middle) said said' talk talk' kept front
+    → faults first ≤ faults middle
+    → EndsPart rules (moved_link left written faults middle last) said' said'' talk' kept part end
+    → front ++ (part ++ later) ≡ piece
+    → EndsRead rules (moved_link left written faults first last) said said'' talk piece end
+read-ends rules left written faults first middle last said said' said'' talk talk' kept front part later piece end read
+    few ends' is =
+    record {
+      dialog = read.dialog ++ ends'.dialog;
+      sent = read.sent ++ ends'.sent;
+      says = ends'.says ∙ ap (λ d. d ++ ends'.dialog) read.says ∙ append_assoc said read.dialog ends'.dialog;
+      writes = Appends-trans (written first) (written middle) (written last) read.sent ends'.sent read.writes
+          ends'.writes;
+      rose = λ same. rose-before (faults first) (faults middle) (faults last) few (ends'.rose same);
+      ends_so = λ bytes known known_sent at.
+          subst (λ (b : List ℕ). EndsIn rules b (known ++ (read.dialog ++ ends'.dialog))
+          (known_sent ++ (read.sent ++ ends'.sent)) end)
+          (append_assoc (bytes ++ front) part later ∙ append_assoc bytes front (part ++ later)
+          ∙ ap (λ b. bytes ++ b) is)
+          (subst (λ (d : Dialog). EndsIn rules (((bytes ++ front) ++ part) ++ later) d
+          (known_sent ++ (read.sent ++ ends'.sent)) end) (append_assoc known read.dialog ends'.dialog)
+          (ends'.ends_so (bytes ++ front) (known ++ read.dialog) (known_sent ++ (read.sent ++ kept))
+          (read.stands bytes known known_sent at) later (known_sent ++ (read.sent ++ ends'.sent))
+          (sent-behind known_sent read.sent kept ends'.replies ends'.sent end ends'.sent_so)));
+    }
+
+-- what was kept was sent
+pub read-sent : (rules : List Rule) (written middle written' : Told) (said said' : Dialog) (talk talk' : Talk)
+    (kept piece : List ℕ) → AnswersRead rules written middle said said' talk talk' kept piece
+    → Appends middle written' kept → AnswersRead rules written written' said said' talk talk' [] piece
+read-sent rules written middle written' said said' talk talk' kept piece read writes =
+    record {
+      dialog = read.dialog;
+      sent = read.sent ++ kept;
+      says = read.says;
+      writes = Appends-trans written middle written' read.sent kept read.writes writes;
+      stands = λ bytes known known_sent at.
+          subst (λ (s : List ℕ). StandsAt rules talk' (bytes ++ piece) (known ++ read.dialog) (known_sent ++ s))
+          (sym (append-nil (read.sent ++ kept))) (read.stands bytes known known_sent at);
+    }
+
+-- or the first of it, and then a write failed
+pub read-unsent : (rules : List Rule) (link : MovedLink) (middle : Told) (faults : ℕ) (said said' : Dialog)
+    (talk talk' : Talk) (kept less piece : List ℕ) → LeadsThere → FrontsFirst
+    → AnswersRead rules link.written middle said said' talk talk' kept piece → IsPrefix less kept
+    → Appends middle link.written' less → link.faults ≤ faults → Rose faults link.faults'
+    → EndsRead rules link said said' talk piece LinkFault
+read-unsent rules link middle faults said said' talk talk' kept less piece there fronts read begun writes few rose =
+    record {
+      dialog = read.dialog;
+      sent = read.sent ++ less;
+      says = read.says;
+      writes = Appends-trans link.written middle link.written' read.sent less read.writes writes;
+      rose = λ same. rose-before link.faults faults link.faults' few rose;
+      ends_so = λ bytes known known_sent at.
+          all-some rules (bytes ++ piece) (known ++ read.dialog) (known_sent ++ (read.sent ++ less))
+          (known_sent ++ (read.sent ++ kept)) more fronts
+          (answers-all rules talk' (bytes ++ piece) (known ++ read.dialog) (known_sent ++ (read.sent ++ kept)) there
+          (read.stands bytes known known_sent at))
+          (prefix-behind known_sent (read.sent ++ kept) (read.sent ++ less)
+          (prefix-behind read.sent kept less begun));
+    }
+
+-- Turns
+
+-- a connection ends in a turn
+pub turn-ends : {L : Type 0} (rules : List Rule) (left written : L → Told) (faults : L → ℕ) (first middle last : L)
+    (said said' : Dialog) (talk : Talk) (taken : ℕ) (piece : List ℕ) (end : End) → LeadsThere
+    → EndsRead rules (moved_link left written faults middle last) said said' talk piece end
+    → written middle ≡ written first → faults first ≤ faults middle → Consumes (left first) (left last) piece
+    → length piece ≤ longest_piece → taken + length piece ≤ most_bytes
+    → EndsTurn rules (moved_link left written faults first last) said said' talk taken end
+turn-ends rules left written faults first middle last said said' talk taken piece end there ends' kept fewer takes short
     few =
     record {
       piece = piece;
-      dialog = dialog;
-      sent = less;
+      dialog = ends'.dialog;
+      sent = ends'.sent;
       takes = takes;
-      writes = writes;
-      says = adds.0;
+      writes = subst (λ w. Appends w (written last) ends'.sent) kept ends'.writes;
+      says = ends'.says;
       few = few;
       ends_so = λ bytes known known_sent at.
-          some-less rules (bytes ++ piece) (known ++ dialog) (known_sent ++ sent) (known_sent ++ less)
-          (breaks bytes known known_sent at) (prefix-behind known_sent sent less (begun-of begun));
+          ends-by end bytes known known_sent at
+          (λ same. rose-before (faults first) (faults middle) (faults last) fewer (ends'.rose same))
+          (ends'.ends_so bytes known known_sent at);
     }
   where
-    begun-of : IsPrefix less out' → IsPrefix less sent
-    begun-of (rest, e) = (rest, sym (adds.1 ∙ ap (λ o. o ++ sent) none) ∙ e)
-
--- A turn after which it goes on
-
-pub goes-on : (rules : List Rule) (link : MovedLink) (said said' : Dialog) (talk talk' : Talk) (taken taken' : ℕ)
-    (piece : List ℕ) (out out' : List ℕ)
-    → Answers rules piece talk talk' (record { said = said; out = out }) (record { said = said'; out = out' }) More
-    → out ≡ [] → Consumes link.left link.left' piece → Appends link.written link.written' out'
-    → 0 < length piece → taken' ≡ taken + length piece → taken' ≤ most_bytes
-    → TakesTurn rules link said said' talk talk' taken taken'
-goes-on rules link said said' talk talk' taken taken' piece out out' (dialog, sent, adds, goes) none takes writes some
-    counted few =
-    record {
-      piece = piece;
-      dialog = dialog;
-      sent = sent;
-      takes = takes;
-      writes = subst (Appends link.written link.written') (adds.1 ∙ ap (λ o. o ++ sent) none) writes;
-      says = adds.0;
-      counted = counted;
-      some = some;
-      few = few;
-      stands = goes;
-    }
+    ends-by : (end' : End) (bytes : List ℕ) (known : Dialog) (known_sent : List ℕ)
+        → StandsAt rules talk bytes known known_sent → (end' ≡ LinkFault → Rose (faults first) (faults last))
+        → EndsIn rules (bytes ++ piece) (known ++ ends'.dialog) (known_sent ++ ends'.sent) end'
+        → EndsBy rules (moved_link left written faults first last) (bytes ++ piece) (known ++ ends'.dialog)
+        (known_sent ++ ends'.sent) end'
+    ends-by Closed bytes known known_sent at rose ends_in = inl ends_in
+    ends-by LinkFault bytes known known_sent at rose ends_in = (
+      ends_in,
+      record {
+        front = bytes;
+        rest = piece;
+        bytes_are = refl;
+        few = short;
+        asked = known;
+        asked_then = ends'.dialog;
+        dialog_is = refl;
+        replies = known_sent;
+        replies_then = ends'.sent;
+        sent_is = refl;
+        answers = answers-all rules talk bytes known known_sent there at;
+      },
+      rose refl,
+    )
+    ends-by Limit bytes known known_sent at rose ends_in = absurd ends_in
+    ends-by Memory bytes known known_sent at rose ends_in = ends_in
 
 -- All turns
 

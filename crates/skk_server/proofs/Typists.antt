@@ -66,6 +66,12 @@ LeadsThere =
     → StandsSo rules bytes talk typist begun
     → (meaning : Conversation) × Converses rules bytes meaning × Leads meaning talk.dialog talk.text (ends typist)
 
+-- a typist's connection that is over stays so, whatever comes behind
+abbrev pub OverStays : Type 0
+OverStays =
+    (rules : List Rule) (bytes more : List ℕ) (talk : Talk) (begun later : List ℕ)
+    → StandsSo rules bytes talk stands.Over begun → StandsSo rules (bytes ++ more) talk stands.Over later
+
 -- a typist's connection that goes on has answered all
 pub typist-all : (rules : List Rule) (bytes behind : List ℕ) (dialog : Dialog) (sent : List ℕ) (typing : TypingView)
     → LeadsThere → bytes ≡ code "T" ∷ behind → TypistStands rules bytes dialog sent typing
@@ -86,23 +92,26 @@ both-sent : (text more : List ℕ) (sent : List ℕ) → sent ≡ encode_utf8_al
     → sent ++ encode_utf8_all more ≡ encode_utf8_all (text ++ more)
 both-sent text more' sent e = ap (λ s. s ++ encode_utf8_all more') e ∙ sym (encodes-append text more')
 
--- a typist's connection that is over has answered all
+-- a typist's connection that is over has answered all, whatever comes behind
 typist-over : (rules : List Rule) (bytes behind : List ℕ) (talk : Talk) (sent : List ℕ) (typist : Typist)
-    (begun : List ℕ) → bytes ≡ code "T" ∷ behind → is_over typist ≡ true → StandsSo rules bytes talk typist begun
-    → sent ≡ encode_utf8_all talk.text → AnswersAll rules bytes talk.dialog sent over
-typist-over rules bytes behind talk sent stands.New begun e ended is sent_is = absurd (false≢true ended)
-typist-over rules bytes behind talk sent (stands.Typing session) begun e ended is sent_is = absurd (false≢true ended)
-typist-over rules bytes behind talk sent stands.Over begun e ended is sent_is = (
-  in_bytes is.meaning,
-  means-typist rules bytes behind is.meaning e is.converses,
-  subst (λ (s : List ℕ). Leads (in_bytes is.meaning) talk.dialog s (ends over)) (sym sent_is) (in-bytes is.led),
-)
+    (begun : List ℕ) → OverStays → bytes ≡ code "T" ∷ behind → is_over typist ≡ true
+    → StandsSo rules bytes talk typist begun → sent ≡ encode_utf8_all talk.text
+    → (later : List ℕ) → AnswersAll rules (bytes ++ later) talk.dialog sent over
+typist-over rules bytes behind talk sent stands.New begun stay e ended is sent_is = absurd (false≢true ended)
+typist-over rules bytes behind talk sent (stands.Typing session) begun stay e ended is sent_is =
+    absurd (false≢true ended)
+typist-over rules bytes behind talk sent stands.Over begun stay e ended is sent_is = λ later.
+    let all = stay rules bytes later talk begun begun is in (
+      in_bytes all.meaning,
+      means-typist rules (bytes ++ later) (behind ++ later) all.meaning (ap (λ b. b ++ later) e) all.converses,
+      subst (λ (s : List ℕ). Leads (in_bytes all.meaning) talk.dialog s (ends over)) (sym sent_is) (in-bytes all.led),
+    )
 
 -- its next bytes were answered
 pub typist-on : (rules : List Rule) (piece : List ℕ) (typing typing' : TypingView) (before after : Heard)
-    (typist : Typist) → Types rules piece typing typing' before after → typing'.typist ≡ Some typist
+    (typist : Typist) → OverStays → Types rules piece typing typing' before after → typing'.typist ≡ Some typist
     → AnswersOf rules piece (TypistTalk typing) (TypistTalk typing') before after (going_of typist)
-typist-on rules piece typing typing' before after typist types is = (
+typist-on rules piece typing typing' before after typist stay types is = (
   types.talk.dialog,
   encode_utf8_all types.talk.text,
   types.grows,
@@ -127,7 +136,7 @@ typist-on rules piece typing typing' before after typist types is = (
     by bytes known known_sent suits (text, typist', is', goes, stands', sent_is) true e =
         let earlier : Talk = record { dialog = known; text = text } in
         typist-over rules (bytes ++ piece) suits.0 (with_talk earlier types.talk)
-        (known_sent ++ encode_utf8_all types.talk.text) typist typing'.begun suits.1 e
+        (known_sent ++ encode_utf8_all types.talk.text) typist typing'.begun stay suits.1 e
         (subst (λ (t : Option Typist). StandsIf rules (bytes ++ piece) (with_talk earlier types.talk) t typing'.begun)
         is (types.stands bytes earlier stands'))
         (both-sent text types.talk.text known_sent sent_is)
@@ -159,10 +168,10 @@ typist-broken rules piece typing before after fronts stops = (
 
 -- the same by the result of the call that types them
 pub typist-answers : (rules : List Rule) (piece : List ℕ) (typing typing' : TypingView) (before after : Heard)
-    (r : Result Going Memory) → OnOk r (Types rules piece typing typing' before after)
+    (r : Result Going Memory) → OverStays → OnOk r (Types rules piece typing typing' before after)
     → IfOk r (λ going. (typist : Typist) × (typing'.typist ≡ Some typist) × (going ≡ going_of typist))
     → IfOk r (AnswersOf rules piece (TypistTalk typing) (TypistTalk typing') before after)
-typist-answers rules piece typing typing' before after (Ok going) types (typist, is, told) =
+typist-answers rules piece typing typing' before after (Ok going) stay types (typist, is, told) =
     subst (AnswersOf rules piece (TypistTalk typing) (TypistTalk typing') before after) (sym told)
-    (typist-on rules piece typing typing' before after typist types is)
-typist-answers rules piece typing typing' before after (Err memory) types told = tt
+    (typist-on rules piece typing typing' before after typist stay types is)
+typist-answers rules piece typing typing' before after (Err memory) stay types told = tt

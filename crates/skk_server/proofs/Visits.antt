@@ -67,7 +67,7 @@ module _ {L S : Type 0} (rules : List Rule) (links : SeenLink L) (slips : SeenCa
 module _ {L C : Type 0} where
   -- a work has one pass at most
   pub pass-few : (work : Work L C) → passes_of work ≤ 1
-  pass-few (Running handle) = omega arith
+  pass-few (Running handle was) = omega arith
   pass-few (Done worked was) = omega arith
   pass-few (Refused link was) = omega arith
 
@@ -88,7 +88,7 @@ module _ {L C : Type 0} (rules : List Rule) (links : SeenLink L) (callers : Seen
   -- a work with a pass is under way whatever is behind it
   pass-anyhow : (number : ℕ) (work : Work L C) (behind others : List (Work L C)) → passes_of work ≡ 1
       → IsUnderWay rules links callers number work behind → IsUnderWay rules links callers number work others
-  pass-anyhow number (Running handle) behind others one is = is
+  pass-anyhow number (Running handle was) behind others one is = is
   pass-anyhow number (Done worked was) behind others one is = is
   pass-anyhow number (Refused link was) behind others one is = absurd (omega (arith, one))
 

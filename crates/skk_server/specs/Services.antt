@@ -12,12 +12,14 @@ pub record SeenListener (N L : Type 0) : Type 0 where
   pub coming : N → Option (List L)
   pub over : N → Option (List L)
   pub out : N → ℕ
+  pub opened : N → Option ℕ
   pub faults : N → ℕ
 
 -- a listener by its meanings
-abbrev pub seen_listener : {N L : Type 0} → (N → Option (List L)) → (N → Option (List L)) → (N → ℕ) → (N → ℕ)
-    → SeenListener N L
-seen_listener coming over out faults = record { coming = coming; over = over; out = out; faults = faults }
+abbrev pub seen_listener : {N L : Type 0} → (N → Option (List L)) → (N → Option (List L)) → (N → ℕ) → (N → Option ℕ)
+    → (N → ℕ) → SeenListener N L
+seen_listener coming over out opened faults =
+    record { coming = coming; over = over; out = out; opened = opened; faults = faults }
 
 -- how an end came, where so many connections were asked for, so many were accepted, and so many had a pass: as many as
 -- were asked for had one, or no link can come any more; the listener failed; or memory was out
@@ -29,7 +31,7 @@ EndsServing nets net net' asked accepted passes Fault =
 EndsServing nets net net' asked accepted passes Memory = passes < asked
 
 -- connections were served, of so many that were asked for: the links that were accepted were given back in their order,
--- each closed, and what was answered tells of each of them
+-- each closed, on the port that was open, and what was answered tells of each of them
 pub record ServesAll {N L S : Type 0} (rules : List Rule) (nets : SeenListener N L) (links : SeenLink L)
     (slips : SeenCaller S) (asked : ℕ) (net net' : N) (drawn drawn' : ℕ) (answered : Served S) : Type 0 where
   pub visits : List (Visit L)
@@ -37,6 +39,7 @@ pub record ServesAll {N L S : Type 0} (rules : List Rule) (nets : SeenListener N
   pub comes : nets.coming net ≡ option_map (λ rest. map (λ visit. visit.link) visits ++ rest) (nets.coming net')
   pub gives_back : nets.over net' ≡ option_map (λ before. before ++ map (λ visit. visit.link') visits) (nets.over net)
   pub none_out : nets.out net' ≡ nets.out net
+  pub opened_is : nets.opened net' ≡ nets.opened net
   pub counted : nets.faults net ≤ nets.faults net'
   pub count_is : answered.count ≡ length visits
   pub few : length visits ≤ asked

@@ -11,9 +11,9 @@ use Rattle.skk_server.specs.declared.start.Start.{Start}
 use Rattle.skk_server.specs.declared.work.Work.{Work}
 use Rattle.skk_server.specs.Services.{SeenListener}
 use Rattle.skk_server.specs.Visits.{SeenLink, SeenCaller, Visit, AreServed}
-use Rattle.skk_server.specs.Works.{begun, passes_of, passes_under_way, IsUnderWay, AreUnderWay}
+use Rattle.skk_server.specs.Works.{begun, passes_of, passes_under_way, running_in, IsUnderWay, AreUnderWay, AreJoined}
 
--- the most works under way
+-- the most workers at once
 abbrev pub most_workers : ℕ
 most_workers = 32
 
@@ -25,17 +25,18 @@ accepted_in hall = length hall.ends.items + length hall.works.items
 abbrev pub passes_in : {L C S : Type 0} → Hall L C S → ℕ
 passes_in hall = length hall.passes.items + passes_under_way hall.works.items
 
--- there is room for what the works under way leave, and for as many of them as there may be
+-- no more workers serve than may, they are counted, and there is room for what the works leave
 pub record HasPlaces {L C S : Type 0} (hall : Hall L C S) : Type 0 where
-  pub few : deque_len hall.works ≤ most_workers
-  pub works_fit : most_workers ≤ deque_capacity hall.works
+  pub few : hall.running ≤ most_workers
+  pub running_is : hall.running ≡ running_in hall.works.items
   pub passes_fit : vec_len hall.passes + deque_len hall.works ≤ vec_capacity hall.passes
   pub ends_fit : vec_len hall.ends + deque_len hall.works ≤ vec_capacity hall.ends
 
--- there is room for one work more
+-- there is room for one work more, and a worker may serve it
 pub record HasPlace {L C S : Type 0} (hall : Hall L C S) : Type 0 where
-  pub few : deque_len hall.works < most_workers
-  pub works_fit : most_workers ≤ deque_capacity hall.works
+  pub few : hall.running < most_workers
+  pub running_is : hall.running ≡ running_in hall.works.items
+  pub works_fit : deque_len hall.works < deque_capacity hall.works
   pub passes_fit : vec_len hall.passes + deque_len hall.works < vec_capacity hall.passes
   pub ends_fit : vec_len hall.ends + deque_len hall.works < vec_capacity hall.ends
 
@@ -54,6 +55,13 @@ pub record Opens {N L C S : Type 0} (rules : List Rule) (net : N) (drawn : ℕ) 
 abbrev pub CountsStay : {L C S : Type 0} → Hall L C S → Hall L C S → Type 0
 CountsStay hall hall' = (accepted_in hall' ≡ accepted_in hall) × (passes_in hall' ≡ passes_in hall)
 
+-- workers that have ended were joined, and nothing else is another in a hall
+pub record JoinsSome {L C S : Type 0} (links : SeenLink L) (callers : SeenCaller C) (hall hall' : Hall L C S) : Type 0
+  where
+    pub joined : AreJoined links callers hall.works.items hall'.works.items
+    pub passes_stay : hall'.passes ≡ hall.passes
+    pub ends_stay : hall'.ends ≡ hall.ends
+
 -- of the connections that were accepted from the start on, the first ones were served, and the others are under way
 pub record Stage {N L C S : Type 0} (nets : SeenListener N L) (links : SeenLink L) (callers : SeenCaller C)
     (slips : SeenCaller S) (start : Start N) (net : N) (hall : Hall L C S) : Type 0 where
@@ -65,6 +73,7 @@ pub record Stage {N L C S : Type 0} (nets : SeenListener N L) (links : SeenLink 
   pub gives_back : nets.over net ≡ option_map (λ before. before ++ map (λ visit. visit.link') visits)
       (nets.over start.net.value)
   pub out_is : nets.out net ≡ nets.out start.net.value + length hall.works.items
+  pub opened_is : nets.opened net ≡ nets.opened start.net.value
   pub counted : nets.faults start.net.value ≤ nets.faults net
   pub ends_are : hall.ends.items ≡ map (λ visit. visit.end) visits
   pub level : 0 < length hall.works.items → length hall.passes.items ≡ length visits
@@ -74,6 +83,7 @@ pub record TakesLink {N L : Type 0} (nets : SeenListener N L) (net net' : N) (li
   pub comes : nets.coming net ≡ option_map (λ rest. link ∷ rest) (nets.coming net')
   pub over_is : nets.over net' ≡ nets.over net
   pub out_is : nets.out net' ≡ nets.out net + 1
+  pub opened_is : nets.opened net' ≡ nets.opened net
   pub counted : nets.faults net ≤ nets.faults net'
 
 -- why no link was accepted, by the end that this is: none can come, or the listener failed
@@ -87,6 +97,7 @@ pub record TakesNone {N L : Type 0} (nets : SeenListener N L) (net net' : N) (en
   pub coming_is : nets.coming net' ≡ nets.coming net
   pub over_is : nets.over net' ≡ nets.over net
   pub out_is : nets.out net' ≡ nets.out net
+  pub opened_is : nets.opened net' ≡ nets.opened net
   pub counted : nets.faults net ≤ nets.faults net'
   pub why : NoneCame nets net net' end
 
@@ -94,6 +105,7 @@ pub record TakesNone {N L : Type 0} (nets : SeenListener N L) (net net' : N) (en
 pub record GivesBack {N L : Type 0} (nets : SeenListener N L) (net net' : N) (link : L) : Type 0 where
   pub over_is : nets.over net' ≡ option_map (λ links. links ++ link ∷ []) (nets.over net)
   pub out_is : nets.out net' + 1 ≡ nets.out net
+  pub opened_is : nets.opened net' ≡ nets.opened net
   pub coming_is : nets.coming net' ≡ nets.coming net
   pub faults_is : nets.faults net' ≡ nets.faults net
 

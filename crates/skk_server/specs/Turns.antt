@@ -1,10 +1,12 @@
 -- How a connection stands between its turns, and what a turn leaves.
-use Rattle.std.specs.Prelude.{◌≡◌, ◌<◌, ◌≤◌, ℕ, ◌+◌, ◌==◌, Bool, false, true, None, Some, List, [], ◌∷◌, ◌++◌, length}
+use Rattle.std.specs.Prelude.{◌≡◌, ◌⊎◌, ◌<◌, ◌≤◌, ℕ, ◌+◌, ◌==◌, Bool, false, true, None, Some, List, [], ◌∷◌, ◌++◌, length}
 use Rattle.std.specs.Prelude.{encode_utf8_all}
 use Rattle.std.specs.Prelude.{vec_len}
 use Rattle.std.specs.Io.KnownBytes.{Appends, Consumes, IsAtEnd}
 use Rattle.skk_text.specs.Characters.{code}
 use Rattle.skk_outside.specs.Faults.{Rose}
+use Rattle.skk_outside.specs.Moved.{Told}
+use Rattle.skk_outside.specs.Written.{IsPrefix}
 use Rattle.romaji_rules.specs.declared.rule.Rule.{Rule}
 use Rattle.skk_calls.specs.declared.call.Call.{Call}
 use Rattle.skk_calls.specs.Interactions.{ends, asks, Dialog, Leads}
@@ -18,7 +20,7 @@ use Rattle.typist_line.specs.declared.typing.Typist.{Typist}
 use Rattle.typist_line.specs.Typings.{Heard, Stands, TypingView, is_over}
 use Rattle.skk_server.specs.declared.connection.Connection.{Connection}
 use Rattle.skk_server.specs.declared.end.End.{End}
-use Rattle.skk_server.specs.declared.end.End.TheVariants.{Closed, LinkFault}
+use Rattle.skk_server.specs.declared.end.End.TheVariants.{Closed, LinkFault, Limit, Memory}
 use Rattle.skk_server.specs.declared.talk.Talk.{Talk}
 use Rattle.skk_server.specs.declared.talk.Talk.TheVariants.{New, Client, Typist as TypistTalk}
 use Rattle.skk_server.specs.Connections.{Exchange, over, served, replied, answered, client}
@@ -86,10 +88,10 @@ abbrev pub ClientStands : List ℕ → Dialog → List ℕ → Feeding → Type 
 ClientStands bytes dialog sent feeder =
     Fed bytes feeder × (first_bad bytes ≡ None) × RequestsLead (requests bytes) dialog sent More
 
--- a client's connection behind bytes, by whether it goes on
+-- a client's connection behind bytes, by whether it goes on; where it is over it is, whatever comes behind them
 abbrev pub ClientGoes : List ℕ → Dialog → List ℕ → Feeding → Going → Type 0
 ClientGoes bytes dialog sent feeder More = ClientStands bytes dialog sent feeder
-ClientGoes bytes dialog sent feeder Over = Leads (client bytes) dialog sent (ends over)
+ClientGoes bytes dialog sent feeder Over = (later : List ℕ) → Leads (client (bytes ++ later)) dialog sent (ends over)
 
 -- whatever a client sent before, its next bytes were answered
 abbrev pub AnswersBytes : List ℕ → Feeding → Feeding → Heard → Heard → Going → Type 0
@@ -137,10 +139,10 @@ Begins piece talk talk' =
     (rules : List Rule) (bytes : List ℕ) (dialog : Dialog) (sent : List ℕ) → StandsAt rules talk bytes dialog sent
     → Suits talk' (bytes ++ piece) × StandsOf rules talk' bytes dialog sent
 
--- a connection behind its bytes, by whether it goes on
+-- a connection behind its bytes, by whether it goes on; where it is over it is, whatever comes behind them
 abbrev pub Goes : List Rule → Talk → List ℕ → Dialog → List ℕ → Going → Type 0
 Goes rules talk bytes dialog sent More = StandsAt rules talk bytes dialog sent
-Goes rules talk bytes dialog sent Over = AnswersAll rules bytes dialog sent over
+Goes rules talk bytes dialog sent Over = (later : List ℕ) → AnswersAll rules (bytes ++ later) dialog sent over
 
 -- whatever came before, the next bytes of a connection were answered
 abbrev pub Answers : List Rule → List ℕ → Talk → Talk → Heard → Heard → Going → Type 0
@@ -172,6 +174,70 @@ BreaksOf rules piece talk before after =
     → StandsOf rules talk bytes known known_sent
     → AnswersSome rules (bytes ++ piece) (known ++ dialog) (known_sent ++ sent))
 
+-- What was read
+
+-- a connection goes on behind the next bytes, with what was said for them, and these replies
+abbrev pub GoesOn : List Rule → Talk → Talk → List ℕ → Dialog → List ℕ → Type 0
+GoesOn rules talk talk' piece dialog replies =
+    (bytes : List ℕ) (known : Dialog) (known_sent : List ℕ) → StandsAt rules talk bytes known known_sent
+    → StandsAt rules talk' (bytes ++ piece) (known ++ dialog) (known_sent ++ replies)
+
+-- so much was sent of replies at an end: all of them where the connection is over, and else the first of them
+abbrev pub IsSent : List ℕ → List ℕ → End → Type 0
+IsSent sent replies Closed = sent ≡ replies
+IsSent sent replies end = IsPrefix sent replies
+
+-- how far a connection was answered at an end, where no more was read
+abbrev pub EndsIn : List Rule → List ℕ → Dialog → List ℕ → End → Type 0
+EndsIn rules bytes dialog sent Closed = AnswersAll rules bytes dialog sent over
+EndsIn rules bytes dialog sent LinkFault = AnswersSome rules bytes dialog sent
+EndsIn rules bytes dialog sent Limit = ⊥
+EndsIn rules bytes dialog sent Memory = AnswersSome rules bytes dialog sent
+
+-- a part of what was read was answered: its replies are kept behind those that were kept before, or all were sent
+pub record AnswersPart (rules : List Rule) (written written' : Told) (said said' : Dialog) (talk talk' : Talk)
+    (kept kept' : List ℕ) (part : List ℕ) : Type 0 where
+  pub dialog : Dialog
+  pub replies : List ℕ
+  pub says : said' ≡ said ++ dialog
+  pub stands : GoesOn rules talk talk' part dialog replies
+  pub kept_so : ((written' ≡ written) × (kept' ≡ kept ++ replies))
+      ⊎ (Appends written written' (kept ++ replies) × (kept' ≡ []))
+
+-- or the connection ends behind it, whatever bytes stand there
+pub record EndsPart (rules : List Rule) (link : MovedLink) (said said' : Dialog) (talk : Talk) (kept part : List ℕ)
+    (end : End) : Type 0 where
+  pub dialog : Dialog
+  pub replies : List ℕ
+  pub sent : List ℕ
+  pub says : said' ≡ said ++ dialog
+  pub writes : Appends link.written link.written' sent
+  pub sent_so : IsSent sent (kept ++ replies) end
+  pub rose : end ≡ LinkFault → Rose link.faults link.faults'
+  pub ends_so : (bytes : List ℕ) (known : Dialog) (known_sent : List ℕ) → StandsAt rules talk bytes known known_sent
+      → (later less : List ℕ) → IsSent less (known_sent ++ replies) end
+      → EndsIn rules ((bytes ++ part) ++ later) (known ++ dialog) less end
+
+-- what was read was answered so far, where nothing was kept before: what was sent, and what is kept now
+pub record AnswersRead (rules : List Rule) (written written' : Told) (said said' : Dialog) (talk talk' : Talk)
+    (kept' : List ℕ) (piece : List ℕ) : Type 0 where
+  pub dialog : Dialog
+  pub sent : List ℕ
+  pub says : said' ≡ said ++ dialog
+  pub writes : Appends written written' sent
+  pub stands : GoesOn rules talk talk' piece dialog (sent ++ kept')
+
+-- or the connection ends with it
+pub record EndsRead (rules : List Rule) (link : MovedLink) (said said' : Dialog) (talk : Talk) (piece : List ℕ)
+    (end : End) : Type 0 where
+  pub dialog : Dialog
+  pub sent : List ℕ
+  pub says : said' ≡ said ++ dialog
+  pub writes : Appends link.written link.written' sent
+  pub rose : end ≡ LinkFault → Rose link.faults link.faults'
+  pub ends_so : (bytes : List ℕ) (known : Dialog) (known_sent : List ℕ) → StandsAt rules talk bytes known known_sent
+      → EndsIn rules (bytes ++ piece) (known ++ dialog) (known_sent ++ sent) end
+
 -- Turns
 
 -- there is room for bytes that are read at once
@@ -180,7 +246,7 @@ HasRoom connection = (0 < vec_len connection.room) × (vec_len connection.room �
 
 -- a connection is ready to read: there is room, and no reply is kept
 abbrev pub IsReady : Connection → Type 0
-IsReady connection = HasRoom connection × (connection.page.bytes.items ≡ [])
+IsReady connection = HasRoom connection × (connection.responder.page.bytes.items ≡ [])
 
 -- nothing was read, and this is the end: the input ended, or a read failed
 abbrev pub StopsReading : MovedLink → End → Type 0
@@ -200,8 +266,7 @@ pub record TakesTurn (rules : List Rule) (link : MovedLink) (said said' : Dialog
   pub counted : taken' ≡ taken + length piece
   pub some : 0 < length piece
   pub few : taken' ≤ most_bytes
-  pub stands : (bytes : List ℕ) (known : Dialog) (known_sent : List ℕ) → StandsAt rules talk bytes known known_sent
-      → StandsAt rules talk' (bytes ++ piece) (known ++ dialog) (known_sent ++ sent)
+  pub stands : GoesOn rules talk talk' piece dialog sent
 
 -- a turn that ends a connection
 pub record EndsTurn (rules : List Rule) (link : MovedLink) (said said' : Dialog) (talk : Talk) (taken : ℕ)

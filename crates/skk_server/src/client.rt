@@ -9,7 +9,7 @@ ghost use Rattle.skk_server.specs.Turns.{BreaksRequest, AnswersCall, BreaksCall,
 use crate::page::Page;
 use skk_calls::{Answer, Call, Caller};
 use skk_text::Memory;
-use skkserv_proto::{FeedFault, Feeder, Request, reply_bytes, request_call};
+use skkserv_proto::{FeedFault, Feeder, Request, reply_bytes, request_call, requests_of_a_front};
 use std::alloc::Global;
 use typist_line::Going;
 
@@ -27,6 +27,7 @@ pub(crate) fn answer_client<C: Caller>(
         (heard C.said caller.old page.old.bytes.items) (heard C.said caller.new page.new.bytes.items)) }
     ensures number { C.number caller.new ≡ C.number caller.old }
 {
+    requests_of_a_front();
     let mut requests = Vec::new(alloc);
     match feeder.feed(alloc, bytes, &mut requests) {
         Ok(()) => answer_requests(alloc, &requests, caller, page),

@@ -1,3 +1,5 @@
+use skk_outside::Failed;
+
 /// How the serving of a connection ended.
 #[derive(Clone, Copy, Debug, PartialEq, Eq)]
 pub enum End {
@@ -9,4 +11,15 @@ pub enum End {
     Limit,
     /// Out of memory, or a client's call was refused.
     Memory,
+}
+
+impl From<Failed> for End {
+    ghost use Rattle.std.specs.Prelude.{◌≡◌};
+    ghost use Rattle.skk_server.specs.declared.end.End.TheVariants as ends;
+
+    ghost from_gives = { λ _ end. end ≡ ends.LinkFault };
+
+    fn from(_failed: Failed) -> End {
+        End::LinkFault
+    }
 }

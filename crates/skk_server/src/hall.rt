@@ -13,10 +13,12 @@ use std::collections::VecDeque;
 /// How many connections are served at once.
 pub(crate) const WORKERS: usize = 32;
 
-/// The connections under way, oldest first, and what is left of those before them: slips of their callers, and ends.
+/// The connections whose links are not given back yet, oldest first, with the number of workers that serve them, and
+/// what is left of the connections before them: slips of their callers, and ends.
 #[derive(Drop)]
 pub(crate) struct Hall<L: Link, C: Caller, S> {
     pub(crate) works: VecDeque<Work<L, C>>,
+    pub(crate) running: usize,
     pub(crate) passes: Vec<S>,
     pub(crate) ends: Vec<End>,
 }
@@ -30,6 +32,7 @@ impl<L: Link, C: Caller, S> Hall<L, C, S> {
     {
         Ok(Hall {
             works: VecDeque::with_capacity(alloc, WORKERS)?,
+            running: 0,
             passes: Vec::new(alloc),
             ends: Vec::new(alloc),
         })

@@ -1,4 +1,4 @@
-ghost use Rattle.std.specs.Prelude.{◌≡◌, ◌<◌, ◌+◌, ◌++◌, [], ◌∷◌};
+ghost use Rattle.std.specs.Prelude.{◌≡◌, ◌≤◌, ◌<◌, ◌+◌, ◌++◌, [], ◌∷◌};
 ghost use Rattle.std.specs.Prelude.{vec_len, vec_capacity};
 ghost use Rattle.std.specs.VecDeque.{deque_len, deque_capacity};
 ghost use Rattle.skk_server.specs.Services.{seen_listener};
@@ -24,19 +24,48 @@ impl<L: Link, C: Caller, S: Kept> Hall<L, C, S> {
         start: &Start<N>,
     )
         requires places { HasPlaces self.old }
-        requires stage { Stage (seen_listener N.coming N.over N.out N.faults)
+        requires stage { Stage (seen_listener N.coming N.over N.out N.opened N.faults)
             (seen_link L.left L.written L.faults L.closed) (seen_caller C.number C.said) (seen_caller S.number S.said)
             start.now net.old self.old }
         ensures none { deque_len self.new.works ≡ 0 }
         ensures counts { CountsStay self.old self.new }
         ensures coming { N.coming net.new ≡ N.coming net.old }
         ensures faults { N.faults net.new ≡ N.faults net.old }
-        ensures stage { Stage (seen_listener N.coming N.over N.out N.faults)
+        ensures stage { Stage (seen_listener N.coming N.over N.out N.opened N.faults)
             (seen_link L.left L.written L.faults L.closed) (seen_caller C.number C.said) (seen_caller S.number S.said)
             start.now net.new self.new }
     {
         for _ in 0..self.works.len() {
             self.see_oldest_off(rt, net, office, start);
+        }
+    }
+
+    /// Gives the links of the oldest connections back, up to the first that a worker serves.
+    pub(crate) fn see_ended_off<R: Threads, N: Listener<Link = L>, W: Office<Pass = C, Slip = S>>(
+        &mut self,
+        rt: &R,
+        net: &mut N,
+        office: &W,
+        start: &Start<N>,
+    )
+        requires places { HasPlaces self.old }
+        requires stage { Stage (seen_listener N.coming N.over N.out N.opened N.faults)
+            (seen_link L.left L.written L.faults L.closed) (seen_caller C.number C.said) (seen_caller S.number S.said)
+            start.now net.old self.old }
+        ensures places { HasPlaces self.new }
+        ensures running { self.new.running ≤ self.old.running }
+        ensures counts { CountsStay self.old self.new }
+        ensures coming { N.coming net.new ≡ N.coming net.old }
+        ensures faults { N.faults net.new ≡ N.faults net.old }
+        ensures stage { Stage (seen_listener N.coming N.over N.out N.opened N.faults)
+            (seen_link L.left L.written L.faults L.closed) (seen_caller C.number C.said) (seen_caller S.number S.said)
+            start.now net.new self.new }
+    {
+        for _ in 0..self.works.len() {
+            match self.works.front() {
+                Some(work) if work.running() == 0 => self.see_oldest_off(rt, net, office, start),
+                _ => return,
+            }
         }
     }
 
@@ -50,25 +79,27 @@ impl<L: Link, C: Caller, S: Kept> Hall<L, C, S> {
     )
         requires some { 0 < deque_len self.old.works }
         requires places { HasPlaces self.old }
-        requires stage { Stage (seen_listener N.coming N.over N.out N.faults)
+        requires stage { Stage (seen_listener N.coming N.over N.out N.opened N.faults)
             (seen_link L.left L.written L.faults L.closed) (seen_caller C.number C.said) (seen_caller S.number S.said)
             start.now net.old self.old }
         ensures one_less { deque_len self.new.works + 1 ≡ deque_len self.old.works }
+        ensures running { self.new.running ≤ self.old.running }
         ensures places { HasPlaces self.new }
         ensures counts { CountsStay self.old self.new }
         ensures coming { N.coming net.new ≡ N.coming net.old }
         ensures faults { N.faults net.new ≡ N.faults net.old }
-        ensures stage { Stage (seen_listener N.coming N.over N.out N.faults)
+        ensures stage { Stage (seen_listener N.coming N.over N.out N.opened N.faults)
             (seen_link L.left L.written L.faults L.closed) (seen_caller C.number C.said) (seen_caller S.number S.said)
             start.now net.new self.new }
     {
         let Some(work) = self.works.pop_front() else {
             unreachable!();
         };
+        self.running -= work.running();
         match work {
-            Work::Running(handle) => self.part_from(net, office, handle.join(rt)),
-            Work::Done(worked, _) => self.part_from(net, office, worked),
-            Work::Refused(link, _) => self.give_back(net, link, End::Memory),
+            Work::Running(handle, _was) => self.part_from(net, office, handle.join(rt)),
+            Work::Done(worked, _was) => self.part_from(net, office, worked),
+            Work::Refused(link, _was) => self.give_back(net, link, End::Memory),
         }
     }
 
@@ -85,8 +116,9 @@ impl<L: Link, C: Caller, S: Kept> Hall<L, C, S> {
         ensures slip { (slip : _) × (self.new.passes.items ≡ self.old.passes.items ++ slip ∷ [])
             × (S.number slip ≡ C.number worked.pass) × (S.said slip ≡ C.said worked.pass) }
         ensures ends { self.new.ends.items ≡ self.old.ends.items ++ worked.end ∷ [] }
-        ensures gives_back { GivesBack (seen_listener N.coming N.over N.out N.faults) net.old net.new worked.link }
+        ensures gives_back { GivesBack (seen_listener N.coming N.over N.out N.opened N.faults) net.old net.new worked.link }
         ensures works { self.new.works ≡ self.old.works }
+        ensures running { self.new.running ≡ self.old.running }
         ensures passes_kept { vec_capacity self.new.passes ≡ vec_capacity self.old.passes }
         ensures ends_kept { vec_capacity self.new.ends ≡ vec_capacity self.old.ends }
     {
@@ -100,8 +132,9 @@ impl<L: Link, C: Caller, S: Kept> Hall<L, C, S> {
         requires out { 0 < N.out net.old }
         requires fits { vec_len self.old.ends < vec_capacity self.old.ends }
         ensures ends { self.new.ends.items ≡ self.old.ends.items ++ end ∷ [] }
-        ensures gives_back { GivesBack (seen_listener N.coming N.over N.out N.faults) net.old net.new link }
+        ensures gives_back { GivesBack (seen_listener N.coming N.over N.out N.opened N.faults) net.old net.new link }
         ensures works { self.new.works ≡ self.old.works }
+        ensures running { self.new.running ≡ self.old.running }
         ensures passes { self.new.passes ≡ self.old.passes }
         ensures kept { vec_capacity self.new.ends ≡ vec_capacity self.old.ends }
     {

@@ -11,11 +11,14 @@
 mod client;
 mod connection;
 mod end;
+mod ended;
 mod hall;
+mod joining;
 mod laws;
 mod leaving;
 mod page;
 mod promised;
+mod responder;
 mod served;
 mod served_end;
 mod serving;

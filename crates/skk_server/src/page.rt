@@ -31,12 +31,14 @@ impl Page {
         Ok(())
     }
 
-    /// Counts replies that were added as lines.
-    pub(crate) fn count_lines(&mut self)
+    /// Counts replies that were added as lines, from a place on.
+    pub(crate) fn count_lines(&mut self, start: usize)
         ensures { self.new.bytes ≡ self.old.bytes }
     {
-        let lines = self.bytes.iter().filter(|byte| **byte == b'\n').count();
-        self.replies = lines as u64;
+        if let Some(lines) = self.bytes.get(start..) {
+            let count = lines.iter().filter(|byte| **byte == b'\n').count();
+            self.replies = self.replies.saturating_add(count as u64);
+        }
     }
 
     /// Takes all replies away, and keeps the room.

@@ -10,7 +10,8 @@ use std::alloc::Global;
 use typist_line::bytes_lead_a_typist;
 
 /// Serves a connection up to its end, and closes it. At most 4,096 bytes are read at once, and the replies to them are
-/// written and flushed together before more are read; each comes to the gate before. A byte costs constant time, a
+/// written and flushed before more are read, 65,536 bytes and the last reply together at most; each comes to the gate
+/// before. A byte costs constant time, a
 /// request or a key what it costs its caller and what is sent for it.
 pub fn serve_connection<K: Link, C: Caller, G: Gate>(
     alloc: Global,

@@ -3,6 +3,7 @@ ghost use Rattle.skk_server.specs.Services.{ServesAll, seen_listener};
 ghost use Rattle.skk_server.specs.Stages.{Opens};
 ghost use Rattle.skk_server.specs.Visits.{seen_link, seen_caller};
 
+use crate::ended::Ended;
 use crate::hall::Hall;
 use crate::served::Served;
 use crate::served_end::ServedEnd;
@@ -17,8 +18,8 @@ use std::sync::Wait;
 use std::thread::{Scope, Threads, scope, scope_env};
 
 /// Serves the connections that come to a listener, up to so many, each by a caller of its own that an office admits,
-/// and in a thread of its own where one can be started, else in this one. At most 32 are under way: where there are as
-/// many, the oldest must have ended before the next is accepted. A link for which there is no memory for a caller is
+/// and in a thread of its own where one can be started, else in this one. At most 32 are served at once: where there are
+/// as many, one of them must have ended before the next is accepted. A link for which there is no memory for a caller is
 /// closed, and no more are accepted then. Waits until all have ended. Every link that was accepted was then closed and
 /// given back, in the order in which they came.
 pub fn serve_all<
@@ -38,7 +39,7 @@ pub fn serve_all<
 ) -> Served<W::Slip>
     requires owns { W.owns office.now roll.old }
     requires few { W.drawn roll.old + connections ≤ 4294967295 }
-    ensures serves { ServesAll rules.now (seen_listener N.coming N.over N.out N.faults)
+    ensures serves { ServesAll rules.now (seen_listener N.coming N.over N.out N.opened N.faults)
         (seen_link N.Link.left N.Link.written N.Link.faults N.Link.closed) (seen_caller W.Slip.number W.Slip.said)
         connections net.old net.new (W.drawn roll.old) (W.drawn roll.new) result }
     ensures owned { W.owns office.now roll.new }
@@ -48,10 +49,14 @@ pub fn serve_all<
         net: Snapshot::of(net),
         first: office.drawn(roll),
     };
+    let Ok(ended) = Ended::new(alloc) else {
+        return none_served(alloc, connections);
+    };
     match Hall::new(alloc) {
         Ok(hall) => serve_from(
             rt,
             alloc,
+            &ended,
             net,
             connections,
             rules,
@@ -77,6 +82,7 @@ fn serve_from<
 >(
     rt: &R,
     alloc: Global,
+    ended: &Ended,
     net: &mut N,
     connections: u32,
     rules: &Rules,
@@ -89,7 +95,7 @@ fn serve_from<
     requires owns { W.owns office.now roll.old }
     requires few { W.drawn roll.old + connections ≤ 4294967295 }
     requires opens { Opens rules.now net.old (W.drawn roll.old) start hall }
-    ensures serves { ServesAll rules.now (seen_listener N.coming N.over N.out N.faults)
+    ensures serves { ServesAll rules.now (seen_listener N.coming N.over N.out N.opened N.faults)
         (seen_link L.left L.written L.faults L.closed) (seen_caller S.number S.said) connections net.old net.new
         (W.drawn roll.old) (W.drawn roll.new) result }
     ensures owned { W.owns office.now roll.new }
@@ -103,7 +109,7 @@ fn serve_from<
             requires opens { Opens rules.now net.now (W.drawn roll.now) start hall }
             ensures same { (result.0.ghost_name ≡ net.entry.ghost_name)
                 × (result.1.ghost_name ≡ roll.entry.ghost_name) }
-            ensures serves { ServesAll rules.entry.now (seen_listener N.coming N.over N.out N.faults)
+            ensures serves { ServesAll rules.entry.now (seen_listener N.coming N.over N.out N.opened N.faults)
                 (seen_link L.left L.written L.faults L.closed) (seen_caller S.number S.said) connections
                 net.entry.now result.0.now (W.drawn roll.entry.now) (W.drawn result.1.now) result.2 }
             ensures owned { W.owns office.entry.now result.1.now }
@@ -112,6 +118,7 @@ fn serve_from<
                 scope,
                 rt,
                 alloc,
+                ended,
                 net,
                 connections,
                 rules,
@@ -156,7 +163,7 @@ fn none_served<S>(alloc: Global, connections: u32) -> Served<S>
 fn serve_in<
     's,
     E,
-    R: Threads,
+    R: Threads + Wait + Sync,
     L: Link + Send + Drop + 's,
     C: Caller + Send + Drop + 's,
     S: Kept,
@@ -165,8 +172,9 @@ fn serve_in<
     G: Gate + Sync,
 >(
     scope: &'s Scope<'s, E>,
-    rt: &R,
+    rt: &'s R,
     alloc: Global,
+    ended: &'s Ended,
     net: &mut N,
     connections: u32,
     rules: &'s Rules,
@@ -179,7 +187,7 @@ fn serve_in<
     requires owns { W.owns office.now roll.old }
     requires few { W.drawn roll.old + connections ≤ 4294967295 }
     requires opens { Opens rules.now net.old (W.drawn roll.old) start hall }
-    ensures serves { ServesAll rules.now (seen_listener N.coming N.over N.out N.faults)
+    ensures serves { ServesAll rules.now (seen_listener N.coming N.over N.out N.opened N.faults)
         (seen_link L.left L.written L.faults L.closed) (seen_caller S.number S.said) connections net.old net.new
         (W.drawn roll.old) (W.drawn roll.new) result }
     ensures owned { W.owns office.now roll.new }
@@ -188,6 +196,7 @@ fn serve_in<
         scope,
         rt,
         alloc,
+        ended,
         net,
         connections,
         rules,
@@ -199,6 +208,7 @@ fn serve_in<
     hall.see_all_off(rt, net, office, &start);
     let Hall {
         works: _,
+        running: _,
         passes,
         ends,
     } = hall;

@@ -4,7 +4,8 @@ ghost use Rattle.skk_server.specs.Stages.{accepted_in, passes_in, HasPlaces, Has
 ghost use Rattle.skk_server.specs.Stages.{TakesLink, TakesNone, EndsTaking};
 ghost use Rattle.skk_server.specs.Visits.{seen_link, seen_caller};
 
-use crate::hall::{Hall, WORKERS};
+use crate::ended::Ended;
+use crate::hall::Hall;
 use crate::served_end::ServedEnd;
 use crate::start::Start;
 use crate::work::{begin, refuse};
@@ -13,21 +14,23 @@ use skk_calls::{Caller, Kept, Office};
 use skk_outside::{Failed, Gate, Link, Listener};
 use skk_text::Memory;
 use std::alloc::Global;
+use std::sync::Wait;
 use std::thread::{Scope, Threads};
 
 impl<'s, L: Link + Send + Drop + 's, C: Caller + Send + Drop + 's, S: Kept> Hall<L, C, S> {
     /// Takes connections in until there are as many as asked for, or none can come, or a call fails.
     pub(crate) fn take_all<
         E,
-        R: Threads,
+        R: Threads + Wait + Sync,
         N: Listener<Link = L>,
         W: Office<Pass = C, Slip = S>,
         G: Gate + Sync,
     >(
         &mut self,
         scope: &'s Scope<'s, E>,
-        rt: &R,
+        rt: &'s R,
         alloc: Global,
+        ended: &'s Ended,
         net: &mut N,
         connections: u32,
         rules: &'s Rules,
@@ -42,22 +45,22 @@ impl<'s, L: Link + Send + Drop + 's, C: Caller + Send + Drop + 's, S: Kept> Hall
         requires drawn { W.drawn roll.old ≡ start.now.first + passes_in self.old }
         requires none { (accepted_in self.old ≡ 0) × (passes_in self.old ≡ 0) }
         requires places { HasPlaces self.old }
-        requires stage { Stage (seen_listener N.coming N.over N.out N.faults)
+        requires stage { Stage (seen_listener N.coming N.over N.out N.opened N.faults)
             (seen_link L.left L.written L.faults L.closed) (seen_caller C.number C.said) (seen_caller S.number S.said)
             start.now net.old self.old }
         ensures owned { W.owns office.now roll.new }
         ensures drawn { W.drawn roll.new ≡ start.now.first + passes_in self.new }
         ensures few { accepted_in self.new ≤ connections }
-        ensures ends { EndsServing (seen_listener N.coming N.over N.out N.faults) start.now.net.value net.new
+        ensures ends { EndsServing (seen_listener N.coming N.over N.out N.opened N.faults) start.now.net.value net.new
             connections (accepted_in self.new) (passes_in self.new) result }
         ensures places { HasPlaces self.new }
-        ensures stage { Stage (seen_listener N.coming N.over N.out N.faults)
+        ensures stage { Stage (seen_listener N.coming N.over N.out N.opened N.faults)
             (seen_link L.left L.written L.faults L.closed) (seen_caller C.number C.said) (seen_caller S.number S.said)
             start.now net.new self.new }
     {
         for _ in 0..connections {
             if let Err(end) = self.take_one(
-                scope, rt, alloc, net, rules, office, roll, gate, start,
+                scope, rt, alloc, ended, net, rules, office, roll, gate, start,
             ) {
                 return end;
             }
@@ -65,19 +68,19 @@ impl<'s, L: Link + Send + Drop + 's, C: Caller + Send + Drop + 's, S: Kept> Hall
         ServedEnd::Done
     }
 
-    // Takes a connection in, when the oldest under way has ended where there are as many as may be. An end is told as
-    // an error.
+    // Takes a connection in, when one under way has ended where there are as many as may be. An end is told as an error.
     fn take_one<
         E,
-        R: Threads,
+        R: Threads + Wait + Sync,
         N: Listener<Link = L>,
         W: Office<Pass = C, Slip = S>,
         G: Gate + Sync,
     >(
         &mut self,
         scope: &'s Scope<'s, E>,
-        rt: &R,
+        rt: &'s R,
         alloc: Global,
+        ended: &'s Ended,
         net: &mut N,
         rules: &'s Rules,
         office: &W,
@@ -91,7 +94,7 @@ impl<'s, L: Link + Send + Drop + 's, C: Caller + Send + Drop + 's, S: Kept> Hall
         requires drawn { W.drawn roll.old ≡ start.now.first + passes_in self.old }
         requires level { passes_in self.old ≡ accepted_in self.old }
         requires places { HasPlaces self.old }
-        requires stage { Stage (seen_listener N.coming N.over N.out N.faults)
+        requires stage { Stage (seen_listener N.coming N.over N.out N.opened N.faults)
             (seen_link L.left L.written L.faults L.closed) (seen_caller C.number C.said) (seen_caller S.number S.said)
             start.now net.old self.old }
         ensures owned { W.owns office.now roll.new }
@@ -99,32 +102,33 @@ impl<'s, L: Link + Send + Drop + 's, C: Caller + Send + Drop + 's, S: Kept> Hall
         ensures one_more { accepted_in self.new ≤ accepted_in self.old + 1 }
         ensures ok { OnOk result ((accepted_in self.new ≡ accepted_in self.old + 1)
             × (passes_in self.new ≡ passes_in self.old + 1)) }
-        ensures err { IfErr result (λ end. EndsTaking (seen_listener N.coming N.over N.out N.faults) net.old net.new
+        ensures err { IfErr result (λ end. EndsTaking (seen_listener N.coming N.over N.out N.opened N.faults) net.old net.new
             self.old self.new end) }
         ensures places { HasPlaces self.new }
-        ensures stage { Stage (seen_listener N.coming N.over N.out N.faults)
+        ensures stage { Stage (seen_listener N.coming N.over N.out N.opened N.faults)
             (seen_link L.left L.written L.faults L.closed) (seen_caller C.number C.said) (seen_caller S.number S.said)
             start.now net.new self.new }
     {
-        if let Err(Memory) = self.make_place(rt, net, office, start) {
+        if let Err(Memory) = self.make_place(rt, ended, net, office, start) {
             return Err(ServedEnd::Memory);
         }
         match accept(net) {
-            Ok(link) => self.welcome(scope, alloc, rules, office, roll, gate, link),
+            Ok(link) => self.welcome(scope, rt, alloc, ended, rules, office, roll, gate, link),
             Err(end) => Err(end),
         }
     }
 
     // Makes room for one connection more, and for what it leaves.
-    fn make_place<R: Threads, N: Listener<Link = L>, W: Office<Pass = C, Slip = S>>(
+    fn make_place<R: Threads + Wait, N: Listener<Link = L>, W: Office<Pass = C, Slip = S>>(
         &mut self,
         rt: &R,
+        ended: &Ended,
         net: &mut N,
         office: &W,
         start: &Start<N>,
     ) -> Result<(), Memory>
         requires places { HasPlaces self.old }
-        requires stage { Stage (seen_listener N.coming N.over N.out N.faults)
+        requires stage { Stage (seen_listener N.coming N.over N.out N.opened N.faults)
             (seen_link L.left L.written L.faults L.closed) (seen_caller C.number C.said) (seen_caller S.number S.said)
             start.now net.old self.old }
         ensures ok { OnOk result (HasPlace self.new) }
@@ -132,13 +136,13 @@ impl<'s, L: Link + Send + Drop + 's, C: Caller + Send + Drop + 's, S: Kept> Hall
         ensures counts { CountsStay self.old self.new }
         ensures coming { N.coming net.new ≡ N.coming net.old }
         ensures faults { N.faults net.new ≡ N.faults net.old }
-        ensures stage { Stage (seen_listener N.coming N.over N.out N.faults)
+        ensures stage { Stage (seen_listener N.coming N.over N.out N.opened N.faults)
             (seen_link L.left L.written L.faults L.closed) (seen_caller C.number C.said) (seen_caller S.number S.said)
             start.now net.new self.new }
     {
-        if self.works.len() == WORKERS {
-            self.see_oldest_off(rt, net, office, start);
-        }
+        self.join_ended(rt, ended);
+        self.see_ended_off(rt, net, office, start);
+        self.works.reserve(1)?;
         self.passes.reserve(self.works.len() + 1)?;
         self.ends.reserve(self.works.len() + 1)?;
         Ok(())
@@ -146,10 +150,12 @@ impl<'s, L: Link + Send + Drop + 's, C: Caller + Send + Drop + 's, S: Kept> Hall
 
     // Begins to serve a connection with a caller of its own. Where there is no memory for one it is closed, and that is
     // told as an error.
-    fn welcome<E, W: Office<Pass = C, Slip = S>, G: Gate + Sync>(
+    fn welcome<E, R: Wait + Sync, W: Office<Pass = C, Slip = S>, G: Gate + Sync>(
         &mut self,
         scope: &'s Scope<'s, E>,
+        rt: &'s R,
         alloc: Global,
+        ended: &'s Ended,
         rules: &'s Rules,
         office: &W,
         roll: &mut W::Roll,
@@ -168,8 +174,10 @@ impl<'s, L: Link + Send + Drop + 's, C: Caller + Send + Drop + 's, S: Kept> Hall
     {
         match office.admit(alloc, roll) {
             Ok(pass) => {
-                self.works
-                    .push_back_reserved(begin(scope, alloc, rules, gate, link, pass));
+                let number = self.ends.len() + self.works.len();
+                let work = begin(scope, rt, alloc, ended, number, rules, gate, link, pass);
+                self.running += work.running();
+                self.works.push_back_reserved(work);
                 Ok(())
             }
             Err(Memory) => {
@@ -182,8 +190,8 @@ impl<'s, L: Link + Send + Drop + 's, C: Caller + Send + Drop + 's, S: Kept> Hall
 
 // Accepts a link. An end is told as an error.
 fn accept<N: Listener>(net: &mut N) -> Result<N::Link, ServedEnd>
-    ensures ok { IfOk result (λ link. TakesLink (seen_listener N.coming N.over N.out N.faults) net.old net.new link) }
-    ensures err { IfErr result (λ end. TakesNone (seen_listener N.coming N.over N.out N.faults) net.old net.new end) }
+    ensures ok { IfOk result (λ link. TakesLink (seen_listener N.coming N.over N.out N.opened N.faults) net.old net.new link) }
+    ensures err { IfErr result (λ end. TakesNone (seen_listener N.coming N.over N.out N.opened N.faults) net.old net.new end) }
 {
     match net.accept() {
         Ok(Some(link)) => Ok(link),

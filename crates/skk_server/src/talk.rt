@@ -12,7 +12,7 @@ use skk_calls::Caller;
 use skk_text::Memory;
 use skkserv_proto::Feeder;
 use std::alloc::Global;
-use typist_line::{Going, Typing, run_typist};
+use typist_line::{Going, Typing, over_stays_over, run_typist};
 
 /// Whose connection it is, with what is kept of its bytes.
 #[derive(Drop)]
@@ -117,7 +117,9 @@ fn answer_typist<C: Caller>(
     ensures number { C.number caller.new ≡ C.number caller.old }
 {
     exchange_of_a_front();
+    over_stays_over();
+    let start = page.bytes.len();
     let going = run_typist(lines, alloc, bytes, rules, caller, &mut page.bytes);
-    page.count_lines();
+    page.count_lines(start);
     going
 }

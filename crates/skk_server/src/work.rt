@@ -1,37 +1,75 @@
 ghost use Rattle.std.specs.Prelude.{◌≡◌, []};
 ghost use Rattle.skk_server.specs.Visits.{HasWorked, seen_link, seen_caller};
-ghost use Rattle.skk_server.specs.Works.{begun, passes_of, IsUnderWay};
+ghost use Rattle.skk_server.specs.Works.{begun, passes_of, running_of, IsUnderWay, Joins};
 
+use crate::ended::Ended;
 use crate::promised::{Promised, Worked};
 use crate::serving::serve_connection;
+use core::mem::replace_with;
 use romaji_rules::Rules;
 use skk_calls::Caller;
 use skk_outside::{Gate, Link};
 use std::alloc::Global;
 use std::snapshot::Snapshot;
-use std::thread::{PromisedHandle, Scope};
+use std::sync::Wait;
+use std::thread::{PromisedHandle, Scope, Threads};
 
 /// A connection that was accepted, and whose link is not given back yet.
 #[derive(Drop)]
 pub(crate) enum Work<L: Link, C: Caller> {
     /// A worker serves it, in a thread of its own.
-    Running(PromisedHandle<Worked<L, C>, Promised<L, C>>),
-    /// It was served, since no thread could be started for it.
+    Running(PromisedHandle<Worked<L, C>, Promised<L, C>>, Promised<L, C>),
+    /// It was served: its worker was joined, or no thread could be started for it.
     Done(Worked<L, C>, Promised<L, C>),
     /// It has no caller, for want of memory, and was closed: its link, and as that was before.
     Refused(L, Snapshot<L>),
 }
 
-/// Begins to serve a connection: in a thread of its own where one can be started, and else here, up to its end.
+impl<L: Link, C: Caller> Work<L, C> {
+    /// How many workers serve it: one or none.
+    pub(crate) fn running(&self) -> usize
+        ensures { result ≡ running_of self.now }
+    {
+        match self {
+            Work::Running(..) => 1,
+            Work::Done(..) | Work::Refused(..) => 0,
+        }
+    }
+
+    /// Waits until its worker has ended, if there is one, and keeps what that hands back.
+    pub(crate) fn join<R: Threads>(&mut self, rt: &R)
+        ensures { Joins (seen_link L.left L.written L.faults L.closed) (seen_caller C.number C.said)
+            self.old self.new }
+    {
+        replace_with(self, (), |work, ()| (work.joined(rt), ()))
+    }
+
+    fn joined<R: Threads>(self, rt: &R) -> Work<L, C>
+        ensures { Joins (seen_link L.left L.written L.faults L.closed) (seen_caller C.number C.said) self result }
+    {
+        match self {
+            Work::Running(handle, was) => Work::Done(handle.join(rt), was),
+            Work::Done(worked, was) => Work::Done(worked, was),
+            Work::Refused(link, was) => Work::Refused(link, was),
+        }
+    }
+}
+
+/// Begins to serve a connection: in a thread of its own where one can be started, which tells when it ends, and else
+/// here, up to its end.
 pub(crate) fn begin<
     's,
     E,
+    R: Wait + Sync,
     L: Link + Send + Drop + 's,
     C: Caller + Send + Drop + 's,
     G: Gate + Sync,
 >(
     scope: &'s Scope<'s, E>,
+    rt: &'s R,
     alloc: Global,
+    ended: &'s Ended,
+    number: usize,
     rules: &'s Rules,
     gate: &'s G,
     link: L,
@@ -45,8 +83,9 @@ pub(crate) fn begin<
 {
     let promise = promised(rules, &link, &pass);
     let was = promised(rules, &link, &pass);
-    match scope.spawn_with(promise, move || serve(alloc, rules, gate, link, pass)) {
-        Ok(handle) => Work::Running(handle),
+    let work = move || serve(rt, alloc, ended, number, rules, gate, link, pass);
+    match scope.spawn_with(promise, work) {
+        Ok(handle) => Work::Running(handle, was),
         Err(refused) => Work::Done((refused.value)(), was),
     }
 }
@@ -57,6 +96,7 @@ pub(crate) fn refuse<L: Link, C: Caller>(mut link: L) -> Work<L, C>
         (seen_caller C.number C.said) number result [] }
     ensures begun { begun result ≡ link }
     ensures none { passes_of result ≡ 0 }
+    ensures idle { running_of result ≡ 0 }
 {
     let was = Snapshot::of(&link);
     link.close();
@@ -76,9 +116,12 @@ fn promised<L: Link, C: Caller>(rules: &Rules, link: &L, pass: &C) -> Promised<L
     }
 }
 
-// Serves a connection up to its end, and closes it.
-fn serve<L: Link, C: Caller, G: Gate>(
+// Serves a connection up to its end, and closes it. That it ends is told last.
+fn serve<R: Wait, L: Link, C: Caller, G: Gate>(
+    rt: &R,
     alloc: Global,
+    ended: &Ended,
+    number: usize,
     rules: &Rules,
     gate: &G,
     mut link: L,
@@ -88,5 +131,6 @@ fn serve<L: Link, C: Caller, G: Gate>(
         link pass result.link result.pass result.end }
 {
     let end = serve_connection(alloc, &mut link, rules, &mut pass, gate);
+    ended.tell(rt, number);
     Worked { link, pass, end }
 }

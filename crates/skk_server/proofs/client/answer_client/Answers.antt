@@ -17,7 +17,8 @@ returns-in-Ok-clause-ok g c =
     (feeds-reads feeder c.feed.new.self bytes c.new-requests.result.items c.feed.new.into.items
     c.new-requests.ensures.items (c.feed.ensures.reads (λ e. cc (c.in-Ok.is, e)))) in
     IfOk-weaker c.answer_requests.result _ _
-    (λ going answers. read-answers bytes feeder c.feed.new.self asked before after going reads
+    (λ going answers. read-answers bytes feeder c.feed.new.self asked before after going
+    c.requests_of_a_front.ensures.more reads
     (c.feed.ensures.good c.in-Ok.is) answers)
     c.answer_requests.ensures.ok
 
@@ -48,7 +49,8 @@ returns-in-Err-Bad-clause-ok g c =
     c.new-requests.ensures.items (c.feed.ensures.reads (λ e. cc (c.in-Err-Bad.is, c.in-Err-Bad.field-0-is, e)))) in
     let is_bad = c.in-Err-Bad.is ∙ ap Err c.in-Err-Bad.field-0-is in
     IfOk-weaker c.answer_and_refuse.result _ _
-    (λ going refuses. read-refuses bytes feeder c.feed.new.self asked before after going c.in-Err-Bad.field-0-0 reads
+    (λ going refuses. read-refuses bytes feeder c.feed.new.self asked before after going c.in-Err-Bad.field-0-0
+    c.requests_of_a_front.ensures.bad reads
     (c.feed.ensures.bad c.in-Err-Bad.field-0-0 is_bad) refuses)
     c.answer_and_refuse.ensures.ok
 

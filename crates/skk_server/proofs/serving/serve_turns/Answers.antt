@@ -11,7 +11,7 @@ returns-in_default-clause-serves g c =
 pub loop-connection-init : goal.loop-connection-init
 loop-connection-init g c = (
   so-far-new c.args.rules.now g.K.Outside.left g.K.Outside.written g.K.Outside.faults c.args.link.now
-      (g.C.Caller.said c.args.caller.now) c.in-Ok.connection.talk c.in-Ok.connection.taken c.in-Ok.ensures.0
+      (g.C.Caller.said c.args.caller.now) c.in-Ok.connection.responder.talk c.in-Ok.connection.taken c.in-Ok.ensures.0
       c.in-Ok.ensures.1,
   c.in-Ok.ensures.2,
   refl,
@@ -22,7 +22,7 @@ returns-in-Err-clause-serves g c =
     let said = g.C.Caller.said in
     so-far-ends c.args.rules.now g.K.Outside.left g.K.Outside.written g.K.Outside.faults c.args.link.now
     c.loop-connection.link c.take_turn.new.link (said c.args.caller.now) (said c.loop-connection.caller)
-    (said c.take_turn.new.caller) c.loop-connection.connection.talk c.loop-connection.connection.taken c.in-Err.end
+    (said c.take_turn.new.caller) c.loop-connection.connection.responder.talk c.loop-connection.connection.taken c.in-Err.end
     c.loop-connection.invariant.0 c.in-Err.ensures.err
 
 pub loop-connection-preserved : goal.loop-connection-preserved
@@ -30,7 +30,7 @@ loop-connection-preserved g c =
     let said = g.C.Caller.said in (
       so-far-on c.args.rules.now g.K.Outside.left g.K.Outside.written g.K.Outside.faults c.args.link.now
           c.loop-connection.link c.take_turn.new.link (said c.args.caller.now) (said c.loop-connection.caller)
-          (said c.take_turn.new.caller) c.loop-connection.connection.talk c.take_turn.new.self.talk
+          (said c.take_turn.new.caller) c.loop-connection.connection.responder.talk c.take_turn.new.self.responder.talk
           c.loop-connection.connection.taken c.take_turn.new.self.taken c.loop-connection.invariant.0
           c.in_default-take_turn.ensures.ok c.take_turn.ensures.counted,
       c.take_turn.ensures.ready,
@@ -41,6 +41,6 @@ pub returns-clause-serves : goal.returns-clause-serves
 returns-clause-serves g c =
     so-far-limit c.args.rules.now
     (moved_link g.K.Outside.left g.K.Outside.written g.K.Outside.faults c.args.link.now c.loop-connection.link)
-    (g.C.Caller.said c.args.caller.now) (g.C.Caller.said c.loop-connection.caller) c.loop-connection.connection.talk
+    (g.C.Caller.said c.args.caller.now) (g.C.Caller.said c.loop-connection.caller) c.loop-connection.connection.responder.talk
     c.loop-connection.connection.taken c.bytes_lead_a_typist.ensures.talk c.loop-connection.invariant.0
     c.loop-connection-test.false

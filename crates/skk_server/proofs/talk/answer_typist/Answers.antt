@@ -18,7 +18,7 @@ returns-clause-ok g c =
     (heard said c.run_typist-going.new.caller items)))
     (sym (ap (λ bytes. bytes.items) c.count_lines.ensures))
     (typist-answers c.args.rules.now c.args.bytes.now lines lines' before after c.run_typist-going.result
-    c.run_typist-going.ensures.types c.run_typist-going.ensures.going)
+    c.over_stays_over.ensures c.run_typist-going.ensures.types c.run_typist-going.ensures.going)
 
 pub returns-clause-err : goal.returns-clause-err
 returns-clause-err g c =

@@ -1,18 +1,19 @@
-use Rattle.std.proofs.Common.{[], refl, subst, arith}
+use Rattle.std.proofs.Common.{◌∙◌, [], ap, length, refl, subst, arith}
 use Rattle.skk_server.specs.Visits.{seen_link, seen_caller}
-use Rattle.skk_server.specs.Works.{IsUnderWay}
+use Rattle.skk_server.specs.Works.{IsUnderWay, running_in}
 use Rattle.skk_server.proofs.hall.Hall.welcome.Goals as goal
+use Rattle.skk_server.proofs.Joins.{running-few, running-more}
 
 pub returns-in-Ok-clause-adds : goal.returns-in-Ok-clause-adds
 returns-in-Ok-clause-adds g c = record {
-  work = c.begin.result;
+  work = c.begin-work.result;
   works_are = c.push_back_reserved.ensures.items;
-  begun_is = c.begin.ensures.begun;
+  begun_is = c.begin-work.ensures.begun;
   under_way = subst (λ n. IsUnderWay c.args.rules.now
       (seen_link g.L.Outside.left g.L.Outside.written g.L.Outside.faults g.L.Link.closed)
-      (seen_caller g.C.Caller.number g.C.Caller.said) n c.begin.result []) c.in-Ok.ensures.number
-      c.begin.ensures.under_way;
-  drawn_is = omega (arith, c.in-Ok.ensures.drawn, c.begin.ensures.one);
+      (seen_caller g.C.Caller.number g.C.Caller.said) n c.begin-work.result []) c.in-Ok.ensures.number
+      c.begin-work.ensures.under_way;
+  drawn_is = omega (arith, c.in-Ok.ensures.drawn, c.begin-work.ensures.one);
   passes_stay = refl;
   ends_stay = refl;
 }
@@ -27,3 +28,31 @@ returns-in-Err-clause-adds g c = record {
   passes_stay = refl;
   ends_stay = refl;
 }
+
+pub returns-in-Ok-clause-places : goal.returns-in-Ok-clause-places
+returns-in-Ok-clause-places g c =
+    let place = c.requires.place in
+    let work = c.begin-work.result in
+    let works = c.args.self.now.works.items in
+    let few = running-few work in
+    let more = ap running_in c.push_back_reserved.ensures.items ∙ running-more works work in
+    let len = ap length c.push_back_reserved.ensures.items in
+    record {
+      few = omega (arith, place.few, few, c.running.ensures);
+      running_is = omega (arith, place.running_is, more, c.running.ensures);
+      passes_fit = omega (arith, place.passes_fit, len);
+      ends_fit = omega (arith, place.ends_fit, len);
+    }
+
+pub returns-in-Err-clause-places : goal.returns-in-Err-clause-places
+returns-in-Err-clause-places g c =
+    let place = c.requires.place in
+    let works = c.args.self.now.works.items in
+    let more = ap running_in c.push_back_reserved-in-Err.ensures.items ∙ running-more works c.refuse.result in
+    let len = ap length c.push_back_reserved-in-Err.ensures.items in
+    record {
+      few = omega (arith, place.few);
+      running_is = omega (arith, place.running_is, more, c.refuse.ensures.idle);
+      passes_fit = omega (arith, place.passes_fit, len);
+      ends_fit = omega (arith, place.ends_fit, len);
+    }

@@ -1,0 +1,50 @@
+use Rattle.std.proofs.Common.{◌<◌, length, arith, refl}
+use Rattle.skk_server.specs.Visits.{seen_link, seen_caller}
+use Rattle.skk_server.proofs.hall.Hall.join.Goals as goal
+use Rattle.skk_server.proofs.Joins.{joins-none, joined-at, running-within, running-set, running-joined}
+
+pub returns-in_default-clause-joins : goal.returns-in_default-clause-joins
+returns-in_default-clause-joins g c =
+    joins-none (seen_link g.L.Outside.left g.L.Outside.written g.L.Outside.faults g.L.Link.closed)
+    (seen_caller g.C.Caller.number g.C.Caller.said) c.args.self.now
+
+pub returns-in_default-get_mut-clause-joins : goal.returns-in_default-get_mut-clause-joins
+returns-in_default-get_mut-clause-joins g c =
+    joins-none (seen_link g.L.Outside.left g.L.Outside.written g.L.Outside.faults g.L.Link.closed)
+    (seen_caller g.C.Caller.number g.C.Caller.said) c.args.self.now
+
+pub overflow_sub-self : goal.overflow_sub-self
+overflow_sub-self g c =
+    let work = c.in-Some-get_mut.work.now in
+    let there : c.in-Some.place < length c.args.self.now.works.items =
+    omega (arith, c.in-Some-get_mut.ensures.variant.0 refl) in
+    let within = running-within c.args.self.now.works.items c.in-Some.place work there
+    c.in-Some-get_mut.ensures.value in
+    omega (arith, within, c.running-running.ensures, c.requires.places.running_is)
+
+pub returns-clause-joins : goal.returns-clause-joins
+returns-clause-joins g c =
+    record {
+      joined = joined-at (seen_link g.L.Outside.left g.L.Outside.written g.L.Outside.faults g.L.Link.closed)
+          (seen_caller g.C.Caller.number g.C.Caller.said) c.args.self.now.works.items c.in-Some.place
+          c.in-Some-get_mut.work.now c.join.new.self c.in-Some-get_mut.ensures.value c.join.ensures;
+      passes_stay = refl;
+      ends_stay = refl;
+    }
+
+pub returns-clause-places : goal.returns-clause-places
+returns-clause-places g c =
+    let work = c.in-Some-get_mut.work.now in
+    let places = c.requires.places in
+    let there : c.in-Some.place < length c.args.self.now.works.items =
+    omega (arith, c.in-Some-get_mut.ensures.variant.0 refl) in
+    let all = running-set c.args.self.now.works.items c.in-Some.place work c.join.new.self there
+    c.in-Some-get_mut.ensures.value in
+    let none = running-joined (seen_link g.L.Outside.left g.L.Outside.written g.L.Outside.faults g.L.Link.closed)
+    (seen_caller g.C.Caller.number g.C.Caller.said) work c.join.new.self c.join.ensures in
+    record {
+      few = omega (arith, places.few);
+      running_is = omega (arith, all, none, c.running-running.ensures, places.running_is);
+      passes_fit = places.passes_fit;
+      ends_fit = places.ends_fit;
+    }
