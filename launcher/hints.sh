@@ -21,6 +21,7 @@ each_file() {
     shift 2
     while [ $# -gt 0 ]; do
         case $1 in
+            --threads) ;;
             --*=*) "$look" "${1%%=*}" "${1#*=}" || return 1 ;;
             --*)
                 "$look" "$1" "${2-}" || return 1
