@@ -106,11 +106,10 @@ first() {
 begin() {
     begun="$begun$1 "
     (
-        exec 2>"$logs/$1"
         stopped='' child=''
         trap 'stopped=yes; [ -z "$child" ] || kill "$child"' TERM HUP
         status=1
-        if make_copy "$1" && [ -z "$stopped" ]; then
+        if command exec 2>"$logs/$1" && make_copy "$1" && [ -z "$stopped" ]; then
             give_way='nice -n 10' jobs='--jobs 1'
             [ "$1" != "$2" ] || give_way='' jobs=''
             how="lib $jobs"
@@ -184,7 +183,10 @@ prove() {
 
 # Proves the crates from the sources as they stand, and puts the program and their checksum in place.
 make_program() {
-    mkdir -p "$logs" && copy_sources && mkfifo "$copies/ends" && exec 8<>"$copies/ends" || return 1
+    if ! mkdir -p "$logs" || ! copy_sources || ! mkfifo "$copies/ends" || ! command exec 8<>"$copies/ends"; then
+        tell "the sources can't be copied into $copies"
+        return 1
+    fi
     started=$("$sources/.ci/sum-of-sources")
     plan=$(plan)
     processors=$(nproc)
@@ -200,7 +202,10 @@ make_program() {
 
 # Proves the crates and builds the program, which is taken away before.
 build() {
-    rm -rf "$program" "$proved" "$copies" "$logs"
+    if ! rm -rf "$program" "$proved" "$copies" "$logs"; then
+        tell "what an earlier build left in $out can't be taken away"
+        return 1
+    fi
     if ! command -v rt >/dev/null; then
         tell 'the command rt of the toolchain is not on the path: README.md says where it comes from ("What it needs")'
         return 1

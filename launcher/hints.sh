@@ -21,6 +21,7 @@ each_file() {
     shift 2
     while [ $# -gt 0 ]; do
         case $1 in
+            --threads) ;;
             --*=*) "$look" "${1%%=*}" "${1#*=}" || return 1 ;;
             --*)
                 "$look" "$1" "${2-}" || return 1
@@ -32,20 +33,32 @@ each_file() {
     done
 }
 
-# Says why a file can't be read, where that shows, or why the learned file can't be made or written.
+# Whether another run has a learned file: its lock is asked for without waiting, and let go at once.
+is_locked() {
+    [ -f "$1" ] || return 1
+    (exec 8<"$1" && flock -s -n -E 75 8) 2>/dev/null
+    [ $? -eq 75 ]
+}
+
+# Says why a file can't be read, where that shows, or why the learned file can't be made, read or written.
 look_for() {
+    file=$(shown "$2")
     case $1 in
         --learned)
             case $2 in
                 */*) folder=${2%/*}/ ;;
-                *) folder=. ;;
+                *) folder=./ ;;
             esac
             if [ ! -d "$folder" ]; then
-                tell "there is no folder $(shown "$folder")"
+                tell_cause "there is no folder $(shown "$folder")"
             elif [ -d "$2" ]; then
-                tell "$(shown "$2") is a folder, and no file"
+                tell_cause "$file is a folder, and no file"
+            elif [ ! -e "$2" ] && [ ! -w "$folder" ]; then
+                tell_cause "$file can't be made: the folder $(shown "$folder") may not be written"
             elif [ -e "$2" ] && { [ ! -r "$2" ] || [ ! -w "$2" ]; }; then
-                tell "$(shown "$2") may not be read or written"
+                tell_cause "$file may not be read or written"
+            elif is_locked "$2"; then
+                tell_cause "another run has the learned file $file"
             fi
             return
             ;;
@@ -53,12 +66,17 @@ look_for() {
         *) return ;;
     esac
     if [ ! -e "$2" ]; then
-        tell "there is no file $(shown "$2")"
+        tell_cause "there is no file $file"
     elif [ -d "$2" ]; then
-        tell "$(shown "$2") is a folder, and no file"
+        tell_cause "$file is a folder, and no file"
     elif [ ! -r "$2" ]; then
-        tell "$(shown "$2") may not be read"
+        tell_cause "$file may not be read"
     fi
+}
+
+tell_cause() {
+    found=yes
+    tell "$1"
 }
 
 # Whether a file has no more bytes than $2 and is UTF-8. Where it is not UTF-8, it is said how it becomes so.
@@ -147,8 +165,10 @@ hint() {
         2) look_at_script ;;
         3) look_at_files "$@" ;;
         4)
+            found=''
             each_file look_for "$@"
-            [ "$1" != serve ] || tell 'another program may have the port: --port N takes another one'
+            # The port is asked for when all files are there.
+            [ "$1" != serve ] || [ -n "$found" ] || tell 'another program may have the port: --port N takes another one'
             ;;
         5) tell 'the learned file was left as it is: it is another file, or a record of it is damaged at that byte' ;;
         7) tell 'a change had no room within --limit: what was written is whole, but not all of it was learnt' ;;
