@@ -222,8 +222,8 @@ unfolding encode
 first_told = refl
 
 -- of two that tell something the second is told
-later_told : map (λ answers. after (inside (waits_a ∷ []) (codes "o") Hira (states.Picking (conversion 0 false)) none) Ret
-    answers)
+later_told : map
+    (λ answers. after (inside (waits_a ∷ []) (codes "o") Hira (states.Picking (conversion 0 false)) none) Ret answers)
     ((lacking ∷ Refused refusals.Disk ∷ []) ∷ (Refused refusals.Disk ∷ lacking ∷ [])
     ∷ (lacking ∷ Done replies.StampsEnd ∷ []) ∷ (Done (replies.TooBig 9) ∷ Refused refusals.Disk ∷ []) ∷ [])
     ≡ Some (at (codes "xo亜") Kata plain (told.Refused refusals.Disk))
