@@ -141,7 +141,9 @@ bad_spellings = refl
 -- every option but `--dict` twice
 twice : taken ("type --rules a --rules a" ∷ "type --learned a --learned=a" ∷ "type --limit 64 --limit 64"
     ∷ "type --threads --threads" ∷ "serve --learned a --learned b" ∷ "serve --learned a --port 1 --port 1"
-    ∷ "serve --learned a --connections 1 --connections 1" ∷ "dump --learned a --book 1 --book 1"
+    ∷ "serve --learned a --connections 1 --connections 1" ∷ "serve --learned a --rules r --rules=r"
+    ∷ "serve --rules r --learned a --rules s" ∷ "serve --learned a --limit 64 --limit 64"
+    ∷ "serve --limit=64 --learned a --limit 65" ∷ "dump --learned a --book 1 --book 1"
     ∷ "load --seed 1 --seed 1 --sessions 1 --lines 1" ∷ "load --seed 1 --sessions 1 --sessions 1 --lines 1"
     ∷ "load --seed 1 --sessions 1 --lines 1 --lines 1"
     ∷ "load --seed 1 --sessions 1 --lines 1 --threads --threads" ∷ [])

@@ -2,8 +2,7 @@ use crate::journals::text;
 use skk_disk::{Disk, FileDisk, MadeCall, MemDisk, Which};
 use skk_outside::Failed;
 use std::alloc::{AllocError, Global};
-use std::fs::{self, Files};
-use std::os::unix::fs::FileExt;
+use std::fs::{self, File, Files};
 use std::process::Abort;
 use std::test::Fail;
 
@@ -136,19 +135,30 @@ fn a_disk_in_memory_is_written_cut_and_read(rt: HostRuntime) -> Result<(), Fail>
 }
 
 // Makes calls of the disk that two files of the system are.
-fn expect_files<R: Abort + Files>(
+fn expect_files<R: Abort + Files<File = File>>(
     rt: &R,
     alloc: Global,
     a: &str,
     b: &str,
     steps: &[Step],
-) -> Result<(), AllocError>
-where
-    R::File: FileExt,
-{
+) -> Result<(), AllocError> {
     let a = text(alloc, a)?;
     let mut disk = FileDisk::new(rt, a, text(alloc, b)?);
     expect_steps(rt, alloc, &mut disk, steps)
+}
+
+// Makes calls of a disk while another one has its first file.
+fn expect_taken<R: Abort + Files<File = File>>(
+    rt: &R,
+    alloc: Global,
+    a: &str,
+    b: &str,
+) -> Result<(), AllocError> {
+    let name = text(alloc, a)?;
+    let mut first = FileDisk::new(rt, name, text(alloc, b)?);
+    expect_steps(rt, alloc, &mut first, OPENED)?;
+    expect_files(rt, alloc, a, b, TAKEN)?;
+    expect_steps(rt, alloc, &mut first, OPENED)
 }
 
 const FOLDER: &str = "learned_tests_disk";
@@ -156,7 +166,26 @@ const FOLDER: &str = "learned_tests_disk";
 const WRITTEN: &[Step<'static>] = &[
     Step::Read(Which::A, 0, Ok(6), "\0\0ax\0\0."),
     Step::Len(Which::B, Err(Failed)),
+    Step::Write(Which::A, 1, "z", Ok(())),
+    Step::Write(Which::B, 0, "x", Err(Failed)),
+    Step::Cut(Which::A, 3, Ok(())),
+    Step::Cut(Which::B, 0, Err(Failed)),
+    Step::Sync(Which::A, Ok(())),
     Step::Sync(Which::B, Err(Failed)),
+    Step::Read(Which::B, 0, Err(Failed), "."),
+    Step::Read(Which::A, 0, Ok(3), "\0za."),
+    Step::Len(Which::A, Ok(3)),
+];
+
+const OPENED: &[Step<'static>] = &[Step::Len(Which::A, Ok(6))];
+
+const TAKEN: &[Step<'static>] = &[
+    Step::Len(Which::A, Err(Failed)),
+    Step::Read(Which::A, 0, Err(Failed), "."),
+    Step::Write(Which::A, 0, "x", Err(Failed)),
+    Step::Cut(Which::A, 0, Err(Failed)),
+    Step::Sync(Which::A, Err(Failed)),
+    Step::Len(Which::B, Ok(0)),
 ];
 
 const SHUT: &[Step<'static>] = &[
@@ -180,6 +209,13 @@ fn files_of_the_system_are_a_disk(rt: HostRuntime) -> Result<(), Fail> {
         "learned_tests_disk/a",
         "learned_tests_disk/b",
         CHANGES,
+    )?;
+    // Its first file is another's as long as that one is there, and no longer.
+    expect_taken(
+        &rt,
+        rt.alloc(),
+        "learned_tests_disk/a",
+        "learned_tests_disk/b",
     )?;
     // Another one finds in it what was written; its second file is in a folder that is not there.
     expect_files(

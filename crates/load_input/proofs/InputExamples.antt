@@ -1,11 +1,21 @@
 -- What is drawn from small seeds, and the rows of some words.
 use Rattle.std.proofs.Common.{◌≡◌, refl, codes, slice_get, Some, [], ◌∷◌, ◌++◌, length}
+use Rattle.std.specs.List.{flat_map}
 use Rattle.skk_text.specs.declared.key.Key.TheVariants.{Cj, Cg, Undo}
 use Rattle.skk_calls.specs.declared.part.Part.TheVariants.{Nasi}
 use Rattle.key_scripts.specs.declared.line.Line.TheVariants.{Keys}
 use Rattle.load_input.specs.Dictionary.{dictionary_rows}
 use Rattle.load_input.specs.Draws.{drawn, next_state}
-use Rattle.load_input.specs.Lines.{lines_drawn, typed}
+use Rattle.load_input.specs.Lines.{lines_drawn, syllable, syllables, typed}
+
+-- the sixteen syllables in their order
+all_syllables : flat_map (λ number. syllable number ++ codes " ")
+    (0 ∷ 1 ∷ 2 ∷ 3 ∷ 4 ∷ 5 ∷ 6 ∷ 7 ∷ 8 ∷ 9 ∷ 10 ∷ 11 ∷ 12 ∷ 13 ∷ 14 ∷ 15 ∷ [])
+    ≡ codes "ka ki ku ke ko sa shi su se so ta chi tsu te to na "
+all_syllables = refl
+
+many_syllables : length syllables ≡ 16
+many_syllables = refl
 
 -- the first numbers below 16 that are drawn from 7
 first_drawn : drawn (next_state 7) 16 ∷ drawn (next_state (next_state 7)) 16 ∷ [] ≡ 14 ∷ 15 ∷ []

@@ -200,6 +200,7 @@ fn two_held(rt: HostRuntime) -> Result<(), Fail> {
     )?;
     assert_eq!(rt; status, 0);
     expect_links(&rt, net.over(), &["4ぬ \n4ぬ \n", "4ぬ \n4ぬ \n"]);
+    assert_eq!(rt; meeting.count(), 2);
     assert!(rt; !meeting.is_missed());
     Ok(())
 }

@@ -33,6 +33,11 @@ impl Meeting {
         }
     }
 
+    /// How many have come.
+    pub fn count(&self) -> u32 {
+        self.come.load(Ordering::SeqCst)
+    }
+
     /// Whether one of them waited for the other in vain.
     pub fn is_missed(&self) -> bool {
         self.is_missed.load(Ordering::SeqCst)
@@ -89,6 +94,7 @@ fn two_typed(rt: HostRuntime) -> Result<(), Fail> {
     let status = type_by_two(rt, alloc, &meeting, &mut out)?;
     assert_eq!(rt; status, 0);
     assert_eq!(rt; out.written(), TYPED.as_bytes());
+    assert_eq!(rt; meeting.count(), 2);
     assert!(rt; !meeting.is_missed());
     Ok(())
 }

@@ -213,9 +213,11 @@ prompts : map (λ frames. display (session (frame (codes "内") Kata (states.Rea
     ((outside (codes "外") ∷ []) ∷ (outer [] Kata (reading "ぬの" None "") ∷ [])
     ∷ (outside (codes "外") ∷ outer (codes "中") Hira (reading "はし" (begun "る") "") ∷ [])
     ∷ (outside [] ∷ outer [] Kata (reading "まが" (begun "") "r") ∷ [])
+    ∷ (outer [] Kata (reading "はし" (begun "る") "") ∷ [])
     ∷ (outer [] Hira (reading "12か3" None "") ∷ []) ∷ (outer [] Ascii (reading "a" None "") ∷ []) ∷ [])
     ≡ codes "[辞書登録] の: 内▽カ" ∷ codes "[辞書登録] ヌノ: 内▽カ" ∷ codes "[[辞書登録]] はし*る: 内▽カ"
-    ∷ codes "[[辞書登録]] マガ*: 内▽カ" ∷ codes "[辞書登録] #か#: 内▽カ" ∷ codes "[辞書登録] a: 内▽カ" ∷ []
+    ∷ codes "[[辞書登録]] マガ*: 内▽カ" ∷ codes "[辞書登録] ハシ*ル: 内▽カ"
+    ∷ codes "[辞書登録] #か#: 内▽カ" ∷ codes "[辞書登録] a: 内▽カ" ∷ []
 prompts = refl
 
 -- a prompt is printed, with its escapes

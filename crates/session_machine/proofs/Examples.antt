@@ -499,12 +499,12 @@ inserted : map (λ (l : Mode × Reading). choice_piece l.0 l.1 sent)
 inserted = refl
 
 -- a choice of the candidate of a place of あ: so many characters up to so many bytes, in a mode
-abbrev choice : ℕ → ℕ → Mode → ℕ → Option Learned → Choice
+abbrev pub choice : ℕ → ℕ → Mode → ℕ → Option Learned → Choice
 choice inserted end mode place learned =
     record { inserted = inserted; end = end; mode = mode; conversion = conversion place false; learned = learned }
 
 -- a session with a last choice
-abbrev chosen : List ℕ → Mode → State → SessionNotice → Choice → Session
+abbrev pub chosen : List ℕ → Mode → State → SessionNotice → Choice → Session
 chosen text mode state notice last =
     record {
       typist = 3;

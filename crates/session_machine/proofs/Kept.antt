@@ -1,6 +1,7 @@
 -- What the changes of a session keep, every key keeps; and what it asks is what may be asked of such sessions.
 use Rattle.std.proofs.Common.{◌≡◌, ◌==◌, ℕ, slice_get, Bool, true, false, Option, Some, None, Result, Ok, Err, List}
-use Rattle.std.proofs.Common.{[], ◌∷◌, ◌++◌, length, refl, if◌then◌else◌, ◌&&◌}
+use Rattle.std.proofs.Common.{[], ◌∷◌, ◌++◌, length, refl, subst, if◌then◌else◌, ◌&&◌}
+use Rattle.std.specs.Bool.{⊤}
 use Rattle.std.proofs.lemmas.Bool.{and_parts}
 use Rattle.std.specs.Char.{is_ascii_digit}
 use Rattle.std.specs.List.{list_any}
@@ -17,7 +18,7 @@ use Rattle.skk_calls.specs.declared.answer.Answer.{Answer}
 use Rattle.skk_calls.specs.declared.answer.Answer.TheVariants.{Done, Refused}
 use Rattle.skk_calls.specs.declared.answer.Refusal.{Refusal}
 use Rattle.skk_calls.specs.declared.answer.Reply.TheVariants as replies
-use Rattle.skk_calls.specs.Interactions.{asks, followed_by}
+use Rattle.skk_calls.specs.Interactions.{ends, asks, prints, followed_by, Comes, Dialog}
 use Rattle.skk_calls.specs.Rows.{Cand, Learned, RowKey, is_word}
 use Rattle.skk_calls.specs.declared.call.Call.{Call}
 use Rattle.skk_calls.specs.declared.call.Call.TheVariants.{Lookup, Complete, Learn, Purge, Unlearn}
@@ -100,7 +101,7 @@ pub record Keeps (Asked : Call → Type 0) (Given : Answer → Type 0) (Holds : 
   pub chosen : (session : Session) (choice : Choice) (given : Answer) → choice.learned ≡ learnt_by given → Given given
       → Holds session → Holds (with_choice session (Some choice))
   -- registrations
-  pub opened : (session : Session) (waiting : Waiting) → Holds session
+  pub opened : (session : Session) (waiting : Waiting) → (length session.outer == depth_limit) ≡ false → Holds session
       → Holds (record session { frame = new_frame; outer = session.outer ++ outside session.frame waiting ∷ [] })
   pub closed : (session : Session) (frame : OuterFrame) → innermost session.outer ≡ Some frame → Holds session
       → Holds (back_in session frame)
@@ -149,15 +150,15 @@ module _ {Asked : Call → Type 0} {Given : Answer → Type 0} {Holds : Session 
       by (Some frame) e = keeps.closed session frame e holds
 
   registering-kept : (session : Session) (waiting : Waiting) → Holds session → Holds (registering session waiting)
-  registering-kept session waiting holds = by (length session.outer == depth_limit)
+  registering-kept session waiting holds = by (length session.outer == depth_limit) refl
     where
-      by : (full : Bool) → Holds (if full
+      by : (full : Bool) → (length session.outer == depth_limit) ≡ full → Holds (if full
           then record (with_state session (waiting_state waiting)) { notice = told.Depth }
           else record session { frame = new_frame; outer = session.outer ++ outside session.frame waiting ∷ [] })
-      by true =
+      by true e =
           keeps.noticed (with_state session (waiting_state waiting)) told.Depth
           (keeps.stated session (waiting_state waiting) holds)
-      by false = keeps.opened session waiting holds
+      by false e = keeps.opened session waiting e holds
 
   ended-kept : (session : Session) (frame : OuterFrame) → innermost session.outer ≡ Some frame → Holds session
       → Kept (ended_in session frame)
@@ -498,3 +499,14 @@ module _ {Asked : Call → Type 0} {Given : Answer → Type 0} {Holds : Session 
   all-kept rules session (key ∷ keys) holds =
       only_followed Asked Given Holds Holds (pressed rules session key) (λ after. all_pressed rules after keys)
       (pressed-kept rules session key holds) (λ after kept. all-kept rules after keys kept)
+
+-- so holds what an end keeps that comes by any answers
+pub comes-kept : (Holds : Session → Type 0) (meaning : Meaning) (dialog : Dialog) (session : Session)
+    → AsksOnly (λ call. ⊤) (λ given. ⊤) Holds meaning → Comes meaning dialog session → Holds session
+comes-kept Holds (ends end) [] session kept same = subst Holds same kept
+comes-kept Holds (ends end) (pair ∷ dialog) session kept comes = absurd comes
+comes-kept Holds (asks call next) [] session kept comes = absurd comes
+comes-kept Holds (asks call next) (pair ∷ dialog) session kept comes =
+    comes-kept Holds (next pair.1) dialog session (kept.1 pair.1 tt) comes.1
+comes-kept Holds (prints text rest) [] session kept comes = absurd comes
+comes-kept Holds (prints text rest) (pair ∷ dialog) session kept comes = absurd comes

@@ -1,4 +1,5 @@
 mod ConversionExamples
+mod Depths
 mod DisplayExamples
 mod Escapes
 mod Examples

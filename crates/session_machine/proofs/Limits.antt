@@ -8,7 +8,6 @@ use Rattle.std.specs.List.{All}
 use Rattle.skk_text.specs.TextLaws.{byte_len-append}
 use Rattle.skk_text.specs.Text.{byte_len, without_last}
 use Rattle.skk_text.specs.declared.key.Key.{Key}
-use Rattle.skk_calls.specs.Interactions.{ends, asks, prints, Dialog, Comes}
 use Rattle.dict_laws.specs.OwnBooks.{AsksOnly}
 use Rattle.romaji_rules.specs.declared.rule.Rule.{Rule}
 use Rattle.session_machine.specs.declared.frame.OuterFrame.{OuterFrame}
@@ -29,17 +28,6 @@ Fits session = TextFits session.frame.text × All OuterFits session.outer
 -- each session that a meaning may come to fits, whatever it is answered
 abbrev pub AllFit : Meaning → Type 0
 AllFit meaning = AsksOnly (λ call. ⊤) (λ given. ⊤) Fits meaning
-
--- so it does by the answers that it was given
-pub comes-fits : (meaning : Meaning) (dialog : Dialog) (session : Session) → AllFit meaning
-    → Comes meaning dialog session → Fits session
-comes-fits (ends end) [] session fit same = subst Fits same fit
-comes-fits (ends end) (pair ∷ dialog) session fit comes = absurd comes
-comes-fits (asks call next) [] session fit comes = absurd comes
-comes-fits (asks call next) (pair ∷ dialog) session fit comes =
-    comes-fits (next pair.1) dialog session (fit.1 pair.1 tt) comes.1
-comes-fits (prints text rest) [] session fit comes = absurd comes
-comes-fits (prints text rest) (pair ∷ dialog) session fit comes = absurd comes
 
 -- a text without its last character is no longer
 shorter : (text : List ℕ) → byte_len (without_last text) ≤ byte_len text
@@ -83,7 +71,7 @@ fits-kept = record {
   shorter = λ session fits. (omega (arith, fits.0, shorter session.frame.text), fits.1);
   unchosen = λ session count fits. (omega (arith, fits.0, shorter_by count session.frame.text), fits.1);
   chosen = λ session choice given is so fits. fits;
-  opened = λ session waiting fits. (
+  opened = λ session waiting room fits. (
     omega arith,
     All-append OuterFits session.outer (outside session.frame waiting ∷ []) fits.1
         (All-cons OuterFits (outside session.frame waiting) [] fits.0 (All-nil OuterFits)),

@@ -72,7 +72,7 @@ module _ (typist : ℕ) where
     unchosen = λ session count own. (own.0, own.1, refl, own.3);
     chosen = λ session choice given is gives own.
         (own.0, own.1, ap (is_own_learning typist) is ∙ learnt_own given gives, own.3);
-    opened = λ session waiting own. (
+    opened = λ session waiting room own. (
       own.0,
       own.1,
       refl,

@@ -1,6 +1,7 @@
 -- Registrations, as the definitions compute them.
-use Rattle.std.proofs.Common.{◌≡◌, refl, ℕ, zero, suc, false, map, Some, None, List, [], ◌∷◌, codes}
+use Rattle.std.proofs.Common.{◌≡◌, refl, ℕ, zero, suc, false, map, Some, None, List, [], ◌∷◌, ◌++◌, codes}
 use lib.Utf8.{encode}
+use Rattle.skk_text.specs.declared.key.Key.{Key}
 use Rattle.skk_text.specs.declared.key.Key.TheVariants.{Char, Cg, Ret}
 use Rattle.skk_text.specs.declared.mode.Mode.{Mode}
 use Rattle.skk_text.specs.declared.mode.Mode.TheVariants.{Hira, Kata, Ascii, Wide}
@@ -26,6 +27,7 @@ use Rattle.session_machine.specs.Registrations.{ended_in, registered_piece}
 use Rattle.session_machine.specs.Meanings.{becomes}
 use Rattle.session_machine.specs.Session.{Session, fits_behind}
 use Rattle.session_machine.proofs.Examples.{rules, after, at, none, plain, reading, with_begun, cand, conversion}
+use Rattle.session_machine.proofs.Examples.{choice, chosen, unfinished}
 
 -- a frame outside, with a text and a mode, which waits
 abbrev outer : List ℕ → Mode → Waiting → OuterFrame
@@ -64,6 +66,15 @@ ninth : after (inside (nested 8) [] Hira (states.Reading (reading (codes "ん") 
 unfolding encode
 ninth = refl
 
+-- so do candidates, where the last of them is shown; in the seventh the eighth opens behind all others
+ninth_of_candidates : map (λ count. after (inside (nested count) (codes "o") Hira (states.Picking (conversion 1 false))
+    none) (Char 32) []) (8 ∷ 7 ∷ [])
+    ≡ Some (inside (nested 8) (codes "o") Hira (states.Picking (conversion 1 false)) told.Depth)
+    ∷ Some (inside (nested 7 ++ outer (codes "o") Hira (waits.Picking (conversion 1 false)) ∷ []) [] Hira plain none)
+    ∷ []
+unfolding encode
+ninth_of_candidates = refl
+
 -- Cancelling
 
 -- the control-g of the plain state with nothing pending goes back to what waited, its last choice included, in the kana
@@ -94,6 +105,37 @@ empty_word : after (inside (waits_a ∷ []) [] Hira plain none) Ret []
     ≡ Some (at (codes "x") Kata (states.Reading (reading (codes "あ") [])) none)
 unfolding encode
 empty_word = refl
+
+-- a frame that waits for a word of ん, and was given 亜 before
+abbrev waits_chosen : OuterFrame
+waits_chosen = record (outer (codes "x亜") Kata (waits.Reading (reading (codes "ん") []))) {
+  last_choice = Some (choice 1 4 Kata 0 None);
+}
+
+-- what was chosen last outside stays there where a registration is cancelled, by a control-g or without a word,
+-- whatever was chosen inside; and it is given up where a word is inserted
+last_choices : (map (λ (l : List ℕ × Key). after (inside (waits_chosen ∷ []) l.0 Hira plain none) l.1 [])
+    ((codes "word", Cg) ∷ ([], Ret) ∷ [])
+    ≡ Some (chosen (codes "x亜") Kata (unfinished (codes "ん")) none (choice 1 4 Kata 0 None))
+    ∷ Some (chosen (codes "x亜") Kata (unfinished (codes "ん")) none (choice 1 4 Kata 0 None)) ∷ [])
+    × (after (record (chosen (codes "阿") Hira plain none (choice 1 3 Hira 1 None)) { outer = waits_chosen ∷ [] }) Cg []
+    ≡ Some (chosen (codes "x亜") Kata (unfinished (codes "ん")) none (choice 1 4 Kata 0 None)))
+    × (after (inside (waits_chosen ∷ []) (codes "阿") Hira plain none) Ret (learned ∷ [])
+    ≡ Some (at (codes "x亜阿") Kata plain none))
+unfolding encode
+last_choices = (refl, refl, refl)
+
+-- of two registrations the inner one is cancelled, and what stands outside both stays there
+cancels_one : map (λ (l : List ℕ × Key). after (inside (waits_a ∷ waits_chosen ∷ []) l.0 Hira plain none) l.1 [])
+    ((codes "word", Cg) ∷ ([], Ret) ∷ [])
+    ≡ Some (record (chosen (codes "x亜") Kata (unfinished (codes "ん")) none (choice 1 4 Kata 0 None)) {
+      outer = waits_a ∷ [];
+    })
+    ∷ Some (record (chosen (codes "x亜") Kata (unfinished (codes "ん")) none (choice 1 4 Kata 0 None)) {
+      outer = waits_a ∷ [];
+    }) ∷ []
+unfolding encode
+cancels_one = refl
 
 -- Ending
 
@@ -178,3 +220,15 @@ first_told : after (inside (waits_a ∷ []) (codes "o") Hira (states.Picking (co
     ≡ Some (at (codes "xo亜") Kata plain (told.Refused refusals.Memory))
 unfolding encode
 first_told = refl
+
+-- of two that tell something the second is told
+later_told : map
+    (λ answers. after (inside (waits_a ∷ []) (codes "o") Hira (states.Picking (conversion 0 false)) none) Ret answers)
+    ((lacking ∷ Refused refusals.Disk ∷ []) ∷ (Refused refusals.Disk ∷ lacking ∷ [])
+    ∷ (lacking ∷ Done replies.StampsEnd ∷ []) ∷ (Done (replies.TooBig 9) ∷ Refused refusals.Disk ∷ []) ∷ [])
+    ≡ Some (at (codes "xo亜") Kata plain (told.Refused refusals.Disk))
+    ∷ Some (at (codes "xo亜") Kata plain (told.Refused refusals.Memory))
+    ∷ Some (at (codes "xo亜") Kata plain told.StampsEnd)
+    ∷ Some (at (codes "xo亜") Kata plain (told.Refused refusals.Disk)) ∷ []
+unfolding encode
+later_told = refl

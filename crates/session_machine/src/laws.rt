@@ -1,4 +1,4 @@
-ghost use Rattle.std.specs.Prelude.{ℕ, List};
+ghost use Rattle.std.specs.Prelude.{ℕ, ◌≤◌, List, length};
 ghost use Rattle.std.specs.List.{All};
 ghost use Rattle.skk_text.specs.declared.key.Key.{Key};
 ghost use Rattle.romaji_rules.specs.declared.rule.Rule.{Rule};
@@ -6,6 +6,7 @@ ghost use Rattle.skk_calls.specs.Interactions.{Comes, Dialog};
 ghost use Rattle.dict_laws.specs.OwnBooks.{AsksOwn};
 ghost use Rattle.session_machine.specs.OwnSessions.{IsOwn};
 ghost use Rattle.session_machine.specs.Pressed.{pressed, all_pressed};
+ghost use Rattle.session_machine.specs.Registrations.{depth_limit};
 ghost use Rattle.session_machine.specs.Session.{Session, TextFits, texts_of, new_session};
 
 /// No text of a session's frames passes its limit, whatever keys it is given, and however its calls are answered.
@@ -13,6 +14,14 @@ pub fn texts_have_a_limit()
     ensures { (rules : List Rule) (typist book : ℕ) (keys : List Key) (dialog : Dialog) (session : Session)
         → Comes (all_pressed rules (new_session typist book) keys) dialog session
         → All TextFits (texts_of session) }
+{}
+
+/// No more registrations stand in one another than may be open, whatever keys a session is given, and however its calls
+/// are answered: each frame outside the innermost waits for the word of one.
+pub fn registrations_have_a_limit()
+    ensures { (rules : List Rule) (typist book : ℕ) (keys : List Key) (dialog : Dialog) (session : Session)
+        → Comes (all_pressed rules (new_session typist book) keys) dialog session
+        → length session.outer ≤ depth_limit }
 {}
 
 /// A session that is a typist's own asks the typist's own calls alone, whatever keys it is given, and stays so, as long

@@ -43,7 +43,7 @@ mod undoing;
 pub use copying::{copy_answer, copy_call};
 pub use frame::{Choice, Conversion, Frame, OuterFrame, State, Waiting};
 pub use headword::Headword;
-pub use laws::{calls_are_own, texts_have_a_limit};
+pub use laws::{calls_are_own, registrations_have_a_limit, texts_have_a_limit};
 pub use replay::Replayed;
 pub use session::Session;
 pub use session_notice::SessionNotice;

@@ -1,5 +1,6 @@
 -- What is called for requests and sent to clients, at small examples, each worked out by hand.
 use Rattle.std.proofs.Common.{◌≡◌, true, false, None, Some, [], ◌∷◌, ◌++◌, codes, map, refl}
+use Rattle.std.specs.Str.{chars, is_utf8}
 use Rattle.skk_calls.specs.declared.answer.Reply.TheVariants.{Found, Readings, Unchanged}
 use Rattle.skk_calls.specs.declared.call.Call.TheVariants as calls
 use Rattle.skk_calls.specs.declared.part.Part.TheVariants.{Nasi, Ari}
@@ -29,6 +30,14 @@ keys : map look_up (record { part = Nasi; reading = codes "ab" } ∷ record { pa
 unfolding lib.Utf8.encode
 keys = refl
 
+-- what is called to complete か;, nothing, a text with a slash, one that is no reading, and bytes that are no text
+completions : map call_of (Complete (0xE3 ∷ 0x81 ∷ 0x8B ∷ 0x3B ∷ []) ∷ Complete [] ∷ Complete (codes "a/")
+    ∷ Complete (codes ";") ∷ Complete (0xE3 ∷ 0x81 ∷ []) ∷ [])
+    ≡ Some (calls.Complete 0 (codes "か;")) ∷ Some (calls.Complete 0 []) ∷ Some (calls.Complete 0 (codes "a/"))
+    ∷ Some (calls.Complete 0 (codes ";")) ∷ None ∷ []
+unfolding chars is_utf8 lib.Utf8.encode
+completions = refl
+
 -- what is sent without a call
 fixed : (reply_to End None ≡ []) × (reply_to Version None ≡ codes "skk-desk-1.0 ")
     × (reply_to Host None ≡ codes "localhost:127.0.0.1: ")
@@ -52,8 +61,11 @@ found = refl
 completed : (reply_to (Complete (codes "a")) (Some (Readings (codes "ab" ∷ codes "a/" ∷ codes "ac" ∷ [])))
     ≡ codes "1/ab/ac/" ++ 10 ∷ [])
     × (reply_to (Complete (codes "a")) (Some (Readings (codes "a/" ∷ []))) ≡ codes "4a " ++ 10 ∷ [])
+    × (reply_to (Complete (codes "a;")) (Some (Readings (codes "a;b" ∷ codes "a;[" ∷ [])))
+    ≡ codes "1/a;b/a;[/" ++ 10 ∷ [])
+    × (reply_to (Complete []) (Some (Readings (codes "a" ∷ codes "/" ∷ codes "a;" ∷ []))) ≡ codes "1/a/a;/" ++ 10 ∷ [])
 unfolding lib.Utf8.encode
-completed = (refl, refl)
+completed = (refl, refl, refl, refl)
 
 -- replies of another kind find nothing
 other_kinds : (reply_to (Look (codes "a")) (Some (Readings (codes "ab" ∷ []))) ≡ not_found (codes "a"))
