@@ -5,6 +5,7 @@ mod Examples
 mod Fields
 mod Gathering
 mod Kept
+mod Limits
 mod Moments
 mod Needs
 mod NoForms

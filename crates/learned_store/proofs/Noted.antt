@@ -22,14 +22,16 @@ use Rattle.skk_calls.specs.Tallies.{Tally, tally_of, tally_with}
 use Rattle.skk_disk.specs.Image.{Image}
 use Rattle.skk_disk.specs.Moments.{SameImages, Earlier}
 use Rattle.skk_disk.specs.MomentLaws.{passes_on}
+use Rattle.learned_store.specs.Limits.{AllHadRoom}
 use Rattle.learned_store.specs.Served.{Serves}
 use Rattle.learned_store.specs.Stores.{OpenStore, opening_now, Keeps, RecoversOneOf, with_doubt, states_within}
 use Rattle.learned_store.specs.Stores.{DoubtAfter}
 use Rattle.learned_store.specs.Stands.{time_of, left_behind, RecoversBy, HasCause, IsOneOf, Stands, Counts}
 use Rattle.learned_store.specs.Stands.{opening_note}
-use Rattle.skk_calls.specs.HistoryLaws.{state-more, room-more, legal-more, history-more}
+use Rattle.skk_calls.specs.HistoryLaws.{state-more, room-more, doubt-more, legal-more, history-more}
 use Rattle.learned_store.proofs.Chronicles.{begun-more, opened-more}
 use Rattle.learned_store.proofs.Kept.{opened_now}
+use Rattle.learned_store.proofs.Limits.{had-none, had-more, had-room, calm-more}
 use Rattle.learned_store.proofs.Moments.{goes_on-more, goes_on-start, other-more, stands_over-more}
 use Rattle.learned_store.proofs.Standing.{recovers-more, doubt-among, within-left, doubt-left}
 
@@ -62,10 +64,12 @@ module _ {D : Type 0} (time faults : D → ℕ) (left_since : D → ℕ → Imag
       subst (λ (o : Opening). Stands time faults left_since o past (opening_note o ∷ []) store) (sym is) (record {
         begun = refl;
         legal = (refl, legal-none (opening_now time faults store));
+        fits = had-none (opening_now time faults store);
         files = refl;
         limit = refl;
         state = refl;
         end = refl;
+        calm = λ none. keeps.2.calm;
         keeps = (None, tt, keeps);
         moments = now store keeps;
         goes_on = (omega arith, omega arith, tt, (refl, refl));
@@ -130,12 +134,20 @@ module _ {D : Type 0} (time faults : D → ℕ) (left_since : D → ℕ → Imag
           opened-more notes note stands.begun ∙ stands.legal.0,
           subst (IsLegal opening) (sym more) (legal-more LacksRoom opening history entry stands.legal.1 legal_here),
         );
+        fits = subst (AllHadRoom opening) (sym more)
+            (had-more opening history entry stands.fits
+            (had-room opening history old call stands.limit stands.state stands.end stands.calm given serves.fits
+            serves.room));
         files = serves.files ∙ stands.files;
         limit = serves.limit ∙ stands.limit;
         state = state_here;
         end = serves.end
             ∙ (λ i. if tells_change given then stands.end i + need (stands.state i) call else stands.end i)
             ∙ sym (ap (room opening.state opening.end) more ∙ room-more opening.state opening.end history entry);
+        calm = λ none.
+            calm-more time left_since old.journal new.journal old.state new.state (in_doubt [] history) call doubt
+            later.0 kept later.2 stands.calm given later.1
+            (sym (ap (in_doubt []) more ∙ doubt-more [] history entry) ∙ none);
         keeps = (later.0, among, later.2);
         moments = stands_over-more opening.state (time old.journal.disk) (time new.journal.disk)
             (left_since old.journal.disk) (left_since new.journal.disk) notes note earlier serves.past refl

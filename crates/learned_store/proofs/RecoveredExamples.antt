@@ -1,15 +1,16 @@
 -- What the records of small files leave, and what these files are opened as.
-use Rattle.std.proofs.Common.{ℕ, List, [], ◌∷◌, ◌++◌, codes, inl, inr, refl, arith, lit≤}
+use Rattle.std.proofs.Common.{◌≡◌, ℕ, List, [], ◌∷◌, ◌++◌, codes, inl, inr, refl, ◌∙◌, ap, arith, lit≤}
 use Rattle.std.proofs.lemmas.List.Elements.{All-nil, All-cons}
 use Rattle.skk_calls.specs.declared.part.Part.TheVariants.{Nasi}
 use Rattle.skk_calls.specs.Rows.{Row}
 use Rattle.skk_calls.specs.States.{State, empty_state}
 use Rattle.skk_journal.specs.Making.{first_generation}
 use Rattle.skk_journal.specs.Opening.{IsOpened, with_records, bad_record}
-use Rattle.skk_journal.specs.Records.{IsSized, size_bytes, front}
+use Rattle.skk_journal.specs.OpeningLaws.{one_opening}
+use Rattle.skk_journal.specs.Records.{IsSized, size_bytes, front, end_of}
 use Rattle.learned_store.specs.declared.form.Form.TheVariants.{Put, Drop, SetCount}
 use Rattle.learned_store.specs.Payloads.{book_number, wide_number, Says, SaysNothing}
-use Rattle.learned_store.specs.Recovered.{Leave, BreakAt, IsRecovered, with_state, foreign, refused}
+use Rattle.learned_store.specs.Recovered.{Leave, BreakAt, IsRecovered, with_state, foreign, refused, IsOpenedWith}
 use Rattle.learned_store.proofs.NoForms.{other_byte}
 
 abbrev row : List ℕ → List ℕ → ℕ → Row
@@ -213,3 +214,20 @@ recovered = (
   inr (inr (first ∷ [], state 1 (row (codes "a") (codes "b") 1 ∷ []), good_broken, first_leaves)),
   inr (inr ([], empty_state, inl (refl, refl, refl), refl)),
 )
+
+-- the state and the end of a file that is told are those of its own records; of one that is not, those of some
+opened_with : IsOpenedWith (Unit {0}) good_file (state 1 (row (codes "a") (codes "b") 1 ∷ [])) 48
+    × IsOpenedWith (Unit {0}) [] empty_state 18 × IsOpenedWith ⊥ good_file empty_state 18
+unfolding size_bytes
+opened_with = (
+  record { records = first ∷ []; leave = first_leaves; end_is = refl; told = λ told. good_opened },
+  record { records = []; leave = refl; end_is = refl; told = λ told. inr (refl, refl) },
+  record { records = []; leave = refl; end_is = refl; told = λ told. absurd told },
+)
+
+told_end : (left : State) (end : ℕ) → IsOpenedWith (Unit {0}) good_file left end → end ≡ 48
+unfolding size_bytes
+told_end left end is =
+    let one = one_opening good_file (with_records is.records) (with_records (first ∷ [])) (is.told tt) good_opened in
+    let records : is.records ≡ first ∷ [] = cc one in
+    is.end_is ∙ ap end_of records

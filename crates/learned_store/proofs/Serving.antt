@@ -1,6 +1,6 @@
 -- What each way of answering a call does to a store.
 use Rattle.std.proofs.Common.{◌≡◌, ℕ, ◌+◌, ◌<◌, ◌≤◌, Bool, true, false, cond, Option, None, Some, List, [], ◌∷◌, ◌++◌}
-use Rattle.std.proofs.Common.{inl, inr, refl, sym, ◌∙◌, ap, subst, arith}
+use Rattle.std.proofs.Common.{◌⊎◌, inl, inr, refl, sym, ◌∙◌, ap, subst, arith}
 use Rattle.std.specs.Prelude.{⊤}
 use Rattle.skk_outside.specs.Faults.{Rose}
 use Rattle.skk_disk.specs.Image.{Image}
@@ -94,6 +94,7 @@ module _ {D : Type 0} (time faults : D → ℕ) (left_since : D → ℕ → Imag
         legal = legal;
         may = may;
         fits = λ told. absurd (differ (is_change reply) told none);
+        room = λ same. absurd (cc);
         failed = λ same. absurd (cc);
         state = sym (ap (λ (b : Bool). cond b (state_moved store.state call) store.state) still);
         end = sym
@@ -115,6 +116,7 @@ module _ {D : Type 0} (time faults : D → ℕ) (left_since : D → ℕ → Imag
     legal = legal;
     may = may;
     fits = λ told. absurd (cc);
+    room = λ same. absurd (cc);
     failed = λ same. absurd (cc);
     state = refl;
     end = refl;
@@ -178,6 +180,7 @@ module _ {D : Type 0} (time faults : D → ℕ) (left_since : D → ℕ → Imag
           legal = is;
           may = may;
           fits = λ tells. omega (arith, fits, told.needs);
+          room = λ same. absurd (cc);
           failed = λ same. absurd (cc);
           state = refl;
           end = end ∙ ap (λ (n : ℕ). old.end + n) (sym told.needs)
@@ -229,6 +232,7 @@ module _ {D : Type 0} (time faults : D → ℕ) (left_since : D → ℕ → Imag
             );
             may = may;
             fits = λ change. absurd (cc);
+            room = λ same. absurd (cc);
             failed = λ same. absurd (cc);
             state = refl;
             end = same_end;
@@ -253,12 +257,15 @@ module _ {D : Type 0} (time faults : D → ℕ) (left_since : D → ℕ → Imag
 
       -- since the disk failed
       pub failed : fault ≡ append.Disk → may_answer call (Refused Disk) ≡ true
+          → (old.in_doubt ≡ true) ⊎ (old.end + record_need payload ≤ limit)
           → Rose (faults old.disk) (faults new.disk)
           → Serves time faults left_since before (behind state) call (Refused Disk)
-      failed is may rose = record {
+      failed is may had rose = record {
         legal = told.moved;
         may = may;
         fits = λ change. absurd (cc);
+        room = λ same.
+            subst (λ (n : ℕ). (old.in_doubt ≡ true) ⊎ (old.end + n ≤ limit)) (sym told.needs) had;
         failed = λ same. rose;
         state = refl;
         end = same_end;

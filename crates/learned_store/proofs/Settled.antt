@@ -1,9 +1,21 @@
 -- What stands after a repair, with a record in doubt or without.
-use Rattle.std.proofs.Common.{◌≡◌, ℕ, List, [], ◌∷◌, false, Option, None, Some, sym, subst}
+use Rattle.std.proofs.Common.{◌≡◌, ℕ, List, [], ◌∷◌, Bool, true, false, Option, None, Some, Result, Ok, Err}
+use Rattle.std.proofs.Common.{inl, inr, sym, subst}
+use Rattle.std.specs.Prelude.{IsOk, OnErr}
+use Rattle.std.proofs.lemmas.Bool.{cases_Bool}
 use Rattle.skk_disk.specs.Image.{Image}
 use Rattle.skk_journal.specs.Images.{Each, HoldsEither}
 use Rattle.skk_journal.specs.Journal.{OpenJournal, Rests, Doubts}
 use Rattle.learned_store.specs.Committed.{RestsOrDoubts, HoldsDoubted}
+
+-- a repair that fails where nothing is in doubt does not fail
+pub failed_doubted : {T E : Type 0} (result : Result T E) (in_doubt : Bool) → (in_doubt ≡ false → IsOk result)
+    → OnErr result (in_doubt ≡ true)
+failed_doubted (Ok done) in_doubt calm = tt
+failed_doubted (Err failed) in_doubt calm = elim (cases_Bool in_doubt) [
+  | inl doubts ↦ doubts
+  | inr none ↦ let never : false ≡ true = calm none in absurd (cc)
+]
 
 module _ {D : Type 0} (time : D → ℕ) (left_since : D → ℕ → Image → Type 0) (old new : OpenJournal D)
     (calm : old.in_doubt ≡ false → new ≡ old) where

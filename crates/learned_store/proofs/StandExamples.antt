@@ -1,5 +1,5 @@
--- What a call leaves in doubt, what notes go on to, and what is told of a file that is full, at small examples, each
--- worked out by hand.
+-- What a call leaves in doubt, what notes go on to, and what is told of a file that is full and of its room, at small
+-- examples, each worked out by hand.
 use Rattle.std.proofs.Common.{◌≡◌, ℕ, true, false, ⊎_elim, Option, None, Some, List, [], ◌∷◌, map, codes, ap, refl}
 use Rattle.std.proofs.Common.{arith, inl, inr, lit≤, lit<}
 use Rattle.skk_calls.specs.declared.answer.Answer.{Answer}
@@ -11,7 +11,9 @@ use Rattle.skk_calls.specs.declared.call.Call.{Call}
 use Rattle.skk_calls.specs.declared.call.Call.TheVariants.{Learn}
 use Rattle.skk_calls.specs.declared.chronicle.Noted.{Noted}
 use Rattle.skk_calls.specs.declared.chronicle.Noted.TheVariants.{Opened, Entered}
+use Rattle.skk_calls.specs.declared.entry.Entry.{Entry}
 use Rattle.skk_calls.specs.declared.part.Part.TheVariants.{Nasi}
+use Rattle.skk_calls.specs.Histories.{Opening}
 use Rattle.skk_calls.specs.Rows.{RowKey, Row}
 use Rattle.skk_calls.specs.States.{State, empty_state}
 use Rattle.skk_calls.specs.Tallies.{empty_tally}
@@ -22,12 +24,14 @@ use Rattle.learn_index.specs.declared.plan.Plan.TheVariants.{Still, Move}
 use Rattle.learned_store.specs.declared.form.Form.TheVariants.{Put, Drop, SetCount}
 use Rattle.learned_store.specs.declared.recovery.RecoverFault.TheVariants as recovering
 use Rattle.learned_store.specs.Committed.{IsTold}
+use Rattle.learned_store.specs.Limits.{HadRoom, AllHadRoom}
 use Rattle.learned_store.specs.Payloads.{payload_of}
 use Rattle.learned_store.specs.Recovering.{IsBreak, refusal_of}
 use Rattle.learned_store.specs.Stands.{time_of, faults_of, left_behind, HasCause, GoOn, IsOneOf, opening_note, Counts}
 use Rattle.learned_store.specs.Stands.{RecoversBy, StandsOver}
 use Rattle.learned_store.specs.Stores.{states_within, DoubtAfter, opening_now, OpenStore}
 use Rattle.learned_store.specs.Written.{may_stand, TellsOf, IsRecordOf}
+use Rattle.learned_store.proofs.Limits.{had-none}
 
 abbrev key : RowKey
 key = record { part = Nasi; reading = codes "か" }
@@ -208,6 +212,54 @@ full_told = (
   λ is. omega (arith, is.0),
   λ is. omega (arith, is.1),
   λ is. omega (arith, is.2),
+)
+
+-- the learning needs 34 bytes, so that one behind the end 12 has room just under the limit 46
+abbrev over : ℕ → Opening
+over limit = record { files = []; state = empty_state; end = 12; limit = limit; time = 3; faults = 2 }
+
+abbrev says : Answer → Entry
+says given = record { number = 0; call = learn; answer = given }
+
+abbrev Had : ℕ → List Entry → Answer → Type 0
+Had limit history given = HadRoom (over limit) history learn given
+
+room_told : Had 46 [] learned × (¬ Had 45 [] learned) × Had 80 (says learned ∷ []) learned
+    × (¬ Had 79 (says learned ∷ []) learned) × Had 46 (says full ∷ []) learned × Had 0 [] (Done Unchanged)
+    × Had 0 [] (Refused Memory) × Had 0 [] full
+unfolding lib.Utf8.encode
+room_told = (
+  λ changed. lit≤ tt,
+  λ had. omega (arith, had refl),
+  λ changed. lit≤ tt,
+  λ had. omega (arith, had refl),
+  λ changed. lit≤ tt,
+  λ changed. cc,
+  tt,
+  tt,
+)
+
+-- a disk fails a change that has room, or one behind a change in doubt, which a change that was done ends
+failed_told : Had 46 [] (Refused Disk) × (¬ Had 45 [] (Refused Disk)) × Had 45 (says (Refused Disk) ∷ []) (Refused Disk)
+    × (¬ Had 79 (says (Refused Disk) ∷ says learned ∷ []) (Refused Disk))
+    × (¬ Had 45 (says (Refused Memory) ∷ says full ∷ []) (Refused Disk))
+unfolding lib.Utf8.encode
+failed_told = (
+  inr (lit≤ tt),
+  λ had. ⊎_elim (λ doubts. doubts refl) (λ fits. omega (arith, fits)) had,
+  inl (λ none. cc),
+  λ had. ⊎_elim (λ doubts. doubts refl) (λ fits. omega (arith, fits)) had,
+  λ had. ⊎_elim (λ doubts. doubts refl) (λ fits. omega (arith, fits)) had,
+)
+
+-- each entry of a history is asked, at its place
+all_told : AllHadRoom (over 0) [] × (¬ AllHadRoom (over 45) (says learned ∷ says (Done Unchanged) ∷ []))
+    × (¬ AllHadRoom (over 79) (says learned ∷ says learned ∷ []))
+unfolding lib.Utf8.encode
+all_told = (
+  had-none (over 0),
+  λ all. omega (arith, all [] (says learned) (says (Done Unchanged) ∷ []) refl refl),
+  λ all. omega (arith, all (says learned ∷ []) (says learned) [] refl refl),
 )
 
 -- a row that may not stand in a book of its count, and a key of no reading, may not be written

@@ -1,5 +1,6 @@
 pub mod Committed
 pub mod Gathering
+pub mod Limits
 pub mod Payloads
 pub mod Reading
 pub mod Recovered

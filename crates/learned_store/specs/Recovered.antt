@@ -4,7 +4,7 @@ use Rattle.skk_calls.specs.States.{State, empty_state}
 use Rattle.skk_journal.specs.declared.fault.OpenFault.{OpenFault}
 use Rattle.skk_journal.specs.declared.fault.OpenFault.TheVariants.{NotJournal, BadRecord}
 use Rattle.skk_journal.specs.Opening.{with_records, not_journal, bad_record, IsOpened, OpensAtOnce}
-use Rattle.skk_journal.specs.Records.{place_behind}
+use Rattle.skk_journal.specs.Records.{place_behind, end_of}
 use Rattle.learned_store.specs.declared.form.Form.{Form}
 use Rattle.learned_store.specs.Payloads.{Says, SaysNothing, state_told}
 
@@ -52,6 +52,13 @@ abbrev pub IsRefused : List ℕ → OpenFault → Type 0
 IsRefused file (NotJournal first) = IsRecovered file (foreign first)
 IsRefused file (BadRecord at before) = IsRecovered file (refused at) × (before ≡ [])
 IsRefused file fault = ⊤
+
+-- records leave a state and end so; where a file is told, they are those that it is opened with
+pub record IsOpenedWith (tells : Type 0) (file : List ℕ) (state : State) (end : ℕ) : Type 0 where
+  pub records : List (List ℕ)
+  pub leave : Leave records state
+  pub end_is : end ≡ end_of records
+  pub told : tells → IsOpened file (with_records records)
 
 -- a file is opened as a state at each moment of its opening too: it has records that leave it, or one byte at most
 abbrev pub RecoversAtOnce : List ℕ → State → Type 0

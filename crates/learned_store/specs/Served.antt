@@ -1,5 +1,5 @@
 -- What a call does to a store.
-use Rattle.std.specs.Prelude.{◌≡◌, ℕ, ◌+◌, ◌≤◌, true, false, if◌then◌else◌, Option}
+use Rattle.std.specs.Prelude.{◌≡◌, ◌⊎◌, ℕ, ◌+◌, ◌≤◌, true, false, if◌then◌else◌, Option}
 use Rattle.skk_outside.specs.Faults.{Rose}
 use Rattle.skk_disk.specs.Image.{Image}
 use Rattle.skk_disk.specs.Moments.{Passes}
@@ -20,6 +20,8 @@ pub record Serves {D : Type 0} (time faults : D → ℕ) (left_since : D → ℕ
   pub legal : IsLegalAnswer LacksRoom (opening_now time faults old) old.state old.journal.end call answer
   pub may : may_answer call answer ≡ true
   pub fits : tells_change answer ≡ true → old.journal.end + need old.state call ≤ old.limit
+  pub room : answer ≡ Refused Disk
+      → (old.journal.in_doubt ≡ true) ⊎ (old.journal.end + need old.state call ≤ old.limit)
   pub failed : answer ≡ Refused Disk → Rose (faults old.journal.disk) (faults new.journal.disk)
   pub state : new.state ≡ after_answer old.state call answer
   pub end : new.journal.end

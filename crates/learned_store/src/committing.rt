@@ -1,4 +1,5 @@
-ghost use Rattle.std.specs.Prelude.{◌≡◌, ◌+◌, ◌≤◌, ◌++◌, ◌∷◌, [], List, ℕ, Option, false, IfErr, OnOk, OnErr, IsErrOf};
+ghost use Rattle.std.specs.Prelude.{◌≡◌, ◌⊎◌, ◌+◌, ◌≤◌, ◌++◌, ◌∷◌, [], List, ℕ, Option, true, false, IfErr};
+ghost use Rattle.std.specs.Prelude.{OnOk, OnErr, IsErrOf};
 ghost use Rattle.skk_outside.specs.Faults.{Rose};
 ghost use Rattle.skk_disk.specs.Moments.{Passes};
 ghost use Rattle.skk_disk.specs.Steps.{ComeFrom};
@@ -20,8 +21,10 @@ pub(crate) fn commit<D: Disk>(
 ) -> Result<(), AppendFault>
     requires { IsSized payload.now }
 
-    // It is added only where it ends within the limit.
+    // It is added only where it ends within the limit, and a disk fails only then, or where one is in doubt.
     ensures fits { OnOk result (journal.old.end + need payload.now ≤ limit) }
+    ensures room { IsErrOf result AppendFault.Disk →
+        (journal.old.in_doubt ≡ true) ⊎ (journal.old.end + need payload.now ≤ limit) }
     ensures told { IfErr result (IsTold journal.old.end (need payload.now) limit) }
     ensures failed { IsErrOf result AppendFault.Disk → Rose (D.faults journal.old.disk) (D.faults journal.new.disk) }
     ensures end { OnOk result (journal.new.end ≡ journal.old.end + need payload.now) }
@@ -54,6 +57,7 @@ pub(crate) fn commit<D: Disk>(
 // Closes the gate of a record in doubt.
 fn settle<D: Disk>(journal: &mut Journal<D>) -> Result<(), Failed>
     ensures calm { OnOk result (journal.new.in_doubt ≡ false) }
+    ensures doubted { OnErr result (journal.old.in_doubt ≡ true) }
     ensures failed { OnErr result (Rose (D.faults journal.old.disk) (D.faults journal.new.disk)) }
     ensures end { journal.new.end ≡ journal.old.end }
 

@@ -1,10 +1,12 @@
-ghost use Rattle.std.specs.Prelude.{◌≡◌, ◌≤◌, ◌∷◌, [], ◌++◌, ℕ, None, true, IfOk, IfErr};
+ghost use Rattle.std.specs.Prelude.{◌≡◌, ◌⊎◌, ◌≤◌, ◌+◌, ◌∷◌, [], ◌++◌, ℕ, None, true, IfOk, IfErr};
 ghost use Rattle.skk_disk.specs.Image.{Image};
 ghost use Rattle.skk_disk.specs.Moments.{Passes, SameImages};
 ghost use Rattle.skk_disk.specs.Steps.{ComeFrom};
+ghost use Rattle.skk_calls.specs.declared.answer.Refusal.TheVariants as refusals;
 ghost use Rattle.skk_calls.specs.declared.chronicle.Noted.TheVariants.{Entered};
 ghost use Rattle.skk_calls.specs.Chronicles.{history_of};
 ghost use Rattle.skk_calls.specs.Dictionary.{is_fit, may_answer};
+ghost use Rattle.skk_calls.specs.Histories.{need, tells_change};
 ghost use Rattle.skk_calls.specs.Tallies.{tally_of};
 ghost use Rattle.skk_journal.specs.Images.{SameOther};
 ghost use Rattle.learn_index.specs.FileRows.{AreFileRows};
@@ -29,8 +31,9 @@ pub struct NoDesk<D> {
 }
 
 /// A store and the history of what it answers. `N` names what it was opened with. Its type keeps what the history and
-/// the disk stand for: each answer is legal at its place, and at each moment since the opening what a stop might have
-/// left is opened as a state that a part of the history may leave, which has each entry that was made by then.
+/// the disk stand for: each answer is legal at its place, and had room in the learned file as far as it tells of it; and
+/// at each moment since the opening what a stop might have left is opened as a state that a part of the history may
+/// leave, which has each entry that was made by then.
 #[derive(Drop)]
 pub struct Noting<D: Disk, N: LearnedName> {
     store: Store<D>,
@@ -79,6 +82,10 @@ impl<D: Disk, N: LearnedName> Noting<D, N> {
         ensures notes { self.new.notes ≡ self.old.notes ++ Entered number call.now result
             (D.time self.new.store.journal.disk) (D.faults self.new.store.journal.disk) ∷ [] }
         ensures may { may_answer call.now result ≡ true }
+        ensures fits { tells_change result ≡ true →
+            self.old.store.journal.end + need self.old.store.state call.now ≤ self.old.store.limit }
+        ensures room { result ≡ Answer.Refused refusals.Disk → (self.old.store.journal.in_doubt ≡ true)
+            ⊎ (self.old.store.journal.end + need self.old.store.state call.now ≤ self.old.store.limit) }
         ensures other { ComeFrom SameOther
             (D.left_since self.old.store.journal.disk (D.time self.old.store.journal.disk))
             (D.left_since self.new.store.journal.disk (D.time self.old.store.journal.disk)) }

@@ -7,7 +7,7 @@ ghost use Rattle.skk_journal.specs.Opening.{is_fresh};
 ghost use Rattle.skk_journal.specs.Causes.{IsRefused as RefusesFrames, UnlessDisk};
 ghost use Rattle.skk_journal.specs.Images.{Each, SameOther};
 ghost use Rattle.skk_journal.specs.Making.{IsNew};
-ghost use Rattle.learned_store.specs.Recovered.{IsRecovered, with_state, IsRefused, RecoversAtOnce};
+ghost use Rattle.learned_store.specs.Recovered.{IsOpenedWith, IsRefused, RecoversAtOnce};
 ghost use Rattle.learned_store.specs.Recovering.{refusal_of};
 ghost use Rattle.learned_store.specs.Stores.{Keeps, Recovers};
 
@@ -25,7 +25,8 @@ impl<D: Disk> Store<D> {
     /// bytes, with one logarithm in the number of rows that are left.
     pub fn open(alloc: Global, disk: D, system: System, limit: u64) -> Result<Store<D>, Unopened<D>>
         // What a read gives at the start decides.
-        ensures opened { D.tells → IfOk result (λ store. IsRecovered (D.seen disk).a (with_state store.state)) }
+        ensures opened { IfOk result (λ store.
+            IsOpenedWith D.tells (D.seen disk).a store.state store.journal.end) }
         ensures refused { D.tells → IfErr result (λ unopened. IsRefused (D.seen disk).a unopened.why) }
         ensures files { IfOk result (λ store. store.files ≡ system) }
         ensures limit { IfOk result (λ store. store.limit ≡ limit) }

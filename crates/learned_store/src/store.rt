@@ -1,4 +1,4 @@
-ghost use Rattle.std.specs.Prelude.{◌≡◌, ◌≤◌, ◌+◌, if◌then◌else◌, min, true, false, Option, IfOk};
+ghost use Rattle.std.specs.Prelude.{◌≡◌, ◌⊎◌, ◌≤◌, ◌+◌, if◌then◌else◌, min, true, false, Option, IfOk};
 ghost use Rattle.skk_text.specs.Counts.{last_count};
 ghost use Rattle.skk_outside.specs.Faults.{Rose};
 ghost use Rattle.skk_disk.specs.Moments.{Passes};
@@ -88,6 +88,8 @@ impl<D: Disk> Store<D> {
         ensures may { may_answer call.now result ≡ true }
         ensures fits { tells_change result ≡ true →
             self.old.journal.end + need self.old.state call.now ≤ self.old.limit }
+        ensures room { result ≡ Answer.Refused Refusal.Disk → (self.old.journal.in_doubt ≡ true)
+            ⊎ (self.old.journal.end + need self.old.state call.now ≤ self.old.limit) }
         ensures failed { result ≡ Answer.Refused Refusal.Disk →
             Rose (D.faults self.old.journal.disk) (D.faults self.new.journal.disk) }
 

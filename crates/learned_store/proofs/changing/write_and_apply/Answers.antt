@@ -59,4 +59,5 @@ returns g c files call changes typed fit planned =
     c.args.limit call c.args.payload.now tells c.commit.ensures.images c.commit.ensures.other c.commit.ensures.past
     c.commit.ensures.counted c.in-Err-Disk.field-0 c.in-Err-Disk.ensures.told c.in-Err-Disk.ensures.end_stays
     c.in-Err-Disk.ensures.err c.in-Err-Disk.field-0-is (may_be_refused call Disk changes)
+    (c.in-Err-Disk.ensures.room (ap (λ f. Err f) c.in-Err-Disk.field-0-is))
     (c.in-Err-Disk.ensures.failed (ap (λ f. Err f) c.in-Err-Disk.field-0-is))

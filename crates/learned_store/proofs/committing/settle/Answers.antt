@@ -1,6 +1,10 @@
 use Rattle.std.proofs.lemmas.Result.{on_ok_weaker, on_err_weaker}
-use Rattle.learned_store.proofs.Settled.{settled, settling, still_doubted}
+use Rattle.learned_store.proofs.Settled.{failed_doubted, settled, settling, still_doubted}
 use Rattle.learned_store.proofs.committing.settle.Goals as goal
+
+pub returns-clause-doubted : goal.returns-clause-doubted
+returns-clause-doubted g c =
+    failed_doubted c.repair.result c.args.journal.now.in_doubt (λ calm. (c.repair.ensures.calm calm).0)
 
 pub returns-clause-ok : goal.returns-clause-ok
 returns-clause-ok g c =

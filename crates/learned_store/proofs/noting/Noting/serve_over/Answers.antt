@@ -38,6 +38,8 @@ returns g c =
     (record { store = c.self.inside.store; notes = c.self.inside.trace }) now number call given = record {
       notes = c.note.ensures;
       may = does.may;
+      fits = does.fits;
+      room = does.room;
       other = does.other;
       past = does.past;
       counted = does.counted;

@@ -1,4 +1,14 @@
+use Rattle.skk_journal.specs.Found.{payloads}
 use Rattle.learned_store.proofs.store.Store.open.Goals as goal
+
+-- the records that were read leave the state, and end where the journal does
+pub returns-in-Ok-recover-clause-opened : goal.returns-in-Ok-recover-clause-opened
+returns-in-Ok-recover-clause-opened g c = record {
+  records = payloads c.in-Ok.records;
+  leave = c.in-Ok-recover.ensures.left;
+  end_is = c.in-Ok.ensures.rests.end;
+  told = c.in-Ok.ensures.opened;
+}
 
 -- where the images of a moment are opened with records, they are opened as the state that these leave
 pub returns-in-Ok-recover-clause-images : goal.returns-in-Ok-recover-clause-images

@@ -6,6 +6,7 @@ use Rattle.skk_calls.specs.Chronicles.{history_of}
 use Rattle.skk_calls.specs.Histories.{IsLegal}
 use Rattle.skk_calls.specs.HistoryLaws.{history-more}
 use Rattle.desk_history.specs.Seats.{PenState, CallerState}
+use Rattle.learned_store.specs.Limits.{AllHadRoom}
 use Rattle.shared_desk.proofs.locked.Locked.call.Goals as goal
 
 pub invariant_of-self : goal.invariant_of-self
@@ -43,4 +44,5 @@ returns-clause-told g c =
       mine = ap (λ (s : CallerState). s.mine) c.enter.ensures.seat;
       number = ap (λ (s : CallerState). s.number) c.enter.ensures.seat;
       legal = subst (IsLegal g.N.OpeningName.opening) (sym whole) c.store-store.ensures.stands.legal.1;
+      fits = subst (AllHadRoom g.N.OpeningName.opening) (sym whole) c.store-store.ensures.stands.fits;
     }

@@ -1,0 +1,109 @@
+-- What answers tell of the room in the learned file, with one entry more, and when a journal is in no doubt.
+use Rattle.std.proofs.Common.{◌≡◌, ◌⊎◌, inl, inr, refl, sym, ◌∙◌, ap, subst, arith}
+use Rattle.std.proofs.Common.{ℕ, ◌+◌, ◌≤◌, Bool, true, false, if◌then◌else◌, Option, None, Some, List, [], ◌∷◌, ◌++◌}
+use Rattle.std.proofs.lemmas.Bool.{cases_Bool}
+use Rattle.skk_calls.specs.declared.answer.Answer.{Answer}
+use Rattle.skk_calls.specs.declared.answer.Answer.TheVariants.{Done, Refused}
+use Rattle.skk_calls.specs.declared.answer.Refusal.TheVariants.{Memory, Disk, JournalFull}
+use Rattle.skk_calls.specs.declared.call.Call.{Call}
+use Rattle.skk_calls.specs.declared.entry.Entry.{Entry}
+use Rattle.skk_calls.specs.Dictionary.{is_change}
+use Rattle.skk_calls.specs.Histories.{Opening, need, room, state_after, tells_change, in_doubt, in_doubt_after}
+use Rattle.skk_calls.specs.States.{State}
+use Rattle.skk_disk.specs.Image.{Image}
+use Rattle.skk_journal.specs.Journal.{OpenJournal}
+use Rattle.learned_store.specs.Limits.{HasRoomFor, HadRoom, AllHadRoom}
+use Rattle.learned_store.specs.Stores.{OpenStore, Keeps, DoubtAfter}
+
+differ : (b : Bool) → b ≡ true → b ≡ false → ⊥
+differ b holds fails = let same : true ≡ false = sym holds ∙ fails in cc
+
+-- an entry of a history with one more stands in that history, or is the last
+split-last : (history : List Entry) (entry : Entry) (prefix : List Entry) (one : Entry) (rest : List Entry)
+    → history ++ entry ∷ [] ≡ prefix ++ one ∷ rest
+    → ((behind : List Entry) × (history ≡ prefix ++ one ∷ behind)) ⊎ ((history ≡ prefix) × (entry ≡ one))
+split-last [] entry [] one rest e = inr (refl, cc)
+split-last (first ∷ history) entry [] one rest e =
+    let same : first ≡ one = cc in inl (history, ap (λ h. h ∷ history) same)
+split-last [] entry (head ∷ []) one rest e = absurd (cc)
+split-last [] entry (head ∷ other ∷ prefix) one rest e = absurd (cc)
+split-last (first ∷ history) entry (head ∷ prefix) one rest e =
+    let same : first ≡ head = cc in
+    let tails : history ++ entry ∷ [] ≡ prefix ++ one ∷ rest = cc in
+    elim (split-last history entry prefix one rest tails) [
+      | inl within ↦ inl (within.0, ap (λ h. h ∷ history) same ∙ ap (λ h. head ∷ h) within.1)
+      | inr last ↦ inr (ap (λ h. h ∷ history) same ∙ ap (λ h. head ∷ h) last.0, last.1)
+    ]
+
+pub had-none : (opening : Opening) → AllHadRoom opening []
+had-none opening [] entry rest e = absurd (cc)
+had-none opening (first ∷ prefix) entry rest e = absurd (cc)
+
+pub had-more : (opening : Opening) (history : List Entry) (entry : Entry) → AllHadRoom opening history
+    → HadRoom opening history entry.call entry.answer → AllHadRoom opening (history ++ entry ∷ [])
+had-more opening history entry had last prefix one rest e =
+    elim (split-last history entry prefix one rest e) [
+      | inl within ↦ had prefix one within.0 within.1
+      | inr end ↦ subst (λ (h : List Entry). HadRoom opening h one.call one.answer) end.0
+          (subst (λ (x : Entry). HadRoom opening history x.call x.answer) end.1 last)
+    ]
+
+module _ {D : Type 0} (opening : Opening) (history : List Entry) (store : OpenStore D) (call : Call)
+    (limit : store.limit ≡ opening.limit) (state : store.state ≡ state_after opening.state history)
+    (end : store.journal.end ≡ room opening.state opening.end history)
+    (calm : in_doubt [] history ≡ [] → store.journal.in_doubt ≡ false) where
+  has-room : store.journal.end + need store.state call ≤ store.limit → HasRoomFor opening history call
+  has-room fits =
+      let same : need store.state call ≡ need (state_after opening.state history) call =
+      ap (λ (s : State). need s call) state in
+      omega (arith, fits, same, end, limit)
+
+  -- what the answer of a store behind a history tells of the room
+  pub had-room : (given : Answer)
+      → (tells_change given ≡ true → store.journal.end + need store.state call ≤ store.limit)
+      → (given ≡ Refused Disk
+      → (store.journal.in_doubt ≡ true) ⊎ (store.journal.end + need store.state call ≤ store.limit))
+      → HadRoom opening history call given
+  had-room (Done reply) fits failed = λ changed. has-room (fits changed)
+  had-room (Refused Memory) fits failed = tt
+  had-room (Refused Disk) fits failed = elim (failed refl) [
+    | inl doubts ↦ inl (λ none. differ store.journal.in_doubt doubts (calm none))
+    | inr fitted ↦ inr (has-room fitted)
+  ]
+  had-room (Refused (JournalFull told needs most)) fits failed = tt
+
+not-empty : (calls : List Call) (call : Call) → calls ++ call ∷ [] ≡ [] → ⊥
+not-empty [] call e = cc
+not-empty (first ∷ calls) call e = cc
+
+module _ {D : Type 0} (time : D → ℕ) (left_since : D → ℕ → Image → Type 0) where
+  -- a journal that keeps a state is in doubt exactly where another state is
+  calm-kept : (journal : OpenJournal D) (state : State) (doubt : Option State)
+      → Keeps time left_since journal state doubt → doubt ≡ None → journal.in_doubt ≡ false
+  calm-kept journal state None keeps none = keeps.2.calm
+  calm-kept journal state (Some other) keeps none = absurd (cc)
+
+  none-kept : (journal : OpenJournal D) (state : State) (doubt : Option State)
+      → Keeps time left_since journal state doubt → journal.in_doubt ≡ false → doubt ≡ None
+  none-kept journal state None keeps calm = refl
+  none-kept journal state (Some other) keeps calm = absurd (differ journal.in_doubt keeps.4.doubt calm)
+
+  module _ (old new : OpenJournal D) (state now : State) (calls : List Call) (call : Call) (doubt later : Option State)
+      (kept : Keeps time left_since old state doubt) (keeps : Keeps time left_since new now later)
+      (calm : calls ≡ [] → old.in_doubt ≡ false) where
+    -- where no call is in doubt after an answer, the journal is in no doubt then
+    pub calm-more : (given : Answer) → DoubtAfter state doubt call given later
+        → in_doubt_after calls call given ≡ [] → new.in_doubt ≡ false
+    calm-more (Done reply) after none =
+        elim (cases_Bool (is_change reply)) [
+          | inl changed ↦
+              calm-kept new now later keeps (after ∙ ap (λ b. if b then None else doubt) changed)
+          | inr still ↦
+              let before : calls ≡ [] = sym (ap (λ b. if b then [] else calls) still) ∙ none in
+              calm-kept new now later keeps
+              (after ∙ ap (λ b. if b then None else doubt) still ∙ none-kept old state doubt kept (calm before))
+        ]
+    calm-more (Refused Memory) after none =
+        calm-kept new now later keeps (after ∙ none-kept old state doubt kept (calm none))
+    calm-more (Refused Disk) after none = absurd (not-empty calls call none)
+    calm-more (Refused (JournalFull told needs most)) after none = calm-kept new now later keeps after
