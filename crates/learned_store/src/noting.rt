@@ -31,8 +31,8 @@ pub struct NoDesk<D> {
 }
 
 /// A store and the history of what it answers. `N` names what it was opened with. Its type keeps what the history and
-/// the disk stand for: each answer is legal at its place, and had room in the learned file as far as it tells of it; and
-/// at each moment since the opening what a stop might have left is opened as a state that a part of the history may
+/// the disk stand for: each answer is legal at its place, and had room in the learned file, as far as it tells of that;
+/// and at each moment since the opening what a stop might have left is opened as a state that a part of the history may
 /// leave, which has each entry that was made by then.
 #[derive(Drop)]
 pub struct Noting<D: Disk, N: LearnedName> {

@@ -1,5 +1,6 @@
 -- What is said of a result.
-use Rattle.std.proofs.Common.{◌≡◌, ℕ, Option, List, [], Result, Ok, Err, OnErr, OnOk, IfOk, IfErr, IsErrAnd, sym, subst, append-nil}
+use Rattle.std.proofs.Common.{◌≡◌, ℕ, Option, List, [], Result, Ok, Err, OnErr, OnOk, IfOk, IfErr, IsErrAnd, sym}
+use Rattle.std.proofs.Common.{subst, append-nil}
 use Rattle.std.specs.Io.KnownBytes.{Appends}
 use Rattle.skk_outside.specs.Written.{AppendsPrefix}
 

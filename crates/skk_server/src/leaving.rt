@@ -116,7 +116,8 @@ impl<L: Link, C: Caller, S: Kept> Hall<L, C, S> {
         ensures slip { (slip : _) × (self.new.passes.items ≡ self.old.passes.items ++ slip ∷ [])
             × (S.number slip ≡ C.number worked.pass) × (S.said slip ≡ C.said worked.pass) }
         ensures ends { self.new.ends.items ≡ self.old.ends.items ++ worked.end ∷ [] }
-        ensures gives_back { GivesBack (seen_listener N.coming N.over N.out N.opened N.faults) net.old net.new worked.link }
+        ensures gives_back { GivesBack (seen_listener N.coming N.over N.out N.opened N.faults)
+            net.old net.new worked.link }
         ensures works { self.new.works ≡ self.old.works }
         ensures running { self.new.running ≡ self.old.running }
         ensures passes_kept { vec_capacity self.new.passes ≡ vec_capacity self.old.passes }

@@ -18,10 +18,10 @@ use std::sync::Wait;
 use std::thread::{Scope, Threads, scope, scope_env};
 
 /// Serves the connections that come to a listener, up to so many, each by a caller of its own that an office admits,
-/// and in a thread of its own where one can be started, else in this one. At most 32 are served at once: where there are
-/// as many, one of them must have ended before the next is accepted. A link for which there is no memory for a caller is
-/// closed, and no more are accepted then. Waits until all have ended. Every link that was accepted was then closed and
-/// given back, in the order in which they came.
+/// and in a thread of its own where one can be started, else in this one. At most 32 are served at once: where there
+/// are as many, one of them must have ended before the next is accepted. A link for which there is no memory for a
+/// caller is closed, and no more are accepted then. Waits until all have ended. Every link that was accepted was then
+/// closed and given back, in the order in which they came.
 pub fn serve_all<
     R: Threads + Wait + Sync,
     N: Listener<Link: Send + Drop>,

@@ -22,7 +22,8 @@ returns-in-Err-clause-serves g c =
     let said = g.C.Caller.said in
     so-far-ends c.args.rules.now g.K.Outside.left g.K.Outside.written g.K.Outside.faults c.args.link.now
     c.loop-connection.link c.take_turn.new.link (said c.args.caller.now) (said c.loop-connection.caller)
-    (said c.take_turn.new.caller) c.loop-connection.connection.responder.talk c.loop-connection.connection.taken c.in-Err.end
+    (said c.take_turn.new.caller) c.loop-connection.connection.responder.talk c.loop-connection.connection.taken
+    c.in-Err.end
     c.loop-connection.invariant.0 c.in-Err.ensures.err
 
 pub loop-connection-preserved : goal.loop-connection-preserved
@@ -41,6 +42,7 @@ pub returns-clause-serves : goal.returns-clause-serves
 returns-clause-serves g c =
     so-far-limit c.args.rules.now
     (moved_link g.K.Outside.left g.K.Outside.written g.K.Outside.faults c.args.link.now c.loop-connection.link)
-    (g.C.Caller.said c.args.caller.now) (g.C.Caller.said c.loop-connection.caller) c.loop-connection.connection.responder.talk
+    (g.C.Caller.said c.args.caller.now) (g.C.Caller.said c.loop-connection.caller)
+    c.loop-connection.connection.responder.talk
     c.loop-connection.connection.taken c.bytes_lead_a_typist.ensures.talk c.loop-connection.invariant.0
     c.loop-connection-test.false

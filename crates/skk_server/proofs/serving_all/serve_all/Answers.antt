@@ -9,7 +9,8 @@ returns-in-Err-clause-serves g c =
     (seen_listener g.N.Listener.coming g.N.Listener.over g.N.Listener.out g.N.Listener.opened g.N.Outside.faults)
     (seen_link g.N.Link.Outside.left g.N.Link.Outside.written g.N.Link.Outside.faults g.N.Link.Link.closed)
     (seen_caller g.W.Slip.Kept.number g.W.Slip.Kept.said) c.args.connections c.args.net.now
-    (g.W.Office.drawn c.args.roll.now) c.none_served-in-Err.result c.none_served-in-Err.ensures.none.0 c.none_served-in-Err.ensures.none.1
+    (g.W.Office.drawn c.args.roll.now) c.none_served-in-Err.result c.none_served-in-Err.ensures.none.0
+    c.none_served-in-Err.ensures.none.1
     c.none_served-in-Err.ensures.none.2 c.none_served-in-Err.ensures.done c.none_served-in-Err.ensures.memory
 
 pub returns-in_default-clause-serves : goal.returns-in_default-clause-serves

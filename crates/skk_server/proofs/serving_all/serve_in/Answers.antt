@@ -6,14 +6,16 @@ use Rattle.skk_server.proofs.Stages.{stage-new, stage-served, ends-stay}
 
 pub take_all-end-requires-clause-stage : goal.take_all-end-requires-clause-stage
 take_all-end-requires-clause-stage g c κs within =
-    stage-new (seen_listener g.N.Listener.coming g.N.Listener.over g.N.Listener.out g.N.Listener.opened g.N.Outside.faults)
+    stage-new (seen_listener g.N.Listener.coming g.N.Listener.over g.N.Listener.out g.N.Listener.opened
+    g.N.Outside.faults)
     (seen_link g.L.Outside.left g.L.Outside.written g.L.Outside.faults g.L.Link.closed)
     (seen_caller g.C.Caller.number g.C.Caller.said) (seen_caller g.S.Kept.number g.S.Kept.said) c.args.start
     c.args.rules.now c.args.net.now (g.W.Office.drawn c.args.roll.now) c.args.hall c.requires.opens
 
 pub returns-clause-serves : goal.returns-clause-serves
 returns-clause-serves g c =
-    let nets = seen_listener g.N.Listener.coming g.N.Listener.over g.N.Listener.out g.N.Listener.opened g.N.Outside.faults in
+    let nets = seen_listener g.N.Listener.coming g.N.Listener.over g.N.Listener.out g.N.Listener.opened
+    g.N.Outside.faults in
     let taken = c.take_all-end.ensures in
     let seen_off = c.see_all_off.ensures in
     let hall = c.see_all_off.new.self in

@@ -7,14 +7,16 @@ use Rattle.skk_server.proofs.Stages.{stage-joins, counts-join}
 
 pub see_ended_off-requires-clause-stage : goal.see_ended_off-requires-clause-stage
 see_ended_off-requires-clause-stage g c =
-    stage-joins (seen_listener g.N.Listener.coming g.N.Listener.over g.N.Listener.out g.N.Listener.opened g.N.Outside.faults)
+    stage-joins (seen_listener g.N.Listener.coming g.N.Listener.over g.N.Listener.out g.N.Listener.opened
+    g.N.Outside.faults)
     (seen_link g.L.Outside.left g.L.Outside.written g.L.Outside.faults g.L.Link.closed)
     (seen_caller g.C.Caller.number g.C.Caller.said) (seen_caller g.S.Kept.number g.S.Kept.said)
     c.args.start.now c.args.net.now c.args.self.now c.join_ended.new.self c.join_ended.ensures.joins c.requires.stage
 
 pub returns-in_err-reserve-clause-counts : goal.returns-in_err-reserve-clause-counts
 returns-in_err-reserve-clause-counts g c =
-    let joined = counts-join (seen_listener g.N.Listener.coming g.N.Listener.over g.N.Listener.out g.N.Listener.opened g.N.Outside.faults)
+    let joined = counts-join (seen_listener g.N.Listener.coming g.N.Listener.over g.N.Listener.out g.N.Listener.opened
+    g.N.Outside.faults)
     (seen_link g.L.Outside.left g.L.Outside.written g.L.Outside.faults g.L.Link.closed)
     (seen_caller g.C.Caller.number g.C.Caller.said) (seen_caller g.S.Kept.number g.S.Kept.said)
     c.args.start.now c.args.self.now c.join_ended.new.self c.join_ended.ensures.joins in
@@ -25,7 +27,8 @@ returns-in_err-reserve-clause-counts g c =
 
 pub returns-in_err-reserve-2-clause-counts : goal.returns-in_err-reserve-2-clause-counts
 returns-in_err-reserve-2-clause-counts g c =
-    let joined = counts-join (seen_listener g.N.Listener.coming g.N.Listener.over g.N.Listener.out g.N.Listener.opened g.N.Outside.faults)
+    let joined = counts-join (seen_listener g.N.Listener.coming g.N.Listener.over g.N.Listener.out g.N.Listener.opened
+    g.N.Outside.faults)
     (seen_link g.L.Outside.left g.L.Outside.written g.L.Outside.faults g.L.Link.closed)
     (seen_caller g.C.Caller.number g.C.Caller.said) (seen_caller g.S.Kept.number g.S.Kept.said)
     c.args.start.now c.args.self.now c.join_ended.new.self c.join_ended.ensures.joins in
@@ -36,7 +39,8 @@ returns-in_err-reserve-2-clause-counts g c =
 
 pub returns-in_err-reserve-3-clause-counts : goal.returns-in_err-reserve-3-clause-counts
 returns-in_err-reserve-3-clause-counts g c =
-    let joined = counts-join (seen_listener g.N.Listener.coming g.N.Listener.over g.N.Listener.out g.N.Listener.opened g.N.Outside.faults)
+    let joined = counts-join (seen_listener g.N.Listener.coming g.N.Listener.over g.N.Listener.out g.N.Listener.opened
+    g.N.Outside.faults)
     (seen_link g.L.Outside.left g.L.Outside.written g.L.Outside.faults g.L.Link.closed)
     (seen_caller g.C.Caller.number g.C.Caller.said) (seen_caller g.S.Kept.number g.S.Kept.said)
     c.args.start.now c.args.self.now c.join_ended.new.self c.join_ended.ensures.joins in
@@ -47,7 +51,8 @@ returns-in_err-reserve-3-clause-counts g c =
 
 pub returns-clause-counts : goal.returns-clause-counts
 returns-clause-counts g c =
-    let joined = counts-join (seen_listener g.N.Listener.coming g.N.Listener.over g.N.Listener.out g.N.Listener.opened g.N.Outside.faults)
+    let joined = counts-join (seen_listener g.N.Listener.coming g.N.Listener.over g.N.Listener.out g.N.Listener.opened
+    g.N.Outside.faults)
     (seen_link g.L.Outside.left g.L.Outside.written g.L.Outside.faults g.L.Link.closed)
     (seen_caller g.C.Caller.number g.C.Caller.said) (seen_caller g.S.Kept.number g.S.Kept.said)
     c.args.start.now c.args.self.now c.join_ended.new.self c.join_ended.ensures.joins in

@@ -13,7 +13,8 @@ invariant-loop g l = record {
   counts : CountsStay l.fn.self l.self;
   coming : g.N.Listener.coming l.net ≡ g.N.Listener.coming l.fn.net;
   faults : g.N.Outside.faults l.net ≡ g.N.Outside.faults l.fn.net;
-  stage : Stage (seen_listener g.N.Listener.coming g.N.Listener.over g.N.Listener.out g.N.Listener.opened g.N.Outside.faults)
+  stage : Stage (seen_listener g.N.Listener.coming g.N.Listener.over g.N.Listener.out g.N.Listener.opened
+      g.N.Outside.faults)
       (seen_link g.L.Outside.left g.L.Outside.written g.L.Outside.faults g.L.Link.closed)
       (seen_caller g.C.Caller.number g.C.Caller.said) (seen_caller g.S.Kept.number g.S.Kept.said)
       l.start l.net l.self;

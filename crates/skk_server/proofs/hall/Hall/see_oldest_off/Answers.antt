@@ -20,7 +20,8 @@ returns-in-Running-clause-stage g c =
     let is = c.in-Some.ensures.items ∙ ap (λ work. work ∷ works) c.in-Running.is in
     let way = subst (λ items. AreUnderWay start.rules.value links callers
     (start.first + length hall.passes.items) items) is c.requires.stage.under_way in
-    stage-worked (seen_listener g.N.Listener.coming g.N.Listener.over g.N.Listener.out g.N.Listener.opened g.N.Outside.faults) links callers
+    stage-worked (seen_listener g.N.Listener.coming g.N.Listener.over g.N.Listener.out g.N.Listener.opened
+    g.N.Outside.faults) links callers
     (seen_caller g.S.Kept.number g.S.Kept.said) start c.args.net.now c.part_from.new.net hall c.part_from.new.self
     (Running handle was) works was c.join.result.link c.join.result.pass c.join.result.end slip.0 c.requires.stage is
     refl way.0.0
@@ -41,7 +42,8 @@ returns-in-Done-clause-stage g c =
     let is = c.in-Some.ensures.items ∙ ap (λ work. work ∷ works) c.in-Done.is in
     let way = subst (λ items. AreUnderWay start.rules.value links callers
     (start.first + length hall.passes.items) items) is c.requires.stage.under_way in
-    stage-worked (seen_listener g.N.Listener.coming g.N.Listener.over g.N.Listener.out g.N.Listener.opened g.N.Outside.faults) links callers
+    stage-worked (seen_listener g.N.Listener.coming g.N.Listener.over g.N.Listener.out g.N.Listener.opened
+    g.N.Outside.faults) links callers
     (seen_caller g.S.Kept.number g.S.Kept.said) start c.args.net.now c.part_from-in-Done.new.net hall
     c.part_from-in-Done.new.self (Done worked c.in-Done._was) works c.in-Done._was worked.link worked.pass
     worked.end slip.0 c.requires.stage is refl way.0.0 way.0.1 slip.2 slip.3 c.part_from-in-Done.ensures.gives_back
@@ -59,7 +61,8 @@ returns-in-Refused-clause-stage g c =
     let is = c.in-Some.ensures.items ∙ ap (λ work. work ∷ works) c.in-Refused.is in
     let way = subst (λ items. AreUnderWay start.rules.value links callers
     (start.first + length hall.passes.items) items) is c.requires.stage.under_way in
-    stage-refused (seen_listener g.N.Listener.coming g.N.Listener.over g.N.Listener.out g.N.Listener.opened g.N.Outside.faults) links
+    stage-refused (seen_listener g.N.Listener.coming g.N.Listener.over g.N.Listener.out g.N.Listener.opened
+    g.N.Outside.faults) links
     callers (seen_caller g.S.Kept.number g.S.Kept.said) start c.args.net.now c.give_back.new.net hall
     c.give_back.new.self works (Refused link was) was.value link c.requires.stage is refl way.0.0 way.0.1
     c.give_back.ensures.gives_back (ap (λ left. left.items) c.give_back.ensures.works) c.give_back.ensures.passes

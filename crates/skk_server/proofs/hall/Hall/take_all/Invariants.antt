@@ -12,7 +12,8 @@ invariant-loop g l = record {
   accepted : accepted_in l.self ≡ l.counter;
   passes : passes_in l.self ≡ l.counter;
   places : HasPlaces l.self;
-  stage : Stage (seen_listener g.N.Listener.coming g.N.Listener.over g.N.Listener.out g.N.Listener.opened g.N.Outside.faults)
+  stage : Stage (seen_listener g.N.Listener.coming g.N.Listener.over g.N.Listener.out g.N.Listener.opened
+      g.N.Outside.faults)
       (seen_link g.L.Outside.left g.L.Outside.written g.L.Outside.faults g.L.Link.closed)
       (seen_caller g.C.Caller.number g.C.Caller.said) (seen_caller g.S.Kept.number g.S.Kept.said)
       l.start l.net l.self;
