@@ -68,7 +68,8 @@ impl<'s, L: Link + Send + Drop + 's, C: Caller + Send + Drop + 's, S: Kept> Hall
         ServedEnd::Done
     }
 
-    // Takes a connection in, when one under way has ended where there are as many as may be. An end is told as an error.
+    // Takes a connection in, when one under way has ended where there are as many as may be. An end is told as an
+    // error.
     fn take_one<
         E,
         R: Threads + Wait + Sync,
@@ -102,8 +103,8 @@ impl<'s, L: Link + Send + Drop + 's, C: Caller + Send + Drop + 's, S: Kept> Hall
         ensures one_more { accepted_in self.new ≤ accepted_in self.old + 1 }
         ensures ok { OnOk result ((accepted_in self.new ≡ accepted_in self.old + 1)
             × (passes_in self.new ≡ passes_in self.old + 1)) }
-        ensures err { IfErr result (λ end. EndsTaking (seen_listener N.coming N.over N.out N.opened N.faults) net.old net.new
-            self.old self.new end) }
+        ensures err { IfErr result (λ end. EndsTaking (seen_listener N.coming N.over N.out N.opened N.faults)
+            net.old net.new self.old self.new end) }
         ensures places { HasPlaces self.new }
         ensures stage { Stage (seen_listener N.coming N.over N.out N.opened N.faults)
             (seen_link L.left L.written L.faults L.closed) (seen_caller C.number C.said) (seen_caller S.number S.said)
@@ -190,8 +191,10 @@ impl<'s, L: Link + Send + Drop + 's, C: Caller + Send + Drop + 's, S: Kept> Hall
 
 // Accepts a link. An end is told as an error.
 fn accept<N: Listener>(net: &mut N) -> Result<N::Link, ServedEnd>
-    ensures ok { IfOk result (λ link. TakesLink (seen_listener N.coming N.over N.out N.opened N.faults) net.old net.new link) }
-    ensures err { IfErr result (λ end. TakesNone (seen_listener N.coming N.over N.out N.opened N.faults) net.old net.new end) }
+    ensures ok { IfOk result (λ link. TakesLink (seen_listener N.coming N.over N.out N.opened N.faults)
+        net.old net.new link) }
+    ensures err { IfErr result (λ end. TakesNone (seen_listener N.coming N.over N.out N.opened N.faults)
+        net.old net.new end) }
 {
     match net.accept() {
         Ok(Some(link)) => Ok(link),
