@@ -1,12 +1,13 @@
 -- What runs leave of the disk, of what their parts leave.
-use Rattle.std.proofs.Common.{◌≡◌, inl, inr, sym, ◌∙◌, ap, subst, refl, arith, ℕ, ◌<◌, ◌≤◌, true, List, [], ◌∷◌, length}
-use Rattle.std.proofs.Common.{None}
+use Rattle.std.proofs.Common.{◌≡◌, inl, inr, sym, ◌∙◌, ap, subst, refl, arith, ℕ, ◌<◌, ◌≤◌, true, false, List, [], ◌∷◌}
+use Rattle.std.proofs.Common.{length}
+use Rattle.std.proofs.lemmas.Bool.{cases_Bool}
 use Rattle.std.proofs.lemmas.List.Elements.{All-nil}
 use Rattle.skk_calls.specs.declared.chronicle.Noted.{Noted}
 use Rattle.skk_calls.specs.Chronicles.{history_of}
 use Rattle.skk_calls.specs.Histories.{Opening, state_after}
 use Rattle.skk_calls.specs.Rows.{Row}
-use Rattle.skk_calls.specs.States.{State}
+use Rattle.skk_calls.specs.States.{State, empty_state}
 use Rattle.skk_disk.specs.Image.{Image}
 use Rattle.skk_disk.specs.Moments.{Passes, SameImages, Earlier}
 use Rattle.skk_disk.specs.MomentLaws.{passes_nothing}
@@ -16,12 +17,14 @@ use Rattle.skk_journal.specs.Opening.{is_fresh, IsOpened, with_records, OpensAtO
 use Rattle.skk_journal.specs.declared.fault.OpenFault.{OpenFault}
 use Rattle.skk_journal.specs.declared.fault.OpenFault.TheVariants as opening
 use Rattle.skk_outside.specs.Faults.{Rose}
-use Rattle.learned_store.specs.Recovered.{Recovery, IsRecovered, with_state, IsRefused, RecoversAtOnce}
-use Rattle.learned_store.specs.Stores.{OpenStore, opening_now, Keeps, Recovers}
+use Rattle.skk_journal.specs.Causes.{UnlessDisk}
+use Rattle.learned_store.specs.Recovered.{Recovery, with_state, foreign, refused, IsRecovered, IsRefused}
+use Rattle.learned_store.specs.Recovered.{IsOpenedWith, RecoversAtOnce}
+use Rattle.learned_store.specs.Stores.{OpenStore, opening_now, Recovers}
 use Rattle.learned_store.specs.Stands.{time_of, faults_of, left_behind, RecoversBy, StandsOver, RecoverAmong, GoOn}
 use Rattle.learned_store.specs.Stands.{Stands}
 use Rattle.skk_top.specs.Disks.{DiskNow, MovedDisk, moved_disk, disk_now, RefusesLearned, IsOpening, KeepsDisk}
-use Rattle.skk_top.specs.Disks.{RunsOver, StandsSince}
+use Rattle.skk_top.specs.Disks.{RunsOver, StandsSince, IsAsItWas}
 use Rattle.skk_top.specs.Status.{Ended, fault_of_opening}
 use Rattle.skk_top.specs.Finishes.{finish_of}
 use Rattle.skk_top.specs.declared.finish.Finish.{Finish}
@@ -84,18 +87,18 @@ module _ {D : Type 0} (tells : Type 0) (seen : D → Image) (time faults : D →
     (one_way : (file : List ℕ) (one two : Recovery) → IsRecovered file one → IsRecovered file two → one ≡ two)
     (old mid new : D) (opened : State) (chronicle : List Noted) where
   -- the learned file was opened, and a run went on
-  pub stands-opened : (tells → IsRecovered (seen old).a (with_state opened))
+  pub stands-opened : {end : ℕ} → IsOpenedWith tells (seen old).a opened end
       → Passes (time old) (time mid) (left_since old) (left_since mid)
       → ((state : State) (file : List ℕ) → Each (left_since old (time old)) (λ image. image.a ≡ file)
       → RecoversAtOnce file state → Each (left_since mid (time old)) (Recovers state))
       → RunsOver opened chronicle (disk_now time faults left_since mid) (disk_now time faults left_since new)
       → StandsSince chronicle (moved_disk tells seen time faults left_since old new)
-  stands-opened is passes opens runs state file same at_once moment image from to left =
+  stands-opened {end} is passes opens runs state file same at_once moment image from to left =
       let told = tells_images new moment image left in
       let here : (seen old).a ≡ file = same (seen old) (reads_image old told) in
       let one : with_state opened ≡ with_state state =
       one_way file (with_state opened) (with_state state)
-      (subst (λ (bytes : List ℕ). IsRecovered bytes (with_state opened)) here (is told))
+      (subst (λ (bytes : List ℕ). IsRecovered bytes (with_state opened)) here (is.records, is.told told, is.leave))
       (recovered-at-once file state at_once) in
       let equal : opened ≡ state = cc one in
       subst (λ (s : State). RecoversBy s chronicle moment image) equal
@@ -129,6 +132,7 @@ keeps-closed time faults left_since opening past notes store stands now = record
   now = subst (λ (s : State). RecoverAmong s (left_behind opening.state notes)
       (left_since store.journal.disk (time store.journal.disk))) stands.state now;
   goes_on = stands.goes_on;
+  fits = stands.fits;
 }
 
 -- what the callers of a desk leave of the disk, which is closed then
@@ -143,15 +147,45 @@ keeps-desk {D} time faults left_since opening past notes left store is stands no
       stands.moments;
   now = now;
   goes_on = subst (λ (d : D). GoOn opening.time opening.faults notes (time d) (faults d)) (sym is) stands.goes_on;
+  fits = stands.fits;
 }
 
--- why a learned file is not had, by why it was not opened
-pub refuses-learned : (disk : MovedDisk) (why : OpenFault) → (disk.tells → IsRefused disk.seen.a why)
-    → (why ≡ opening.Disk → Rose disk.before.faults disk.after.faults) → RefusesLearned disk (fault_of_opening why)
-refuses-learned disk opening.Disk refused failed = failed refl
-refuses-learned disk (opening.NotJournal first) refused failed = refused
-refuses-learned disk (opening.BadRecord at before) refused failed = λ told. ((refused told).0, refl)
-refuses-learned disk opening.Memory refused failed = tt
+module _ (one_way : (file : List ℕ) (one two : Recovery) → IsRecovered file one → IsRecovered file two → one ≡ two)
+  where
+    -- a file that is refused is not made anew
+    foreign-kept : (file : List ℕ) (first : ℕ) → IsRecovered file (foreign first) → is_fresh file ≡ false
+    foreign-kept file first is = elim (cases_Bool (is_fresh file)) [
+      | inl fresh ↦
+          let same : with_state empty_state ≡ foreign first =
+          one_way file (with_state empty_state) (foreign first) ([], inr (refl, fresh), refl) is in
+          absurd (cc same)
+      | inr kept ↦ kept
+    ]
+
+    refused-kept : (file : List ℕ) (at : ℕ) → IsRecovered file (refused at) → is_fresh file ≡ false
+    refused-kept file at is = elim (cases_Bool (is_fresh file)) [
+      | inl fresh ↦
+          let same : with_state empty_state ≡ refused at =
+          one_way file (with_state empty_state) (refused at) ([], inr (refl, fresh), refl) is in
+          absurd (cc same)
+      | inr kept ↦ kept
+    ]
+
+    -- why a learned file is not had, by why it was not opened
+    pub refuses-learned : (disk : MovedDisk) (why : OpenFault) → (disk.tells → IsRefused disk.seen.a why)
+        → (why ≡ opening.Disk → Rose disk.before.faults disk.after.faults)
+        → (disk.tells → is_fresh disk.seen.a ≡ false
+        → Each (disk.after.left_since disk.before.time) (disk.before.left_since disk.before.time))
+        → (disk.tells → is_fresh disk.seen.a ≡ false → UnlessDisk why (disk.seen' ≡ disk.seen))
+        → RefusesLearned disk (fault_of_opening why)
+    refuses-learned disk opening.Disk is failed images seen = failed refl
+    refuses-learned disk (opening.NotJournal first) is failed images seen = λ told.
+        let kept = foreign-kept disk.seen.a first (is told) in
+        (is told, record { seen = seen told kept; images = images told kept })
+    refuses-learned disk (opening.BadRecord at before) is failed images seen = λ told.
+        let kept = refused-kept disk.seen.a at (is told).0 in
+        (((is told).0, refl), record { seen = seen told kept; images = images told kept })
+    refuses-learned disk opening.Memory is failed images seen = tt
 
 pub counted-on : (time faults : ℕ) (notes : List Noted) (last_time last_faults : ℕ)
     → GoOn time faults notes last_time last_faults → faults ≤ last_faults
@@ -198,16 +232,15 @@ module _ {D : Type 0} (tells : Type 0) (seen : D → Image) (time faults : D →
 
   -- a learned file was opened so
   pub opened-so : (old new : D) (store : OpenStore D) (books : List (List Row)) (most : ℕ) → store.files ≡ books
-      → store.limit ≡ most → (tells → IsRecovered (seen old).a (with_state store.state))
+      → store.limit ≡ most → IsOpenedWith tells (seen old).a store.state store.journal.end
       → Passes (time old) (time store.journal.disk) (left_since old) (left_since store.journal.disk)
-      → faults old ≤ faults store.journal.disk → Keeps time left_since store.journal store.state None
+      → faults old ≤ faults store.journal.disk
       → IsOpening (moved_disk tells seen time faults left_since old new) books most (opening_now time faults store)
-  opened-so old new store books most files limit is passes counted keeps =
+  opened-so old new store books most files limit is passes counted =
       record {
         files = files;
         limit = limit;
-        state = is;
-        end = (keeps.0, keeps.1, keeps.2.end);
+        opened = is;
         later = passes.later;
         counted = counted;
       }

@@ -1,11 +1,12 @@
 -- Why runs end, at small examples, each worked out by hand.
-use Rattle.std.proofs.Common.{◌≡◌, ℕ, None, Some, List, [], ◌∷◌, inl, inr, refl}
+use Rattle.std.proofs.Common.{◌≡◌, ◌⊎◌, ℕ, None, Some, List, [], ◌∷◌, inl, inr, ap, refl}
 use Rattle.std.proofs.Common.{length, arith, lit≤}
 use Rattle.skk_text.specs.Lines.{lines_of}
+use Rattle.skk_disk.specs.Image.{Image}
 use Rattle.skk_outside.specs.Moved.{MovedShelf, MovedSource, MovedSink}
 use Rattle.romaji_rules.specs.Standard.{standard}
 use Rattle.skk_top.specs.Dictionaries.{HasDictionaryFlaw, IsFirst, RefusesDictionaries, AreRowsOf}
-use Rattle.skk_top.specs.Disks.{MovedDisk}
+use Rattle.skk_top.specs.Disks.{MovedDisk, IsAsItWas, RefusesLearned}
 use Rattle.skk_top.specs.Finishes.{HasFailed}
 use Rattle.skk_top.specs.Page.{StopsPrinting}
 use Rattle.skk_top.specs.RunFiles.{HasTextFlaw, IsLonger, RefusesBytes, RefusesFile}
@@ -15,6 +16,7 @@ use Rattle.skk_top.specs.NamedFiles.{RefusesFiles}
 use Rattle.skk_top.specs.TypeCommand.{HasScriptFlaw}
 use Rattle.skk_top.proofs.Dictionaries.{are_dictionaries}
 use Rattle.skk_top.specs.declared.fault.RunFault.TheVariants.{Words, Refused, Outside, Memory, JournalFull}
+use Rattle.skk_top.specs.declared.fault.RunFault.TheVariants.{NotJournal, BadRecord}
 use Rattle.skk_top.specs.declared.run_file.Flaw.TheVariants.{TooLong, Byte, Line}
 use Rattle.skk_top.specs.declared.run_file.RunFile.TheVariants.{Script, Rules, Dictionary}
 
@@ -141,6 +143,7 @@ abbrev disk : ℕ → MovedDisk
 disk faults = record {
   tells = ⊥;
   seen = record { a = []; b = [] };
+  seen' = record { a = []; b = [] };
   before = record { time = 0; faults = 3; left_since = λ time image. ⊥ };
   after = record { time = 0; faults = faults; left_since = λ time image. ⊥ };
   is_untouched = ⊥;
@@ -152,3 +155,39 @@ none_failed h = omega (arith, h)
 each_failed : HasFailed (shelf 4) (source 3) sound (disk 3) × HasFailed (shelf 3) (source 4) sound (disk 3)
     × HasFailed (shelf 3) (source 3) failed (disk 3) × HasFailed (shelf 3) (source 3) sound (disk 4)
 each_failed = (inl (lit≤ tt), inr (inl (lit≤ tt)), inr (inr (inl (lit≤ tt))), inr (inr (inr (lit≤ tt))))
+
+-- a disk of two moments, which at the first one has empty files, with what a read gives at the second one and what a
+-- stop since a moment might have left by then
+abbrev empty : Image
+empty = record { a = []; b = [] }
+
+abbrev other : Image
+other = record { a = 1 ∷ []; b = [] }
+
+abbrev moved : Image → (ℕ → Image → Type 0) → MovedDisk
+moved seen left = record {
+  tells = Unit {0};
+  seen = empty;
+  seen' = seen;
+  before = record { time = 2; faults = 0; left_since = λ time image. image ≡ empty };
+  after = record { time = 4; faults = 0; left_since = left };
+  is_untouched = ⊥;
+}
+
+not_empty : ¬ (other ≡ empty)
+not_empty is = let files : other.a ≡ empty.a = ap (λ (image : Image). image.a) is in cc
+
+-- it is as it was where a read gives the same, and nothing more might have been left since the first moment
+as_it_was : IsAsItWas (moved empty (λ time image. image ≡ empty))
+    × (¬ IsAsItWas (moved other (λ time image. image ≡ empty)))
+    × (¬ IsAsItWas (moved empty (λ time image. (image ≡ empty) ⊎ ((time ≡ 2) × (image ≡ other)))))
+as_it_was = (
+  record { seen = refl; images = λ image left. left },
+  λ is. not_empty is.seen,
+  λ is. not_empty (is.images other (inr (refl, refl))),
+)
+
+-- a learned file that is refused is as it was
+refused_kept : (¬ RefusesLearned (moved other (λ time image. image ≡ empty)) (NotJournal 80))
+    × (¬ RefusesLearned (moved other (λ time image. image ≡ empty)) (BadRecord 9))
+refused_kept = (λ is. not_empty (is tt).1.seen, λ is. not_empty (is tt).1.seen)

@@ -11,8 +11,8 @@ use Rattle.skk_journal.specs.declared.fault.OpenFault.TheVariants as opening
 use Rattle.skk_disk.specs.Moments.{Passes}
 use Rattle.skk_disk.specs.Steps.{ComeFrom}
 use Rattle.skk_journal.specs.Images.{Each, SameOther}
-use Rattle.skk_journal.specs.Records.{end_of}
-use Rattle.learned_store.specs.Recovered.{Leave, IsRecovered, with_state, IsRefused, RecoversAtOnce}
+use Rattle.learned_store.specs.Limits.{AllHadRoom}
+use Rattle.learned_store.specs.Recovered.{IsOpenedWith, IsRefused, RecoversAtOnce}
 use Rattle.learned_store.specs.Stores.{Recovers}
 use Rattle.learned_store.specs.Stands.{RecoverAmong, left_behind, StandsOver, GoOn}
 use Rattle.skk_top.specs.declared.fault.RunFault.{RunFault}
@@ -29,10 +29,12 @@ abbrev pub disk_now : {D : Type 0} → (D → ℕ) → (D → ℕ) → (D → �
 disk_now time faults left_since disk =
     record { time = time disk; faults = faults disk; left_since = left_since disk }
 
--- a disk before and after: whether it tells what it holds, what a read gave of it before, and whether it is as it was
+-- a disk before and after: whether it tells what it holds, what a read gave of it before and gives now, and whether
+-- nothing was done to it
 pub record MovedDisk : Type 1 where
   pub tells : Type 0
   pub seen : Image
+  pub seen' : Image
   pub before : DiskNow
   pub after : DiskNow
   pub is_untouched : Type 0
@@ -43,41 +45,47 @@ abbrev pub moved_disk : {D : Type 0} → Type 0 → (D → Image) → (D → ℕ
 moved_disk tells seen time faults left_since old new = record {
   tells = tells;
   seen = seen old;
+  seen' = seen new;
   before = disk_now time faults left_since old;
   after = disk_now time faults left_since new;
   is_untouched = new ≡ old;
 }
 
--- why a learned file is not had: it is refused, by its first byte or its least bad place, as far as it is told, or a
--- call on the disk failed, or memory is out
+-- a disk is as it was: a read gives what it gave before, and a stop at a moment since leaves nothing that one before
+-- might not have left
+pub record IsAsItWas (disk : MovedDisk) : Type 0 where
+  pub seen : disk.seen' ≡ disk.seen
+  pub images : Each (disk.after.left_since disk.before.time) (disk.before.left_since disk.before.time)
+
+-- why a learned file is not had: it is refused, by its first byte or its least bad place, and is as it was, where the
+-- disk tells that, or a call on the disk failed, or memory is out
 abbrev pub RefusesLearned : MovedDisk → RunFault → Type 0
-RefusesLearned disk (NotJournal first) = disk.tells → IsRefused disk.seen.a (opening.NotJournal first)
-RefusesLearned disk (BadRecord at) = disk.tells → IsRefused disk.seen.a (opening.BadRecord at [])
+RefusesLearned disk (NotJournal first) =
+    disk.tells → IsRefused disk.seen.a (opening.NotJournal first) × IsAsItWas disk
+RefusesLearned disk (BadRecord at) = disk.tells → IsRefused disk.seen.a (opening.BadRecord at []) × IsAsItWas disk
 RefusesLearned disk Outside = Rose disk.before.faults disk.after.faults
 RefusesLearned disk Memory = ⊤
 RefusesLearned disk fault = ⊥
 
--- records that leave a state end so
-abbrev pub EndsBehind : State → ℕ → Type 0
-EndsBehind state end = (records : List (List ℕ)) × Leave records state × (end ≡ end_of records)
-
--- a dictionary over these files, whose learned file may have so many bytes, was opened so on a disk
+-- a dictionary over these files, whose learned file may have so many bytes, was opened so on a disk: where the disk
+-- tells, the records that the file has leave the state and end so
 pub record IsOpening (disk : MovedDisk) (books : List (List Row)) (most : ℕ) (opening : Opening) : Type 0 where
   pub files : opening.files ≡ books
   pub limit : opening.limit ≡ most
-  pub state : disk.tells → IsRecovered disk.seen.a (with_state opening.state)
-  pub end : EndsBehind opening.state opening.end
+  pub opened : IsOpenedWith disk.tells disk.seen.a opening.state opening.end
   pub later : disk.before.time ≤ opening.time
   pub counted : disk.before.faults ≤ opening.faults
 
 -- what the calls of a chronicle leave of the disk that they were made over: what a stop at a moment since the opening
 -- might have left is opened as a state that a part of the chronicle may leave, which has each entry that was made by
--- then; now, as the state behind it or one in doubt; and its times and counts of faults go on to those of the disk
+-- then; now, as the state behind it or one in doubt; its times and counts of faults go on to those of the disk; and
+-- each change that is done, or that the disk failed where no other was in doubt, had room in the learned file
 pub record KeepsDisk (opening : Opening) (chronicle : List Noted) (disk : DiskNow) : Type 0 where
   pub moments : StandsOver opening.state chronicle opening.time disk.time disk.left_since
   pub now : RecoverAmong (state_after opening.state (history_of chronicle)) (left_behind opening.state chronicle)
       (disk.left_since disk.time)
   pub goes_on : GoOn opening.time opening.faults chronicle disk.time disk.faults
+  pub fits : AllHadRoom opening (history_of chronicle)
 
 -- what a run leaves of a disk on which a dictionary was just opened with this state: what was so since a start before
 -- the opening goes on to be so

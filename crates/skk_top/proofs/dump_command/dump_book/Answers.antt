@@ -30,7 +30,7 @@ returns-in-Ok-open-clause-leaves g c =
       opening = opening_now D.time g.D.Outside.faults store;
       opened = opened-so D.tells D.seen D.time g.D.Outside.faults D.left_since c.args.disk c.close.result store [] _
           files c.in-Ok-open.ensures.limit c.in-Ok-open.ensures.opened c.in-Ok-open.ensures.past
-          c.in-Ok-open.ensures.counted c.in-Ok-open.ensures.keeps;
+          c.in-Ok-open.ensures.counted;
       printed = c.print_book-ended.ensures;
     }))
 
@@ -59,8 +59,10 @@ returns-in-Err-clause-leaves g c =
     (inl (record {
       cause = subst (RefusesLearned (moved_disk D.tells D.seen D.time g.D.Outside.faults D.left_since c.args.disk
           c.in-Err.unopened.disk)) (sym c.from.ensures)
-          (refuses-learned (moved_disk D.tells D.seen D.time g.D.Outside.faults D.left_since c.args.disk
-          c.in-Err.unopened.disk) c.in-Err.unopened.why c.in-Err.ensures.refused c.in-Err.ensures.failed);
+          (refuses-learned c.files_are_recovered_in_one_way.ensures.file
+          (moved_disk D.tells D.seen D.time g.D.Outside.faults D.left_since c.args.disk c.in-Err.unopened.disk)
+          c.in-Err.unopened.why c.in-Err.ensures.refused c.in-Err.ensures.failed c.in-Err.ensures.kept
+          c.in-Err.ensures.seen);
       uncalled = refl;
       unwritten = Keeps-self _;
     }))

@@ -27,7 +27,7 @@ returns-in-Ok-open-clause-opened g c run =
     let store = c.in-Ok-open.store in
     opened-so D.tells D.seen D.time g.D.Outside.faults D.left_since c.args.disk run.disk store load_files 268435456
     (c.in-Ok-open.ensures.files ∙ c.in-Ok.ensures) c.in-Ok-open.ensures.limit c.in-Ok-open.ensures.opened
-    c.in-Ok-open.ensures.past c.in-Ok-open.ensures.counted c.in-Ok-open.ensures.keeps
+    c.in-Ok-open.ensures.past c.in-Ok-open.ensures.counted
 
 pub returns-in-Ok-open-clause-stands : goal.returns-in-Ok-open-clause-stands
 returns-in-Ok-open-clause-stands g c run runs =
@@ -57,7 +57,8 @@ returns-in-Err-clause-ends g c out keeps =
     D.left_since c.args.disk r.disk)) r out) (sym c.without_calls-in-Err.ensures)
     (record {
       cause = subst (RefusesLearned disk) (sym c.from.ensures)
-          (refuses-learned disk c.in-Err.unopened.why c.in-Err.ensures.refused c.in-Err.ensures.failed);
+          (refuses-learned c.files_are_recovered_in_one_way.ensures.file disk c.in-Err.unopened.why
+          c.in-Err.ensures.refused c.in-Err.ensures.failed c.in-Err.ensures.kept c.in-Err.ensures.seen);
       uncalled = refl;
       unwritten = keeps;
     })

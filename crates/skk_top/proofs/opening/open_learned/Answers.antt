@@ -10,7 +10,7 @@ returns-in-Ok-clause-opened g c run =
     let D = g.D.Disk in
     opened-so D.tells D.seen D.time g.D.Outside.faults D.left_since c.args.disk run.disk c.in-Ok.store c.args.system
     c.args.limit c.in-Ok.ensures.files c.in-Ok.ensures.limit c.in-Ok.ensures.opened c.in-Ok.ensures.past
-    c.in-Ok.ensures.counted c.in-Ok.ensures.keeps
+    c.in-Ok.ensures.counted
 
 pub returns-in-Ok-clause-stands : goal.returns-in-Ok-clause-stands
 returns-in-Ok-clause-stands g c run runs =
@@ -39,7 +39,8 @@ returns-in-Err-clause-refused g c =
     (RefusesLearned (moved_disk D.tells D.seen D.time g.D.Outside.faults D.left_since c.args.disk r.disk)))
     (sym c.without_calls.ensures)
     (subst (RefusesLearned disk) (sym c.from.ensures)
-    (refuses-learned disk c.in-Err.unopened.why c.in-Err.ensures.refused c.in-Err.ensures.failed))
+    (refuses-learned c.files_are_recovered_in_one_way.ensures.file disk c.in-Err.unopened.why c.in-Err.ensures.refused
+    c.in-Err.ensures.failed c.in-Err.ensures.kept c.in-Err.ensures.seen))
 
 pub returns-in-Err-clause-ended_stands : goal.returns-in-Err-clause-ended_stands
 returns-in-Err-clause-ended_stands g c =
