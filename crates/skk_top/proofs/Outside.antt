@@ -29,6 +29,7 @@ use Rattle.skk_top.specs.WeaveCommand.{WeavesLines}
 use Rattle.skk_top.specs.declared.fault.RunFault.{RunFault}
 use Rattle.skk_top.specs.declared.fault.RunFault.TheVariants.{Outside, Memory}
 use Rattle.skk_top.specs.declared.finish.Run.{Run}
+use Rattle.skk_top.specs.declared.serving.Service.{Service}
 use Rattle.skk_top.proofs.Disks.{counted-on}
 
 -- what ends a run is its cause
@@ -145,19 +146,19 @@ module _ {D L : Type 0} (options : ServeOptions) (run : Run D) (shelf : MovedShe
   stopped (inr rose) = inr rose
 
   -- connections were served up to such an end
-  served : (asked : ℕ) (visits : List (Visit L)) (opening : Opening) → disk.before.faults ≤ opening.faults
+  served : (service : Service) (visits : List (Visit L)) (opening : Opening) → disk.before.faults ≤ opening.faults
       → (served : Ended)
       → ended_by served (with_want (list_any (λ (visit : Visit L). wants_memory visit.end) visits)
       (tally_of opening.state (history_of run.chronicle))) ≡ Err Outside
       → GoOn opening.time opening.faults run.chronicle disk.after.time disk.after.faults
-      → LeavesPort asked visits served out net → SomeFailed
-  served asked visits opening counted (Ok done) ends on port =
+      → LeavesPort service visits served out net → SomeFailed
+  served service visits opening counted (Ok done) ends on port =
       let refused = ended-for-disk (with_want (list_any (λ (visit : Visit L). wants_memory visit.end) visits)
       (tally_of opening.state (history_of run.chronicle))) ends in
       let rose = refused-rose opening.time opening.faults run.chronicle disk.after.time disk.after.faults on refused in
       inl (inr (inr (inr (omega (arith, counted, rose)))))
-  served asked visits opening counted (Err fault) ends on (inl lacks) = inr lacks.failed
-  served asked visits opening counted (Err fault) ends on (inr serves) =
+  served service visits opening counted (Err fault) ends on (inl lacks) = inr lacks.failed
+  served service visits opening counted (Err fault) ends on (inr serves) =
       let same : fault ≡ Outside = cc ends in stopped (subst (StopsServing out net) same serves.stopped)
 
   pub outside-served : LeavesServed options run shelf out net disk → SomeFailed
@@ -167,7 +168,8 @@ module _ {D L : Type 0} (options : ServeOptions) (run : Run D) (shelf : MovedShe
     | inr opened ↦ elim opened.served [
       | inl none ↦ let same : Outside ≡ Memory = caused run.ended Outside (λ fault. fault ≡ Memory) is none.0.cause in
           absurd (cc)
-      | inr left ↦ served options.connections left.visits opened.opening opened.opened.counted left.served
+      | inr left ↦ served (record { port = options.port; connections = options.connections }) left.visits
+          opened.opening opened.opened.counted left.served
           (sym left.ends ∙ is) left.kept.goes_on left.port
     ]
   ]

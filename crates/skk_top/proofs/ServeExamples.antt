@@ -1,5 +1,6 @@
 -- What a run of `serve` prints, why it stops and how it ends, at small examples, each worked out by hand.
-use Rattle.std.proofs.Common.{◌≡◌, ap, ℕ, Some, Ok, Err, List, [], ◌∷◌, length, get_or, inl, inr, refl, Bool, true}
+use Rattle.std.proofs.Common.{◌≡◌, ap, ℕ, None, Some, Ok, Err, List, [], ◌∷◌, length, get_or, inl, inr, refl, Bool}
+use Rattle.std.proofs.Common.{true}
 use Rattle.std.proofs.Common.{false, lit≤, arith}
 use Rattle.std.specs.Fmt.{digits}
 use Rattle.skk_outside.specs.Moved.{MovedSink}
@@ -12,6 +13,7 @@ use Rattle.skk_top.specs.ServeCommand.{MovedListener, ready_line, served_line, s
 use Rattle.skk_top.specs.ServeCommand.{ServesVisits, AreServedFrom, wants_memory}
 use Rattle.skk_top.specs.Status.{Ended, ended_by, with_want}
 use Rattle.skk_top.specs.declared.fault.RunFault.TheVariants.{Words, Outside, Memory, JournalFull}
+use Rattle.skk_top.specs.declared.serving.Service.{Service}
 
 -- both lines, with the number in decimal
 lines : (ready_line ≡ 114 ∷ 101 ∷ 97 ∷ 100 ∷ 121 ∷ 10 ∷ [])
@@ -48,7 +50,7 @@ causes : (ended_by done (with_want true (tally true true true)) ≡ Err Outside)
 causes = (refl, refl, refl, refl, refl, refl, refl)
 
 module _ {L : Type 0} (links : SeenLink L) (one two one' two' : L) where
-  -- a listener of two links, of which the first came and was given back, with these counts of faults
+  -- a listener on port 7 of two links, of which the first came and was given back, with these counts of faults
   abbrev net : ℕ → ℕ → MovedListener L
   net faults faults' = record {
     links = links;
@@ -58,6 +60,8 @@ module _ {L : Type 0} (links : SeenLink L) (one two one' two' : L) where
     over' = Some (one' ∷ []);
     out = 0;
     out' = 0;
+    opened = None;
+    opened' = Some 7;
     faults = faults;
     faults' = faults';
     is_untouched = ⊥;
@@ -79,13 +83,21 @@ module _ {L : Type 0} (links : SeenLink L) (one two one' two' : L) where
     λ lacks. omega (arith, lacks.failed),
   )
 
+  -- what is asked for: so many connections of port 7, or of another
+  abbrev on_seven : ℕ → Service
+  on_seven connections = record { port = 7; connections = connections }
+
+  abbrev on_eight : Service
+  on_eight = record { port = 8; connections = 1 }
+
   -- the first of two links was served
   abbrev first : Visit L
   first = record { link = one; link' = one'; said = []; end = endings.Closed }
 
-  served_one : ServesVisits 1 (first ∷ []) (Ok tt) (sink (serve_lines 1) 3 3) (net 3 3)
+  served_one : ServesVisits (on_seven 1) (first ∷ []) (Ok tt) (sink (serve_lines 1) 3 3) (net 3 3)
   unfolding digits
   served_one = record {
+    opened_is = refl;
     comes = refl;
     gives_back = refl;
     none_out = refl;
@@ -99,22 +111,26 @@ module _ {L : Type 0} (links : SeenLink L) (one two one' two' : L) where
 
   -- one of two that were asked for is not all while another can come, and no more are served than were asked for, nor
   -- any before the first line was written; no other number is told
-  not_all : (¬ ServesVisits 2 (first ∷ []) (Ok tt) (sink (serve_lines 1) 3 3) (net 3 3))
-      × (¬ ServesVisits 0 (first ∷ []) (Err Memory) (sink ready_line 3 3) (net 3 3))
-      × (¬ ServesVisits 1 (first ∷ []) (Err Memory) (sink [] 3 3) (net 3 3))
+  not_all : (¬ ServesVisits (on_seven 2) (first ∷ []) (Ok tt) (sink (serve_lines 1) 3 3) (net 3 3))
+      × (¬ ServesVisits (on_seven 0) (first ∷ []) (Err Memory) (sink ready_line 3 3) (net 3 3))
+      × (¬ ServesVisits (on_seven 1) (first ∷ []) (Err Memory) (sink [] 3 3) (net 3 3))
   not_all = (
     fewer,
     λ serves. omega (arith, serves.few),
     untold,
   )
     where
-      fewer : ¬ ServesVisits 2 (first ∷ []) (Ok tt) (sink (serve_lines 1) 3 3) (net 3 3)
+      fewer : ¬ ServesVisits (on_seven 2) (first ∷ []) (Ok tt) (sink (serve_lines 1) 3 3) (net 3 3)
       fewer serves = elim serves.all [ inl all ↦ absurd (omega (arith, all)) | inr none ↦ cc (none) ]
 
-      untold : ¬ ServesVisits 1 (first ∷ []) (Err Memory) (sink [] 3 3) (net 3 3)
+      untold : ¬ ServesVisits (on_seven 1) (first ∷ []) (Err Memory) (sink [] 3 3) (net 3 3)
       untold serves = let told = serves.told (omega arith) in absurd (omega (arith, ap length told.1))
 
-  not_another : ¬ ServesVisits 1 (first ∷ []) (Ok tt) (sink (serve_lines 2) 3 3) (net 3 3)
+  -- and not where another port was opened
+  not_eight : ¬ ServesVisits on_eight (first ∷ []) (Ok tt) (sink (serve_lines 1) 3 3) (net 3 3)
+  not_eight serves = cc (serves.opened_is)
+
+  not_another : ¬ ServesVisits (on_seven 1) (first ∷ []) (Ok tt) (sink (serve_lines 2) 3 3) (net 3 3)
   unfolding digits
   not_another serves =
       let same : 50 ≡ 49 = ap (λ (bytes : List ℕ). get_or bytes 13 0) serves.whole in absurd (omega (arith, same))

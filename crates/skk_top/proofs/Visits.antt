@@ -35,6 +35,7 @@ use Rattle.skk_top.specs.Status.{Ended, ended_by, with_want}
 use Rattle.skk_top.specs.declared.fault.RunFault.{RunFault}
 use Rattle.skk_top.specs.declared.fault.RunFault.TheVariants.{Outside, Memory}
 use Rattle.skk_top.specs.declared.serving.Outcome.{Outcome}
+use Rattle.skk_top.specs.declared.serving.Service.{Service}
 use Rattle.skk_top.proofs.Pages.{AppendsPrefix-behind, AppendsPrefix-more, AppendsPrefix-whole}
 use Rattle.skk_top.proofs.PrintedChecks.{Appends-kept, stops-behind}
 use Rattle.skk_top.proofs.Served.{where_done}
@@ -58,14 +59,14 @@ stops-serving out net Memory wanted = tt
 stops-serving out net fault none = absurd none
 
 module _ {N L S : Type 0} (table : List Rule) (nets : SeenListener N L) (links : SeenLink L) (slips : SeenCaller S)
-    (asked drawn : ℕ) (old new : N) where
+    (service : Service) (drawn : ℕ) (old new : N) where
   -- the port could not be opened
   pub office-unopened : (outcome : Outcome S) (out : MovedSink) → outcome.ended ≡ Err Outside
       → outcome.slips.items ≡ [] → outcome.ends.items ≡ [] → nets.coming new ≡ nets.coming old
-      → nets.over new ≡ nets.over old → nets.out new ≡ nets.out old → Rose (nets.faults old) (nets.faults new)
-      → Keeps out.written out.written'
-      → ServesByOffice asked table slips drawn drawn outcome out (moved_listener nets links old new)
-  office-unopened outcome out ends no_slips no_ends coming over count rose keeps =
+      → nets.over new ≡ nets.over old → nets.out new ≡ nets.out old → nets.opened new ≡ nets.opened old
+      → Rose (nets.faults old) (nets.faults new) → Keeps out.written out.written'
+      → ServesByOffice service table slips drawn drawn outcome out (moved_listener nets links old new)
+  office-unopened outcome out ends no_slips no_ends coming over count closed rose keeps =
       record {
         visits = [];
         served = subst (λ items. AreServed table links slips drawn [] items) (sym no_slips) tt;
@@ -79,23 +80,25 @@ module _ {N L S : Type 0} (table : List Rule) (nets : SeenListener N L) (links :
           coming_is = coming;
           over_is = over;
           out_is = count;
+          opened_is = closed;
         });
       }
 
   -- it was, which could not be told
   pub office-untold : (outcome : Outcome S) (fault : RunFault) (out : MovedSink) → outcome.ended ≡ Err fault
       → outcome.slips.items ≡ [] → outcome.ends.items ≡ [] → nets.coming new ≡ nets.coming old
-      → nets.over new ≡ nets.over old → nets.out new ≡ nets.out old
+      → nets.over new ≡ nets.over old → nets.out new ≡ nets.out old → nets.opened new ≡ Some service.port
       → AppendsPrefix out.written out.written' ready_line → StopsPrinting out fault
-      → ServesByOffice asked table slips drawn drawn outcome out (moved_listener nets links old new)
-  office-untold outcome fault out ends no_slips no_ends coming over count prefix stops =
+      → ServesByOffice service table slips drawn drawn outcome out (moved_listener nets links old new)
+  office-untold outcome fault out ends no_slips no_ends coming over count opened prefix stops =
       let net = moved_listener nets links old new in
       record {
         visits = [];
         served = subst (λ items. AreServed table links slips drawn [] items) (sym no_slips) tt;
         ends_are = no_ends;
         drawn_is = omega (arith, ap length no_slips);
-        port = inr (subst (λ (e : Ended). ServesVisits asked [] e out net) (sym ends) (record {
+        port = inr (subst (λ (e : Ended). ServesVisits service [] e out net) (sym ends) (record {
+          opened_is = opened;
           comes = sym coming ∙ all-to-come (nets.coming new);
           gives_back = none-over (nets.over new) ∙ ap (option_map (λ before. before ++ [])) over;
           none_out = count;
@@ -114,11 +117,12 @@ IsCause asked visits net stages.Done = (length visits ≡ asked) ⊎ (net.coming
 IsCause asked visits net stages.Fault = Rose net.faults net.faults'
 IsCause asked visits net stages.Memory = ⊤
 
-module _ {L : Type 0} (asked : ℕ) (visits : List (Visit L)) (net : MovedListener L) (old mid new : Told)
+module _ {L : Type 0} (service : Service) (visits : List (Visit L)) (net : MovedListener L) (old mid new : Told)
     (faults middle faults' : ℕ) (ready : Appends old mid ready_line) (counted : faults ≤ middle)
     (comes : net.coming ≡ option_map (λ rest. map (λ (visit : Visit L). visit.link) visits ++ rest) net.coming')
     (gives_back : net.over' ≡ option_map (λ before. before ++ map (λ (visit : Visit L). visit.link') visits) net.over)
-    (none_out : net.out' ≡ net.out) (few : length visits ≤ asked) where
+    (none_out : net.out' ≡ net.out) (opened : net.opened' ≡ Some service.port)
+    (few : length visits ≤ service.connections) where
   abbrev all_out : MovedSink
   all_out = record { written = old; written' = new; faults = faults; faults' = faults' }
 
@@ -132,13 +136,14 @@ module _ {L : Type 0} (asked : ℕ) (visits : List (Visit L)) (net : MovedListen
       (AppendsPrefix-whole old new ready_line (Appends-kept old mid new ready_line ready keeps))
 
   -- connections were served, and how their serving ended was told
-  pub visits-served : (end : ServedEnd) (ended : Ended) → IsCause asked visits net end
+  pub visits-served : (end : ServedEnd) (ended : Ended) → IsCause service.connections visits net end
       → TellsEnd end (length visits) ended
       (record { written = mid; written' = new; faults = middle; faults' = faults' })
-      → ServesVisits asked visits ended all_out net
+      → ServesVisits service visits ended all_out net
   visits-served stages.Done (Ok done) cause tells =
       let whole = Appends-trans old mid new ready_line (served_line (length visits)) ready tells.whole in
       record {
+        opened_is = opened;
         comes = comes;
         gives_back = gives_back;
         none_out = none_out;
@@ -151,6 +156,7 @@ module _ {L : Type 0} (asked : ℕ) (visits : List (Visit L)) (net : MovedListen
       }
   visits-served stages.Done (Err fault) cause tells =
       record {
+        opened_is = opened;
         comes = comes;
         gives_back = gives_back;
         none_out = none_out;
@@ -166,6 +172,7 @@ module _ {L : Type 0} (asked : ℕ) (visits : List (Visit L)) (net : MovedListen
   visits-served stages.Fault (Err fault) cause tells =
       let same : fault ≡ Outside = cc (tells.0) in
       record {
+        opened_is = opened;
         comes = comes;
         gives_back = gives_back;
         none_out = none_out;
@@ -180,6 +187,7 @@ module _ {L : Type 0} (asked : ℕ) (visits : List (Visit L)) (net : MovedListen
   visits-served stages.Memory (Err fault) cause tells =
       let same : fault ≡ Memory = cc (tells.0) in
       record {
+        opened_is = opened;
         comes = comes;
         gives_back = gives_back;
         none_out = none_out;
@@ -204,33 +212,35 @@ cause-since nets links old mid new asked passes visits stages.Fault counted ends
 cause-since nets links old mid new asked passes visits stages.Memory counted ends = tt
 
 module _ {N L S : Type 0} (table : List Rule) (nets : SeenListener N L) (links : SeenLink L) (slips : SeenCaller S)
-    (asked drawn drawn' : ℕ) (old mid new : N) where
+    (service : Service) (drawn drawn' : ℕ) (old mid new : N) where
   -- the port was opened and told, and its connections were served
   pub office-served : (answered : Served S) (outcome : Outcome S) (before between after : Told)
       (faults middle faults' : ℕ)
-      → ServesAll table nets links slips asked mid new drawn drawn' answered → nets.coming mid ≡ nets.coming old
-      → nets.over mid ≡ nets.over old → nets.out mid ≡ nets.out old → nets.faults old ≤ nets.faults mid
+      → ServesAll table nets links slips service.connections mid new drawn drawn' answered
+      → nets.coming mid ≡ nets.coming old → nets.over mid ≡ nets.over old → nets.out mid ≡ nets.out old
+      → nets.opened mid ≡ Some service.port → nets.faults old ≤ nets.faults mid
       → Appends before between ready_line → faults ≤ middle
       → TellsEnd answered.end answered.count outcome.ended
       (record { written = between; written' = after; faults = middle; faults' = faults' })
       → outcome.slips ≡ answered.passes → outcome.ends ≡ answered.ends
-      → ServesByOffice asked table slips drawn drawn' outcome
+      → ServesByOffice service table slips drawn drawn' outcome
       (record { written = before; written' = after; faults = faults; faults' = faults' })
       (moved_listener nets links old new)
-  office-served answered outcome before between after faults middle faults' serves coming over count counted ready rises
-      tells slips_are ends_are =
+  office-served answered outcome before between after faults middle faults' serves coming over count opened counted
+      ready rises tells slips_are ends_are =
       let visits = serves.visits in
       record {
         visits = visits;
         served = subst (λ left. AreServed table links slips drawn visits left.items) (sym slips_are) serves.served;
         ends_are = ap (λ ends. ends.items) ends_are ∙ serves.ends_are;
         drawn_is = serves.drawn_is ∙ ap (λ left. drawn + length left.items) (sym slips_are);
-        port = inr (visits-served asked visits (moved_listener nets links old new) before between after faults middle
+        port = inr (visits-served service visits (moved_listener nets links old new) before between after faults middle
             faults' ready rises (sym coming ∙ serves.comes)
             (serves.gives_back
             ∙ ap (option_map (λ given. given ++ map (λ (visit : Visit L). visit.link') visits)) over)
-            (serves.none_out ∙ count) serves.few answered.end outcome.ended
-            (cause-since nets links old mid new asked (length answered.passes.items) visits answered.end counted
+            (serves.none_out ∙ count) (serves.opened_is ∙ opened) serves.few answered.end outcome.ended
+            (cause-since nets links old mid new service.connections (length answered.passes.items) visits answered.end
+            counted
             serves.ends_so)
             (subst (λ n. TellsEnd answered.end n outcome.ended
             (record { written = between; written' = after; faults = middle; faults' = faults' })) serves.count_is
@@ -298,21 +308,22 @@ where_served true history state =
     not-done (has_answer lacks_disk history) (list_all (λ entry. is_reply entry.answer) history ≡ true)
 
 -- connections that were served by callers of a desk, which is closed then
-pub serves-closed : {D L : Type 0} (asked : ℕ) (opening : Opening) (table : List Rule) (chronicle : List Noted)
+pub serves-closed : {D L : Type 0} (service : Service) (opening : Opening) (table : List Rule) (chronicle : List Noted)
     (left : D) (tally : Tally) (wanted : Bool) (drawn' : ℕ) (outcome : Outcome CallerState) (out : MovedSink)
     (net : MovedListener L) (disk : DiskNow)
-    → ServesByOffice asked table desk_slips 0 drawn' outcome out net
+    → ServesByOffice service table desk_slips 0 drawn' outcome out net
     → All (Stood (history_of chronicle)) outcome.slips.items
     → ((number : ℕ) → drawn' ≤ number → said_in chronicle number ≡ [])
     → IsLegalOver opening chronicle → KeepsDisk opening chronicle disk
     → tally ≡ tally_of opening.state (history_of chronicle)
     → wanted ≡ list_any wants_memory outcome.ends.items
-    → ServesConnections asked opening table (record {
+    → ServesConnections service opening table (record {
       ended = ended_by outcome.ended (with_want wanted tally);
       chronicle = chronicle;
       disk = left;
     }) out net disk
-serves-closed {L = L} asked opening table chronicle left tally wanted drawn' outcome out net disk serves stood strangers
+serves-closed {L = L} service opening table chronicle left tally wanted drawn' outcome out net disk serves stood
+    strangers
     legal keeps counts wanted_is =
     let visits = serves.visits in
     let few = slips-few table net.links desk_slips 0 visits outcome.slips.items serves.served in

@@ -35,9 +35,10 @@ use Rattle.skk_top.specs.declared.fault.RunFault.{RunFault}
 use Rattle.skk_top.specs.declared.fault.RunFault.TheVariants.{Outside, Memory}
 use Rattle.skk_top.specs.declared.finish.Run.{Run}
 use Rattle.skk_top.specs.declared.serving.Outcome.{Outcome}
+use Rattle.skk_top.specs.declared.serving.Service.{Service}
 
 -- a listener to which such links come, before and after: how its links are seen, those that are still to come, those
--- that were taken back, how many are out, its counts of faults, and whether it is as it was
+-- that were taken back, how many are out, the port that was opened, its counts of faults, and whether it is as it was
 pub record MovedListener (L : Type 0) : Type 1 where
   pub links : SeenLink L
   pub coming : Option (List L)
@@ -46,6 +47,8 @@ pub record MovedListener (L : Type 0) : Type 1 where
   pub over' : Option (List L)
   pub out : ℕ
   pub out' : ℕ
+  pub opened : Option ℕ
+  pub opened' : Option ℕ
   pub faults : ℕ
   pub faults' : ℕ
   pub is_untouched : Type 0
@@ -60,6 +63,8 @@ moved_listener nets links old new = record {
   over' = nets.over new;
   out = nets.out old;
   out' = nets.out new;
+  opened = nets.opened old;
+  opened' = nets.opened new;
   faults = nets.faults old;
   faults' = nets.faults new;
   is_untouched = new ≡ old;
@@ -97,6 +102,7 @@ pub record LacksPort {L : Type 0} (visits : List (Visit L)) (ended : Ended) (out
   pub coming_is : net.coming' ≡ net.coming
   pub over_is : net.over' ≡ net.over
   pub out_is : net.out' ≡ net.out
+  pub opened_is : net.opened' ≡ net.opened
 
 -- why serving stops: a call on the sink or on the listener failed, or memory is out
 abbrev pub StopsServing : {L : Type 0} → MovedSink → MovedListener L → RunFault → Type 0
@@ -104,24 +110,25 @@ StopsServing out net Outside = Rose out.faults out.faults' ⊎ Rose net.faults n
 StopsServing out net Memory = ⊤
 StopsServing out net fault = ⊥
 
--- connections of a port that was open were served, of so many that were asked for: their links came in this order and
--- were given back in it; where the serving is done, as many were as were asked for, or no more can come, and both lines
--- were written; else a prefix of them was, with the cause, and the first line where a link came
-pub record ServesVisits {L : Type 0} (asked : ℕ) (visits : List (Visit L)) (ended : Ended) (out : MovedSink)
+-- the port that was asked for was opened, and connections were served, of as many as were asked for: their links came
+-- in this order and were given back in it; where the serving is done, as many were as were asked for, or no more can
+-- come, and both lines were written; else a prefix of them was, with the cause, and the first line where a link came
+pub record ServesVisits {L : Type 0} (service : Service) (visits : List (Visit L)) (ended : Ended) (out : MovedSink)
     (net : MovedListener L) : Type 0 where
+  pub opened_is : net.opened' ≡ Some service.port
   pub comes : net.coming ≡ option_map (λ rest. map (λ visit. visit.link) visits ++ rest) net.coming'
   pub gives_back : net.over' ≡ option_map (λ before. before ++ map (λ visit. visit.link') visits) net.over
   pub none_out : net.out' ≡ net.out
-  pub few : length visits ≤ asked
-  pub all : OnOk ended ((length visits ≡ asked) ⊎ (net.coming' ≡ Some []))
+  pub few : length visits ≤ service.connections
+  pub all : OnOk ended ((length visits ≡ service.connections) ⊎ (net.coming' ≡ Some []))
   pub whole : OnOk ended (Appends out.written out.written' (serve_lines (length visits)))
   pub prefix : AppendsPrefix out.written out.written' (serve_lines (length visits))
   pub told : 0 < length visits → (rest : List ℕ) × Appends out.written out.written' (ready_line ++ rest)
   pub stopped : IfErr ended (StopsServing out net)
 
 -- what asking for a port and serving its connections leaves
-abbrev pub LeavesPort : {L : Type 0} → ℕ → List (Visit L) → Ended → MovedSink → MovedListener L → Type 0
-LeavesPort asked visits ended out net = LacksPort visits ended out net ⊎ ServesVisits asked visits ended out net
+abbrev pub LeavesPort : {L : Type 0} → Service → List (Visit L) → Ended → MovedSink → MovedListener L → Type 0
+LeavesPort service visits ended out net = LacksPort visits ended out net ⊎ ServesVisits service visits ended out net
 
 -- connections were served from a place on, each up to its end, and closed: the caller whose number is its place has
 -- said what was said for it
@@ -148,7 +155,7 @@ wants_memory endings.Memory = true
 -- what the serving of connections over an opening leaves: how it ended by itself decides what was printed, and with
 -- what its calls came to, and with connections that ended for want of memory, how the run ends; where that is done no
 -- call was refused
-pub record ServesConnections {D L : Type 0} (asked : ℕ) (opening : Opening) (rules : List Rule) (run : Run D)
+pub record ServesConnections {D L : Type 0} (service : Service) (opening : Opening) (rules : List Rule) (run : Run D)
     (out : MovedSink) (net : MovedListener L) (disk : DiskNow) : Type 0 where
   pub visits : List (Visit L)
   pub served : Ended
@@ -156,7 +163,7 @@ pub record ServesConnections {D L : Type 0} (asked : ℕ) (opening : Opening) (r
       (tally_of opening.state (history_of run.chronicle)))
   pub chronicle : KeepsVisits opening rules net.links visits run.chronicle
   pub kept : KeepsDisk opening run.chronicle disk
-  pub port : LeavesPort asked visits served out net
+  pub port : LeavesPort service visits served out net
   pub answered : OnOk run.ended (are_served run.chronicle ≡ true)
 
 -- The run
@@ -166,12 +173,13 @@ abbrev pub EndsUnasked : {D L : Type 0} → (RunFault → Type 0) → Run D → 
 EndsUnasked Cause run out net = EndsUnbegun Cause run out × net.is_untouched
 
 -- the learned file was opened, and then there was no memory to begin, or the port was asked for
-pub record ServesOpened {D L : Type 0} (asked limit : ℕ) (files : List (List Row)) (rules : List Rule) (run : Run D)
+pub record ServesOpened {D L : Type 0} (service : Service) (limit : ℕ) (files : List (List Row)) (rules : List Rule)
+    (run : Run D)
     (out : MovedSink) (net : MovedListener L) (disk : MovedDisk) : Type 0 where
   pub opening : Opening
   pub opened : IsOpening disk files limit opening
   pub served : EndsUnasked (λ fault. fault ≡ Memory) run out net
-      ⊎ ServesConnections asked opening rules run out net disk.after
+      ⊎ ServesConnections service opening rules run out net disk.after
 
 -- the files that the options name were read, and then the learned file was refused, or it was opened
 pub record ServesNamed {D L : Type 0} (options : ServeOptions) (run : Run D) (shelf : MovedShelf) (out : MovedSink)
@@ -181,7 +189,8 @@ pub record ServesNamed {D L : Type 0} (options : ServeOptions) (run : Run D) (sh
   pub are_rules : AreRules (rules_named options.rules shelf) rules
   pub are_rows : AreRowsOf books (dictionaries_named options.dictionaries.items shelf)
   pub served : EndsUnasked (RefusesLearned disk) run out net
-      ⊎ ServesOpened options.connections (limit_of options.limit) books rules run out net disk
+      ⊎ ServesOpened (record { port = options.port; connections = options.connections }) (limit_of options.limit) books
+      rules run out net disk
 
 -- what a run of `serve` leaves: a file that the options name is refused, and the disk is not touched, or they were read
 abbrev pub LeavesServed : {D L : Type 0} → ServeOptions → Run D → MovedShelf → MovedSink → MovedListener L → MovedDisk
@@ -193,10 +202,11 @@ LeavesServed options run shelf out net disk =
 -- The office
 
 -- what the serving of a port by callers that an office admits leaves: what is left of these tells of each connection
-pub record ServesByOffice {L S : Type 0} (asked : ℕ) (rules : List Rule) (slips : SeenCaller S) (drawn drawn' : ℕ)
+pub record ServesByOffice {L S : Type 0} (service : Service) (rules : List Rule) (slips : SeenCaller S)
+    (drawn drawn' : ℕ)
     (outcome : Outcome S) (out : MovedSink) (net : MovedListener L) : Type 0 where
   pub visits : List (Visit L)
   pub served : AreServed rules net.links slips drawn visits outcome.slips.items
   pub ends_are : outcome.ends.items ≡ map (λ visit. visit.end) visits
   pub drawn_is : drawn' ≡ drawn + length outcome.slips.items
-  pub port : LeavesPort asked visits outcome.ended out net
+  pub port : LeavesPort service visits outcome.ended out net

@@ -53,7 +53,7 @@ pub fn run_serve<
     requires connections { LiesFrom 1 1000000 options.now.connections }
     ensures leaves { LeavesServed options.now result (moved_shelf H.file H.faults shelf.old shelf.new)
         (moved_sink O.written O.faults out.old out.new)
-        (moved_listener (seen_listener P.coming P.over P.out P.faults)
+        (moved_listener (seen_listener P.coming P.over P.out P.opened P.faults)
         (seen_link P.Link.left P.Link.written P.Link.faults P.Link.closed) net.old net.new)
         (moved_disk D.tells D.seen D.time D.faults D.left_since disk result.disk) }
     ensures stands { StandsSince result.chronicle
@@ -106,11 +106,11 @@ fn serve_learned<
     ensures leaves { EndsUnasked
         (RefusesLearned (moved_disk D.tells D.seen D.time D.faults D.left_since disk result.disk)) result
         (moved_sink O.written O.faults out.old out.new)
-        (moved_listener (seen_listener P.coming P.over P.out P.faults)
+        (moved_listener (seen_listener P.coming P.over P.out P.opened P.faults)
         (seen_link P.Link.left P.Link.written P.Link.faults P.Link.closed) net.old net.new)
-        ⊎ ServesOpened service.connections limit table.system table.rules result
+        ⊎ ServesOpened service limit table.system table.rules result
         (moved_sink O.written O.faults out.old out.new)
-        (moved_listener (seen_listener P.coming P.over P.out P.faults)
+        (moved_listener (seen_listener P.coming P.over P.out P.opened P.faults)
         (seen_link P.Link.left P.Link.written P.Link.faults P.Link.closed) net.old net.new)
         (moved_disk D.tells D.seen D.time D.faults D.left_since disk result.disk) }
     ensures stands { StandsSince result.chronicle
@@ -148,11 +148,11 @@ fn serve_store<
     requires calm { Keeps D.time D.left_since store.journal store.state None }
     ensures leaves { EndsUnasked (λ fault. fault ≡ RunFault.Memory) result
         (moved_sink O.written O.faults out.old out.new)
-        (moved_listener (seen_listener P.coming P.over P.out P.faults)
+        (moved_listener (seen_listener P.coming P.over P.out P.opened P.faults)
         (seen_link P.Link.left P.Link.written P.Link.faults P.Link.closed) net.old net.new)
-        ⊎ ServesConnections service.connections (opening_now D.time D.faults store) rules.now result
+        ⊎ ServesConnections service (opening_now D.time D.faults store) rules.now result
         (moved_sink O.written O.faults out.old out.new)
-        (moved_listener (seen_listener P.coming P.over P.out P.faults)
+        (moved_listener (seen_listener P.coming P.over P.out P.opened P.faults)
         (seen_link P.Link.left P.Link.written P.Link.faults P.Link.closed) net.old net.new)
         (disk_now D.time D.faults D.left_since result.disk) }
     ensures runs { RunsOver store.state result.chronicle
@@ -198,11 +198,11 @@ fn serve_over<
     requires roll { made.2 ≡ record { table = made.0; drawn = 0 } }
     ensures leaves { EndsUnasked (λ fault. fault ≡ RunFault.Memory) result
         (moved_sink O.written O.faults out.old out.new)
-        (moved_listener (seen_listener P.coming P.over P.out P.faults)
+        (moved_listener (seen_listener P.coming P.over P.out P.opened P.faults)
         (seen_link P.Link.left P.Link.written P.Link.faults P.Link.closed) net.old net.new)
-        ⊎ ServesConnections service.connections N.opening rules.now result
+        ⊎ ServesConnections service N.opening rules.now result
         (moved_sink O.written O.faults out.old out.new)
-        (moved_listener (seen_listener P.coming P.over P.out P.faults)
+        (moved_listener (seen_listener P.coming P.over P.out P.opened P.faults)
         (seen_link P.Link.left P.Link.written P.Link.faults P.Link.closed) net.old net.new)
         (disk_now D.time D.faults D.left_since result.disk) }
     ensures runs { RunsOver store.state result.chronicle
@@ -240,9 +240,9 @@ fn serve_at<
 ) -> Run<D>
     requires connections { LiesFrom 1 1000000 service.connections }
     requires nobody { roll ≡ 0 }
-    ensures leaves { ServesConnections service.connections N.opening rules.now result
+    ensures leaves { ServesConnections service N.opening rules.now result
         (moved_sink O.written O.faults out.old out.new)
-        (moved_listener (seen_listener P.coming P.over P.out P.faults)
+        (moved_listener (seen_listener P.coming P.over P.out P.opened P.faults)
         (seen_link P.Link.left P.Link.written P.Link.faults P.Link.closed) net.old net.new)
         (disk_now D.time D.faults D.left_since result.disk) }
     ensures stands { (store : OpenStore _) × (result.disk ≡ store.journal.disk)

@@ -90,9 +90,9 @@ pub fn serve_port<
 ) -> Outcome<W::Slip>
     requires owns { W.owns office.now roll.old }
     requires few { W.drawn roll.old + service.connections ≤ 4294967295 }
-    ensures serves { ServesByOffice service.connections rules.now (seen_caller W.Slip.number W.Slip.said)
+    ensures serves { ServesByOffice service rules.now (seen_caller W.Slip.number W.Slip.said)
         (W.drawn roll.old) (W.drawn roll.new) result (moved_sink O.written O.faults out.old out.new)
-        (moved_listener (seen_listener P.coming P.over P.out P.faults)
+        (moved_listener (seen_listener P.coming P.over P.out P.opened P.faults)
         (seen_link P.Link.left P.Link.written P.Link.faults P.Link.closed) net.old net.new) }
     ensures out_counted { O.faults out.old ≤ O.faults out.new }
     ensures net_counted { P.faults net.old ≤ P.faults net.new }

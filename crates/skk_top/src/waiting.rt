@@ -98,7 +98,7 @@ pub fn run<
         (moved_disk D.tells D.seen D.time D.faults D.left_since disk result.disk)) }
     ensures serves { IfSome (port_to_serve words.now) (λ options. LeavesServed options (run_of result)
         (moved_shelf H.file H.faults shelf.old shelf.new) (moved_sink O.written O.faults out.old out.new)
-        (moved_listener (seen_listener N.coming N.over N.out N.faults)
+        (moved_listener (seen_listener N.coming N.over N.out N.opened N.faults)
         (seen_link N.Link.left N.Link.written N.Link.faults N.Link.closed) net.old net.new)
         (moved_disk D.tells D.seen D.time D.faults D.left_since disk result.disk)) }
     ensures loads { IfSome (load_to_share words.now) (λ options. LeavesLoaded (LoadsTasks options) (run_of result)

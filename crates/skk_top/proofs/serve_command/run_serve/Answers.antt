@@ -16,7 +16,8 @@ returns-in-Ok-clause-leaves g c =
     let run = c.serve_learned.result in
     let out = moved_sink g.O.Outside.written g.O.Outside.faults c.args.out.now c.serve_learned.new.out in
     let net =
-    moved_listener (seen_listener g.P.Listener.coming g.P.Listener.over g.P.Listener.out g.P.Outside.faults)
+    moved_listener (seen_listener g.P.Listener.coming g.P.Listener.over g.P.Listener.out g.P.Listener.opened
+    g.P.Outside.faults)
     (seen_link g.P.Link.Outside.left g.P.Link.Outside.written g.P.Link.Outside.faults g.P.Link.Link.closed)
     c.args.net.now c.serve_learned.new.net in
     let disk = moved_disk D.tells D.seen D.time g.D.Outside.faults D.left_since c.args.disk run.disk in
@@ -26,7 +27,8 @@ returns-in-Ok-clause-leaves g c =
       are_rules = c.in-Ok.ensures.rules;
       are_rows = c.in-Ok.ensures.rows;
       served = subst (λ (n : ℕ). EndsUnasked (RefusesLearned disk) run out net
-          ⊎ ServesOpened c.args.options.now.connections n table.system table.rules run out net disk) c.limit.ensures
+          ⊎ ServesOpened (record { port = c.args.options.now.port; connections = c.args.options.now.connections }) n
+          table.system table.rules run out net disk) c.limit.ensures
           c.serve_learned.ensures.leaves;
     })
 
@@ -37,7 +39,8 @@ returns-in-Err-clause-leaves g c =
     let shelf = moved_shelf g.H.Shelf.file g.H.Outside.faults c.args.shelf.now c.read_table.new.shelf in
     let out = moved_sink g.O.Outside.written g.O.Outside.faults c.args.out.now c.args.out.now in
     let net =
-    moved_listener (seen_listener g.P.Listener.coming g.P.Listener.over g.P.Listener.out g.P.Outside.faults)
+    moved_listener (seen_listener g.P.Listener.coming g.P.Listener.over g.P.Listener.out g.P.Listener.opened
+    g.P.Outside.faults)
     (seen_link g.P.Link.Outside.left g.P.Link.Outside.written g.P.Link.Outside.faults g.P.Link.Link.closed)
     c.args.net.now c.args.net.now in
     subst (λ (r : Run g.row.D.Denot). LeavesServed c.args.options.now r shelf out net

@@ -16,7 +16,7 @@ use Rattle.skk_top.proofs.serve_command.serve_at.Goals as goal
 pub returns-clause-leaves : goal.returns-clause-leaves
 returns-clause-leaves g c =
     let D = g.D.Disk in
-    let asked = c.args.service.connections in
+    let service = c.args.service in
     let table = c.args.rules.now in
     let opening = g.N.OpeningName.opening in
     let chronicle = c.close-closed.result.chronicle in
@@ -25,19 +25,20 @@ returns-clause-leaves g c =
     let outcome = c.serve_port-outcome.result in
     let out = moved_sink g.O.Outside.written g.O.Outside.faults c.args.out.now c.serve_port-outcome.new.out in
     let net =
-    moved_listener (seen_listener g.P.Listener.coming g.P.Listener.over g.P.Listener.out g.P.Outside.faults)
+    moved_listener (seen_listener g.P.Listener.coming g.P.Listener.over g.P.Listener.out g.P.Listener.opened
+    g.P.Outside.faults)
     (seen_link g.P.Link.Outside.left g.P.Link.Outside.written g.P.Link.Outside.faults g.P.Link.Link.closed)
     c.args.net.now c.serve_port-outcome.new.net in
-    let serves = subst (λ n. ServesByOffice asked table desk_slips n c.serve_port-outcome.new.roll outcome out net)
+    let serves = subst (λ n. ServesByOffice service table desk_slips n c.serve_port-outcome.new.roll outcome out net)
     c.requires.nobody c.serve_port-outcome.ensures.serves in
     let stood = subst (λ (slips : List CallerState). All (Stood history) slips) c.of.ensures closed.slips in
     let stands = closed.stands in
     let keeps = keeps-desk D.time g.D.Outside.faults D.left_since opening g.N.LearnedName.past chronicle
     c.close-closed.result.disk stands.0 stands.1 stands.2 closed.now in
-    subst (λ (e : Ended). ServesConnections asked opening table
+    subst (λ (e : Ended). ServesConnections service opening table
     (record { ended = e; chronicle = chronicle; disk = c.close-closed.result.disk }) out net
     (disk_now D.time g.D.Outside.faults D.left_since c.close-closed.result.disk)) (sym c.end_wanting.ensures)
-    (serves-closed asked opening table chronicle c.close-closed.result.disk c.close-closed.result.tally
+    (serves-closed service opening table chronicle c.close-closed.result.disk c.close-closed.result.tally
     c.wants_memory-wanted.result c.serve_port-outcome.new.roll outcome out net
     (disk_now D.time g.D.Outside.faults D.left_since c.close-closed.result.disk) serves stood closed.strangers
     stands.2.legal keeps closed.tally c.wants_memory-wanted.ensures)

@@ -12,12 +12,12 @@ returns-in-Err-clause-serves g c =
     let none = c.of_none.ensures in
     let opens = c.open.ensures in
     office-unopened c.args.rules.now
-    (seen_listener g.P.Listener.coming g.P.Listener.over g.P.Listener.out g.P.Outside.faults)
+    (seen_listener g.P.Listener.coming g.P.Listener.over g.P.Listener.out g.P.Listener.opened g.P.Outside.faults)
     (seen_link g.P.Link.Outside.left g.P.Link.Outside.written g.P.Link.Outside.faults g.P.Link.Link.closed)
-    (seen_caller g.W.Slip.Kept.number g.W.Slip.Kept.said) c.args.service.connections
+    (seen_caller g.W.Slip.Kept.number g.W.Slip.Kept.said) c.args.service
     (g.W.Office.drawn c.args.roll.now) c.args.net.now c.open.new.self c.of_none.result
     (moved_sink g.O.Outside.written g.O.Outside.faults c.args.out.now c.args.out.now) none.ended none.slips none.ends
-    opens.coming opens.over opens.out c.in-Err.ensures.failed (Keeps-self _)
+    opens.coming opens.over opens.out c.in-Err.ensures.stays c.in-Err.ensures.failed (Keeps-self _)
 
 -- that it is open could not be told
 pub returns-in-Err-print_ready-clause-serves : goal.returns-in-Err-print_ready-clause-serves
@@ -25,13 +25,13 @@ returns-in-Err-print_ready-clause-serves g c =
     let none = c.of_none-in-Err-print_ready.ensures in
     let opens = c.open.ensures in
     office-untold c.args.rules.now
-    (seen_listener g.P.Listener.coming g.P.Listener.over g.P.Listener.out g.P.Outside.faults)
+    (seen_listener g.P.Listener.coming g.P.Listener.over g.P.Listener.out g.P.Listener.opened g.P.Outside.faults)
     (seen_link g.P.Link.Outside.left g.P.Link.Outside.written g.P.Link.Outside.faults g.P.Link.Link.closed)
-    (seen_caller g.W.Slip.Kept.number g.W.Slip.Kept.said) c.args.service.connections
+    (seen_caller g.W.Slip.Kept.number g.W.Slip.Kept.said) c.args.service
     (g.W.Office.drawn c.args.roll.now) c.args.net.now c.open.new.self c.of_none-in-Err-print_ready.result
     c.in-Err-print_ready.fault
     (moved_sink g.O.Outside.written g.O.Outside.faults c.args.out.now c.print_ready.new.out) none.ended none.slips
-    none.ends opens.coming opens.over opens.out c.in-Err-print_ready.ensures.prefix
+    none.ends opens.coming opens.over opens.out c.in_default-open.ensures.opened c.in-Err-print_ready.ensures.prefix
     c.in-Err-print_ready.ensures.stopped
 
 -- its connections were served
@@ -41,9 +41,9 @@ returns-clause-serves g c =
     let written = g.O.Outside.written in
     let faults = g.O.Outside.faults in
     office-served c.args.rules.now
-    (seen_listener g.P.Listener.coming g.P.Listener.over g.P.Listener.out g.P.Outside.faults)
+    (seen_listener g.P.Listener.coming g.P.Listener.over g.P.Listener.out g.P.Listener.opened g.P.Outside.faults)
     (seen_link g.P.Link.Outside.left g.P.Link.Outside.written g.P.Link.Outside.faults g.P.Link.Link.closed)
-    (seen_caller g.W.Slip.Kept.number g.W.Slip.Kept.said) c.args.service.connections
+    (seen_caller g.W.Slip.Kept.number g.W.Slip.Kept.said) c.args.service
     (g.W.Office.drawn c.args.roll.now) (g.W.Office.drawn c.serve_all-count.new.roll) c.args.net.now c.open.new.self
     c.serve_all-count.new.net c.serve_all-count.result
     (record {
@@ -53,5 +53,6 @@ returns-clause-serves g c =
     })
     (written c.args.out.now) (written c.print_ready.new.out) (written c.end_serving.new.out) (faults c.args.out.now)
     (faults c.print_ready.new.out) (faults c.end_serving.new.out) c.serve_all-count.ensures.serves opens.coming
-    opens.over opens.out opens.counted c.in_default-print_ready.ensures.whole c.print_ready.ensures.counted
+    opens.over opens.out c.in_default-open.ensures.opened opens.counted c.in_default-print_ready.ensures.whole
+    c.print_ready.ensures.counted
     c.end_serving.ensures.tells refl refl

@@ -40,7 +40,8 @@ returns-in-Some-port_served-clause-serves g c =
     let shelf = moved_shelf g.H.Shelf.file g.H.Outside.faults c.args.shelf.now c.run_serve.new.shelf in
     let out = moved_sink g.O.Outside.written g.O.Outside.faults c.args.out.now c.run_serve.new.out in
     let net =
-    moved_listener (seen_listener g.N.Listener.coming g.N.Listener.over g.N.Listener.out g.N.Outside.faults)
+    moved_listener (seen_listener g.N.Listener.coming g.N.Listener.over g.N.Listener.out g.N.Listener.opened
+    g.N.Outside.faults)
     (seen_link g.N.Link.Outside.left g.N.Link.Outside.written g.N.Link.Outside.faults g.N.Link.Link.closed)
     c.args.net.now c.run_serve.new.net in
     let disk =
@@ -59,7 +60,8 @@ returns-in-Some-port_served-clause-outside g c is =
     let input = moved_source g.I.Outside.left g.I.Outside.faults c.args.input.now c.args.input.now in
     let out = moved_sink g.O.Outside.written g.O.Outside.faults c.args.out.now c.run_serve.new.out in
     let net =
-    moved_listener (seen_listener g.N.Listener.coming g.N.Listener.over g.N.Listener.out g.N.Outside.faults)
+    moved_listener (seen_listener g.N.Listener.coming g.N.Listener.over g.N.Listener.out g.N.Listener.opened
+    g.N.Outside.faults)
     (seen_link g.N.Link.Outside.left g.N.Link.Outside.written g.N.Link.Outside.faults g.N.Link.Link.closed)
     c.args.net.now c.run_serve.new.net in
     let finish = c.end_run.ensures.finish in
