@@ -1,10 +1,14 @@
 -- The summary of a load, at small examples, each worked out by hand.
-use Rattle.std.proofs.Common.{◌≡◌, ℕ, List, [], ◌∷◌, ◌++◌, codes, refl, true, false}
+use Rattle.std.proofs.Common.{◌≡◌, ℕ, List, [], ◌∷◌, ◌++◌, codes, map, refl, true, false}
 use Rattle.std.specs.Fmt.{digits}
 use Rattle.skk_calls.specs.Tallies.{Tally}
 use Rattle.command_line.specs.declared.command.LoadOptions.{LoadOptions}
+use Rattle.romaji_rules.specs.declared.rule.Rule.{Rule}
+use Rattle.romaji_rules.specs.Standard.{standard}
+use Rattle.romaji_rules.specs.Typed.{fed}
 use Rattle.session_machine.specs.Session.{Session, new_session}
-use Rattle.load_input.specs.Lines.{lines_drawn}
+use Rattle.load_input.specs.Dictionary.{kana}
+use Rattle.load_input.specs.Lines.{lines_drawn, syllables}
 use Rattle.skk_top.specs.LoadCommand.{load_lines, number_line, summary, summed, text_bytes}
 
 -- each number has its word, and a line of its own
@@ -43,3 +47,15 @@ all_summed = refl
 -- the lines are those of the seed, of each session so many
 drawn : load_lines options ≡ lines_drawn 9 3 4
 drawn = refl
+
+-- what letters come to in hiragana behind those that are pending, and what is pending behind them
+abbrev typed : List Rule → List ℕ → List ℕ → List ℕ
+typed rules pending [] = pending
+typed rules pending (letter ∷ letters) =
+    let step = fed rules pending letter in
+    step.out.hira ++ typed rules step.pending letters
+
+-- the letters of each syllable are typed as its kana
+syllables_typed : (map (typed standard []) syllables ≡ map (λ c. c ∷ []) kana)
+    × (kana ≡ codes "かきくけこさしすせそたちつてとな")
+syllables_typed = (refl, refl)
