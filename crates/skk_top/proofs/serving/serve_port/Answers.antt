@@ -31,7 +31,7 @@ returns-in-Err-print_ready-clause-serves g c =
     (g.W.Office.drawn c.args.roll.now) c.args.net.now c.open.new.self c.of_none-in-Err-print_ready.result
     c.in-Err-print_ready.fault
     (moved_sink g.O.Outside.written g.O.Outside.faults c.args.out.now c.print_ready.new.out) none.ended none.slips
-    none.ends opens.coming opens.over opens.out c.in_default-open.ensures.opened c.in-Err-print_ready.ensures.prefix
+    none.ends opens.coming opens.over opens.out c.in_default.ensures.opened c.in-Err-print_ready.ensures.prefix
     c.in-Err-print_ready.ensures.stopped
 
 -- its connections were served
@@ -53,6 +53,6 @@ returns-clause-serves g c =
     })
     (written c.args.out.now) (written c.print_ready.new.out) (written c.end_serving.new.out) (faults c.args.out.now)
     (faults c.print_ready.new.out) (faults c.end_serving.new.out) c.serve_all-count.ensures.serves opens.coming
-    opens.over opens.out c.in_default-open.ensures.opened opens.counted c.in_default-print_ready.ensures.whole
+    opens.over opens.out c.in_default.ensures.opened opens.counted c.in_default-print_ready.ensures.whole
     c.print_ready.ensures.counted
     c.end_serving.ensures.tells refl refl
