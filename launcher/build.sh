@@ -197,12 +197,12 @@ make_program() {
         tell 'a source changed while it was proved: start again'
         return 1
     fi
-    mv "$copies/program" "$program" && mv "$out/looked" "$proved"
+    mv "$copies/program" "$built" && mv "$out/looked" "$proved"
 }
 
 # Proves the crates and builds the program, which is taken away before.
 build() {
-    if ! rm -rf "$program" "$proved" "$copies" "$logs"; then
+    if ! rm -rf "$built" "$proved" "$copies" "$logs"; then
         tell "what an earlier build left in $out can't be taken away"
         return 1
     fi
