@@ -1,1 +1,0 @@
-while true; do /work/tools/rlibs.sh; sleep 20; done
