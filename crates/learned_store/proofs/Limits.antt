@@ -9,6 +9,7 @@ use Rattle.skk_calls.specs.declared.call.Call.{Call}
 use Rattle.skk_calls.specs.declared.entry.Entry.{Entry}
 use Rattle.skk_calls.specs.Dictionary.{is_change}
 use Rattle.skk_calls.specs.Histories.{Opening, need, room, state_after, tells_change, in_doubt, in_doubt_after}
+use Rattle.skk_calls.specs.HistoryLaws.{split-last}
 use Rattle.skk_calls.specs.States.{State}
 use Rattle.skk_disk.specs.Image.{Image}
 use Rattle.skk_journal.specs.Journal.{OpenJournal}
@@ -17,23 +18,6 @@ use Rattle.learned_store.specs.Stores.{OpenStore, Keeps, DoubtAfter}
 
 differ : (b : Bool) → b ≡ true → b ≡ false → ⊥
 differ b holds fails = let same : true ≡ false = sym holds ∙ fails in cc
-
--- an entry of a history with one more stands in that history, or is the last
-split-last : (history : List Entry) (entry : Entry) (prefix : List Entry) (one : Entry) (rest : List Entry)
-    → history ++ entry ∷ [] ≡ prefix ++ one ∷ rest
-    → ((behind : List Entry) × (history ≡ prefix ++ one ∷ behind)) ⊎ ((history ≡ prefix) × (entry ≡ one))
-split-last [] entry [] one rest e = inr (refl, cc)
-split-last (first ∷ history) entry [] one rest e =
-    let same : first ≡ one = cc in inl (history, ap (λ h. h ∷ history) same)
-split-last [] entry (head ∷ []) one rest e = absurd (cc)
-split-last [] entry (head ∷ other ∷ prefix) one rest e = absurd (cc)
-split-last (first ∷ history) entry (head ∷ prefix) one rest e =
-    let same : first ≡ head = cc in
-    let tails : history ++ entry ∷ [] ≡ prefix ++ one ∷ rest = cc in
-    elim (split-last history entry prefix one rest tails) [
-      | inl within ↦ inl (within.0, ap (λ h. h ∷ history) same ∙ ap (λ h. head ∷ h) within.1)
-      | inr last ↦ inr (ap (λ h. h ∷ history) same ∙ ap (λ h. head ∷ h) last.0, last.1)
-    ]
 
 pub had-none : (opening : Opening) → AllHadRoom opening []
 had-none opening [] entry rest e = absurd (cc)

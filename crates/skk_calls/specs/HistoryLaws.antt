@@ -47,7 +47,7 @@ dialog-other history entry number other =
     ++ cons_option (if b then Some (entry.call, entry.answer) else None) []) other
 
 -- an entry of a history with one more stands in that history, or is the last
-split-last : (history : List Entry) (entry : Entry) (prefix : List Entry) (one : Entry) (rest : List Entry)
+pub split-last : (history : List Entry) (entry : Entry) (prefix : List Entry) (one : Entry) (rest : List Entry)
     → history ++ entry ∷ [] ≡ prefix ++ one ∷ rest
     → ((behind : List Entry) × (history ≡ prefix ++ one ∷ behind)) ⊎ ((history ≡ prefix) × (entry ≡ one))
 split-last [] entry [] one rest e = inr (refl, cc)
