@@ -9,7 +9,7 @@ use crate::link::Link;
 use crate::outside::{Failed, Outside};
 use crate::sink::Sink;
 use crate::source::Source;
-use std::io::{self, Read, Write};
+use std::io::{self, ErrorKind, Read, Write};
 use std::net::{OpenStream, Shutdown};
 use std::time::Duration;
 
@@ -25,18 +25,24 @@ pub struct StreamLink<S> {
     faults: Count,
 }
 
-// For how many seconds a peer is waited for that has sent nothing yet, or takes nothing.
+// For how many seconds a peer is waited for that has sent nothing yet.
 const PATIENCE: u64 = 60;
+
+// For how many seconds at a time a peer is waited for that takes nothing, and how often. The system counts a wait from
+// the start of a write, and a write that waited says how much was taken before, so that one wait of 60 seconds would
+// become two behind a write that was taken in part.
+const WRITE_WAIT: u64 = 5;
+
+const WRITE_WAITS: u32 = 12;
 
 impl<S: OpenStream> StreamLink<S> {
     /// The link of a connected stream.
     pub fn new(stream: S) -> StreamLink<S>
         ensures faults { ⟦<StreamLink<S> as Outside>⟧.faults result ≡ 0 }
     {
-        let patience = Some(Duration::from_secs(PATIENCE));
         // Where the system refuses, the peer is waited for without an end.
-        let _first = stream.set_read_timeout(patience);
-        let _taken = stream.set_write_timeout(patience);
+        let _first = stream.set_read_timeout(Some(Duration::from_secs(PATIENCE)));
+        let _taken = stream.set_write_timeout(Some(Duration::from_secs(WRITE_WAIT)));
         StreamLink {
             stream: Some(stream),
             is_begun: false,
@@ -85,9 +91,27 @@ fn read_begun<S: Read + OpenStream>(
     Ok(count)
 }
 
+// Writes bytes to a stream, and waits again and again where it takes none.
+fn write_patiently<S: Write>(stream: &mut S, from: &[u8]) -> io::Result<usize>
+    ensures { WritesAtMost result from.now }
+{
+    for _ in 1..WRITE_WAITS {
+        match stream.write(from) {
+            Err(error) if is_wait(error.kind()) => {}
+            written => return written,
+        }
+    }
+    stream.write(from)
+}
+
+// Whether a write has only waited, to the end of its time or of what a signal left of it.
+fn is_wait(kind: ErrorKind) -> bool {
+    matches!(kind, ErrorKind::WouldBlock | ErrorKind::Interrupted)
+}
+
 impl<S: Write> Sink for StreamLink<S> {
-    /// Hands bytes to the system, and waits for at most 60 seconds where it takes none. A write of 0 bytes of some is a
-    /// fault.
+    /// Hands bytes to the system, and waits where it takes none: for 60 seconds behind the last byte that it took, and
+    /// for at most 5 more. A write of 0 bytes of some is a fault.
     fn write(&mut self, from: &[u8]) -> Result<usize, Failed>
         ensures bound { WritesAtMost result from.now }
         ensures progress { 0 < length from.now → IfOk result (λ n. 1 ≤ n) }
@@ -98,7 +122,7 @@ impl<S: Write> Sink for StreamLink<S> {
         ensures one_fault { OnErr result (self.new.faults ≡ one_more self.old.faults) }
     {
         if let Some(stream) = &mut self.stream {
-            match stream.write(from) {
+            match write_patiently(stream, from) {
                 Ok(n) if n > 0 || from.is_empty() => return Ok(n),
                 _ => {}
             }
