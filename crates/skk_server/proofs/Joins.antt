@@ -1,6 +1,9 @@
 -- Workers that are joined, and works that stay under way.
 use Rattle.std.proofs.Common.{◌≡◌, ◌⊎◌, inl, inr, ℕ, zero, suc, ◌+◌, ◌≤◌, ◌<◌, List, [], ◌∷◌, ◌++◌}
 use Rattle.std.proofs.Common.{length, map, slice_set, slice_index_or, refl, sym, ap, ◌∙◌, subst, arith}
+use Rattle.std.proofs.lemmas.List.Sums.{sum-map}
+use Rattle.std.proofs.lemmas.List.{length-map}
+use Rattle.std.specs.List.{sum}
 use Rattle.romaji_rules.specs.declared.rule.Rule.{Rule}
 use Rattle.skk_server.specs.declared.end.End.{End}
 use Rattle.skk_server.specs.declared.hall.Hall.{Hall}
@@ -20,29 +23,6 @@ module _ {L C : Type 0} where
   running-few (Running handle was) = omega arith
   running-few (Done worked was) = omega arith
   running-few (Refused link was) = omega arith
-
-  -- the workers of works and of one more
-  pub running-more : (works : List (Work L C)) (work : Work L C)
-      → running_in (works ++ work ∷ []) ≡ running_in works + running_of work
-  running-more [] work = omega arith
-  running-more (other ∷ others) work = let more = running-more others work in omega (arith, more)
-
-  -- the worker of a work is one of all
-  pub running-within : (works : List (Work L C)) (place : ℕ) (work : Work L C) → place < length works
-      → work ≡ slice_index_or works place work → running_of work ≤ running_in works
-  running-within [] place work there is = absurd (omega (arith, there))
-  running-within (other ∷ others) zero work there is = omega (arith, ap running_of is)
-  running-within (other ∷ others) (suc place) work there is =
-      let rest = running-within others place work (omega (arith, there)) is in omega (arith, rest)
-
-  -- the workers where a work stands in place of another
-  pub running-set : (works : List (Work L C)) (place : ℕ) (work work' : Work L C) → place < length works
-      → work ≡ slice_index_or works place work
-      → running_in (slice_set works place work') + running_of work ≡ running_in works + running_of work'
-  running-set [] place work work' there is = absurd (omega (arith, there))
-  running-set (other ∷ others) zero work work' there is = omega (arith, ap running_of is)
-  running-set (other ∷ others) (suc place) work work' there is =
-      let rest = running-set others place work work' (omega (arith, there)) is in omega (arith, rest)
 
 -- Single works
 
@@ -156,37 +136,34 @@ module _ {L C : Type 0} (links : SeenLink L) (callers : SeenCaller C) where
   joined-nothing [] (work' ∷ works') are none = absurd are
   joined-nothing (work ∷ works) works' are none = absurd (omega (arith, ap length none))
 
+  -- what stays of a work that is joined stays of all
+  stays-all : {X : Type 0} (f : Work L C → X)
+      → ((work work' : Work L C) → Joins links callers work work' → f work' ≡ f work)
+      → (works works' : List (Work L C)) → AreJoined links callers works works' → map f works' ≡ map f works
+  stays-all f stays [] [] are = refl
+  stays-all f stays [] (work' ∷ works') are = absurd are
+  stays-all f stays (work ∷ works) [] are = absurd are
+  stays-all f stays (work ∷ works) (work' ∷ works') are =
+      ap (λ x. x ∷ map f works') (by are.0) ∙ ap (λ xs. f work ∷ xs) (stays-all f stays works works' are.1)
+    where
+      by : (work' ≡ work) ⊎ Joins links callers work work' → f work' ≡ f work
+      by (inl same) = ap f same
+      by (inr joins) = stays work work' joins
+
   pub begun-all : (works works' : List (Work L C)) → AreJoined links callers works works'
       → map begun works' ≡ map begun works
-  begun-all [] [] are = refl
-  begun-all [] (work' ∷ works') are = absurd are
-  begun-all (work ∷ works) [] are = absurd are
-  begun-all (work ∷ works) (work' ∷ works') are =
-      ap (λ l. l ∷ map begun works') (by are.0) ∙ ap (λ ls. begun work ∷ ls) (begun-all works works' are.1)
-    where
-      by : (work' ≡ work) ⊎ Joins links callers work work' → begun work' ≡ begun work
-      by (inl same) = ap begun same
-      by (inr joins) = begun-joined links callers work work' joins
+  begun-all works works' are = stays-all begun (begun-joined links callers) works works' are
 
   pub passes-all : (works works' : List (Work L C)) → AreJoined links callers works works'
       → passes_under_way works' ≡ passes_under_way works
-  passes-all [] [] are = refl
-  passes-all [] (work' ∷ works') are = absurd are
-  passes-all (work ∷ works) [] are = absurd are
-  passes-all (work ∷ works) (work' ∷ works') are =
-      let rest = passes-all works works' are.1 in omega (arith, by are.0, rest)
-    where
-      by : (work' ≡ work) ⊎ Joins links callers work work' → passes_of work' ≡ passes_of work
-      by (inl same) = ap passes_of same
-      by (inr joins) = passes-joined links callers work work' joins
+  passes-all works works' are =
+      sym (sum-map passes_of works') ∙ ap sum (stays-all passes_of (passes-joined links callers) works works' are)
+      ∙ sum-map passes_of works
 
   pub length-all : (works works' : List (Work L C)) → AreJoined links callers works works'
       → length works' ≡ length works
-  length-all [] [] are = refl
-  length-all [] (work' ∷ works') are = absurd are
-  length-all (work ∷ works) [] are = absurd are
-  length-all (work ∷ works) (work' ∷ works') are =
-      let rest = length-all works works' are.1 in omega (arith, rest)
+  length-all works works' are =
+      sym (length-map works' begun) ∙ ap length (begun-all works works' are) ∙ length-map works begun
 
   pub way-all : (rules : List Rule) (first : ℕ) (works works' : List (Work L C)) → AreJoined links callers works works'
       → AreUnderWay rules links callers first works → AreUnderWay rules links callers first works'

@@ -3,6 +3,7 @@ use Rattle.std.proofs.Common.{◌≡◌, ◌∙◌, ◌≤◌, ◌<◌, ℕ, zer
 use Rattle.std.proofs.Common.{length, map, refl, sym, ap, subst, arith, ◌⊎◌, inl}
 use Rattle.std.proofs.Common.{Option, None, Some, append_assoc, append-nil}
 use Rattle.std.proofs.lemmas.List.{map-append, length-append, length-map}
+use Rattle.std.proofs.lemmas.List.Sums.{sum_by_push}
 use Rattle.std.specs.Option.{option_map}
 use Rattle.romaji_rules.specs.declared.rule.Rule.{Rule}
 use Rattle.skk_outside.specs.Faults.{Rose}
@@ -20,11 +21,11 @@ use Rattle.skk_server.specs.Services.{SeenListener, EndsServing, ServesAll}
 use Rattle.skk_server.specs.Stages.{accepted_in, passes_in, CountsStay, Stage, TakesLink, TakesNone, GivesBack}
 use Rattle.skk_server.specs.Stages.{AddsWork, Opens, JoinsSome}
 use Rattle.skk_server.specs.Visits.{SeenLink, SeenCaller, Visit, ServesLink, IsServed, HasWorked, AreServed}
-use Rattle.skk_server.specs.Works.{begun, passes_under_way, BeganWith, IsClosed, IsUnderWay, AreUnderWay}
+use Rattle.skk_server.specs.Works.{begun, passes_of, passes_under_way, BeganWith, IsClosed, IsUnderWay, AreUnderWay}
 use Rattle.skk_server.proofs.Joins.{begun-all, passes-all, length-all, way-all}
 use Rattle.skk_server.proofs.Turns.{unserved}
 use Rattle.skk_server.proofs.Visits.{more-came, more-over, served-more, served-last, slips-few, passes-few}
-use Rattle.skk_server.proofs.Visits.{passes-more, way-more}
+use Rattle.skk_server.proofs.Visits.{way-more}
 
 -- where nothing came, all is still to come
 nothing-came : {L : Type 0} (coming : Option (List L)) → coming ≡ option_map (λ rest. [] ++ rest) coming
@@ -150,7 +151,7 @@ module _ {N L C S : Type 0} (nets : SeenListener N L) (links : SeenLink L) (call
       → (accepted_in hall' ≡ accepted_in hall + 1) × (passes_in hall' + drawn ≡ passes_in hall + drawn')
   counts-begin rules hall hall' drawn drawn' link adds =
       let works = ap length adds.works_are ∙ length-append hall.works.items (adds.work ∷ []) in
-      let passes = ap passes_under_way adds.works_are ∙ passes-more hall.works.items adds.work in
+      let passes = ap passes_under_way adds.works_are ∙ sum_by_push passes_of hall.works.items adds.work in
       let ends = ap (λ ends. length ends.items) adds.ends_stay in
       let left = ap (λ passes. length passes.items) adds.passes_stay in
       (omega (arith, works, ends), omega (arith, passes, left, adds.drawn_is))

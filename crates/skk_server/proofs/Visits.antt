@@ -1,6 +1,7 @@
 -- One connection more that was served, and one more under way.
 use Rattle.std.proofs.Common.{◌≡◌, ◌∙◌, ◌≤◌, ℕ, ◌+◌, List, [], ◌∷◌, ◌++◌, length, refl, sym, ap, subst, arith}
 use Rattle.std.proofs.Common.{Option, None, Some, append_assoc}
+use Rattle.std.proofs.lemmas.List.Sums.{sum_by-cons}
 use Rattle.std.specs.Option.{option_map}
 use Rattle.romaji_rules.specs.declared.rule.Rule.{Rule}
 use Rattle.skk_server.specs.declared.work.Work.{Work}
@@ -76,13 +77,7 @@ module _ {L C : Type 0} where
   passes-few [] = omega arith
   passes-few (work ∷ works) =
       let one = pass-few work in
-      let few = passes-few works in omega (arith, one, few)
-
-  -- the passes of works and of one more
-  pub passes-more : (works : List (Work L C)) (work : Work L C)
-      → passes_under_way (works ++ work ∷ []) ≡ passes_under_way works + passes_of work
-  passes-more [] work = omega arith
-  passes-more (other ∷ others) work = let more = passes-more others work in omega (arith, more)
+      let few = passes-few works in omega (arith, one, few, sum_by-cons passes_of work works)
 
 module _ {L C : Type 0} (rules : List Rule) (links : SeenLink L) (callers : SeenCaller C) where
   -- a work with a pass is under way whatever is behind it
@@ -100,8 +95,9 @@ module _ {L C : Type 0} (rules : List Rule) (links : SeenLink L) (callers : Seen
       (subst (λ n. IsUnderWay rules links callers n work []) (omega arith) one, tt)
   way-more first (other ∷ others) work are all one =
       let its = pass-few other in
-      let theirs = passes-few others in (
-        pass-anyhow first other others (others ++ work ∷ []) (omega (arith, all, its, theirs)) are.0,
-        way-more (first + 1) others work are.1 (omega (arith, all, its, theirs))
+      let theirs = passes-few others in
+      let both = sum_by-cons passes_of other others in (
+        pass-anyhow first other others (others ++ work ∷ []) (omega (arith, all, its, theirs, both)) are.0,
+        way-more (first + 1) others work are.1 (omega (arith, all, its, theirs, both))
             (subst (λ n. IsUnderWay rules links callers n work []) (omega arith) one),
       )

@@ -1,5 +1,6 @@
 -- What is known of the works under way.
 use Rattle.std.specs.Prelude.{◌≡◌, ◌⊎◌, ⊤, ℕ, ◌+◌, true, List, [], ◌∷◌}
+use Rattle.std.specs.List.{sum_by}
 use Rattle.romaji_rules.specs.declared.rule.Rule.{Rule}
 use Rattle.skk_server.specs.declared.promised.Promised.{Promised}
 use Rattle.skk_server.specs.declared.work.Work.{Work}
@@ -20,8 +21,7 @@ passes_of (Refused link was) = 0
 
 -- how many passes works have
 abbrev pub passes_under_way : {L C : Type 0} → List (Work L C) → ℕ
-passes_under_way [] = 0
-passes_under_way (work ∷ works) = passes_of work + passes_under_way works
+passes_under_way works = sum_by passes_of works
 
 -- how many workers serve a work
 abbrev pub running_of : {L C : Type 0} → Work L C → ℕ
@@ -31,8 +31,7 @@ running_of (Refused link was) = 0
 
 -- how many workers serve works
 abbrev pub running_in : {L C : Type 0} → List (Work L C) → ℕ
-running_in [] = 0
-running_in (work ∷ works) = running_of work + running_in works
+running_in works = sum_by running_of works
 
 -- a work began by these rules, with a caller of this number that had said nothing
 abbrev pub BeganWith : {L C : Type 0} → List Rule → SeenCaller C → ℕ → Promised L C → Type 0

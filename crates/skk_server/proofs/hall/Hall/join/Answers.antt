@@ -1,7 +1,9 @@
-use Rattle.std.proofs.Common.{◌<◌, length, arith, refl}
+use Rattle.std.proofs.Common.{◌<◌, ap, length, arith, refl}
+use Rattle.std.proofs.lemmas.List.Sums.{get_or-le-sum_by, sum_by-set}
 use Rattle.skk_server.specs.Visits.{seen_link, seen_caller}
+use Rattle.skk_server.specs.Works.{running_of}
 use Rattle.skk_server.proofs.hall.Hall.join.Goals as goal
-use Rattle.skk_server.proofs.Joins.{joins-none, joined-at, running-within, running-set, running-joined}
+use Rattle.skk_server.proofs.Joins.{joins-none, joined-at, running-joined}
 
 pub returns-in_default-clause-joins : goal.returns-in_default-clause-joins
 returns-in_default-clause-joins g c =
@@ -18,9 +20,9 @@ overflow_sub-self g c =
     let work = c.in-Some-get_mut.work.now in
     let there : c.in-Some.place < length c.args.self.now.works.items =
     omega (arith, c.in-Some-get_mut.ensures.variant.0 refl) in
-    let within = running-within c.args.self.now.works.items c.in-Some.place work there
-    c.in-Some-get_mut.ensures.value in
-    omega (arith, within, c.running-running.ensures, c.requires.places.running_is)
+    let within = get_or-le-sum_by running_of c.args.self.now.works.items c.in-Some.place work there in
+    let same = ap running_of c.in-Some-get_mut.ensures.value in
+    omega (arith, within, same, c.running-running.ensures, c.requires.places.running_is)
 
 pub returns-clause-joins : goal.returns-clause-joins
 returns-clause-joins g c =
@@ -38,13 +40,13 @@ returns-clause-places g c =
     let places = c.requires.places in
     let there : c.in-Some.place < length c.args.self.now.works.items =
     omega (arith, c.in-Some-get_mut.ensures.variant.0 refl) in
-    let all = running-set c.args.self.now.works.items c.in-Some.place work c.join.new.self there
-    c.in-Some-get_mut.ensures.value in
+    let all = sum_by-set running_of c.args.self.now.works.items c.in-Some.place c.join.new.self work there in
+    let same = ap running_of c.in-Some-get_mut.ensures.value in
     let none = running-joined (seen_link g.L.Outside.left g.L.Outside.written g.L.Outside.faults g.L.Link.closed)
     (seen_caller g.C.Caller.number g.C.Caller.said) work c.join.new.self c.join.ensures in
     record {
       few = omega (arith, places.few);
-      running_is = omega (arith, all, none, c.running-running.ensures, places.running_is);
+      running_is = omega (arith, all, same, none, c.running-running.ensures, places.running_is);
       passes_fit = places.passes_fit;
       ends_fit = places.ends_fit;
     }

@@ -1,8 +1,9 @@
 use Rattle.std.proofs.Common.{◌∙◌, [], ap, length, refl, subst, arith}
+use Rattle.std.proofs.lemmas.List.Sums.{sum_by_push}
 use Rattle.skk_server.specs.Visits.{seen_link, seen_caller}
-use Rattle.skk_server.specs.Works.{IsUnderWay, running_in}
+use Rattle.skk_server.specs.Works.{IsUnderWay, running_in, running_of}
 use Rattle.skk_server.proofs.hall.Hall.welcome.Goals as goal
-use Rattle.skk_server.proofs.Joins.{running-few, running-more}
+use Rattle.skk_server.proofs.Joins.{running-few}
 
 pub returns-in-Ok-clause-adds : goal.returns-in-Ok-clause-adds
 returns-in-Ok-clause-adds g c = record {
@@ -35,7 +36,7 @@ returns-in-Ok-clause-places g c =
     let work = c.begin-work.result in
     let works = c.args.self.now.works.items in
     let few = running-few work in
-    let more = ap running_in c.push_back_reserved.ensures.items ∙ running-more works work in
+    let more = ap running_in c.push_back_reserved.ensures.items ∙ sum_by_push running_of works work in
     let len = ap length c.push_back_reserved.ensures.items in
     record {
       few = omega (arith, place.few, few, c.running.ensures);
@@ -48,7 +49,7 @@ pub returns-in-Err-clause-places : goal.returns-in-Err-clause-places
 returns-in-Err-clause-places g c =
     let place = c.requires.place in
     let works = c.args.self.now.works.items in
-    let more = ap running_in c.push_back_reserved-in-Err.ensures.items ∙ running-more works c.refuse.result in
+    let more = ap running_in c.push_back_reserved-in-Err.ensures.items ∙ sum_by_push running_of works c.refuse.result in
     let len = ap length c.push_back_reserved-in-Err.ensures.items in
     record {
       few = omega (arith, place.few);
