@@ -17,7 +17,7 @@ pub enum CommandName {
 }
 
 // What each command takes: the arguments, with the least and the most times that each is given.
-const TYPE_TAKES: [(Argument, usize, usize); 5] = [
+static TYPE_TAKES: [(Argument, usize, usize); 5] = [
     (Argument::Dictionary, 0, DICTIONARIES),
     (Argument::Rules, 0, 1),
     (Argument::Learned, 0, 1),
@@ -25,7 +25,7 @@ const TYPE_TAKES: [(Argument, usize, usize); 5] = [
     (Argument::Threads, 0, 1),
 ];
 
-const SERVE_TAKES: [(Argument, usize, usize); 6] = [
+static SERVE_TAKES: [(Argument, usize, usize); 6] = [
     (Argument::Learned, 1, 1),
     (Argument::Dictionary, 0, DICTIONARIES),
     (Argument::Rules, 0, 1),
@@ -34,14 +34,14 @@ const SERVE_TAKES: [(Argument, usize, usize); 6] = [
     (Argument::Connections, 0, 1),
 ];
 
-const CHECK_TAKES: [(Argument, usize, usize); 1] = [(Argument::File, 1, 1)];
+static CHECK_TAKES: [(Argument, usize, usize); 1] = [(Argument::File, 1, 1)];
 
-const DUMP_TAKES: [(Argument, usize, usize); 2] = [
+static DUMP_TAKES: [(Argument, usize, usize); 2] = [
     (Argument::Learned, 1, 1),
     (Argument::Book, 0, 1),
 ];
 
-const LOAD_TAKES: [(Argument, usize, usize); 4] = [
+static LOAD_TAKES: [(Argument, usize, usize); 4] = [
     (Argument::Seed, 1, 1),
     (Argument::Sessions, 1, 1),
     (Argument::Lines, 1, 1),

@@ -12,10 +12,10 @@ use skk_text::Memory;
 use std::alloc::Global;
 
 // What stands before the string that a word is quoted by.
-const QUOTED: [char; 9] = ['(', 'c', 'o', 'n', 'c', 'a', 't', ' ', '"'];
+static QUOTED: [char; 9] = ['(', 'c', 'o', 'n', 'c', 'a', 't', ' ', '"'];
 
 // What stands before the strings of a mark.
-const MARKED: [char; 20] = [
+static MARKED: [char; 20] = [
     '(', 's', 'k', 'k', '-', 'i', 'g', 'n', 'o', 'r', 'e', '-', 'd', 'i', 'c', '-', 'w', 'o', 'r',
     'd',
 ];

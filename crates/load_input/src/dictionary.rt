@@ -8,12 +8,12 @@ use skk_text::{Memory, Text, Texts, to_katakana};
 use std::alloc::Global;
 
 // The kana of the syllables.
-const KANA: [char; 16] = [
+static KANA: [char; 16] = [
     'か', 'き', 'く', 'け', 'こ', 'さ', 'し', 'す', 'せ', 'そ', 'た', 'ち', 'つ', 'て', 'と', 'な',
 ];
 
 // What the candidates of a row end with.
-const DIGITS: [char; 3] = ['1', '2', '3'];
+static DIGITS: [char; 3] = ['1', '2', '3'];
 
 /// The dictionary that has a row for each word that is drawn.
 pub fn load_dictionary(alloc: Global) -> Result<Book, Memory>

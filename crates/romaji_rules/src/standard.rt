@@ -12,7 +12,7 @@ use skk_text::{Bytes, Memory, Text};
 use std::alloc::Global;
 
 // What stands before the vowel, and the outputs for a, i, u, e and o.
-const VOWEL_ROWS: [(&str, [&str; 5]); 25] = [
+static VOWEL_ROWS: [(&str, [&str; 5]); 25] = [
     ("", ["あ", "い", "う", "え", "お"]),
     ("k", ["か", "き", "く", "け", "こ"]),
     ("s", ["さ", "し", "す", "せ", "そ"]),
@@ -41,7 +41,7 @@ const VOWEL_ROWS: [(&str, [&str; 5]); 25] = [
 ];
 
 // What stands before the vowel, and the kana before `SMALL`.
-const CONTRACTED_ROWS: [(&str, &str); 14] = [
+static CONTRACTED_ROWS: [(&str, &str); 14] = [
     ("ky", "き"),
     ("sy", "し"),
     ("ty", "ち"),
@@ -59,9 +59,9 @@ const CONTRACTED_ROWS: [(&str, &str); 14] = [
 ];
 
 // What follows the kana of a contracted row for a, i, u, e and o.
-const SMALL: [&str; 5] = ["ゃ", "ぃ", "ゅ", "ぇ", "ょ"];
+static SMALL: [&str; 5] = ["ゃ", "ぃ", "ゅ", "ぇ", "ょ"];
 
-const SINGLE_RULES: [(&str, &str); 26] = [
+static SINGLE_RULES: [(&str, &str); 26] = [
     ("n", "ん"),
     ("nn", "ん"),
     ("n'", "ん"),
@@ -91,9 +91,9 @@ const SINGLE_RULES: [(&str, &str); 26] = [
 ];
 
 // The letters that give っ where they are doubled.
-const DOUBLED: [u8; 17] = *b"bcdfghjkprstvwxyz";
+static DOUBLED: [u8; 17] = *b"bcdfghjkprstvwxyz";
 
-const VOWELS: [u8; 5] = *b"aiueo";
+static VOWELS: [u8; 5] = *b"aiueo";
 
 /// The rules of the standard table.
 pub fn standard_rules(alloc: Global) -> Result<Vec<Rule>, Memory>
