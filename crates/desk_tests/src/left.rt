@@ -1,12 +1,12 @@
 use crate::calling::{learning, stamp_of};
 use crate::sharing::{Shared, opened};
 use crate::worker::Notes;
+use expectations::same;
 use learned_store::{Closed, Store};
 use skk_calls::Tally;
 use skk_disk::{Disk, MemDisk};
 use std::alloc::Global;
 use std::process::Abort;
-use std::test::Fail;
 
 // The bytes of the part lines of a dictionary file, and of a line of the reading with no word.
 const EMPTY_ROW: usize = 57;
@@ -27,12 +27,12 @@ pub(crate) fn reopened<R: Abort>(
     shared: Shared<MemDisk>,
     tally: Tally,
     calls: usize,
-) -> Result<Left<MemDisk>, Fail> {
+) -> Left<MemDisk> {
     let Shared { closed, one, two } = shared;
-    assert_eq!(rt; closed.tally, tally);
-    assert_eq!(rt; closed.disk.made().len(), calls);
-    let store = opened_again(rt, alloc, closed, tally.rows())?;
-    Ok(Left { one, two, store })
+    same(&closed.tally, &tally).expect(rt, "as wanted");
+    same(&closed.disk.made().len(), &calls).expect(rt, "as wanted");
+    let store = opened_again(rt, alloc, closed, tally.rows());
+    Left { one, two, store }
 }
 
 // The learned file of a disk that is left, opened again, which has so many rows.
@@ -41,11 +41,11 @@ fn opened_again<R: Abort, D: Disk + Drop>(
     alloc: Global,
     closed: Closed<D>,
     rows: u64,
-) -> Result<Store<D>, Fail> {
+) -> Store<D> {
     let Closed { disk, .. } = closed;
-    let store = opened(alloc, disk)?;
-    assert_eq!(rt; store.rows(), rows);
-    Ok(store)
+    let store = opened(rt, alloc, disk);
+    same(&store.rows(), &rows).expect(rt, "as wanted");
+    store
 }
 
 impl<D: Disk> Left<D> {
@@ -68,34 +68,21 @@ impl<D: Disk> Left<D> {
     }
 
     // Tells that a book has these words and no others, each with a slash behind it.
-    pub(crate) fn expect_words<R: Abort>(
-        &self,
-        rt: &R,
-        alloc: Global,
-        book: u16,
-        words: &str,
-    ) -> Result<(), Fail> {
-        let dump = self.store.dump(alloc, book)?;
+    pub(crate) fn expect_words<R: Abort>(&self, rt: &R, alloc: Global, book: u16, words: &str) {
+        let dump = self.store.dump(alloc, book).expect(rt, "memory");
         let wanted = format!(in alloc;
             ";; okuri-ari entries.\n;; okuri-nasi entries.\nかんじ /{words}\n"
-        )?;
-        assert_eq!(rt; dump.as_str(), wanted.as_str());
-        Ok(())
+        ).expect(rt, "memory");
+        same(&dump.as_str(), &wanted.as_str()).expect(rt, "as wanted");
     }
 
     // Tells that the shared book has so many words, each of five bytes, and among them each that was learnt there.
-    pub(crate) fn expect_shared<R: Abort>(
-        &self,
-        rt: &R,
-        alloc: Global,
-        count: usize,
-    ) -> Result<(), Fail> {
-        let dump = self.store.dump(alloc, 0)?;
+    pub(crate) fn expect_shared<R: Abort>(&self, rt: &R, alloc: Global, count: usize) {
+        let dump = self.store.dump(alloc, 0).expect(rt, "memory");
         let bytes = count.saturating_mul(6).saturating_add(EMPTY_ROW);
-        assert_eq!(rt; dump.byte_len(), bytes);
+        same(&dump.byte_len(), &bytes).expect(rt, "as wanted");
         self.one.shared.expect_in(rt, alloc, dump.as_str());
         self.two.shared.expect_in(rt, alloc, dump.as_str());
-        Ok(())
     }
 
     // Tells that the stamps in each book are the numbers from 1 on, each once, and that the next one follows. In a book
@@ -118,10 +105,10 @@ impl<D: Disk> Left<D> {
     fn expect_counted<R: Abort>(&mut self, rt: &R, alloc: Global, book: u16, stamps: &[u64]) {
         let mut next: u64 = 1;
         for stamp in stamps {
-            assert_eq!(rt; *stamp, next);
+            same(stamp, &next).expect(rt, "as wanted");
             next = next.saturating_add(1);
         }
-        assert_eq!(rt; stamp_in(rt, alloc, &mut self.store, book), Some(next));
+        same(&stamp_in(rt, alloc, &mut self.store, book), &Some(next)).expect(rt, "as wanted");
     }
 }
 

@@ -1,4 +1,4 @@
-ghost use Rattle.std.specs.Prelude.{◌≡◌, [], None, IfOk};
+ghost use Rattle.std.specs.Prelude.{◌≡◌, [], None};
 ghost use Rattle.skk_disk.specs.Moments.{SameImages};
 ghost use Rattle.learned_store.specs.Stores.{opening_now, Keeps};
 
@@ -15,7 +15,6 @@ use std::alloc::Global;
 use std::marker::Brand;
 use std::process::Abort;
 use std::sync::Wait;
-use std::test::Fail;
 use std::thread::Threads;
 
 // The system's file.
@@ -33,20 +32,26 @@ pub(crate) struct Shared<D> {
 }
 
 // Opens the learned file of a disk over the system's file.
-pub(crate) fn opened<D: Disk + Drop>(alloc: Global, disk: D) -> Result<Store<D>, Fail>
-    ensures { IfOk result (λ store. Keeps D.time D.left_since store.journal store.state None) }
+pub(crate) fn opened<D: Disk + Drop>(rt: &impl Abort, alloc: Global, disk: D) -> Store<D>
+    ensures { Keeps D.time D.left_since result.journal result.state None }
 {
-    let system = system(alloc)?;
+    let system = system(rt, alloc);
     match Store::open(alloc, disk, system, FAR_LIMIT) {
-        Ok(store) => Ok(store),
-        Err(unopened) => Err(Fail::new(unopened.why)),
+        Ok(store) => store,
+        Err(unopened) => panic!(rt; "{}", unopened.why),
     }
 }
 
-fn system(alloc: Global) -> Result<System, Fail> {
+fn system(rt: &impl Abort, alloc: Global) -> System {
     let mut books = Books::new(alloc);
-    books.push(read_file(alloc, DICTIONARY.as_bytes())?.book)?;
-    Ok(System::of_books(alloc, books)?)
+    books
+        .push(
+            read_file(alloc, DICTIONARY.as_bytes())
+                .expect(rt, "a file")
+                .book,
+        )
+        .expect(rt, "memory");
+    System::of_books(alloc, books).expect(rt, "memory")
 }
 
 // Has two workers share a desk over the learned file of a disk.
@@ -55,9 +60,9 @@ pub(crate) fn share<D: Disk + Drop + Send, R: Threads + Wait + Abort + Copy + Dr
     alloc: Global,
     disk: D,
     shift: Shift,
-) -> Result<Shared<D>, Fail> {
-    let store = opened(alloc, disk)?;
-    let made = History::new(alloc)?;
+) -> Shared<D> {
+    let store = opened(&rt, alloc, disk);
+    let made = History::new(alloc).expect(&rt, "memory");
     share_named::<Brand, D, R>(rt, alloc, store, made, shift)
 }
 
@@ -66,13 +71,7 @@ fn share_named<
     N: DeskName + LearnedName + Send + Sync,
     D: Disk + Drop + Send,
     R: Threads + Wait + Abort + Copy + Drop + Send + Sync,
->(
-    rt: R,
-    alloc: Global,
-    store: Store<D>,
-    made: (History, Pen, RollSeat),
-    shift: Shift,
-) -> Result<Shared<D>, Fail>
+>(rt: R, alloc: Global, store: Store<D>, made: (History, Pen, RollSeat), shift: Shift) -> Shared<D>
     requires calm { Keeps D.time D.left_since store.journal store.state None }
     requires named { N.opening ≡ opening_now D.time D.faults store }
     requires past { SameImages N.past (D.left_since store.journal.disk) }
@@ -82,16 +81,16 @@ fn share_named<
 {
     let (history, pen, roll) = made;
     let Ok((desk, mut roll)) = Desk::<D, N, R>::open(rt, alloc, store, history, pen, roll) else {
-        return Err(Fail::new("no desk is opened"));
+        panic!(rt; "no desk is opened");
     };
     let office = &desk;
     let worked = work(&rt, alloc, &office, &mut roll, shift);
     let mut slips = Slips::new(alloc);
-    slips.push(worked.0)?;
-    slips.push(worked.1)?;
-    Ok(Shared {
+    slips.push(worked.0).expect(&rt, "memory");
+    slips.push(worked.1).expect(&rt, "memory");
+    Shared {
         closed: desk.close(roll, slips),
         one: worked.2,
         two: worked.3,
-    })
+    }
 }

@@ -4,10 +4,10 @@ use crate::making::text;
 use dict_complete::complete;
 use dict_files::{DictionaryFile, DictionaryFiles};
 use dict_layers::System;
+use expectations::{same, same_at};
 use skk_text::Texts;
 use std::alloc::Global;
 use std::process::Abort;
-use std::test::Fail;
 
 const WORDS: &str = ";; okuri-ari entries.\nおおk /大/多/[く/多/]/[き/大/]/\nうごk /動/[く/動/]/\n\
     いt /言/行/[った/言/]/\n;; okuri-nasi entries.\n#ねん /#1年/#3年/#0年/\n125 /東京都葛飾区/\np# /#4/\n\
@@ -27,7 +27,7 @@ type Joined = (
     &'static str,
 );
 
-const JOINED: [Joined; 11] = [
+static JOINED: [Joined; 11] = [
     ("", "", WORDS, "", "か", "かんじ"),
     ("", "", WORDS, "", "かんじ", ""),
     ("", "", WORDS, "", "", "#ねん 125 p# かんじ ちょう>"),
@@ -44,7 +44,7 @@ const JOINED: [Joined; 11] = [
 // How many readings the typist's book has and how many the file, how many are given, and the last of them.
 type Counted = (usize, usize, usize, &'static str);
 
-const COUNTED: [Counted; 8] = [
+static COUNTED: [Counted; 8] = [
     (0, 255, 255, "あ254"),
     (0, 256, 256, "あ255"),
     (0, 257, 256, "あ255"),
@@ -106,89 +106,93 @@ complete 5 か = かに かき かさ かん
 ";
 
 #[test]
-fn readings_are_joined(rt: HostRuntime) -> Result<(), Fail> {
+fn readings_are_joined(rt: HostRuntime) {
     for row in &JOINED {
-        expect_joined(&rt, rt.alloc(), row)?;
+        expect_joined(&rt, rt.alloc(), row);
     }
-    Ok(())
 }
 
-fn expect_joined<R: Abort>(rt: &R, alloc: Global, row: &Joined) -> Result<(), Fail> {
+fn expect_joined<R: Abort>(rt: &R, alloc: Global, row: &Joined) {
     let (newest, shared, file, other, prefix, wanted) = *row;
-    let books = (texts(alloc, newest)?, texts(alloc, shared)?);
-    let given = given_of(alloc, &books, file, other, prefix)?;
+    let books = (texts(rt, alloc, newest), texts(rt, alloc, shared));
+    let given = given_of(rt, alloc, &books, file, other, prefix);
     let mut told = String::new(alloc);
-    add_texts(&mut told, &given)?;
-    assert_eq!(rt; told.trim(), wanted, "{row:?}");
-    Ok(())
+    add_texts(rt, &mut told, &given);
+    same_at(&told.trim(), &wanted, &row).expect(rt, "as wanted");
 }
 
 // What is given of the readings of two books and two files.
 fn given_of(
+    rt: &impl Abort,
     alloc: Global,
     (newest, shared): &(Texts, Texts),
     file: &str,
     other: &str,
     prefix: &str,
-) -> Result<Texts, Fail> {
-    let system = files_of(alloc, file, other)?;
-    Ok(complete(alloc, newest, shared, &system, &text(alloc, prefix)?)?)
+) -> Texts {
+    let system = files_of(rt, alloc, file, other);
+    complete(alloc, newest, shared, &system, &text(rt, alloc, prefix)).expect(rt, "memory")
 }
 
 #[test]
-fn readings_are_256_at_most(rt: HostRuntime) -> Result<(), Fail> {
+fn readings_are_256_at_most(rt: HostRuntime) {
     for row in &COUNTED {
-        expect_counted(&rt, rt.alloc(), row)?;
+        expect_counted(&rt, rt.alloc(), row);
     }
-    Ok(())
 }
 
-fn expect_counted<R: Abort>(rt: &R, alloc: Global, row: &Counted) -> Result<(), Fail> {
+fn expect_counted<R: Abort>(rt: &R, alloc: Global, row: &Counted) {
     let (in_book, in_file, count, last) = *row;
-    let newest = texts(alloc, &numbered(alloc, in_book, " ")?)?;
-    let file = numbered(alloc, in_file, " /亜/\n")?;
-    let given = given_of(alloc, &(newest, Texts::new(alloc)), &file, "", "あ")?;
+    let newest = texts(rt, alloc, &numbered(rt, alloc, in_book, " "));
+    let file = numbered(rt, alloc, in_file, " /亜/\n");
+    let given = given_of(rt, alloc, &(newest, Texts::new(alloc)), &file, "", "あ");
     expect_last(rt, &given, count, last);
-    Ok(())
 }
 
 // Tells how many texts there are, and the last of them.
 fn expect_last<R: Abort>(rt: &R, texts: &Texts, count: usize, last: &str) {
-    assert_eq!(rt; texts.len(), count);
-    assert_eq!(rt;
-        texts.as_slice().last().map(|text| text.as_str()),
-        Some(last)
-    );
+    same(&texts.len(), &count).expect(rt, "as wanted");
+    same(
+        &texts.as_slice().last().map(|text| text.as_str()),
+        &Some(last),
+    )
+    .expect(rt, "as wanted");
 }
 
 #[test]
-fn books_are_completed(rt: HostRuntime) -> Result<(), Fail> {
-    run(&rt, rt.alloc(), BOOKS)?;
+fn books_are_completed(rt: HostRuntime) {
+    run(&rt, rt.alloc(), BOOKS);
     run(&rt, rt.alloc(), ONE_STAMP)
 }
 
 // The texts of words.
-fn texts(alloc: Global, words: &str) -> Result<Texts, Fail> {
+fn texts(rt: &impl Abort, alloc: Global, words: &str) -> Texts {
     let mut texts = Texts::new(alloc);
     for word in words.split_whitespace() {
-        texts.push(text(alloc, word)?)?;
+        texts.push(text(rt, alloc, word)).expect(rt, "memory");
     }
-    Ok(texts)
+    texts
 }
 
 // Numbered readings, each with this behind it.
-fn numbered(alloc: Global, count: usize, behind: &str) -> Result<String, Fail> {
+fn numbered(rt: &impl Abort, alloc: Global, count: usize, behind: &str) -> String {
     let mut readings = String::new(alloc);
     for number in 0..count {
-        readings.push_str(&format!(in alloc; "あ{number:03}{behind}")?)?;
+        readings
+            .push_str(&format!(in alloc; "あ{number:03}{behind}").expect(rt, "memory"))
+            .expect(rt, "memory");
     }
-    Ok(readings)
+    readings
 }
 
 // Two files as they lie.
-fn files_of(alloc: Global, file: &str, other: &str) -> Result<System, Fail> {
+fn files_of(rt: &impl Abort, alloc: Global, file: &str, other: &str) -> System {
     let mut files = DictionaryFiles::new(alloc);
-    files.push(DictionaryFile::open(alloc, bytes(alloc, file.as_bytes())?)?)?;
-    files.push(DictionaryFile::open(alloc, bytes(alloc, other.as_bytes())?)?)?;
-    Ok(System::of_files(alloc, files)?)
+    files
+        .push(DictionaryFile::open(alloc, bytes(rt, alloc, file.as_bytes())).expect(rt, "a file"))
+        .expect(rt, "memory");
+    files
+        .push(DictionaryFile::open(alloc, bytes(rt, alloc, other.as_bytes())).expect(rt, "a file"))
+        .expect(rt, "memory");
+    System::of_files(alloc, files).expect(rt, "memory")
 }

@@ -2,11 +2,11 @@ use crate::making::text;
 use dict_files::{DictionaryFile, DictionaryFiles, walks_go_over_completions};
 use dict_format::{FileFault, print_line, read_file};
 use dict_layers::System;
+use expectations::{same, same_at};
 use skk_calls::{Books, Part, RowKey, Rows, Walk};
 use skk_text::{Bytes, Text, TextFault};
 use std::alloc::Global;
 use std::process::Abort;
-use std::test::Fail;
 
 // Keys with two lines, and bad lines before them.
 const TWICE: &str = "かんじ /漢字/\nかんじ /幹事/\n";
@@ -35,7 +35,7 @@ const UNSORTED: &str = "いい /良い/\nい /胃/\nい! /異/\nいあ /居合/\
 
 const MIXED: &str = "か /下/\nが /蛾/\nーか /可/\nka /科/\nKa /化/\n";
 
-const FILES: [&str; 14] = [
+static FILES: [&str; 14] = [
     "",
     "\n",
     ";; okuri-nasi entries.\n",
@@ -53,7 +53,7 @@ const FILES: [&str; 14] = [
 ];
 
 // Keys of these files, and others.
-const KEYS: [(Part, &str); 24] = [
+static KEYS: [(Part, &str); 24] = [
     (Part::Nasi, "かんじ"),
     (Part::Ari, "おおk"),
     (Part::Ari, "うごk"),
@@ -80,93 +80,98 @@ const KEYS: [(Part, &str); 24] = [
     (Part::Nasi, "\u{10FFFF}"),
 ];
 
-pub fn bytes(alloc: Global, content: &[u8]) -> Result<Bytes, Fail> {
+pub fn bytes(rt: &impl Abort, alloc: Global, content: &[u8]) -> Bytes {
     let mut bytes = Vec::new(alloc);
-    bytes.extend_from_slice(content)?;
-    Ok(Bytes::of(bytes))
+    bytes.extend_from_slice(content).expect(rt, "memory");
+    Bytes::of(bytes)
 }
 
 // A file's rows in memory.
-fn rows_of(alloc: Global, file: &str) -> Result<System, Fail> {
+fn rows_of(rt: &impl Abort, alloc: Global, file: &str) -> System {
     let mut books = Books::new(alloc);
-    books.push(read_file(alloc, file.as_bytes())?.book)?;
-    Ok(System::of_books(alloc, books)?)
+    books
+        .push(read_file(alloc, file.as_bytes()).expect(rt, "a file").book)
+        .expect(rt, "memory");
+    System::of_books(alloc, books).expect(rt, "memory")
 }
 
 // A file as it lies.
-fn file_of(alloc: Global, file: &str) -> Result<System, Fail> {
+fn file_of(rt: &impl Abort, alloc: Global, file: &str) -> System {
     let mut files = DictionaryFiles::new(alloc);
-    files.push(DictionaryFile::open(alloc, bytes(alloc, file.as_bytes())?)?)?;
-    Ok(System::of_files(alloc, files)?)
+    files
+        .push(DictionaryFile::open(alloc, bytes(rt, alloc, file.as_bytes())).expect(rt, "a file"))
+        .expect(rt, "memory");
+    System::of_files(alloc, files).expect(rt, "memory")
 }
 
 // The lines of the rows of a key.
-fn lines_of(alloc: Global, system: &System, part: Part, reading: &str) -> Result<Text, Fail> {
-    match RowKey::new(part, text(alloc, reading)?) {
-        Ok(key) => lines_of_key(alloc, system, &key),
-        Err(_) => Ok(Text::new(alloc)),
+fn lines_of(rt: &impl Abort, alloc: Global, system: &System, part: Part, reading: &str) -> Text {
+    match RowKey::new(part, text(rt, alloc, reading)) {
+        Ok(key) => lines_of_key(rt, alloc, system, &key),
+        Err(_) => Text::new(alloc),
     }
 }
 
-fn lines_of_key(alloc: Global, system: &System, key: &RowKey) -> Result<Text, Fail> {
-    let rows = system.find(alloc, key)?;
-    lines_of_rows(alloc, &rows)
+fn lines_of_key(rt: &impl Abort, alloc: Global, system: &System, key: &RowKey) -> Text {
+    let rows = system.find(alloc, key).expect(rt, "memory");
+    lines_of_rows(rt, alloc, &rows)
 }
 
-fn lines_of_rows(alloc: Global, rows: &Rows) -> Result<Text, Fail> {
+fn lines_of_rows(rt: &impl Abort, alloc: Global, rows: &Rows) -> Text {
     let mut lines = Text::new(alloc);
     for row in rows.iter() {
-        lines.push_str(print_line(alloc, row)?.as_str())?;
+        lines
+            .push_str(print_line(alloc, row).expect(rt, "memory").as_str())
+            .expect(rt, "memory");
     }
-    Ok(lines)
+    lines
 }
 
 // The readings of a walk over the first file, at most ten, each behind a space.
-fn readings_of(alloc: Global, system: &System) -> Result<Text, Fail> {
+fn readings_of(rt: &impl Abort, alloc: Global, system: &System) -> Text {
     let mut readings = Text::new(alloc);
     let mut low = Text::new(alloc);
     for _ in 0..10 {
-        let Some(next) = next_reading(alloc, system, &low)? else {
-            return Ok(readings);
+        let Some(next) = next_reading(rt, alloc, system, &low) else {
+            return readings;
         };
-        readings.push(' ')?;
-        readings.push_str(next.as_str())?;
+        readings.push(' ').expect(rt, "memory");
+        readings.push_str(next.as_str()).expect(rt, "memory");
         low = next;
     }
-    Ok(readings)
+    readings
 }
 
 // The next reading of the first file, where there are a file and a reading.
-fn next_reading(alloc: Global, system: &System, low: &Text) -> Result<Option<Text>, Fail> {
+fn next_reading(rt: &impl Abort, alloc: Global, system: &System, low: &Text) -> Option<Text> {
     if system.files() == 0 {
-        return Ok(None);
+        return None;
     }
-    Ok(system.above(alloc, 0, low)?)
+    system.above(alloc, 0, low).expect(rt, "memory")
 }
 
 #[test]
-fn files_as_they_lie_have_the_rows_that_are_read(rt: HostRuntime) -> Result<(), Fail> {
+fn files_as_they_lie_have_the_rows_that_are_read(rt: HostRuntime) {
     walks_go_over_completions();
     for file in &FILES {
-        expect_same_file(&rt, rt.alloc(), file)?;
+        expect_same_file(&rt, rt.alloc(), file);
     }
-    Ok(())
 }
 
-fn expect_same_file<R: Abort>(rt: &R, alloc: Global, file: &str) -> Result<(), Fail> {
-    let rows = rows_of(alloc, file)?;
-    let lies = file_of(alloc, file)?;
+fn expect_same_file<R: Abort>(rt: &R, alloc: Global, file: &str) {
+    let rows = rows_of(rt, alloc, file);
+    let lies = file_of(rt, alloc, file);
     expect_same(rt, alloc, &rows, &lies)
 }
 
 // Tells that a file as it lies has the rows and the readings of its rows in memory.
-fn expect_same<R: Abort>(rt: &R, alloc: Global, rows: &System, lies: &System) -> Result<(), Fail> {
-    assert_eq!(rt; lies.file_count(), 1);
+fn expect_same<R: Abort>(rt: &R, alloc: Global, rows: &System, lies: &System) {
+    same(&lies.file_count(), &1).expect(rt, "as wanted");
     for (part, reading) in &KEYS {
-        let wanted = lines_of(alloc, rows, *part, reading)?;
-        expect_lines(rt, alloc, lies, (*part, *reading), wanted.as_str())?;
+        let wanted = lines_of(rt, alloc, rows, *part, reading);
+        expect_lines(rt, alloc, lies, (*part, *reading), wanted.as_str());
     }
-    let wanted = readings_of(alloc, rows)?;
+    let wanted = readings_of(rt, alloc, rows);
     expect_readings(rt, alloc, lies, wanted.as_str())
 }
 
@@ -177,26 +182,19 @@ fn expect_lines<R: Abort>(
     lies: &System,
     (part, reading): (Part, &str),
     wanted: &str,
-) -> Result<(), Fail> {
-    let lines = lines_of(alloc, lies, part, reading)?;
-    assert_eq!(rt; lines.as_str(), wanted, "of {reading}");
-    Ok(())
+) {
+    let lines = lines_of(rt, alloc, lies, part, reading);
+    same_at(&lines.as_str(), &wanted, &reading).expect(rt, "as wanted");
 }
 
 // Tells which readings the first file has.
-fn expect_readings<R: Abort>(
-    rt: &R,
-    alloc: Global,
-    lies: &System,
-    wanted: &str,
-) -> Result<(), Fail> {
-    let readings = readings_of(alloc, lies)?;
-    assert_eq!(rt; readings.as_str(), wanted);
-    Ok(())
+fn expect_readings<R: Abort>(rt: &R, alloc: Global, lies: &System, wanted: &str) {
+    let readings = readings_of(rt, alloc, lies);
+    same(&readings.as_str(), &wanted).expect(rt, "as wanted");
 }
 
 // A file, a key, and its line.
-const FIRST_LINES: [(&str, Part, &str, &str); 13] = [
+static FIRST_LINES: [(&str, Part, &str, &str); 13] = [
     (TWICE, Part::Nasi, "かんじ", "かんじ /漢字/"),
     (BAD_FIRST, Part::Nasi, "かんじ", "かんじ /感じ;感/"),
     (PARTS, Part::Ari, "おおk", "おおk /大/[く/多/]/"),
@@ -213,7 +211,7 @@ const FIRST_LINES: [(&str, Part, &str, &str); 13] = [
 ];
 
 // A file, and its readings.
-const READINGS: [(&str, &str); 6] = [
+static READINGS: [(&str, &str); 6] = [
     ("", ""),
     (BAD_FIRST, " かんじ"),
     (PARTS, " あ い いい"),
@@ -223,30 +221,28 @@ const READINGS: [(&str, &str); 6] = [
 ];
 
 #[test]
-fn the_first_line_of_a_key_that_spells_a_row_counts(rt: HostRuntime) -> Result<(), Fail> {
+fn the_first_line_of_a_key_that_spells_a_row_counts(rt: HostRuntime) {
     for (file, part, reading, line) in &FIRST_LINES {
-        let lies = file_of(rt.alloc(), file)?;
-        expect_lines(&rt, rt.alloc(), &lies, (*part, *reading), line)?;
+        let lies = file_of(&rt, rt.alloc(), file);
+        expect_lines(&rt, rt.alloc(), &lies, (*part, *reading), line);
     }
-    Ok(())
 }
 
 #[test]
-fn readings_are_gone_over_in_order(rt: HostRuntime) -> Result<(), Fail> {
+fn readings_are_gone_over_in_order(rt: HostRuntime) {
     for (file, readings) in &READINGS {
-        let lies = file_of(rt.alloc(), file)?;
-        expect_readings(&rt, rt.alloc(), &lies, readings)?;
+        let lies = file_of(&rt, rt.alloc(), file);
+        expect_readings(&rt, rt.alloc(), &lies, readings);
     }
-    Ok(())
 }
 
 #[test]
-fn files_that_are_no_text_are_refused(rt: HostRuntime) -> Result<(), Fail> {
-    let file = bytes(rt.alloc(), b"\xE3\x81\x82 /\xA4\xA2/\n")?;
+fn files_that_are_no_text_are_refused(rt: HostRuntime) {
+    let file = bytes(&rt, rt.alloc(), b"\xE3\x81\x82 /\xA4\xA2/\n");
     let fault = DictionaryFile::open(rt.alloc(), file).err();
-    assert_eq!(rt;
-        fault,
-        Some(FileFault::NoText(TextFault::NotUtf8 { at: 5 }))
-    );
-    Ok(())
+    same(
+        &fault,
+        &Some(FileFault::NoText(TextFault::NotUtf8 { at: 5 })),
+    )
+    .expect(&rt, "as wanted");
 }

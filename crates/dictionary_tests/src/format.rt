@@ -4,27 +4,28 @@ use dict_format::{
     lines_spell_rows_or_have_reasons, print_file, print_item, print_line,
     printing_order_moves_rows, read_file, read_line,
 };
+use expectations::{same, same_at};
 use skk_calls::{Book, Cand, Part};
-use skk_text::{Memory, Text, TextFault};
+use skk_text::{Text, TextFault};
 use std::alloc::Global;
 use std::process::Abort;
-use std::test::Fail;
 
 // A text that is `start`, `unit` so many times, and then `end`.
 fn long_text(
+    rt: &impl Abort,
     alloc: Global,
     start: &str,
     unit: &str,
     count: usize,
     end: &str,
-) -> Result<Text, Memory> {
+) -> Text {
     let mut text = Text::new(alloc);
-    text.push_str(start)?;
+    text.push_str(start).expect(rt, "memory");
     for _ in 0..count {
-        text.push_str(unit)?;
+        text.push_str(unit).expect(rt, "memory");
     }
-    text.push_str(end)?;
-    Ok(text)
+    text.push_str(end).expect(rt, "memory");
+    text
 }
 
 // The canonical line of the row that a line spells, or why it spells none.
@@ -34,7 +35,7 @@ fn printed_line(alloc: Global, part: Part, line: &Text) -> Result<Text, LineFaul
 }
 
 // Lines, each with its part and with the canonical line of its row.
-const LINES: &[(Part, &str, &str)] = &[
+static LINES: &[(Part, &str, &str)] = &[
     // what stands is printed as it stands
     (Part::Nasi, "かんじ /漢字/幹事;宴会の/感じ/", "かんじ /漢字/幹事;宴会の/感じ/"),
     (Part::Nasi, "#ねん /#1年/#3年/#0年/", "#ねん /#1年/#3年/#0年/"),
@@ -126,25 +127,17 @@ const LINES: &[(Part, &str, &str)] = &[
 ];
 
 #[test]
-fn lines_are_read_and_printed(rt: HostRuntime) -> Result<(), Fail> {
+fn lines_are_read_and_printed(rt: HostRuntime) {
     for (part, line, canonical) in LINES {
-        expect_line(&rt, rt.alloc(), *part, line, canonical)?;
+        expect_line(&rt, rt.alloc(), *part, line, canonical);
     }
-    Ok(())
 }
 
-fn expect_line<R: Abort>(
-    rt: &R,
-    alloc: Global,
-    part: Part,
-    line: &str,
-    canonical: &str,
-) -> Result<(), Memory> {
-    match printed_line(alloc, part, &text(alloc, line)?) {
-        Ok(again) => assert_eq!(rt; again.as_str(), canonical),
+fn expect_line<R: Abort>(rt: &R, alloc: Global, part: Part, line: &str, canonical: &str) {
+    match printed_line(alloc, part, &text(rt, alloc, line)) {
+        Ok(again) => same(&again.as_str(), &canonical).expect(rt, "as wanted"),
         Err(fault) => assert!(rt; false, "at {line:?}: {fault:?}"),
     }
-    Ok(())
 }
 
 // The part of a line; the line, which is a text, another one so many times, and an end; and the first reason for which
@@ -158,7 +151,7 @@ type RefusedRow = (
     Option<LineReason>,
 );
 
-const REFUSED: &[RefusedRow] = &[
+static REFUSED: &[RefusedRow] = &[
     (Part::Nasi, "か /蚊", "", 0, "", Some(LineReason::NoSlash)),
     (Part::Nasi, "か /", "", 0, "", Some(LineReason::NoSlash)),
     (Part::Nasi, "か //", "", 0, "", Some(LineReason::Empty)),
@@ -263,41 +256,38 @@ const REFUSED: &[RefusedRow] = &[
 ];
 
 #[test]
-fn lines_are_refused_by_their_first_reason(rt: HostRuntime) -> Result<(), Fail> {
+fn lines_are_refused_by_their_first_reason(rt: HostRuntime) {
     for row in REFUSED {
-        expect_refused(&rt, rt.alloc(), row)?;
+        expect_refused(&rt, rt.alloc(), row);
     }
-    Ok(())
 }
 
-fn expect_refused<R: Abort>(rt: &R, alloc: Global, row: &RefusedRow) -> Result<(), Memory> {
+fn expect_refused<R: Abort>(rt: &R, alloc: Global, row: &RefusedRow) {
     let (part, start, unit, count, end, reason) = *row;
-    let line = long_text(alloc, start, unit, count, end)?;
+    let line = long_text(rt, alloc, start, unit, count, end);
     let fault = printed_line(alloc, part, &line).err();
-    assert_eq!(rt; fault, reason.map(LineFault::Reason), "{row:?}");
-    Ok(())
+    same_at(&fault, &reason.map(LineFault::Reason), &row).expect(rt, "as wanted");
 }
 
-const ITEMS: &[(&str, &str, &str)] = &[
+static ITEMS: &[(&str, &str, &str)] = &[
     ("[x", "", "(concat \"[x\")"),
     ("a;b", "宴会の", "(concat \"a\\073b\");宴会の"),
 ];
 
 // The item of a word and its note.
-fn printed_item(alloc: Global, word: &str, note: &str) -> Result<Text, Fail> {
-    let cand = Cand::new(text(alloc, word)?, text(alloc, note)?)?;
-    Ok(print_item(alloc, &cand)?)
+fn printed_item(rt: &impl Abort, alloc: Global, word: &str, note: &str) -> Text {
+    let cand = Cand::new(text(rt, alloc, word), text(rt, alloc, note)).expect(rt, "a candidate");
+    print_item(alloc, &cand).expect(rt, "memory")
 }
 
 #[test]
-fn items_are_printed(rt: HostRuntime) -> Result<(), Fail> {
+fn items_are_printed(rt: HostRuntime) {
     for (word, note, item) in ITEMS {
-        let printed = printed_item(rt.alloc(), word, note)?;
-        assert_eq!(rt; printed.as_str(), *item);
+        let printed = printed_item(&rt, rt.alloc(), word, note);
+        same(&printed.as_str(), item).expect(&rt, "as wanted");
     }
     lines_spell_one_row();
     lines_spell_rows_or_have_reasons();
-    Ok(())
 }
 
 const S: &str = ";; okuri-ari entries.
@@ -315,7 +305,7 @@ p# /#4/
 // A file, how its rows are printed, and its bad lines by their numbers, each with its reason.
 type FileRow = (&'static str, &'static str, &'static [(usize, LineReason)]);
 
-const FILES: &[FileRow] = &[
+static FILES: &[FileRow] = &[
     (S, S, &[]),
     ("", ";; okuri-ari entries.\n;; okuri-nasi entries.\n", &[]),
     // a mark at the head, no part line, rows out of order, and no LF at the end
@@ -346,29 +336,22 @@ const FILES: &[FileRow] = &[
 ];
 
 // Tells how a file is printed, and its bad lines.
-fn expect_file<R: Abort>(rt: &R, alloc: Global, row: &FileRow) -> Result<(), Fail> {
+fn expect_file<R: Abort>(rt: &R, alloc: Global, row: &FileRow) {
     let (file, printed, bad) = *row;
-    let listed = read_file(alloc, file.as_bytes())?;
-    expect_printed(rt, alloc, &listed.book, printed)?;
+    let listed = read_file(alloc, file.as_bytes()).expect(rt, "a file");
+    expect_printed(rt, alloc, &listed.book, printed);
     expect_bad(rt, &listed.bad, bad);
-    Ok(())
 }
 
-fn expect_printed<R: Abort>(
-    rt: &R,
-    alloc: Global,
-    book: &Book,
-    printed: &str,
-) -> Result<(), Memory> {
-    let text = print_file(alloc, book)?;
-    assert_eq!(rt; text.as_str(), printed);
-    Ok(())
+fn expect_printed<R: Abort>(rt: &R, alloc: Global, book: &Book, printed: &str) {
+    let text = print_file(alloc, book).expect(rt, "memory");
+    same(&text.as_str(), &printed).expect(rt, "as wanted");
 }
 
 fn expect_bad<R: Abort>(rt: &R, found: &BadLines, bad: &[(usize, LineReason)]) {
-    assert_eq!(rt; found.len(), bad.len(), "at {bad:?}");
+    same_at(&found.len(), &bad.len(), &bad).expect(rt, "as wanted");
     for (found, wanted) in found.as_slice().iter().zip(bad) {
-        assert_eq!(rt; (found.line, found.reason), *wanted, "at {bad:?}");
+        same_at(&(found.line, found.reason), wanted, &bad).expect(rt, "as wanted");
     }
 }
 
@@ -378,16 +361,16 @@ fn fault_of(alloc: Global, file: &[u8]) -> Option<FileFault> {
 }
 
 #[test]
-fn files_are_read_and_printed(rt: HostRuntime) -> Result<(), Fail> {
+fn files_are_read_and_printed(rt: HostRuntime) {
     for row in FILES {
-        expect_file(&rt, rt.alloc(), row)?;
+        expect_file(&rt, rt.alloc(), row);
     }
     let fault = fault_of(rt.alloc(), b";; okuri-nasi entries.\n\xA4\xA2");
-    assert_eq!(rt;
-        fault,
-        Some(FileFault::NoText(TextFault::NotUtf8 { at: 23 }))
-    );
+    same(
+        &fault,
+        &Some(FileFault::NoText(TextFault::NotUtf8 { at: 23 })),
+    )
+    .expect(&rt, "as wanted");
     files_list_one_thing();
     printing_order_moves_rows();
-    Ok(())
 }

@@ -1,4 +1,4 @@
-ghost use Rattle.std.specs.Prelude.{◌≡◌, ◌||◌, true, false, IfOk, not};
+ghost use Rattle.std.specs.Prelude.{◌≡◌, ◌||◌, true, false, not};
 ghost use Rattle.std.specs.Bool.{OnTrue};
 ghost use Rattle.skk_calls.specs.declared.part.Part.TheVariants.{Ari};
 ghost use Rattle.skk_text.specs.Lists.{is_empty};
@@ -8,15 +8,15 @@ ghost use Rattle.skk_calls.specs.States.{fits_count, has_stamp};
 
 use dict_layers::System;
 use dict_rows::line_length;
+use expectations::same_at;
 use learn_index::{Index, KeptRow};
 use skk_calls::{
     Block, Blocks, Book, Books, Call, Cand, Cands, Learned, Okuri, Part, Reply, Row, RowKey,
 };
-use skk_text::{Copies, Memory, Text, Texts};
-use std::alloc::{AllocError, Global};
+use skk_text::{Copies, Text, Texts};
+use std::alloc::Global;
 use std::mem::swap;
 use std::process::Abort;
-use std::test::Fail;
 
 // Two typists' books, the shared book and a system file.
 const LAYERS: &str = "
@@ -124,38 +124,38 @@ count 7 = 5
 ";
 
 #[test]
-fn layers_are_looked_up(rt: HostRuntime) -> Result<(), Fail> {
+fn layers_are_looked_up(rt: HostRuntime) {
     run(&rt, rt.alloc(), LAYERS)
 }
 
 #[test]
-fn learnings_are_taken_back(rt: HostRuntime) -> Result<(), Fail> {
+fn learnings_are_taken_back(rt: HostRuntime) {
     run(&rt, rt.alloc(), TAKEN_BACK)
 }
 
 #[test]
-fn words_are_purged(rt: HostRuntime) -> Result<(), Fail> {
+fn words_are_purged(rt: HostRuntime) {
     run(&rt, rt.alloc(), PURGES)
 }
 
 #[test]
-fn stamps_end(rt: HostRuntime) -> Result<(), Fail> {
+fn stamps_end(rt: HostRuntime) {
     run(&rt, rt.alloc(), LAST_STAMPS)
 }
 
 #[test]
-fn lines_may_be_long(rt: HostRuntime) -> Result<(), Fail> {
+fn lines_may_be_long(rt: HostRuntime) {
     run(&rt, rt.alloc(), LONG)
 }
 
 #[test]
-fn states_are_rebuilt(rt: HostRuntime) -> Result<(), Fail> {
+fn states_are_rebuilt(rt: HostRuntime) {
     run(&rt, rt.alloc(), REBUILT)
 }
 
 // Runs a script: on each line stands a command, a `=`, and what it tells.
-pub fn run(rt: &impl Abort, alloc: Global, script: &str) -> Result<(), Fail> {
-    let mut desk = Desk::new(alloc)?;
+pub fn run(rt: &impl Abort, alloc: Global, script: &str) {
+    let mut desk = Desk::new(rt, alloc);
     desk.run_lines(rt, alloc, script)
 }
 
@@ -191,230 +191,251 @@ struct Desk {
 }
 
 impl Desk {
-    fn new(alloc: Global) -> Result<Desk, Fail> {
-        let system = System::of_books(alloc, Books::new(alloc))?;
-        Ok(Desk {
+    fn new(rt: &impl Abort, alloc: Global) -> Desk {
+        let system = System::of_books(alloc, Books::new(alloc)).expect(rt, "memory");
+        Desk {
             index: Index::new(alloc),
             rebuilt: Index::new(alloc),
             system,
             learnings: Vec::new(alloc),
-        })
-    }
-
-    fn run_lines(&mut self, rt: &impl Abort, alloc: Global, script: &str) -> Result<(), Fail> {
-        for line in script.trim().lines() {
-            self.run_line(rt, alloc, line)?;
         }
-        Ok(())
     }
 
-    fn run_line(&mut self, rt: &impl Abort, alloc: Global, line: &str) -> Result<(), Fail> {
-        let (command, wanted) = line.split_once('=').ok_or("no `=`")?;
-        let told = self.run(alloc, &parts(command))?;
-        assert_eq!(rt; told.as_str(), wanted.trim(), "at {line}");
-        Ok(())
+    fn run_lines(&mut self, rt: &impl Abort, alloc: Global, script: &str) {
+        for line in script.trim().lines() {
+            self.run_line(rt, alloc, line);
+        }
+    }
+
+    fn run_line(&mut self, rt: &impl Abort, alloc: Global, line: &str) {
+        let (command, wanted) = line.split_once('=').expect(rt, "no `=`");
+        let told = self.run(rt, alloc, &parts(command));
+        same_at(&told.as_str(), &wanted.trim(), &line).expect(rt, "as wanted");
     }
 
     // Runs a command, and gives what it tells.
-    fn run(&mut self, alloc: Global, line: &Line) -> Result<String, Fail> {
+    fn run(&mut self, rt: &impl Abort, alloc: Global, line: &Line) -> String {
         match line.command {
-            "learn" | "purge" | "find" | "complete" => self.ask_line(alloc, line),
-            "forge" => self.forge(alloc, line),
-            "unlearn" => self.unlearn(alloc, line.number),
-            "file" => self.file(alloc, line),
-            "block" => self.block(alloc, line),
-            "put" => self.put(alloc, line),
-            "drop" => self.drop_row(alloc, line),
-            "set" => self.set_count(alloc, line),
-            "swap" => self.swap(alloc),
-            _ => self.tell(alloc, line),
+            "learn" | "purge" | "find" | "complete" => self.ask_line(rt, alloc, line),
+            "forge" => self.forge(rt, alloc, line),
+            "unlearn" => self.unlearn(rt, alloc, line.number),
+            "file" => self.file(rt, alloc, line),
+            "block" => self.block(rt, alloc, line),
+            "put" => self.put(rt, alloc, line),
+            "drop" => self.drop_row(rt, alloc, line),
+            "set" => self.set_count(rt, alloc, line),
+            "swap" => self.swap(rt, alloc),
+            _ => self.tell(rt, alloc, line),
         }
     }
 
     // Asks the call of a line.
-    fn ask_line(&mut self, alloc: Global, line: &Line) -> Result<String, Fail> {
-        let call = call_of(alloc, line)?;
-        self.ask(alloc, call)
+    fn ask_line(&mut self, rt: &impl Abort, alloc: Global, line: &Line) -> String {
+        let call = call_of(rt, alloc, line);
+        self.ask(rt, alloc, call)
     }
 
     // Asks a call, tells its reply, and keeps what was learnt.
-    fn ask(&mut self, alloc: Global, call: Call) -> Result<String, Fail>
+    fn ask(&mut self, rt: &impl Abort, alloc: Global, call: Call) -> String
         requires { is_fit call ≡ true }
     {
-        let reply = self.reply(alloc, call)?;
-        let told = reply_text(alloc, &reply)?;
-        self.keep(reply)?;
-        Ok(told)
+        let reply = self.reply(rt, alloc, call);
+        let told = reply_text(rt, alloc, &reply);
+        self.keep(rt, reply);
+        told
     }
 
     // Keeps what was learnt, where a reply tells of that.
-    fn keep(&mut self, reply: Reply) -> Result<(), AllocError> {
+    fn keep(&mut self, rt: &impl Abort, reply: Reply) {
         if let Some(learned) = learned_of(reply) {
-            self.learnings.push(learned)?;
+            self.learnings.push(learned).expect(rt, "memory");
         }
-        Ok(())
     }
 
     // The reply to a call. Calls are let go here alone: each place where one is takes long to prove.
-    fn reply(&mut self, alloc: Global, call: Call) -> Result<Reply, Memory>
+    fn reply(&mut self, rt: &impl Abort, alloc: Global, call: Call) -> Reply
         requires { is_fit call ≡ true }
     {
-        self.reply_to(alloc, &call)
+        self.reply_to(rt, alloc, &call)
     }
 
-    fn reply_to(&mut self, alloc: Global, call: &Call) -> Result<Reply, Memory>
+    fn reply_to(&mut self, rt: &impl Abort, alloc: Global, call: &Call) -> Reply
         requires { is_fit call.now ≡ true }
     {
         if matches!(call, Call::Lookup { .. } | Call::Complete { .. }) {
-            return self.index.answer(alloc, &self.system, call);
+            return self
+                .index
+                .answer(alloc, &self.system, call)
+                .expect(rt, "memory");
         }
-        let plan = self.index.plan(alloc, call)?;
-        Ok(self.index.apply(plan))
+        let plan = self.index.plan(alloc, call).expect(rt, "memory");
+        self.index.apply(plan)
     }
 
     // Keeps as learnt what was never learnt.
-    fn forge(&mut self, alloc: Global, line: &Line) -> Result<String, Fail> {
-        let key = key(alloc, line.reading)?;
-        let learned = Learned::new(line.number, key, line.word.parse()?, None);
-        self.learnings.push(learned)?;
-        done_text(alloc)
+    fn forge(&mut self, rt: &impl Abort, alloc: Global, line: &Line) -> String {
+        let key = key(rt, alloc, line.reading);
+        let learned = Learned::new(
+            line.number,
+            key,
+            line.word.parse().expect(rt, "a number"),
+            None,
+        );
+        self.learnings.push(learned).expect(rt, "memory");
+        done_text(rt, alloc)
     }
 
     // Takes back what was learnt, by its place among what is kept.
-    fn unlearn(&mut self, alloc: Global, place: u16) -> Result<String, Fail> {
+    fn unlearn(&mut self, rt: &impl Abort, alloc: Global, place: u16) -> String {
         let place = usize::from(place);
         if place >= self.learnings.len() {
-            return done_text(alloc);
+            return done_text(rt, alloc);
         }
         let learned = self.learnings.remove(place);
-        self.ask(alloc, Call::Unlearn { learned })
+        self.ask(rt, alloc, Call::Unlearn { learned })
     }
 
     // Makes a book the one system file, or this and another the two.
-    fn file(&mut self, alloc: Global, line: &Line) -> Result<String, Fail> {
+    fn file(&mut self, rt: &impl Abort, alloc: Global, line: &Line) -> String {
         let mut books = Books::new(alloc);
-        books.push(self.index.book(alloc, line.number)?)?;
+        books
+            .push(self.index.book(alloc, line.number).expect(rt, "memory"))
+            .expect(rt, "memory");
         if !line.reading.is_empty() {
-            books.push(self.index.book(alloc, line.reading.parse()?)?)?;
+            books
+                .push(
+                    self.index
+                        .book(alloc, line.reading.parse().expect(rt, "a number"))
+                        .expect(rt, "memory"),
+                )
+                .expect(rt, "memory");
         }
-        self.system = System::of_books(alloc, books)?;
-        done_text(alloc)
+        self.system = System::of_books(alloc, books).expect(rt, "memory");
+        done_text(rt, alloc)
     }
 
     // Puts a row with a block alone into a book, with its count.
-    fn block(&mut self, alloc: Global, line: &Line) -> Result<String, Fail> {
+    fn block(&mut self, rt: &impl Abort, alloc: Global, line: &Line) -> String {
         let count = self.index.count(line.number);
-        let block = one_block(alloc, line)?;
-        let key = key(alloc, line.reading)?;
+        let block = one_block(rt, alloc, line);
+        let key = key(rt, alloc, line.reading);
         if key.part() != Part::Ari {
-            return done_text(alloc);
+            return done_text(rt, alloc);
         }
-        let row = block_row(alloc, key, block, count)?;
-        put_into(&mut self.index, alloc, line.number, count, row)
+        let row = block_row(rt, alloc, key, block, count);
+        put_into(rt, &mut self.index, alloc, line.number, count, row)
     }
 
     // Copies a row into what is rebuilt: into its book, or into another.
-    fn put(&mut self, alloc: Global, line: &Line) -> Result<String, Fail> {
-        let key = key(alloc, line.reading)?;
-        let row = self.index.row(line.number, &key).ok_or("no row")?;
-        let row = row.copy(alloc)?;
+    fn put(&mut self, rt: &impl Abort, alloc: Global, line: &Line) -> String {
+        let key = key(rt, alloc, line.reading);
+        let row = self.index.row(line.number, &key).expect(rt, "no row");
+        let row = row.copy(alloc).expect(rt, "memory");
         let count = self.index.count(line.number);
         let book = line.word.parse().unwrap_or(line.number);
-        put_into(&mut self.rebuilt, alloc, book, count, row)
+        put_into(rt, &mut self.rebuilt, alloc, book, count, row)
     }
 
-    fn drop_row(&mut self, alloc: Global, line: &Line) -> Result<String, Fail> {
-        let key = key(alloc, line.reading)?;
-        let count = line.word.parse()?;
+    fn drop_row(&mut self, rt: &impl Abort, alloc: Global, line: &Line) -> String {
+        let key = key(rt, alloc, line.reading);
+        let count = line.word.parse().expect(rt, "a number");
         if self.index.count(line.number) <= count {
-            self.index.drop_row(alloc, line.number, count, &key)?;
+            self.index
+                .drop_row(alloc, line.number, count, &key)
+                .expect(rt, "memory");
         }
-        done_text(alloc)
+        done_text(rt, alloc)
     }
 
-    fn set_count(&mut self, alloc: Global, line: &Line) -> Result<String, Fail> {
-        let count = line.reading.parse()?;
+    fn set_count(&mut self, rt: &impl Abort, alloc: Global, line: &Line) -> String {
+        let count = line.reading.parse().expect(rt, "a number");
         if self.index.count(line.number) <= count {
-            self.index.set_count(alloc, line.number, count)?;
+            self.index
+                .set_count(alloc, line.number, count)
+                .expect(rt, "memory");
         }
-        done_text(alloc)
+        done_text(rt, alloc)
     }
 
     // Goes on with what was rebuilt.
-    fn swap(&mut self, alloc: Global) -> Result<String, Fail> {
+    fn swap(&mut self, rt: &impl Abort, alloc: Global) -> String {
         swap(&mut self.index, &mut self.rebuilt);
-        done_text(alloc)
+        done_text(rt, alloc)
     }
 
     // Tells of a row, the readings of a book, a count, or how many rows there are.
-    fn tell(&self, alloc: Global, line: &Line) -> Result<String, Fail> {
+    fn tell(&self, rt: &impl Abort, alloc: Global, line: &Line) -> String {
         match line.command {
             "row" => {
-                let key = key(alloc, line.reading)?;
-                row_text(alloc, self.index.row(line.number, &key))
+                let key = key(rt, alloc, line.reading);
+                row_text(rt, alloc, self.index.row(line.number, &key))
             }
-            "book" => readings_text(alloc, &self.index.book(alloc, line.number)?),
-            "count" => Ok(format!(in alloc; "{}", self.index.count(line.number))?),
-            _ => Ok(format!(in alloc; "{}", self.index.rows())?),
+            "book" => readings_text(
+                rt,
+                alloc,
+                &self.index.book(alloc, line.number).expect(rt, "memory"),
+            ),
+            "count" => format!(in alloc; "{}", self.index.count(line.number)).expect(rt, "memory"),
+            _ => format!(in alloc; "{}", self.index.rows()).expect(rt, "memory"),
         }
     }
 }
 
 // The call of a line.
-fn call_of(alloc: Global, line: &Line) -> Result<Call, Fail>
-    ensures { IfOk result (λ call. is_fit call ≡ true) }
+fn call_of(rt: &impl Abort, alloc: Global, line: &Line) -> Call
+    ensures { is_fit result ≡ true }
 {
     match line.command {
-        "learn" => learning(alloc, line),
-        "purge" => purging(alloc, line),
-        "find" => finding(alloc, line),
-        _ => completing(alloc, line),
+        "learn" => learning(rt, alloc, line),
+        "purge" => purging(rt, alloc, line),
+        "find" => finding(rt, alloc, line),
+        _ => completing(rt, alloc, line),
     }
 }
 
-fn learning(alloc: Global, line: &Line) -> Result<Call, Fail>
-    ensures { IfOk result (λ call. is_fit call ≡ true) }
+fn learning(rt: &impl Abort, alloc: Global, line: &Line) -> Call
+    ensures { is_fit result ≡ true }
 {
-    Ok(Call::Learn {
+    Call::Learn {
         book: line.number,
-        key: key(alloc, line.reading)?,
-        okuri: okuri(alloc, line.okuri)?,
-        cand: cand(alloc, line.word)?,
-    })
+        key: key(rt, alloc, line.reading),
+        okuri: okuri(rt, alloc, line.okuri),
+        cand: cand(rt, alloc, line.word),
+    }
 }
 
-fn purging(alloc: Global, line: &Line) -> Result<Call, Fail>
-    ensures { IfOk result (λ call. is_fit call ≡ true) }
+fn purging(rt: &impl Abort, alloc: Global, line: &Line) -> Call
+    ensures { is_fit result ≡ true }
 {
-    Ok(Call::Purge {
+    Call::Purge {
         book: line.number,
-        key: key(alloc, line.reading)?,
-        word: word(alloc, line.word)?,
-    })
+        key: key(rt, alloc, line.reading),
+        word: word(rt, alloc, line.word),
+    }
 }
 
-fn finding(alloc: Global, line: &Line) -> Result<Call, Fail>
-    ensures { IfOk result (λ call. is_fit call ≡ true) }
+fn finding(rt: &impl Abort, alloc: Global, line: &Line) -> Call
+    ensures { is_fit result ≡ true }
 {
-    Ok(Call::Lookup {
+    Call::Lookup {
         who: line.number,
-        key: key(alloc, line.reading)?,
-        okuri: okuri(alloc, line.word)?,
-    })
+        key: key(rt, alloc, line.reading),
+        okuri: okuri(rt, alloc, line.word),
+    }
 }
 
-fn completing(alloc: Global, line: &Line) -> Result<Call, Fail>
-    ensures { IfOk result (λ call. is_fit call ≡ true) }
+fn completing(rt: &impl Abort, alloc: Global, line: &Line) -> Call
+    ensures { is_fit result ≡ true }
 {
-    Ok(Call::Complete {
+    Call::Complete {
         who: line.number,
-        prefix: text(alloc, line.reading)?,
-    })
+        prefix: text(rt, alloc, line.reading),
+    }
 }
 
 // What a command tells that tells nothing.
-fn done_text(alloc: Global) -> Result<String, Fail> {
-    Ok(String::from_str(alloc, "done")?)
+fn done_text(rt: &impl Abort, alloc: Global) -> String {
+    String::from_str(alloc, "done").expect(rt, "memory")
 }
 
 // What was learnt, where a reply tells of that.
@@ -426,165 +447,172 @@ fn learned_of(reply: Reply) -> Option<Learned> {
 }
 
 // A reply.
-fn reply_text(alloc: Global, reply: &Reply) -> Result<String, Fail> {
+fn reply_text(rt: &impl Abort, alloc: Global, reply: &Reply) -> String {
     let told = match reply {
-        Reply::Found(found) => return words_text(alloc, found.cands()),
+        Reply::Found(found) => return words_text(rt, alloc, found.cands()),
         Reply::Learned(learned) => {
             let before = learned.before().map_or(0, |row| row.stamp());
-            format!(in alloc; "learned {} after {before}", learned.stamp())?
+            format!(in alloc; "learned {} after {before}", learned.stamp()).expect(rt, "memory")
         }
-        Reply::Purged => String::from_str(alloc, "purged")?,
-        Reply::Unchanged => String::from_str(alloc, "unchanged")?,
-        Reply::Restored => String::from_str(alloc, "restored")?,
-        Reply::Overtaken(stamp) => format!(in alloc; "overtaken {stamp}")?,
-        Reply::TooBig(bytes) => format!(in alloc; "too big {bytes}")?,
-        Reply::StampsEnd => String::from_str(alloc, "stamps end")?,
-        Reply::Readings(readings) => return texts_text(alloc, readings),
+        Reply::Purged => String::from_str(alloc, "purged").expect(rt, "memory"),
+        Reply::Unchanged => String::from_str(alloc, "unchanged").expect(rt, "memory"),
+        Reply::Restored => String::from_str(alloc, "restored").expect(rt, "memory"),
+        Reply::Overtaken(stamp) => format!(in alloc; "overtaken {stamp}").expect(rt, "memory"),
+        Reply::TooBig(bytes) => format!(in alloc; "too big {bytes}").expect(rt, "memory"),
+        Reply::StampsEnd => String::from_str(alloc, "stamps end").expect(rt, "memory"),
+        Reply::Readings(readings) => return texts_text(rt, alloc, readings),
     };
-    Ok(told)
+    told
 }
 
 // A text: a `~` and a number stand for so many `x` that it has so many characters.
-fn text(alloc: Global, content: &str) -> Result<Text, Fail> {
+fn text(rt: &impl Abort, alloc: Global, content: &str) -> Text {
     let (begin, width) = content.split_once('~').unwrap_or((content, "0"));
-    let width: usize = width.parse()?;
-    Ok(Text::of(format!(in alloc; "{begin:x<width$}")?))
+    let width: usize = width.parse().expect(rt, "a number");
+    Text::of(format!(in alloc; "{begin:x<width$}").expect(rt, "memory"))
 }
 
 // A key, with okurigana where its reading ends in a letter behind kana.
-fn key(alloc: Global, reading: &str) -> Result<RowKey, Fail> {
+fn key(rt: &impl Abort, alloc: Global, reading: &str) -> RowKey {
     let part = match reading.as_bytes() {
         [0x80..=0xFF, .., b'a'..=b'z'] => Part::Ari,
         _ => Part::Nasi,
     };
-    Ok(RowKey::new(part, text(alloc, reading)?)?)
+    RowKey::new(part, text(rt, alloc, reading)).expect(rt, "a key")
 }
 
 // An okurigana, where there is one.
-fn okuri(alloc: Global, content: &str) -> Result<Option<Okuri>, Fail> {
+fn okuri(rt: &impl Abort, alloc: Global, content: &str) -> Option<Okuri> {
     if content.is_empty() {
-        return Ok(None);
+        return None;
     }
-    Ok(Some(Okuri::new(text(alloc, content)?)?))
+    Some(Okuri::new(text(rt, alloc, content)).expect(rt, "an okurigana"))
 }
 
 // A candidate without a note.
-fn cand(alloc: Global, content: &str) -> Result<Cand, Fail> {
-    Ok(Cand::new(text(alloc, content)?, Text::new(alloc))?)
+fn cand(rt: &impl Abort, alloc: Global, content: &str) -> Cand {
+    Cand::new(text(rt, alloc, content), Text::new(alloc)).expect(rt, "a candidate")
 }
 
 // A word.
-fn word(alloc: Global, content: &str) -> Result<Text, Fail>
-    ensures { IfOk result (λ word. is_word word ≡ true) }
+fn word(rt: &impl Abort, alloc: Global, content: &str) -> Text
+    ensures { is_word result ≡ true }
 {
-    let cand = cand(alloc, content)?;
-    Ok(cand.word().copy(alloc)?)
+    let cand = cand(rt, alloc, content);
+    cand.word().copy(alloc).expect(rt, "memory")
 }
 
 // The words of candidates.
-fn words_text(alloc: Global, cands: &Cands) -> Result<String, Fail> {
+fn words_text(rt: &impl Abort, alloc: Global, cands: &Cands) -> String {
     let mut told = String::new(alloc);
-    add_words(&mut told, cands)?;
-    trim(alloc, &told)
+    add_words(rt, &mut told, cands);
+    trim(rt, alloc, &told)
 }
 
 // Texts.
-fn texts_text(alloc: Global, texts: &Texts) -> Result<String, Fail> {
+fn texts_text(rt: &impl Abort, alloc: Global, texts: &Texts) -> String {
     let mut told = String::new(alloc);
-    add_texts(&mut told, texts)?;
-    trim(alloc, &told)
+    add_texts(rt, &mut told, texts);
+    trim(rt, alloc, &told)
 }
 
 // The readings of a book.
-fn readings_text(alloc: Global, book: &Book) -> Result<String, Fail> {
+fn readings_text(rt: &impl Abort, alloc: Global, book: &Book) -> String {
     let mut told = String::new(alloc);
     for row in book.rows().as_slice() {
-        told.push(' ')?;
-        told.push_str(row.key().reading().as_str())?;
+        told.push(' ').expect(rt, "memory");
+        told.push_str(row.key().reading().as_str())
+            .expect(rt, "memory");
     }
-    trim(alloc, &told)
+    trim(rt, alloc, &told)
 }
 
 // The words of candidates, each with a space before it.
-fn add_words(told: &mut String, cands: &Cands) -> Result<(), AllocError> {
+fn add_words(rt: &impl Abort, told: &mut String, cands: &Cands) {
     for cand in cands.as_slice() {
-        told.push(' ')?;
-        told.push_str(cand.word().as_str())?;
+        told.push(' ').expect(rt, "memory");
+        told.push_str(cand.word().as_str()).expect(rt, "memory");
     }
-    Ok(())
 }
 
 // Texts, each with a space before it.
-pub fn add_texts(told: &mut String, texts: &Texts) -> Result<(), AllocError> {
+pub fn add_texts(rt: &impl Abort, told: &mut String, texts: &Texts) {
     for text in texts.as_slice() {
-        told.push(' ')?;
-        told.push_str(text.as_str())?;
+        told.push(' ').expect(rt, "memory");
+        told.push_str(text.as_str()).expect(rt, "memory");
     }
-    Ok(())
 }
 
 // A row: its stamp, its words, its blocks, and what it hides.
-fn row_text(alloc: Global, row: Option<&Row>) -> Result<String, Fail> {
+fn row_text(rt: &impl Abort, alloc: Global, row: Option<&Row>) -> String {
     let Some(row) = row else {
-        return Ok(String::from_str(alloc, "none")?);
+        return String::from_str(alloc, "none").expect(rt, "memory");
     };
-    let mut told = format!(in alloc; "{}:", row.stamp())?;
-    add_words(&mut told, row.cands())?;
-    told.push_str(" /")?;
-    add_blocks(&mut told, row.blocks())?;
-    told.push_str(" /")?;
-    add_texts(&mut told, row.hides())?;
-    Ok(told)
+    let mut told = format!(in alloc; "{}:", row.stamp()).expect(rt, "memory");
+    add_words(rt, &mut told, row.cands());
+    told.push_str(" /").expect(rt, "memory");
+    add_blocks(rt, &mut told, row.blocks());
+    told.push_str(" /").expect(rt, "memory");
+    add_texts(rt, &mut told, row.hides());
+    told
 }
 
 // The blocks of a row, each its okurigana and its words.
-fn add_blocks(told: &mut String, blocks: &Blocks) -> Result<(), AllocError> {
+fn add_blocks(rt: &impl Abort, told: &mut String, blocks: &Blocks) {
     for block in blocks.as_slice() {
-        told.push(' ')?;
-        told.push_str(block.okuri().text().as_str())?;
-        add_texts(told, block.words())?;
+        told.push(' ').expect(rt, "memory");
+        told.push_str(block.okuri().text().as_str())
+            .expect(rt, "memory");
+        add_texts(rt, told, block.words());
     }
-    Ok(())
 }
 
 // A text without the spaces around it.
-fn trim(alloc: Global, told: &str) -> Result<String, Fail> {
-    Ok(String::from_str(alloc, told.trim())?)
+fn trim(rt: &impl Abort, alloc: Global, told: &str) -> String {
+    String::from_str(alloc, told.trim()).expect(rt, "memory")
 }
 
 // The block of an okurigana, of one word.
-fn one_block(alloc: Global, line: &Line) -> Result<Block, Fail> {
-    let okuri = okuri(alloc, line.okuri)?.ok_or("no okurigana")?;
+fn one_block(rt: &impl Abort, alloc: Global, line: &Line) -> Block {
+    let okuri = okuri(rt, alloc, line.okuri).expect(rt, "no okurigana");
     let mut words = Texts::new(alloc);
-    words.push(word(alloc, line.word)?)?;
-    Ok(Block::new(okuri, words))
+    words.push(word(rt, alloc, line.word)).expect(rt, "memory");
+    Block::new(okuri, words)
 }
 
 // A row with a block alone.
-fn block_row(alloc: Global, key: RowKey, block: Block, stamp: u64) -> Result<Row, Fail>
+fn block_row(rt: &impl Abort, alloc: Global, key: RowKey, block: Block, stamp: u64) -> Row
     requires { key.part ≡ Ari }
 {
     let _reading = key.reading();
     let _okuri = block.okuri();
     let mut blocks = Blocks::new(alloc);
-    blocks.push(block)?;
+    blocks.push(block).expect(rt, "memory");
     let (cands, hides) = (Cands::new(alloc), Texts::new(alloc));
-    Ok(Row::new(key, cands, blocks, hides, stamp))
+    Row::new(key, cands, blocks, hides, stamp)
 }
 
 // Puts a row into an index, where it fits the book of this count.
 fn put_into(
+    rt: &impl Abort,
     index: &mut Index,
     alloc: Global,
     number: u16,
     count: u64,
     row: Row,
-) -> Result<String, Fail> {
+) -> String {
     if !fits_count(&row, count) || count < index.count(number) {
-        return Err("does not fit".into());
+        panic!(rt; "does not fit");
     }
-    index.put(alloc, number, count, KeptRow::new(alloc, row)?)?;
-    done_text(alloc)
+    index
+        .put(
+            alloc,
+            number,
+            count,
+            KeptRow::new(alloc, row).expect(rt, "memory"),
+        )
+        .expect(rt, "memory");
+    done_text(rt, alloc)
 }
 
 // Whether a row that hides no words may stand in a book of this count.

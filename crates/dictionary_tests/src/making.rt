@@ -1,12 +1,13 @@
-ghost use Rattle.std.specs.Prelude.{◌≡◌, IfOk};
+ghost use Rattle.std.specs.Prelude.{◌≡◌};
 ghost use Rattle.std.specs.Str.{chars};
 
 use skk_text::Text;
-use std::alloc::{AllocError, Global};
+use std::alloc::Global;
+use std::process::Abort;
 
 // The text of a string.
-pub fn text(alloc: Global, content: &str) -> Result<Text, AllocError>
-    ensures { IfOk result (λ text. text ≡ chars content.now) }
+pub fn text(rt: &impl Abort, alloc: Global, content: &str) -> Text
+    ensures { result ≡ chars content.now }
 {
-    Ok(Text::of(String::from_str(alloc, content)?))
+    Text::of(String::from_str(alloc, content).expect(rt, "memory"))
 }

@@ -1,8 +1,8 @@
-ghost use Rattle.std.specs.Prelude.{◌≡◌, true, false, [], ◌∷◌, IfOk};
+ghost use Rattle.std.specs.Prelude.{◌≡◌, true, false, [], ◌∷◌};
 
 use skk_trace::{Shows, Trace};
-use std::alloc::{AllocError, Global};
-use std::test::Fail;
+use std::alloc::Global;
+use std::process::Abort;
 
 // A disk, of which contracts see how many blocks it has.
 trait Disk {
@@ -38,16 +38,16 @@ impl<D: Disk> Shows<Event> for Answered<'_, D> {
 }
 
 // Three answers of a disk, in order.
-fn three_answers<D: Disk>(alloc: Global, disk: &D) -> Result<Trace<Event>, AllocError>
-    ensures { IfOk result (λ trace. trace ≡ record {
+fn three_answers<D: Disk>(rt: &impl Abort, alloc: Global, disk: &D) -> Trace<Event>
+    ensures { result ≡ record {
       blocks = D.blocks disk.now;
       full = false;
-    } ∷ record { blocks = D.blocks disk.now; full = true } ∷ record { blocks = D.blocks disk.now; full = false } ∷ []) }
+    } ∷ record { blocks = D.blocks disk.now; full = true } ∷ record { blocks = D.blocks disk.now; full = false } ∷ [] }
 {
-    let mut trace = Trace::new(alloc, &Answered { disk, full: false })?;
+    let mut trace = Trace::new(alloc, &Answered { disk, full: false }).expect(rt, "memory");
     trace.note(&Answered { disk, full: true });
     trace.note(&Answered { disk, full: false });
-    Ok(trace)
+    trace
 }
 
 fn send<T: Send>(value: T) -> T
@@ -57,14 +57,13 @@ fn send<T: Send>(value: T) -> T
 }
 
 #[test]
-fn a_trace_is_made_and_noted_in(rt: HostRuntime) -> Result<(), Fail> {
+fn a_trace_is_made_and_noted_in(rt: HostRuntime) {
     let disk = SmallDisk { blocks: 3 };
-    let mut trace = send(three_answers(rt.alloc(), &disk)?);
+    let mut trace = send(three_answers(&rt, rt.alloc(), &disk));
     for _ in 0..100 {
         trace.note(&Answered {
             disk: &disk,
             full: true,
         });
     }
-    Ok(())
 }

@@ -1,11 +1,11 @@
+use expectations::{same, same_at};
 use skk_disk::{Disk, FileDisk, MadeCall, MemDisk, Which};
 use skk_journal::{AppendFault, Journal, OpenFault, PAYLOAD_LIMIT, Records, Unopened};
 use skk_outside::Failed;
 use skk_text::Text;
-use std::alloc::{AllocError, Global};
+use std::alloc::Global;
 use std::fs;
 use std::process::Abort;
-use std::test::Fail;
 
 // The payload of the first learning of 漢字 for かんじ in book 1.
 const LEARNING: &[u8] = b"\x01\x01\0\x01\0\0\0\0\0\0\0\x01\0\0\0\0\0\0\0\0\
@@ -19,49 +19,38 @@ pub(crate) const LEARNT_FILE: &[u8] = b"\x01SKKDESK\x01\x01\0\0\0\0\0\0\0\x01\x2
     \xe3\x81\x8b\xe3\x82\x93\xe3\x81\x98 /\xe6\xbc\xa2\xe5\xad\x97/\0";
 
 // A disk whose first file has these bytes: two calls, where there are any.
-pub(crate) fn disk_of<R: Abort>(
-    rt: &R,
-    alloc: Global,
-    bytes: &[u8],
-    fails: &[u64],
-) -> Result<MemDisk, AllocError> {
-    let mut disk = MemDisk::new(alloc, fails.to_vec(alloc)?);
+pub(crate) fn disk_of<R: Abort>(rt: &R, alloc: Global, bytes: &[u8], fails: &[u64]) -> MemDisk {
+    let mut disk = MemDisk::new(alloc, fails.to_vec(alloc).expect(rt, "memory"));
     if !bytes.is_empty() {
         write(rt, &mut disk, 0, bytes);
         sync(rt, &mut disk);
     }
-    Ok(disk)
+    disk
 }
 
 // Writes bytes at a place of the first file of a disk.
 fn write<R: Abort, D: Disk>(rt: &R, disk: &mut D, at: u64, bytes: &[u8]) {
-    assert_eq!(rt; disk.write_at(Which::A, at, bytes), Ok(()));
+    same(&disk.write_at(Which::A, at, bytes), &Ok(())).expect(rt, "as wanted");
 }
 
 // Syncs the first file of a disk.
 fn sync<R: Abort, D: Disk>(rt: &R, disk: &mut D) {
-    assert_eq!(rt; disk.sync(Which::A), Ok(()));
+    same(&disk.sync(Which::A), &Ok(())).expect(rt, "as wanted");
 }
 
 // Tells that the first file of a disk has these bytes.
-pub(crate) fn expect_file<R: Abort, D: Disk>(
-    rt: &R,
-    alloc: Global,
-    disk: &mut D,
-    bytes: &[u8],
-) -> Result<(), AllocError> {
-    let mut into = vec![in alloc; 0; bytes.len() + 1]?;
-    assert_eq!(rt; disk.read_at(Which::A, 0, &mut into), Ok(bytes.len()));
-    assert_eq!(rt; &into[..bytes.len()], bytes);
-    Ok(())
+pub(crate) fn expect_file<R: Abort, D: Disk>(rt: &R, alloc: Global, disk: &mut D, bytes: &[u8]) {
+    let mut into = vec![in alloc; 0; bytes.len() + 1].expect(rt, "memory");
+    same(&disk.read_at(Which::A, 0, &mut into), &Ok(bytes.len())).expect(rt, "as wanted");
+    same(&&into[..bytes.len()], &bytes).expect(rt, "as wanted");
 }
 
 // Tells which records there are: the place and the payload of each.
 fn expect_records<R: Abort>(rt: &R, records: &Records, expected: &[(u64, &[u8])]) {
-    assert_eq!(rt; records.len(), expected.len());
+    same(&records.len(), &expected.len()).expect(rt, "as wanted");
     for (found, (at, payload)) in records.iter().zip(expected) {
-        assert_eq!(rt; found.at, *at);
-        assert_eq!(rt; found.payload.as_slice(), *payload);
+        same(&found.at, at).expect(rt, "as wanted");
+        same(&found.payload.as_slice(), payload).expect(rt, "as wanted");
     }
 }
 
@@ -86,11 +75,11 @@ fn expect_steps<R: Abort, D: Disk>(rt: &R, journal: &mut Journal<D>, steps: &[St
 fn expect_step<R: Abort, D: Disk>(rt: &R, journal: &mut Journal<D>, step: Step) {
     match step {
         Step::Append(limit, payload, answer) => {
-            assert_eq!(rt; append(rt, journal, limit, payload), answer, "{step:?}");
+            same_at(&append(rt, journal, limit, payload), &answer, &step).expect(rt, "as wanted");
         }
-        Step::Repair(answer) => assert_eq!(rt; journal.repair(), answer, "{step:?}"),
-        Step::End(end) => assert_eq!(rt; journal.end(), end, "{step:?}"),
-        Step::InDoubt(doubt) => assert_eq!(rt; journal.in_doubt(), doubt, "{step:?}"),
+        Step::Repair(answer) => same_at(&journal.repair(), &answer, &step).expect(rt, "as wanted"),
+        Step::End(end) => same_at(&journal.end(), &end, &step).expect(rt, "as wanted"),
+        Step::InDoubt(doubt) => same_at(&journal.in_doubt(), &doubt, &step).expect(rt, "as wanted"),
     }
 }
 
@@ -114,10 +103,10 @@ fn expect_journal<R: Abort, D: Disk + Drop>(
     disk: D,
     records: &[(u64, &[u8])],
     steps: &[Step],
-) -> Result<D, Fail> {
-    let mut journal = open(rt, alloc, disk, records)?;
+) -> D {
+    let mut journal = open(rt, alloc, disk, records);
     expect_steps(rt, &mut journal, steps);
-    Ok(journal.close())
+    journal.close()
 }
 
 // Opens the learned file of a disk, which has these records.
@@ -126,13 +115,13 @@ fn open<R: Abort, D: Disk + Drop>(
     alloc: Global,
     disk: D,
     expected: &[(u64, &[u8])],
-) -> Result<Journal<D>, Fail> {
+) -> Journal<D> {
     match Journal::open(alloc, disk) {
         Ok((journal, records)) => {
             expect_records(rt, &records, expected);
-            Ok(journal)
+            journal
         }
-        Err(unopened) => Err(Fail::new(unopened.why)),
+        Err(unopened) => panic!(rt; "{}", unopened.why),
     }
 }
 
@@ -142,7 +131,7 @@ fn unopened<D: Disk + Drop>(alloc: Global, disk: D) -> Option<Unopened<D>> {
 }
 
 #[test]
-fn an_empty_file_is_made_anew_and_a_record_is_its_bytes(rt: HostRuntime) -> Result<(), Fail> {
+fn an_empty_file_is_made_anew_and_a_record_is_its_bytes(rt: HostRuntime) {
     let alloc = rt.alloc();
     let full = AppendFault::Full {
         end: 18,
@@ -155,13 +144,12 @@ fn an_empty_file_is_made_anew_and_a_record_is_its_bytes(rt: HostRuntime) -> Resu
         Step::Append(61, LEARNING, Ok(())),
         Step::End(61),
     ];
-    let disk = disk_of(&rt, alloc, b"", &[])?;
-    let mut disk = expect_journal(&rt, alloc, disk, &[], &steps)?;
-    assert_eq!(rt; disk.made().len(), 12);
-    expect_file(&rt, alloc, &mut disk, LEARNT_FILE)?;
+    let disk = disk_of(&rt, alloc, b"", &[]);
+    let mut disk = expect_journal(&rt, alloc, disk, &[], &steps);
+    same(&disk.made().len(), &12).expect(&rt, "as wanted");
+    expect_file(&rt, alloc, &mut disk, LEARNT_FILE);
     let steps = [Step::End(61), Step::InDoubt(false)];
-    expect_journal(&rt, alloc, disk, &[(17, LEARNING)], &steps)?;
-    Ok(())
+    expect_journal(&rt, alloc, disk, &[(17, LEARNING)], &steps);
 }
 
 // What a file is opened as: records with their places, its first byte, or the place that is refused and the records
@@ -175,15 +163,14 @@ enum Row {
 }
 
 // Opens a file, and tells that a file that is refused, or has records, is the same afterwards.
-fn expect_row<R: Abort>(rt: &R, alloc: Global, bytes: &[u8], row: Row) -> Result<(), Fail> {
+fn expect_row<R: Abort>(rt: &R, alloc: Global, bytes: &[u8], row: Row) {
     let left = match row {
         Row::Anew => NEW_FILE,
         _ => bytes,
     };
-    let disk = disk_of(rt, alloc, bytes, &[])?;
+    let disk = disk_of(rt, alloc, bytes, &[]);
     let mut disk = opened_as(rt, alloc, disk, row);
-    expect_file(rt, alloc, &mut disk, left)?;
-    Ok(())
+    expect_file(rt, alloc, &mut disk, left);
 }
 
 // The disk of a learned file that is opened as a row has it.
@@ -210,90 +197,90 @@ fn expect_opened<R: Abort>(rt: &R, records: &Records, row: Row) {
 
 fn expect_fault<R: Abort>(rt: &R, why: &OpenFault, row: Row) {
     match (why, row) {
-        (OpenFault::NotJournal { first }, Row::NotJournal(byte)) => assert_eq!(rt; *first, byte),
+        (OpenFault::NotJournal { first }, Row::NotJournal(byte)) => same(first, &byte).expect(
+            rt,
+            "as wanted",
+        ),
         (OpenFault::BadRecord { at, before }, Row::BadRecord(place, expected)) => {
-            assert_eq!(rt; *at, place);
+            same(at, &place).expect(rt, "as wanted");
             expect_records(rt, before, expected);
         }
         _ => assert!(rt; false, "{row:?} is refused: {why}"),
     }
 }
 
+// A file, and what it is opened as.
+static HEADS: &[(&[u8], Row)] = &[
+    (b"", Row::Anew),
+    (b"P", Row::Anew),
+    (b"\x01", Row::Anew),
+    (b"\0plain text", Row::Anew),
+    (b"\x02SKKDESK\x01", Row::Anew),
+    (b"\xffSKKDESK\x01 and text", Row::Anew),
+    (b"P.", Row::NotJournal(80)),
+    (b"\x01\x01", Row::NotJournal(1)),
+    (b"\x01SKKDESK", Row::NotJournal(1)),
+    (b"\x02SKKDESK", Row::NotJournal(2)),
+    (b"\x01SKKDESK\x02\x01\0\0\0\0\0\0\0\0", Row::NotJournal(1)),
+    (b"\x01SKKDESC\x01\x01\0\0\0\0\0\0\0\0", Row::NotJournal(1)),
+    (b"\x01SKKDESK\x01", Row::BadRecord(9, &[])),
+    (b"\x01SKKDESK\x01\x01\0\0\0\0\0\0", Row::BadRecord(9, &[])),
+    (
+        b"\x01SKKDESK\x01\x01\0\0\0\0\0\0\0",
+        Row::BadRecord(17, &[]),
+    ),
+    (b"\x01SKKDESK\x01\x07\0\0\0\0\0\0\x09\0", Row::Records(&[])),
+];
+
 #[test]
-fn files_are_opened_by_their_heads(rt: HostRuntime) -> Result<(), Fail> {
-    let rows: &[(&[u8], Row)] = &[
-        (b"", Row::Anew),
-        (b"P", Row::Anew),
-        (b"\x01", Row::Anew),
-        (b"\0plain text", Row::Anew),
-        (b"\x02SKKDESK\x01", Row::Anew),
-        (b"\xffSKKDESK\x01 and text", Row::Anew),
-        (b"P.", Row::NotJournal(80)),
-        (b"\x01\x01", Row::NotJournal(1)),
-        (b"\x01SKKDESK", Row::NotJournal(1)),
-        (b"\x02SKKDESK", Row::NotJournal(2)),
-        (b"\x01SKKDESK\x02\x01\0\0\0\0\0\0\0\0", Row::NotJournal(1)),
-        (b"\x01SKKDESC\x01\x01\0\0\0\0\0\0\0\0", Row::NotJournal(1)),
-        (b"\x01SKKDESK\x01", Row::BadRecord(9, &[])),
-        (b"\x01SKKDESK\x01\x01\0\0\0\0\0\0", Row::BadRecord(9, &[])),
-        (
-            b"\x01SKKDESK\x01\x01\0\0\0\0\0\0\0",
-            Row::BadRecord(17, &[]),
-        ),
-        (b"\x01SKKDESK\x01\x07\0\0\0\0\0\0\x09\0", Row::Records(&[])),
-    ];
-    for (bytes, row) in rows {
-        expect_row(&rt, rt.alloc(), bytes, *row)?;
+fn files_are_opened_by_their_heads(rt: HostRuntime) {
+    for (bytes, row) in HEADS {
+        expect_row(&rt, rt.alloc(), bytes, *row);
     }
-    Ok(())
+}
+
+// What stands behind the head of a file, and what that is opened as.
+static TAILS: &[(&[u8], Row)] = &[
+    (b"\0\x01\x01\0\0\0x\0", Row::Records(&[])),
+    (b"\x02\x01\0\0\0x\0", Row::Records(&[])),
+    (b"\x01", Row::BadRecord(17, &[])),
+    (b"\x01\x01\0\0", Row::BadRecord(17, &[])),
+    (b"\x01\0\0\0\0\0", Row::BadRecord(17, &[])),
+    (b"\x01\x02\0\0\0x", Row::BadRecord(17, &[])),
+    (b"\x01\x01\0\x02\0x", Row::BadRecord(17, &[])),
+    (b"\x01\xff\xff\xff\xffx", Row::BadRecord(17, &[])),
+    (b"\x01\x01\0\0\0x", Row::BadRecord(23, &[(17, b"x")])),
+    (b"\x01\x01\0\0\0x\0", Row::Records(&[(17, b"x")])),
+    (b"\x01\x01\0\0\0x\xffrest", Row::Records(&[(17, b"x")])),
+    (
+        b"\x01\x01\0\0\0x\x01\x02\0\0\0yz\0",
+        Row::Records(&[(17, b"x"), (23, b"yz")]),
+    ),
+    (
+        b"\x01\x01\0\0\0x\x01\x02\0\0\0yz\x01\0\0\0\0",
+        Row::BadRecord(30, &[(17, b"x"), (23, b"yz")]),
+    ),
+];
+
+#[test]
+fn records_are_read_up_to_the_first_gate_that_is_not_open(rt: HostRuntime) {
+    for (tail, row) in TAILS {
+        let mut bytes = NEW_FILE[..17].to_vec(rt.alloc()).expect(&rt, "memory");
+        bytes.extend_from_slice(tail).expect(&rt, "memory");
+        expect_row(&rt, rt.alloc(), &bytes, *row);
+    }
 }
 
 #[test]
-fn records_are_read_up_to_the_first_gate_that_is_not_open(rt: HostRuntime) -> Result<(), Fail> {
-    let rows: &[(&[u8], Row)] = &[
-        (b"\0\x01\x01\0\0\0x\0", Row::Records(&[])),
-        (b"\x02\x01\0\0\0x\0", Row::Records(&[])),
-        (b"\x01", Row::BadRecord(17, &[])),
-        (b"\x01\x01\0\0", Row::BadRecord(17, &[])),
-        (b"\x01\0\0\0\0\0", Row::BadRecord(17, &[])),
-        (b"\x01\x02\0\0\0x", Row::BadRecord(17, &[])),
-        (b"\x01\x01\0\x02\0x", Row::BadRecord(17, &[])),
-        (b"\x01\xff\xff\xff\xffx", Row::BadRecord(17, &[])),
-        (b"\x01\x01\0\0\0x", Row::BadRecord(23, &[(17, b"x")])),
-        (b"\x01\x01\0\0\0x\0", Row::Records(&[(17, b"x")])),
-        (b"\x01\x01\0\0\0x\xffrest", Row::Records(&[(17, b"x")])),
-        (
-            b"\x01\x01\0\0\0x\x01\x02\0\0\0yz\0",
-            Row::Records(&[(17, b"x"), (23, b"yz")]),
-        ),
-        (
-            b"\x01\x01\0\0\0x\x01\x02\0\0\0yz\x01\0\0\0\0",
-            Row::BadRecord(30, &[(17, b"x"), (23, b"yz")]),
-        ),
-    ];
-    for (tail, row) in rows {
-        let mut bytes = NEW_FILE[..17].to_vec(rt.alloc())?;
-        bytes.extend_from_slice(tail)?;
-        expect_row(&rt, rt.alloc(), &bytes, *row)?;
-    }
-    Ok(())
-}
-
-#[test]
-fn records_of_any_length_are_read_part_by_part(rt: HostRuntime) -> Result<(), Fail> {
+fn records_of_any_length_are_read_part_by_part(rt: HostRuntime) {
     let alloc = rt.alloc();
-    let longest = vec![in alloc; b'a'; PAYLOAD_LIMIT]?;
-    assert_eq!(rt; longest.len(), 131_072);
-    let long = vec![in alloc; 1; 70_000]?;
+    let longest = vec![in alloc; b'a'; PAYLOAD_LIMIT].expect(&rt, "memory");
+    same(&longest.len(), &131_072).expect(&rt, "as wanted");
+    let long = vec![in alloc; 1; 70_000].expect(&rt, "memory");
     expect_lengths(&rt, alloc, &longest, &long)
 }
 
-fn expect_lengths<'x, R: Abort>(
-    rt: &R,
-    alloc: Global,
-    longest: &'x [u8],
-    long: &'x [u8],
-) -> Result<(), Fail> {
+fn expect_lengths<'x, R: Abort>(rt: &R, alloc: Global, longest: &'x [u8], long: &'x [u8]) {
     const LIMIT: u64 = 1 << 28;
     let steps = [
         Step::Append(LIMIT, b"x", Ok(())),
@@ -314,43 +301,37 @@ fn expect_lengths<'x, R: Abort>(
         (271_116, longest),
         (402_193, b"z"),
     ];
-    let disk = disk_of(rt, alloc, b"", &[])?;
-    let disk = expect_journal(rt, alloc, disk, &[], &steps)?;
-    expect_journal(rt, alloc, disk, expected, &[])?;
-    Ok(())
+    let disk = disk_of(rt, alloc, b"", &[]);
+    let disk = expect_journal(rt, alloc, disk, &[], &steps);
+    expect_journal(rt, alloc, disk, expected, &[]);
 }
 
 #[test]
-fn a_record_may_not_be_one_byte_too_long(rt: HostRuntime) -> Result<(), Fail> {
+fn a_record_may_not_be_one_byte_too_long(rt: HostRuntime) {
     let alloc = rt.alloc();
-    let longest = vec![in alloc; b'a'; 131_072]?;
-    let mut disk = disk_of(&rt, alloc, &NEW_FILE[..17], &[])?;
+    let longest = vec![in alloc; b'a'; 131_072].expect(&rt, "memory");
+    let mut disk = disk_of(&rt, alloc, &NEW_FILE[..17], &[]);
     write(&rt, &mut disk, 17, b"\x01\x01\0\x02\0");
     write(&rt, &mut disk, 22, &longest);
     write(&rt, &mut disk, 22 + 131_072, b"a\0");
-    let unopened = unopened(alloc, disk).ok_or("a record that is too long is opened")?;
+    let unopened = unopened(alloc, disk).expect(&rt, "a record that is too long is opened");
     expect_fault(&rt, &unopened.why, Row::BadRecord(17, &[]));
-    Ok(())
 }
 
 // A disk whose file has one record, the calls of which with these numbers fail: the first one behind its opening is
 // the eighth.
-fn failing_disk<R: Abort>(rt: &R, alloc: Global, fails: &[u64]) -> Result<MemDisk, AllocError> {
+fn failing_disk<R: Abort>(rt: &R, alloc: Global, fails: &[u64]) -> MemDisk {
     disk_of(rt, alloc, LEARNT_FILE, fails)
 }
 
 // What the calls of a disk were, from a number of them on.
-pub(crate) fn kinds<R: Abort>(
-    rt: &R,
-    alloc: Global,
-    made: &[MadeCall],
-) -> Result<String, AllocError> {
+pub(crate) fn kinds<R: Abort>(rt: &R, alloc: Global, made: &[MadeCall]) -> String {
     let mut kinds = String::new(alloc);
     for call in made {
-        kinds.push(kind_of(call))?;
+        kinds.push(kind_of(call)).expect(rt, "memory");
     }
     assert!(rt; kinds.len() == made.len());
-    Ok(kinds)
+    kinds
 }
 
 fn kind_of(call: &MadeCall) -> char {
@@ -364,37 +345,24 @@ fn kind_of(call: &MadeCall) -> char {
 }
 
 // Tells what the calls of a disk were.
-fn expect_kinds<R: Abort>(
-    rt: &R,
-    alloc: Global,
-    disk: &MemDisk,
-    wanted: &str,
-) -> Result<(), AllocError> {
-    let kinds = kinds(rt, alloc, disk.made())?;
-    assert_eq!(rt; kinds.as_str(), wanted);
-    Ok(())
+fn expect_kinds<R: Abort>(rt: &R, alloc: Global, disk: &MemDisk, wanted: &str) {
+    let kinds = kinds(rt, alloc, disk.made());
+    same(&kinds.as_str(), &wanted).expect(rt, "as wanted");
 }
 
 #[test]
-fn a_record_whose_calls_fail_is_in_doubt_from_the_third_on(rt: HostRuntime) -> Result<(), Fail> {
+fn a_record_whose_calls_fail_is_in_doubt_from_the_third_on(rt: HostRuntime) {
     for (call, doubt, made) in [
         (8, false, "wssWwsws"),
         (9, false, "wsswwsws"),
         (10, true, "wsswsWwswsws"),
         (11, true, "wsswswwswsws"),
     ] {
-        expect_doubt(&rt, rt.alloc(), call, doubt, made)?;
+        expect_doubt(&rt, rt.alloc(), call, doubt, made);
     }
-    Ok(())
 }
 
-fn expect_doubt<R: Abort>(
-    rt: &R,
-    alloc: Global,
-    call: u64,
-    doubt: bool,
-    made: &str,
-) -> Result<(), Fail> {
+fn expect_doubt<R: Abort>(rt: &R, alloc: Global, call: u64, doubt: bool, made: &str) {
     let steps = [
         Step::Append(1000, b"x", Err(AppendFault::Disk)),
         Step::InDoubt(doubt),
@@ -402,15 +370,14 @@ fn expect_doubt<R: Abort>(
         Step::Repair(Ok(())),
         Step::Append(1000, b"y", Ok(())),
     ];
-    let disk = failing_disk(rt, alloc, &[call])?;
-    let disk = expect_journal(rt, alloc, disk, &[(17, LEARNING)], &steps)?;
-    expect_kinds(rt, alloc, &disk, made)?;
-    expect_journal(rt, alloc, disk, &[(17, LEARNING), (60, b"y")], &[])?;
-    Ok(())
+    let disk = failing_disk(rt, alloc, &[call]);
+    let disk = expect_journal(rt, alloc, disk, &[(17, LEARNING)], &steps);
+    expect_kinds(rt, alloc, &disk, made);
+    expect_journal(rt, alloc, disk, &[(17, LEARNING), (60, b"y")], &[]);
 }
 
 #[test]
-fn a_doubt_stands_until_it_is_repaired(rt: HostRuntime) -> Result<(), Fail> {
+fn a_doubt_stands_until_it_is_repaired(rt: HostRuntime) {
     let alloc = rt.alloc();
     let steps = [
         Step::Append(1000, b"x", Err(AppendFault::Disk)),
@@ -420,11 +387,10 @@ fn a_doubt_stands_until_it_is_repaired(rt: HostRuntime) -> Result<(), Fail> {
         Step::Repair(Ok(())),
         Step::InDoubt(false),
     ];
-    let disk = failing_disk(&rt, alloc, &[11, 12, 14])?;
-    let disk = expect_journal(&rt, alloc, disk, &[(17, LEARNING)], &steps)?;
-    expect_kinds(&rt, alloc, &disk, "wsswswWwws")?;
-    expect_journal(&rt, alloc, disk, &[(17, LEARNING)], &[])?;
-    Ok(())
+    let disk = failing_disk(&rt, alloc, &[11, 12, 14]);
+    let disk = expect_journal(&rt, alloc, disk, &[(17, LEARNING)], &steps);
+    expect_kinds(&rt, alloc, &disk, "wsswswWwws");
+    expect_journal(&rt, alloc, disk, &[(17, LEARNING)], &[]);
 }
 
 // Tells that the opening of a file fails at a call of the disk, which it gives back: then the file has these records.
@@ -434,56 +400,49 @@ fn expect_given_back<R: Abort>(
     bytes: &[u8],
     call: u64,
     records: &[(u64, &[u8])],
-) -> Result<MemDisk, Fail> {
-    let disk = disk_of(rt, alloc, bytes, &[call])?;
+) -> MemDisk {
+    let disk = disk_of(rt, alloc, bytes, &[call]);
     let Some(Unopened { disk, why }) = unopened(alloc, disk) else {
-        return Err(Fail::new(format_args!("call {call} does not fail")));
+        panic!(rt; "call {call} does not fail");
     };
     assert!(rt; matches!(why, OpenFault::Disk), "call {call}: {why}");
     expect_journal(rt, alloc, disk, records, &[])
 }
 
 #[test]
-fn an_opening_whose_calls_fail_gives_the_disk_back(rt: HostRuntime) -> Result<(), Fail> {
+fn an_opening_whose_calls_fail_gives_the_disk_back(rt: HostRuntime) {
     let alloc = rt.alloc();
     for call in 1..=9 {
-        let mut disk = expect_given_back(&rt, alloc, b"", call, &[])?;
-        expect_file(&rt, alloc, &mut disk, NEW_FILE)?;
+        let mut disk = expect_given_back(&rt, alloc, b"", call, &[]);
+        expect_file(&rt, alloc, &mut disk, NEW_FILE);
     }
     for call in 3..=7 {
-        expect_given_back(&rt, alloc, LEARNT_FILE, call, &[(17, LEARNING)])?;
+        expect_given_back(&rt, alloc, LEARNT_FILE, call, &[(17, LEARNING)]);
     }
-    Ok(())
 }
 
 const FOLDER: &str = "learned_tests_journal";
 
-pub(crate) fn text(alloc: Global, name: &str) -> Result<Text, AllocError> {
-    Ok(Text::of(String::from_str(alloc, name)?))
+pub(crate) fn text(rt: &impl Abort, alloc: Global, name: &str) -> Text {
+    Text::of(String::from_str(alloc, name).expect(rt, "memory"))
 }
 
 #[test]
-fn a_file_of_the_system_is_a_journal(rt: HostRuntime) -> Result<(), Fail> {
+fn a_file_of_the_system_is_a_journal(rt: HostRuntime) {
     let alloc = rt.alloc();
     // One that an earlier run left, which was stopped.
     let _ = fs::remove_dir_all(&rt, FOLDER);
-    fs::create_dir(&rt, FOLDER)?;
-    let a = text(alloc, "learned_tests_journal/a")?;
-    let disk = FileDisk::new(&rt, a, text(alloc, "learned_tests_journal/b")?);
-    expect_learnt_file(&rt, alloc, disk)?;
-    fs::remove_dir_all(&rt, FOLDER)?;
-    Ok(())
+    fs::create_dir(&rt, FOLDER).expect(&rt, "memory");
+    let a = text(&rt, alloc, "learned_tests_journal/a");
+    let disk = FileDisk::new(&rt, a, text(&rt, alloc, "learned_tests_journal/b"));
+    expect_learnt_file(&rt, alloc, disk);
+    fs::remove_dir_all(&rt, FOLDER).expect(&rt, "memory");
 }
 
 // Learns in the new file of a disk.
-fn expect_learnt_file<R: Abort, D: Disk + Drop>(
-    rt: &R,
-    alloc: Global,
-    disk: D,
-) -> Result<(), Fail> {
+fn expect_learnt_file<R: Abort, D: Disk + Drop>(rt: &R, alloc: Global, disk: D) {
     let steps = [Step::Append(1000, LEARNING, Ok(()))];
-    let mut disk = expect_journal(rt, alloc, disk, &[], &steps)?;
-    expect_file(rt, alloc, &mut disk, LEARNT_FILE)?;
-    expect_journal(rt, alloc, disk, &[(17, LEARNING)], &[])?;
-    Ok(())
+    let mut disk = expect_journal(rt, alloc, disk, &[], &steps);
+    expect_file(rt, alloc, &mut disk, LEARNT_FILE);
+    expect_journal(rt, alloc, disk, &[(17, LEARNING)], &[]);
 }

@@ -1,17 +1,17 @@
-ghost use Rattle.std.specs.Prelude.{◌≡◌, true, IfOk};
+ghost use Rattle.std.specs.Prelude.{◌≡◌, true};
 ghost use Rattle.skk_calls.specs.Dictionary.{is_fit};
 ghost use Rattle.skk_calls.specs.Rows.{is_word};
 
 use crate::journals::{LEARNT_FILE, disk_of, expect_file, kinds, text};
 use dict_layers::System;
+use expectations::same_at;
 use learned_store::Store;
 use skk_calls::{Answer, Books, Call, Cand, Cands, Learned, Part, Reply, RowKey};
 use skk_disk::{Disk, MemDisk};
 use skk_journal::Unopened;
-use skk_text::{Copies, Memory, Text, Texts};
-use std::alloc::{AllocError, Global};
+use skk_text::{Copies, Text, Texts};
+use std::alloc::Global;
 use std::process::Abort;
-use std::test::Fail;
 
 // The part lines of a dictionary file without okurigana.
 const PART_LINES: &str = ";; okuri-ari entries.\n;; okuri-nasi entries.\n";
@@ -86,7 +86,7 @@ const NOT_REMOVED: &str = "Learned 1\nDisk\nLearned 2\n傘 \nかさ /傘/\nき /
 // What no other change follows: a record whose gate was opened may stand in the file.
 const LEARNS_LAST: &[Step<'static>] = &[Step::Learn("かさ", "傘"), Step::Find("かさ")];
 
-const FAILINGS: &[Case<'static>] = &[
+static FAILINGS: &[Case<'static>] = &[
     (&[10], FAR, LEARNS, NOT_LEARNT, "swcswswsWwswswsws"),
     (&[11], FAR, LEARNS, NOT_LEARNT, "swcswswswwswswsws"),
     (&[12], FAR, LEARNS, NOT_LEARNT, "swcswswswsWwswswswsws"),
@@ -124,12 +124,12 @@ const FAILINGS: &[Case<'static>] = &[
 ];
 
 #[test]
-fn a_change_whose_calls_fail_is_not_made(rt: HostRuntime) -> Result<(), Fail> {
+fn a_change_whose_calls_fail_is_not_made(rt: HostRuntime) {
     expect_cases(&rt, rt.alloc(), FAILINGS)
 }
 
 // Look-ups, and changes that change nothing: after them the first call that fails is the next one.
-const LOOKED_UP: &[Case<'static>] = &[
+static LOOKED_UP: &[Case<'static>] = &[
     (
         &[22],
         FAR,
@@ -166,12 +166,12 @@ const LOOKED_UP: &[Case<'static>] = &[
 ];
 
 #[test]
-fn what_changes_nothing_calls_no_disk(rt: HostRuntime) -> Result<(), Fail> {
+fn what_changes_nothing_calls_no_disk(rt: HostRuntime) {
     expect_cases(&rt, rt.alloc(), LOOKED_UP)
 }
 
 // The record of 125 needs 49 bytes, and that of かんじ 43. A doubt is closed before the file is found to be full.
-const LIMITS: &[Case<'static>] = &[
+static LIMITS: &[Case<'static>] = &[
     (
         &[],
         64,
@@ -210,48 +210,46 @@ const LIMITS: &[Case<'static>] = &[
 ];
 
 #[test]
-fn a_file_takes_what_its_limit_leaves(rt: HostRuntime) -> Result<(), Fail> {
+fn a_file_takes_what_its_limit_leaves(rt: HostRuntime) {
     expect_cases(&rt, rt.alloc(), LIMITS)
 }
 
 #[test]
-fn a_learning_is_a_record(rt: HostRuntime) -> Result<(), Fail> {
+fn a_learning_is_a_record(rt: HostRuntime) {
     let alloc = rt.alloc();
     let steps = [Step::Learn("かんじ", "漢字")];
     let disk = MemDisk::new(alloc, Vec::new(alloc));
-    let mut disk = disk_after(alloc, disk, 64, &steps, &mut String::new(alloc))?;
-    expect_file(&rt, alloc, &mut disk, LEARNT_FILE)?;
-    Ok(())
+    let mut disk = disk_after(&rt, alloc, disk, 64, &steps, &mut String::new(alloc));
+    expect_file(&rt, alloc, &mut disk, LEARNT_FILE);
 }
 
-fn expect_cases<R: Abort>(rt: &R, alloc: Global, cases: &[Case]) -> Result<(), Fail> {
+fn expect_cases<R: Abort>(rt: &R, alloc: Global, cases: &[Case]) {
     for case in cases {
-        expect_case(rt, alloc, case)?;
+        expect_case(rt, alloc, case);
     }
-    Ok(())
 }
 
-fn expect_case<R: Abort>(rt: &R, alloc: Global, case: &Case) -> Result<(), Fail> {
+fn expect_case<R: Abort>(rt: &R, alloc: Global, case: &Case) {
     let (fails, limit, _, wanted, made) = *case;
-    let (calls, told) = told_of(rt, alloc, case)?;
-    assert_eq!(rt;
-        (calls.as_str(), told.as_str()),
-        (made, wanted),
-        "at {fails:?} and {limit}"
-    );
-    Ok(())
+    let (calls, told) = told_of(rt, alloc, case);
+    same_at(
+        &(calls.as_str(), told.as_str()),
+        &(made, wanted),
+        &(&fails, &limit),
+    )
+    .expect(rt, "as wanted");
 }
 
 // Asks for the steps of a case over a new file, closes it, and opens it again: the calls of the disk up to then, and
 // what is told.
-fn told_of<R: Abort>(rt: &R, alloc: Global, case: &Case) -> Result<(String, String), Fail> {
+fn told_of<R: Abort>(rt: &R, alloc: Global, case: &Case) -> (String, String) {
     let (fails, limit, steps, ..) = *case;
-    let disk = MemDisk::new(alloc, fails.to_vec(alloc)?);
+    let disk = MemDisk::new(alloc, fails.to_vec(alloc).expect(rt, "memory"));
     let mut told = String::new(alloc);
-    let disk = disk_after(alloc, disk, limit, steps, &mut told)?;
-    let calls = kinds(rt, alloc, disk.made())?;
-    add_lines(&mut told, alloc, disk)?;
-    Ok((calls, told))
+    let disk = disk_after(rt, alloc, disk, limit, steps, &mut told);
+    let calls = kinds(rt, alloc, disk.made());
+    add_lines(rt, &mut told, alloc, disk);
+    (calls, told)
 }
 
 // The line that the row comes to has exactly 65,535 bytes: the reading and ` /` have 3, each of 15 words 4,096 with
@@ -284,47 +282,42 @@ const LONG_TOLD: &str =
 const LONG_MADE: &str = "swcswswswswswswswswswswswswswswswswswswswswswswswswswswswswswswswswswsws";
 
 #[test]
-fn a_row_may_be_long(rt: HostRuntime) -> Result<(), Fail> {
-    let told = long_told(rt.alloc())?;
+fn a_row_may_be_long(rt: HostRuntime) {
+    let told = long_told(&rt, rt.alloc());
     expect_case(&rt, rt.alloc(), &(&[], FAR, LONG, &told, LONG_MADE))
 }
 
 // What is told of the long row, and then its line.
-fn long_told(alloc: Global) -> Result<String, Fail> {
-    let line = long_line(alloc, 4091)?;
-    Ok(format!(in alloc; "{LONG_TOLD}{line}\n")?)
+fn long_told(rt: &impl Abort, alloc: Global) -> String {
+    let line = long_line(rt, alloc, 4091);
+    format!(in alloc; "{LONG_TOLD}{line}\n").expect(rt, "memory")
 }
 
 // The letters of the words behind the first one of the long row.
-const LETTERS: &[&str] = &[
+static LETTERS: &[&str] = &[
     "o", "n", "m", "l", "k", "j", "i", "h", "g", "f", "e", "d", "c", "b", "a",
 ];
 
 // The line of the long row, whose first word has so many bytes.
-fn long_line(alloc: Global, count: usize) -> Result<String, Fail> {
-    let mut line = String::from_str(alloc, "a /")?;
-    add_long(&mut line, alloc, "p", count)?;
+fn long_line(rt: &impl Abort, alloc: Global, count: usize) -> String {
+    let mut line = String::from_str(alloc, "a /").expect(rt, "memory");
+    add_long(rt, &mut line, alloc, "p", count);
     for letter in LETTERS {
-        add_long(&mut line, alloc, letter, 4095)?;
+        add_long(rt, &mut line, alloc, letter, 4095);
     }
-    Ok(line)
+    line
 }
 
 // Adds a word of so many letters and a slash.
-fn add_long(
-    line: &mut String,
-    alloc: Global,
-    letter: &str,
-    count: usize,
-) -> Result<(), AllocError> {
-    let word = letter.repeat(alloc, count)?;
-    line.push_str(&word)?;
-    line.push('/')
+fn add_long(rt: &impl Abort, line: &mut String, alloc: Global, letter: &str, count: usize) {
+    let word = letter.repeat(alloc, count).expect(rt, "memory");
+    line.push_str(&word).expect(rt, "memory");
+    line.push('/').expect(rt, "memory")
 }
 
 // So many bytes of the file with one record, other bytes behind them, and what that file is opened as: the lines of
 // book 1, or why it is refused.
-const FILES: &[(usize, &[u8], &str)] = &[
+static FILES: &[(usize, &[u8], &str)] = &[
     (0, b"", ""),
     (0, b"P", ""),
     (0, b"P.", "the first byte is 80"),
@@ -354,106 +347,103 @@ const FILES: &[(usize, &[u8], &str)] = &[
 ];
 
 #[test]
-fn files_are_opened_by_what_their_records_say(rt: HostRuntime) -> Result<(), Fail> {
+fn files_are_opened_by_what_their_records_say(rt: HostRuntime) {
     for (count, tail, wanted) in FILES {
-        expect_opened(&rt, rt.alloc(), &LEARNT_FILE[..*count], tail, wanted)?;
+        expect_opened(&rt, rt.alloc(), &LEARNT_FILE[..*count], tail, wanted);
     }
-    Ok(())
 }
 
 // Records behind the first one that put the long row, with lines of 65,535 and of 65,536 bytes.
 #[test]
-fn a_line_in_a_file_may_be_long(rt: HostRuntime) -> Result<(), Fail> {
+fn a_line_in_a_file_may_be_long(rt: HostRuntime) {
     let alloc = rt.alloc();
-    let line = long_line(alloc, 4091)?;
-    let tail = long_record(alloc, b"\x01\x13\0\x01\0", &line)?;
-    let wanted = format!(in alloc; "{line}\nかんじ /漢字/\n")?;
-    expect_opened(&rt, alloc, &LEARNT_FILE[..60], &tail, &wanted)?;
-    let line = long_line(alloc, 4092)?;
-    let tail = long_record(alloc, b"\x01\x14\0\x01\0", &line)?;
-    expect_opened(&rt, alloc, &LEARNT_FILE[..60], &tail, "no record at 60")
+    let line = long_line(&rt, alloc, 4091);
+    let tail = long_record(&rt, alloc, b"\x01\x13\0\x01\0", &line);
+    let wanted = format!(in alloc; "{line}\nかんじ /漢字/\n").expect(&rt, "memory");
+    expect_opened(&rt, alloc, &LEARNT_FILE[..60], &tail, &wanted);
+    let line = long_line(&rt, alloc, 4092);
+    let tail = long_record(&rt, alloc, b"\x01\x14\0\x01\0", &line);
+    expect_opened(&rt, alloc, &LEARNT_FILE[..60], &tail, "no record at 60");
 }
 
 // An open gate and a payload's length, the payload that puts the first row into book 1, and a closed gate.
-fn long_record(alloc: Global, head: &[u8], line: &str) -> Result<Vec<u8>, AllocError> {
-    let mut record = head.to_vec(alloc)?;
-    record.extend_from_slice(b"\x01\x01\0\x01\0\0\0\0\0\0\0\x01\0\0\0\0\0\0\0\0")?;
-    record.extend_from_slice(line.as_bytes())?;
-    record.push(0)?;
-    Ok(record)
+fn long_record(rt: &impl Abort, alloc: Global, head: &[u8], line: &str) -> Vec<u8> {
+    let mut record = head.to_vec(alloc).expect(rt, "memory");
+    record
+        .extend_from_slice(b"\x01\x01\0\x01\0\0\0\0\0\0\0\x01\0\0\0\0\0\0\0\0")
+        .expect(rt, "memory");
+    record
+        .extend_from_slice(line.as_bytes())
+        .expect(rt, "memory");
+    record.push(0).expect(rt, "memory");
+    record
 }
 
 // Tells what the file of these bytes is opened as.
-fn expect_opened<R: Abort>(
-    rt: &R,
-    alloc: Global,
-    head: &[u8],
-    tail: &[u8],
-    wanted: &str,
-) -> Result<(), Fail> {
-    let mut bytes = head.to_vec(alloc)?;
-    bytes.extend_from_slice(tail)?;
-    let disk = disk_of(rt, alloc, &bytes, &[])?;
-    let told = opening_text(alloc, disk)?;
-    assert_eq!(rt; told.as_str(), wanted, "at {tail:?}");
-    Ok(())
+fn expect_opened<R: Abort>(rt: &R, alloc: Global, head: &[u8], tail: &[u8], wanted: &str) {
+    let mut bytes = head.to_vec(alloc).expect(rt, "memory");
+    bytes.extend_from_slice(tail).expect(rt, "memory");
+    let disk = disk_of(rt, alloc, &bytes, &[]);
+    let told = opening_text(rt, alloc, disk);
+    same_at(&told.as_str(), &wanted, &tail).expect(rt, "as wanted");
 }
 
 // The lines of book 1 of the learned file of a disk, or why that is refused.
-fn opening_text<D: Disk + Drop>(alloc: Global, disk: D) -> Result<String, Fail> {
-    match open_file(alloc, disk, FAR)? {
-        Ok(store) => lines(alloc, &store),
-        Err(unopened) => Ok(format!(in alloc; "{}", unopened.why)?),
+fn opening_text<D: Disk + Drop>(rt: &impl Abort, alloc: Global, disk: D) -> String {
+    match open_file(rt, alloc, disk, FAR) {
+        Ok(store) => lines(rt, alloc, &store),
+        Err(unopened) => format!(in alloc; "{}", unopened.why).expect(rt, "memory"),
     }
 }
 
 // Opens the new file of a disk with a limit, asks for steps, and closes it.
 fn disk_after<D: Disk + Drop>(
+    rt: &impl Abort,
     alloc: Global,
     disk: D,
     limit: u64,
     steps: &[Step],
     told: &mut String,
-) -> Result<D, Fail> {
-    let mut store = opened_file(alloc, disk, limit)?;
-    ask_each(alloc, &mut store, steps, told)?;
-    Ok(store.close())
+) -> D {
+    let mut store = opened_file(rt, alloc, disk, limit);
+    ask_each(rt, alloc, &mut store, steps, told);
+    store.close()
 }
 
 // Asks for steps one after another, and adds what the answers tell.
 fn ask_each<D: Disk>(
+    rt: &impl Abort,
     alloc: Global,
     store: &mut Store<D>,
     steps: &[Step],
     told: &mut String,
-) -> Result<(), Fail> {
+) {
     let mut learnings = Vec::new(alloc);
     for step in steps {
-        ask(alloc, store, *step, &mut learnings, told)?;
+        ask(rt, alloc, store, *step, &mut learnings, told);
     }
-    Ok(())
 }
 
 // Asks for a step, adds what the answer tells, and keeps what was learnt.
 fn ask<D: Disk>(
+    rt: &impl Abort,
     alloc: Global,
     store: &mut Store<D>,
     step: Step,
     learnings: &mut Vec<Learned>,
     told: &mut String,
-) -> Result<(), Fail> {
-    let call = call_of(alloc, step, learnings)?;
+) {
+    let call = call_of(rt, alloc, step, learnings);
     let answer = answer(alloc, store, call);
-    add_answer(told, alloc, &answer)?;
-    keep(learnings, answer)
+    add_answer(rt, told, alloc, &answer);
+    keep(rt, learnings, answer)
 }
 
 // Keeps what was learnt, where an answer tells of that.
-fn keep(learnings: &mut Vec<Learned>, answer: Answer) -> Result<(), Fail> {
+fn keep(rt: &impl Abort, learnings: &mut Vec<Learned>, answer: Answer) {
     if let Some(learned) = learned_of(answer) {
-        learnings.push(learned)?;
+        learnings.push(learned).expect(rt, "memory");
     }
-    Ok(())
 }
 
 // The answer to a call. Calls are let go here alone: each place where one is takes long to prove.
@@ -472,12 +462,13 @@ fn answer_to<D: Disk>(alloc: Global, store: &mut Store<D>, call: &Call) -> Answe
 
 // Opens the learned file of a disk over no system files.
 fn open_file<D: Disk + Drop>(
+    rt: &impl Abort,
     alloc: Global,
     disk: D,
     limit: u64,
-) -> Result<Result<Store<D>, Unopened<D>>, Memory> {
-    let system = System::of_books(alloc, Books::new(alloc))?;
-    Ok(open_over(alloc, disk, system, limit))
+) -> Result<Store<D>, Unopened<D>> {
+    let system = System::of_books(alloc, Books::new(alloc)).expect(rt, "memory");
+    open_over(alloc, disk, system, limit)
 }
 
 // Opens the learned file of a disk.
@@ -491,113 +482,114 @@ fn open_over<D: Disk>(
 }
 
 // Opens the learned file of a disk, which is one.
-fn opened_file<D: Disk + Drop>(alloc: Global, disk: D, limit: u64) -> Result<Store<D>, Fail> {
-    match open_file(alloc, disk, limit)? {
-        Ok(store) => Ok(store),
-        Err(unopened) => Err(Fail::new(unopened.why)),
+fn opened_file<D: Disk + Drop>(rt: &impl Abort, alloc: Global, disk: D, limit: u64) -> Store<D> {
+    match open_file(rt, alloc, disk, limit) {
+        Ok(store) => store,
+        Err(unopened) => panic!(rt; "{}", unopened.why),
     }
 }
 
 // Adds the lines of book 1 of the learned file of a disk.
-fn add_lines<D: Disk + Drop>(told: &mut String, alloc: Global, disk: D) -> Result<(), Fail> {
-    let store = opened_file(alloc, disk, FAR)?;
-    Ok(told.push_str(&lines(alloc, &store)?)?)
+fn add_lines<D: Disk + Drop>(rt: &impl Abort, told: &mut String, alloc: Global, disk: D) {
+    let store = opened_file(rt, alloc, disk, FAR);
+    told.push_str(&lines(rt, alloc, &store))
+        .expect(rt, "memory")
 }
 
 // The lines of book 1, without the part lines.
-fn lines<D: Disk>(alloc: Global, store: &Store<D>) -> Result<String, Fail> {
-    let dump = store.dump(alloc, 1)?;
+fn lines<D: Disk>(rt: &impl Abort, alloc: Global, store: &Store<D>) -> String {
+    let dump = store.dump(alloc, 1).expect(rt, "memory");
     let lines = dump
         .as_str()
         .strip_prefix(PART_LINES)
-        .ok_or("other part lines")?;
-    Ok(String::from_str(alloc, lines)?)
+        .expect(rt, "other part lines");
+    String::from_str(alloc, lines).expect(rt, "memory")
 }
 
 // The key of a reading without okurigana.
-fn key(alloc: Global, reading: &str) -> Result<RowKey, Fail> {
-    Ok(RowKey::new(Part::Nasi, text(alloc, reading)?)?)
+fn key(rt: &impl Abort, alloc: Global, reading: &str) -> RowKey {
+    RowKey::new(Part::Nasi, text(rt, alloc, reading)).expect(rt, "a key")
 }
 
 // A word without a note.
-fn cand(alloc: Global, word: &str) -> Result<Cand, Fail> {
-    Ok(Cand::new(text(alloc, word)?, Text::new(alloc))?)
+fn cand(rt: &impl Abort, alloc: Global, word: &str) -> Cand {
+    Cand::new(text(rt, alloc, word), Text::new(alloc)).expect(rt, "a candidate")
 }
 
 // A word.
-fn word_of(alloc: Global, content: &str) -> Result<Text, Fail>
-    ensures { IfOk result (λ word. is_word word ≡ true) }
+fn word_of(rt: &impl Abort, alloc: Global, content: &str) -> Text
+    ensures { is_word result ≡ true }
 {
-    let cand = cand(alloc, content)?;
-    Ok(cand.word().copy(alloc)?)
+    let cand = cand(rt, alloc, content);
+    cand.word().copy(alloc).expect(rt, "memory")
 }
 
 // The call of a step, which may take back what was learnt.
-fn call_of(alloc: Global, step: Step, learnings: &mut Vec<Learned>) -> Result<Call, Fail>
-    ensures { IfOk result (λ call. is_fit call ≡ true) }
+fn call_of(rt: &impl Abort, alloc: Global, step: Step, learnings: &mut Vec<Learned>) -> Call
+    ensures { is_fit result ≡ true }
 {
     match step {
-        Step::Learn(reading, word) => learning(alloc, reading, word),
-        Step::LearnLong(letter, count) => learning_long(alloc, letter, count),
-        Step::Purge(reading, word) => purging(alloc, reading, word),
-        Step::Unlearn => unlearning(learnings),
-        Step::Find(reading) => finding(alloc, reading),
-        Step::Complete(prefix) => completing(alloc, prefix),
+        Step::Learn(reading, word) => learning(rt, alloc, reading, word),
+        Step::LearnLong(letter, count) => learning_long(rt, alloc, letter, count),
+        Step::Purge(reading, word) => purging(rt, alloc, reading, word),
+        Step::Unlearn => unlearning(rt, learnings),
+        Step::Find(reading) => finding(rt, alloc, reading),
+        Step::Complete(prefix) => completing(rt, alloc, prefix),
     }
 }
 
-fn learning(alloc: Global, reading: &str, word: &str) -> Result<Call, Fail>
-    ensures { IfOk result (λ call. is_fit call ≡ true) }
+fn learning(rt: &impl Abort, alloc: Global, reading: &str, word: &str) -> Call
+    ensures { is_fit result ≡ true }
 {
-    Ok(Call::Learn {
+    Call::Learn {
         book: 1,
-        key: key(alloc, reading)?,
+        key: key(rt, alloc, reading),
         okuri: None,
-        cand: cand(alloc, word)?,
-    })
+        cand: cand(rt, alloc, word),
+    }
 }
 
-fn learning_long(alloc: Global, letter: &str, count: usize) -> Result<Call, Fail>
-    ensures { IfOk result (λ call. is_fit call ≡ true) }
+fn learning_long(rt: &impl Abort, alloc: Global, letter: &str, count: usize) -> Call
+    ensures { is_fit result ≡ true }
 {
-    let word = letter.repeat(alloc, count)?;
-    learning(alloc, "a", &word)
+    let word = letter.repeat(alloc, count).expect(rt, "memory");
+    learning(rt, alloc, "a", &word)
 }
 
-fn purging(alloc: Global, reading: &str, word: &str) -> Result<Call, Fail>
-    ensures { IfOk result (λ call. is_fit call ≡ true) }
+fn purging(rt: &impl Abort, alloc: Global, reading: &str, word: &str) -> Call
+    ensures { is_fit result ≡ true }
 {
-    Ok(Call::Purge {
+    Call::Purge {
         book: 1,
-        key: key(alloc, reading)?,
-        word: word_of(alloc, word)?,
-    })
+        key: key(rt, alloc, reading),
+        word: word_of(rt, alloc, word),
+    }
 }
 
-fn unlearning(learnings: &mut Vec<Learned>) -> Result<Call, Fail>
-    ensures { IfOk result (λ call. is_fit call ≡ true) }
+fn unlearning(rt: &impl Abort, learnings: &mut Vec<Learned>) -> Call
+    ensures { is_fit result ≡ true }
 {
-    let learned = learnings.pop().ok_or("nothing was learnt")?;
-    Ok(Call::Unlearn { learned })
+    let learned = learnings.pop().expect(rt, "nothing was learnt");
+    Call::Unlearn { learned }
 }
 
-fn finding(alloc: Global, reading: &str) -> Result<Call, Fail>
-    ensures { IfOk result (λ call. is_fit call ≡ true) }
+fn finding(rt: &impl Abort, alloc: Global, reading: &str) -> Call
+    ensures { is_fit result ≡ true }
 {
-    Ok(Call::Lookup {
+    Call::Lookup {
         who: 1,
-        key: key(alloc, reading)?,
+        key: key(rt, alloc, reading),
         okuri: None,
-    })
+    }
 }
 
-fn completing(alloc: Global, prefix: &str) -> Result<Call, Fail>
-    ensures { IfOk result (λ call. is_fit call ≡ true) }
+fn completing(rt: &impl Abort, alloc: Global, prefix: &str) -> Call
+    ensures { is_fit result ≡ true }
 {
-    Ok(Call::Complete {
+    Call::Complete {
         who: 1,
-        prefix: text(alloc, prefix)?,
-    })
+        prefix: text(rt, alloc, prefix),
+    }
 }
 
 // What was learnt, where an answer tells of that.
@@ -609,40 +601,38 @@ fn learned_of(answer: Answer) -> Option<Learned> {
 }
 
 // Adds a line of what an answer tells: of a refusal its cause.
-fn add_answer(told: &mut String, alloc: Global, answer: &Answer) -> Result<(), AllocError> {
+fn add_answer(rt: &impl Abort, told: &mut String, alloc: Global, answer: &Answer) {
     match answer {
-        Answer::Done(reply) => add_reply(told, alloc, reply)?,
-        Answer::Refused(refusal) => told.push_str(&format!(in alloc; "{refusal:?}")?)?,
+        Answer::Done(reply) => add_reply(rt, told, alloc, reply),
+        Answer::Refused(refusal) => write!(told, "{refusal:?}").expect(rt, "memory"),
     }
-    told.push('\n')
+    told.push('\n').expect(rt, "memory")
 }
 
 // Adds what a reply tells.
-fn add_reply(told: &mut String, alloc: Global, reply: &Reply) -> Result<(), AllocError> {
+fn add_reply(rt: &impl Abort, told: &mut String, alloc: Global, reply: &Reply) {
     match reply {
-        Reply::Found(found) => add_words(told, found.cands()),
-        Reply::Readings(readings) => add_texts(told, readings),
+        Reply::Found(found) => add_words(rt, told, found.cands()),
+        Reply::Readings(readings) => add_texts(rt, told, readings),
         Reply::Learned(learned) => {
-            told.push_str(&format!(in alloc; "Learned {}", learned.stamp())?)
+            write!(told, "Learned {}", learned.stamp()).expect(rt, "memory");
         }
-        reply => told.push_str(&format!(in alloc; "{reply:?}")?),
+        reply => write!(told, "{reply:?}").expect(rt, "memory"),
     }
 }
 
 // Adds the words of candidates, each with a space behind it.
-fn add_words(told: &mut String, cands: &Cands) -> Result<(), AllocError> {
+fn add_words(rt: &impl Abort, told: &mut String, cands: &Cands) {
     for cand in cands.as_slice() {
-        told.push_str(cand.word().as_str())?;
-        told.push(' ')?;
+        told.push_str(cand.word().as_str()).expect(rt, "memory");
+        told.push(' ').expect(rt, "memory");
     }
-    Ok(())
 }
 
 // Adds texts, each with a space behind it.
-fn add_texts(told: &mut String, texts: &Texts) -> Result<(), AllocError> {
+fn add_texts(rt: &impl Abort, told: &mut String, texts: &Texts) {
     for text in texts.as_slice() {
-        told.push_str(text.as_str())?;
-        told.push(' ')?;
+        told.push_str(text.as_str()).expect(rt, "memory");
+        told.push(' ').expect(rt, "memory");
     }
-    Ok(())
 }

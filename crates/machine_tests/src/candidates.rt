@@ -5,58 +5,55 @@ use crate::distinct::distinct;
 use candidate_state::{
     BothFound, CandsDo, Found, Picking, Shown, ShownList, press_cands, shown_numbers, shown_plain,
 };
+use expectations::{same, same_at};
 use numeric_entries::number_key;
 use skk_calls::{Cand, Cands, Part, RowKey};
 use skk_text::{Copies, Notice, Text, Texts, read_keys};
 use std::alloc::Global;
 use std::process::Abort;
-use std::test::Fail;
 
 const NUMBERS: &str = "一/ 二/ 三/ 四/ 五/ 六/ 七/ 八/ 九/ 十/ 百/ 千/";
 
 // The text of a string.
-fn text(alloc: Global, content: &str) -> Result<Text, Fail> {
-    Ok(Text::of(String::from_str(alloc, content)?))
+fn text(rt: &impl Abort, alloc: Global, content: &str) -> Text {
+    Text::of(String::from_str(alloc, content).expect(rt, "memory"))
 }
 
 // What is found of a reading: the first of these words, each with a `/` and its note behind it.
-fn found(alloc: Global, reading: Text, words: &str, count: usize) -> Result<Found, Fail> {
+fn found(rt: &impl Abort, alloc: Global, reading: Text, words: &str, count: usize) -> Found {
     let mut cands = Cands::new(alloc);
     for entry in words.split_whitespace().take(count) {
-        let (word, note) = entry.split_once('/').ok_or("no `/`")?;
-        cands.push(Cand::new(text(alloc, word)?, text(alloc, note)?)?)?;
+        let (word, note) = entry.split_once('/').expect(rt, "no `/`");
+        cands
+            .push(Cand::new(text(rt, alloc, word), text(rt, alloc, note)).expect(rt, "a candidate"))
+            .expect(rt, "memory");
     }
-    Ok(Found {
-        key: RowKey::new(Part::Nasi, reading)?,
-        cands: distinct(alloc, cands)?,
-    })
+    Found {
+        key: RowKey::new(Part::Nasi, reading).expect(rt, "a key"),
+        cands: distinct(alloc, cands).expect(rt, "memory"),
+    }
 }
 
 // The candidates that are shown for the first of these words.
-fn shown_list(alloc: Global, words: &str, count: usize) -> Result<ShownList, Fail> {
-    let found = found(alloc, text(alloc, "すう")?, words, count)?;
-    Ok(shown_plain(found))
+fn shown_list(rt: &impl Abort, alloc: Global, words: &str, count: usize) -> ShownList {
+    let found = found(rt, alloc, text(rt, alloc, "すう"), words, count);
+    shown_plain(found)
 }
 
 // What keys make of so many candidates, and what is done behind the last key.
-fn picking_after(
-    rt: &impl Abort,
-    alloc: Global,
-    count: usize,
-    keys: &str,
-) -> Result<(Picking, CandsDo), Fail> {
-    let list = shown_list(alloc, NUMBERS, count)?;
+fn picking_after(rt: &impl Abort, alloc: Global, count: usize, keys: &str) -> (Picking, CandsDo) {
+    let list = shown_list(rt, alloc, NUMBERS, count);
     assert!(rt; list.len() > 0);
     let mut picking = Picking::new(list);
     let mut done = CandsDo::Stay(Notice::Empty);
-    for key in read_keys(alloc, keys.as_bytes())?.iter() {
+    for key in read_keys(alloc, keys.as_bytes()).expect(rt, "keys").iter() {
         done = press_cands(&mut picking, *key);
     }
-    Ok((picking, done))
+    (picking, done)
 }
 
 // Of so many candidates behind these keys: the place, whether a purge is asked for, and what the last key does.
-const PICKINGS: [(usize, &str, &str); 23] = [
+static PICKINGS: [(usize, &str, &str); 23] = [
     (1, " ", "0 false Register"),
     (1, "x", "0 false Back"),
     (1, "<cj>", "0 false Choose { place: 0, then: Nothing }"),
@@ -87,29 +84,21 @@ const PICKINGS: [(usize, &str, &str); 23] = [
 ];
 
 #[test]
-fn keys_pick_candidates(rt: HostRuntime) -> Result<(), Fail> {
+fn keys_pick_candidates(rt: HostRuntime) {
     for (count, keys, wanted) in &PICKINGS {
-        expect_picking(&rt, rt.alloc(), *count, keys, wanted)?;
+        expect_picking(&rt, rt.alloc(), *count, keys, wanted);
     }
-    Ok(())
 }
 
-fn expect_picking<R: Abort>(
-    rt: &R,
-    alloc: Global,
-    count: usize,
-    keys: &str,
-    wanted: &str,
-) -> Result<(), Fail> {
-    let (picking, done) = picking_after(rt, alloc, count, keys)?;
-    let outcome = picking_text(alloc, &picking, done)?;
-    assert_eq!(rt; outcome.as_str(), wanted, "{keys:?} at {count}");
-    Ok(())
+fn expect_picking<R: Abort>(rt: &R, alloc: Global, count: usize, keys: &str, wanted: &str) {
+    let (picking, done) = picking_after(rt, alloc, count, keys);
+    let outcome = picking_text(rt, alloc, &picking, done);
+    same_at(&outcome.as_str(), &wanted, &(&keys, &count)).expect(rt, "as wanted");
 }
 
-fn picking_text(alloc: Global, picking: &Picking, done: CandsDo) -> Result<String, Fail> {
+fn picking_text(rt: &impl Abort, alloc: Global, picking: &Picking, done: CandsDo) -> String {
     let (place, asked) = (picking.place(), picking.is_asked());
-    Ok(format!(in alloc; "{place} {asked} {done:?}")?)
+    format!(in alloc; "{place} {asked} {done:?}").expect(rt, "memory")
 }
 
 // A candidate that is shown: its reading, its word, its text and its note.
@@ -117,26 +106,26 @@ type ShownRow = (&'static str, &'static str, &'static str, &'static str);
 
 fn expect_shown<R: Abort>(rt: &R, shown: &Shown, row: &ShownRow) {
     let (reading, word, text, note) = *row;
-    assert_eq!(rt; shown.key.reading().as_str(), reading);
-    assert_eq!(rt; shown.cand.word().as_str(), word);
-    assert_eq!(rt;
-        (shown.text.as_str(), shown.cand.note().as_str()),
-        (text, note)
-    );
+    same(&shown.key.reading().as_str(), &reading).expect(rt, "as wanted");
+    same(&shown.cand.word().as_str(), &word).expect(rt, "as wanted");
+    same(
+        &(shown.text.as_str(), shown.cand.note().as_str()),
+        &(text, note),
+    )
+    .expect(rt, "as wanted");
 }
 
 #[test]
-fn the_first_of_each_word_is_shown(rt: HostRuntime) -> Result<(), Fail> {
+fn the_first_of_each_word_is_shown(rt: HostRuntime) {
     let alloc = rt.alloc();
-    let list = shown_list(alloc, "幹事/宴会の 漢字/ 幹事/x", 3)?;
+    let list = shown_list(&rt, alloc, "幹事/宴会の 漢字/ 幹事/x", 3);
     assert_eq!(rt; list.len(), 2);
     expect_shown(&rt, &list.at(0), &("すう", "幹事", "幹事", "宴会の"));
     expect_shown(&rt, &list.at(1), &("すう", "漢字", "漢字", ""));
-    Ok(())
 }
 
 // A word as it was found stands before a number that is filled, and of equal texts the first is shown.
-const BOTH: [ShownRow; 4] = [
+static BOTH: [ShownRow; 4] = [
     ("9ねん", "九年", "九年", ""),
     ("9ねん", "9年", "9年", "数字"),
     ("#ねん", "#1年", "９年", ""),
@@ -144,23 +133,24 @@ const BOTH: [ShownRow; 4] = [
 ];
 
 #[test]
-fn words_of_both_keys_are_shown(rt: HostRuntime) -> Result<(), Fail> {
-    let list = list_of_both(&rt, rt.alloc())?;
+fn words_of_both_keys_are_shown(rt: HostRuntime) {
+    let list = list_of_both(&rt, rt.alloc());
     assert_eq!(rt; list.len(), 4);
     for (place, row) in BOTH.iter().enumerate() {
         expect_shown(&rt, &list.at(place), row);
     }
-    Ok(())
 }
 
 // The candidates that are shown of a reading and of the key of its numbers.
-fn list_of_both<R: Abort>(rt: &R, alloc: Global) -> Result<ShownList, Fail> {
-    let reading = text(alloc, "9ねん")?;
-    let number_key = number_key(alloc, &reading)?.ok_or("no number")?;
+fn list_of_both<R: Abort>(rt: &R, alloc: Global) -> ShownList {
+    let reading = text(rt, alloc, "9ねん");
+    let number_key = number_key(alloc, &reading)
+        .expect(rt, "memory")
+        .expect(rt, "no number");
     let (key, numbers) = number_key.into_parts();
-    let firsts = numbers.copy(alloc)?;
-    let plain = found(alloc, reading, "九年/ 9年/数字", 2)?;
-    let numbered = found(alloc, key, "#0年/ #1年/ #3年/漢字 #4/#4", 4)?;
+    let firsts = numbers.copy(alloc).expect(rt, "memory");
+    let plain = found(rt, alloc, reading, "九年/ 9年/数字", 2);
+    let numbered = found(rt, alloc, key, "#0年/ #1年/ #3年/漢字 #4/#4", 4);
     shown_both(rt, alloc, BothFound { plain, numbered }, &numbers, &firsts)
 }
 
@@ -170,9 +160,9 @@ fn shown_both<R: Abort>(
     both: BothFound,
     numbers: &Texts,
     firsts: &Texts,
-) -> Result<ShownList, Fail>
+) -> ShownList
     requires { are_numbers numbers.now ≡ true }
 {
     assert_eq!(rt; firsts.len(), numbers.len());
-    Ok(shown_numbers(alloc, both, numbers, firsts)?)
+    shown_numbers(alloc, both, numbers, firsts).expect(rt, "memory")
 }

@@ -1,24 +1,24 @@
 ghost use Rattle.std.specs.Prelude.{◌≡◌, true};
 ghost use Rattle.numeric_entries.specs.Numbers.{are_numbers};
 
+use expectations::same;
 use numeric_entries::{NumberKey, asks_lookup, fill, number_key};
 use skk_text::{Text, Texts};
 use std::alloc::Global;
 use std::process::Abort;
-use std::test::Fail;
 
 // The text of a string.
-fn text(alloc: Global, content: &str) -> Result<Text, Fail> {
-    Ok(Text::of(String::from_str(alloc, content)?))
+fn text(rt: &impl Abort, alloc: Global, content: &str) -> Text {
+    Text::of(String::from_str(alloc, content).expect(rt, "memory"))
 }
 
 // The words of a string.
-fn words(alloc: Global, content: &str) -> Result<Texts, Fail> {
+fn words(rt: &impl Abort, alloc: Global, content: &str) -> Texts {
     let mut words = Texts::new(alloc);
     for word in content.split_whitespace() {
-        words.push(text(alloc, word)?)?;
+        words.push(text(rt, alloc, word)).expect(rt, "memory");
     }
-    Ok(words)
+    words
 }
 
 // The key of a reading, a word of its entry, whether that asks for a look-up, the first words of the numbers, and the
@@ -32,7 +32,7 @@ type Filling = (
     &'static str,
 );
 
-const FILLINGS: [Filling; 7] = [
+static FILLINGS: [Filling; 7] = [
     (
         "1995ねん12",
         "#ねん#",
@@ -50,23 +50,22 @@ const FILLINGS: [Filling; 7] = [
 ];
 
 #[test]
-fn numbers_of_a_reading_fill_a_word(rt: HostRuntime) -> Result<(), Fail> {
+fn numbers_of_a_reading_fill_a_word(rt: HostRuntime) {
     for filling in &FILLINGS {
-        expect_filling(&rt, rt.alloc(), filling)?;
+        expect_filling(&rt, rt.alloc(), filling);
     }
-    let key = key_of(rt.alloc(), "かんじ")?;
+    let key = key_of(&rt, rt.alloc(), "かんじ");
     assert!(rt; key.is_none());
-    Ok(())
 }
 
-fn expect_filling<R: Abort>(rt: &R, alloc: Global, filling: &Filling) -> Result<(), Fail> {
+fn expect_filling<R: Abort>(rt: &R, alloc: Global, filling: &Filling) {
     let (reading, key, word, asks, firsts, wanted) = *filling;
-    let found = key_of(alloc, reading)?.ok_or("no number")?;
-    assert_eq!(rt; found.key().as_str(), key);
+    let found = key_of(rt, alloc, reading).expect(rt, "no number");
+    same(&found.key().as_str(), &key).expect(rt, "as wanted");
     let (_, numbers) = found.into_parts();
-    let firsts = words(alloc, firsts)?;
-    let word = text(alloc, word)?;
-    assert_eq!(rt; asks_lookup(&word), asks);
+    let firsts = words(rt, alloc, firsts);
+    let word = text(rt, alloc, word);
+    same(&asks_lookup(&word), &asks).expect(rt, "as wanted");
     expect_filled(rt, alloc, &word, &numbers, &firsts, wanted)
 }
 
@@ -78,15 +77,14 @@ fn expect_filled<R: Abort>(
     numbers: &Texts,
     firsts: &Texts,
     wanted: &str,
-) -> Result<(), Fail>
+)
     requires { are_numbers numbers.now ≡ true }
 {
     assert_eq!(rt; firsts.len(), numbers.len());
-    let filled = fill(alloc, word, numbers, firsts)?;
-    assert_eq!(rt; filled.as_str(), wanted);
-    Ok(())
+    let filled = fill(alloc, word, numbers, firsts).expect(rt, "memory");
+    same(&filled.as_str(), &wanted).expect(rt, "as wanted");
 }
 
-fn key_of(alloc: Global, reading: &str) -> Result<Option<NumberKey>, Fail> {
-    Ok(number_key(alloc, &text(alloc, reading)?)?)
+fn key_of(rt: &impl Abort, alloc: Global, reading: &str) -> Option<NumberKey> {
+    number_key(alloc, &text(rt, alloc, reading)).expect(rt, "memory")
 }

@@ -1,9 +1,9 @@
+use expectations::{same, same_at};
 use kana_input::{Plain, PlainThen, press_plain};
 use romaji_rules::Rules;
 use skk_text::{Text, read_keys};
 use std::alloc::Global;
 use std::process::Abort;
-use std::test::Fail;
 
 // What is typed in hiragana mode; `=`; and then all that is inserted, what waits, the mode, and
 // what the last key does besides.
@@ -16,36 +16,34 @@ n<tab>=:n:Hira:Stay n<undo>=:n:Hira:AskUndo l<ret>=::Ascii:Newline l<cg>=::Ascii
 ";
 
 // What keys come to that are typed in hiragana mode, as a case has it.
-fn outcome_of(alloc: Global, rules: &Rules, keys: &str) -> Result<String, Fail> {
+fn outcome_of(rt: &impl Abort, alloc: Global, rules: &Rules, keys: &str) -> String {
     let mut plain = Plain::new();
     let mut inserted = Text::new(alloc);
     let mut then = PlainThen::Stay;
-    let keys = read_keys(alloc, keys.as_bytes())?;
+    let keys = read_keys(alloc, keys.as_bytes()).expect(rt, "keys");
     for key in keys.iter() {
-        let done = press_plain(alloc, &mut plain, rules, *key)?;
-        inserted.push_str(done.insert.as_str())?;
+        let done = press_plain(alloc, &mut plain, rules, *key).expect(rt, "memory");
+        inserted.push_str(done.insert.as_str()).expect(rt, "memory");
         then = done.then;
     }
     let inserted = inserted.as_str();
     let pending = plain.pending.as_str();
     let mode = plain.mode;
-    Ok(format!(in alloc; "{inserted}:{pending}:{mode:?}:{then:?}")?)
+    format!(in alloc; "{inserted}:{pending}:{mode:?}:{then:?}").expect(rt, "memory")
 }
 
 #[test]
-fn keys_are_read_in_the_plain_state(rt: HostRuntime) -> Result<(), Fail> {
+fn keys_are_read_in_the_plain_state(rt: HostRuntime) {
     let alloc = rt.alloc();
-    let rules = Rules::standard(alloc)?;
-    assert_eq!(rt; CASES.split_whitespace().count(), 24);
+    let rules = Rules::standard(alloc).expect(&rt, "memory");
+    same(&CASES.split_whitespace().count(), &24).expect(&rt, "as wanted");
     for case in CASES.split_whitespace() {
-        expect_case(&rt, alloc, &rules, case)?;
+        expect_case(&rt, alloc, &rules, case);
     }
-    Ok(())
 }
 
-fn expect_case<R: Abort>(rt: &R, alloc: Global, rules: &Rules, case: &str) -> Result<(), Fail> {
-    let (keys, wanted) = case.split_once('=').ok_or("no `=`")?;
-    let outcome = outcome_of(alloc, rules, keys)?;
-    assert_eq!(rt; outcome.as_str(), wanted, "typed {keys}");
-    Ok(())
+fn expect_case<R: Abort>(rt: &R, alloc: Global, rules: &Rules, case: &str) {
+    let (keys, wanted) = case.split_once('=').expect(rt, "no `=`");
+    let outcome = outcome_of(rt, alloc, rules, keys);
+    same_at(&outcome.as_str(), &wanted, &keys).expect(rt, "as wanted");
 }

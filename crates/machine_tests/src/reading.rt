@@ -1,14 +1,14 @@
-ghost use Rattle.std.specs.Prelude.{◌≡◌, ◌≢◌, [], true, IfOk};
+ghost use Rattle.std.specs.Prelude.{◌≡◌, ◌≢◌, [], true};
 ghost use Rattle.std.specs.List.{list_all};
 ghost use Rattle.skk_calls.specs.Dictionary.{is_plain_reading};
 
+use expectations::{same, same_at};
 use reading_state::{AfterConfirm, Reading, ReadingDo, ReadingThen, press_reading};
 use romaji_rules::Rules;
 use skk_calls::{Part, RowKey};
 use skk_text::{Copies, Key, Notice, Text, Texts, read_keys};
-use std::alloc::{AllocError, Global};
+use std::alloc::Global;
 use std::process::Abort;
-use std::test::Fail;
 
 // What is typed into a new reading, where `_` is the space; `=`; the reading, with `*` before the kana of an okurigana
 // that was begun; `:` and what is pending; and then what the last key tells, and what it does.
@@ -50,62 +50,56 @@ fn word_of(then: ReadingThen) -> &'static str {
 }
 
 // A reading and what is done with it, as the cases have it.
-fn case_text(alloc: Global, reading: &Reading, done: ReadingDo) -> Result<String, AllocError> {
+fn case_text(rt: &impl Abort, alloc: Global, reading: &Reading, done: ReadingDo) -> String {
     let text = reading.text().as_str();
     let pending = reading.pending().as_str();
     let then = word_of(done.then);
     let notice = done.notice;
-    match reading.begun_text() {
+    let told = match reading.begun_text() {
         Some(kana) => format!(in alloc; "{text}*{}:{pending}:{notice:?}:{then}", kana.as_str()),
         None => format!(in alloc; "{text}:{pending}:{notice:?}:{then}"),
-    }
+    };
+    told.expect(rt, "memory")
 }
 
 // Presses keys, and gives what the last one gives.
 fn press_keys(
+    rt: &impl Abort,
     alloc: Global,
     reading: &mut Reading,
     rules: &Rules,
     keys: &str,
-) -> Result<ReadingDo, Fail> {
+) -> ReadingDo {
     let mut done = ReadingDo {
         notice: Notice::Empty,
         then: ReadingThen::Stay,
     };
-    let keys = read_keys(alloc, keys.as_bytes())?;
+    let keys = read_keys(alloc, keys.as_bytes()).expect(rt, "keys");
     for key in keys.as_slice() {
         let key = match *key {
             Key::Char(b'_') => Key::Char(b' '),
             other => other,
         };
-        done = press_reading(alloc, reading, rules, key)?;
+        done = press_reading(alloc, reading, rules, key).expect(rt, "memory");
     }
-    Ok(done)
+    done
 }
 
 #[test]
-fn keys_make_a_reading(rt: HostRuntime) -> Result<(), Fail> {
+fn keys_make_a_reading(rt: HostRuntime) {
     let alloc = rt.alloc();
-    let rules = Rules::standard(alloc)?;
-    assert_eq!(rt; CASES.split_whitespace().count(), 42);
+    let rules = Rules::standard(alloc).expect(&rt, "memory");
+    same(&CASES.split_whitespace().count(), &42).expect(&rt, "as wanted");
     for case in CASES.split_whitespace() {
-        expect_case(&rt, alloc, &rules, case, "")?;
+        expect_case(&rt, alloc, &rules, case, "");
     }
-    Ok(())
 }
 
 // Types the keys of a case into a new reading, or into one in which these keys were completed.
-fn expect_case<R: Abort>(
-    rt: &R,
-    alloc: Global,
-    rules: &Rules,
-    case: &str,
-    completed: &str,
-) -> Result<(), Fail> {
-    let (keys, wanted) = case.split_once('=').ok_or("no `=`")?;
-    let outcome = outcome_of(rt, alloc, rules, keys, completed)?;
-    assert_eq!(rt; outcome.as_str(), wanted, "typed {keys}");
-    Ok(())
+fn expect_case<R: Abort>(rt: &R, alloc: Global, rules: &Rules, case: &str, completed: &str) {
+    let (keys, wanted) = case.split_once('=').expect(rt, "no `=`");
+    let outcome = outcome_of(rt, alloc, rules, keys, completed);
+    same_at(&outcome.as_str(), &wanted, &keys).expect(rt, "as wanted");
 }
 
 fn outcome_of<R: Abort>(
@@ -114,42 +108,49 @@ fn outcome_of<R: Abort>(
     rules: &Rules,
     keys: &str,
     completed: &str,
-) -> Result<String, Fail> {
+) -> String {
     let mut reading = Reading::new(alloc);
     if !completed.is_empty() {
-        press_keys(alloc, &mut reading, rules, completed)?;
-        complete(rt, alloc, &mut reading)?;
+        press_keys(rt, alloc, &mut reading, rules, completed);
+        complete(rt, alloc, &mut reading);
     }
-    let done = press_keys(alloc, &mut reading, rules, keys)?;
-    Ok(case_text(alloc, &reading, done)?)
+    let done = press_keys(rt, alloc, &mut reading, rules, keys);
+    case_text(rt, alloc, &reading, done)
 }
 
 // Completes a reading.
-fn complete<R: Abort>(rt: &R, alloc: Global, reading: &mut Reading) -> Result<(), Fail> {
-    let notice = reading.complete(alloc, completions(alloc)?)?;
-    assert_eq!(rt; notice, Notice::Empty);
-    Ok(())
+fn complete<R: Abort>(rt: &R, alloc: Global, reading: &mut Reading) {
+    let notice = reading
+        .complete(alloc, completions(rt, alloc))
+        .expect(rt, "memory");
+    same(&notice, &Notice::Empty).expect(rt, "as wanted");
 }
 
 // The readings かん, かんじ and かき, which complete か.
-fn completions(alloc: Global) -> Result<Texts, Fail>
-    ensures { IfOk result (λ readings. list_all is_plain_reading readings ≡ true) }
+fn completions(rt: &impl Abort, alloc: Global) -> Texts
+    ensures { list_all is_plain_reading result ≡ true }
 {
     let mut readings = Texts::new(alloc);
-    readings.push(plain_reading(alloc, "かん")?)?;
-    readings.push(plain_reading(alloc, "かんじ")?)?;
-    readings.push(plain_reading(alloc, "かき")?)?;
-    Ok(readings)
+    readings
+        .push(plain_reading(rt, alloc, "かん"))
+        .expect(rt, "memory");
+    readings
+        .push(plain_reading(rt, alloc, "かんじ"))
+        .expect(rt, "memory");
+    readings
+        .push(plain_reading(rt, alloc, "かき"))
+        .expect(rt, "memory");
+    readings
 }
 
 // A valid reading without okurigana.
-fn plain_reading(alloc: Global, text: &str) -> Result<Text, Fail>
-    ensures { IfOk result (λ reading. is_plain_reading reading ≡ true) }
+fn plain_reading(rt: &impl Abort, alloc: Global, text: &str) -> Text
+    ensures { is_plain_reading result ≡ true }
 {
     let mut reading = Text::new(alloc);
-    reading.push_str(text)?;
-    let key = RowKey::new(Part::Nasi, reading)?;
-    Ok(key.reading().copy(alloc)?)
+    reading.push_str(text).expect(rt, "memory");
+    let key = RowKey::new(Part::Nasi, reading).expect(rt, "a key");
+    key.reading().copy(alloc).expect(rt, "memory")
 }
 
 // What is typed where か was completed, and the reading after it.
@@ -160,76 +161,70 @@ const COMPLETED: &str = "
 ";
 
 #[test]
-fn completions_are_gone_over(rt: HostRuntime) -> Result<(), Fail> {
+fn completions_are_gone_over(rt: HostRuntime) {
     let alloc = rt.alloc();
-    let rules = Rules::standard(alloc)?;
-    assert_eq!(rt; COMPLETED.split_whitespace().count(), 12);
+    let rules = Rules::standard(alloc).expect(&rt, "memory");
+    same(&COMPLETED.split_whitespace().count(), &12).expect(&rt, "as wanted");
     for case in COMPLETED.split_whitespace() {
-        expect_case(&rt, alloc, &rules, case, "ka")?;
+        expect_case(&rt, alloc, &rules, case, "ka");
     }
-    let notice = notice_of_none(alloc)?;
-    assert_eq!(rt; notice, Notice::NoCompletion);
-    Ok(())
+    let notice = notice_of_none(&rt, alloc);
+    same(&notice, &Notice::NoCompletion).expect(&rt, "as wanted");
 }
 
 // What a reading tells that nothing completes.
-fn notice_of_none(alloc: Global) -> Result<Notice, Fail> {
+fn notice_of_none(rt: &impl Abort, alloc: Global) -> Notice {
     let mut reading = Reading::new(alloc);
-    Ok(reading.complete(alloc, Texts::new(alloc))?)
+    reading
+        .complete(alloc, Texts::new(alloc))
+        .expect(rt, "memory")
 }
 
 // The reading after keys.
-fn reading_after(alloc: Global, reading: Reading, keys: &str) -> Result<Reading, Fail> {
-    let rules = Rules::standard(alloc)?;
+fn reading_after(rt: &impl Abort, alloc: Global, reading: Reading, keys: &str) -> Reading {
+    let rules = Rules::standard(alloc).expect(rt, "memory");
     let mut reading = reading;
-    press_keys(alloc, &mut reading, &rules, keys)?;
-    Ok(reading)
+    press_keys(rt, alloc, &mut reading, &rules, keys);
+    reading
 }
 
 // The part and the text of the key that a reading is converted by.
-fn key_of(alloc: Global, reading: &Reading) -> Result<String, Fail>
+fn key_of(rt: &impl Abort, alloc: Global, reading: &Reading) -> String
     requires { reading.now.text ≢ [] }
 {
-    let key = reading.key(alloc)?;
-    Ok(format!(in alloc; "{:?} {}", key.part(), key.reading().as_str())?)
+    let key = reading.key(alloc).expect(rt, "memory");
+    format!(in alloc; "{:?} {}", key.part(), key.reading().as_str()).expect(rt, "memory")
 }
 
 // The kana of the okurigana that a reading is converted by, or `-` where there is none.
-fn okuri_of(alloc: Global, reading: &Reading) -> Result<String, Fail> {
-    let okuri = reading.okuri(alloc)?;
+fn okuri_of(rt: &impl Abort, alloc: Global, reading: &Reading) -> String {
+    let okuri = reading.okuri(alloc).expect(rt, "memory");
     let kana = match &okuri {
         Some(okuri) => okuri.text().as_str(),
         None => "-",
     };
-    Ok(String::from_str(alloc, kana)?)
+    String::from_str(alloc, kana).expect(rt, "memory")
 }
 
 // Tells the key and the okurigana that a reading is converted by.
-fn expect_key<R: Abort>(
-    rt: &R,
-    alloc: Global,
-    reading: &Reading,
-    key: &str,
-    okuri: &str,
-) -> Result<(), Fail> {
+fn expect_key<R: Abort>(rt: &R, alloc: Global, reading: &Reading, key: &str, okuri: &str) {
     assert!(rt; reading.text().byte_len() > 0);
-    let found = (key_of(alloc, reading)?, okuri_of(alloc, reading)?);
-    assert_eq!(rt; (found.0.as_str(), found.1.as_str()), (key, okuri));
-    Ok(())
+    let found = (key_of(rt, alloc, reading), okuri_of(rt, alloc, reading));
+    same(&(found.0.as_str(), found.1.as_str()), &(key, okuri)).expect(rt, "as wanted");
 }
 
 // A reading is converted by its text, with the letter of an okurigana.
 #[test]
-fn readings_are_converted_by_their_keys(rt: HostRuntime) -> Result<(), Fail> {
+fn readings_are_converted_by_their_keys(rt: HostRuntime) {
     let alloc = rt.alloc();
-    let reading = reading_after(alloc, Reading::new(alloc), "ugoKu")?;
+    let reading = reading_after(&rt, alloc, Reading::new(alloc), "ugoKu");
     expect_key(&rt, alloc, &reading, "Ari うごk", "く")
 }
 
 // An abbreviation is converted as it was typed.
 #[test]
-fn abbreviations_are_converted_by_themselves(rt: HostRuntime) -> Result<(), Fail> {
+fn abbreviations_are_converted_by_themselves(rt: HostRuntime) {
     let alloc = rt.alloc();
-    let reading = reading_after(alloc, Reading::abbrev(alloc), "Vim9_")?;
+    let reading = reading_after(&rt, alloc, Reading::abbrev(alloc), "Vim9_");
     expect_key(&rt, alloc, &reading, "Nasi Vim9", "-")
 }

@@ -1,8 +1,8 @@
+use expectations::{same, same_at};
 use romaji_rules::{Kana, Out, Pending, RuleFault, Rules};
-use skk_text::{Copies, Memory, Text, TextFault};
+use skk_text::{Copies, Text, TextFault};
 use std::alloc::Global;
 use std::process::Abort;
-use std::test::Fail;
 
 // Each input of the standard table, and each followed by `a`: what is typed, `=`, what comes out in
 // hiragana, `:`, and what is pending then.
@@ -58,69 +58,85 @@ xx=っ:x xxa=っぁ: yy=っ:y yya=っや: zz=っ:z zza=っざ:
 ";
 
 // What comes out of the letters that are typed, in hiragana, and what is pending behind them.
-fn output_of(alloc: Global, rules: &Rules, letters: &str) -> Result<(Text, Pending), Memory> {
+fn output_of(rt: &impl Abort, alloc: Global, rules: &Rules, letters: &str) -> (Text, Pending) {
     let mut pending = Pending::new();
     let mut hira = Text::new(alloc);
     for c in letters.bytes() {
-        let out = rules.feed(&mut pending, c).text(alloc, Kana::Hiragana)?;
-        hira.push_str(out.as_str())?;
+        let out = rules
+            .feed(&mut pending, c)
+            .text(alloc, Kana::Hiragana)
+            .expect(rt, "memory");
+        hira.push_str(out.as_str()).expect(rt, "memory");
     }
-    Ok((hira, pending))
+    (hira, pending)
 }
 
 #[test]
-fn reads_the_standard_table(rt: HostRuntime) -> Result<(), Fail> {
+fn reads_the_standard_table(rt: HostRuntime) {
     let alloc = rt.alloc();
-    let rules = Rules::standard(alloc)?;
-    assert_eq!(rt; CASES.split_whitespace().count(), 476);
+    let rules = Rules::standard(alloc).expect(&rt, "memory");
+    same(&CASES.split_whitespace().count(), &476).expect(&rt, "as wanted");
     for case in CASES.split_whitespace() {
-        expect_case(&rt, alloc, &rules, case)?;
+        expect_case(&rt, alloc, &rules, case);
     }
-    Ok(())
 }
 
-fn expect_case<R: Abort>(rt: &R, alloc: Global, rules: &Rules, case: &str) -> Result<(), Fail> {
-    let (letters, wanted) = case.split_once('=').ok_or("no `=`")?;
-    let wanted = wanted.split_once(':').ok_or("no `:`")?;
-    let (out, left) = output_of(alloc, rules, letters)?;
-    assert_eq!(rt; (out.as_str(), left.as_str()), wanted, "typed {letters}");
-    Ok(())
+fn expect_case<R: Abort>(rt: &R, alloc: Global, rules: &Rules, case: &str) {
+    let (letters, wanted) = case.split_once('=').expect(rt, "no `=`");
+    let wanted = wanted.split_once(':').expect(rt, "no `:`");
+    let (out, left) = output_of(rt, alloc, rules, letters);
+    same_at(&(out.as_str(), left.as_str()), &wanted, &letters).expect(rt, "as wanted");
 }
 
 #[test]
-fn letters_go_on_or_begin_anew(rt: HostRuntime) -> Result<(), Fail> {
-    let rules = Rules::standard(rt.alloc())?;
+fn letters_go_on_or_begin_anew(rt: HostRuntime) {
+    let rules = Rules::standard(rt.alloc()).expect(&rt, "memory");
     let mut pending = Pending::of(b"n");
     assert!(rt; rules.extend(&mut pending, b'y').is_some());
-    assert_eq!(rt; pending.as_str(), "ny");
+    same(&pending.as_str(), &"ny").expect(&rt, "as wanted");
     assert!(rt; !rules.goes_on(&pending, b'q'));
     let out = rules.feed_anew(&mut pending, b'q');
-    assert_eq!(rt; out.text(rt.alloc(), Kana::Hiragana)?.as_str(), "q");
+    same(
+        &out.text(rt.alloc(), Kana::Hiragana)
+            .expect(&rt, "memory")
+            .as_str(),
+        &"q",
+    )
+    .expect(&rt, "as wanted");
     assert!(rt; pending.is_empty());
-    Ok(())
 }
 
 #[test]
-fn what_is_pending_comes_out(rt: HostRuntime) -> Result<(), Fail> {
-    let rules = Rules::standard(rt.alloc())?;
+fn what_is_pending_comes_out(rt: HostRuntime) {
+    let rules = Rules::standard(rt.alloc()).expect(&rt, "memory");
     let mut pending = Pending::of(b"ny");
     pending.delete_last();
     let out = rules.flush(&mut pending);
-    assert_eq!(rt; out.text(rt.alloc(), Kana::Hiragana)?.as_str(), "ん");
-    assert_eq!(rt; out.text(rt.alloc(), Kana::Katakana)?.as_str(), "ン");
-    Ok(())
+    same(
+        &out.text(rt.alloc(), Kana::Hiragana)
+            .expect(&rt, "memory")
+            .as_str(),
+        &"ん",
+    )
+    .expect(&rt, "as wanted");
+    same(
+        &out.text(rt.alloc(), Kana::Katakana)
+            .expect(&rt, "memory")
+            .as_str(),
+        &"ン",
+    )
+    .expect(&rt, "as wanted");
 }
 
 #[test]
-fn outputs_are_in_both_kana(rt: HostRuntime) -> Result<(), Fail> {
+fn outputs_are_in_both_kana(rt: HostRuntime) {
     let mut hira = Text::new(rt.alloc());
-    hira.push('な')?;
-    let out = Out::of_hiragana(rt.alloc(), hira)?;
-    assert_eq!(rt; out.in_kana(Kana::Hiragana).as_str(), "な");
-    assert_eq!(rt; out.in_kana(Kana::Katakana).as_str(), "ナ");
+    hira.push('な').expect(&rt, "memory");
+    let out = Out::of_hiragana(rt.alloc(), hira).expect(&rt, "memory");
+    same(&out.in_kana(Kana::Hiragana).as_str(), &"な").expect(&rt, "as wanted");
+    same(&out.in_kana(Kana::Katakana).as_str(), &"ナ").expect(&rt, "as wanted");
     let nothing = Out::nothing(rt.alloc());
     assert!(rt; nothing.in_kana(Kana::Katakana).is_empty());
-    Ok(())
 }
 
 // The fault of a file, if it has one.
@@ -129,7 +145,7 @@ fn fault_of(alloc: Global, file: &str) -> Option<RuleFault> {
 }
 
 // A file, and its fault, if it has one.
-const RULE_FILES: &[(&str, Option<RuleFault>)] = &[
+static RULE_FILES: &[(&str, Option<RuleFault>)] = &[
     ("", None),
     ("ka\t\tか\tカ\n", None),
     (
@@ -175,36 +191,30 @@ const RULE_FILES: &[(&str, Option<RuleFault>)] = &[
 ];
 
 #[test]
-fn rule_files_are_read_or_refused(rt: HostRuntime) -> Result<(), Fail> {
+fn rule_files_are_read_or_refused(rt: HostRuntime) {
     for (file, fault) in RULE_FILES {
         let told = fault_of(rt.alloc(), file);
         assert!(rt; told == *fault, "{file}");
     }
-    Ok(())
 }
 
 // A file of so many rules, of which the 4,097th has the input of the first.
-fn many_rules(alloc: Global, count: usize) -> Result<Text, Memory> {
+fn many_rules(rt: &impl Abort, alloc: Global, count: usize) -> Text {
     let mut file = Text::new(alloc);
     for n in 0..count {
         for digit in [n / 256, n / 16, n] {
-            file.push(char::from(b'a' + (digit % 16) as u8))?;
+            file.push(char::from(b'a' + (digit % 16) as u8))
+                .expect(rt, "memory");
         }
-        file.push_str("\t\tあ\tア\n")?;
+        file.push_str("\t\tあ\tア\n").expect(rt, "memory");
     }
-    Ok(file)
+    file
 }
 
 // Tells the fault of a file of so many rules, if it has one.
-fn expect_many<R: Abort>(
-    rt: &R,
-    alloc: Global,
-    count: usize,
-    fault: Option<RuleFault>,
-) -> Result<(), Memory> {
-    let file = many_rules(alloc, count)?;
+fn expect_many<R: Abort>(rt: &R, alloc: Global, count: usize, fault: Option<RuleFault>) {
+    let file = many_rules(rt, alloc, count);
     expect_fault(rt, alloc, file.as_str().as_bytes(), fault);
-    Ok(())
 }
 
 // Tells the fault of a file, if it has one.
@@ -213,21 +223,20 @@ fn expect_fault<R: Abort>(rt: &R, alloc: Global, file: &[u8], fault: Option<Rule
 }
 
 #[test]
-fn rule_files_have_limits(rt: HostRuntime) -> Result<(), Fail> {
-    expect_many(&rt, rt.alloc(), 4096, None)?;
+fn rule_files_have_limits(rt: HostRuntime) {
+    expect_many(&rt, rt.alloc(), 4096, None);
     expect_many(
         &rt,
         rt.alloc(),
         4097,
         Some(RuleFault::BadLine { line: 4097 }),
-    )?;
+    );
     let mut bytes = Vec::new(rt.alloc());
-    bytes.resize(1_048_576, b'#')?;
+    bytes.resize(1_048_576, b'#').expect(&rt, "memory");
     expect_fault(&rt, rt.alloc(), &bytes, None);
-    bytes.push(b'#')?;
+    bytes.push(b'#').expect(&rt, "memory");
     let long = TextFault::TooLong { bytes: 1_048_577 };
     expect_fault(&rt, rt.alloc(), &bytes, Some(RuleFault::NoText(long)));
     let invalid = TextFault::NotUtf8 { at: 1 };
     expect_fault(&rt, rt.alloc(), b"#\xFFa", Some(RuleFault::NoText(invalid)));
-    Ok(())
 }

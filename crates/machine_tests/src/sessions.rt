@@ -5,6 +5,7 @@ ghost use Rattle.skk_calls.specs.Rows.{Cand, Learned, RowKey};
 ghost use Rattle.skk_calls.specs.declared.call.Call.TheVariants as calls;
 
 use crate::distinct::distinct;
+use expectations::{same, same_at};
 use romaji_rules::Rules;
 use session_machine::Session;
 use skk_calls::{
@@ -14,10 +15,9 @@ use skk_calls::{
 use skk_text::{Copies, Keys, Memory, Mode, Text, Texts, read_keys};
 use std::alloc::Global;
 use std::process::Abort;
-use std::test::Fail;
 
 // The candidates of every key, each with its note.
-const FOUND: &[(&str, &str)] = &[
+static FOUND: &[(&str, &str)] = &[
     ("甲", ""),
     ("乙", "二"),
     ("丙", ""),
@@ -233,22 +233,24 @@ fn listed_readings(alloc: Global, words: &str) -> Result<Texts, Memory>
 
 // The session after the keys, where `_` is the space. It begins in hiragana mode,
 // and its calls are answered by these words.
-fn session_after(alloc: Global, keys: &str, words: &str) -> Result<Session, Fail> {
-    let rules = Rules::standard(alloc)?;
-    let keys = keys_of(alloc, keys)?;
-    session_by(alloc, &rules, &keys, words)
+fn session_after(rt: &impl Abort, alloc: Global, keys: &str, words: &str) -> Session {
+    let rules = Rules::standard(alloc).expect(rt, "memory");
+    let keys = keys_of(rt, alloc, keys);
+    session_by(rt, alloc, &rules, &keys, words)
 }
 
 // The keys of a text, where `_` is the space.
-fn keys_of(alloc: Global, text: &str) -> Result<Keys, Fail> {
-    let text = text.replace(alloc, "_", " ")?;
-    Ok(read_keys(alloc, text.as_bytes())?)
+fn keys_of(rt: &impl Abort, alloc: Global, text: &str) -> Keys {
+    let text = text.replace(alloc, "_", " ").expect(rt, "memory");
+    read_keys(alloc, text.as_bytes()).expect(rt, "keys")
 }
 
-fn session_by(alloc: Global, rules: &Rules, keys: &Keys, words: &str) -> Result<Session, Fail> {
-    let said = DialogTrace::new(alloc)?;
+fn session_by(rt: &impl Abort, alloc: Global, rules: &Rules, keys: &Keys, words: &str) -> Session {
+    let said = DialogTrace::new(alloc).expect(rt, "memory");
     let mut caller = Finder { words, said };
-    Ok(Session::new(alloc, 7, 0).play(alloc, rules, keys.as_slice(), &mut caller)?)
+    Session::new(alloc, 7, 0)
+        .play(alloc, rules, keys.as_slice(), &mut caller)
+        .expect(rt, "memory")
 }
 
 // What is typed; the words that its calls are answered by; `=`; and the display and the notice behind it. A call for
@@ -488,81 +490,73 @@ A_I_U_E_O_A_I_Ka_lx<ret><ret> 0 0 0 0 0 0 0 0 learned disk=[[[[[[辞書登録]]]
 ";
 
 // What a case has of a session.
-fn case_text(alloc: Global, session: &Session) -> Result<String, Fail> {
-    let display = session.display(alloc)?;
-    let notice = session.notice(alloc)?;
+fn case_text(rt: &impl Abort, alloc: Global, session: &Session) -> String {
+    let display = session.display(alloc).expect(rt, "memory");
+    let notice = session.notice(alloc).expect(rt, "memory");
     let display = display.as_str();
-    Ok(format!(in alloc; "{display}|{}", notice.as_str())?)
+    format!(in alloc; "{display}|{}", notice.as_str()).expect(rt, "memory")
 }
 
 #[test]
-fn sessions_are_shown(rt: HostRuntime) -> Result<(), Fail> {
+fn sessions_are_shown(rt: HostRuntime) {
     let alloc = rt.alloc();
-    assert_eq!(rt; CASES.lines().count(), 232);
+    same(&CASES.lines().count(), &232).expect(&rt, "as wanted");
     for case in CASES.lines().skip(1) {
-        expect_case(&rt, alloc, case)?;
+        expect_case(&rt, alloc, case);
     }
-    Ok(())
 }
 
-fn expect_case<R: Abort>(rt: &R, alloc: Global, case: &str) -> Result<(), Fail> {
-    let (typing, wanted) = case.split_once('=').ok_or("no `=`")?;
-    let told = told_of(alloc, typing)?;
-    assert_eq!(rt; told.as_str(), wanted, "typed {typing}");
-    Ok(())
+fn expect_case<R: Abort>(rt: &R, alloc: Global, case: &str) {
+    let (typing, wanted) = case.split_once('=').expect(rt, "no `=`");
+    let told = told_of(rt, alloc, typing);
+    same_at(&told.as_str(), &wanted, &typing).expect(rt, "as wanted");
 }
 
 // What a case has of the session after what is typed.
-fn told_of(alloc: Global, typing: &str) -> Result<String, Fail> {
-    let (keys, words) = typing.split_once(' ').ok_or("no space")?;
-    let session = session_after(alloc, keys, words)?;
-    case_text(alloc, &session)
+fn told_of(rt: &impl Abort, alloc: Global, typing: &str) -> String {
+    let (keys, words) = typing.split_once(' ').expect(rt, "no space");
+    let session = session_after(rt, alloc, keys, words);
+    case_text(rt, alloc, &session)
 }
 
 // The session after the choices of so many long candidates, one after another, and then these keys, whose calls are
 // answered by these words.
 fn session_after_long(
+    rt: &impl Abort,
     alloc: Global,
     count: usize,
     keys: &str,
     words: &str,
-) -> Result<Session, Fail> {
-    let choices = "Ka_<cj>".repeat(alloc, count)?;
-    let answers = "long learned ".repeat(alloc, count)?;
-    let keys = format!(in alloc; "{}{keys}", choices.as_str())?;
-    let words = format!(in alloc; "{}{words}", answers.as_str())?;
-    session_after(alloc, keys.as_str(), words.as_str())
+) -> Session {
+    let choices = "Ka_<cj>".repeat(alloc, count).expect(rt, "memory");
+    let answers = "long learned ".repeat(alloc, count).expect(rt, "memory");
+    let keys = format!(in alloc; "{}{keys}", choices.as_str()).expect(rt, "memory");
+    let words = format!(in alloc; "{}{words}", answers.as_str()).expect(rt, "memory");
+    session_after(rt, alloc, keys.as_str(), words.as_str())
 }
 
 // Choices fit just up to the limit of a text: one more does not, nor does the word of a registration.
 #[test]
-fn what_is_inserted_fits_up_to_the_limit(rt: HostRuntime) -> Result<(), Fail> {
+fn what_is_inserted_fits_up_to_the_limit(rt: HostRuntime) {
     let alloc = rt.alloc();
     for (keys, words) in [("Ka_<cj>", "long learned"), ("Ko_lx<ret>", "0 learned")] {
-        let session = session_after_long(alloc, MANY, keys, words)?;
-        expect_length(&rt, alloc, &session, MANY * LONG, "limit")?;
+        let session = session_after_long(&rt, alloc, MANY, keys, words);
+        expect_length(&rt, alloc, &session, MANY * LONG, "limit");
     }
-    Ok(())
 }
 
 // Tells how many bytes the text of a session has, and its notice.
-fn expect_length<R: Abort>(
-    rt: &R,
-    alloc: Global,
-    session: &Session,
-    length: usize,
-    notice: &str,
-) -> Result<(), Fail> {
-    let told = session.notice(alloc)?;
-    assert_eq!(rt;
-        (session.text().byte_len(), told.as_str()),
-        (length, notice)
-    );
-    Ok(())
+fn expect_length<R: Abort>(rt: &R, alloc: Global, session: &Session, length: usize, notice: &str) {
+    let told = session.notice(alloc).expect(rt, "memory");
+    same(
+        &(session.text().byte_len(), told.as_str()),
+        &(length, notice),
+    )
+    .expect(rt, "as wanted");
 }
 
 // A word of more than 4,095 bytes stays in its registration, also where its last choice was learnt or refused.
-const REGISTERED: [(&str, &str, usize, &str); 4] = [
+static REGISTERED: [(&str, &str, usize, &str); 4] = [
     (
         "Ko_Ka_<cj>Ka_<ret>",
         "0 long learned long learned",
@@ -585,46 +579,37 @@ const REGISTERED: [(&str, &str, usize, &str); 4] = [
 ];
 
 #[test]
-fn registered_words_have_a_limit(rt: HostRuntime) -> Result<(), Fail> {
+fn registered_words_have_a_limit(rt: HostRuntime) {
     for (keys, words, length, notice) in &REGISTERED {
-        let session = session_after(rt.alloc(), keys, words)?;
-        expect_length(&rt, rt.alloc(), &session, *length, notice)?;
+        let session = session_after(&rt, rt.alloc(), keys, words);
+        expect_length(&rt, rt.alloc(), &session, *length, notice);
     }
-    Ok(())
 }
 
 #[test]
-fn sessions_have_a_mode_and_a_text(rt: HostRuntime) -> Result<(), Fail> {
-    let session = session_after(rt.alloc(), "KanaL<tab>Ka", "")?;
+fn sessions_have_a_mode_and_a_text(rt: HostRuntime) {
+    let session = session_after(&rt, rt.alloc(), "KanaL<tab>Ka", "");
     expect_text(&rt, &session, Mode::Wide, "かなＫａ");
     expect_page(&rt, rt.alloc(), &session, "全英\tかなＫａ\t\nかなＫａ")
 }
 
 // Tells the mode and the text of a session.
 fn expect_text<R: Abort>(rt: &R, session: &Session, mode: Mode, text: &str) {
-    assert_eq!(rt; session.mode(), mode);
-    assert_eq!(rt; session.text().as_str(), text);
+    same(&session.mode(), &mode).expect(rt, "as wanted");
+    same(&session.text().as_str(), &text).expect(rt, "as wanted");
 }
 
 // Tells the line of a session with its text behind it.
-fn expect_page<R: Abort>(
-    rt: &R,
-    alloc: Global,
-    session: &Session,
-    wanted: &str,
-) -> Result<(), Fail> {
+fn expect_page<R: Abort>(rt: &R, alloc: Global, session: &Session, wanted: &str) {
     let mut page = Text::new(alloc);
-    session.push_line(alloc, &mut page)?;
-    session.push_text(&mut page)?;
-    assert_eq!(rt; page.as_str(), wanted);
-    Ok(())
+    session.push_line(alloc, &mut page).expect(rt, "memory");
+    session.push_text(&mut page).expect(rt, "memory");
+    same(&page.as_str(), &wanted).expect(rt, "as wanted");
 }
 
 #[test]
-fn sessions_in_a_registration_have_the_mode_inside_and_the_text_outside(
-    rt: HostRuntime,
-) -> Result<(), Fail> {
-    let session = session_after(rt.alloc(), "aKo_iKi_lu", "0 0")?;
+fn sessions_in_a_registration_have_the_mode_inside_and_the_text_outside(rt: HostRuntime) {
+    let session = session_after(&rt, rt.alloc(), "aKo_iKi_lu", "0 0");
     expect_text(&rt, &session, Mode::Ascii, "あ");
     expect_page(&rt, rt.alloc(), &session, "SKK\t[[辞書登録]] き: u\t\nあ")
 }

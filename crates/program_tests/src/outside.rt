@@ -1,6 +1,7 @@
-ghost use Rattle.std.specs.Prelude.{◌≡◌, ◌∷◌, ◌^◌, ◌<◌, [], IfOk, true};
+ghost use Rattle.std.specs.Prelude.{◌≡◌, ◌∷◌, ◌^◌, ◌<◌, [], true};
 ghost use Rattle.skk_outside.specs.Memory.{names_differ};
 
+use expectations::{same, same_at};
 use skk_outside::{
     Failed, Gate, HostShelf, Link, Listener, MemLink, MemListener, MemShelf, MemSink, MemSource,
     Open, PIECE, ReadFault, ReaderSource, Shelf, Sink, Source, WriterSink, read_named_file,
@@ -10,7 +11,6 @@ use skk_text::{Bytes, Memory, Text};
 use std::alloc::{AllocError, Global};
 use std::io::{self, ErrorKind, Read, Write};
 use std::process::Abort;
-use std::test::Fail;
 
 // Three pieces, of which one is empty.
 fn pieces(alloc: Global, fails: Vec<u64>) -> Result<MemSource, AllocError> {
@@ -22,63 +22,67 @@ fn pieces(alloc: Global, fails: Vec<u64>) -> Result<MemSource, AllocError> {
 }
 
 #[test]
-fn a_source_in_memory_reads_piece_by_piece(rt: HostRuntime) -> Result<(), Fail> {
-    let mut source = pieces(rt.alloc(), vec![in rt.alloc(); 2]?)?;
+fn a_source_in_memory_reads_piece_by_piece(rt: HostRuntime) {
+    let mut source = pieces(rt.alloc(), vec![in rt.alloc(); 2].expect(&rt, "memory")).expect(
+        &rt, "memory",
+    );
     let mut into = [0; 2];
-    assert_eq!(rt; source.read(&mut into), Ok(2));
-    assert_eq!(rt; source.read(&mut into), Err(Failed));
-    assert_eq!(rt; source.read(&mut into), Ok(1));
-    assert_eq!(rt; into, *b"zy");
-    Ok(())
+    same(&source.read(&mut into), &Ok(2)).expect(&rt, "as wanted");
+    same(&source.read(&mut into), &Err(Failed)).expect(&rt, "as wanted");
+    same(&source.read(&mut into), &Ok(1)).expect(&rt, "as wanted");
+    same(&into, &*b"zy").expect(&rt, "as wanted");
 }
 
 #[test]
-fn a_sink_in_memory_writes_but_at_calls_that_fail(rt: HostRuntime) -> Result<(), Fail> {
-    let mut sink = MemSink::new(rt.alloc(), vec![in rt.alloc(); 2]?);
-    assert_eq!(rt; sink.write(b"xy"), Ok(2));
-    assert_eq!(rt; sink.flush(), Err(Failed));
-    assert_eq!(rt; write_all(&mut sink, b"zw"), Ok(()));
-    assert_eq!(rt; sink.written(), b"xyzw".as_slice());
-    Ok(())
+fn a_sink_in_memory_writes_but_at_calls_that_fail(rt: HostRuntime) {
+    let mut sink = MemSink::new(rt.alloc(), vec![in rt.alloc(); 2].expect(&rt, "memory"));
+    same(&sink.write(b"xy"), &Ok(2)).expect(&rt, "as wanted");
+    same(&sink.flush(), &Err(Failed)).expect(&rt, "as wanted");
+    same(&write_all(&mut sink, b"zw"), &Ok(())).expect(&rt, "as wanted");
+    same(&sink.written(), &b"xyzw".as_slice()).expect(&rt, "as wanted");
 }
 
 // A link of one piece, whose third call fails.
-fn link(alloc: Global) -> Result<MemLink, AllocError> {
+fn link(rt: &impl Abort, alloc: Global) -> MemLink {
     let mut pieces = Vec::new(alloc);
-    pieces.push(Bytes::of(b"xy".to_vec(alloc)?))?;
-    Ok(MemLink::new(alloc, pieces, vec![in alloc; 3]?))
+    pieces
+        .push(Bytes::of(b"xy".to_vec(alloc).expect(rt, "memory")))
+        .expect(rt, "memory");
+    MemLink::new(alloc, pieces, vec![in alloc; 3].expect(rt, "memory"))
 }
 
 #[test]
-fn a_link_in_memory_is_read_and_written(rt: HostRuntime) -> Result<(), Fail> {
-    let mut link = link(rt.alloc())?;
+fn a_link_in_memory_is_read_and_written(rt: HostRuntime) {
+    let mut link = link(&rt, rt.alloc());
     let mut into = [0; 2];
-    assert_eq!(rt; link.read(&mut into), Ok(2));
-    assert_eq!(rt; into, *b"xy");
-    assert_eq!(rt; link.write(b"zw"), Ok(2));
-    assert_eq!(rt; link.flush(), Err(Failed));
-    assert_eq!(rt; link.read(&mut into), Ok(0));
-    assert_eq!(rt; link.is_closed(), false);
+    same(&link.read(&mut into), &Ok(2)).expect(&rt, "as wanted");
+    same(&into, &*b"xy").expect(&rt, "as wanted");
+    same(&link.write(b"zw"), &Ok(2)).expect(&rt, "as wanted");
+    same(&link.flush(), &Err(Failed)).expect(&rt, "as wanted");
+    same(&link.read(&mut into), &Ok(0)).expect(&rt, "as wanted");
+    same(&link.is_closed(), &false).expect(&rt, "as wanted");
     link.close();
-    assert_eq!(rt; link.is_closed(), true);
-    assert_eq!(rt; link.written(), b"zw".as_slice());
-    Ok(())
+    same(&link.is_closed(), &true).expect(&rt, "as wanted");
+    same(&link.written(), &b"zw".as_slice()).expect(&rt, "as wanted");
 }
 
 #[test]
-fn a_listener_in_memory_gives_its_links_and_takes_them_back(rt: HostRuntime) -> Result<(), Fail> {
+fn a_listener_in_memory_gives_its_links_and_takes_them_back(rt: HostRuntime) {
     let mut coming = Vec::new(rt.alloc());
-    coming.push(link(rt.alloc())?)?;
-    let mut net = MemListener::new(rt.alloc(), coming, vec![in rt.alloc(); 2]?);
-    assert_eq!(rt; net.open(1178), Ok(()));
-    assert_eq!(rt; net.accept().err(), Some(Failed));
-    if let Some(link) = net.accept()? {
+    coming.push(link(&rt, rt.alloc())).expect(&rt, "memory");
+    let mut net = MemListener::new(
+        rt.alloc(),
+        coming,
+        vec![in rt.alloc(); 2].expect(&rt, "memory"),
+    );
+    same(&net.open(1178), &Ok(())).expect(&rt, "as wanted");
+    same(&net.accept().err(), &Some(Failed)).expect(&rt, "as wanted");
+    if let Some(link) = net.accept().expect(&rt, "memory") {
         net.done(link);
     }
-    assert_eq!(rt; net.over().len(), 1);
-    assert_eq!(rt; net.accept().map(|link| link.is_none()), Ok(true));
+    same(&net.over().len(), &1).expect(&rt, "as wanted");
+    same(&net.accept().map(|link| link.is_none()), &Ok(true)).expect(&rt, "as wanted");
     Open.at(0, 0);
-    Ok(())
 }
 
 // What is read of the pieces up to a limit.
@@ -90,10 +94,13 @@ fn read_pieces(alloc: Global, limit: usize) -> Result<Bytes, ReadFault>
 }
 
 #[test]
-fn a_source_is_read_up_to_the_limit(rt: HostRuntime) -> Result<(), Fail> {
-    assert_eq!(rt; read_pieces(rt.alloc(), 4)?.as_slice(), b"xyzw".as_slice());
-    assert_eq!(rt; read_pieces(rt.alloc(), 3).err(), Some(ReadFault::TooLong));
-    Ok(())
+fn a_source_is_read_up_to_the_limit(rt: HostRuntime) {
+    same(
+        &read_pieces(rt.alloc(), 4).expect(&rt, "memory").as_slice(),
+        &b"xyzw".as_slice(),
+    )
+    .expect(&rt, "as wanted");
+    same(&read_pieces(rt.alloc(), 3).err(), &Some(ReadFault::TooLong)).expect(&rt, "as wanted");
 }
 
 // Gives one byte at a time, and fails at its second read.
@@ -116,21 +123,20 @@ impl Read for Halting {
 }
 
 #[test]
-fn a_reader_is_a_source(rt: HostRuntime) -> Result<(), Fail> {
+fn a_reader_is_a_source(rt: HostRuntime) {
     let mut source = ReaderSource::new([7, 8, 9].as_slice());
-    let bytes = read_to_end(rt.alloc(), &mut source, 3)?;
-    assert_eq!(rt; bytes.as_slice(), [7, 8, 9].as_slice());
-    Ok(())
+    let bytes = read_to_end(rt.alloc(), &mut source, 3).expect(&rt, "memory");
+    same(&bytes.as_slice(), &[7, 8, 9].as_slice()).expect(&rt, "as wanted");
 }
 
 #[test]
 fn a_read_that_fails_may_be_tried_again(rt: HostRuntime) {
     let mut source = ReaderSource::new(Halting(0));
     let mut into = [0; 2];
-    assert_eq!(rt; source.read(&mut into), Ok(1));
-    assert_eq!(rt; source.read(&mut into), Err(Failed));
-    assert_eq!(rt; source.read(&mut into), Ok(1));
-    assert_eq!(rt; into, [3, 0]);
+    same(&source.read(&mut into), &Ok(1)).expect(&rt, "as wanted");
+    same(&source.read(&mut into), &Err(Failed)).expect(&rt, "as wanted");
+    same(&source.read(&mut into), &Ok(1)).expect(&rt, "as wanted");
+    same(&into, &[3, 0]).expect(&rt, "as wanted");
 }
 
 // Takes two bytes, one at a time, and then none.
@@ -152,59 +158,54 @@ impl Write for Narrow {
 }
 
 #[test]
-fn a_writer_is_a_sink(rt: HostRuntime) -> Result<(), Fail> {
+fn a_writer_is_a_sink(rt: HostRuntime) {
     let mut written = Vec::new(rt.alloc());
     let mut sink = WriterSink::new(&mut written);
-    assert_eq!(rt; write_all(&mut sink, &[7, 8, 9]), Ok(()));
+    same(&write_all(&mut sink, &[7, 8, 9]), &Ok(())).expect(&rt, "as wanted");
     drop(sink);
-    assert_eq!(rt; written.as_slice(), [7, 8, 9].as_slice());
-    Ok(())
+    same(&written.as_slice(), &[7, 8, 9].as_slice()).expect(&rt, "as wanted");
 }
 
 #[test]
 fn a_writer_that_takes_no_byte_fails(rt: HostRuntime) {
     let mut sink = WriterSink::new(Narrow(0));
-    assert_eq!(rt; write_all(&mut sink, &[1, 2]), Ok(()));
-    assert_eq!(rt; sink.write(&[3]), Err(Failed));
-    assert_eq!(rt; sink.flush(), Err(Failed));
+    same(&write_all(&mut sink, &[1, 2]), &Ok(())).expect(&rt, "as wanted");
+    same(&sink.write(&[3]), &Err(Failed)).expect(&rt, "as wanted");
+    same(&sink.flush(), &Err(Failed)).expect(&rt, "as wanted");
 }
 
 // A file of three bytes, an empty one, and one of a piece and a byte.
-fn three_files(alloc: Global) -> Result<Vec<(Text, Bytes)>, Memory>
-    ensures { IfOk result (λ files. names_differ files.items ≡ true) }
+fn three_files(rt: &impl Abort, alloc: Global) -> Vec<(Text, Bytes)>
+    ensures { names_differ result.items ≡ true }
 {
-    let long = vec![in alloc; b'w'; PIECE + 1]?;
+    let long = vec![in alloc; b'w'; PIECE + 1].expect(rt, "memory");
     let mut files = Vec::new(alloc);
-    files.push(file(alloc, 'a', b"xyz")?)?;
-    files.push(file(alloc, 'b', b"")?)?;
-    files.push(file(alloc, 'c', &long)?)?;
-    Ok(files)
+    files
+        .push(file(rt, alloc, 'a', b"xyz"))
+        .expect(rt, "memory");
+    files.push(file(rt, alloc, 'b', b"")).expect(rt, "memory");
+    files.push(file(rt, alloc, 'c', &long)).expect(rt, "memory");
+    files
 }
 
 // A file whose name is one letter.
-fn file(alloc: Global, letter: char, content: &[u8]) -> Result<(Text, Bytes), Memory>
-    ensures { IfOk result (λ file. file.0 ≡ letter ∷ []) }
+fn file(rt: &impl Abort, alloc: Global, letter: char, content: &[u8]) -> (Text, Bytes)
+    ensures { result.0 ≡ letter ∷ [] }
 {
     let mut name = Text::new(alloc);
-    name.push(letter)?;
-    Ok((name, Bytes::of(content.to_vec(alloc)?)))
+    name.push(letter).expect(rt, "memory");
+    (name, Bytes::of(content.to_vec(alloc).expect(rt, "memory")))
 }
 
 // A read of a file: its name, the place that is read from, the answer, and all of the buffer then, which was dots.
 type Reading = (&'static str, u64, Result<usize, Failed>, &'static str);
 
-fn expect_read<R: Abort, H: Shelf>(
-    rt: &R,
-    alloc: Global,
-    shelf: &mut H,
-    reading: &Reading,
-) -> Result<(), AllocError> {
+fn expect_read<R: Abort, H: Shelf>(rt: &R, alloc: Global, shelf: &mut H, reading: &Reading) {
     let (name, place, answer, left) = *reading;
-    let text = Text::of(String::from_str(alloc, name)?);
-    let mut into = vec![in alloc; b'.'; left.len()]?;
-    assert_eq!(rt; shelf.read(&text, place, &mut into), answer, "{reading:?}");
-    assert_eq!(rt; into.as_slice(), left.as_bytes(), "{reading:?}");
-    Ok(())
+    let text = Text::of(String::from_str(alloc, name).expect(rt, "memory"));
+    let mut into = vec![in alloc; b'.'; left.len()].expect(rt, "memory");
+    same_at(&shelf.read(&text, place, &mut into), &answer, &reading).expect(rt, "as wanted");
+    same_at(&into.as_slice(), &left.as_bytes(), &reading).expect(rt, "as wanted");
 }
 
 static READINGS: [Reading; 15] = [
@@ -229,13 +230,15 @@ static READINGS: [Reading; 15] = [
 ];
 
 #[test]
-fn a_shelf_in_memory_reads_from_any_place(rt: HostRuntime) -> Result<(), Fail> {
+fn a_shelf_in_memory_reads_from_any_place(rt: HostRuntime) {
     let alloc = rt.alloc();
-    let mut shelf = MemShelf::new(three_files(alloc)?, vec![in alloc; 12, 14]?);
+    let mut shelf = MemShelf::new(
+        three_files(&rt, alloc),
+        vec![in alloc; 12, 14].expect(&rt, "memory"),
+    );
     for reading in &READINGS {
-        expect_read(&rt, alloc, &mut shelf, reading)?;
+        expect_read(&rt, alloc, &mut shelf, reading);
     }
-    Ok(())
 }
 
 static SYSTEM_READINGS: [Reading; 10] = [
@@ -254,13 +257,12 @@ static SYSTEM_READINGS: [Reading; 10] = [
 ];
 
 #[test]
-fn files_of_the_system_are_read_from_any_place(rt: HostRuntime) -> Result<(), Fail> {
+fn files_of_the_system_are_read_from_any_place(rt: HostRuntime) {
     let alloc = rt.alloc();
     let mut shelf = HostShelf::new(alloc, &rt);
     for reading in &SYSTEM_READINGS {
-        expect_read(&rt, alloc, &mut shelf, reading)?;
+        expect_read(&rt, alloc, &mut shelf, reading);
     }
-    Ok(())
 }
 
 // A file that is read up to a limit: its name, the limit, the number of the call that is to fail, and the fault, where
@@ -281,25 +283,26 @@ static WHOLE_READINGS: [WholeReading; 10] = [
 ];
 
 #[test]
-fn a_file_is_read_up_to_the_limit(rt: HostRuntime) -> Result<(), Fail> {
+fn a_file_is_read_up_to_the_limit(rt: HostRuntime) {
     for reading in &WHOLE_READINGS {
-        expect_whole_read(&rt, rt.alloc(), reading)?;
+        expect_whole_read(&rt, rt.alloc(), reading);
     }
-    Ok(())
 }
 
-fn expect_whole_read(rt: &impl Abort, alloc: Global, reading: &WholeReading) -> Result<(), Memory> {
+fn expect_whole_read(rt: &impl Abort, alloc: Global, reading: &WholeReading) {
     let (name, limit, fail, fault) = *reading;
-    let mut shelf = MemShelf::new(three_files(alloc)?, vec![in alloc; fail]?);
-    let text = Text::of(String::from_str(alloc, name)?);
+    let mut shelf = MemShelf::new(
+        three_files(rt, alloc),
+        vec![in alloc; fail].expect(rt, "memory"),
+    );
+    let text = Text::of(String::from_str(alloc, name).expect(rt, "memory"));
     match read_named_file(alloc, &mut shelf, &text, limit as usize) {
         Ok(bytes) => assert!(rt;
             fault.is_none() && holds(name, bytes.as_slice()),
             "{reading:?}"
         ),
-        Err(why) => assert_eq!(rt; Some(why), fault, "{reading:?}"),
+        Err(why) => same_at(&Some(why), &fault, &reading).expect(rt, "as wanted"),
     }
-    Ok(())
 }
 
 // Whether the file of a name holds these bytes.

@@ -1,12 +1,12 @@
 ghost use Rattle.std.specs.Prelude.{Some};
 
 use crate::statuses::status_of;
+use expectations::{same, same_at};
 use skk_disk::MemDisk;
 use skk_outside::{Failed, MemShelf, MemSink, MemSource, Outside, Sink};
 use skk_text::{Bytes, Text};
-use std::alloc::{AllocError, Global};
+use std::alloc::Global;
 use std::process::Abort;
-use std::test::Fail;
 
 const LINES: &[u8] = b"1:kitte\n1:kanji\n1:zl\n";
 
@@ -14,19 +14,24 @@ const TYPED: &str = "1\tかな\tきって\t\n1\tかな\tきってかんじ\t\n1\
 
 // Runs the word `type` on the lines, which come in two pieces, with the number of the read that is to fail.
 fn type_lines<O: Sink>(
+    rt: &impl Abort,
     alloc: Global,
     read: u64,
     out: &mut O,
     err: &mut MemSink,
-) -> Result<u8, AllocError> {
+) -> u8 {
     let mut pieces = Vec::new(alloc);
-    pieces.push(Bytes::of(Vec::from_slice(alloc, &LINES[..9])?))?;
-    pieces.push(Bytes::of(Vec::from_slice(alloc, &LINES[9..])?))?;
-    let mut input = MemSource::new(pieces, vec![in alloc; read]?);
-    let words = [Text::of(String::from_str(alloc, "type")?)];
+    pieces
+        .push(Bytes::of(Vec::from_slice(alloc, &LINES[..9]).expect(rt, "memory")))
+        .expect(rt, "memory");
+    pieces
+        .push(Bytes::of(Vec::from_slice(alloc, &LINES[9..]).expect(rt, "memory")))
+        .expect(rt, "memory");
+    let mut input = MemSource::new(pieces, vec![in alloc; read].expect(rt, "memory"));
+    let words = [Text::of(String::from_str(alloc, "type").expect(rt, "memory"))];
     let mut shelf = MemShelf::new(Vec::new(alloc), Vec::new(alloc));
     let disk = MemDisk::new(alloc, Vec::new(alloc));
-    Ok(status_of(alloc, &words, &mut shelf, disk, &mut input, out, err))
+    status_of(alloc, &words, &mut shelf, disk, &mut input, out, err)
 }
 
 // The script is read in two pieces and then to its end; the output is written at once and flushed; a fault is told
@@ -35,7 +40,7 @@ fn type_lines<O: Sink>(
 // written and told.
 type FailingRow = (u64, u64, u64, u8, &'static str, &'static str);
 
-const FAILING: [FailingRow; 9] = [
+static FAILING: [FailingRow; 9] = [
     (0, 0, 0, 0, TYPED, ""),
     (1, 0, 0, 4, "", "skk: outside\n"),
     (2, 0, 0, 4, "", "skk: outside\n"),
@@ -48,32 +53,30 @@ const FAILING: [FailingRow; 9] = [
 ];
 
 #[test]
-fn calls_that_fail_end_the_run(rt: HostRuntime) -> Result<(), Fail> {
+fn calls_that_fail_end_the_run(rt: HostRuntime) {
     for row in &FAILING {
-        expect_failing(&rt, rt.alloc(), row)?;
+        expect_failing(&rt, rt.alloc(), row);
     }
-    Ok(())
 }
 
-fn expect_failing<R: Abort>(rt: &R, alloc: Global, row: &FailingRow) -> Result<(), Fail> {
+fn expect_failing<R: Abort>(rt: &R, alloc: Global, row: &FailingRow) {
     let (read, write, tell, status, out, err) = *row;
-    let mut written = MemSink::new(alloc, vec![in alloc; write]?);
-    let mut told = MemSink::new(alloc, vec![in alloc; tell]?);
-    let ended = type_lines(alloc, read, &mut written, &mut told)?;
+    let mut written = MemSink::new(alloc, vec![in alloc; write].expect(rt, "memory"));
+    let mut told = MemSink::new(alloc, vec![in alloc; tell].expect(rt, "memory"));
+    let ended = type_lines(rt, alloc, read, &mut written, &mut told);
     expect_ended(rt, ended, status);
     expect_written(rt, &written, out);
     expect_written(rt, &told, err);
-    Ok(())
 }
 
 // Tells the status of a run.
 fn expect_ended<R: Abort>(rt: &R, ended: u8, status: u8) {
-    assert_eq!(rt; ended, status);
+    same(&ended, &status).expect(rt, "as wanted");
 }
 
 // Tells what was written to a sink.
 fn expect_written<R: Abort>(rt: &R, sink: &MemSink, wanted: &str) {
-    assert_eq!(rt; sink.written(), wanted.as_bytes(), "{wanted:?}");
+    same_at(&sink.written(), &wanted.as_bytes(), &wanted).expect(rt, "as wanted");
 }
 
 // A file in which the okuri-ari part comes behind a row without okurigana.
@@ -85,23 +88,27 @@ const NO_UTF8: &[u8] = b"a /\xE3\x81\x82/\n /\xE3\x81/\n";
 
 // Runs `check` with a name on a shelf that has one file, `words`, with the number of the read that is to fail.
 fn check_file(
+    rt: &impl Abort,
     alloc: Global,
     (name, content): (&str, &[u8]),
     read: u64,
     out: &mut MemSink,
     err: &mut MemSink,
-) -> Result<u8, AllocError> {
-    let content = Bytes::of(Vec::from_slice(alloc, content)?);
-    let file = (Text::of(String::from_str(alloc, "words")?), content);
-    let files = Vec::from_array(alloc, [file])?;
-    let mut shelf = MemShelf::new(files, vec![in alloc; read]?);
-    let mut input = MemSource::new(Vec::new(alloc), vec![in alloc; 1]?);
+) -> u8 {
+    let content = Bytes::of(Vec::from_slice(alloc, content).expect(rt, "memory"));
+    let file = (
+        Text::of(String::from_str(alloc, "words").expect(rt, "memory")),
+        content,
+    );
+    let files = Vec::from_array(alloc, [file]).expect(rt, "memory");
+    let mut shelf = MemShelf::new(files, vec![in alloc; read].expect(rt, "memory"));
+    let mut input = MemSource::new(Vec::new(alloc), vec![in alloc; 1].expect(rt, "memory"));
     let words = [
-        Text::of(String::from_str(alloc, "check")?),
-        Text::of(String::from_str(alloc, name)?),
+        Text::of(String::from_str(alloc, "check").expect(rt, "memory")),
+        Text::of(String::from_str(alloc, name).expect(rt, "memory")),
     ];
     let disk = MemDisk::new(alloc, Vec::new(alloc));
-    Ok(status_of(alloc, &words, &mut shelf, disk, &mut input, out, err))
+    status_of(alloc, &words, &mut shelf, disk, &mut input, out, err)
 }
 
 // A name, the numbers of the read and of the call that writes that are to fail, the status, and what is written and
@@ -109,7 +116,7 @@ fn check_file(
 type CheckedRow = (&'static str, u64, u64, u8, &'static str, &'static str);
 
 // The content of the file `words`, and what is checked.
-const CHECKINGS: [(&str, CheckedRow); 8] = [
+static CHECKINGS: [(&str, CheckedRow); 8] = [
     (SMALL, ("words", 0, 0, 0, CHECKED, "")),
     (SMALL, ("words", 1, 0, 4, "", "skk: outside\n")),
     (SMALL, ("words", 2, 0, 4, "", "skk: outside\n")),
@@ -127,46 +134,41 @@ const NO_TEXT: CheckedRow = ("words", 0, 0, 3, "", "skk: dictionary 1 byte 10\n"
 
 // A file is read in one piece and then to its end; the output is written at once and flushed.
 #[test]
-fn files_are_checked(rt: HostRuntime) -> Result<(), Fail> {
+fn files_are_checked(rt: HostRuntime) {
     for (content, row) in &CHECKINGS {
-        expect_checked(&rt, rt.alloc(), content.as_bytes(), row)?;
+        expect_checked(&rt, rt.alloc(), content.as_bytes(), row);
     }
     expect_checked(&rt, rt.alloc(), NO_UTF8, &NO_TEXT)
 }
 
-fn expect_checked<R: Abort>(
-    rt: &R,
-    alloc: Global,
-    content: &[u8],
-    row: &CheckedRow,
-) -> Result<(), Fail> {
+fn expect_checked<R: Abort>(rt: &R, alloc: Global, content: &[u8], row: &CheckedRow) {
     let (name, read, write, status, out, err) = *row;
-    let mut written = MemSink::new(alloc, vec![in alloc; write]?);
+    let mut written = MemSink::new(alloc, vec![in alloc; write].expect(rt, "memory"));
     let mut told = MemSink::new(alloc, Vec::new(alloc));
-    let ended = check_file(alloc, (name, content), read, &mut written, &mut told)?;
+    let ended = check_file(rt, alloc, (name, content), read, &mut written, &mut told);
     expect_ended(rt, ended, status);
     expect_written(rt, &written, out);
     expect_written(rt, &told, err);
-    Ok(())
 }
 
 // Runs `load` with these numbers, with an input of which no read succeeds.
 fn load_lines(
+    rt: &impl Abort,
     alloc: Global,
     (seed, sessions, lines): (&str, &str, &str),
     out: &mut MemSink,
     err: &mut MemSink,
-) -> Result<u8, AllocError> {
+) -> u8 {
     let mut shelf = MemShelf::new(Vec::new(alloc), Vec::new(alloc));
-    let mut input = MemSource::new(Vec::new(alloc), vec![in alloc; 1]?);
+    let mut input = MemSource::new(Vec::new(alloc), vec![in alloc; 1].expect(rt, "memory"));
     let words = [
-        Text::of(String::from_str(alloc, "load")?),
-        Text::of(String::from_str(alloc, seed)?),
-        Text::of(String::from_str(alloc, sessions)?),
-        Text::of(String::from_str(alloc, lines)?),
+        Text::of(String::from_str(alloc, "load").expect(rt, "memory")),
+        Text::of(String::from_str(alloc, seed).expect(rt, "memory")),
+        Text::of(String::from_str(alloc, sessions).expect(rt, "memory")),
+        Text::of(String::from_str(alloc, lines).expect(rt, "memory")),
     ];
     let disk = MemDisk::new(alloc, Vec::new(alloc));
-    Ok(status_of(alloc, &words, &mut shelf, disk, &mut input, out, err))
+    status_of(alloc, &words, &mut shelf, disk, &mut input, out, err)
 }
 
 // The options of a load, the number of the call that writes that is to fail, the status, and what is written and told.
@@ -182,7 +184,7 @@ const FEW: (&str, &str, &str) = ("--seed=0", "--sessions=2", "--lines=3");
 
 const FEW_LOADED: &str = "lines 6\nlearned 4\nrestored 1\nrows 3\nbytes 33\n";
 
-const LOADS: [LoadedRow; 6] = [
+static LOADS: [LoadedRow; 6] = [
     (FEW, 0, 0, FEW_LOADED, ""),
     (FEW, 1, 4, "", "skk: outside\n"),
     (FEW, 2, 4, FEW_LOADED, "skk: outside\n"),
@@ -205,22 +207,20 @@ const LOADS: [LoadedRow; 6] = [
 
 // The input is not read; the summary is written at once and flushed.
 #[test]
-fn loads_are_summed_up(rt: HostRuntime) -> Result<(), Fail> {
+fn loads_are_summed_up(rt: HostRuntime) {
     for row in &LOADS {
-        expect_loaded(&rt, rt.alloc(), row)?;
+        expect_loaded(&rt, rt.alloc(), row);
     }
-    Ok(())
 }
 
-fn expect_loaded<R: Abort>(rt: &R, alloc: Global, row: &LoadedRow) -> Result<(), Fail> {
+fn expect_loaded<R: Abort>(rt: &R, alloc: Global, row: &LoadedRow) {
     let (options, write, status, out, err) = *row;
-    let mut written = MemSink::new(alloc, vec![in alloc; write]?);
+    let mut written = MemSink::new(alloc, vec![in alloc; write].expect(rt, "memory"));
     let mut told = MemSink::new(alloc, Vec::new(alloc));
-    let ended = load_lines(alloc, options, &mut written, &mut told)?;
+    let ended = load_lines(rt, alloc, options, &mut written, &mut told);
     expect_ended(rt, ended, status);
     expect_written(rt, &written, out);
     expect_written(rt, &told, err);
-    Ok(())
 }
 
 // A sink that takes one byte at a time.
@@ -245,36 +245,30 @@ impl Sink for OneByOne {
 
 // Each byte is written by a call of its own, and the flush is the last call.
 #[test]
-fn bytes_are_written_one_by_one(rt: HostRuntime) -> Result<(), Fail> {
+fn bytes_are_written_one_by_one(rt: HostRuntime) {
     let whole = TYPED.as_bytes();
     let last = whole.len() as u64 + 2;
     for call in 1..=last {
-        expect_one_by_one(&rt, rt.alloc(), call, call == last)?;
+        expect_one_by_one(&rt, rt.alloc(), call, call == last);
     }
-    Ok(())
 }
 
 // Has the call of a number fail. No call has the last number, and that run ends well.
-fn expect_one_by_one<R: Abort>(
-    rt: &R,
-    alloc: Global,
-    call: u64,
-    is_last: bool,
-) -> Result<(), Fail> {
-    let mut out = OneByOne(MemSink::new(alloc, vec![in alloc; call]?));
+fn expect_one_by_one<R: Abort>(rt: &R, alloc: Global, call: u64, is_last: bool) {
+    let mut out = OneByOne(MemSink::new(alloc, vec![in alloc; call].expect(rt, "memory")));
     let mut err = MemSink::new(alloc, Vec::new(alloc));
-    let status = type_lines(alloc, 0, &mut out, &mut err)?;
+    let status = type_lines(rt, alloc, 0, &mut out, &mut err);
     expect_ended(rt, status, if is_last { 0 } else { 4 });
     expect_begun(rt, out.0.written(), call);
-    Ok(())
 }
 
 // Tells that what was written is the bytes of the calls before this one.
 fn expect_begun<R: Abort>(rt: &R, written: &[u8], call: u64) {
     let whole = TYPED.as_bytes();
-    assert_eq!(rt;
-        written.len() as u64,
-        call.saturating_sub(1).min(whole.len() as u64)
-    );
+    same(
+        &(written.len() as u64),
+        &call.saturating_sub(1).min(whole.len() as u64),
+    )
+    .expect(rt, "as wanted");
     assert!(rt; whole.starts_with(written), "at call {call}");
 }

@@ -2,16 +2,16 @@ ghost use Rattle.skk_disk.specs.Image.{empty_image};
 
 use crate::side_by_side::Meeting;
 use crate::statuses::status_in_threads;
+use expectations::{same, same_at};
 use skk_disk::{Disk, MemDisk, Which};
 use skk_outside::{
     Count, Failed, Gate, MemLink, MemListener, MemShelf, MemSink, MemSource, Open, Outside,
 };
 use skk_text::{Bytes, Text};
-use std::alloc::{AllocError, Global};
+use std::alloc::Global;
 use std::process::Abort;
 use std::sync::Wait;
 use std::sync::atomic::{AtomicBool, AtomicU32, Ordering};
-use std::test::Fail;
 use std::thread::Threads;
 
 const WORDS: &str = ";; okuri-nasi entries.\n125 /東京都葛飾区/\nかんじ /漢字/幹事;宴会の/感じ/\n";
@@ -19,22 +19,24 @@ const WORDS: &str = ";; okuri-nasi entries.\n125 /東京都葛飾区/\nかんじ
 // A link: what each read of it gives, and the number of its call that is to fail.
 type Given = (&'static [&'static str], u64);
 
-fn link_of(alloc: Global, given: &Given) -> Result<MemLink, AllocError> {
+fn link_of(rt: &impl Abort, alloc: Global, given: &Given) -> MemLink {
     let (reads, fail) = *given;
     let mut pieces = Vec::new(alloc);
     for read in reads {
-        pieces.push(Bytes::of(read.as_bytes().to_vec(alloc)?))?;
+        pieces
+            .push(Bytes::of(read.as_bytes().to_vec(alloc).expect(rt, "memory")))
+            .expect(rt, "memory");
     }
-    Ok(MemLink::new(alloc, pieces, vec![in alloc; fail]?))
+    MemLink::new(alloc, pieces, vec![in alloc; fail].expect(rt, "memory"))
 }
 
 // A listener to which links come, and of which the call with this number is to fail.
-fn listener_of(alloc: Global, links: &[Given], fail: u64) -> Result<MemListener, AllocError> {
+fn listener_of(rt: &impl Abort, alloc: Global, links: &[Given], fail: u64) -> MemListener {
     let mut coming = Vec::new(alloc);
     for given in links {
-        coming.push(link_of(alloc, given)?)?;
+        coming.push(link_of(rt, alloc, given)).expect(rt, "memory");
     }
-    Ok(MemListener::new(alloc, coming, vec![in alloc; fail]?))
+    MemListener::new(alloc, coming, vec![in alloc; fail].expect(rt, "memory"))
 }
 
 // Serves with these options, over a dictionary and an input that must not be read.
@@ -47,22 +49,25 @@ fn serve<D: Disk + Drop + Send, G: Gate + Sync, R: Threads + Wait + Copy + Send 
     gate: &G,
     out: &mut MemSink,
     err: &mut MemSink,
-) -> Result<u8, AllocError> {
-    let name = Text::of(String::from_str(alloc, "words")?);
-    let content = Bytes::of(Vec::from_slice(alloc, WORDS.as_bytes())?);
-    let mut shelf = MemShelf::new(Vec::from_array(alloc, [(name, content)])?, Vec::new(alloc));
-    let mut input = MemSource::new(Vec::new(alloc), vec![in alloc; 1]?);
+) -> u8 {
+    let name = Text::of(String::from_str(alloc, "words").expect(&rt, "memory"));
+    let content = Bytes::of(Vec::from_slice(alloc, WORDS.as_bytes()).expect(&rt, "memory"));
+    let mut shelf = MemShelf::new(
+        Vec::from_array(alloc, [(name, content)]).expect(&rt, "memory"),
+        Vec::new(alloc),
+    );
+    let mut input = MemSource::new(Vec::new(alloc), vec![in alloc; 1].expect(&rt, "memory"));
     let [first, second] = options;
     let words = [
-        Text::of(String::from_str(alloc, "serve")?),
-        Text::of(String::from_str(alloc, "--learned")?),
-        Text::of(String::from_str(alloc, "learned")?),
-        Text::of(String::from_str(alloc, first)?),
-        Text::of(String::from_str(alloc, second)?),
+        Text::of(String::from_str(alloc, "serve").expect(&rt, "memory")),
+        Text::of(String::from_str(alloc, "--learned").expect(&rt, "memory")),
+        Text::of(String::from_str(alloc, "learned").expect(&rt, "memory")),
+        Text::of(String::from_str(alloc, first).expect(&rt, "memory")),
+        Text::of(String::from_str(alloc, second).expect(&rt, "memory")),
     ];
-    Ok(status_in_threads(
+    status_in_threads(
         rt, alloc, &words, &mut shelf, disk, &mut input, out, err, net, gate,
-    ))
+    )
 }
 
 // The numbers of the listener's call and of the call that writes that are to fail; how many connections are asked for;
@@ -76,7 +81,7 @@ type ServedRow = (
     &'static [&'static str],
 );
 
-const TWO: [Given; 2] = [(&["1ぬ "], 0), (&[], 0)];
+static TWO: [Given; 2] = [(&["1ぬ "], 0), (&[], 0)];
 
 static SERVED: [ServedRow; 9] = [
     ((0, 0), "2", 0, "ready\nserved 2\n", "", &["4ぬ \n", ""]),
@@ -109,46 +114,44 @@ static SERVED: [ServedRow; 9] = [
 
 // The port is asked for by the listener's first call, and each link by one more.
 #[test]
-fn connections_are_served(rt: HostRuntime) -> Result<(), Fail> {
+fn connections_are_served(rt: HostRuntime) {
     for row in &SERVED {
-        expect_served(rt, rt.alloc(), row)?;
+        expect_served(rt, rt.alloc(), row);
     }
-    Ok(())
 }
 
 fn expect_served<R: Threads + Wait + Copy + Send + Sync + Abort>(
     rt: R,
     alloc: Global,
     row: &ServedRow,
-) -> Result<(), AllocError> {
+) {
     let ((call, write), connections, status, printed, told, links) = *row;
-    let mut net = listener_of(alloc, &TWO, call)?;
-    let mut out = MemSink::new(alloc, vec![in alloc; write]?);
+    let mut net = listener_of(&rt, alloc, &TWO, call);
+    let mut out = MemSink::new(alloc, vec![in alloc; write].expect(&rt, "memory"));
     let mut err = MemSink::new(alloc, Vec::new(alloc));
     let disk = MemDisk::new(alloc, Vec::new(alloc));
     let options = ["--connections", connections];
     let ended = serve(
         rt, alloc, options, disk, &mut net, &Open, &mut out, &mut err,
-    )?;
-    assert_eq!(rt; ended, status, "{printed:?}");
-    assert_eq!(rt; out.written(), printed.as_bytes(), "{printed:?}");
-    assert_eq!(rt; err.written(), told.as_bytes(), "{printed:?}");
+    );
+    same_at(&ended, &status, &printed).expect(&rt, "as wanted");
+    same_at(&out.written(), &printed.as_bytes(), &printed).expect(&rt, "as wanted");
+    same_at(&err.written(), &told.as_bytes(), &printed).expect(&rt, "as wanted");
     expect_links(&rt, net.over(), links);
-    Ok(())
 }
 
 // Each link that came back was closed, and was written this.
 fn expect_links<R: Abort>(rt: &R, over: &[MemLink], links: &[&str]) {
-    assert_eq!(rt; over.len(), links.len());
+    same(&over.len(), &links.len()).expect(rt, "as wanted");
     for (link, wanted) in over.iter().zip(links) {
         assert!(rt; link.is_closed());
-        assert_eq!(rt; link.written(), wanted.as_bytes());
+        same(&link.written(), &wanted.as_bytes()).expect(rt, "as wanted");
     }
 }
 
 // A client that ends itself, a bad byte, a typist's first line that is bad, a link whose read fails and one whose write
 // fails, and a line of keys that is bad. None of them changes the status.
-const ENDS: [Given; 6] = [
+static ENDS: [Given; 6] = [
     (&["201ぬ "], 0),
     (&["9"], 0),
     (&["T1 2\nka\n"], 0),
@@ -157,7 +160,7 @@ const ENDS: [Given; 6] = [
     (&["T1 1\n<zz>\nka\n"], 0),
 ];
 
-const ENDED: [&str; 6] = [
+static ENDED: [&str; 6] = [
     "skk-desk-1.0 ",
     "0\n",
     "0\n",
@@ -167,42 +170,40 @@ const ENDED: [&str; 6] = [
 ];
 
 #[test]
-fn connections_end_each_for_itself(rt: HostRuntime) -> Result<(), Fail> {
+fn connections_end_each_for_itself(rt: HostRuntime) {
     let alloc = rt.alloc();
-    let mut net = listener_of(alloc, &ENDS, 0)?;
+    let mut net = listener_of(&rt, alloc, &ENDS, 0);
     let mut out = MemSink::new(alloc, Vec::new(alloc));
     let mut err = MemSink::new(alloc, Vec::new(alloc));
     let disk = MemDisk::new(alloc, Vec::new(alloc));
     let options = ["--dict", "words"];
     let status = serve(
         rt, alloc, options, disk, &mut net, &Open, &mut out, &mut err,
-    )?;
-    assert_eq!(rt; status, 0);
-    assert_eq!(rt; out.written(), b"ready\nserved 6\n".as_slice());
+    );
+    same(&status, &0).expect(&rt, "as wanted");
+    same(&out.written(), &b"ready\nserved 6\n".as_slice()).expect(&rt, "as wanted");
     expect_links(&rt, net.over(), &ENDED);
-    Ok(())
 }
 
-const HELD: [Given; 2] = [(&["1ぬ 1ぬ "], 0), (&["1ぬ 1ぬ "], 0)];
+static HELD: [Given; 2] = [(&["1ぬ 1ぬ "], 0), (&["1ぬ 1ぬ "], 0)];
 
 // Two connections are served at the same time: each waits for the other between its replies.
 #[test]
-fn two_held(rt: HostRuntime) -> Result<(), Fail> {
+fn two_held(rt: HostRuntime) {
     let alloc = rt.alloc();
     let meeting = Meeting::new();
-    let mut net = listener_of(alloc, &HELD, 0)?;
+    let mut net = listener_of(&rt, alloc, &HELD, 0);
     let mut out = MemSink::new(alloc, Vec::new(alloc));
     let mut err = MemSink::new(alloc, Vec::new(alloc));
     let disk = MemDisk::new(alloc, Vec::new(alloc));
     let options = ["--dict", "words"];
     let status = serve(
         rt, alloc, options, disk, &mut net, &meeting, &mut out, &mut err,
-    )?;
-    assert_eq!(rt; status, 0);
+    );
+    same(&status, &0).expect(&rt, "as wanted");
     expect_links(&rt, net.over(), &["4ぬ \n4ぬ \n", "4ぬ \n4ぬ \n"]);
-    assert_eq!(rt; meeting.count(), 2);
+    same(&meeting.count(), &2).expect(&rt, "as wanted");
     assert!(rt; !meeting.is_missed());
-    Ok(())
 }
 
 // What a gate sees of a disk, and does to it.
@@ -328,11 +329,11 @@ impl Gate for Witness<'_> {
     }
 }
 
-const LEARNT: [Given; 1] = [(&["T1 1\n", "Kanji <cj>\n"], 0)];
+static LEARNT: [Given; 1] = [(&["T1 1\n", "Kanji <cj>\n"], 0)];
 
 // What is learnt is on the disk before the line that tells of it is written.
 #[test]
-fn written_first(rt: HostRuntime) -> Result<(), Fail> {
+fn written_first(rt: HostRuntime) {
     let alloc = rt.alloc();
     let watch = Watch::new();
     let witness = Witness {
@@ -340,20 +341,19 @@ fn written_first(rt: HostRuntime) -> Result<(), Fail> {
         first: AtomicU32::new(0),
         second: AtomicU32::new(0),
     };
-    let mut net = listener_of(alloc, &LEARNT, 0)?;
+    let mut net = listener_of(&rt, alloc, &LEARNT, 0);
     let mut out = MemSink::new(alloc, Vec::new(alloc));
     let mut err = MemSink::new(alloc, Vec::new(alloc));
     let disk = Watched::new(alloc, &watch);
     let options = ["--dict", "words"];
     let status = serve(
         rt, alloc, options, disk, &mut net, &witness, &mut out, &mut err,
-    )?;
-    assert_eq!(rt; status, 0);
+    );
+    same(&status, &0).expect(&rt, "as wanted");
     expect_links(&rt, net.over(), &["かな\t\t\nかな\t漢字\t\n"]);
     let first = witness.first.load(Ordering::SeqCst);
     let second = witness.second.load(Ordering::SeqCst);
-    assert_eq!(rt; second.wrapping_sub(first), 4);
-    Ok(())
+    same(&second.wrapping_sub(first), &4).expect(&rt, "as wanted");
 }
 
 // Breaks a disk when the first reply is to be written.
@@ -368,13 +368,13 @@ impl Gate for Breaker<'_> {
     }
 }
 
-const FULL: [Given; 1] = [(&["T1 1\n/125 <cj>\n"], 0)];
+static FULL: [Given; 1] = [(&["T1 1\n/125 <cj>\n"], 0)];
 
-const BOTH: [Given; 1] = [(&["T1 1\n", "/125 <cj>\nKanji <cj>\n"], 0)];
+static BOTH: [Given; 1] = [(&["T1 1\n", "/125 <cj>\nKanji <cj>\n"], 0)];
 
 // A learned file that is full for one learning, and a disk that fails the next: the disk comes first.
 #[test]
-fn a_disk_that_fails_comes_before_a_full_file(rt: HostRuntime) -> Result<(), Fail> {
+fn a_disk_that_fails_comes_before_a_full_file(rt: HostRuntime) {
     let alloc = rt.alloc();
     expect_refused(
         rt,
@@ -384,7 +384,7 @@ fn a_disk_that_fails_comes_before_a_full_file(rt: HostRuntime) -> Result<(), Fai
         &FULL,
         7,
         "skk: journal full\n",
-    )?;
+    );
     let watch = Watch::new();
     expect_refused(
         rt,
@@ -394,8 +394,7 @@ fn a_disk_that_fails_comes_before_a_full_file(rt: HostRuntime) -> Result<(), Fai
         &BOTH,
         4,
         "skk: outside\n",
-    )?;
-    Ok(())
+    );
 }
 
 fn expect_refused<G: Gate + Sync, R: Threads + Wait + Copy + Send + Sync + Abort>(
@@ -406,15 +405,14 @@ fn expect_refused<G: Gate + Sync, R: Threads + Wait + Copy + Send + Sync + Abort
     links: &[Given],
     status: u8,
     told: &str,
-) -> Result<(), AllocError> {
-    let mut net = listener_of(alloc, links, 0)?;
+) {
+    let mut net = listener_of(&rt, alloc, links, 0);
     let mut out = MemSink::new(alloc, Vec::new(alloc));
     let mut err = MemSink::new(alloc, Vec::new(alloc));
     let disk = Watched::new(alloc, watch);
     let options = ["--dict=words", "--limit=64"];
-    let ended = serve(rt, alloc, options, disk, &mut net, gate, &mut out, &mut err)?;
-    assert_eq!(rt; ended, status);
-    assert_eq!(rt; out.written(), b"ready\nserved 1\n".as_slice());
-    assert_eq!(rt; err.written(), told.as_bytes());
-    Ok(())
+    let ended = serve(rt, alloc, options, disk, &mut net, gate, &mut out, &mut err);
+    same(&ended, &status).expect(&rt, "as wanted");
+    same(&out.written(), &b"ready\nserved 1\n".as_slice()).expect(&rt, "as wanted");
+    same(&err.written(), &told.as_bytes()).expect(&rt, "as wanted");
 }

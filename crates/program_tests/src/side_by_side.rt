@@ -1,11 +1,11 @@
 use crate::statuses::status_in_threads;
+use expectations::same;
 use skk_disk::MemDisk;
 use skk_outside::{Gate, MemListener, MemShelf, MemSink, MemSource};
 use skk_text::{Bytes, Text};
-use std::alloc::{AllocError, Global};
+use std::alloc::Global;
 use std::sync::Wait;
 use std::sync::atomic::{AtomicBool, AtomicU32, Ordering};
-use std::test::Fail;
 use std::thread::{self, Threads};
 
 const WORDS: &str = ";; okuri-nasi entries.\nかんじ /漢字/幹事;宴会の/感じ/\n";
@@ -66,35 +66,40 @@ fn type_by_two<R: Threads + Wait + Copy + Send + Sync>(
     alloc: Global,
     meeting: &Meeting,
     out: &mut MemSink,
-) -> Result<u8, AllocError> {
-    let name = Text::of(String::from_str(alloc, "words")?);
-    let content = Bytes::of(Vec::from_slice(alloc, WORDS.as_bytes())?);
-    let mut shelf = MemShelf::new(Vec::from_array(alloc, [(name, content)])?, Vec::new(alloc));
-    let lines = Bytes::of(Vec::from_slice(alloc, LINES.as_bytes())?);
-    let mut input = MemSource::new(Vec::from_array(alloc, [lines])?, Vec::new(alloc));
+) -> u8 {
+    let name = Text::of(String::from_str(alloc, "words").expect(&rt, "memory"));
+    let content = Bytes::of(Vec::from_slice(alloc, WORDS.as_bytes()).expect(&rt, "memory"));
+    let mut shelf = MemShelf::new(
+        Vec::from_array(alloc, [(name, content)]).expect(&rt, "memory"),
+        Vec::new(alloc),
+    );
+    let lines = Bytes::of(Vec::from_slice(alloc, LINES.as_bytes()).expect(&rt, "memory"));
+    let mut input = MemSource::new(
+        Vec::from_array(alloc, [lines]).expect(&rt, "memory"),
+        Vec::new(alloc),
+    );
     let words = [
-        Text::of(String::from_str(alloc, "type")?),
-        Text::of(String::from_str(alloc, "--dict=words")?),
-        Text::of(String::from_str(alloc, "--threads")?),
+        Text::of(String::from_str(alloc, "type").expect(&rt, "memory")),
+        Text::of(String::from_str(alloc, "--dict=words").expect(&rt, "memory")),
+        Text::of(String::from_str(alloc, "--threads").expect(&rt, "memory")),
     ];
     let disk = MemDisk::new(alloc, Vec::new(alloc));
     let mut err = MemSink::new(alloc, Vec::new(alloc));
     let mut net = MemListener::new(alloc, Vec::new(alloc), Vec::new(alloc));
-    Ok(status_in_threads(
+    status_in_threads(
         rt, alloc, &words, &mut shelf, disk, &mut input, out, &mut err, &mut net, meeting,
-    ))
+    )
 }
 
 // Two sessions are typed at the same time: each waits for the other between its lines.
 #[test]
-fn two_typed(rt: HostRuntime) -> Result<(), Fail> {
+fn two_typed(rt: HostRuntime) {
     let alloc = rt.alloc();
     let meeting = Meeting::new();
     let mut out = MemSink::new(alloc, Vec::new(alloc));
-    let status = type_by_two(rt, alloc, &meeting, &mut out)?;
-    assert_eq!(rt; status, 0);
-    assert_eq!(rt; out.written(), TYPED.as_bytes());
-    assert_eq!(rt; meeting.count(), 2);
+    let status = type_by_two(rt, alloc, &meeting, &mut out);
+    same(&status, &0).expect(&rt, "as wanted");
+    same(&out.written(), &TYPED.as_bytes()).expect(&rt, "as wanted");
+    same(&meeting.count(), &2).expect(&rt, "as wanted");
     assert!(rt; !meeting.is_missed());
-    Ok(())
 }

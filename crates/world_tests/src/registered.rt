@@ -3,13 +3,14 @@ ghost use Rattle.skk_calls.specs.Dictionary.{is_fit, may_answer};
 
 use dict_format::print_line;
 use dict_layers::System;
+use expectations::same;
 use learn_index::Index;
 use romaji_rules::Rules;
 use session_machine::Session;
 use skk_calls::{Answer, Books, Call, Caller, DialogTrace, Refusal, Rows};
 use skk_text::{Memory, Text, read_keys};
 use std::alloc::Global;
-use std::test::Fail;
+use std::process::Abort;
 
 // A dictionary of learned books alone, which serves each call.
 #[derive(Drop)]
@@ -47,48 +48,51 @@ fn served(alloc: Global, system: &System, index: &mut Index, call: &Call) -> Ans
 }
 
 // A dictionary in which nothing was learnt.
-fn new_learner(alloc: Global) -> Result<Learner, Fail> {
-    Ok(Learner {
-        system: System::of_books(alloc, Books::new(alloc))?,
+fn new_learner(rt: &impl Abort, alloc: Global) -> Learner {
+    Learner {
+        system: System::of_books(alloc, Books::new(alloc)).expect(rt, "memory"),
         index: Index::new(alloc),
-        said: DialogTrace::new(alloc)?,
-    })
+        said: DialogTrace::new(alloc).expect(rt, "memory"),
+    }
 }
 
 // A word that a line of a dictionary can't hold as it is stands in its book quoted.
 #[test]
-fn a_registered_word_is_a_line_of_its_book(rt: HostRuntime) -> Result<(), Fail> {
-    let mut learner = new_learner(rt.alloc())?;
-    let display = display_after(rt.alloc(), &mut learner, "/ao land/or;x<ret>/ao ")?;
-    let lines = lines_of(rt.alloc(), &learner.index)?;
-    assert_eq!(rt; display.as_str(), "and/or;x▼and/or;x");
-    assert_eq!(rt; lines.as_str(), "ao /(concat \"and\\057or\\073x\")/\n");
-    Ok(())
+fn a_registered_word_is_a_line_of_its_book(rt: HostRuntime) {
+    let mut learner = new_learner(&rt, rt.alloc());
+    let display = display_after(&rt, rt.alloc(), &mut learner, "/ao land/or;x<ret>/ao ");
+    let lines = lines_of(&rt, rt.alloc(), &learner.index);
+    same(&display.as_str(), &"and/or;x▼and/or;x").expect(&rt, "as wanted");
+    same(&lines.as_str(), &"ao /(concat \"and\\057or\\073x\")/\n").expect(&rt, "as wanted");
 }
 
 // The display of a session after these keys.
-fn display_after(alloc: Global, learner: &mut Learner, keys: &str) -> Result<Text, Fail> {
-    let session = session_after(alloc, learner, keys)?;
-    Ok(session.display(alloc)?)
+fn display_after(rt: &impl Abort, alloc: Global, learner: &mut Learner, keys: &str) -> Text {
+    let session = session_after(rt, alloc, learner, keys);
+    session.display(alloc).expect(rt, "memory")
 }
 
-fn session_after(alloc: Global, learner: &mut Learner, keys: &str) -> Result<Session, Fail> {
-    let keys = read_keys(alloc, keys.as_bytes())?;
-    let rules = Rules::standard(alloc)?;
-    Ok(Session::new(alloc, 1, 1).play(alloc, &rules, keys.as_slice(), learner)?)
+fn session_after(rt: &impl Abort, alloc: Global, learner: &mut Learner, keys: &str) -> Session {
+    let keys = read_keys(alloc, keys.as_bytes()).expect(rt, "keys");
+    let rules = Rules::standard(alloc).expect(rt, "memory");
+    Session::new(alloc, 1, 1)
+        .play(alloc, &rules, keys.as_slice(), learner)
+        .expect(rt, "memory")
 }
 
 // The lines of the first book.
-fn lines_of(alloc: Global, index: &Index) -> Result<String, Fail> {
-    let book = index.book(alloc, 1)?;
-    lines_of_rows(alloc, book.rows())
+fn lines_of(rt: &impl Abort, alloc: Global, index: &Index) -> String {
+    let book = index.book(alloc, 1).expect(rt, "memory");
+    lines_of_rows(rt, alloc, book.rows())
 }
 
-fn lines_of_rows(alloc: Global, rows: &Rows) -> Result<String, Fail> {
+fn lines_of_rows(rt: &impl Abort, alloc: Global, rows: &Rows) -> String {
     let mut lines = String::new(alloc);
     for row in rows.iter() {
-        lines.push_str(print_line(alloc, row)?.as_str())?;
-        lines.push('\n')?;
+        lines
+            .push_str(print_line(alloc, row).expect(rt, "memory").as_str())
+            .expect(rt, "memory");
+        lines.push('\n').expect(rt, "memory");
     }
-    Ok(lines)
+    lines
 }

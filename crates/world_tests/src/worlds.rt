@@ -1,52 +1,71 @@
 use dict_format::read_file;
 use dict_layers::System;
+use expectations::same_at;
 use romaji_rules::Rules;
 use session_world::{Event, World, WorldFault};
 use skk_calls::{Books, Refusal};
 use skk_text::read_keys;
 use std::alloc::Global;
 use std::process::Abort;
-use std::test::Fail;
 
 // A dictionary of one reading.
 const DICTIONARY: &str = ";; okuri-ari entries.\n;; okuri-nasi entries.\nかんじ /漢字/幹事;宴会の/感じ/\n";
 
 // A world of two sessions in the shared book over that dictionary, with the standard rules.
-fn new_world(alloc: Global) -> Result<World, Fail> {
+fn new_world(rt: &impl Abort, alloc: Global) -> World {
     let mut books = Books::new(alloc);
-    books.push(read_file(alloc, DICTIONARY.as_bytes())?.book)?;
-    let system = System::of_books(alloc, books)?;
-    Ok(World::new(alloc, &[(1, 0), (2, 0)], Rules::standard(alloc)?, system)?)
+    books
+        .push(
+            read_file(alloc, DICTIONARY.as_bytes())
+                .expect(rt, "a file")
+                .book,
+        )
+        .expect(rt, "memory");
+    let system = System::of_books(alloc, books).expect(rt, "memory");
+    World::new(
+        alloc,
+        &[(1, 0), (2, 0)],
+        Rules::standard(alloc).expect(rt, "memory"),
+        system,
+    )
+    .expect(rt, "memory")
 }
 
 // A world of one session in its own book over no dictionary.
-fn small_world(alloc: Global) -> Result<World, Fail> {
-    let system = System::of_books(alloc, Books::new(alloc))?;
-    Ok(World::new(alloc, &[(1, 1)], Rules::standard(alloc)?, system)?)
+fn small_world(rt: &impl Abort, alloc: Global) -> World {
+    let system = System::of_books(alloc, Books::new(alloc)).expect(rt, "memory");
+    World::new(
+        alloc,
+        &[(1, 1)],
+        Rules::standard(alloc).expect(rt, "memory"),
+        system,
+    )
+    .expect(rt, "memory")
 }
 
 // The world after an event, and whether that came: the world is handed back where it may not come now.
-fn step(alloc: Global, world: World, event: Event) -> Result<(World, bool), Fail> {
+fn step(rt: &impl Abort, alloc: Global, world: World, event: Event) -> (World, bool) {
     match world.step(alloc, event) {
-        Ok(world) => Ok((world, true)),
-        Err(WorldFault::NotNow { world }) => Ok((world, false)),
-        Err(WorldFault::Memory) => Err("out of memory".into()),
+        Ok(world) => (world, true),
+        Err(WorldFault::NotNow { world }) => (world, false),
+        Err(WorldFault::Memory) => panic!(rt; "out of memory"),
     }
 }
 
 // The world after the keys of a text were started, one after another, and whether each came.
 fn start_keys(
+    rt: &impl Abort,
     alloc: Global,
     world: World,
     place: usize,
     text: &str,
-) -> Result<(World, bool), Fail> {
+) -> (World, bool) {
     let mut world = world;
     let mut came = true;
-    for key in read_keys(alloc, text.as_bytes())?.iter() {
-        (world, came) = step(alloc, world, Event::Key(place, *key))?;
+    for key in read_keys(alloc, text.as_bytes()).expect(rt, "keys").iter() {
+        (world, came) = step(rt, alloc, world, Event::Key(place, *key));
     }
-    Ok((world, came))
+    (world, came)
 }
 
 // A refusal by its name.
@@ -64,34 +83,35 @@ fn refusal_by(name: &str) -> Refusal {
 
 // The world after what a command names, and whether that came.
 fn run(
+    rt: &impl Abort,
     alloc: Global,
     world: World,
     command: &str,
     place: usize,
     word: &str,
-) -> Result<(World, bool), Fail> {
+) -> (World, bool) {
     match command {
-        "keys" => start_keys(alloc, world, place, word),
-        "serve" => step(alloc, world, Event::Serve(place)),
-        "refuse" => step(alloc, world, Event::Refuse(place, refusal_by(word))),
-        _ => step(alloc, world, Event::Crash(word == "keeping")),
+        "keys" => start_keys(rt, alloc, world, place, word),
+        "serve" => step(rt, alloc, world, Event::Serve(place)),
+        "refuse" => step(rt, alloc, world, Event::Refuse(place, refusal_by(word))),
+        _ => step(rt, alloc, world, Event::Crash(word == "keeping")),
     }
 }
 
 // The display and the notice of a session.
-fn shown(alloc: Global, world: &World, place: usize) -> Result<String, Fail> {
-    let session = world.session(place).ok_or("no session")?;
-    let display = session.display(alloc)?;
-    let notice = session.notice(alloc)?;
-    Ok(format!(in alloc; "{}|{}", display.as_str(), notice.as_str())?)
+fn shown(rt: &impl Abort, alloc: Global, world: &World, place: usize) -> String {
+    let session = world.session(place).expect(rt, "no session");
+    let display = session.display(alloc).expect(rt, "memory");
+    let notice = session.notice(alloc).expect(rt, "memory");
+    format!(in alloc; "{}|{}", display.as_str(), notice.as_str()).expect(rt, "memory")
 }
 
 // What a command leaves: the display and the notice of the session of its place, where it came.
-fn told(alloc: Global, world: &World, place: usize, came: bool) -> Result<String, Fail> {
+fn told(rt: &impl Abort, alloc: Global, world: &World, place: usize, came: bool) -> String {
     if came {
-        shown(alloc, world, place)
+        shown(rt, alloc, world, place)
     } else {
-        Ok("not now".to_string(alloc)?)
+        "not now".to_string(alloc).expect(rt, "memory")
     }
 }
 
@@ -100,7 +120,7 @@ type Line = (&'static str, usize, &'static str, &'static str);
 
 // Two sessions learn in the shared book, and overtake each other. Each cause for which an event may not come now stands
 // among the lines.
-const LINES: &[Line] = &[
+static LINES: &[Line] = &[
     ("serve", 0, "", "not now"),
     ("serve", 2, "", "not now"),
     ("refuse", 0, "memory", "not now"),
@@ -160,46 +180,38 @@ const LINES: &[Line] = &[
 ];
 
 // Nothing was asked at first, and a key that asks nothing is shown at once.
-const ONE_SESSION: &[Line] = &[("serve", 0, "", "not now"), ("keys", 0, "a", "あ|")];
+static ONE_SESSION: &[Line] = &[("serve", 0, "", "not now"), ("keys", 0, "a", "あ|")];
 
 #[test]
-fn a_world_of_one_session_steps(rt: HostRuntime) -> Result<(), Fail> {
-    let world = small_world(rt.alloc())?;
+fn a_world_of_one_session_steps(rt: HostRuntime) {
+    let world = small_world(&rt, rt.alloc());
     expect_lines(&rt, rt.alloc(), world, ONE_SESSION)
 }
 
 #[test]
-fn worlds_step(rt: HostRuntime) -> Result<(), Fail> {
-    let world = new_world(rt.alloc())?;
+fn worlds_step(rt: HostRuntime) {
+    let world = new_world(&rt, rt.alloc());
     expect_lines(&rt, rt.alloc(), world, LINES)
 }
 
 // Tells what each of these commands leaves, one after another.
-fn expect_lines<R: Abort>(rt: &R, alloc: Global, world: World, lines: &[Line]) -> Result<(), Fail> {
+fn expect_lines<R: Abort>(rt: &R, alloc: Global, world: World, lines: &[Line]) {
     let mut world = world;
     for line in lines {
-        world = after_line(rt, alloc, world, line)?;
+        world = after_line(rt, alloc, world, line);
     }
-    Ok(())
 }
 
 // The world after a command, of which this is told.
-fn after_line<R: Abort>(rt: &R, alloc: Global, world: World, line: &Line) -> Result<World, Fail> {
+fn after_line<R: Abort>(rt: &R, alloc: Global, world: World, line: &Line) -> World {
     let (command, place, word, _) = *line;
-    let (world, came) = run(alloc, world, command, place, word)?;
-    expect_told(rt, alloc, &world, came, line)?;
-    Ok(world)
+    let (world, came) = run(rt, alloc, world, command, place, word);
+    expect_told(rt, alloc, &world, came, line);
+    world
 }
 
-fn expect_told<R: Abort>(
-    rt: &R,
-    alloc: Global,
-    world: &World,
-    came: bool,
-    line: &Line,
-) -> Result<(), Fail> {
+fn expect_told<R: Abort>(rt: &R, alloc: Global, world: &World, came: bool, line: &Line) {
     let (_, place, _, wanted) = *line;
-    let told = told(alloc, world, place, came)?;
-    assert_eq!(rt; told.as_str(), wanted, "at {line:?}");
-    Ok(())
+    let told = told(rt, alloc, world, place, came);
+    same_at(&told.as_str(), &wanted, &line).expect(rt, "as wanted");
 }

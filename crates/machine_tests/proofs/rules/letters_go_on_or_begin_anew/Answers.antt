@@ -11,4 +11,4 @@ not-extended rules (b ∷ pending) c e = e
 
 pub feed_anew-out-requires : goal.feed_anew-out-requires
 feed_anew-out-requires g c =
-    not-extended c.in_ok-rules.rules c.extend.new.pending 113 (sym c.goes_on.ensures.computed ∙ search rules)
+    not-extended c.expect-rules.result c.extend.new.pending 113 (sym c.goes_on.ensures.computed ∙ search rules)
