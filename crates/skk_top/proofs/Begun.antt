@@ -6,7 +6,7 @@ use Rattle.key_scripts.specs.declared.line.Line.{Line}
 use Rattle.learned_store.specs.Stores.{OpenStore, opening_now}
 use Rattle.skk_top.specs.Disks.{DiskNow}
 use Rattle.skk_top.specs.TypeCommand.{LeavesBegun, Manner}
-use Rattle.skk_top.specs.declared.finish.Run.{Run}
+use Rattle.run_endings.specs.declared.finish.Run.{Run}
 
 -- what follows of what holds of a value, and of a fault
 pub if_ok : {T E : Type 0} {P Q : T → Type 0} (result : Result T E) → IfOk result P → ((x : T) → P x → Q x)

@@ -13,9 +13,9 @@ use Rattle.dict_format.specs.declared.reason.LineReason.TheVariants.{OkuriKey, N
 use Rattle.dict_format.specs.declared.reason.LineReason.TheVariants.{Twice}
 use Rattle.skk_top.specs.Dictionaries.{fault_of_file}
 use Rattle.skk_top.specs.CheckedFiles.{reason_name, bad_line, count_of, counts_line, checked_text}
-use Rattle.skk_top.specs.declared.fault.RunFault.TheVariants.{Refused, Memory}
-use Rattle.skk_top.specs.declared.run_file.Flaw.TheVariants.{TooLong, Byte}
-use Rattle.skk_top.specs.declared.run_file.RunFile.TheVariants.{Dictionary}
+use Rattle.run_endings.specs.declared.fault.RunFault.TheVariants.{Refused, Memory}
+use Rattle.run_endings.specs.declared.run_file.Flaw.TheVariants.{TooLong, Byte}
+use Rattle.run_endings.specs.declared.run_file.RunFile.TheVariants.{Dictionary}
 
 -- a row of a part, and a bad line
 abbrev row : Part → Row

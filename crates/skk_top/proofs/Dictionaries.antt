@@ -10,9 +10,9 @@ use Rattle.dict_format.specs.FileLines.{ListsRows}
 use Rattle.skk_top.specs.Dictionaries.{AreDictionaries, AreRowsOf, HasDictionaryFlaw, IsFirst, IsDictionary}
 use Rattle.skk_top.specs.Dictionaries.{RefusesDictionaries}
 use Rattle.skk_top.specs.RunFiles.{RefusesFile}
-use Rattle.skk_top.specs.declared.fault.RunFault.{RunFault}
-use Rattle.skk_top.specs.declared.fault.RunFault.TheVariants.{Refused, Outside, Memory}
-use Rattle.skk_top.specs.declared.run_file.RunFile.TheVariants.{Script, Rules, Dictionary}
+use Rattle.run_endings.specs.declared.fault.RunFault.{RunFault}
+use Rattle.run_endings.specs.declared.fault.RunFault.TheVariants.{Refused, Outside, Memory}
+use Rattle.run_endings.specs.declared.run_file.RunFile.TheVariants.{Script, Rules, Dictionary}
 use Rattle.skk_top.proofs.Runs.{each_some}
 
 -- books that are the rows of files are those of dictionaries

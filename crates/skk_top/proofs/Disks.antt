@@ -25,10 +25,10 @@ use Rattle.learned_store.specs.Stands.{time_of, faults_of, left_behind, Recovers
 use Rattle.learned_store.specs.Stands.{Stands}
 use Rattle.skk_top.specs.Disks.{DiskNow, MovedDisk, moved_disk, disk_now, RefusesLearned, IsOpening, KeepsDisk}
 use Rattle.skk_top.specs.Disks.{RunsOver, StandsSince, IsAsItWas}
-use Rattle.skk_top.specs.Status.{Ended, fault_of_opening}
-use Rattle.skk_top.specs.Finishes.{finish_of}
-use Rattle.skk_top.specs.declared.finish.Finish.{Finish}
-use Rattle.skk_top.specs.declared.finish.Run.{Run}
+use Rattle.run_endings.specs.Status.{Ended, fault_of_opening}
+use Rattle.run_endings.specs.Finishes.{finish_of}
+use Rattle.run_endings.specs.declared.finish.Finish.{Finish}
+use Rattle.run_endings.specs.declared.finish.Run.{Run}
 
 -- a file of one byte at most is made anew
 short-fresh : (file : List ℕ) → length file ≤ 1 → is_fresh file ≡ true

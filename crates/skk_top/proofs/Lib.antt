@@ -8,7 +8,6 @@ mod LoadExamples
 pub mod LoadInput
 pub mod LoadWords
 pub mod Loads
-pub mod Pages
 pub mod PlayedLines
 pub mod PrintedChecks
 mod RelationExamples

@@ -29,10 +29,10 @@ use Rattle.script_typing.specs.Sessions.{SessionMap}
 use Rattle.command_line.specs.declared.command.LoadOptions.{LoadOptions}
 use Rattle.skk_top.specs.Disks.{DiskNow, KeepsDisk}
 use Rattle.skk_top.specs.LoadCommand.{load_lines, loaded_from, number_line, summed, LoadsLines}
-use Rattle.skk_top.specs.Page.{LeavesPrinted, StopsPrinting}
+use Rattle.run_endings.specs.Page.{LeavesPrinted, StopsPrinting}
 use Rattle.skk_top.specs.Playing.{PlaysLines}
-use Rattle.skk_top.specs.Status.{Ended, ended_by}
-use Rattle.skk_top.specs.declared.fault.RunFault.TheVariants.{Memory}
+use Rattle.run_endings.specs.Status.{Ended, ended_by}
+use Rattle.run_endings.specs.declared.fault.RunFault.TheVariants.{Memory}
 use Rattle.skk_top.proofs.PrintedChecks.{more}
 use Rattle.skk_top.proofs.Served.{answered_alone, where_done}
 use Rattle.skk_top.proofs.Weaves.{keeps-appends}

@@ -17,18 +17,18 @@ use Rattle.command_line.specs.declared.command.LoadOptions.{LoadOptions}
 use Rattle.command_line.specs.declared.command.ServeOptions.{ServeOptions}
 use Rattle.command_line.specs.declared.command.TypeOptions.{TypeOptions}
 use Rattle.skk_top.specs.Disks.{MovedDisk}
-use Rattle.skk_top.specs.Finishes.{HasFailed}
+use Rattle.skk_top.specs.Failures.{HasFailed}
 use Rattle.skk_top.specs.LoadCommand.{LeavesLoaded, Loading, LoadsLines, LoadsTasks}
-use Rattle.skk_top.specs.Page.{StopsPrinting}
+use Rattle.run_endings.specs.Page.{StopsPrinting}
 use Rattle.skk_top.specs.ServeCommand.{MovedListener, StopsServing, LeavesPort, wants_memory, LeavesServed}
-use Rattle.skk_top.specs.Status.{Ended, ended_by, with_want}
+use Rattle.run_endings.specs.Status.{Ended, ended_by, with_want}
 use Rattle.romaji_rules.specs.declared.rule.Rule.{Rule}
 use Rattle.key_scripts.specs.declared.line.Line.{Line}
 use Rattle.skk_top.specs.TypeCommand.{LeavesTyped, Manner, TypesLines}
 use Rattle.skk_top.specs.WeaveCommand.{WeavesLines}
-use Rattle.skk_top.specs.declared.fault.RunFault.{RunFault}
-use Rattle.skk_top.specs.declared.fault.RunFault.TheVariants.{Outside, Memory}
-use Rattle.skk_top.specs.declared.finish.Run.{Run}
+use Rattle.run_endings.specs.declared.fault.RunFault.{RunFault}
+use Rattle.run_endings.specs.declared.fault.RunFault.TheVariants.{Outside, Memory}
+use Rattle.run_endings.specs.declared.finish.Run.{Run}
 use Rattle.skk_top.specs.declared.serving.Service.{Service}
 use Rattle.skk_top.proofs.Disks.{counted-on}
 

@@ -7,11 +7,11 @@ use Rattle.skk_outside.specs.Moved.{MovedSink}
 use Rattle.skk_outside.specs.Written.{AppendsPrefix}
 use Rattle.dict_format.specs.declared.file.BadLine.{BadLine}
 use Rattle.skk_top.specs.CheckedFiles.{bad_line, bad_lines}
-use Rattle.skk_top.specs.Page.{Printed, LeavesPrinted, StopsPrinting}
-use Rattle.skk_top.specs.Status.{Ended}
-use Rattle.skk_top.specs.declared.fault.RunFault.{RunFault}
-use Rattle.skk_top.specs.declared.fault.RunFault.TheVariants.{Outside, Memory}
-use Rattle.skk_top.proofs.Pages.{Printed-more, Printed-rest}
+use Rattle.run_endings.specs.Page.{Printed, LeavesPrinted, StopsPrinting}
+use Rattle.run_endings.specs.Status.{Ended}
+use Rattle.run_endings.specs.declared.fault.RunFault.{RunFault}
+use Rattle.run_endings.specs.declared.fault.RunFault.TheVariants.{Outside, Memory}
+use Rattle.run_endings.specs.PageLaws.{Printed-more, Printed-rest}
 
 -- the line of the bad line at a place goes to the page
 pub printed-bad_line : (lines : List BadLine) (place : ℕ) (none : BadLine) (old new : Option (List ℕ))

@@ -2,12 +2,12 @@
 use Rattle.std.proofs.Common.{None, Some, Err, [], ◌∷◌, inl, inr, refl}
 use Rattle.skk_outside.specs.Moved.{MovedShelf, MovedSink}
 use Rattle.skk_top.specs.CheckCommand.{LeavesChecked}
-use Rattle.skk_top.specs.Page.{Printed}
-use Rattle.skk_top.specs.declared.fault.RunFault.TheVariants as faults
-use Rattle.skk_top.specs.declared.finish.Run.{Run}
-use Rattle.skk_top.specs.declared.run_file.Flaw.TheVariants.{TooLong}
-use Rattle.skk_top.specs.declared.run_file.RunFile.{RunFile}
-use Rattle.skk_top.specs.declared.run_file.RunFile.TheVariants.{Rules, Dictionary}
+use Rattle.run_endings.specs.Page.{Printed}
+use Rattle.run_endings.specs.declared.fault.RunFault.TheVariants as faults
+use Rattle.run_endings.specs.declared.finish.Run.{Run}
+use Rattle.run_endings.specs.declared.run_file.Flaw.TheVariants.{TooLong}
+use Rattle.run_endings.specs.declared.run_file.RunFile.{RunFile}
+use Rattle.run_endings.specs.declared.run_file.RunFile.TheVariants.{Rules, Dictionary}
 
 -- what was written stands before the page, and the page before the rest
 printed : Printed (Some (1 ∷ [])) (Some (1 ∷ 2 ∷ [])) (3 ∷ []) (4 ∷ []) (2 ∷ 3 ∷ 4 ∷ [])

@@ -7,18 +7,18 @@ use Rattle.skk_outside.specs.Moved.{MovedShelf, MovedSource, MovedSink}
 use Rattle.romaji_rules.specs.Standard.{standard}
 use Rattle.skk_top.specs.Dictionaries.{HasDictionaryFlaw, IsFirst, RefusesDictionaries, AreRowsOf}
 use Rattle.skk_top.specs.Disks.{MovedDisk, IsAsItWas, RefusesLearned}
-use Rattle.skk_top.specs.Finishes.{HasFailed}
-use Rattle.skk_top.specs.Page.{StopsPrinting}
+use Rattle.skk_top.specs.Failures.{HasFailed}
+use Rattle.run_endings.specs.Page.{StopsPrinting}
 use Rattle.skk_top.specs.RunFiles.{HasTextFlaw, IsLonger, RefusesBytes, RefusesFile}
 use Rattle.skk_top.specs.RunRules.{AreRules, HasRulesFlaw, IsNamed, RefusesRules}
 use Rattle.key_scripts.specs.Script.{IsFirstBad}
 use Rattle.skk_top.specs.NamedFiles.{RefusesFiles}
 use Rattle.skk_top.specs.TypeCommand.{HasScriptFlaw}
 use Rattle.skk_top.proofs.Dictionaries.{are_dictionaries}
-use Rattle.skk_top.specs.declared.fault.RunFault.TheVariants.{Words, Refused, Outside, Memory, JournalFull}
-use Rattle.skk_top.specs.declared.fault.RunFault.TheVariants.{NotJournal, BadRecord}
-use Rattle.skk_top.specs.declared.run_file.Flaw.TheVariants.{TooLong, Byte, Line}
-use Rattle.skk_top.specs.declared.run_file.RunFile.TheVariants.{Script, Rules, Dictionary}
+use Rattle.run_endings.specs.declared.fault.RunFault.TheVariants.{Words, Refused, Outside, Memory, JournalFull}
+use Rattle.run_endings.specs.declared.fault.RunFault.TheVariants.{NotJournal, BadRecord}
+use Rattle.run_endings.specs.declared.run_file.Flaw.TheVariants.{TooLong, Byte, Line}
+use Rattle.run_endings.specs.declared.run_file.RunFile.TheVariants.{Script, Rules, Dictionary}
 
 -- four bytes
 abbrev bytes : List ℕ

@@ -16,12 +16,12 @@ use Rattle.skk_top.specs.Dictionaries.{HasDictionaryFlaw, RefusesDictionaries, f
 use Rattle.skk_top.specs.RunFiles.{RefusesFile, RefusesBytes, IsLonger}
 use Rattle.skk_top.specs.RunRules.{AreRules, HasRulesFlaw, RefusesRules, fault_of_rules}
 use Rattle.skk_top.specs.NamedFiles.{RefusesFiles}
-use Rattle.skk_top.specs.declared.fault.RunFault.{RunFault}
-use Rattle.skk_top.specs.declared.fault.RunFault.TheVariants.{Refused, Outside, Memory}
-use Rattle.skk_top.specs.declared.run_file.Flaw.{Flaw}
-use Rattle.skk_top.specs.declared.run_file.Flaw.TheVariants.{TooLong, Byte, Line}
-use Rattle.skk_top.specs.declared.run_file.RunFile.{RunFile}
-use Rattle.skk_top.specs.declared.run_file.RunFile.TheVariants.{Script, Rules, Dictionary}
+use Rattle.run_endings.specs.declared.fault.RunFault.{RunFault}
+use Rattle.run_endings.specs.declared.fault.RunFault.TheVariants.{Refused, Outside, Memory}
+use Rattle.run_endings.specs.declared.run_file.Flaw.{Flaw}
+use Rattle.run_endings.specs.declared.run_file.Flaw.TheVariants.{TooLong, Byte, Line}
+use Rattle.run_endings.specs.declared.run_file.RunFile.{RunFile}
+use Rattle.run_endings.specs.declared.run_file.RunFile.TheVariants.{Script, Rules, Dictionary}
 use Rattle.skk_top.proofs.Runs.{each_some}
 
 -- what follows of a value, and of a fault

@@ -11,8 +11,8 @@ use Rattle.skk_server.specs.declared.end.End.TheVariants as endings
 use Rattle.skk_server.specs.Visits.{SeenLink, Visit}
 use Rattle.skk_top.specs.ServeCommand.{MovedListener, ready_line, served_line, serve_lines, LacksPort, StopsServing}
 use Rattle.skk_top.specs.ServeCommand.{ServesVisits, AreServedFrom, wants_memory}
-use Rattle.skk_top.specs.Status.{Ended, ended_by, with_want}
-use Rattle.skk_top.specs.declared.fault.RunFault.TheVariants.{Words, Outside, Memory, JournalFull}
+use Rattle.run_endings.specs.Status.{Ended, ended_by, with_want}
+use Rattle.run_endings.specs.declared.fault.RunFault.TheVariants.{Words, Outside, Memory, JournalFull}
 use Rattle.skk_top.specs.declared.serving.Service.{Service}
 
 -- both lines, with the number in decimal

@@ -15,7 +15,7 @@ use Rattle.skk_calls.specs.Interactions.{Dialog, IsAnsweredAlone}
 use Rattle.skk_calls.specs.Openings.{is_reply}
 use Rattle.skk_calls.specs.States.{State}
 use Rattle.skk_calls.specs.Tallies.{lacks_memory, lacks_disk, lacks_room, tally_of}
-use Rattle.skk_top.specs.Status.{ended_by}
+use Rattle.run_endings.specs.Status.{ended_by}
 
 -- each answer of a history from a state and an end on is legal at its place
 abbrev AreLegal : Opening → State → ℕ → List Entry → Type 0

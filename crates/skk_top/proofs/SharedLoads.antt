@@ -27,9 +27,9 @@ use Rattle.script_typing.specs.declared.typed.Typed.{Typed}
 use Rattle.command_line.specs.declared.command.LoadOptions.{LoadOptions}
 use Rattle.skk_top.specs.Disks.{DiskNow, KeepsDisk}
 use Rattle.skk_top.specs.LoadCommand.{load_lines, loaded_from, summed, LoadsTasks}
-use Rattle.skk_top.specs.Page.{LeavesPrinted, StopsPrinting}
-use Rattle.skk_top.specs.Status.{Ended, ended_by}
-use Rattle.skk_top.specs.declared.fault.RunFault.TheVariants.{Memory}
+use Rattle.run_endings.specs.Page.{LeavesPrinted, StopsPrinting}
+use Rattle.run_endings.specs.Status.{Ended, ended_by}
+use Rattle.run_endings.specs.declared.fault.RunFault.TheVariants.{Memory}
 use Rattle.skk_top.proofs.Served.{where_done}
 use Rattle.skk_top.proofs.Loads.{always}
 use Rattle.skk_top.proofs.Weaves.{asked-few, keeps-appends}

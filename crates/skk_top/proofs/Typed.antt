@@ -9,15 +9,15 @@ use Rattle.skk_outside.specs.Written.{AppendsPrefix}
 use Rattle.romaji_rules.specs.declared.rule.Rule.{Rule}
 use Rattle.skk_calls.specs.InteractionLaws.{leads-on, leads-prints, led-asked, led-end, led-printed}
 use Rattle.skk_calls.specs.Interactions.{ends, printed, Dialog, Leads, here, answers_of}
-use Rattle.skk_top.specs.Page.{Printed, StopsPrinting}
+use Rattle.run_endings.specs.Page.{Printed, StopsPrinting}
 use Rattle.script_typing.specs.Sessions.{SessionMap}
-use Rattle.skk_top.specs.Status.{Ended}
+use Rattle.run_endings.specs.Status.{Ended}
 use Rattle.script_typing.specs.Typed.{Asking, typing, closing_lines}
 use Rattle.skk_top.specs.Typing.{Reaches, Breaks, LeavesLines}
-use Rattle.skk_top.specs.declared.fault.RunFault.{RunFault}
+use Rattle.run_endings.specs.declared.fault.RunFault.{RunFault}
 use Rattle.key_scripts.specs.declared.line.Line.{Line}
-use Rattle.skk_top.proofs.Pages.{Appends-none, AppendsPrefix-more, AppendsPrefix-whole, Printed-prefix}
-use Rattle.skk_top.proofs.Pages.{Printed-prefix_of_page, Printed-whole, Printed-written}
+use Rattle.run_endings.specs.PageLaws.{Appends-none, AppendsPrefix-more, AppendsPrefix-whole, Printed-prefix}
+use Rattle.run_endings.specs.PageLaws.{Printed-prefix_of_page, Printed-whole, Printed-written}
 use Rattle.skk_top.proofs.PrintedChecks.{Printed-longer}
 
 -- a sink that was written this before and that by now, with its counts of faults

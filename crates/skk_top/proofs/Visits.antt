@@ -27,16 +27,16 @@ use Rattle.skk_server.specs.Visits.{SeenLink, SeenCaller, seen_caller, Visit, Ar
 use Rattle.desk_history.specs.Seats.{CallerState}
 use Rattle.shared_desk.specs.Told.{Stood}
 use Rattle.skk_top.specs.Disks.{DiskNow, KeepsDisk}
-use Rattle.skk_top.specs.Page.{StopsPrinting}
+use Rattle.run_endings.specs.Page.{StopsPrinting}
 use Rattle.skk_top.specs.ServeCommand.{MovedListener, moved_listener, ready_line, served_line, serve_lines, TellsEnd}
 use Rattle.skk_top.specs.ServeCommand.{StopsServing, ServesVisits, AreServedFrom, wants_memory, ServesConnections}
 use Rattle.skk_top.specs.ServeCommand.{ServesByOffice}
-use Rattle.skk_top.specs.Status.{Ended, ended_by, with_want}
-use Rattle.skk_top.specs.declared.fault.RunFault.{RunFault}
-use Rattle.skk_top.specs.declared.fault.RunFault.TheVariants.{Outside, Memory}
+use Rattle.run_endings.specs.Status.{Ended, ended_by, with_want}
+use Rattle.run_endings.specs.declared.fault.RunFault.{RunFault}
+use Rattle.run_endings.specs.declared.fault.RunFault.TheVariants.{Outside, Memory}
 use Rattle.skk_top.specs.declared.serving.Outcome.{Outcome}
 use Rattle.skk_top.specs.declared.serving.Service.{Service}
-use Rattle.skk_top.proofs.Pages.{AppendsPrefix-behind, AppendsPrefix-more, AppendsPrefix-whole}
+use Rattle.run_endings.specs.PageLaws.{AppendsPrefix-behind, AppendsPrefix-more, AppendsPrefix-whole}
 use Rattle.skk_top.proofs.PrintedChecks.{Appends-kept, stops-behind}
 use Rattle.skk_top.proofs.Served.{where_done}
 

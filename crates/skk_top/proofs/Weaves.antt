@@ -31,12 +31,12 @@ use Rattle.script_typing.specs.Workers.{AreDone, AreWoven, WorkedBy}
 use Rattle.desk_history.specs.Seats.{CallerState}
 use Rattle.shared_desk.specs.Told.{Stood}
 use Rattle.skk_top.specs.Disks.{DiskNow, KeepsDisk}
-use Rattle.skk_top.specs.Page.{StopsPrinting}
-use Rattle.skk_top.specs.Status.{Ended, ended_by}
+use Rattle.run_endings.specs.Page.{StopsPrinting}
+use Rattle.run_endings.specs.Status.{Ended, ended_by}
 use Rattle.skk_top.specs.WeaveCommand.{LeavesPages, WeavesLines, text_left}
-use Rattle.skk_top.specs.declared.fault.RunFault.{RunFault}
-use Rattle.skk_top.specs.declared.fault.RunFault.TheVariants.{Memory}
-use Rattle.skk_top.proofs.Pages.{AppendsPrefix-more, AppendsPrefix-whole}
+use Rattle.run_endings.specs.declared.fault.RunFault.{RunFault}
+use Rattle.run_endings.specs.declared.fault.RunFault.TheVariants.{Memory}
+use Rattle.run_endings.specs.PageLaws.{AppendsPrefix-more, AppendsPrefix-whole}
 use Rattle.skk_top.proofs.Served.{where_done}
 
 -- Pages

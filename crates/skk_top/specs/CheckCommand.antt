@@ -5,11 +5,11 @@ use Rattle.dict_format.specs.FileLines.{Lists}
 use Rattle.dict_format.specs.declared.file.Listed.{Listed}
 use Rattle.skk_top.specs.CheckedFiles.{checked}
 use Rattle.skk_top.specs.Dictionaries.{HasDictionaryFlaw}
-use Rattle.skk_top.specs.Finishes.{EndsUnbegun}
-use Rattle.skk_top.specs.Page.{LeavesPrinted}
+use Rattle.run_endings.specs.Finishes.{EndsUnbegun}
+use Rattle.run_endings.specs.Page.{LeavesPrinted}
 use Rattle.skk_top.specs.RunFiles.{RefusesFile}
-use Rattle.skk_top.specs.declared.finish.Run.{Run}
-use Rattle.skk_top.specs.declared.run_file.RunFile.TheVariants.{Dictionary}
+use Rattle.run_endings.specs.declared.finish.Run.{Run}
+use Rattle.run_endings.specs.declared.run_file.RunFile.TheVariants.{Dictionary}
 
 -- what is listed in a file was printed: all of it, or a prefix
 pub record PrintsListed {D : Type 0} (name : List ℕ) (run : Run D) (shelf : MovedShelf) (out : MovedSink) : Type 0 where

@@ -8,11 +8,11 @@ use Rattle.dict_format.specs.declared.file.FileFault.{FileFault}
 use Rattle.dict_format.specs.declared.file.FileFault.TheVariants as files
 use Rattle.dict_format.specs.declared.file.Listed.{Listed}
 use Rattle.skk_top.specs.RunFiles.{HasTextFlaw}
-use Rattle.skk_top.specs.Status.{fault_of_text}
-use Rattle.skk_top.specs.declared.run_file.RunFile.TheVariants.{Dictionary}
-use Rattle.skk_top.specs.declared.run_file.Flaw.{Flaw}
-use Rattle.skk_top.specs.declared.fault.RunFault.{RunFault}
-use Rattle.skk_top.specs.declared.fault.RunFault.TheVariants.{Refused, Outside, Memory}
+use Rattle.run_endings.specs.Status.{fault_of_text}
+use Rattle.run_endings.specs.declared.run_file.RunFile.TheVariants.{Dictionary}
+use Rattle.run_endings.specs.declared.run_file.Flaw.{Flaw}
+use Rattle.run_endings.specs.declared.fault.RunFault.{RunFault}
+use Rattle.run_endings.specs.declared.fault.RunFault.TheVariants.{Refused, Outside, Memory}
 
 -- what a fault of its file is for the dictionary with this number
 abbrev pub fault_of_file : ℕ → FileFault → RunFault

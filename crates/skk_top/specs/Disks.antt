@@ -15,8 +15,8 @@ use Rattle.learned_store.specs.Limits.{AllHadRoom}
 use Rattle.learned_store.specs.Recovered.{IsOpenedWith, IsRefused, RecoversAtOnce}
 use Rattle.learned_store.specs.Stores.{Recovers}
 use Rattle.learned_store.specs.Stands.{RecoverAmong, left_behind, StandsOver, GoOn}
-use Rattle.skk_top.specs.declared.fault.RunFault.{RunFault}
-use Rattle.skk_top.specs.declared.fault.RunFault.TheVariants.{NotJournal, BadRecord, Outside, Memory}
+use Rattle.run_endings.specs.declared.fault.RunFault.{RunFault}
+use Rattle.run_endings.specs.declared.fault.RunFault.TheVariants.{NotJournal, BadRecord, Outside, Memory}
 
 -- a disk at some moment: its time, its count of faults, and what a stop since a time might have left
 pub record DiskNow : Type 1 where

@@ -6,9 +6,9 @@ use Rattle.skk_calls.specs.States.{rows_of}
 use Rattle.skk_outside.specs.Moved.{MovedSink}
 use Rattle.command_line.specs.declared.command.DumpOptions.{DumpOptions}
 use Rattle.skk_top.specs.Disks.{MovedDisk, RefusesLearned, IsOpening}
-use Rattle.skk_top.specs.Finishes.{EndsUnbegun}
-use Rattle.skk_top.specs.Page.{LeavesPrinted}
-use Rattle.skk_top.specs.declared.finish.Run.{Run}
+use Rattle.run_endings.specs.Finishes.{EndsUnbegun}
+use Rattle.run_endings.specs.Page.{LeavesPrinted}
+use Rattle.run_endings.specs.declared.finish.Run.{Run}
 
 -- the learned file was opened, and the book was printed as a dictionary file: all of it, or a prefix
 pub record PrintsBook {D : Type 0} (options : DumpOptions) (run : Run D) (out : MovedSink) (disk : MovedDisk)

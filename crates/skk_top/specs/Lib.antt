@@ -3,15 +3,13 @@ pub mod CheckedFiles
 pub mod Dictionaries
 pub mod Disks
 pub mod DumpCommand
-pub mod Finishes
+pub mod Failures
 pub mod LoadCommand
 pub mod NamedFiles
-pub mod Page
 pub mod Playing
 pub mod RunFiles
 pub mod RunRules
 pub mod ServeCommand
-pub mod Status
 pub mod TypeCommand
 pub mod TypedTasks
 pub mod Typing

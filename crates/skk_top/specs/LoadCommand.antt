@@ -25,13 +25,13 @@ use Rattle.script_typing.specs.Sessions.{SessionMap}
 use Rattle.script_typing.specs.Woven.{tasks_of}
 use Rattle.command_line.specs.declared.command.LoadOptions.{LoadOptions}
 use Rattle.skk_top.specs.Disks.{DiskNow, MovedDisk, RefusesLearned, IsOpening, KeepsDisk}
-use Rattle.skk_top.specs.Finishes.{EndsUnbegun}
-use Rattle.skk_top.specs.Page.{LeavesPrinted}
-use Rattle.skk_top.specs.Status.{Ended, ended_by}
+use Rattle.run_endings.specs.Finishes.{EndsUnbegun}
+use Rattle.run_endings.specs.Page.{LeavesPrinted}
+use Rattle.run_endings.specs.Status.{Ended, ended_by}
 use Rattle.skk_top.specs.TypeCommand.{KeepsChronicle}
 use Rattle.skk_top.specs.WeaveCommand.{KeepsCallers}
-use Rattle.skk_top.specs.declared.fault.RunFault.TheVariants.{Memory}
-use Rattle.skk_top.specs.declared.finish.Run.{Run}
+use Rattle.run_endings.specs.declared.fault.RunFault.TheVariants.{Memory}
+use Rattle.run_endings.specs.declared.finish.Run.{Run}
 
 -- The summary
 

@@ -6,9 +6,9 @@ use Rattle.skk_outside.specs.Moved.{Told, MovedShelf}
 use Rattle.romaji_rules.specs.declared.rule.Rule.{Rule}
 use Rattle.skk_top.specs.Dictionaries.{HasDictionaryFlaw, IsFirst}
 use Rattle.skk_top.specs.RunRules.{AreRules, HasRulesFlaw, IsNamed}
-use Rattle.skk_top.specs.declared.fault.RunFault.{RunFault}
-use Rattle.skk_top.specs.declared.fault.RunFault.TheVariants.{Refused, Outside, Memory}
-use Rattle.skk_top.specs.declared.run_file.RunFile.TheVariants.{Rules, Dictionary}
+use Rattle.run_endings.specs.declared.fault.RunFault.{RunFault}
+use Rattle.run_endings.specs.declared.fault.RunFault.TheVariants.{Refused, Outside, Memory}
+use Rattle.run_endings.specs.declared.run_file.RunFile.TheVariants.{Rules, Dictionary}
 
 -- the file of the rules, where one is named
 abbrev pub rules_named : Option (List ℕ) → MovedShelf → Option Told

@@ -4,11 +4,11 @@ use Rattle.skk_text.specs.TextFiles.{IsTextFault}
 use Rattle.skk_text.specs.declared.text_file.TextFault.TheVariants as texts
 use Rattle.skk_outside.specs.Faults.{Rose}
 use Rattle.skk_outside.specs.Moved.{Told}
-use Rattle.skk_top.specs.declared.run_file.RunFile.{RunFile}
-use Rattle.skk_top.specs.declared.run_file.Flaw.{Flaw}
-use Rattle.skk_top.specs.declared.run_file.Flaw.TheVariants.{TooLong, Byte, Line}
-use Rattle.skk_top.specs.declared.fault.RunFault.{RunFault}
-use Rattle.skk_top.specs.declared.fault.RunFault.TheVariants.{Refused, Outside, Memory}
+use Rattle.run_endings.specs.declared.run_file.RunFile.{RunFile}
+use Rattle.run_endings.specs.declared.run_file.Flaw.{Flaw}
+use Rattle.run_endings.specs.declared.run_file.Flaw.TheVariants.{TooLong, Byte, Line}
+use Rattle.run_endings.specs.declared.fault.RunFault.{RunFault}
+use Rattle.run_endings.specs.declared.fault.RunFault.TheVariants.{Refused, Outside, Memory}
 
 -- bytes have a flaw by which they are no text within a limit
 abbrev pub HasTextFlaw : ℕ → Flaw → List ℕ → Type 0

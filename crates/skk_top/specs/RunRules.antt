@@ -7,12 +7,12 @@ use Rattle.romaji_rules.specs.RuleFiles.{MayBeRules, file_limit, rules_in}
 use Rattle.romaji_rules.specs.Standard.{standard}
 use Rattle.skk_outside.specs.Moved.{Told}
 use Rattle.skk_top.specs.RunFiles.{HasTextFlaw, RefusesFile}
-use Rattle.skk_top.specs.Status.{fault_of_text}
-use Rattle.skk_top.specs.declared.run_file.RunFile.TheVariants.{Rules}
-use Rattle.skk_top.specs.declared.run_file.Flaw.{Flaw}
-use Rattle.skk_top.specs.declared.run_file.Flaw.TheVariants.{Line}
-use Rattle.skk_top.specs.declared.fault.RunFault.{RunFault}
-use Rattle.skk_top.specs.declared.fault.RunFault.TheVariants.{Refused, Memory}
+use Rattle.run_endings.specs.Status.{fault_of_text}
+use Rattle.run_endings.specs.declared.run_file.RunFile.TheVariants.{Rules}
+use Rattle.run_endings.specs.declared.run_file.Flaw.{Flaw}
+use Rattle.run_endings.specs.declared.run_file.Flaw.TheVariants.{Line}
+use Rattle.run_endings.specs.declared.fault.RunFault.{RunFault}
+use Rattle.run_endings.specs.declared.fault.RunFault.TheVariants.{Refused, Memory}
 
 -- what a fault of a rule file is for the run
 abbrev pub fault_of_rules : RuleFault → RunFault

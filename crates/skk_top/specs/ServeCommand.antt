@@ -26,14 +26,14 @@ use Rattle.command_line.specs.Command.{limit_of}
 use Rattle.command_line.specs.declared.command.ServeOptions.{ServeOptions}
 use Rattle.skk_top.specs.Dictionaries.{AreRowsOf}
 use Rattle.skk_top.specs.Disks.{DiskNow, MovedDisk, RefusesLearned, IsOpening, KeepsDisk}
-use Rattle.skk_top.specs.Finishes.{EndsUnbegun}
+use Rattle.run_endings.specs.Finishes.{EndsUnbegun}
 use Rattle.skk_top.specs.NamedFiles.{rules_named, dictionaries_named, RefusesNamed}
-use Rattle.skk_top.specs.Page.{LeavesPrinted}
+use Rattle.run_endings.specs.Page.{LeavesPrinted}
 use Rattle.skk_top.specs.RunRules.{AreRules}
-use Rattle.skk_top.specs.Status.{Ended, ended_by, with_want}
-use Rattle.skk_top.specs.declared.fault.RunFault.{RunFault}
-use Rattle.skk_top.specs.declared.fault.RunFault.TheVariants.{Outside, Memory}
-use Rattle.skk_top.specs.declared.finish.Run.{Run}
+use Rattle.run_endings.specs.Status.{Ended, ended_by, with_want}
+use Rattle.run_endings.specs.declared.fault.RunFault.{RunFault}
+use Rattle.run_endings.specs.declared.fault.RunFault.TheVariants.{Outside, Memory}
+use Rattle.run_endings.specs.declared.finish.Run.{Run}
 use Rattle.skk_top.specs.declared.serving.Outcome.{Outcome}
 use Rattle.skk_top.specs.declared.serving.Service.{Service}
 

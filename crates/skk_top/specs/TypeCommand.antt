@@ -18,21 +18,21 @@ use Rattle.command_line.specs.Command.{limit_of}
 use Rattle.command_line.specs.declared.command.TypeOptions.{TypeOptions}
 use Rattle.skk_top.specs.Dictionaries.{AreRowsOf}
 use Rattle.skk_top.specs.Disks.{DiskNow, MovedDisk, RefusesLearned, IsOpening, KeepsDisk}
-use Rattle.skk_top.specs.Finishes.{EndsUnbegun}
+use Rattle.run_endings.specs.Finishes.{EndsUnbegun}
 use Rattle.skk_top.specs.NamedFiles.{rules_named, dictionaries_named, RefusesNamed}
-use Rattle.skk_top.specs.Page.{StopsPrinting}
+use Rattle.run_endings.specs.Page.{StopsPrinting}
 use Rattle.skk_top.specs.RunFiles.{RefusesFile}
 use Rattle.skk_top.specs.RunRules.{AreRules}
 use Rattle.key_scripts.specs.Script.{IsScript, IsFirstBad, script_limit}
-use Rattle.skk_top.specs.Status.{Ended, ended_by}
+use Rattle.run_endings.specs.Status.{Ended, ended_by}
 use Rattle.script_typing.specs.Typed.{Asking, typed_alone, typing}
-use Rattle.skk_top.specs.declared.fault.RunFault.{RunFault}
-use Rattle.skk_top.specs.declared.fault.RunFault.TheVariants.{Memory}
-use Rattle.skk_top.specs.declared.finish.Run.{Run}
+use Rattle.run_endings.specs.declared.fault.RunFault.{RunFault}
+use Rattle.run_endings.specs.declared.fault.RunFault.TheVariants.{Memory}
+use Rattle.run_endings.specs.declared.finish.Run.{Run}
 use Rattle.key_scripts.specs.declared.line.Line.{Line}
-use Rattle.skk_top.specs.declared.run_file.Flaw.{Flaw}
-use Rattle.skk_top.specs.declared.run_file.Flaw.TheVariants as flaws
-use Rattle.skk_top.specs.declared.run_file.RunFile.TheVariants.{Script}
+use Rattle.run_endings.specs.declared.run_file.Flaw.{Flaw}
+use Rattle.run_endings.specs.declared.run_file.Flaw.TheVariants as flaws
+use Rattle.run_endings.specs.declared.run_file.RunFile.TheVariants.{Script}
 
 -- What reading leaves
 

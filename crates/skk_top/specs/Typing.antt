@@ -5,9 +5,9 @@ use Rattle.skk_outside.specs.Written.{AppendsPrefix}
 use Rattle.romaji_rules.specs.declared.rule.Rule.{Rule}
 use Rattle.skk_calls.specs.Interactions.{printed, asked, Dialog, Begins, Leads, calls_of, answers_of}
 use Rattle.skk_text.specs.declared.memory.Memory.{Memory}
-use Rattle.skk_top.specs.Page.{Printed}
+use Rattle.run_endings.specs.Page.{Printed}
 use Rattle.script_typing.specs.Sessions.{SessionMap}
-use Rattle.skk_top.specs.Status.{Ended}
+use Rattle.run_endings.specs.Status.{Ended}
 use Rattle.skk_top.specs.TypeCommand.{Prints}
 use Rattle.script_typing.specs.Typed.{Asking, typing}
 use Rattle.key_scripts.specs.declared.line.Line.{Line}

@@ -18,9 +18,9 @@ use Rattle.script_typing.specs.Pages.{text_of_pages, woven_pages}
 use Rattle.script_typing.specs.Typed.{closing_lines, typed_alone}
 use Rattle.script_typing.specs.Woven.{Tasks, tasks_of, numbers_printed, answers_by, woven, are_apart}
 use Rattle.skk_top.specs.Disks.{DiskNow, KeepsDisk}
-use Rattle.skk_top.specs.Page.{StopsPrinting}
-use Rattle.skk_top.specs.Status.{Ended, ended_by}
-use Rattle.skk_top.specs.declared.finish.Run.{Run}
+use Rattle.run_endings.specs.Page.{StopsPrinting}
+use Rattle.run_endings.specs.Status.{Ended, ended_by}
+use Rattle.run_endings.specs.declared.finish.Run.{Run}
 
 -- tasks, and numbers of sessions, are those of the lines of a script
 pub record AreCutOf (lines : List Line) (tasks : Tasks) (order : List ℕ) : Type 0 where

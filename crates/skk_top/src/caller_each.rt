@@ -14,14 +14,13 @@ ghost use Rattle.skk_top.specs.Disks.{disk_now, moved_disk, RunsOver, StandsSinc
 ghost use Rattle.skk_top.specs.TypeCommand.{LeavesBegun, LeavesTyped};
 ghost use Rattle.skk_top.specs.WeaveCommand.{AreCutOf, LeavesPages, WeavesLines};
 
-use crate::fault::RunFault;
-use crate::finish::{Run, end_by};
 use crate::manner::Manner;
 use crate::type_command::{Begun, begin};
 use crate::typed_tasks::type_by_callers;
 use crate::weaving::print_woven;
 use command_line::TypeOptions;
 use key_scripts::Script;
+use run_endings::{Run, RunFault, end_by};
 use script_typing::{
     Cut, Typed, callers_have_asked, callers_have_ended, cut_script, pages_are_woven,
     typists_apart_type_alone,

@@ -4,8 +4,8 @@ ghost use Rattle.skk_top.specs.CheckCommand.{LeavesChecked};
 
 use crate::checking::print_listed;
 use crate::dictionary::read_dictionary;
-use crate::finish::Run;
 use command_line::Word;
+use run_endings::Run;
 use skk_outside::{Shelf, Sink};
 use std::alloc::Global;
 

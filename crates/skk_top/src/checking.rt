@@ -3,11 +3,10 @@ ghost use Rattle.std.specs.Str.{chars};
 ghost use Rattle.skk_outside.specs.Moved.{moved_sink};
 ghost use Rattle.skk_outside.specs.Written.{AppendsPrefix};
 ghost use Rattle.skk_top.specs.CheckedFiles.{reason_name, bad_line, bad_lines, count_of, counts_line, checked};
-ghost use Rattle.skk_top.specs.Page.{Printed, LeavesPrinted, StopsPrinting};
+ghost use Rattle.run_endings.specs.Page.{Printed, LeavesPrinted, StopsPrinting};
 
-use crate::fault::RunFault;
-use crate::page::{print, print_full};
 use dict_format::{BadLine, LineReason, Listed};
+use run_endings::{RunFault, print, print_full};
 use script_typing::push_number;
 use skk_calls::{Part, Row};
 use skk_outside::Sink;

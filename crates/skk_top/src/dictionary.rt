@@ -3,11 +3,11 @@ ghost use Rattle.dict_format.specs.FileLines.{Lists, ListsRows};
 ghost use Rattle.skk_top.specs.Dictionaries.{AreRowsOf, HasDictionaryFlaw, RefusesDictionaries, fault_of_file};
 ghost use Rattle.skk_top.specs.RunFiles.{RefusesFile, RefusesBytes};
 
-use crate::fault::RunFault;
-use crate::run_file::{RunFile, read_run_file};
+use crate::run_file::read_run_file;
 use command_line::Word;
 use dict_files::{DictionaryFile, DictionaryFiles};
 use dict_format::{FILE_LIMIT, FileFault, Listed, read_file};
+use run_endings::{RunFault, RunFile};
 use skk_outside::Shelf;
 use skk_text::Bytes;
 use std::alloc::Global;

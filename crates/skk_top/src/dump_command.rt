@@ -7,15 +7,13 @@ ghost use Rattle.skk_outside.specs.Moved.{moved_sink};
 ghost use Rattle.command_line.specs.Command.{book_to_dump};
 ghost use Rattle.skk_top.specs.Disks.{moved_disk, StandsSince};
 ghost use Rattle.skk_top.specs.DumpCommand.{LeavesDumped};
-ghost use Rattle.skk_top.specs.Page.{LeavesPrinted};
+ghost use Rattle.run_endings.specs.Page.{LeavesPrinted};
 
-use crate::fault::RunFault;
-use crate::finish::Run;
-use crate::page::print;
 use command_line::{DumpOptions, LIMIT, dump_options, words_of};
 use dict_files::DictionaryFiles;
 use dict_layers::System;
 use learned_store::{Store, files_are_recovered_in_one_way};
+use run_endings::{Run, RunFault, print};
 use skk_disk::Disk;
 use skk_outside::Sink;
 use skk_text::Text;

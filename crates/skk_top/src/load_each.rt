@@ -13,12 +13,10 @@ ghost use Rattle.script_typing.specs.MapLaws.{Ascend};
 ghost use Rattle.script_typing.specs.Woven.{tasks_of};
 ghost use Rattle.command_line.specs.Command.{load_to_share};
 ghost use Rattle.skk_top.specs.Disks.{disk_now, moved_disk, RunsOver, StandsSince};
-ghost use Rattle.skk_top.specs.Finishes.{EndsUnbegun};
+ghost use Rattle.run_endings.specs.Finishes.{EndsUnbegun};
 ghost use Rattle.skk_top.specs.LoadCommand.{load_lines, summed, LeavesLoaded, LoadsTasks};
-ghost use Rattle.skk_top.specs.Page.{LeavesPrinted};
+ghost use Rattle.run_endings.specs.Page.{LeavesPrinted};
 
-use crate::fault::RunFault;
-use crate::finish::{Run, end_by};
 use crate::load_command::{Load, draw_load};
 use crate::load_opening::{open_load, options_of};
 use crate::opening::end_unopened;
@@ -28,6 +26,7 @@ use command_line::LoadOptions;
 use key_scripts::Line;
 use learned_store::Store;
 use romaji_rules::Rules;
+use run_endings::{Run, RunFault, end_by};
 use script_typing::{
     Typed, callers_have_asked, callers_have_ended, cut_lines, sessions_of_their_own_are_apart,
     typists_apart_play_alone,

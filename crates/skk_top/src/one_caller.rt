@@ -11,8 +11,6 @@ ghost use Rattle.learned_store.specs.Stores.{opening_now, Keeps};
 ghost use Rattle.skk_top.specs.Disks.{disk_now, moved_disk, RunsOver, StandsSince};
 ghost use Rattle.skk_top.specs.TypeCommand.{LeavesBegun, LeavesTyped, TypesLines};
 
-use crate::fault::RunFault;
-use crate::finish::{Run, end_by};
 use crate::manner::Manner;
 use crate::type_command::{Begun, begin};
 use crate::typing::type_script;
@@ -20,6 +18,7 @@ use command_line::TypeOptions;
 use key_scripts::Script;
 use learned_store::{Alone, LearnedName, Store};
 use romaji_rules::Rules;
+use run_endings::{Run, RunFault, end_by};
 use skk_disk::Disk;
 use skk_outside::{Shelf, Sink, Source};
 use std::alloc::Global;

@@ -2,12 +2,12 @@ ghost use Rattle.std.specs.Prelude.{◌≡◌, ◌≤◌, Some, IfOk, IfErr, IfS
 ghost use Rattle.std.specs.Option.{option_map};
 ghost use Rattle.skk_top.specs.RunFiles.{RefusesFile, RefusesBytes};
 ghost use Rattle.skk_top.specs.RunRules.{AreRules, HaveRules, HasRulesFlaw, RefusesRules, fault_of_rules};
-ghost use Rattle.skk_top.specs.declared.run_file.RunFile.TheVariants.{Rules};
+ghost use Rattle.run_endings.specs.declared.run_file.RunFile.TheVariants.{Rules};
 
-use crate::fault::RunFault;
-use crate::run_file::{Flaw, RunFile, read_run_file};
+use crate::run_file::read_run_file;
 use command_line::Word;
 use romaji_rules::{RULE_FILE_LIMIT, RuleFault, Rules};
+use run_endings::{Flaw, RunFault, RunFile};
 use skk_outside::Shelf;
 use std::alloc::Global;
 

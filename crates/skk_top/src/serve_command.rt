@@ -13,14 +13,13 @@ ghost use Rattle.skk_top.specs.Disks.{disk_now, moved_disk, RunsOver, StandsSinc
 ghost use Rattle.skk_top.specs.ServeCommand.{LeavesServed, EndsUnasked, ServesOpened, ServesConnections};
 ghost use Rattle.skk_top.specs.ServeCommand.{moved_listener};
 
-use crate::fault::RunFault;
-use crate::finish::{Run, end_wanting};
 use crate::opening::{Table, end_unopened, open_learned, read_table};
 use crate::serving::{Outcome, Service, serve_port};
 use command_line::ServeOptions;
 use desk_history::{DeskName, History, Pen, RollSeat};
 use learned_store::{LearnedName, Store};
 use romaji_rules::Rules;
+use run_endings::{Run, RunFault, end_wanting};
 use shared_desk::{Desk, Roll, Slips};
 use skk_disk::Disk;
 use skk_outside::{Gate, Listener, Shelf, Sink};

@@ -3,13 +3,12 @@ ghost use Rattle.std.specs.List.{list_any};
 ghost use Rattle.skk_outside.specs.Moved.{moved_sink};
 ghost use Rattle.skk_server.specs.Services.{seen_listener};
 ghost use Rattle.skk_server.specs.Visits.{seen_link, seen_caller};
-ghost use Rattle.skk_top.specs.Page.{LeavesPrinted, Writes};
+ghost use Rattle.run_endings.specs.Page.{LeavesPrinted, Writes};
 ghost use Rattle.skk_top.specs.ServeCommand.{ServesByOffice, TellsEnd, moved_listener, ready_line, served_line};
 ghost use Rattle.skk_top.specs.ServeCommand.{wants_memory};
 
-use crate::fault::{RunFault, write_numbered};
-use crate::page::write;
 use romaji_rules::Rules;
+use run_endings::{RunFault, write, write_numbered};
 use skk_calls::Office;
 use skk_outside::{Failed, Gate, Listener, Sink};
 use skk_server::{End, Served, ServedEnd, serve_all};

@@ -2,11 +2,11 @@ ghost use Rattle.std.specs.Prelude.{◌≡◌, ◌≤◌, ◌*◌, ◌++◌, OnO
 ghost use Rattle.std.specs.Str.{chars};
 ghost use Rattle.skk_outside.specs.Moved.{moved_sink};
 ghost use Rattle.skk_top.specs.LoadCommand.{number_line, summary, summed, text_bytes};
-ghost use Rattle.skk_top.specs.Page.{LeavesPrinted};
+ghost use Rattle.run_endings.specs.Page.{LeavesPrinted};
 
 use crate::dump_command::print_text;
-use crate::fault::RunFault;
 use command_line::LoadOptions;
+use run_endings::RunFault;
 use script_typing::push_number;
 use session_machine::Session;
 use skk_calls::Tally;

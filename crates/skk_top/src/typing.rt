@@ -3,16 +3,15 @@ ghost use Rattle.std.specs.List.{list_all};
 ghost use Rattle.skk_outside.specs.Moved.{moved_sink};
 ghost use Rattle.skk_outside.specs.Written.{AppendsPrefix};
 ghost use Rattle.session_machine.specs.Session.{Session, new_session};
-ghost use Rattle.skk_top.specs.Page.{Printed, StopsPrinting};
+ghost use Rattle.run_endings.specs.Page.{Printed, StopsPrinting};
 ghost use Rattle.key_scripts.specs.Script.{opens_well};
 ghost use Rattle.script_typing.specs.Sessions.{session_at, session_or_new, with_session};
 ghost use Rattle.script_typing.specs.Typed.{typing, closing_lines};
 ghost use Rattle.skk_top.specs.Typing.{stand, TypesLine, Reaches, Breaks, LeavesLines};
 
-use crate::fault::RunFault;
-use crate::page::{print, print_full};
 use key_scripts::Line;
 use romaji_rules::Rules;
+use run_endings::{RunFault, print, print_full};
 use script_typing::{push_closing_line, push_output_line};
 use session_machine::Session;
 use skk_calls::Caller;

@@ -2,12 +2,11 @@ ghost use Rattle.std.specs.Prelude.{◌≡◌, ◌≤◌, [], OnOk, OnErr, IfErr
 ghost use Rattle.skk_outside.specs.Moved.{moved_sink};
 ghost use Rattle.skk_outside.specs.Written.{AppendsPrefix};
 ghost use Rattle.script_typing.specs.Pages.{text_of_pages, woven_pages};
-ghost use Rattle.skk_top.specs.Page.{Printed, StopsPrinting};
+ghost use Rattle.run_endings.specs.Page.{Printed, StopsPrinting};
 ghost use Rattle.skk_top.specs.WeaveCommand.{LeavesPages};
 
-use crate::fault::RunFault;
-use crate::page::{print, print_full};
 use crate::typing::close_sessions;
+use run_endings::{RunFault, print, print_full};
 use script_typing::Typed;
 use skk_outside::Sink;
 use skk_text::Text;

@@ -6,10 +6,11 @@ use Rattle.command_line.specs.OptionLaws.{some-of}
 use Rattle.command_line.specs.declared.command.TypeOptions.{TypeOptions}
 use Rattle.skk_top.specs.Disks.{moved_disk}
 use Rattle.skk_top.specs.DumpCommand.{LeavesDumped}
-use Rattle.skk_top.specs.Finishes.{run_of, HasFailed}
+use Rattle.run_endings.specs.Finishes.{run_of}
+use Rattle.skk_top.specs.Failures.{HasFailed}
 use Rattle.skk_top.specs.LoadCommand.{LeavesLoaded, LoadsLines}
 use Rattle.skk_top.specs.TypeCommand.{LeavesTyped, TypesLines}
-use Rattle.skk_top.specs.declared.finish.Finish.{Finish}
+use Rattle.run_endings.specs.declared.finish.Finish.{Finish}
 use Rattle.skk_top.proofs.Disks.{stands-finish, stands-quiet}
 use Rattle.skk_top.proofs.Outside.{outside-loaded, outside-typed}
 use Rattle.skk_top.proofs.alone.run_alone.Goals as goal

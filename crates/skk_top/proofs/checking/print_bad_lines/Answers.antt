@@ -1,7 +1,7 @@
 use Rattle.std.proofs.Common.{arith}
 use Rattle.dict_format.specs.declared.file.BadLine.{BadLine}
 use Rattle.dict_format.specs.declared.reason.LineReason.TheVariants.{LongLine}
-use Rattle.skk_top.proofs.Pages.{on_err, Printed-prefix, Printed-prefix_of_page, Printed-written}
+use Rattle.run_endings.specs.PageLaws.{on_err, Printed-prefix, Printed-prefix_of_page, Printed-written}
 use Rattle.skk_top.proofs.PrintedChecks.{printed-bad_line}
 use Rattle.skk_top.proofs.checking.print_bad_lines.Goals as goal
 

@@ -1,6 +1,6 @@
 use Rattle.std.proofs.Common.{◌≤◌, drop}
 use Rattle.skk_top.specs.CheckedFiles.{bad_lines}
-use Rattle.skk_top.specs.Page.{Printed}
+use Rattle.run_endings.specs.Page.{Printed}
 use Rattle.skk_top.proofs.checking.print_bad_lines.Given as goal
 
 -- what was written, the page, and the bad lines left are all bad lines

@@ -3,8 +3,8 @@ use Rattle.std.proofs.lemmas.Str.{encodes-append}
 use Rattle.skk_outside.specs.Moved.{moved_sink}
 use Rattle.skk_outside.specs.Written.{AppendsPrefix}
 use Rattle.skk_top.specs.CheckedFiles.{bad_lines, counts_line, checked}
-use Rattle.skk_top.specs.declared.fault.RunFault.TheVariants.{Outside, Memory}
-use Rattle.skk_top.proofs.Pages.{AppendsPrefix-more, Printed-prefix, Printed-prefix_of_page, Printed-whole}
+use Rattle.run_endings.specs.declared.fault.RunFault.TheVariants.{Outside, Memory}
+use Rattle.run_endings.specs.PageLaws.{AppendsPrefix-more, Printed-prefix, Printed-prefix_of_page, Printed-whole}
 use Rattle.skk_top.proofs.PrintedChecks.{printed-fault, Printed-longer}
 use Rattle.skk_top.proofs.checking.print_lines.Goals as goal
 

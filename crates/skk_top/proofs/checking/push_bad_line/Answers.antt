@@ -1,7 +1,7 @@
 use Rattle.std.proofs.Common.{◌≡◌, ◌++◌, ◌∷◌, ◌∙◌, [], ap, codes}
 use Rattle.std.specs.Fmt.{decimal}
 use Rattle.skk_top.specs.CheckedFiles.{reason_name}
-use Rattle.skk_top.proofs.Pages.{each_ok}
+use Rattle.run_endings.specs.PageLaws.{each_ok}
 use Rattle.skk_top.proofs.PrintedChecks.{more}
 use Rattle.skk_top.proofs.Words.{line}
 use Rattle.skk_top.proofs.checking.push_bad_line.Goals as goal

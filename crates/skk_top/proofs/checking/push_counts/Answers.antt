@@ -2,7 +2,7 @@ use Rattle.std.proofs.Common.{◌≡◌, ◌++◌, ◌∷◌, ◌∙◌, [], ap,
 use Rattle.std.specs.Fmt.{decimal}
 use Rattle.skk_calls.specs.declared.part.Part.TheVariants.{Nasi, Ari}
 use Rattle.skk_top.specs.CheckedFiles.{count_of}
-use Rattle.skk_top.proofs.Pages.{each_ok}
+use Rattle.run_endings.specs.PageLaws.{each_ok}
 use Rattle.skk_top.proofs.PrintedChecks.{more}
 use Rattle.skk_top.proofs.Words.{okuri_ari, okuri_nasi, bad}
 use Rattle.skk_top.proofs.checking.push_counts.Goals as goal

@@ -6,7 +6,7 @@ use Rattle.dict_format.specs.FileLines.{ListsRows}
 use Rattle.skk_outside.specs.Moved.{Told}
 use Rattle.skk_top.specs.Dictionaries.{AreRowsOf, HasDictionaryFlaw, RefusesDictionaries}
 use Rattle.skk_top.specs.RunFiles.{RefusesFile}
-use Rattle.skk_top.specs.declared.run_file.RunFile.TheVariants.{Dictionary}
+use Rattle.run_endings.specs.declared.run_file.RunFile.TheVariants.{Dictionary}
 use Rattle.skk_top.proofs.Dictionaries.{refuses-first, rows-more}
 use Rattle.skk_top.proofs.RunFiles.{handed-on}
 use Rattle.skk_top.proofs.dictionary.open_dictionaries.Goals as goal

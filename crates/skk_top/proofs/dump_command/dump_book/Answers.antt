@@ -3,7 +3,7 @@ use Rattle.learned_store.specs.Stores.{opening_now}
 use Rattle.skk_outside.specs.Moved.{moved_sink}
 use Rattle.skk_top.specs.Disks.{moved_disk, disk_now, RefusesLearned, StandsSince}
 use Rattle.skk_top.specs.DumpCommand.{LeavesDumped}
-use Rattle.skk_top.specs.declared.finish.Run.{Run}
+use Rattle.run_endings.specs.declared.finish.Run.{Run}
 use Rattle.skk_top.proofs.Disks.{stands-quiet, stands-refused, stands-opened, runs-nothing, opened-so, refuses-learned}
 use Rattle.skk_top.proofs.Runs.{Keeps-self}
 use Rattle.skk_top.proofs.dump_command.dump_book.Goals as goal

@@ -1,6 +1,6 @@
 use Rattle.std.proofs.Common.{subst, List, ℕ, encode_utf8_all}
 use Rattle.skk_outside.specs.Moved.{moved_sink}
-use Rattle.skk_top.specs.Page.{LeavesPrinted}
+use Rattle.run_endings.specs.Page.{LeavesPrinted}
 use Rattle.skk_top.proofs.dump_command.print_book.Goals as goal
 
 pub returns : goal.returns

@@ -1,7 +1,7 @@
 use Rattle.std.proofs.Common.{arith, encode_utf8_all}
 use Rattle.skk_outside.specs.Moved.{moved_sink}
-use Rattle.skk_top.specs.declared.fault.RunFault.TheVariants.{Outside}
-use Rattle.skk_top.proofs.Pages.{AppendsPrefix-whole}
+use Rattle.run_endings.specs.declared.fault.RunFault.TheVariants.{Outside}
+use Rattle.run_endings.specs.PageLaws.{AppendsPrefix-whole}
 use Rattle.skk_top.proofs.PrintedChecks.{printed-fault, Appends-kept}
 use Rattle.skk_top.proofs.dump_command.print_text.Goals as goal
 

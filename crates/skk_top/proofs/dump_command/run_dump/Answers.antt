@@ -6,7 +6,7 @@ use Rattle.command_line.specs.RangeLaws.{books-in-range}
 use Rattle.command_line.specs.declared.command.DumpOptions.{DumpOptions}
 use Rattle.skk_top.specs.Disks.{moved_disk}
 use Rattle.skk_top.specs.DumpCommand.{LeavesDumped}
-use Rattle.skk_top.specs.declared.finish.Run.{Run}
+use Rattle.run_endings.specs.declared.finish.Run.{Run}
 use Rattle.skk_top.proofs.Disks.{stands-quiet}
 use Rattle.skk_top.proofs.Runs.{Keeps-self}
 use Rattle.skk_top.proofs.dump_command.run_dump.Goals as goal

@@ -3,9 +3,9 @@ use Rattle.learned_store.specs.Stores.{opening_now}
 use Rattle.skk_outside.specs.Moved.{moved_sink}
 use Rattle.command_line.specs.declared.command.LoadOptions.{LoadOptions}
 use Rattle.skk_top.specs.Disks.{disk_now}
-use Rattle.skk_top.specs.Finishes.{EndsUnbegun}
+use Rattle.run_endings.specs.Finishes.{EndsUnbegun}
 use Rattle.skk_top.specs.LoadCommand.{LoadsLines}
-use Rattle.skk_top.specs.declared.fault.RunFault.TheVariants.{Memory}
+use Rattle.run_endings.specs.declared.fault.RunFault.TheVariants.{Memory}
 use Rattle.skk_top.proofs.Disks.{runs-quiet}
 use Rattle.skk_top.proofs.load_command.load_by_one.Goals as goal
 

@@ -5,7 +5,7 @@ use Rattle.command_line.specs.OptionLaws.{IfSome-all}
 use Rattle.learned_store.specs.Stores.{opening_now}
 use Rattle.skk_top.specs.Disks.{moved_disk}
 use Rattle.skk_top.specs.LoadCommand.{LeavesLoaded, LoadsLines}
-use Rattle.skk_top.specs.declared.finish.Run.{Run}
+use Rattle.run_endings.specs.declared.finish.Run.{Run}
 use Rattle.skk_top.proofs.LoadWords.{asked_there, of_played, options_in_range, played_of}
 use Rattle.skk_top.proofs.Runs.{Keeps-self}
 use Rattle.skk_top.proofs.load_command.run_load_by_one.Goals as goal

@@ -9,7 +9,7 @@ use Rattle.script_typing.specs.Woven.{Tasks, tasks_of}
 use Rattle.script_typing.specs.Workers.{WorkedBy}
 use Rattle.skk_top.specs.Disks.{disk_now}
 use Rattle.skk_top.specs.LoadCommand.{load_lines, LoadsTasks}
-use Rattle.skk_top.specs.Status.{Ended}
+use Rattle.run_endings.specs.Status.{Ended}
 use Rattle.skk_top.proofs.Disks.{runs-quiet}
 use Rattle.skk_top.proofs.LoadInput.{drawn-give_keys, drawn-numbered}
 use Rattle.skk_top.proofs.SharedLoads.{shares-closed}

@@ -5,7 +5,7 @@ use Rattle.command_line.specs.OptionLaws.{IfSome-all}
 use Rattle.learned_store.specs.Stores.{opening_now}
 use Rattle.skk_top.specs.Disks.{moved_disk}
 use Rattle.skk_top.specs.LoadCommand.{LeavesLoaded, LoadsTasks}
-use Rattle.skk_top.specs.declared.finish.Run.{Run}
+use Rattle.run_endings.specs.declared.finish.Run.{Run}
 use Rattle.skk_top.proofs.LoadWords.{asked_there, of_shared, options_in_range, shared_of}
 use Rattle.skk_top.proofs.Runs.{Keeps-self}
 use Rattle.skk_top.proofs.load_each.run_load_by_each.Goals as goal

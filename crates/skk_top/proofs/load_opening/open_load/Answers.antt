@@ -1,8 +1,8 @@
 use Rattle.std.proofs.Common.{◌∙◌, sym, subst, refl}
 use Rattle.skk_top.specs.Disks.{moved_disk, RefusesLearned}
-use Rattle.skk_top.specs.Finishes.{EndsUnbegun}
+use Rattle.run_endings.specs.Finishes.{EndsUnbegun}
 use Rattle.skk_top.specs.LoadCommand.{load_files}
-use Rattle.skk_top.specs.declared.finish.Run.{Run}
+use Rattle.run_endings.specs.declared.finish.Run.{Run}
 use Rattle.skk_top.proofs.Disks.{stands-quiet, stands-refused, stands-opened, other-opened, opened-so, refuses-learned}
 use Rattle.skk_top.proofs.load_opening.open_load.Goals as goal
 

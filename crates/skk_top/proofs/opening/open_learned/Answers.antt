@@ -1,6 +1,6 @@
 use Rattle.std.proofs.Common.{sym, subst, IsErrAnd}
 use Rattle.skk_top.specs.Disks.{moved_disk, RefusesLearned}
-use Rattle.skk_top.specs.declared.finish.Run.{Run}
+use Rattle.run_endings.specs.declared.finish.Run.{Run}
 use Rattle.skk_top.proofs.Disks.{stands-refused, stands-opened, other-opened, opened-so, refuses-learned}
 use Rattle.skk_top.proofs.opening.open_learned.Goals as goal
 

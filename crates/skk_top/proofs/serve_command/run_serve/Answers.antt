@@ -4,7 +4,7 @@ use Rattle.skk_server.specs.Services.{seen_listener}
 use Rattle.skk_server.specs.Visits.{seen_link}
 use Rattle.skk_top.specs.Disks.{moved_disk, RefusesLearned}
 use Rattle.skk_top.specs.ServeCommand.{EndsUnasked, LeavesServed, ServesOpened, moved_listener}
-use Rattle.skk_top.specs.declared.finish.Run.{Run}
+use Rattle.run_endings.specs.declared.finish.Run.{Run}
 use Rattle.skk_top.proofs.Runs.{Keeps-self}
 use Rattle.skk_top.proofs.serve_command.run_serve.Goals as goal
 

@@ -7,7 +7,7 @@ use Rattle.desk_history.specs.Seats.{CallerState}
 use Rattle.shared_desk.specs.Told.{Stood}
 use Rattle.skk_top.specs.Disks.{disk_now}
 use Rattle.skk_top.specs.ServeCommand.{ServesByOffice, ServesConnections, moved_listener}
-use Rattle.skk_top.specs.Status.{Ended}
+use Rattle.run_endings.specs.Status.{Ended}
 use Rattle.skk_top.proofs.Disks.{keeps-desk}
 use Rattle.skk_top.proofs.Visits.{desk_slips, serves-closed}
 use Rattle.skk_top.proofs.serve_command.serve_at.Goals as goal

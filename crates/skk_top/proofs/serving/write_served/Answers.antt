@@ -1,7 +1,7 @@
 use Rattle.std.proofs.Common.{◌++◌, ◌∷◌, [], codes}
 use Rattle.std.specs.Fmt.{decimal}
 use Rattle.skk_text.specs.Lines.{line_feed}
-use Rattle.skk_top.proofs.Pages.{writes-stopped, writes-then}
+use Rattle.run_endings.specs.PageLaws.{writes-stopped, writes-then}
 use Rattle.skk_top.proofs.serving.write_served.Goals as goal
 
 pub returns-in_err-write_numbered : goal.returns-in_err-write_numbered

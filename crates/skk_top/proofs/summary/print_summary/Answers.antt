@@ -1,9 +1,9 @@
 use Rattle.std.proofs.Common.{◌≡◌, ◌∙◌, ◌++◌, ◌*◌, ap, subst, refl, arith, ℕ, List, [], encode_utf8_all}
 use Rattle.skk_outside.specs.Moved.{moved_sink}
 use Rattle.skk_top.specs.LoadCommand.{summary, summed}
-use Rattle.skk_top.specs.Page.{LeavesPrinted}
-use Rattle.skk_top.specs.declared.fault.RunFault.TheVariants.{Memory}
-use Rattle.skk_top.proofs.Pages.{Appends-none}
+use Rattle.run_endings.specs.Page.{LeavesPrinted}
+use Rattle.run_endings.specs.declared.fault.RunFault.TheVariants.{Memory}
+use Rattle.run_endings.specs.PageLaws.{Appends-none}
 use Rattle.skk_top.proofs.PrintedChecks.{printed-fault}
 use Rattle.skk_top.proofs.summary.print_summary.Goals as goal
 

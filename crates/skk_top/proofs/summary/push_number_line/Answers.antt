@@ -1,7 +1,7 @@
 use Rattle.std.proofs.Common.{◌++◌, ◌∷◌, ◌∙◌, []}
 use Rattle.std.specs.Fmt.{decimal}
 use Rattle.std.specs.Str.{chars}
-use Rattle.skk_top.proofs.Pages.{each_ok}
+use Rattle.run_endings.specs.PageLaws.{each_ok}
 use Rattle.skk_top.proofs.PrintedChecks.{more}
 use Rattle.skk_top.proofs.summary.push_number_line.Goals as goal
 

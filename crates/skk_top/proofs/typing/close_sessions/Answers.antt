@@ -3,8 +3,8 @@ use Rattle.std.specs.Map.Iter.{deref_pair}
 use Rattle.std.proofs.lemmas.Map.Iter.{rest_more}
 use Rattle.script_typing.specs.Printing.{closing_line}
 use Rattle.script_typing.specs.Typed.{closing_lines}
-use Rattle.skk_top.proofs.Pages.{on_err, Printed-prefix, Printed-prefix_of_page, Printed-more, Printed-rest}
-use Rattle.skk_top.proofs.Pages.{Printed-written}
+use Rattle.run_endings.specs.PageLaws.{on_err, Printed-prefix, Printed-prefix_of_page, Printed-more, Printed-rest}
+use Rattle.run_endings.specs.PageLaws.{Printed-written}
 use Rattle.skk_top.proofs.typing.close_sessions.Goals as goal
 
 pub returns-in_err-push_closing_line-clause-err : goal.returns-in_err-push_closing_line-clause-err

@@ -1,5 +1,5 @@
 use Rattle.std.proofs.Common.{◌≤◌, ◌++◌}
-use Rattle.skk_top.specs.Page.{Printed}
+use Rattle.run_endings.specs.Page.{Printed}
 use Rattle.script_typing.specs.Typed.{closing_lines}
 use Rattle.skk_top.proofs.typing.close_sessions.Given as goal
 

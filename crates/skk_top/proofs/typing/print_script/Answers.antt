@@ -1,5 +1,5 @@
 use Rattle.std.proofs.Common.{arith}
-use Rattle.skk_top.specs.declared.fault.RunFault.TheVariants.{Outside}
+use Rattle.run_endings.specs.declared.fault.RunFault.TheVariants.{Outside}
 use Rattle.skk_top.proofs.PrintedChecks.{stops-behind}
 use Rattle.skk_top.proofs.Typed.{breaks-unwritten, leaves-broken, leaves-whole, reaches-closed, reaches-written}
 use Rattle.skk_top.proofs.typing.print_script.Goals as goal

@@ -4,7 +4,7 @@ use Rattle.script_typing.specs.Sessions.{SessionMap}
 use Rattle.script_typing.specs.Typed.{typing}
 use Rattle.skk_top.specs.Typing.{Reaches, stand}
 use Rattle.skk_top.proofs.KeyLines.{breaks-line, reaches-line}
-use Rattle.skk_top.proofs.Pages.{on_err}
+use Rattle.run_endings.specs.PageLaws.{on_err}
 use Rattle.skk_top.proofs.Typed.{breaks-unwritten, reaches-next, reaches-start, reaches-written}
 use Rattle.skk_top.proofs.typing.type_lines.Goals as goal
 

@@ -11,12 +11,13 @@ use Rattle.command_line.specs.RangeLaws.{IsService, ports-in-range}
 use Rattle.command_line.specs.declared.command.ServeOptions.{ServeOptions}
 use Rattle.command_line.specs.declared.command.TypeOptions.{TypeOptions}
 use Rattle.skk_top.specs.Disks.{moved_disk}
-use Rattle.skk_top.specs.Finishes.{run_of, HasFailed}
+use Rattle.run_endings.specs.Finishes.{run_of}
+use Rattle.skk_top.specs.Failures.{HasFailed}
 use Rattle.skk_top.specs.LoadCommand.{LeavesLoaded, LoadsTasks}
 use Rattle.skk_top.specs.ServeCommand.{LeavesServed, moved_listener}
 use Rattle.skk_top.specs.TypeCommand.{LeavesTyped}
 use Rattle.skk_top.specs.WeaveCommand.{WeavesLines}
-use Rattle.skk_top.specs.declared.finish.Finish.{Finish}
+use Rattle.run_endings.specs.declared.finish.Finish.{Finish}
 use Rattle.skk_top.proofs.Disks.{stands-finish}
 use Rattle.skk_top.proofs.Outside.{outside-served, outside-shared, outside-woven}
 use Rattle.skk_top.proofs.waiting.run.Goals as goal

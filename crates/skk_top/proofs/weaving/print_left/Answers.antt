@@ -2,9 +2,9 @@ use Rattle.std.proofs.Common.{◌≡◌, ◌∙◌, ◌++◌, Err, arith, refl, 
 use Rattle.std.specs.Io.KnownBytes.{Appends}
 use Rattle.skk_outside.specs.Written.{AppendsPrefix}
 use Rattle.script_typing.specs.Typed.{closing_lines}
-use Rattle.skk_top.specs.declared.fault.RunFault.TheVariants.{Memory, Outside}
-use Rattle.skk_top.proofs.Pages.{Printed-prefix_of_page, Printed-whole, Printed-written}
-use Rattle.skk_top.proofs.Pages.{AppendsPrefix-whole}
+use Rattle.run_endings.specs.declared.fault.RunFault.TheVariants.{Memory, Outside}
+use Rattle.run_endings.specs.PageLaws.{Printed-prefix_of_page, Printed-whole, Printed-written}
+use Rattle.run_endings.specs.PageLaws.{AppendsPrefix-whole}
 use Rattle.skk_top.proofs.PrintedChecks.{Printed-longer, stops-behind}
 use Rattle.skk_top.proofs.Weaves.{left-all, pages-broken, pages-front, pages-whole}
 use Rattle.skk_top.proofs.weaving.print_left.Goals as goal

@@ -1,7 +1,7 @@
 use Rattle.std.proofs.Common.{◌+◌, ◌∙◌, ap, arith, drop, sym, ◌++◌}
 use Rattle.script_typing.specs.Pages.{text_of_pages, woven_pages}
-use Rattle.skk_top.proofs.Pages.{on_err, Printed-more, Printed-prefix, Printed-prefix_of_page, Printed-rest}
-use Rattle.skk_top.proofs.Pages.{Printed-written}
+use Rattle.run_endings.specs.PageLaws.{on_err, Printed-more, Printed-prefix, Printed-prefix_of_page, Printed-rest}
+use Rattle.run_endings.specs.PageLaws.{Printed-written}
 use Rattle.skk_top.proofs.Weaves.{page-next, page-none}
 use Rattle.skk_top.proofs.weaving.print_pages.Goals as goal
 

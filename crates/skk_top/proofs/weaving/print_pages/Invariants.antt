@@ -1,6 +1,6 @@
 use Rattle.std.proofs.Common.{◌≡◌, ◌≤◌, drop}
 use Rattle.script_typing.specs.Pages.{text_of_pages, woven_pages}
-use Rattle.skk_top.specs.Page.{Printed}
+use Rattle.run_endings.specs.Page.{Printed}
 use Rattle.skk_top.proofs.weaving.print_pages.Given as goal
 
 -- what was written, the page, and the pages left are all pages

@@ -2,7 +2,7 @@ ghost use Rattle.std.specs.Prelude.{◌≡◌, ◌≤◌, ◌++◌, [], ℕ, Lis
 ghost use Rattle.skk_outside.specs.Faults.{Rose};
 ghost use Rattle.skk_outside.specs.Moved.{moved_sink};
 ghost use Rattle.skk_outside.specs.Written.{AppendsPrefix};
-ghost use Rattle.skk_top.specs.Page.{Printed, Writes};
+ghost use Rattle.run_endings.specs.Page.{Printed, Writes};
 
 use skk_outside::{Failed, Sink, write_all};
 use skk_text::Text;

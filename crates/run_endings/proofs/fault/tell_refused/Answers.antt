@@ -1,6 +1,6 @@
-use Rattle.skk_top.specs.Status.{file_words, flaw_words}
-use Rattle.skk_top.proofs.Pages.{writes-stopped, writes-then}
-use Rattle.skk_top.proofs.fault.tell_refused.Goals as goal
+use Rattle.run_endings.specs.Status.{file_words, flaw_words}
+use Rattle.run_endings.specs.PageLaws.{writes-stopped, writes-then}
+use Rattle.run_endings.proofs.fault.tell_refused.Goals as goal
 
 pub returns-in_err-tell_file : goal.returns-in_err-tell_file
 returns-in_err-tell_file g c =

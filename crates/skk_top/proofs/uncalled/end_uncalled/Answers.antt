@@ -1,5 +1,5 @@
 use Rattle.skk_top.proofs.Disks.{stands-finish, stands-quiet}
-use Rattle.skk_top.proofs.fault.end_uncalled.Goals as goal
+use Rattle.skk_top.proofs.uncalled.end_uncalled.Goals as goal
 
 pub returns-clause-stands : goal.returns-clause-stands
 returns-clause-stands g c =

@@ -15,13 +15,14 @@ use Rattle.skk_text.specs.declared.text_file.TextFault.{TextFault}
 use Rattle.skk_text.specs.declared.text_file.TextFault.TheVariants as texts
 use Rattle.key_scripts.specs.declared.script.ScriptFault.{ScriptFault}
 use Rattle.key_scripts.specs.declared.script.ScriptFault.TheVariants as scripts
-use Rattle.skk_top.specs.declared.run_file.RunFile.{RunFile}
-use Rattle.skk_top.specs.declared.run_file.RunFile.TheVariants.{Script, Rules, Dictionary}
-use Rattle.skk_top.specs.declared.run_file.Flaw.{Flaw}
-use Rattle.skk_top.specs.declared.run_file.Flaw.TheVariants.{TooLong, Byte, Line}
-use Rattle.skk_top.specs.declared.fault.RunFault.{RunFault}
-use Rattle.skk_top.specs.declared.fault.RunFault.TheVariants.{Words, Refused, NotJournal, BadRecord, Outside, Memory}
-use Rattle.skk_top.specs.declared.fault.RunFault.TheVariants.{JournalFull}
+use Rattle.run_endings.specs.declared.run_file.RunFile.{RunFile}
+use Rattle.run_endings.specs.declared.run_file.RunFile.TheVariants.{Script, Rules, Dictionary}
+use Rattle.run_endings.specs.declared.run_file.Flaw.{Flaw}
+use Rattle.run_endings.specs.declared.run_file.Flaw.TheVariants.{TooLong, Byte, Line}
+use Rattle.run_endings.specs.declared.fault.RunFault.{RunFault}
+use Rattle.run_endings.specs.declared.fault.RunFault.TheVariants.{Words, Refused, NotJournal, BadRecord}
+use Rattle.run_endings.specs.declared.fault.RunFault.TheVariants.{Outside, Memory}
+use Rattle.run_endings.specs.declared.fault.RunFault.TheVariants.{JournalFull}
 
 -- how a run ends: done, or with a fault
 abbrev pub Ended : Type 0

@@ -1,17 +1,16 @@
-ghost use Rattle.std.specs.Prelude.{◌≡◌, ◌≤◌, ◌++◌, [], Err, codes};
+ghost use Rattle.std.specs.Prelude.{◌≡◌, ◌≤◌, ◌++◌, codes};
 ghost use Rattle.std.specs.Fmt.{decimal};
 ghost use Rattle.skk_outside.specs.Moved.{moved_sink};
-ghost use Rattle.skk_top.specs.Disks.{moved_disk, StandsSince};
-ghost use Rattle.skk_top.specs.Finishes.{finish_of};
-ghost use Rattle.skk_top.specs.Page.{Writes};
-ghost use Rattle.skk_top.specs.Status.{run_status, run_message, Tells, file_words, flaw_words, fault_words, message_of};
+ghost use Rattle.run_endings.specs.Finishes.{finish_of};
+ghost use Rattle.run_endings.specs.Page.{Writes};
+ghost use Rattle.run_endings.specs.Status.{run_status, run_message, Tells, file_words, flaw_words};
+ghost use Rattle.run_endings.specs.Status.{fault_words, message_of};
 
 use crate::finish::{Finish, Run};
 use crate::page::write;
 use crate::run_file::{Flaw, RunFile};
 use itoa::Buffer;
 use key_scripts::ScriptFault;
-use skk_disk::Disk;
 use skk_journal::OpenFault;
 use skk_outside::{Failed, Sink};
 use skk_text::Memory;
@@ -56,17 +55,6 @@ pub fn end_run<D, E: Sink>(run: Run<D>, err: &mut E) -> Finish<D>
     }
 }
 
-/// Ends a run that made no call, with its disk as it was. Takes no memory.
-pub fn end_uncalled<D: Disk, E: Sink>(fault: RunFault, disk: D, err: &mut E) -> Finish<D>
-    ensures finish { result ≡ finish_of (record { ended = Err fault; chronicle = []; disk = disk }) }
-    ensures told { Tells (run_message (Err fault)) (moved_sink E.written E.faults err.old err.new) }
-    ensures counted { E.faults err.old ≤ E.faults err.new }
-    ensures stands { StandsSince result.chronicle
-        (moved_disk D.tells D.seen D.time D.faults D.left_since disk result.disk) }
-{
-    end_run(Run::without_calls(Err(fault), disk), err)
-}
-
 /// Tells a fault on `err`, and answers the status. Takes no memory.
 pub fn tell_end<E: Sink>(ended: Result<(), RunFault>, err: &mut E) -> u8
     ensures status { result ≡ run_status ended }
@@ -84,7 +72,7 @@ pub fn tell_end<E: Sink>(ended: Result<(), RunFault>, err: &mut E) -> u8
 
 impl RunFault {
     ghost use Rattle.std.specs.Prelude.{◌≡◌};
-    ghost use Rattle.skk_top.specs.Status.{status_of};
+    ghost use Rattle.run_endings.specs.Status.{status_of};
 
     // The status that the program exits with.
     fn status(self) -> u8
@@ -184,7 +172,7 @@ pub fn write_numbered<E: Sink>(err: &mut E, before: &[u8], number: u64) -> Resul
 
 impl From<Memory> for RunFault {
     ghost use Rattle.std.specs.Prelude.{◌≡◌};
-    ghost use Rattle.skk_top.specs.declared.fault.RunFault.TheVariants as faults;
+    ghost use Rattle.run_endings.specs.declared.fault.RunFault.TheVariants as faults;
 
     ghost from_gives = { λ _ fault. fault ≡ faults.Memory };
 
@@ -195,7 +183,7 @@ impl From<Memory> for RunFault {
 
 impl From<Failed> for RunFault {
     ghost use Rattle.std.specs.Prelude.{◌≡◌};
-    ghost use Rattle.skk_top.specs.declared.fault.RunFault.TheVariants as faults;
+    ghost use Rattle.run_endings.specs.declared.fault.RunFault.TheVariants as faults;
 
     ghost from_gives = { λ _ fault. fault ≡ faults.Outside };
 
@@ -206,7 +194,7 @@ impl From<Failed> for RunFault {
 
 impl From<ScriptFault> for RunFault {
     ghost use Rattle.std.specs.Prelude.{◌≡◌};
-    ghost use Rattle.skk_top.specs.Status.{fault_of_script};
+    ghost use Rattle.run_endings.specs.Status.{fault_of_script};
 
     ghost from_gives = { λ fault told. told ≡ fault_of_script fault };
 
@@ -223,7 +211,7 @@ impl From<ScriptFault> for RunFault {
 
 impl From<OpenFault> for RunFault {
     ghost use Rattle.std.specs.Prelude.{◌≡◌};
-    ghost use Rattle.skk_top.specs.Status.{fault_of_opening};
+    ghost use Rattle.run_endings.specs.Status.{fault_of_opening};
 
     ghost from_gives = { λ fault told. told ≡ fault_of_opening fault };
 

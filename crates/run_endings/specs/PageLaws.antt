@@ -1,4 +1,4 @@
--- What was printed, as lines are typed and pages are written.
+-- Laws of what was printed, as lines are typed and pages are written.
 use Rattle.std.proofs.Common.{◌≡◌, ◌∙◌, sym, ap, subst, rules, ℕ, Option, Some, None, List, [], ◌++◌, append_assoc}
 use Rattle.std.proofs.Common.{Result, Ok, Err, OnOk, OnErr, IsErrAnd, encode_utf8_all, arith}
 use Rattle.std.proofs.KnownBytes.{Appends-trans}
@@ -6,10 +6,10 @@ use Rattle.std.proofs.lemmas.List.{append-nil}
 use Rattle.std.proofs.lemmas.Str.{encodes-append}
 use Rattle.std.specs.Io.KnownBytes.{Appends}
 use Rattle.skk_outside.specs.Written.{AppendsPrefix}
-use Rattle.skk_top.specs.Page.{Printed}
+use Rattle.run_endings.specs.Page.{Printed}
 use Rattle.skk_outside.specs.Moved.{MovedSink}
 use Rattle.skk_outside.specs.declared.outside.Failed.{Failed}
-use Rattle.skk_top.specs.Page.{Writes}
+use Rattle.run_endings.specs.Page.{Writes}
 
 -- what holds anyway holds at an error
 pub on_err : {T E P : Type 0} (r : Result T E) → P → OnErr r P

@@ -1,13 +1,11 @@
 -- How runs end and the program finishes.
-use Rattle.std.specs.Prelude.{◌≡◌, ◌⊎◌, [], IsErrAnd}
+use Rattle.std.specs.Prelude.{◌≡◌, [], IsErrAnd}
 use Rattle.std.specs.Io.KnownBytes.{Keeps}
-use Rattle.skk_outside.specs.Faults.{Rose}
-use Rattle.skk_outside.specs.Moved.{MovedShelf, MovedSource, MovedSink}
-use Rattle.skk_top.specs.Disks.{MovedDisk}
-use Rattle.skk_top.specs.Status.{run_status}
-use Rattle.skk_top.specs.declared.fault.RunFault.{RunFault}
-use Rattle.skk_top.specs.declared.finish.Finish.{Finish}
-use Rattle.skk_top.specs.declared.finish.Run.{Run}
+use Rattle.skk_outside.specs.Moved.{MovedSink}
+use Rattle.run_endings.specs.Status.{run_status}
+use Rattle.run_endings.specs.declared.fault.RunFault.{RunFault}
+use Rattle.run_endings.specs.declared.finish.Finish.{Finish}
+use Rattle.run_endings.specs.declared.finish.Run.{Run}
 
 -- the finish of a run: its status, how it ended, and what it called
 abbrev pub finish_of : {D : Type 0} → Run D → Finish D
@@ -23,9 +21,3 @@ pub record EndsUnbegun {D : Type 0} (Cause : RunFault → Type 0) (run : Run D) 
   pub cause : IsErrAnd run.ended Cause
   pub uncalled : run.chronicle ≡ []
   pub unwritten : Keeps out.written out.written'
-
--- a call on the shelf, the source, the sink or the disk failed
-abbrev pub HasFailed : MovedShelf → MovedSource → MovedSink → MovedDisk → Type 0
-HasFailed shelf input out disk =
-    Rose shelf.faults shelf.faults'
-    ⊎ (Rose input.faults input.faults' ⊎ (Rose out.faults out.faults' ⊎ Rose disk.before.faults disk.after.faults))

@@ -1,5 +1,5 @@
 ghost use Rattle.std.specs.Prelude.{◌≡◌, []};
-ghost use Rattle.skk_top.specs.Status.{ended_by, with_want};
+ghost use Rattle.run_endings.specs.Status.{ended_by, with_want};
 
 use crate::fault::RunFault;
 use skk_calls::{Chronicle, Tally};

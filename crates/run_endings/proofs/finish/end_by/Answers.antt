@@ -1,4 +1,4 @@
-use Rattle.skk_top.proofs.finish.end_by.Goals as goal
+use Rattle.run_endings.proofs.finish.end_by.Goals as goal
 
 -- no want of memory leaves the tally
 pub returns : goal.returns

@@ -1,7 +1,7 @@
 use Rattle.std.proofs.Common.{codes}
-use Rattle.skk_top.specs.Status.{fault_words}
-use Rattle.skk_top.proofs.Pages.{writes-stopped, writes-then}
-use Rattle.skk_top.proofs.fault.RunFault.tell_head.Goals as goal
+use Rattle.run_endings.specs.Status.{fault_words}
+use Rattle.run_endings.specs.PageLaws.{writes-stopped, writes-then}
+use Rattle.run_endings.proofs.fault.RunFault.tell_head.Goals as goal
 
 pub returns-in_err-write : goal.returns-in_err-write
 returns-in_err-write g c =

@@ -1,8 +1,8 @@
 use Rattle.std.proofs.Common.{◌++◌, ◌∷◌, [], codes}
 use Rattle.skk_text.specs.Lines.{line_feed}
-use Rattle.skk_top.specs.Status.{fault_words}
-use Rattle.skk_top.proofs.Pages.{writes-stopped, writes-then}
-use Rattle.skk_top.proofs.fault.RunFault.tell.Goals as goal
+use Rattle.run_endings.specs.Status.{fault_words}
+use Rattle.run_endings.specs.PageLaws.{writes-stopped, writes-then}
+use Rattle.run_endings.proofs.fault.RunFault.tell.Goals as goal
 
 pub returns-in_err-tell_head : goal.returns-in_err-tell_head
 returns-in_err-tell_head g c =

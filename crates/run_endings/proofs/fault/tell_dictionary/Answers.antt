@@ -1,7 +1,7 @@
 use Rattle.std.proofs.Common.{◌++◌, codes}
 use Rattle.std.specs.Fmt.{decimal}
-use Rattle.skk_top.proofs.Pages.{writes-stopped, writes-then}
-use Rattle.skk_top.proofs.fault.tell_dictionary.Goals as goal
+use Rattle.run_endings.specs.PageLaws.{writes-stopped, writes-then}
+use Rattle.run_endings.proofs.fault.tell_dictionary.Goals as goal
 
 pub returns-in_err-write_numbered : goal.returns-in_err-write_numbered
 returns-in_err-write_numbered g c =

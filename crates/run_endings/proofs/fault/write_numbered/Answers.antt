@@ -1,7 +1,7 @@
 use Rattle.std.proofs.Common.{◌≡◌, ◌∙◌}
 use Rattle.std.specs.Fmt.{decimal}
-use Rattle.skk_top.proofs.Pages.{writes-stopped, writes-then}
-use Rattle.skk_top.proofs.fault.write_numbered.Goals as goal
+use Rattle.run_endings.specs.PageLaws.{writes-stopped, writes-then}
+use Rattle.run_endings.proofs.fault.write_numbered.Goals as goal
 
 pub returns-in_err-write : goal.returns-in_err-write
 returns-in_err-write g c =

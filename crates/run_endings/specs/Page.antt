@@ -5,9 +5,9 @@ use Rattle.skk_outside.specs.Faults.{Rose}
 use Rattle.skk_outside.specs.Moved.{Told, MovedSink}
 use Rattle.skk_outside.specs.Written.{AppendsPrefix}
 use Rattle.skk_outside.specs.declared.outside.Failed.{Failed}
-use Rattle.skk_top.specs.Status.{Ended}
-use Rattle.skk_top.specs.declared.fault.RunFault.{RunFault}
-use Rattle.skk_top.specs.declared.fault.RunFault.TheVariants.{Outside, Memory}
+use Rattle.run_endings.specs.Status.{Ended}
+use Rattle.run_endings.specs.declared.fault.RunFault.{RunFault}
+use Rattle.run_endings.specs.declared.fault.RunFault.TheVariants.{Outside, Memory}
 
 -- what the writing of bytes leaves in a sink: they were written, or a prefix of them where a write failed
 pub record Writes (bytes : List ℕ) (result : Result (Unit {0}) Failed) (sink : MovedSink) : Type 0 where

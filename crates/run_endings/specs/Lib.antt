@@ -1,0 +1,4 @@
+pub mod Finishes
+pub mod Page
+pub mod PageLaws
+pub mod Status
