@@ -1,16 +1,14 @@
 -- What own calls leave of the book of their owner, and of the others.
-use Rattle.std.proofs.Common.{◌≡◌, ◌∙◌, ap, sym, subst, refl, ℕ, ◌+◌, ◌==◌, Bool, true, false, cond, not, nat_lt}
+use Rattle.std.proofs.Common.{◌≡◌, ◌∙◌, ap, sym, subst, refl, arith, ℕ, ◌+◌, ◌==◌, Bool, true, false, nat_lt}
 use Rattle.std.proofs.Common.{Option, None, Some, List, [], ◌∷◌, find}
-use Rattle.std.specs.List.{cons_option, list_all}
-use Rattle.std.proofs.lemmas.Bool.{and_parts, eq-eqb, eqb-true}
-use Rattle.skk_calls.specs.declared.answer.Answer.{Answer}
-use Rattle.skk_calls.specs.declared.answer.Answer.TheVariants.{Done, Refused}
+use Rattle.std.specs.List.{list_all}
+use Rattle.std.proofs.lemmas.Bool.{eq-eqb, eqb-true}
 use Rattle.skk_calls.specs.declared.book.NumberedBook.{NumberedBook}
 use Rattle.skk_calls.specs.declared.call.Call.{Call}
 use Rattle.skk_calls.specs.declared.call.Call.TheVariants.{Lookup, Complete, Learn, Purge, Unlearn}
 use Rattle.skk_calls.specs.declared.entry.Entry.{Entry}
 use Rattle.skk_calls.specs.Dictionary.{after, moves, state_moved}
-use Rattle.skk_calls.specs.Histories.{after_calls, after_answer, state_after}
+use Rattle.skk_calls.specs.Histories.{after_calls, state_after}
 use Rattle.skk_calls.specs.Learning.{learnt, purged, unlearnt}
 use Rattle.skk_calls.specs.Openings.{is_reply}
 use Rattle.skk_calls.specs.Orders.{insert_by}
@@ -18,20 +16,11 @@ use Rattle.skk_calls.specs.Rows.{RowKey, Row}
 use Rattle.skk_calls.specs.States.{State, book_at, book_rows, book_count, rows_of, count_of, row_at, with_row}
 use Rattle.skk_calls.specs.States.{without_book, state_with}
 use Rattle.dict_laws.specs.OwnBooks.{owner}
-use Rattle.tally_laws.proofs.Parts.{parts, part-own, part-other, with-first}
+use Rattle.tally_laws.proofs.Parts.{parts}
 
 -- the books of a number among books
 abbrev pub books_of : ℕ → List NumberedBook → List NumberedBook
 books_of number books = parts (λ (book : NumberedBook). book.number) (λ (book : NumberedBook). book) number books
-
--- one book more, that is of the number or not
-own-more : (book : NumberedBook) (books : List NumberedBook) (number : ℕ) → (book.number == number) ≡ true
-    → books_of number (book ∷ books) ≡ book ∷ books_of number books
-own-more = part-own (λ (book : NumberedBook). book.number) (λ (book : NumberedBook). book)
-
-other-more : (book : NumberedBook) (books : List NumberedBook) (number : ℕ) → (book.number == number) ≡ false
-    → books_of number (book ∷ books) ≡ books_of number books
-other-more = part-other (λ (book : NumberedBook). book.number) (λ (book : NumberedBook). book)
 
 -- the first of them is the one that is found
 abbrev first_of : List NumberedBook → Option NumberedBook
@@ -41,71 +30,29 @@ first_of (book ∷ books) = Some book
 found-first : (books : List NumberedBook) (number : ℕ)
     → find (λ book. book.number == number) books ≡ first_of (books_of number books)
 found-first [] number = refl
-found-first (book ∷ books) number = by (book.number == number) (found-first books number)
-  where
-    by : (b : Bool) → find (λ other. other.number == number) books ≡ first_of (books_of number books)
-        → cond b (Some book) (find (λ other. other.number == number) books)
-        ≡ first_of (cons_option (cond b (Some book) None) (books_of number books))
-    by true rest = refl
-    by false rest = rest
+found-first (book ∷ books) number = grind (arith, found-first books number)
 
 -- a book that is put at its place among others
 module _ (before : NumberedBook → NumberedBook → Bool) (book : NumberedBook) (number : ℕ) where
   put-other : (books : List NumberedBook) → (book.number == number) ≡ false
       → books_of number (insert_by before book books) ≡ books_of number books
-  put-other [] differs = other-more book [] number differs
-  put-other (first ∷ books) differs = by (before book first) (put-other books differs)
-    where
-      by : (b : Bool) → books_of number (insert_by before book books) ≡ books_of number books
-          → books_of number (cond b (book ∷ first ∷ books) (first ∷ insert_by before book books))
-          ≡ books_of number (first ∷ books)
-      by true rest = other-more book (first ∷ books) number differs
-      by false rest =
-          with-first (λ (b : NumberedBook). b.number) (λ (b : NumberedBook). b) first (insert_by before book books)
-          books number rest
+  put-other [] differs = grind arith
+  put-other (first ∷ books) differs = grind (arith, put-other books differs)
 
   put-own : (books : List NumberedBook) → (book.number == number) ≡ true → books_of number books ≡ []
       → books_of number (insert_by before book books) ≡ book ∷ []
-  put-own [] own none = own-more book [] number own
-  put-own (first ∷ books) own none =
-      by (before book first) (first.number == number) refl (put-own books own)
-    where
-      by : (b c : Bool) → (first.number == number) ≡ c
-          → (books_of number books ≡ [] → books_of number (insert_by before book books) ≡ book ∷ [])
-          → books_of number (cond b (book ∷ first ∷ books) (first ∷ insert_by before book books)) ≡ book ∷ []
-      by true c is rest = own-more book (first ∷ books) number own ∙ ap (λ bs. book ∷ bs) none
-      by false true is rest = absurd (cc (sym (own-more first books number is) ∙ none))
-      by false false is rest =
-          other-more first (insert_by before book books) number is
-          ∙ rest (sym (other-more first books number is) ∙ none)
+  put-own [] own none = grind arith
+  put-own (first ∷ books) own none = grind (arith, put-own books own)
 
 -- books without that of a number
 without-own : (books : List NumberedBook) (number : ℕ) → books_of number (without_book number books) ≡ []
 without-own [] number = refl
-without-own (book ∷ books) number = by (book.number == number) refl (without-own books number)
-  where
-    by : (b : Bool) → (book.number == number) ≡ b → books_of number (without_book number books) ≡ []
-        → books_of number (cond (not b) (book ∷ without_book number books) (without_book number books)) ≡ []
-    by true is rest = rest
-    by false is rest = other-more book (without_book number books) number is ∙ rest
+without-own (book ∷ books) number = grind (arith, without-own books number)
 
 without-other : (books : List NumberedBook) (number other : ℕ) → (other == number) ≡ false
     → books_of number (without_book other books) ≡ books_of number books
 without-other [] number other differs = refl
-without-other (book ∷ books) number other differs =
-    by (book.number == other) refl (without-other books number other differs)
-  where
-    by : (b : Bool) → (book.number == other) ≡ b
-        → books_of number (without_book other books) ≡ books_of number books
-        → books_of number (cond (not b) (book ∷ without_book other books) (without_book other books))
-        ≡ books_of number (book ∷ books)
-    by true is rest =
-        rest
-        ∙ sym (other-more book books number
-        (subst (λ n. (n == number) ≡ false) (sym (eqb-true book.number other is)) differs))
-    by false is rest =
-        with-first (λ (b : NumberedBook). b.number) (λ (b : NumberedBook). b) book (without_book other books) books
-        number rest
+without-other (book ∷ books) number other differs = grind (arith, without-other books number other differs)
 
 -- two states have the same of a book
 abbrev pub SameBook : ℕ → State → State → Type 0
@@ -145,7 +92,7 @@ changed-other state book count key row number differs =
 -- a call of another's leaves a book as it is
 pub others-leave : (state : State) (number : ℕ) (call : Call) → (owner call == number) ≡ false
     → SameBook number state (after state call)
-others-leave state number call differs = by (moves state call) call differs
+others-leave state number call differs = grind (arith, moved call differs)
   where
     moved : (call : Call) → (owner call == number) ≡ false → SameBook number state (state_moved state call)
     moved (Lookup who key okuri) differs = refl
@@ -158,11 +105,6 @@ others-leave state number call differs = by (moves state call) call differs
         (Some (purged (row_at state book key) key word (count_of state book + 1))) number differs
     moved (Unlearn learned) differs =
         changed-other state learned.book (count_of state learned.book) learned.key (unlearnt learned) number differs
-
-    by : (b : Bool) (call : Call) → (owner call == number) ≡ false
-        → SameBook number state (cond b (state_moved state call) state)
-    by true call differs = moved call differs
-    by false call differs = refl
 
 module _ (state other : State) where
   -- a change of the same book
@@ -212,14 +154,7 @@ module _ (state other : State) where
   -- an own call leaves the same of its book in states that have the same of it
   owner-leaves : (call : Call) → SameBook (owner call) state other
       → SameBook (owner call) (after state call) (after other call)
-  owner-leaves call same =
-      subst (λ (b : Bool). SameBook (owner call) (after state call) (cond b (state_moved other call) other))
-      (sym (both-move call same)) (by (moves state call))
-    where
-      by : (b : Bool) → SameBook (owner call) (cond b (state_moved state call) state)
-          (cond b (state_moved other call) other)
-      by true = both-moved call same
-      by false = same
+  owner-leaves call same = grind (arith, both-move call same, both-moved call same)
 
   pub own-leaves : (number : ℕ) (call : Call) → (owner call == number) ≡ true → SameBook number state other
       → SameBook number (after state call) (after other call)
@@ -232,41 +167,16 @@ module _ (state other : State) where
 abbrev pub calls_on : ℕ → List Entry → List Call
 calls_on number history = parts (λ (entry : Entry). owner entry.call) (λ (entry : Entry). entry.call) number history
 
--- what entries leave of a book, from states on that have the same of it
-abbrev Behind : ℕ → List Entry → State → Type 0
-Behind number history alone =
-    (next : State) → SameBook number alone next
-    → SameBook number (after_calls alone (calls_on number history)) (state_after next history)
-
 -- what a history leaves of a book is what these calls leave of it
 pub left-by-calls : (number : ℕ) (state alone : State) (history : List Entry)
     → list_all (λ entry. is_reply entry.answer) history ≡ true → SameBook number alone state
     → SameBook number (after_calls alone (calls_on number history)) (state_after state history)
 left-by-calls number state alone [] served same = same
 left-by-calls number state alone (entry ∷ history) served same =
-    by (owner entry.call == number) refl
-    (λ (next : State) (alike : SameBook number (after alone entry.call) next).
-    left-by-calls number next (after alone entry.call) history replies.1 alike)
-    (λ (next : State) (alike : SameBook number alone next). left-by-calls number next alone history replies.1 alike)
-  where
-    replies : (is_reply entry.answer ≡ true) × (list_all (λ e. is_reply e.answer) history ≡ true)
-    replies = and_parts (is_reply entry.answer) (list_all (λ e. is_reply e.answer) history) served
-
-    given : (answer : Answer) → is_reply answer ≡ true
-        → after_answer state entry.call answer ≡ after state entry.call
-    given (Done reply) is = refl
-    given (Refused refusal) is = absurd (cc is)
-
-    by : (b : Bool) → (owner entry.call == number) ≡ b → Behind number history (after alone entry.call)
-        → Behind number history alone
-        → SameBook number
-        (after_calls alone (cons_option (cond b (Some entry.call) None) (calls_on number history)))
-        (state_after (after_answer state entry.call entry.answer) history)
-    by true own moved still =
-        moved (after_answer state entry.call entry.answer)
-        (subst (λ (s : State). SameBook number (after alone entry.call) s) (sym (given entry.answer replies.0))
-        (own-leaves alone state number entry.call own same))
-    by false differs moved still =
-        still (after_answer state entry.call entry.answer)
-        (subst (λ (s : State). SameBook number alone s) (sym (given entry.answer replies.0))
-        (others-leave state number entry.call differs ∙ same))
+    grind (
+      arith,
+      own-leaves alone state number entry.call,
+      others-leave state number entry.call,
+      left-by-calls number (after state entry.call) (after alone entry.call) history,
+      left-by-calls number (after state entry.call) alone history,
+    )

@@ -83,19 +83,11 @@ module _ {X Y : Type 0} (number_of : X → ℕ) (part : X → Y) where
     same-total (item ∷ items) others same =
         sum_by-cons (λ i. weigh (part i)) item items
         ∙ ap (λ t. weigh (part item) + t)
-        (same-total items out.left (λ number. next number (number_of item == number) refl))
+        (same-total items out.left (λ number. grind (arith, out.own, out.others number, same number)))
         ∙ sym out.weighs
       where
-        itself : (number_of item == number_of item) ≡ true
-        itself = eq-eqb (number_of item) (number_of item) refl
-
         out : IsWithout (number_of item) (part item) (parts (number_of item) items) others
         out =
             taken-out others (number_of item) (part item) (parts (number_of item) items)
-            (sym (same (number_of item)) ∙ part-own item items (number_of item) itself)
-
-        next : (number : ℕ) (b : Bool) → (number_of item == number) ≡ b → parts number items ≡ parts number out.left
-        next number true own =
-            subst (λ n. parts n items ≡ parts n out.left) (eqb-true (number_of item) number own) (sym out.own)
-        next number false differs =
-            sym (part-other item items number differs) ∙ same number ∙ sym (out.others number differs)
+            (sym (same (number_of item))
+            ∙ part-own item items (number_of item) (eq-eqb (number_of item) (number_of item) refl))

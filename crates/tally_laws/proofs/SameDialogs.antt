@@ -1,12 +1,11 @@
 -- Histories in which each caller says the same.
-use Rattle.std.proofs.Common.{◌≡◌, ◌≢◌, ◌⊎◌, ◌∙◌, inl, inr, ap, sym, subst, refl, ℕ, ◌==◌, Bool, true, false, cond}
-use Rattle.std.proofs.Common.{not, ◌&&◌, ◌||◌, min, None, Some, List, [], ◌∷◌, length}
-use Rattle.std.specs.List.{cons_option, list_all}
-use Rattle.std.proofs.lemmas.Bool.{and_from, and_parts, eq-eqb, eqb-true, ne_eqb, not-true}
+use Rattle.std.proofs.Common.{◌≡◌, ◌≢◌, ◌⊎◌, ◌∙◌, inl, inr, ap, sym, subst, refl, arith, ℕ, ◌==◌, Bool, true, false}
+use Rattle.std.proofs.Common.{cond, not, ◌&&◌, min, List, [], ◌∷◌, length}
+use Rattle.std.specs.List.{list_all}
+use Rattle.std.proofs.lemmas.Bool.{and_parts, eqb-true}
 use Rattle.skk_text.specs.Counts.{last_count}
 use Rattle.skk_text.specs.PairsLaws.{list_all-weaker}
 use Rattle.skk_calls.specs.declared.answer.Answer.{Answer}
-use Rattle.skk_calls.specs.declared.answer.Answer.TheVariants.{Done, Refused}
 use Rattle.skk_calls.specs.declared.book.NumberedBook.{NumberedBook}
 use Rattle.skk_calls.specs.declared.call.Call.{Call}
 use Rattle.skk_calls.specs.declared.entry.Entry.{Entry}
@@ -18,7 +17,7 @@ use Rattle.skk_calls.specs.Tallies.{tally_of, count_answers, count_rows, has_ans
 use Rattle.skk_calls.specs.Tallies.{tells_restored, lacks_memory, lacks_disk, lacks_room}
 use Rattle.dict_laws.specs.OwnBooks.{owner, is_own, is_own_entry}
 use Rattle.tally_laws.proofs.OwnBooksChanged.{books_of, calls_on, left-by-calls}
-use Rattle.tally_laws.proofs.Parts.{part-other, same-total}
+use Rattle.tally_laws.proofs.Parts.{same-total}
 
 -- what an entry says
 abbrev said : Entry → Call × Answer
@@ -29,20 +28,7 @@ module _ (test : ℕ → Call × Answer → Bool) where
   dialog-passes : (history : List Entry) → list_all (λ entry. test entry.number (said entry)) history ≡ true
       → (number : ℕ) → list_all (test number) (dialog history number) ≡ true
   dialog-passes [] all number = refl
-  dialog-passes (entry ∷ history) all number =
-      by (entry.number == number) refl (dialog-passes history parts_of.1 number)
-    where
-      parts_of : (test entry.number (said entry) ≡ true)
-          × (list_all (λ e. test e.number (said e)) history ≡ true)
-      parts_of =
-          and_parts (test entry.number (said entry)) (list_all (λ e. test e.number (said e)) history) all
-
-      by : (b : Bool) → (entry.number == number) ≡ b → list_all (test number) (dialog history number) ≡ true
-          → list_all (test number) (cons_option (cond b (Some (said entry)) None) (dialog history number)) ≡ true
-      by true own rest =
-          and_from (test number (said entry)) (list_all (test number) (dialog history number))
-          (subst (λ n. test n (said entry) ≡ true) (eqb-true entry.number number own) parts_of.0) rest
-      by false differs rest = rest
+  dialog-passes (entry ∷ history) all number = grind (arith, dialog-passes history)
 
   -- and the other way round
   history-passes : (history : List Entry)
@@ -50,25 +36,7 @@ module _ (test : ℕ → Call × Answer → Bool) where
       → list_all (λ entry. test entry.number (said entry)) history ≡ true
   history-passes [] all = refl
   history-passes (entry ∷ history) all =
-      and_from (test entry.number (said entry)) (list_all (λ e. test e.number (said e)) history)
-      (first (entry.number == entry.number) (eq-eqb entry.number entry.number refl) (all entry.number))
-      (history-passes history (λ number. rest number (entry.number == number) (all number)))
-    where
-      first : (b : Bool) → b ≡ true
-          → list_all (test entry.number)
-          (cons_option (cond b (Some (said entry)) None) (dialog history entry.number)) ≡ true
-          → test entry.number (said entry) ≡ true
-      first true is passes =
-          (and_parts (test entry.number (said entry)) (list_all (test entry.number) (dialog history entry.number))
-          passes).0
-      first false is passes = absurd (cc is)
-
-      rest : (number : ℕ) (b : Bool)
-          → list_all (test number) (cons_option (cond b (Some (said entry)) None) (dialog history number)) ≡ true
-          → list_all (test number) (dialog history number) ≡ true
-      rest number true passes =
-          (and_parts (test number (said entry)) (list_all (test number) (dialog history number)) passes).1
-      rest number false passes = passes
+      grind (arith, all entry.number, history-passes history (λ number. grind (arith, all number)))
 
 -- Calls on one book
 
@@ -83,41 +51,18 @@ on-said : (history : List Entry) (book number : ℕ)
     → list_all (λ entry. agree (owner entry.call == book) (entry.number == number)) history ≡ true
     → calls_on book history ≡ calls_of (dialog history number)
 on-said [] book number all = refl
-on-said (entry ∷ history) book number all =
-    by (owner entry.call == book) (entry.number == number) both.0 (on-said history book number both.1)
-  where
-    both : (agree (owner entry.call == book) (entry.number == number) ≡ true)
-        × (list_all (λ e. agree (owner e.call == book) (e.number == number)) history ≡ true)
-    both =
-        and_parts (agree (owner entry.call == book) (entry.number == number))
-        (list_all (λ e. agree (owner e.call == book) (e.number == number)) history) all
-
-    by : (b c : Bool) → agree b c ≡ true → calls_on book history ≡ calls_of (dialog history number)
-        → cons_option (cond b (Some entry.call) None) (calls_on book history)
-        ≡ calls_of (cons_option (cond c (Some (said entry)) None) (dialog history number))
-    by true true is rest = ap (λ calls. entry.call ∷ calls) rest
-    by true false is rest = absurd (cc is)
-    by false true is rest = absurd (cc is)
-    by false false is rest = rest
+on-said (entry ∷ history) book number all = grind (arith, on-said history book number)
 
 -- no call is on a book that no call has
 on-none : (history : List Entry) (book : ℕ) → list_all (λ entry. not (owner entry.call == book)) history ≡ true
     → calls_on book history ≡ []
 on-none [] book none = refl
-on-none (entry ∷ history) book none =
-    let both = and_parts (not (owner entry.call == book)) (list_all (λ e. not (owner e.call == book)) history) none in
-    part-other (λ (e : Entry). owner e.call) (λ (e : Entry). e.call) entry history book
-    (not-true (owner entry.call == book) both.0)
-    ∙ on-none history book both.1
+on-none (entry ∷ history) book none = grind (arith, on-none history book)
 
 -- what is said stays said
 still-said : (entry : Entry) (history : List Entry) (number : ℕ) → dialog history number ≢ []
     → dialog (entry ∷ history) number ≢ []
-still-said entry history number some none = by (entry.number == number) none
-  where
-    by : (b : Bool) → cons_option (cond b (Some (said entry)) None) (dialog history number) ≡ [] → ⊥
-    by true is = absurd (cc is)
-    by false is = some is
+still-said entry history number some none = grind (arith, some)
 
 module _ (state : State) (typist_of : ℕ → ℕ) (history other : List Entry)
     (same : (number : ℕ) → dialog other number ≡ dialog history number)
@@ -146,12 +91,7 @@ module _ (state : State) (typist_of : ℕ → ℕ) (history other : List Entry)
       both = and_parts (is_own_entry typist_of entry) (list_all (is_own_entry typist_of) entries) owns
 
       some : dialog (entry ∷ entries) entry.number ≢ []
-      some none = by_self (entry.number == entry.number) (eq-eqb entry.number entry.number refl) none
-        where
-          by_self : (b : Bool) → b ≡ true
-              → cons_option (cond b (Some (said entry)) None) (dialog entries entry.number) ≡ [] → ⊥
-          by_self true is is_none = absurd (cc is_none)
-          by_self false is is_none = absurd (cc is)
+      some none = grind arith
 
       by : (b : Bool) → (owner entry.call == book) ≡ b
           → Speaks book entries ⊎ (list_all (λ e. not (owner e.call == book)) entries ≡ true)
@@ -180,21 +120,7 @@ module _ (state : State) (typist_of : ℕ → ℕ) (history other : List Entry)
         at : (number : ℕ) → dialog history number ≢ [] → (pair : Call × Answer)
             → is_own (typist_of number) pair.0 ≡ true
             → agree (owner pair.0 == book) (number == speaker.0) ≡ true
-        at number some pair owns = elim_by (number == speaker.0) refl
-          where
-            is : owner pair.0 ≡ typist_of number
-            is = eqb-true (owner pair.0) (typist_of number) owns
-
-            elim_by : (b : Bool) → (number == speaker.0) ≡ b → agree (owner pair.0 == book) b ≡ true
-            elim_by true here =
-                let typist : owner pair.0 ≡ book =
-                is ∙ ap typist_of (eqb-true number speaker.0 here) ∙ speaker.2 in
-                ap (λ b. agree b true) (eq-eqb (owner pair.0) book typist)
-            elim_by false away =
-                ap (λ b. agree b false)
-                (ne_eqb (owner pair.0) book (λ typist. absurd (cc (sym away
-                ∙ eq-eqb number speaker.0
-                (apart number speaker.0 some speaker.1 (sym is ∙ typist ∙ sym speaker.2))))))
+        at number some pair owns = grind (arith, apart number speaker.0 some speaker.1, speaker.2)
 
         by : (number : ℕ) (d : Dialog) → dialog history number ≡ d
             → list_all (λ pair. is_own (typist_of number) pair.0) (dialog history number) ≡ true
@@ -244,9 +170,7 @@ module _ (state : State) (typist_of : ℕ → ℕ) (history other : List Entry)
       → (entries : List Entry) → list_all (λ entry. is_reply entry.answer) entries ≡ true
       → has_answer test entries ≡ false
   no-answers test none [] all = refl
-  no-answers test none (entry ∷ entries) all =
-      let both = and_parts (is_reply entry.answer) (list_all (λ e. is_reply e.answer) entries) all in
-      ap (λ b. b || has_answer test entries) (none entry.answer both.0) ∙ no-answers test none entries both.1
+  no-answers test none (entry ∷ entries) all = grind (arith, none entry.answer, no-answers test none entries)
 
   same-none : (test : Answer → Bool) → ((given : Answer) → is_reply given ≡ true → test given ≡ false)
       → has_answer test other ≡ has_answer test history
@@ -254,25 +178,13 @@ module _ (state : State) (typist_of : ℕ → ℕ) (history other : List Entry)
       no-answers test none other (both-pass (λ number pair. is_reply pair.1) served)
       ∙ sym (no-answers test none history served)
 
-  memory-none : (given : Answer) → is_reply given ≡ true → lacks_memory given ≡ false
-  memory-none (Done reply) is = refl
-  memory-none (Refused refusal) is = absurd (cc is)
-
-  disk-none : (given : Answer) → is_reply given ≡ true → lacks_disk given ≡ false
-  disk-none (Done reply) is = refl
-  disk-none (Refused refusal) is = absurd (cc is)
-
-  room-none : (given : Answer) → is_reply given ≡ true → lacks_room given ≡ false
-  room-none (Done reply) is = refl
-  room-none (Refused refusal) is = absurd (cc is)
-
   pub same-tally : tally_of state other ≡ tally_of state history
   same-tally =
       rw (
         same-answers tells_learned,
         same-answers tells_restored,
         same-row-count,
-        same-none lacks_memory memory-none,
-        same-none lacks_disk disk-none,
-        same-none lacks_room room-none,
+        same-none lacks_memory (λ given is. grind arith),
+        same-none lacks_disk (λ given is. grind arith),
+        same-none lacks_room (λ given is. grind arith),
       ) refl
