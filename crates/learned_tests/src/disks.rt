@@ -84,7 +84,7 @@ static FAILING: &[Step<'static>] = &[
 fn a_disk_in_memory_fails_at_the_calls_that_are_to_fail(rt: HostRuntime) {
     let alloc = rt.alloc();
     let mut disk = MemDisk::new(alloc, vec![in alloc; 2, 4, 6, 8, 10].expect(&rt, "memory"));
-    expect_steps(&rt, alloc, &mut disk, FAILING).expect(&rt, "memory");
+    expect_steps(&rt, alloc, &mut disk, FAILING);
     assert!(rt; records_what_failed(disk.made()));
 }
 
@@ -110,7 +110,7 @@ static CHANGES: &[Step<'static>] = &[
 #[test]
 fn a_disk_in_memory_is_written_cut_and_read(rt: HostRuntime) {
     let mut disk = MemDisk::new(rt.alloc(), Vec::new(rt.alloc()));
-    expect_steps(&rt, rt.alloc(), &mut disk, CHANGES).expect(&rt, "memory");
+    expect_steps(&rt, rt.alloc(), &mut disk, CHANGES);
     let written = matches!(
         disk.made(),
         [
