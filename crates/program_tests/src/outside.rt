@@ -1,6 +1,7 @@
 ghost use Rattle.std.specs.Prelude.{◌≡◌, ◌∷◌, ◌^◌, ◌<◌, [], true};
 ghost use Rattle.skk_outside.specs.Memory.{names_differ};
 
+use crate::making::{bytes, text};
 use expectations::{same, same_at};
 use skk_outside::{
     Failed, Gate, HostShelf, Link, Listener, MemLink, MemListener, MemShelf, MemSink, MemSource,
@@ -45,9 +46,7 @@ fn a_sink_in_memory_writes_but_at_calls_that_fail(rt: HostRuntime) {
 // A link of one piece, whose third call fails.
 fn link(rt: &impl Abort, alloc: Global) -> MemLink {
     let mut pieces = Vec::new(alloc);
-    pieces
-        .push(Bytes::of(b"xy".to_vec(alloc).expect(rt, "memory")))
-        .expect(rt, "memory");
+    pieces.push(bytes(rt, alloc, b"xy")).expect(rt, "memory");
     MemLink::new(alloc, pieces, vec![in alloc; 3].expect(rt, "memory"))
 }
 
@@ -194,7 +193,7 @@ fn file(rt: &impl Abort, alloc: Global, letter: char, content: &[u8]) -> (Text, 
 {
     let mut name = Text::new(alloc);
     name.push(letter).expect(rt, "memory");
-    (name, Bytes::of(content.to_vec(alloc).expect(rt, "memory")))
+    (name, bytes(rt, alloc, content))
 }
 
 // A read of a file: its name, the place that is read from, the answer, and all of the buffer then, which was dots.
@@ -202,7 +201,7 @@ type Reading = (&'static str, u64, Result<usize, Failed>, &'static str);
 
 fn expect_read<R: Abort, H: Shelf>(rt: &R, alloc: Global, shelf: &mut H, reading: &Reading) {
     let (name, place, answer, left) = *reading;
-    let text = Text::of(String::from_str(alloc, name).expect(rt, "memory"));
+    let text = text(rt, alloc, name);
     let mut into = vec![in alloc; b'.'; left.len()].expect(rt, "memory");
     same_at(&shelf.read(&text, place, &mut into), &answer, &reading).expect(rt, "as wanted");
     same_at(&into.as_slice(), &left.as_bytes(), &reading).expect(rt, "as wanted");
@@ -295,7 +294,7 @@ fn expect_whole_read(rt: &impl Abort, alloc: Global, reading: &WholeReading) {
         three_files(rt, alloc),
         vec![in alloc; fail].expect(rt, "memory"),
     );
-    let text = Text::of(String::from_str(alloc, name).expect(rt, "memory"));
+    let text = text(rt, alloc, name);
     match read_named_file(alloc, &mut shelf, &text, limit as usize) {
         Ok(bytes) => assert!(rt;
             fault.is_none() && holds(name, bytes.as_slice()),

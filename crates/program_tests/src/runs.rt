@@ -1,10 +1,10 @@
 ghost use Rattle.std.specs.Prelude.{Some};
 
+use crate::making::{bytes, text};
 use crate::statuses::status_of;
 use expectations::{same, same_at};
 use skk_disk::MemDisk;
 use skk_outside::{Failed, MemShelf, MemSink, MemSource, Outside, Sink};
-use skk_text::{Bytes, Text};
 use std::alloc::Global;
 use std::process::Abort;
 
@@ -22,13 +22,13 @@ fn type_lines<O: Sink>(
 ) -> u8 {
     let mut pieces = Vec::new(alloc);
     pieces
-        .push(Bytes::of(Vec::from_slice(alloc, &LINES[..9]).expect(rt, "memory")))
+        .push(bytes(rt, alloc, &LINES[..9]))
         .expect(rt, "memory");
     pieces
-        .push(Bytes::of(Vec::from_slice(alloc, &LINES[9..]).expect(rt, "memory")))
+        .push(bytes(rt, alloc, &LINES[9..]))
         .expect(rt, "memory");
     let mut input = MemSource::new(pieces, vec![in alloc; read].expect(rt, "memory"));
-    let words = [Text::of(String::from_str(alloc, "type").expect(rt, "memory"))];
+    let words = [text(rt, alloc, "type")];
     let mut shelf = MemShelf::new(Vec::new(alloc), Vec::new(alloc));
     let disk = MemDisk::new(alloc, Vec::new(alloc));
     status_of(alloc, &words, &mut shelf, disk, &mut input, out, err)
@@ -95,18 +95,12 @@ fn check_file(
     out: &mut MemSink,
     err: &mut MemSink,
 ) -> u8 {
-    let content = Bytes::of(Vec::from_slice(alloc, content).expect(rt, "memory"));
-    let file = (
-        Text::of(String::from_str(alloc, "words").expect(rt, "memory")),
-        content,
-    );
+    let content = bytes(rt, alloc, content);
+    let file = (text(rt, alloc, "words"), content);
     let files = Vec::from_array(alloc, [file]).expect(rt, "memory");
     let mut shelf = MemShelf::new(files, vec![in alloc; read].expect(rt, "memory"));
     let mut input = MemSource::new(Vec::new(alloc), vec![in alloc; 1].expect(rt, "memory"));
-    let words = [
-        Text::of(String::from_str(alloc, "check").expect(rt, "memory")),
-        Text::of(String::from_str(alloc, name).expect(rt, "memory")),
-    ];
+    let words = [text(rt, alloc, "check"), text(rt, alloc, name)];
     let disk = MemDisk::new(alloc, Vec::new(alloc));
     status_of(alloc, &words, &mut shelf, disk, &mut input, out, err)
 }
@@ -162,10 +156,10 @@ fn load_lines(
     let mut shelf = MemShelf::new(Vec::new(alloc), Vec::new(alloc));
     let mut input = MemSource::new(Vec::new(alloc), vec![in alloc; 1].expect(rt, "memory"));
     let words = [
-        Text::of(String::from_str(alloc, "load").expect(rt, "memory")),
-        Text::of(String::from_str(alloc, seed).expect(rt, "memory")),
-        Text::of(String::from_str(alloc, sessions).expect(rt, "memory")),
-        Text::of(String::from_str(alloc, lines).expect(rt, "memory")),
+        text(rt, alloc, "load"),
+        text(rt, alloc, seed),
+        text(rt, alloc, sessions),
+        text(rt, alloc, lines),
     ];
     let disk = MemDisk::new(alloc, Vec::new(alloc));
     status_of(alloc, &words, &mut shelf, disk, &mut input, out, err)

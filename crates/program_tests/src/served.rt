@@ -1,5 +1,6 @@
 ghost use Rattle.skk_disk.specs.Image.{empty_image};
 
+use crate::making::{bytes, text};
 use crate::side_by_side::Meeting;
 use crate::statuses::status_in_threads;
 use expectations::{same, same_at};
@@ -7,7 +8,6 @@ use skk_disk::{Disk, MemDisk, Which};
 use skk_outside::{
     Count, Failed, Gate, MemLink, MemListener, MemShelf, MemSink, MemSource, Open, Outside,
 };
-use skk_text::{Bytes, Text};
 use std::alloc::Global;
 use std::process::Abort;
 use std::sync::Wait;
@@ -24,7 +24,7 @@ fn link_of(rt: &impl Abort, alloc: Global, given: &Given) -> MemLink {
     let mut pieces = Vec::new(alloc);
     for read in reads {
         pieces
-            .push(Bytes::of(read.as_bytes().to_vec(alloc).expect(rt, "memory")))
+            .push(bytes(rt, alloc, read.as_bytes()))
             .expect(rt, "memory");
     }
     MemLink::new(alloc, pieces, vec![in alloc; fail].expect(rt, "memory"))
@@ -40,7 +40,7 @@ fn listener_of(rt: &impl Abort, alloc: Global, links: &[Given], fail: u64) -> Me
 }
 
 // Serves with these options, over a dictionary and an input that must not be read.
-fn serve<D: Disk + Drop + Send, G: Gate + Sync, R: Threads + Wait + Copy + Send + Sync>(
+fn serve<D: Disk + Drop + Send, G: Gate + Sync, R: Threads + Wait + Abort + Copy + Send + Sync>(
     rt: R,
     alloc: Global,
     options: [&str; 2],
@@ -50,8 +50,8 @@ fn serve<D: Disk + Drop + Send, G: Gate + Sync, R: Threads + Wait + Copy + Send 
     out: &mut MemSink,
     err: &mut MemSink,
 ) -> u8 {
-    let name = Text::of(String::from_str(alloc, "words").expect(&rt, "memory"));
-    let content = Bytes::of(Vec::from_slice(alloc, WORDS.as_bytes()).expect(&rt, "memory"));
+    let name = text(&rt, alloc, "words");
+    let content = bytes(&rt, alloc, WORDS.as_bytes());
     let mut shelf = MemShelf::new(
         Vec::from_array(alloc, [(name, content)]).expect(&rt, "memory"),
         Vec::new(alloc),
@@ -59,11 +59,11 @@ fn serve<D: Disk + Drop + Send, G: Gate + Sync, R: Threads + Wait + Copy + Send 
     let mut input = MemSource::new(Vec::new(alloc), vec![in alloc; 1].expect(&rt, "memory"));
     let [first, second] = options;
     let words = [
-        Text::of(String::from_str(alloc, "serve").expect(&rt, "memory")),
-        Text::of(String::from_str(alloc, "--learned").expect(&rt, "memory")),
-        Text::of(String::from_str(alloc, "learned").expect(&rt, "memory")),
-        Text::of(String::from_str(alloc, first).expect(&rt, "memory")),
-        Text::of(String::from_str(alloc, second).expect(&rt, "memory")),
+        text(&rt, alloc, "serve"),
+        text(&rt, alloc, "--learned"),
+        text(&rt, alloc, "learned"),
+        text(&rt, alloc, first),
+        text(&rt, alloc, second),
     ];
     status_in_threads(
         rt, alloc, &words, &mut shelf, disk, &mut input, out, err, net, gate,

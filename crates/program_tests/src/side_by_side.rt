@@ -1,9 +1,10 @@
+use crate::making::{bytes, text};
 use crate::statuses::status_in_threads;
 use expectations::same;
 use skk_disk::MemDisk;
 use skk_outside::{Gate, MemListener, MemShelf, MemSink, MemSource};
-use skk_text::{Bytes, Text};
 use std::alloc::Global;
+use std::process::Abort;
 use std::sync::Wait;
 use std::sync::atomic::{AtomicBool, AtomicU32, Ordering};
 use std::thread::{self, Threads};
@@ -61,27 +62,27 @@ impl Gate for Meeting {
 }
 
 // Types the lines by a caller for each session that comes to the gate.
-fn type_by_two<R: Threads + Wait + Copy + Send + Sync>(
+fn type_by_two<R: Threads + Wait + Abort + Copy + Send + Sync>(
     rt: R,
     alloc: Global,
     meeting: &Meeting,
     out: &mut MemSink,
 ) -> u8 {
-    let name = Text::of(String::from_str(alloc, "words").expect(&rt, "memory"));
-    let content = Bytes::of(Vec::from_slice(alloc, WORDS.as_bytes()).expect(&rt, "memory"));
+    let name = text(&rt, alloc, "words");
+    let content = bytes(&rt, alloc, WORDS.as_bytes());
     let mut shelf = MemShelf::new(
         Vec::from_array(alloc, [(name, content)]).expect(&rt, "memory"),
         Vec::new(alloc),
     );
-    let lines = Bytes::of(Vec::from_slice(alloc, LINES.as_bytes()).expect(&rt, "memory"));
+    let lines = bytes(&rt, alloc, LINES.as_bytes());
     let mut input = MemSource::new(
         Vec::from_array(alloc, [lines]).expect(&rt, "memory"),
         Vec::new(alloc),
     );
     let words = [
-        Text::of(String::from_str(alloc, "type").expect(&rt, "memory")),
-        Text::of(String::from_str(alloc, "--dict=words").expect(&rt, "memory")),
-        Text::of(String::from_str(alloc, "--threads").expect(&rt, "memory")),
+        text(&rt, alloc, "type"),
+        text(&rt, alloc, "--dict=words"),
+        text(&rt, alloc, "--threads"),
     ];
     let disk = MemDisk::new(alloc, Vec::new(alloc));
     let mut err = MemSink::new(alloc, Vec::new(alloc));

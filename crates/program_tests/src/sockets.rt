@@ -15,7 +15,7 @@ fn open_any<N: Listener>(rt: &impl Abort, net: &mut N) -> u16 {
 }
 
 // A peer that is connected to a port of loopback.
-fn peer_at<R: Net>(rt: &R, port: u16) -> R::Stream {
+fn peer_at<R: Net + Abort>(rt: &R, port: u16) -> R::Stream {
     let address = SocketAddr::V4(SocketAddrV4::new(Ipv4Addr::LOCALHOST, port));
     TcpStream::connect(rt, address).expect(rt, "a connection")
 }
