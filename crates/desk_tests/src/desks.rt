@@ -43,8 +43,8 @@ fn work_in_turn<R: Threads + Wait + Abort + Copy + Drop + Send + Sync>(rt: R, al
 
 // Tells the numbers of two workers, and what the second one found.
 fn expect_found<R: Abort>(rt: &R, one: &Notes, two: &Notes) {
-    same(&(one.number, two.number), &(0, 1)).expect(rt, "as wanted");
-    same(&two.found.as_str(), &"感じ; 漢字; 幹事;宴会の ").expect(rt, "as wanted");
+    same((one.number, two.number), (0, 1)).expect(rt, "as wanted");
+    same(two.found.as_str(), "感じ; 漢字; 幹事;宴会の ").expect(rt, "as wanted");
 }
 
 fn work_at_once<R: Threads + Wait + Abort + Copy + Drop + Send + Sync>(rt: R, alloc: Global) {
@@ -64,7 +64,7 @@ fn expect_all_learnt<R: Abort>(rt: &R, alloc: Global, left: &mut Left<MemDisk>) 
         left.one.shared.count(),
         left.two.shared.count(),
     ];
-    same(&counts, &[2_500, 2_500, 2_500, 2_500]).expect(rt, "as wanted");
+    same(counts, [2_500, 2_500, 2_500, 2_500]).expect(rt, "as wanted");
     left.expect_words(rt, alloc, 1, "甲03/甲02/甲01/甲00/");
     left.expect_words(rt, alloc, 2, "乙03/乙02/乙01/乙00/");
     left.expect_shared(rt, alloc, 8);
@@ -82,7 +82,7 @@ fn work_and_fail<R: Threads + Wait + Abort + Copy + Drop + Send + Sync>(rt: R, a
 }
 
 fn expect_most_learnt<R: Abort>(rt: &R, alloc: Global, left: &mut Left<MemDisk>) {
-    same(&(left.refused(), left.made()), &(7, 193)).expect(rt, "as wanted");
+    same((left.refused(), left.made()), (7, 193)).expect(rt, "as wanted");
     let words = left.one.own.words(rt, alloc);
     left.expect_words(rt, alloc, 1, words.as_str());
     let words = left.two.own.words(rt, alloc);

@@ -29,8 +29,8 @@ pub(crate) fn reopened<R: Abort>(
     calls: usize,
 ) -> Left<MemDisk> {
     let Shared { closed, one, two } = shared;
-    same(&closed.tally, &tally).expect(rt, "as wanted");
-    same(&closed.disk.made().len(), &calls).expect(rt, "as wanted");
+    same(closed.tally, tally).expect(rt, "as wanted");
+    same(closed.disk.made().len(), calls).expect(rt, "as wanted");
     let store = opened_again(rt, alloc, closed, tally.rows());
     Left { one, two, store }
 }
@@ -44,7 +44,7 @@ fn opened_again<R: Abort, D: Disk + Drop>(
 ) -> Store<D> {
     let Closed { disk, .. } = closed;
     let store = opened(rt, alloc, disk);
-    same(&store.rows(), &rows).expect(rt, "as wanted");
+    same(store.rows(), rows).expect(rt, "as wanted");
     store
 }
 
@@ -73,14 +73,14 @@ impl<D: Disk> Left<D> {
         let wanted = format!(in alloc;
             ";; okuri-ari entries.\n;; okuri-nasi entries.\nかんじ /{words}\n"
         ).expect(rt, "memory");
-        same(&dump.as_str(), &wanted.as_str()).expect(rt, "as wanted");
+        same(dump.as_str(), wanted.as_str()).expect(rt, "as wanted");
     }
 
     // Tells that the shared book has so many words, each of five bytes, and among them each that was learnt there.
     pub(crate) fn expect_shared<R: Abort>(&self, rt: &R, alloc: Global, count: usize) {
         let dump = self.store.dump(alloc, 0).expect(rt, "memory");
         let bytes = count.saturating_mul(6).saturating_add(EMPTY_ROW);
-        same(&dump.byte_len(), &bytes).expect(rt, "as wanted");
+        same(dump.byte_len(), bytes).expect(rt, "as wanted");
         self.one.shared.expect_in(rt, alloc, dump.as_str());
         self.two.shared.expect_in(rt, alloc, dump.as_str());
     }
@@ -105,10 +105,10 @@ impl<D: Disk> Left<D> {
     fn expect_counted<R: Abort>(&mut self, rt: &R, alloc: Global, book: u16, stamps: &[u64]) {
         let mut next: u64 = 1;
         for stamp in stamps {
-            same(stamp, &next).expect(rt, "as wanted");
+            same(*stamp, next).expect(rt, "as wanted");
             next = next.saturating_add(1);
         }
-        same(&stamp_in(rt, alloc, &mut self.store, book), &Some(next)).expect(rt, "as wanted");
+        same(stamp_in(rt, alloc, &mut self.store, book), Some(next)).expect(rt, "as wanted");
     }
 }
 

@@ -49,7 +49,7 @@ fn readings_of_keys_are_checked(rt: HostRuntime) {
 fn expect_reading<R: Abort>(rt: &R, alloc: Global, row: &ReadingRow) {
     let (part, unit, count, end, fault) = *row;
     let reading = repeat(rt, alloc, unit, count, end);
-    same_at(&RowKey::new(part, reading).err(), &fault, &row).expect(rt, "as wanted");
+    same_at(RowKey::new(part, reading).err(), fault, row).expect(rt, "as wanted");
 }
 
 // An okurigana that is a text so many times, and why it is none.
@@ -74,7 +74,7 @@ fn okurigana_are_checked(rt: HostRuntime) {
 fn expect_okuri<R: Abort>(rt: &R, alloc: Global, row: &OkuriRow) {
     let (unit, count, fault) = *row;
     let okuri = repeat(rt, alloc, unit, count, "");
-    same_at(&Okuri::new(okuri).err(), &fault, &row).expect(rt, "as wanted");
+    same_at(Okuri::new(okuri).err(), fault, row).expect(rt, "as wanted");
 }
 
 // A candidate whose word has so many letters, with a note, and why it is none.
@@ -101,7 +101,7 @@ fn expect_cand<R: Abort>(rt: &R, alloc: Global, row: &CandRow) {
     let (count, note, fault) = *row;
     let word = repeat(rt, alloc, "a", count, "");
     let note = repeat(rt, alloc, note, 1, "");
-    same_at(&Cand::new(word, note).err(), &fault, &row).expect(rt, "as wanted");
+    same_at(Cand::new(word, note).err(), fault, row).expect(rt, "as wanted");
 }
 
 static QUOTES: [(&str, bool); 14] = [
@@ -125,7 +125,7 @@ static QUOTES: [(&str, bool); 14] = [
 fn words_need_quotes(rt: HostRuntime) {
     for (word, needed) in &QUOTES {
         let text = repeat(&rt, rt.alloc(), word, 1, "");
-        same_at(&needs_quotes(&text), needed, &word).expect(&rt, "as wanted");
+        same_at(needs_quotes(&text), *needed, word).expect(&rt, "as wanted");
     }
 }
 
@@ -154,12 +154,12 @@ fn count(tally: &mut Tally) {
 #[test]
 fn tallies_count_answers_and_show_their_fields(rt: HostRuntime) {
     let mut tally = Tally::none();
-    same(&tally, &Tally::new(0, 0, 0, false, false, false)).expect(&rt, "as wanted");
+    same(tally, Tally::new(0, 0, 0, false, false, false)).expect(&rt, "as wanted");
     tally = Tally::new(4, 18_446_744_073_709_551_615, 7, true, false, false);
     count(&mut tally);
-    same(&tally.learned(), &4).expect(&rt, "as wanted");
-    same(&tally.restored(), &18_446_744_073_709_551_615).expect(&rt, "as wanted");
-    same(&tally.rows(), &7).expect(&rt, "as wanted");
+    same(tally.learned(), 4).expect(&rt, "as wanted");
+    same(tally.restored(), 18_446_744_073_709_551_615).expect(&rt, "as wanted");
+    same(tally.rows(), 7).expect(&rt, "as wanted");
     assert!(rt; tally.memory());
     assert!(rt; tally.disk());
     assert!(rt; !tally.full());
@@ -235,8 +235,8 @@ fn a_caller_is_answered(rt: HostRuntime) {
     let alloc = rt.alloc();
     let said = DialogTrace::new(alloc).expect(&rt, "memory");
     let mut caller = Lacking { calls: 0, said };
-    same(&caller.number(), &7).expect(&rt, "as wanted");
+    same(caller.number(), 7).expect(&rt, "as wanted");
     let refused = is_refused(&rt, alloc, &mut caller);
     assert!(rt; refused);
-    same(&caller.calls, &1).expect(&rt, "as wanted");
+    same(caller.calls, 1).expect(&rt, "as wanted");
 }

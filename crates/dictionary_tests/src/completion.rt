@@ -118,7 +118,7 @@ fn expect_joined<R: Abort>(rt: &R, alloc: Global, row: &Joined) {
     let given = given_of(rt, alloc, &books, file, other, prefix);
     let mut told = String::new(alloc);
     add_texts(rt, &mut told, &given);
-    same_at(&told.trim(), &wanted, &row).expect(rt, "as wanted");
+    same_at(told.trim(), wanted, row).expect(rt, "as wanted");
 }
 
 // What is given of the readings of two books and two files.
@@ -151,10 +151,10 @@ fn expect_counted<R: Abort>(rt: &R, alloc: Global, row: &Counted) {
 
 // Tells how many texts there are, and the last of them.
 fn expect_last<R: Abort>(rt: &R, texts: &Texts, count: usize, last: &str) {
-    same(&texts.len(), &count).expect(rt, "as wanted");
+    same(texts.len(), count).expect(rt, "as wanted");
     same(
-        &texts.as_slice().last().map(|text| text.as_str()),
-        &Some(last),
+        texts.as_slice().last().map(|text| text.as_str()),
+        Some(last),
     )
     .expect(rt, "as wanted");
 }

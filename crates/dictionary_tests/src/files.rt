@@ -166,7 +166,7 @@ fn expect_same_file<R: Abort>(rt: &R, alloc: Global, file: &str) {
 
 // Tells that a file as it lies has the rows and the readings of its rows in memory.
 fn expect_same<R: Abort>(rt: &R, alloc: Global, rows: &System, lies: &System) {
-    same(&lies.file_count(), &1).expect(rt, "as wanted");
+    same(lies.file_count(), 1).expect(rt, "as wanted");
     for (part, reading) in &KEYS {
         let wanted = lines_of(rt, alloc, rows, *part, reading);
         expect_lines(rt, alloc, lies, (*part, *reading), wanted.as_str());
@@ -184,13 +184,13 @@ fn expect_lines<R: Abort>(
     wanted: &str,
 ) {
     let lines = lines_of(rt, alloc, lies, part, reading);
-    same_at(&lines.as_str(), &wanted, &reading).expect(rt, "as wanted");
+    same_at(lines.as_str(), wanted, reading).expect(rt, "as wanted");
 }
 
 // Tells which readings the first file has.
 fn expect_readings<R: Abort>(rt: &R, alloc: Global, lies: &System, wanted: &str) {
     let readings = readings_of(rt, alloc, lies);
-    same(&readings.as_str(), &wanted).expect(rt, "as wanted");
+    same(readings.as_str(), wanted).expect(rt, "as wanted");
 }
 
 // A file, a key, and its line.
@@ -240,9 +240,5 @@ fn readings_are_gone_over_in_order(rt: HostRuntime) {
 fn files_that_are_no_text_are_refused(rt: HostRuntime) {
     let file = bytes(&rt, rt.alloc(), b"\xE3\x81\x82 /\xA4\xA2/\n");
     let fault = DictionaryFile::open(rt.alloc(), file).err();
-    same(
-        &fault,
-        &Some(FileFault::NoText(TextFault::NotUtf8 { at: 5 })),
-    )
-    .expect(&rt, "as wanted");
+    same(fault, Some(FileFault::NoText(TextFault::NotUtf8 { at: 5 }))).expect(&rt, "as wanted");
 }

@@ -135,7 +135,7 @@ fn lines_are_read_and_printed(rt: HostRuntime) {
 
 fn expect_line<R: Abort>(rt: &R, alloc: Global, part: Part, line: &str, canonical: &str) {
     match printed_line(alloc, part, &text(rt, alloc, line)) {
-        Ok(again) => same(&again.as_str(), &canonical).expect(rt, "as wanted"),
+        Ok(again) => same(again.as_str(), canonical).expect(rt, "as wanted"),
         Err(fault) => assert!(rt; false, "at {line:?}: {fault:?}"),
     }
 }
@@ -266,7 +266,7 @@ fn expect_refused<R: Abort>(rt: &R, alloc: Global, row: &RefusedRow) {
     let (part, start, unit, count, end, reason) = *row;
     let line = long_text(rt, alloc, start, unit, count, end);
     let fault = printed_line(alloc, part, &line).err();
-    same_at(&fault, &reason.map(LineFault::Reason), &row).expect(rt, "as wanted");
+    same_at(fault, reason.map(LineFault::Reason), row).expect(rt, "as wanted");
 }
 
 static ITEMS: &[(&str, &str, &str)] = &[
@@ -284,7 +284,7 @@ fn printed_item(rt: &impl Abort, alloc: Global, word: &str, note: &str) -> Text 
 fn items_are_printed(rt: HostRuntime) {
     for (word, note, item) in ITEMS {
         let printed = printed_item(&rt, rt.alloc(), word, note);
-        same(&printed.as_str(), item).expect(&rt, "as wanted");
+        same(printed.as_str(), *item).expect(&rt, "as wanted");
     }
     lines_spell_one_row();
     lines_spell_rows_or_have_reasons();
@@ -345,13 +345,13 @@ fn expect_file<R: Abort>(rt: &R, alloc: Global, row: &FileRow) {
 
 fn expect_printed<R: Abort>(rt: &R, alloc: Global, book: &Book, printed: &str) {
     let text = print_file(alloc, book).expect(rt, "memory");
-    same(&text.as_str(), &printed).expect(rt, "as wanted");
+    same(text.as_str(), printed).expect(rt, "as wanted");
 }
 
 fn expect_bad<R: Abort>(rt: &R, found: &BadLines, bad: &[(usize, LineReason)]) {
-    same_at(&found.len(), &bad.len(), &bad).expect(rt, "as wanted");
+    same_at(found.len(), bad.len(), bad).expect(rt, "as wanted");
     for (found, wanted) in found.as_slice().iter().zip(bad) {
-        same_at(&(found.line, found.reason), wanted, &bad).expect(rt, "as wanted");
+        same_at((found.line, found.reason), *wanted, bad).expect(rt, "as wanted");
     }
 }
 
@@ -367,8 +367,8 @@ fn files_are_read_and_printed(rt: HostRuntime) {
     }
     let fault = fault_of(rt.alloc(), b";; okuri-nasi entries.\n\xA4\xA2");
     same(
-        &fault,
-        &Some(FileFault::NoText(TextFault::NotUtf8 { at: 23 })),
+        fault,
+        Some(FileFault::NoText(TextFault::NotUtf8 { at: 23 })),
     )
     .expect(&rt, "as wanted");
     files_list_one_thing();

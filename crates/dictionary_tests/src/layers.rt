@@ -51,7 +51,7 @@ fn expect_order(rt: &impl Abort, alloc: Global, row: &Row, okuri: Option<&str>, 
     let okuri = okurigana(rt, alloc, okuri);
     let cands = cands_in_order(alloc, row, okuri.as_ref()).expect(rt, "memory");
     let told = told(rt, alloc, &cands);
-    same_at(&told.as_str(), &wanted, &wanted).expect(rt, "as wanted");
+    same_at(told.as_str(), wanted, wanted).expect(rt, "as wanted");
 }
 
 // An upper row and a lower one, an okurigana, and the candidates of both. A word is hidden in the rows below alone, and
@@ -88,7 +88,7 @@ fn expect_merged(rt: &impl Abort, alloc: Global, rows: [&str; 2], okuri: &str, w
     let okuri = okurigana(rt, alloc, Some(okuri));
     let cands = merge(alloc, &layers, okuri.as_ref()).expect(rt, "memory");
     let told = told(rt, alloc, cands.cands());
-    same_at(&told.as_str(), &wanted, &wanted).expect(rt, "as wanted");
+    same_at(told.as_str(), wanted, wanted).expect(rt, "as wanted");
 }
 
 // Two files of rows in no order, of which each has one that only hides words.
@@ -125,7 +125,7 @@ fn rows_of_a_key_are_found(rt: HostRuntime) {
     let system = system(&rt, rt.alloc());
     for (part, reading, count) in &COUNTS {
         let found = count_of(&rt, rt.alloc(), &system, *part, reading);
-        same_at(&found, count, &reading).expect(&rt, "as wanted");
+        same_at(found, *count, reading).expect(&rt, "as wanted");
     }
 }
 
@@ -167,5 +167,5 @@ fn expect_next(
     assert!(rt; file < walk.files());
     let low = text(rt, alloc, low);
     let next = walk.above(alloc, file, &low).expect(rt, "memory");
-    same(&next.as_ref().map(|text| text.as_str()), &wanted).expect(rt, "as wanted");
+    same(next.as_ref().map(|text| text.as_str()), wanted).expect(rt, "as wanted");
 }

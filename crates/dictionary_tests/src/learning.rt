@@ -210,7 +210,7 @@ impl Desk {
     fn run_line(&mut self, rt: &impl Abort, alloc: Global, line: &str) {
         let (command, wanted) = line.split_once('=').expect(rt, "no `=`");
         let told = self.run(rt, alloc, &parts(command));
-        same_at(&told.as_str(), &wanted.trim(), &line).expect(rt, "as wanted");
+        same_at(told.as_str(), wanted.trim(), line).expect(rt, "as wanted");
     }
 
     // Runs a command, and gives what it tells.

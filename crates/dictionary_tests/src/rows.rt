@@ -167,7 +167,7 @@ fn row_of(rt: &impl Abort, alloc: Global, case: &str) -> Row {
 #[test]
 fn changes_make_rows(rt: HostRuntime) {
     let alloc = rt.alloc();
-    same(&CHANGES.trim().lines().count(), &22).expect(&rt, "as wanted");
+    same(CHANGES.trim().lines().count(), 22).expect(&rt, "as wanted");
     for line in CHANGES.trim().lines() {
         let (case, wanted) = line.split_once(" = ").expect(&rt, "no ` = `");
         expect_row(&rt, alloc, &row_of(&rt, alloc, case), wanted);
@@ -179,6 +179,6 @@ fn expect_row<R: Abort>(rt: &R, alloc: Global, row: &Row, wanted: &str) {
     let copy = row.copy(alloc).expect(rt, "memory");
     let line = print_line(alloc, &copy).expect(rt, "memory");
     let told = format!(in alloc; "{} {}", copy.stamp(), line.as_str()).expect(rt, "memory");
-    same(&told.as_str(), &wanted).expect(rt, "as wanted");
-    same_at(&line_length(row), &(line.byte_len() as u64), &wanted).expect(rt, "as wanted");
+    same(told.as_str(), wanted).expect(rt, "as wanted");
+    same_at(line_length(row), line.byte_len() as u64, wanted).expect(rt, "as wanted");
 }

@@ -1,3 +1,4 @@
+use crate::learning::add_texts;
 use expectations::{same, same_at};
 use skk_text::Text;
 use std::alloc::Global;
@@ -19,7 +20,7 @@ fn expect_insert<R: Abort>(
     (word, is_new): (&str, bool),
 ) {
     let inserted = words.insert(string(rt, alloc, word)).expect(rt, "memory");
-    same_at(&inserted, &is_new, &word).expect(rt, "as wanted");
+    same_at(inserted, is_new, word).expect(rt, "as wanted");
 }
 
 #[test]
@@ -30,10 +31,10 @@ fn each_word_is_kept_once(rt: HostRuntime) {
         expect_insert(&rt, alloc, &mut words, (*word, *is_new));
     }
     let texts = words.into_texts(alloc).expect(&rt, "memory");
-    same(&texts.len(), &3).expect(&rt, "as wanted");
-    for (text, word) in texts.iter().zip(["漢字", "幹事", ""]) {
-        same(&text.as_str(), &word).expect(&rt, "as wanted");
-    }
+    same(texts.len(), 3).expect(&rt, "as wanted");
+    let mut told = String::new(alloc);
+    add_texts(&rt, &mut told, &texts);
+    same(told.as_str(), " 漢字 幹事 ").expect(&rt, "as wanted");
 }
 
 // A word that is added with a note, and whether it is new.
@@ -50,7 +51,7 @@ fn expect_noted<R: Abort>(
     let inserted = notes
         .insert(string(rt, alloc, word), note)
         .expect(rt, "memory");
-    same_at(&inserted, &is_new, &word).expect(rt, "as wanted");
+    same_at(inserted, is_new, word).expect(rt, "as wanted");
 }
 
 // The words with the notes of the first of each.
@@ -72,7 +73,7 @@ fn the_first_of_each_word_is_kept(rt: HostRuntime) {
     let mut left = notes.into_iter();
     for kept in [("幹事", "宴会の"), ("漢字", "")] {
         match left.next() {
-            Some((word, note)) => same(&(word.as_str(), note.as_str()), &kept).expect(
+            Some((word, note)) => same((word.as_str(), note.as_str()), kept).expect(
                 &rt,
                 "as wanted",
             ),

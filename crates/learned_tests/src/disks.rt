@@ -27,26 +27,20 @@ fn expect_steps<R: Abort, D: Disk>(rt: &R, alloc: Global, disk: &mut D, steps: &
 
 fn expect_step<R: Abort, D: Disk>(rt: &R, alloc: Global, disk: &mut D, step: Step) {
     match step {
-        Step::Len(file, answer) => same_at(&disk.len(file), &answer, &step).expect(rt, "as wanted"),
+        Step::Len(file, answer) => same_at(disk.len(file), answer, step).expect(rt, "as wanted"),
         Step::Read(file, at, answer, left) => {
             let mut into = vec![in alloc; b'.'; left.len()].expect(rt, "memory");
-            same_at(&disk.read_at(file, at, &mut into), &answer, &step).expect(rt, "as wanted");
-            same_at(&into.as_slice(), &left.as_bytes(), &step).expect(rt, "as wanted");
+            same_at(disk.read_at(file, at, &mut into), answer, step).expect(rt, "as wanted");
+            same_at(into.as_slice(), left.as_bytes(), step).expect(rt, "as wanted");
         }
         Step::Write(file, at, from, answer) => {
-            same_at(&disk.write_at(file, at, from.as_bytes()), &answer, &step).expect(
-                rt,
-                "as wanted",
-            );
+            same_at(disk.write_at(file, at, from.as_bytes()), answer, step).expect(rt, "as wanted");
         }
-        Step::Cut(file, len, answer) => same_at(&disk.cut(file, len), &answer, &step).expect(
+        Step::Cut(file, len, answer) => same_at(disk.cut(file, len), answer, step).expect(
             rt,
             "as wanted",
         ),
-        Step::Sync(file, answer) => same_at(&disk.sync(file), &answer, &step).expect(
-            rt,
-            "as wanted",
-        ),
+        Step::Sync(file, answer) => same_at(disk.sync(file), answer, step).expect(rt, "as wanted"),
     }
 }
 

@@ -30,27 +30,27 @@ pub(crate) fn disk_of<R: Abort>(rt: &R, alloc: Global, bytes: &[u8], fails: &[u6
 
 // Writes bytes at a place of the first file of a disk.
 fn write<R: Abort, D: Disk>(rt: &R, disk: &mut D, at: u64, bytes: &[u8]) {
-    same(&disk.write_at(Which::A, at, bytes), &Ok(())).expect(rt, "as wanted");
+    same(disk.write_at(Which::A, at, bytes), Ok(())).expect(rt, "as wanted");
 }
 
 // Syncs the first file of a disk.
 fn sync<R: Abort, D: Disk>(rt: &R, disk: &mut D) {
-    same(&disk.sync(Which::A), &Ok(())).expect(rt, "as wanted");
+    same(disk.sync(Which::A), Ok(())).expect(rt, "as wanted");
 }
 
 // Tells that the first file of a disk has these bytes.
 pub(crate) fn expect_file<R: Abort, D: Disk>(rt: &R, alloc: Global, disk: &mut D, bytes: &[u8]) {
     let mut into = vec![in alloc; 0; bytes.len() + 1].expect(rt, "memory");
-    same(&disk.read_at(Which::A, 0, &mut into), &Ok(bytes.len())).expect(rt, "as wanted");
-    same(&&into[..bytes.len()], &bytes).expect(rt, "as wanted");
+    same(disk.read_at(Which::A, 0, &mut into), Ok(bytes.len())).expect(rt, "as wanted");
+    same(&into[..bytes.len()], bytes).expect(rt, "as wanted");
 }
 
 // Tells which records there are: the place and the payload of each.
 fn expect_records<R: Abort>(rt: &R, records: &Records, expected: &[(u64, &[u8])]) {
-    same(&records.len(), &expected.len()).expect(rt, "as wanted");
+    same(records.len(), expected.len()).expect(rt, "as wanted");
     for (found, (at, payload)) in records.iter().zip(expected) {
-        same(&found.at, at).expect(rt, "as wanted");
-        same(&found.payload.as_slice(), payload).expect(rt, "as wanted");
+        same(found.at, *at).expect(rt, "as wanted");
+        same(found.payload.as_slice(), *payload).expect(rt, "as wanted");
     }
 }
 
@@ -75,11 +75,11 @@ fn expect_steps<R: Abort, D: Disk>(rt: &R, journal: &mut Journal<D>, steps: &[St
 fn expect_step<R: Abort, D: Disk>(rt: &R, journal: &mut Journal<D>, step: Step) {
     match step {
         Step::Append(limit, payload, answer) => {
-            same_at(&append(rt, journal, limit, payload), &answer, &step).expect(rt, "as wanted");
+            same_at(append(rt, journal, limit, payload), answer, step).expect(rt, "as wanted");
         }
-        Step::Repair(answer) => same_at(&journal.repair(), &answer, &step).expect(rt, "as wanted"),
-        Step::End(end) => same_at(&journal.end(), &end, &step).expect(rt, "as wanted"),
-        Step::InDoubt(doubt) => same_at(&journal.in_doubt(), &doubt, &step).expect(rt, "as wanted"),
+        Step::Repair(answer) => same_at(journal.repair(), answer, step).expect(rt, "as wanted"),
+        Step::End(end) => same_at(journal.end(), end, step).expect(rt, "as wanted"),
+        Step::InDoubt(doubt) => same_at(journal.in_doubt(), doubt, step).expect(rt, "as wanted"),
     }
 }
 
@@ -146,7 +146,7 @@ fn an_empty_file_is_made_anew_and_a_record_is_its_bytes(rt: HostRuntime) {
     ];
     let disk = disk_of(&rt, alloc, b"", &[]);
     let mut disk = expect_journal(&rt, alloc, disk, &[], &steps);
-    same(&disk.made().len(), &12).expect(&rt, "as wanted");
+    same(disk.made().len(), 12).expect(&rt, "as wanted");
     expect_file(&rt, alloc, &mut disk, LEARNT_FILE);
     let steps = [Step::End(61), Step::InDoubt(false)];
     expect_journal(&rt, alloc, disk, &[(17, LEARNING)], &steps);
@@ -197,12 +197,12 @@ fn expect_opened<R: Abort>(rt: &R, records: &Records, row: Row) {
 
 fn expect_fault<R: Abort>(rt: &R, why: &OpenFault, row: Row) {
     match (why, row) {
-        (OpenFault::NotJournal { first }, Row::NotJournal(byte)) => same(first, &byte).expect(
+        (OpenFault::NotJournal { first }, Row::NotJournal(byte)) => same(*first, byte).expect(
             rt,
             "as wanted",
         ),
         (OpenFault::BadRecord { at, before }, Row::BadRecord(place, expected)) => {
-            same(at, &place).expect(rt, "as wanted");
+            same(*at, place).expect(rt, "as wanted");
             expect_records(rt, before, expected);
         }
         _ => assert!(rt; false, "{row:?} is refused: {why}"),
@@ -275,7 +275,7 @@ fn records_are_read_up_to_the_first_gate_that_is_not_open(rt: HostRuntime) {
 fn records_of_any_length_are_read_part_by_part(rt: HostRuntime) {
     let alloc = rt.alloc();
     let longest = vec![in alloc; b'a'; PAYLOAD_LIMIT].expect(&rt, "memory");
-    same(&longest.len(), &131_072).expect(&rt, "as wanted");
+    same(longest.len(), 131_072).expect(&rt, "as wanted");
     let long = vec![in alloc; 1; 70_000].expect(&rt, "memory");
     expect_lengths(&rt, alloc, &longest, &long)
 }
@@ -347,7 +347,7 @@ fn kind_of(call: &MadeCall) -> char {
 // Tells what the calls of a disk were.
 fn expect_kinds<R: Abort>(rt: &R, alloc: Global, disk: &MemDisk, wanted: &str) {
     let kinds = kinds(rt, alloc, disk.made());
-    same(&kinds.as_str(), &wanted).expect(rt, "as wanted");
+    same(kinds.as_str(), wanted).expect(rt, "as wanted");
 }
 
 #[test]

@@ -233,9 +233,9 @@ fn expect_case<R: Abort>(rt: &R, alloc: Global, case: &Case) {
     let (fails, limit, _, wanted, made) = *case;
     let (calls, told) = told_of(rt, alloc, case);
     same_at(
-        &(calls.as_str(), told.as_str()),
-        &(made, wanted),
-        &(&fails, &limit),
+        (calls.as_str(), told.as_str()),
+        (made, wanted),
+        (&fails, &limit),
     )
     .expect(rt, "as wanted");
 }
@@ -385,7 +385,7 @@ fn expect_opened<R: Abort>(rt: &R, alloc: Global, head: &[u8], tail: &[u8], want
     bytes.extend_from_slice(tail).expect(rt, "memory");
     let disk = disk_of(rt, alloc, &bytes, &[]);
     let told = opening_text(rt, alloc, disk);
-    same_at(&told.as_str(), &wanted, &tail).expect(rt, "as wanted");
+    same_at(told.as_str(), wanted, tail).expect(rt, "as wanted");
 }
 
 // The lines of book 1 of the learned file of a disk, or why that is refused.

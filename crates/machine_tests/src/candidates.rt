@@ -93,7 +93,7 @@ fn keys_pick_candidates(rt: HostRuntime) {
 fn expect_picking<R: Abort>(rt: &R, alloc: Global, count: usize, keys: &str, wanted: &str) {
     let (picking, done) = picking_after(rt, alloc, count, keys);
     let outcome = picking_text(rt, alloc, &picking, done);
-    same_at(&outcome.as_str(), &wanted, &(&keys, &count)).expect(rt, "as wanted");
+    same_at(outcome.as_str(), wanted, (&keys, &count)).expect(rt, "as wanted");
 }
 
 fn picking_text(rt: &impl Abort, alloc: Global, picking: &Picking, done: CandsDo) -> String {
@@ -106,11 +106,11 @@ type ShownRow = (&'static str, &'static str, &'static str, &'static str);
 
 fn expect_shown<R: Abort>(rt: &R, shown: &Shown, row: &ShownRow) {
     let (reading, word, text, note) = *row;
-    same(&shown.key.reading().as_str(), &reading).expect(rt, "as wanted");
-    same(&shown.cand.word().as_str(), &word).expect(rt, "as wanted");
+    same(shown.key.reading().as_str(), reading).expect(rt, "as wanted");
+    same(shown.cand.word().as_str(), word).expect(rt, "as wanted");
     same(
-        &(shown.text.as_str(), shown.cand.note().as_str()),
-        &(text, note),
+        (shown.text.as_str(), shown.cand.note().as_str()),
+        (text, note),
     )
     .expect(rt, "as wanted");
 }

@@ -61,11 +61,11 @@ fn numbers_of_a_reading_fill_a_word(rt: HostRuntime) {
 fn expect_filling<R: Abort>(rt: &R, alloc: Global, filling: &Filling) {
     let (reading, key, word, asks, firsts, wanted) = *filling;
     let found = key_of(rt, alloc, reading).expect(rt, "no number");
-    same(&found.key().as_str(), &key).expect(rt, "as wanted");
+    same(found.key().as_str(), key).expect(rt, "as wanted");
     let (_, numbers) = found.into_parts();
     let firsts = words(rt, alloc, firsts);
     let word = text(rt, alloc, word);
-    same(&asks_lookup(&word), &asks).expect(rt, "as wanted");
+    same(asks_lookup(&word), asks).expect(rt, "as wanted");
     expect_filled(rt, alloc, &word, &numbers, &firsts, wanted)
 }
 
@@ -82,7 +82,7 @@ fn expect_filled<R: Abort>(
 {
     assert_eq!(rt; firsts.len(), numbers.len());
     let filled = fill(alloc, word, numbers, firsts).expect(rt, "memory");
-    same(&filled.as_str(), &wanted).expect(rt, "as wanted");
+    same(filled.as_str(), wanted).expect(rt, "as wanted");
 }
 
 fn key_of(rt: &impl Abort, alloc: Global, reading: &str) -> Option<NumberKey> {

@@ -36,7 +36,7 @@ fn outcome_of(rt: &impl Abort, alloc: Global, rules: &Rules, keys: &str) -> Stri
 fn keys_are_read_in_the_plain_state(rt: HostRuntime) {
     let alloc = rt.alloc();
     let rules = Rules::standard(alloc).expect(&rt, "memory");
-    same(&CASES.split_whitespace().count(), &24).expect(&rt, "as wanted");
+    same(CASES.split_whitespace().count(), 24).expect(&rt, "as wanted");
     for case in CASES.split_whitespace() {
         expect_case(&rt, alloc, &rules, case);
     }
@@ -45,5 +45,5 @@ fn keys_are_read_in_the_plain_state(rt: HostRuntime) {
 fn expect_case<R: Abort>(rt: &R, alloc: Global, rules: &Rules, case: &str) {
     let (keys, wanted) = case.split_once('=').expect(rt, "no `=`");
     let outcome = outcome_of(rt, alloc, rules, keys);
-    same_at(&outcome.as_str(), &wanted, &keys).expect(rt, "as wanted");
+    same_at(outcome.as_str(), wanted, keys).expect(rt, "as wanted");
 }

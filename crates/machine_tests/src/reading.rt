@@ -89,7 +89,7 @@ fn press_keys(
 fn keys_make_a_reading(rt: HostRuntime) {
     let alloc = rt.alloc();
     let rules = Rules::standard(alloc).expect(&rt, "memory");
-    same(&CASES.split_whitespace().count(), &42).expect(&rt, "as wanted");
+    same(CASES.split_whitespace().count(), 42).expect(&rt, "as wanted");
     for case in CASES.split_whitespace() {
         expect_case(&rt, alloc, &rules, case, "");
     }
@@ -99,7 +99,7 @@ fn keys_make_a_reading(rt: HostRuntime) {
 fn expect_case<R: Abort>(rt: &R, alloc: Global, rules: &Rules, case: &str, completed: &str) {
     let (keys, wanted) = case.split_once('=').expect(rt, "no `=`");
     let outcome = outcome_of(rt, alloc, rules, keys, completed);
-    same_at(&outcome.as_str(), &wanted, &keys).expect(rt, "as wanted");
+    same_at(outcome.as_str(), wanted, keys).expect(rt, "as wanted");
 }
 
 fn outcome_of<R: Abort>(
@@ -123,7 +123,7 @@ fn complete<R: Abort>(rt: &R, alloc: Global, reading: &mut Reading) {
     let notice = reading
         .complete(alloc, completions(rt, alloc))
         .expect(rt, "memory");
-    same(&notice, &Notice::Empty).expect(rt, "as wanted");
+    same(notice, Notice::Empty).expect(rt, "as wanted");
 }
 
 // The readings かん, かんじ and かき, which complete か.
@@ -164,12 +164,12 @@ const COMPLETED: &str = "
 fn completions_are_gone_over(rt: HostRuntime) {
     let alloc = rt.alloc();
     let rules = Rules::standard(alloc).expect(&rt, "memory");
-    same(&COMPLETED.split_whitespace().count(), &12).expect(&rt, "as wanted");
+    same(COMPLETED.split_whitespace().count(), 12).expect(&rt, "as wanted");
     for case in COMPLETED.split_whitespace() {
         expect_case(&rt, alloc, &rules, case, "ka");
     }
     let notice = notice_of_none(&rt, alloc);
-    same(&notice, &Notice::NoCompletion).expect(&rt, "as wanted");
+    same(notice, Notice::NoCompletion).expect(&rt, "as wanted");
 }
 
 // What a reading tells that nothing completes.
@@ -210,7 +210,7 @@ fn okuri_of(rt: &impl Abort, alloc: Global, reading: &Reading) -> String {
 fn expect_key<R: Abort>(rt: &R, alloc: Global, reading: &Reading, key: &str, okuri: &str) {
     assert!(rt; reading.text().byte_len() > 0);
     let found = (key_of(rt, alloc, reading), okuri_of(rt, alloc, reading));
-    same(&(found.0.as_str(), found.1.as_str()), &(key, okuri)).expect(rt, "as wanted");
+    same((found.0.as_str(), found.1.as_str()), (key, okuri)).expect(rt, "as wanted");
 }
 
 // A reading is converted by its text, with the letter of an okurigana.

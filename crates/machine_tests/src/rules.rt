@@ -75,7 +75,7 @@ fn output_of(rt: &impl Abort, alloc: Global, rules: &Rules, letters: &str) -> (T
 fn reads_the_standard_table(rt: HostRuntime) {
     let alloc = rt.alloc();
     let rules = Rules::standard(alloc).expect(&rt, "memory");
-    same(&CASES.split_whitespace().count(), &476).expect(&rt, "as wanted");
+    same(CASES.split_whitespace().count(), 476).expect(&rt, "as wanted");
     for case in CASES.split_whitespace() {
         expect_case(&rt, alloc, &rules, case);
     }
@@ -85,7 +85,7 @@ fn expect_case<R: Abort>(rt: &R, alloc: Global, rules: &Rules, case: &str) {
     let (letters, wanted) = case.split_once('=').expect(rt, "no `=`");
     let wanted = wanted.split_once(':').expect(rt, "no `:`");
     let (out, left) = output_of(rt, alloc, rules, letters);
-    same_at(&(out.as_str(), left.as_str()), &wanted, &letters).expect(rt, "as wanted");
+    same_at((out.as_str(), left.as_str()), wanted, letters).expect(rt, "as wanted");
 }
 
 #[test]
@@ -93,14 +93,14 @@ fn letters_go_on_or_begin_anew(rt: HostRuntime) {
     let rules = Rules::standard(rt.alloc()).expect(&rt, "memory");
     let mut pending = Pending::of(b"n");
     assert!(rt; rules.extend(&mut pending, b'y').is_some());
-    same(&pending.as_str(), &"ny").expect(&rt, "as wanted");
+    same(pending.as_str(), "ny").expect(&rt, "as wanted");
     assert!(rt; !rules.goes_on(&pending, b'q'));
     let out = rules.feed_anew(&mut pending, b'q');
     same(
-        &out.text(rt.alloc(), Kana::Hiragana)
+        out.text(rt.alloc(), Kana::Hiragana)
             .expect(&rt, "memory")
             .as_str(),
-        &"q",
+        "q",
     )
     .expect(&rt, "as wanted");
     assert!(rt; pending.is_empty());
@@ -113,17 +113,17 @@ fn what_is_pending_comes_out(rt: HostRuntime) {
     pending.delete_last();
     let out = rules.flush(&mut pending);
     same(
-        &out.text(rt.alloc(), Kana::Hiragana)
+        out.text(rt.alloc(), Kana::Hiragana)
             .expect(&rt, "memory")
             .as_str(),
-        &"ん",
+        "ん",
     )
     .expect(&rt, "as wanted");
     same(
-        &out.text(rt.alloc(), Kana::Katakana)
+        out.text(rt.alloc(), Kana::Katakana)
             .expect(&rt, "memory")
             .as_str(),
-        &"ン",
+        "ン",
     )
     .expect(&rt, "as wanted");
 }
@@ -133,8 +133,8 @@ fn outputs_are_in_both_kana(rt: HostRuntime) {
     let mut hira = Text::new(rt.alloc());
     hira.push('な').expect(&rt, "memory");
     let out = Out::of_hiragana(rt.alloc(), hira).expect(&rt, "memory");
-    same(&out.in_kana(Kana::Hiragana).as_str(), &"な").expect(&rt, "as wanted");
-    same(&out.in_kana(Kana::Katakana).as_str(), &"ナ").expect(&rt, "as wanted");
+    same(out.in_kana(Kana::Hiragana).as_str(), "な").expect(&rt, "as wanted");
+    same(out.in_kana(Kana::Katakana).as_str(), "ナ").expect(&rt, "as wanted");
     let nothing = Out::nothing(rt.alloc());
     assert!(rt; nothing.in_kana(Kana::Katakana).is_empty());
 }

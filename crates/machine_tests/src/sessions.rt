@@ -500,7 +500,7 @@ fn case_text(rt: &impl Abort, alloc: Global, session: &Session) -> String {
 #[test]
 fn sessions_are_shown(rt: HostRuntime) {
     let alloc = rt.alloc();
-    same(&CASES.lines().count(), &232).expect(&rt, "as wanted");
+    same(CASES.lines().count(), 232).expect(&rt, "as wanted");
     for case in CASES.lines().skip(1) {
         expect_case(&rt, alloc, case);
     }
@@ -509,7 +509,7 @@ fn sessions_are_shown(rt: HostRuntime) {
 fn expect_case<R: Abort>(rt: &R, alloc: Global, case: &str) {
     let (typing, wanted) = case.split_once('=').expect(rt, "no `=`");
     let told = told_of(rt, alloc, typing);
-    same_at(&told.as_str(), &wanted, &typing).expect(rt, "as wanted");
+    same_at(told.as_str(), wanted, typing).expect(rt, "as wanted");
 }
 
 // What a case has of the session after what is typed.
@@ -548,11 +548,7 @@ fn what_is_inserted_fits_up_to_the_limit(rt: HostRuntime) {
 // Tells how many bytes the text of a session has, and its notice.
 fn expect_length<R: Abort>(rt: &R, alloc: Global, session: &Session, length: usize, notice: &str) {
     let told = session.notice(alloc).expect(rt, "memory");
-    same(
-        &(session.text().byte_len(), told.as_str()),
-        &(length, notice),
-    )
-    .expect(rt, "as wanted");
+    same((session.text().byte_len(), told.as_str()), (length, notice)).expect(rt, "as wanted");
 }
 
 // A word of more than 4,095 bytes stays in its registration, also where its last choice was learnt or refused.
@@ -595,8 +591,8 @@ fn sessions_have_a_mode_and_a_text(rt: HostRuntime) {
 
 // Tells the mode and the text of a session.
 fn expect_text<R: Abort>(rt: &R, session: &Session, mode: Mode, text: &str) {
-    same(&session.mode(), &mode).expect(rt, "as wanted");
-    same(&session.text().as_str(), &text).expect(rt, "as wanted");
+    same(session.mode(), mode).expect(rt, "as wanted");
+    same(session.text().as_str(), text).expect(rt, "as wanted");
 }
 
 // Tells the line of a session with its text behind it.
@@ -604,7 +600,7 @@ fn expect_page<R: Abort>(rt: &R, alloc: Global, session: &Session, wanted: &str)
     let mut page = Text::new(alloc);
     session.push_line(alloc, &mut page).expect(rt, "memory");
     session.push_text(&mut page).expect(rt, "memory");
-    same(&page.as_str(), &wanted).expect(rt, "as wanted");
+    same(page.as_str(), wanted).expect(rt, "as wanted");
 }
 
 #[test]

@@ -28,19 +28,19 @@ fn a_source_in_memory_reads_piece_by_piece(rt: HostRuntime) {
         &rt, "memory",
     );
     let mut into = [0; 2];
-    same(&source.read(&mut into), &Ok(2)).expect(&rt, "as wanted");
-    same(&source.read(&mut into), &Err(Failed)).expect(&rt, "as wanted");
-    same(&source.read(&mut into), &Ok(1)).expect(&rt, "as wanted");
-    same(&into, &*b"zy").expect(&rt, "as wanted");
+    same(source.read(&mut into), Ok(2)).expect(&rt, "as wanted");
+    same(source.read(&mut into), Err(Failed)).expect(&rt, "as wanted");
+    same(source.read(&mut into), Ok(1)).expect(&rt, "as wanted");
+    same(into, *b"zy").expect(&rt, "as wanted");
 }
 
 #[test]
 fn a_sink_in_memory_writes_but_at_calls_that_fail(rt: HostRuntime) {
     let mut sink = MemSink::new(rt.alloc(), vec![in rt.alloc(); 2].expect(&rt, "memory"));
-    same(&sink.write(b"xy"), &Ok(2)).expect(&rt, "as wanted");
-    same(&sink.flush(), &Err(Failed)).expect(&rt, "as wanted");
-    same(&write_all(&mut sink, b"zw"), &Ok(())).expect(&rt, "as wanted");
-    same(&sink.written(), &b"xyzw".as_slice()).expect(&rt, "as wanted");
+    same(sink.write(b"xy"), Ok(2)).expect(&rt, "as wanted");
+    same(sink.flush(), Err(Failed)).expect(&rt, "as wanted");
+    same(write_all(&mut sink, b"zw"), Ok(())).expect(&rt, "as wanted");
+    same(sink.written(), b"xyzw".as_slice()).expect(&rt, "as wanted");
 }
 
 // A link of one piece, whose third call fails.
@@ -54,15 +54,15 @@ fn link(rt: &impl Abort, alloc: Global) -> MemLink {
 fn a_link_in_memory_is_read_and_written(rt: HostRuntime) {
     let mut link = link(&rt, rt.alloc());
     let mut into = [0; 2];
-    same(&link.read(&mut into), &Ok(2)).expect(&rt, "as wanted");
-    same(&into, &*b"xy").expect(&rt, "as wanted");
-    same(&link.write(b"zw"), &Ok(2)).expect(&rt, "as wanted");
-    same(&link.flush(), &Err(Failed)).expect(&rt, "as wanted");
-    same(&link.read(&mut into), &Ok(0)).expect(&rt, "as wanted");
-    same(&link.is_closed(), &false).expect(&rt, "as wanted");
+    same(link.read(&mut into), Ok(2)).expect(&rt, "as wanted");
+    same(into, *b"xy").expect(&rt, "as wanted");
+    same(link.write(b"zw"), Ok(2)).expect(&rt, "as wanted");
+    same(link.flush(), Err(Failed)).expect(&rt, "as wanted");
+    same(link.read(&mut into), Ok(0)).expect(&rt, "as wanted");
+    same(link.is_closed(), false).expect(&rt, "as wanted");
     link.close();
-    same(&link.is_closed(), &true).expect(&rt, "as wanted");
-    same(&link.written(), &b"zw".as_slice()).expect(&rt, "as wanted");
+    same(link.is_closed(), true).expect(&rt, "as wanted");
+    same(link.written(), b"zw".as_slice()).expect(&rt, "as wanted");
 }
 
 #[test]
@@ -74,13 +74,13 @@ fn a_listener_in_memory_gives_its_links_and_takes_them_back(rt: HostRuntime) {
         coming,
         vec![in rt.alloc(); 2].expect(&rt, "memory"),
     );
-    same(&net.open(1178), &Ok(())).expect(&rt, "as wanted");
-    same(&net.accept().err(), &Some(Failed)).expect(&rt, "as wanted");
+    same(net.open(1178), Ok(())).expect(&rt, "as wanted");
+    same(net.accept().err(), Some(Failed)).expect(&rt, "as wanted");
     if let Some(link) = net.accept().expect(&rt, "memory") {
         net.done(link);
     }
-    same(&net.over().len(), &1).expect(&rt, "as wanted");
-    same(&net.accept().map(|link| link.is_none()), &Ok(true)).expect(&rt, "as wanted");
+    same(net.over().len(), 1).expect(&rt, "as wanted");
+    same(net.accept().map(|link| link.is_none()), Ok(true)).expect(&rt, "as wanted");
     Open.at(0, 0);
 }
 
@@ -95,11 +95,11 @@ fn read_pieces(alloc: Global, limit: usize) -> Result<Bytes, ReadFault>
 #[test]
 fn a_source_is_read_up_to_the_limit(rt: HostRuntime) {
     same(
-        &read_pieces(rt.alloc(), 4).expect(&rt, "memory").as_slice(),
-        &b"xyzw".as_slice(),
+        read_pieces(rt.alloc(), 4).expect(&rt, "memory").as_slice(),
+        b"xyzw".as_slice(),
     )
     .expect(&rt, "as wanted");
-    same(&read_pieces(rt.alloc(), 3).err(), &Some(ReadFault::TooLong)).expect(&rt, "as wanted");
+    same(read_pieces(rt.alloc(), 3).err(), Some(ReadFault::TooLong)).expect(&rt, "as wanted");
 }
 
 // Gives one byte at a time, and fails at its second read.
@@ -125,17 +125,17 @@ impl Read for Halting {
 fn a_reader_is_a_source(rt: HostRuntime) {
     let mut source = ReaderSource::new([7, 8, 9].as_slice());
     let bytes = read_to_end(rt.alloc(), &mut source, 3).expect(&rt, "memory");
-    same(&bytes.as_slice(), &[7, 8, 9].as_slice()).expect(&rt, "as wanted");
+    same(bytes.as_slice(), &[7, 8, 9].as_slice()).expect(&rt, "as wanted");
 }
 
 #[test]
 fn a_read_that_fails_may_be_tried_again(rt: HostRuntime) {
     let mut source = ReaderSource::new(Halting(0));
     let mut into = [0; 2];
-    same(&source.read(&mut into), &Ok(1)).expect(&rt, "as wanted");
-    same(&source.read(&mut into), &Err(Failed)).expect(&rt, "as wanted");
-    same(&source.read(&mut into), &Ok(1)).expect(&rt, "as wanted");
-    same(&into, &[3, 0]).expect(&rt, "as wanted");
+    same(source.read(&mut into), Ok(1)).expect(&rt, "as wanted");
+    same(source.read(&mut into), Err(Failed)).expect(&rt, "as wanted");
+    same(source.read(&mut into), Ok(1)).expect(&rt, "as wanted");
+    same(into, [3, 0]).expect(&rt, "as wanted");
 }
 
 // Takes two bytes, one at a time, and then none.
@@ -160,17 +160,17 @@ impl Write for Narrow {
 fn a_writer_is_a_sink(rt: HostRuntime) {
     let mut written = Vec::new(rt.alloc());
     let mut sink = WriterSink::new(&mut written);
-    same(&write_all(&mut sink, &[7, 8, 9]), &Ok(())).expect(&rt, "as wanted");
+    same(write_all(&mut sink, &[7, 8, 9]), Ok(())).expect(&rt, "as wanted");
     drop(sink);
-    same(&written.as_slice(), &[7, 8, 9].as_slice()).expect(&rt, "as wanted");
+    same(written.as_slice(), &[7, 8, 9].as_slice()).expect(&rt, "as wanted");
 }
 
 #[test]
 fn a_writer_that_takes_no_byte_fails(rt: HostRuntime) {
     let mut sink = WriterSink::new(Narrow(0));
-    same(&write_all(&mut sink, &[1, 2]), &Ok(())).expect(&rt, "as wanted");
-    same(&sink.write(&[3]), &Err(Failed)).expect(&rt, "as wanted");
-    same(&sink.flush(), &Err(Failed)).expect(&rt, "as wanted");
+    same(write_all(&mut sink, &[1, 2]), Ok(())).expect(&rt, "as wanted");
+    same(sink.write(&[3]), Err(Failed)).expect(&rt, "as wanted");
+    same(sink.flush(), Err(Failed)).expect(&rt, "as wanted");
 }
 
 // A file of three bytes, an empty one, and one of a piece and a byte.
@@ -203,8 +203,8 @@ fn expect_read<R: Abort, H: Shelf>(rt: &R, alloc: Global, shelf: &mut H, reading
     let (name, place, answer, left) = *reading;
     let text = text(rt, alloc, name);
     let mut into = vec![in alloc; b'.'; left.len()].expect(rt, "memory");
-    same_at(&shelf.read(&text, place, &mut into), &answer, &reading).expect(rt, "as wanted");
-    same_at(&into.as_slice(), &left.as_bytes(), &reading).expect(rt, "as wanted");
+    same_at(shelf.read(&text, place, &mut into), answer, reading).expect(rt, "as wanted");
+    same_at(into.as_slice(), left.as_bytes(), reading).expect(rt, "as wanted");
 }
 
 static READINGS: [Reading; 15] = [
@@ -300,7 +300,7 @@ fn expect_whole_read(rt: &impl Abort, alloc: Global, reading: &WholeReading) {
             fault.is_none() && holds(name, bytes.as_slice()),
             "{reading:?}"
         ),
-        Err(why) => same_at(&Some(why), &fault, &reading).expect(rt, "as wanted"),
+        Err(why) => same_at(Some(why), fault, reading).expect(rt, "as wanted"),
     }
 }
 

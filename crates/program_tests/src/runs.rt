@@ -71,12 +71,12 @@ fn expect_failing<R: Abort>(rt: &R, alloc: Global, row: &FailingRow) {
 
 // Tells the status of a run.
 fn expect_ended<R: Abort>(rt: &R, ended: u8, status: u8) {
-    same(&ended, &status).expect(rt, "as wanted");
+    same(ended, status).expect(rt, "as wanted");
 }
 
 // Tells what was written to a sink.
 fn expect_written<R: Abort>(rt: &R, sink: &MemSink, wanted: &str) {
-    same_at(&sink.written(), &wanted.as_bytes(), &wanted).expect(rt, "as wanted");
+    same_at(sink.written(), wanted.as_bytes(), wanted).expect(rt, "as wanted");
 }
 
 // A file in which the okuri-ari part comes behind a row without okurigana.
@@ -260,8 +260,8 @@ fn expect_one_by_one<R: Abort>(rt: &R, alloc: Global, call: u64, is_last: bool) 
 fn expect_begun<R: Abort>(rt: &R, written: &[u8], call: u64) {
     let whole = TYPED.as_bytes();
     same(
-        &(written.len() as u64),
-        &call.saturating_sub(1).min(whole.len() as u64),
+        (written.len() as u64),
+        call.saturating_sub(1).min(whole.len() as u64),
     )
     .expect(rt, "as wanted");
     assert!(rt; whole.starts_with(written), "at call {call}");

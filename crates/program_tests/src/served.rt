@@ -134,18 +134,18 @@ fn expect_served<R: Threads + Wait + Copy + Send + Sync + Abort>(
     let ended = serve(
         rt, alloc, options, disk, &mut net, &Open, &mut out, &mut err,
     );
-    same_at(&ended, &status, &printed).expect(&rt, "as wanted");
-    same_at(&out.written(), &printed.as_bytes(), &printed).expect(&rt, "as wanted");
-    same_at(&err.written(), &told.as_bytes(), &printed).expect(&rt, "as wanted");
+    same_at(ended, status, printed).expect(&rt, "as wanted");
+    same_at(out.written(), printed.as_bytes(), printed).expect(&rt, "as wanted");
+    same_at(err.written(), told.as_bytes(), printed).expect(&rt, "as wanted");
     expect_links(&rt, net.over(), links);
 }
 
 // Each link that came back was closed, and was written this.
 fn expect_links<R: Abort>(rt: &R, over: &[MemLink], links: &[&str]) {
-    same(&over.len(), &links.len()).expect(rt, "as wanted");
+    same(over.len(), links.len()).expect(rt, "as wanted");
     for (link, wanted) in over.iter().zip(links) {
         assert!(rt; link.is_closed());
-        same(&link.written(), &wanted.as_bytes()).expect(rt, "as wanted");
+        same(link.written(), wanted.as_bytes()).expect(rt, "as wanted");
     }
 }
 
@@ -180,8 +180,8 @@ fn connections_end_each_for_itself(rt: HostRuntime) {
     let status = serve(
         rt, alloc, options, disk, &mut net, &Open, &mut out, &mut err,
     );
-    same(&status, &0).expect(&rt, "as wanted");
-    same(&out.written(), &b"ready\nserved 6\n".as_slice()).expect(&rt, "as wanted");
+    same(status, 0).expect(&rt, "as wanted");
+    same(out.written(), b"ready\nserved 6\n".as_slice()).expect(&rt, "as wanted");
     expect_links(&rt, net.over(), &ENDED);
 }
 
@@ -200,9 +200,9 @@ fn two_held(rt: HostRuntime) {
     let status = serve(
         rt, alloc, options, disk, &mut net, &meeting, &mut out, &mut err,
     );
-    same(&status, &0).expect(&rt, "as wanted");
+    same(status, 0).expect(&rt, "as wanted");
     expect_links(&rt, net.over(), &["4ぬ \n4ぬ \n", "4ぬ \n4ぬ \n"]);
-    same(&meeting.count(), &2).expect(&rt, "as wanted");
+    same(meeting.count(), 2).expect(&rt, "as wanted");
     assert!(rt; !meeting.is_missed());
 }
 
@@ -349,11 +349,11 @@ fn written_first(rt: HostRuntime) {
     let status = serve(
         rt, alloc, options, disk, &mut net, &witness, &mut out, &mut err,
     );
-    same(&status, &0).expect(&rt, "as wanted");
+    same(status, 0).expect(&rt, "as wanted");
     expect_links(&rt, net.over(), &["かな\t\t\nかな\t漢字\t\n"]);
     let first = witness.first.load(Ordering::SeqCst);
     let second = witness.second.load(Ordering::SeqCst);
-    same(&second.wrapping_sub(first), &4).expect(&rt, "as wanted");
+    same(second.wrapping_sub(first), 4).expect(&rt, "as wanted");
 }
 
 // Breaks a disk when the first reply is to be written.
@@ -412,7 +412,7 @@ fn expect_refused<G: Gate + Sync, R: Threads + Wait + Copy + Send + Sync + Abort
     let disk = Watched::new(alloc, watch);
     let options = ["--dict=words", "--limit=64"];
     let ended = serve(rt, alloc, options, disk, &mut net, gate, &mut out, &mut err);
-    same(&ended, &status).expect(&rt, "as wanted");
-    same(&out.written(), &b"ready\nserved 1\n".as_slice()).expect(&rt, "as wanted");
-    same(&err.written(), &told.as_bytes()).expect(&rt, "as wanted");
+    same(ended, status).expect(&rt, "as wanted");
+    same(out.written(), b"ready\nserved 1\n".as_slice()).expect(&rt, "as wanted");
+    same(err.written(), told.as_bytes()).expect(&rt, "as wanted");
 }

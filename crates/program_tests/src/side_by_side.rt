@@ -99,8 +99,8 @@ fn two_typed(rt: HostRuntime) {
     let meeting = Meeting::new();
     let mut out = MemSink::new(alloc, Vec::new(alloc));
     let status = type_by_two(rt, alloc, &meeting, &mut out);
-    same(&status, &0).expect(&rt, "as wanted");
-    same(&out.written(), &TYPED.as_bytes()).expect(&rt, "as wanted");
-    same(&meeting.count(), &2).expect(&rt, "as wanted");
+    same(status, 0).expect(&rt, "as wanted");
+    same(out.written(), TYPED.as_bytes()).expect(&rt, "as wanted");
+    same(meeting.count(), 2).expect(&rt, "as wanted");
     assert!(rt; !meeting.is_missed());
 }

@@ -33,15 +33,15 @@ fn bytes_cross_a_port(rt: HostRuntime) {
     let mut link = next_link(&rt, &mut net);
     peer.write_all(b"1a 2").expect(&rt, "memory");
     let mut into = [0; 3];
-    same(&link.read(&mut into), &Ok(3)).expect(&rt, "as wanted");
-    same(&into, &*b"1a ").expect(&rt, "as wanted");
+    same(link.read(&mut into), Ok(3)).expect(&rt, "as wanted");
+    same(into, *b"1a ").expect(&rt, "as wanted");
     write_all(&mut link, b"4a \n").expect(&rt, "memory");
     link.flush().expect(&rt, "memory");
     // the peer gets what was written also where its last byte was not read
     link.close();
     let mut told = Vec::new(rt.alloc());
     peer.read_to_end(&mut told).expect(&rt, "memory");
-    same(&told.as_slice(), &b"4a \n".as_slice()).expect(&rt, "as wanted");
+    same(told.as_slice(), b"4a \n".as_slice()).expect(&rt, "as wanted");
 }
 
 #[test]
@@ -51,19 +51,19 @@ fn a_closed_link_fails(rt: HostRuntime) {
     let _peer = peer_at(&rt, port);
     let mut link = next_link(&rt, &mut net);
     link.close();
-    same(&link.read(&mut [0; 3]), &Err(Failed)).expect(&rt, "as wanted");
-    same(&link.write(b"a"), &Err(Failed)).expect(&rt, "as wanted");
-    same(&link.flush(), &Err(Failed)).expect(&rt, "as wanted");
+    same(link.read(&mut [0; 3]), Err(Failed)).expect(&rt, "as wanted");
+    same(link.write(b"a"), Err(Failed)).expect(&rt, "as wanted");
+    same(link.flush(), Err(Failed)).expect(&rt, "as wanted");
     link.close();
 }
 
 #[test]
 fn a_port_has_one_listener(rt: HostRuntime) {
     let mut net = HostListener::new(&rt);
-    same(&net.accept().err(), &Some(Failed)).expect(&rt, "as wanted");
+    same(net.accept().err(), Some(Failed)).expect(&rt, "as wanted");
     let port = open_any(&rt, &mut net);
     let mut other = HostListener::new(&rt);
-    same(&other.open(port), &Err(Failed)).expect(&rt, "as wanted");
+    same(other.open(port), Err(Failed)).expect(&rt, "as wanted");
     drop(net);
-    same(&other.open(port), &Ok(())).expect(&rt, "as wanted");
+    same(other.open(port), Ok(())).expect(&rt, "as wanted");
 }

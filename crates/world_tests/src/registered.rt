@@ -62,8 +62,8 @@ fn a_registered_word_is_a_line_of_its_book(rt: HostRuntime) {
     let mut learner = new_learner(&rt, rt.alloc());
     let display = display_after(&rt, rt.alloc(), &mut learner, "/ao land/or;x<ret>/ao ");
     let lines = lines_of(&rt, rt.alloc(), &learner.index);
-    same(&display.as_str(), &"and/or;x▼and/or;x").expect(&rt, "as wanted");
-    same(&lines.as_str(), &"ao /(concat \"and\\057or\\073x\")/\n").expect(&rt, "as wanted");
+    same(display.as_str(), "and/or;x▼and/or;x").expect(&rt, "as wanted");
+    same(lines.as_str(), "ao /(concat \"and\\057or\\073x\")/\n").expect(&rt, "as wanted");
 }
 
 // The display of a session after these keys.

@@ -213,5 +213,5 @@ fn after_line<R: Abort>(rt: &R, alloc: Global, world: World, line: &Line) -> Wor
 fn expect_told<R: Abort>(rt: &R, alloc: Global, world: &World, came: bool, line: &Line) {
     let (_, place, _, wanted) = *line;
     let told = told(rt, alloc, world, place, came);
-    same_at(&told.as_str(), &wanted, &line).expect(rt, "as wanted");
+    same_at(told.as_str(), wanted, line).expect(rt, "as wanted");
 }

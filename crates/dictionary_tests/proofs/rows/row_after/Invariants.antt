@@ -4,4 +4,4 @@ use Rattle.dictionary_tests.proofs.rows.row_after.Given as goal
 
 -- the row so far, if there is one, is of the key
 abbrev pub invariant-loop-change : goal.invariant-loop-change
-invariant-loop-change l = IfSome l.row (λ row. row.key ≡ l.key)
+invariant-loop-change g l = IfSome l.row (λ row. row.key ≡ l.key)
