@@ -144,14 +144,14 @@ time_left() {
 
 # Ends all that still runs, with what it started, and takes the copies away.
 stop() {
-    trap '' INT TERM HUP
+    trap '' INT TERM HUP PIPE
     for it in $running; do
         kill "${it#*:}" 2>/dev/null
     done
     wait
     exec 8>&-
     rm -rf "$copies"
-    trap - INT TERM HUP
+    trap - INT TERM HUP PIPE
 }
 
 # Proves the crates of the plan, each as soon as those that it stands on are proved.
@@ -214,6 +214,7 @@ build() {
     trap 'stop; exit 130' INT
     trap 'stop; exit 143' TERM
     trap 'stop; exit 129' HUP
+    trap 'stop; exit 141' PIPE
     make_program
     made=$?
     stop
