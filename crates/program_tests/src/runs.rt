@@ -95,10 +95,11 @@ fn check_file(
     out: &mut MemSink,
     err: &mut MemSink,
 ) -> u8 {
-    let content = bytes(rt, alloc, content);
-    let file = (text(rt, alloc, "words"), content);
-    let files = Vec::from_array(alloc, [file]).expect(rt, "memory");
-    let mut shelf = MemShelf::new(files, vec![in alloc; read].expect(rt, "memory"));
+    let file = (text(rt, alloc, "words"), bytes(rt, alloc, content));
+    let mut shelf = MemShelf::new(
+        Vec::from_array(alloc, [file]).expect(rt, "memory"),
+        vec![in alloc; read].expect(rt, "memory"),
+    );
     let mut input = MemSource::new(Vec::new(alloc), vec![in alloc; 1].expect(rt, "memory"));
     let words = [text(rt, alloc, "check"), text(rt, alloc, name)];
     let disk = MemDisk::new(alloc, Vec::new(alloc));
