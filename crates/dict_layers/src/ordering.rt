@@ -1,7 +1,6 @@
 ghost use Rattle.std.specs.Prelude.{◌≡◌, IfOk};
 ghost use Rattle.std.specs.Option.{option_copied};
 ghost use Rattle.skk_calls.specs.Found.{ordered};
-ghost use Rattle.skk_calls.specs.Rows.{same_text};
 ghost use Rattle.dict_layers.specs.Blocks.{block_for};
 
 use crate::layer::add_layer;
@@ -29,12 +28,5 @@ pub(crate) fn block_for<'a>(row: &'a Row, okuri: Option<&Okuri>) -> Option<&'a B
     row.blocks()
         .as_slice()
         .iter()
-        .find(|block| is_for(block, okuri))
-}
-
-// Whether a block is that of an okurigana.
-fn is_for(block: &Block, okuri: &Okuri) -> bool
-    ensures { result ≡ same_text block.now.okuri okuri.now }
-{
-    block.okuri().text().as_str() == okuri.text().as_str()
+        .find(|block| block.is_for(okuri))
 }

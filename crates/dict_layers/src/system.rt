@@ -1,5 +1,4 @@
 ghost use Rattle.std.specs.Prelude.{◌≡◌, IfOk};
-ghost use Rattle.std.specs.Option.{option_copied};
 ghost use Rattle.skk_calls.specs.States.{row_in};
 ghost use Rattle.skk_calls.specs.Walks.{next_above};
 ghost use Rattle.dict_files.specs.Walked.{walked_readings};
@@ -8,7 +7,7 @@ ghost use Rattle.dict_layers.specs.SystemFiles.{rows_in};
 use crate::system_file::SystemFile;
 use dict_files::{DictionaryFiles, RowFile};
 use skk_calls::{Books, Row, RowKey, Rows, Walk};
-use skk_text::{Copies, Memory, Text};
+use skk_text::{Memory, Text, copy_of};
 use std::alloc::Global;
 use std::marker::Model;
 use std::sync::Arc;
@@ -135,15 +134,5 @@ fn reading_above(alloc: Global, file: &SystemFile, low: &Text) -> Result<Option<
     match file {
         SystemFile::Rows(rows) => copy_of(alloc, rows.reading_above(low)),
         SystemFile::Bytes(file) => file.reading_above(alloc, low),
-    }
-}
-
-// A copy of what may not be there.
-fn copy_of<T: Copies>(alloc: Global, item: Option<&T>) -> Result<Option<T>, Memory>
-    ensures { IfOk result (λ copy. copy ≡ option_copied item.entry) }
-{
-    match item {
-        Some(item) => Ok(Some(item.copy(alloc)?)),
-        None => Ok(None),
     }
 }

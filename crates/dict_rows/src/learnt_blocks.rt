@@ -3,9 +3,9 @@ ghost use Rattle.std.specs.List.{list_all};
 ghost use Rattle.std.specs.Option.{option_copied};
 ghost use Rattle.skk_calls.specs.Dictionary.{is_okuri_or_none};
 ghost use Rattle.skk_calls.specs.Learning.{blocks_with_word, learnt_blocks, without_text};
-ghost use Rattle.skk_calls.specs.Rows.{is_word, same_text, texts_differ};
+ghost use Rattle.skk_calls.specs.Rows.{is_word, texts_differ};
 
-use crate::copying::{add_texts_without, is_same};
+use crate::copying::add_texts_without;
 use skk_calls::{Block, Blocks, Cand, Okuri, Part};
 use skk_text::{Copies, Memory, Text, Texts, copies_of};
 use std::alloc::Global;
@@ -47,7 +47,7 @@ fn blocks_with_word(
     let mut after = Blocks::new(alloc);
     let mut is_learnt = false;
     for block in blocks {
-        let learns = !is_learnt && is_for(block, okuri);
+        let learns = !is_learnt && block.is_for(okuri);
         after.push(copied_block(alloc, block, learns, cand)?)?;
         is_learnt = is_learnt || learns;
     }
@@ -55,13 +55,6 @@ fn blocks_with_word(
         after.push(chosen_block(alloc, okuri, &[], cand)?)?;
     }
     Ok(after)
-}
-
-// Whether a block is that of an okurigana.
-fn is_for(block: &Block, okuri: &Okuri) -> bool
-    ensures { result ≡ same_text block.now.okuri okuri.now }
-{
-    is_same(block.okuri().text(), okuri.text())
 }
 
 // A copy of a block, which has a candidate's word at its front where it is to learn it.

@@ -15,7 +15,7 @@ use crate::kept_row::KeptRow;
 use crate::plan::Plan;
 use dict_rows::{learn_row, line_length, purge_row};
 use skk_calls::{Cand, LINE_LIMIT, Learned, Okuri, Reply, Row, RowKey};
-use skk_text::{Copies, Memory, Text};
+use skk_text::{Copies, Memory, Text, copy_of};
 use std::alloc::Global;
 
 /// Plans that a candidate is learnt.
@@ -184,16 +184,6 @@ fn learning_reply(
     let before = copy_of(alloc, index.row(book, key))?;
     let key = key.copy(alloc)?;
     Ok(Reply::Learned(Learned::new(book, key, stamp, before)))
-}
-
-// The copy of a row, where there is one.
-fn copy_of(alloc: Global, row: Option<&Row>) -> Result<Option<Row>, Memory>
-    ensures { IfOk result (λ copy. copy ≡ option_copied row.entry) }
-{
-    match row {
-        Some(row) => Ok(Some(row.copy(alloc)?)),
-        None => Ok(None),
-    }
 }
 
 // Whether a row is there and has this stamp.

@@ -26,5 +26,5 @@ pub use laws::{
 };
 pub use office::type_tasks;
 pub use pages::Pages;
-pub use printing::{push_closing_line, push_number, push_output_line};
+pub use printing::{push_closing_line, push_output_line};
 pub use typed::Typed;

@@ -1,8 +1,6 @@
 ghost use Rattle.std.specs.Prelude.{◌≡◌, ◌++◌, OnOk};
-ghost use Rattle.std.specs.Fmt.{decimal};
 ghost use Rattle.script_typing.specs.Printing.{output_line, closing_line};
 
-use itoa::Buffer;
 use session_machine::Session;
 use skk_text::{Memory, Text};
 use std::alloc::Global;
@@ -16,7 +14,7 @@ pub fn push_output_line(
 ) -> Result<(), Memory>
     ensures { OnOk result (page.new ≡ page.old ++ output_line number session.now) }
 {
-    push_number(page, usize::from(number))?;
+    page.push_number(u64::from(number))?;
     page.push('\t')?;
     session.push_line(alloc, page)
 }
@@ -25,15 +23,8 @@ pub fn push_output_line(
 pub fn push_closing_line(page: &mut Text, number: u8, session: &Session) -> Result<(), Memory>
     ensures { OnOk result (page.new ≡ page.old ++ closing_line number session.now) }
 {
-    push_number(page, usize::from(number))?;
+    page.push_number(u64::from(number))?;
     page.push('=')?;
     session.push_text(page)?;
     page.push('\n')
-}
-
-/// Adds a number in decimal behind a page.
-pub fn push_number(page: &mut Text, number: usize) -> Result<(), Memory>
-    ensures { OnOk result (page.new ≡ page.old ++ decimal number) }
-{
-    page.push_str(Buffer::new().format(number))
 }

@@ -1,13 +1,12 @@
 -- How parts of what is shown are printed.
 use Rattle.std.proofs.Common.{◌≡◌, ◌<◌, ◌≤◌, ◌+◌, ◌%◌, ◌^◌, ◌∙◌, sym, ap, ℕ, true, false, Some, Result, Ok, Err, List}
-use Rattle.std.proofs.Common.{◌++◌, ◌∷◌, [], length, drop, get_or, refl, arith, append_assoc, inl, inr, zero, suc}
+use Rattle.std.proofs.Common.{◌++◌, ◌∷◌, [], length, drop, get_or, refl, arith, append_assoc, zero, suc}
 use Rattle.std.proofs.Transfers.{starts_with_of_append, starts_with_of_eq, starts_with_trans}
 use Rattle.std.specs.Fmt.{decimal}
 use Rattle.std.specs.Io.{StartsWith}
 use Rattle.std.specs.List.{repeat, slice_get}
 use Rattle.std.specs.Result.{OnErr, OnOk}
 use Rattle.std.specs.Str.{IsUtf8, chars}
-use Rattle.std.proofs.lemmas.Bool.{cases_Bool}
 use Rattle.std.proofs.lemmas.Bool.Decides.{nat_tests}
 use Rattle.std.proofs.lemmas.Fmt.{decimal_by_steps, IsAscii-decimal}
 use Rattle.std.proofs.lemmas.List.{drop_more, drop_all}
@@ -50,9 +49,9 @@ decimal-plain = decimal_by_steps (λ n ds. printed_form ds ≡ ds) digit-plain
     ∙ ap (λ cs. cs ++ printed_form ((48 + n % 10) ∷ [])) shorter
     ∙ ap (λ cs. ds ++ cs) (digit-plain (n % 10) (omega arith)))
 
--- the digits of a number are its characters, and are printed as they are
-pub decimal-printed : (n : ℕ) → n < 2 ^ 64 → chars (decimal n) ≡ printed_form (decimal n)
-decimal-printed n fits = chars-IsAscii (decimal n) (IsAscii-decimal n fits) ∙ sym (decimal-plain n fits)
+-- the digits of a number are printed as they are
+pub decimal-printed : (n : ℕ) → n < 2 ^ 64 → decimal n ≡ printed_form (decimal n)
+decimal-printed n fits = sym (decimal-plain n fits)
 
 -- the candidate of a place is the first of those from it on
 pub first_text-at : (shown : List Shown) (place : ℕ) (cand : Shown) → slice_get shown place ≡ Some cand
@@ -75,11 +74,7 @@ empty-none (c ∷ text) e = cc
 
 -- the letters of a page are printed as they are
 letter-plain : (count : ℕ) → count < 7 → has_escape (get_or page_letters count 0) ≡ false
-letter-plain count within =
-    elim (cases_Bool (has_escape (get_or page_letters count 0))) [
-      | inl some ↦ let differ : false ≡ true = list_any_at has_escape page_letters count 0 within some in cc
-      | inr none ↦ none
-    ]
+letter-plain count within = grind (arith, list_any_at has_escape page_letters count 0 within)
 
 -- candidates behind their letters are printed as the first of them behind its letter, and the others behind theirs
 lettered-some : (shown : List Shown) (count place : ℕ) (cand : Shown) → count < 7 → slice_get shown place ≡ Some cand

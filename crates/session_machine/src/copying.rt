@@ -6,7 +6,7 @@ use crate::headword::Headword;
 use crate::session::Session;
 use romaji_rules::Pending;
 use skk_calls::{Answer, Call, DistinctCands, Learned, Reply};
-use skk_text::{Copies, Memory, copies_of};
+use skk_text::{Copies, Memory, copies_of, copy_of};
 use std::alloc::Global;
 
 impl Copies for Session {
@@ -86,16 +86,6 @@ impl Copies for Choice {
             conversion: self.conversion.copy(alloc)?,
             learned: copy_of_learned(alloc, self.learned.as_ref())?,
         })
-    }
-}
-
-// A copy of what may not be there.
-fn copy_of<T: Copies>(alloc: Global, item: Option<&T>) -> Result<Option<T>, Memory>
-    ensures { IfOk result (λ copy. copy ≡ option_copied item.entry) }
-{
-    match item {
-        Some(item) => Ok(Some(item.copy(alloc)?)),
-        None => Ok(None),
     }
 }
 

@@ -24,7 +24,6 @@ use crate::reading_parts::registered_text;
 use crate::session::Session;
 use crate::session_notice::SessionNotice;
 use candidate_state::{Picking, Shown, ShownList};
-use itoa::Buffer;
 use reading_state::Reading;
 use romaji_rules::Pending;
 use skk_calls::Refusal;
@@ -343,13 +342,13 @@ fn push_full(page: &mut Text, end: u64, need: u64, limit: u64) -> Result<(), Mem
     push_number(page, limit)
 }
 
-// Adds a number in decimal.
+// Adds a number in decimal, as it is printed.
 #[tactic(auto, using(crate::proofs::Forms::kept, crate::proofs::Forms::numbers))]
 fn push_number(page: &mut Text, number: u64) -> Result<(), Memory>
     ensures ok { OnOk result (page.new ≡ page.old ++ printed_form (decimal number)) }
     ensures kept { StartsWith page.new page.old }
 {
-    page.push_str(Buffer::new().format(number))
+    page.push_number(number)
 }
 
 // A mode's indicator.

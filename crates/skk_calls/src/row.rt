@@ -26,7 +26,7 @@ impl Model for Block {
 
 impl Block {
     ghost use Rattle.std.specs.Prelude.{◌≡◌, true};
-    ghost use Rattle.skk_calls.specs.Rows.{is_block};
+    ghost use Rattle.skk_calls.specs.Rows.{is_block, same_text};
 
     /// The block of an okurigana with these words. Takes no memory and constant time.
     pub fn new(okuri: Okuri, words: Texts) -> Block
@@ -50,6 +50,13 @@ impl Block {
         ensures valid { is_block self.now ≡ true }
     {
         &self.words
+    }
+
+    /// Whether it is the block of this okurigana.
+    pub fn is_for(&self, okuri: &Okuri) -> bool
+        ensures { result ≡ same_text self.now.okuri okuri.now }
+    {
+        self.okuri.text().as_str() == okuri.text().as_str()
     }
 }
 

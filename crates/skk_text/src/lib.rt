@@ -1,9 +1,10 @@
 //! The plain types that every crate above speaks of: texts, bytes, keys, modes and notices, lists of
 //! them, the copies that are made of them, and the fault `Memory`.
 //!
-//! It stands on nothing but the standard library. A list is seen by contracts as the list of its
-//! items, a text as the list of its characters, and each call says exactly what it makes of them.
-//! What takes memory answers `Memory` where it is out of memory, and leaves the value as it was.
+//! Beside the standard library it stands on the toolchain's `itoa` and `thiserror` alone. A list is
+//! seen by contracts as the list of its items, a text as the list of its characters, and each call
+//! says exactly what it makes of them. What takes memory answers `Memory` where it is out of memory,
+//! and leaves the value as it was.
 #![tactic(auto)]
 
 mod bytes;
@@ -20,7 +21,7 @@ mod text;
 mod text_file;
 
 pub use bytes::Bytes;
-pub use copies::Copies;
+pub use copies::{Copies, copy_of};
 pub use kana::{to_hiragana, to_katakana, to_wide};
 pub use key::{Key, Keys};
 pub use key_text::{KeyFault, print_keys, read_keys};

@@ -1,5 +1,6 @@
 ghost use Rattle.std.specs.Prelude.{◌≡◌, ℕ, List, [], ◌∷◌, ◌++◌, ◌-◌, length, take, string_bytes, encode_utf8_all};
 ghost use Rattle.std.specs.Prelude.{IfOk, OnOk, OnErr};
+ghost use Rattle.std.specs.Fmt.{decimal};
 ghost use Rattle.std.specs.Str.{chars};
 ghost use Rattle.skk_text.specs.Lists.{is_empty};
 ghost use Rattle.skk_text.specs.Text.{byte_len, last_chars, without_last};
@@ -7,6 +8,7 @@ ghost use Rattle.skk_text.specs.Text.{byte_len, last_chars, without_last};
 use crate::copies::Copies;
 use crate::memory::Memory;
 use crate::sequence::Sequence;
+use itoa::Buffer;
 use std::alloc::Global;
 use std::marker::Model;
 
@@ -87,6 +89,14 @@ impl Text {
     {
         self.text.push_str(added)?;
         Ok(())
+    }
+
+    /// Adds a number in decimal at the end.
+    pub fn push_number(&mut self, number: u64) -> Result<(), Memory>
+        ensures ok { OnOk result (self.new ≡ self.old ++ decimal number) }
+        ensures err { OnErr result (self.new ≡ self.old) }
+    {
+        self.push_str(Buffer::new().format(number))
     }
 
     /// Takes the last character off, where there is one. Takes constant time and no memory.

@@ -1,9 +1,7 @@
 ghost use Rattle.std.specs.Prelude.{◌≡◌, ◌++◌, OnOk, OnErr, encode_utf8_all};
-ghost use Rattle.std.specs.Fmt.{decimal};
 ghost use Rattle.session_machine.specs.Display.{line};
 ghost use Rattle.typist_line.specs.Conversations.{fault_reply, refusal};
 
-use itoa::Buffer;
 use session_machine::Session;
 use skk_text::{Memory, Text};
 use std::alloc::Global;
@@ -25,7 +23,7 @@ pub fn send_fault(alloc: Global, at: usize, out: &mut Vec<u8>) -> Result<(), Mem
 {
     let mut page = Text::new(alloc);
     page.push('?')?;
-    push_number(&mut page, at)?;
+    page.push_number(at as u64)?;
     page.push('\n')?;
     send(&page, out)
 }
@@ -39,13 +37,6 @@ pub fn send_refusal(alloc: Global, out: &mut Vec<u8>) -> Result<(), Memory>
     page.push('0')?;
     page.push('\n')?;
     send(&page, out)
-}
-
-// Adds a number in decimal behind a page.
-fn push_number(page: &mut Text, number: usize) -> Result<(), Memory>
-    ensures { OnOk result (page.new ≡ page.old ++ decimal number) }
-{
-    page.push_str(Buffer::new().format(number))
 }
 
 // Sends a page.

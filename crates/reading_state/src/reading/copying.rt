@@ -1,9 +1,6 @@
-ghost use Rattle.std.specs.Prelude.{◌≡◌, IfOk};
-ghost use Rattle.std.specs.Option.{option_copied};
-
 use super::{Begun, Reading};
 use romaji_rules::Pending;
-use skk_text::{Copies, Memory};
+use skk_text::{Copies, Memory, copy_of};
 use std::alloc::Global;
 
 impl Copies for Begun {
@@ -24,15 +21,5 @@ impl Copies for Reading {
             pending: Pending::of(self.pending.as_slice()),
             completions: copy_of(alloc, self.completions.as_ref())?,
         })
-    }
-}
-
-// A copy of what may not be there.
-fn copy_of<T: Copies>(alloc: Global, item: Option<&T>) -> Result<Option<T>, Memory>
-    ensures { IfOk result (λ copy. copy ≡ option_copied item.entry) }
-{
-    match item {
-        Some(item) => Ok(Some(item.copy(alloc)?)),
-        None => Ok(None),
     }
 }
