@@ -1,12 +1,14 @@
 -- The definitions at small texts, each worked out by hand.
 use Rattle.std.proofs.Common.{◌≡◌, ℕ, ◌==◌, Bool, true, false, ◌&&◌, nat_le, cond, inl, inr, Option, None, Some}
 use Rattle.std.proofs.Common.{suc, List, [], ◌∷◌, ◌++◌, codes, map, refl, ap, ◌∙◌, arith}
+use Rattle.std.specs.Int.{w16, w32, w64}
 use Rattle.exact_readers.specs.Cuts.{cut, up_to, without_spaces}
 use Rattle.exact_readers.specs.Exact.{AreAll, IsWhole}
 use Rattle.exact_readers.specs.Formats.{Format, SpellsMany, all, before, behind, both, checked, either, ended_by}
 use Rattle.exact_readers.specs.Formats.{literal, mapped, one_as, one_whole, past, taken, whole}
 use Rattle.exact_readers.specs.Lacking.{lacks}
 use Rattle.exact_readers.specs.Lines.{IsCutOff, IsFirstLine, StandsAt, is_line_feed, with_line_end, without_return}
+use Rattle.exact_readers.specs.Numbers.{number, number_bytes, number_of, number_step}
 use Rattle.exact_readers.specs.Trimming.{is_blank, trimmed_line, without_blanks, without_mark}
 
 -- a function gives what a table says of each argument
@@ -107,6 +109,32 @@ next_of_digit = refl
 small_digit : Gives (checked small digit).step
     ((codes "1a", Some (1, codes "a")) ∷ (codes "7a", None) ∷ (codes "a", None) ∷ [])
 small_digit = refl
+
+-- numbers of each width: the least byte first, of enough tokens that are bytes
+numbers_of_two : Gives (number w16).step (
+    (1 ∷ 2 ∷ 7 ∷ [], Some (513, 7 ∷ [])) ∷ (255 ∷ 255 ∷ [], Some (65535, [])) ∷ (1 ∷ [], None) ∷ ([], None)
+    ∷ (256 ∷ 0 ∷ [], None) ∷ (0 ∷ 256 ∷ [], None) ∷ (0 ∷ 1 ∷ 256 ∷ [], Some (256, 256 ∷ []))
+    ∷ [])
+unfolding number_of number_step
+numbers_of_two = refl
+
+numbers_of_four : Gives (number w32).step (
+    (1 ∷ 2 ∷ 3 ∷ 4 ∷ 5 ∷ [], Some (67305985, 5 ∷ [])) ∷ (0 ∷ 0 ∷ 0 ∷ 1 ∷ [], Some (16777216, []))
+    ∷ (1 ∷ 2 ∷ 3 ∷ [], None)
+    ∷ [])
+unfolding number_of number_step
+numbers_of_four = refl
+
+numbers_of_eight : Gives (number w64).step (
+    (0 ∷ 1 ∷ 0 ∷ 0 ∷ 0 ∷ 0 ∷ 0 ∷ 1 ∷ 9 ∷ [], Some (72057594037928192, 9 ∷ []))
+    ∷ (1 ∷ 2 ∷ 3 ∷ 4 ∷ 5 ∷ 6 ∷ 7 ∷ [], None)
+    ∷ [])
+unfolding number_of number_step
+numbers_of_eight = refl
+
+two_bytes : map (number_bytes w16) (513 ∷ 0 ∷ 65535 ∷ []) ≡ (1 ∷ 2 ∷ []) ∷ (0 ∷ 0 ∷ []) ∷ (255 ∷ 255 ∷ []) ∷ []
+unfolding number_bytes
+two_bytes = refl
 
 -- what is spelled
 word_spelled : (literal (codes "ab")).Spells (codes "ab") (codes "ab")

@@ -10,5 +10,7 @@ pub mod LineLaws
 pub mod Lines
 pub mod LoopLaws
 pub mod ManyLaws
+pub mod NumberLaws
+pub mod Numbers
 pub mod Trimming
 pub mod TrimmingLaws
