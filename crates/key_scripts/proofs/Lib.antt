@@ -1,5 +1,4 @@
 pub mod LineReading
-pub mod Lines
 pub mod Marks
 pub mod Numbers
 pub mod Reading

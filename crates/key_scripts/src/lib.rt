@@ -1,9 +1,10 @@
 //! Scripts of keys: what each line of a script says.
 //!
-//! It stands on `skk_text`. A script is lines of text: one gives keys to a session by its number, one opens a session
-//! for a typist with a book, and empty lines and comments are skipped. `Script::read` checks a script whole: it gives
-//! the lines that the texts say, of which each opening line stands in front of all others of its session, or the number
-//! of the first that is no line. Both are exact, and a script has one meaning: these are laws beside the definitions.
+//! It stands on `skk_text` and `exact_readers`. A script is lines of text: one gives keys to a session by its number,
+//! one opens a session for a typist with a book, and empty lines and comments are skipped. `Script::read` checks a
+//! script whole: it gives the lines that the texts say, of which each opening line stands in front of all others of its
+//! session, or the number of the first that is no line. Both are exact, and a script has one meaning: these are laws
+//! beside the definitions.
 #![tactic(auto)]
 
 mod laws;

@@ -1,8 +1,6 @@
-ghost use Rattle.std.specs.Prelude.{◌≡◌, ◌≢◌, ◌<◌, ◌≤◌, ◌⊎◌, [], ◌++◌, ◌∷◌, IfOk, IsErrOf, IfSome, IsNone, MatchOption};
-ghost use Rattle.std.specs.Prelude.{ℕ, Option, List, length, slice_index};
+ghost use Rattle.std.specs.Prelude.{◌≡◌, ◌≢◌, ◌≤◌, ◌⊎◌, ◌++◌, ◌∷◌, ℕ, Option, IfOk, IsErrOf, IfSome, IsNone};
 ghost use Rattle.std.specs.Fmt.{decimal};
 ghost use Rattle.std.specs.Int.{IsInRange};
-ghost use Rattle.skk_text.specs.Lines.{lines_of};
 ghost use Rattle.key_scripts.specs.Script.{Spells, Follows, IsTypist};
 ghost use Rattle.key_scripts.specs.declared.line.Line.{Line};
 
@@ -132,33 +130,4 @@ pub fn typist_and_book(text: &[u8], between: u8) -> Option<(u16, u16)>
         return None;
     }
     Some((typist as u16, book as u16))
-}
-
-/// The first line without its LF, and what follows it; nothing where there is no line.
-pub fn next_line(bytes: &[u8]) -> Option<(&[u8], &[u8])>
-    ensures { MatchOption result (bytes.now ≡ [])
-        (λ p. (lines_of bytes.now ≡ p.0.now ∷ lines_of p.1.now) × (length p.1.now < length bytes.now)) }
-{
-    if bytes.is_empty() {
-        return None;
-    }
-    let end = line_end(bytes);
-    if end == bytes.len() {
-        return Some((bytes, &[]));
-    }
-    Some((&bytes[..end], &bytes[end + 1..]))
-}
-
-// The place of the first LF, or the length.
-fn line_end(bytes: &[u8]) -> usize
-    ensures within { result ≤ length bytes.now }
-    ensures none_before { (k : ℕ) → k < result → slice_index bytes.now k ≢ 10 }
-    ensures found { result < length bytes.now → slice_index bytes.now result ≡ 10 }
-{
-    for (place, byte) in bytes.iter().enumerate() {
-        if *byte == b'\n' {
-            return place;
-        }
-    }
-    bytes.len()
 }

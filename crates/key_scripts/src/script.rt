@@ -2,7 +2,8 @@ ghost use Rattle.std.specs.Prelude.{◌≡◌, ◌∷◌, ◌++◌, ℕ, Option,
 ghost use Rattle.key_scripts.specs.Marks.{Mark};
 ghost use Rattle.key_scripts.specs.Script.{IsSession, Spells, MayFollow, session_of, with_said};
 
-use crate::line::{Line, LineFault, next_line, read_line};
+use crate::line::{Line, LineFault, read_line};
+use exact_readers::first_byte_line;
 use skk_text::{Sequence, one_list_of_keys};
 use std::alloc::Global;
 use std::marker::Model;
@@ -55,7 +56,7 @@ impl Script {
         let mut named = [false; 65];
         let mut number: usize = 0;
         let mut rest = bytes;
-        while let Some((text, behind)) = next_line(rest) {
+        while let Some((text, behind)) = first_byte_line(rest) {
             number += 1;
             match push_line(alloc, text, &mut named, &mut lines) {
                 Ok(()) => rest = behind,
