@@ -29,27 +29,19 @@ fn next_escape(text: &str) -> Option<(&str, &'static str, &str)>
     ensures shorter { IfSome result (λ found. length found.2.now < length text.now) }
     ensures none { IsNone result → flat_map escaped (chars text.now) ≡ chars text.now }
 {
-    let bytes = text.as_bytes();
-    let place = run_len(bytes);
-    if place == bytes.len() {
-        return None;
-    }
-    let escape = escape_of(bytes[place])?;
+    let place = first_escape(text)?;
+    let escape = escape_of(text.as_bytes()[place])?;
     Some((&text[..place], escape, &text[place + 1..]))
 }
 
-// How many bytes stand before the first that has an escape.
-fn run_len(bytes: &[u8]) -> usize
-    ensures within { result ≤ length bytes.now }
-    ensures plain { (k : ℕ) → k < result → has_escape (slice_index bytes.now k) ≡ false }
-    ensures ends { result < length bytes.now → has_escape (slice_index bytes.now result) ≡ true }
+// Where the first byte stands that has an escape.
+fn first_escape(text: &str) -> Option<usize>
+    ensures within { IfSome result (λ place. place < length text.now) }
+    ensures plain { IfSome result (λ place. (k : ℕ) → k < place → has_escape (slice_index text.now k) ≡ false) }
+    ensures ends { IfSome result (λ place. has_escape (slice_index text.now place) ≡ true) }
+    ensures none { IsNone result → (k : ℕ) → k < length text.now → has_escape (slice_index text.now k) ≡ false }
 {
-    for (place, byte) in bytes.iter().enumerate() {
-        if escape_of(*byte).is_some() {
-            return place;
-        }
-    }
-    bytes.len()
+    text.bytes().position(|byte| escape_of(byte).is_some())
 }
 
 // The escape of a byte, where it has one.

@@ -1,44 +1,26 @@
-use Rattle.std.proofs.Common.{◌≡◌, ◌∙◌, ◌++◌, ◌<◌, ◌+◌, sym, ap, subst, true, false, ℕ, List, length, get_or, take}
-use Rattle.std.proofs.Common.{drop, slice_range, arith}
-use Rattle.std.specs.List.{flat_map}
+use Rattle.std.proofs.Common.{◌≡◌, ◌∙◌, ◌+◌, refl, ap, get_or, take, drop, arith}
 use Rattle.std.specs.Str.{chars}
 use Rattle.std.proofs.lemmas.Str.{IsCharBoundary-after_ascii}
-use Rattle.session_machine.specs.Display.{escaped, has_escape}
+use Rattle.session_machine.specs.Display.{escaped}
 use Rattle.session_machine.proofs.Escapes.{text-plain, text-split, escape-small}
 use Rattle.session_machine.proofs.escaping.next_escape.Goals as goal
 
-pub returns-then-place-bytes-clause-none : goal.returns-then-place-bytes-clause-none
-returns-then-place-bytes-clause-none c = λ none.
-    text-plain c.args.text.now c.utf8.text
-    (λ k within. rw (sym c.as_bytes-bytes.ensures.value) (c.run_len-place.ensures.plain k
-    (omega (arith, within, c.if-place-bytes.true, ap length c.as_bytes-bytes.ensures.value))))
+pub returns-in_err-place-clause-none : goal.returns-in_err-place-clause-none
+returns-in_err-place-clause-none c = λ none.
+    text-plain c.args.text.now c.utf8.text (c.in_err-place.ensures.none refl)
 
 pub range_from-requires : goal.range_from-requires
 range_from-requires c = λ some.
-    let place = c.run_len-place.result in
-    let within : place < length c.args.text.now =
-    omega (arith, ap length c.as_bytes-bytes.ensures.value, c.run_len-place.ensures.within, c.if-place-bytes.false) in
-    let small : get_or c.args.text.now place 0 < 128 =
-    subst (λ (bs : List ℕ). get_or bs place 0 < 128) c.as_bytes-bytes.ensures.value
-    (escape-small (get_or c.as_bytes-bytes.result.now place 0) c.in_ok-escape.ensures.some.0) in
-    IsCharBoundary-after_ascii c.args.text.now place c.utf8.text within small
+    let place = c.in_ok-place in
+    IsCharBoundary-after_ascii c.args.text.now place.place c.utf8.text place.ensures.within
+    (escape-small (get_or c.args.text.now place.place 0) place.ensures.ends)
 
 pub returns-clause-found : goal.returns-clause-found
 returns-clause-found c =
-    let place = c.run_len-place.result in
     let text = c.args.text.now in
-    let bytes : c.as_bytes-bytes.result.now ≡ text = c.as_bytes-bytes.ensures.value in
-    let within : place < length text =
-    omega (arith, ap length bytes, c.run_len-place.ensures.within, c.if-place-bytes.false) in
-    let known = c.in_ok-escape.ensures.some in
-    let front : take place text ≡ slice_range text 0 place = grind arith in
-    text-split text place c.utf8.text within
-    (subst (λ (bs : List ℕ). (k : ℕ) → k < place
-    → has_escape (get_or bs k 0) ≡ false) bytes c.run_len-place.ensures.plain)
-    (subst (λ (bs : List ℕ). has_escape (get_or bs place 0) ≡ true) bytes known.0)
-    ∙ ap (λ bs. chars bs ++ (escaped (get_or text place 0) ++ flat_map escaped (chars (drop (place + 1) text))))
-    (front ∙ sym c.range.ensures.value)
-    ∙ ap (λ bs. chars c.range.result.now ++ (bs ++ flat_map escaped (chars (drop (place + 1) text))))
-    (ap (λ bs. escaped (get_or bs place 0)) (sym bytes) ∙ sym known.1)
-    ∙ ap (λ bs. chars c.range.result.now ++ (chars c.in_ok-escape.escape.now ++ flat_map escaped (chars bs)))
-    (sym c.range_from.ensures.value)
+    let at = c.in_ok-place in
+    let front : c.range.result.now ≡ take at.place text = grind arith in
+    let byte : chars c.in_ok-escape.escape.now ≡ escaped (get_or text at.place 0) =
+    c.in_ok-escape.ensures.some.1 ∙ ap (λ bs. escaped (get_or bs at.place 0)) c.as_bytes.ensures.value in
+    let behind : c.range_from.result.now ≡ drop (at.place + 1) text = grind arith in
+    rw (front, byte, behind) (text-split text at.place c.utf8.text at.ensures.within at.ensures.plain at.ensures.ends)
