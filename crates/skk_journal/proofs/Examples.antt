@@ -1,13 +1,21 @@
 -- The definitions at small examples, each worked out by hand.
-use Rattle.std.proofs.Common.{◌≡◌, ℕ, Bool, true, false, ◌||◌, List, [], ◌∷◌, ◌++◌, length, take, drop, map, inl, inr}
-use Rattle.std.proofs.Common.{All, Bor, subst, sym, arith, refl, lit≤, lit<}
+use Rattle.std.proofs.Common.{◌≡◌, ℕ, ◌<◌, ◌^◌, Bool, true, false, None, Some, List, [], ◌∷◌, ◌++◌, length, take}
+use Rattle.std.proofs.Common.{drop, map, inl, inr, All, Bor, sym, ap, ◌∙◌, arith, refl, lit≤, lit<}
+use Rattle.std.specs.Int.{w32}
+use Rattle.std.specs.Option.{is_none}
 use Rattle.std.proofs.lemmas.List.Elements.{All-nil, All-cons}
-use Rattle.skk_journal.specs.Records.{IsSized, size_bytes, record_bytes, need, framed, behind_gate, front}
+use Rattle.exact_readers.specs.ExactLaws.{whole-complete}
+use Rattle.exact_readers.specs.Formats.{then_at, taken, whole}
+use Rattle.exact_readers.specs.Numbers.{number_bytes, number_of, number_step}
+use Rattle.exact_readers.specs.NumberLaws.{number-exact, told_32}
+use Rattle.skk_journal.specs.Records.{IsSized, payload_step, sized_payload, record_bytes, open_record}
+use Rattle.skk_journal.specs.Records.{need, framed, behind_gate, front}
 use Rattle.skk_journal.specs.Records.{end_of, HasRecords, HasAddition}
 use Rattle.skk_journal.specs.Opening.{is_fresh, is_foreign, first_byte, is_cut_short, is_bad, Opening}
 use Rattle.skk_journal.specs.Opening.{with_records, not_journal, bad_record, IsOpened}
 use Rattle.skk_journal.specs.Opening.{OpensAtOnce}
-use Rattle.skk_journal.specs.OpeningLaws.{one_opening, whole_is_good, has_not_fresh}
+use Rattle.skk_journal.specs.FrameLaws.{sized_payload-exact, whole_is_good}
+use Rattle.skk_journal.specs.OpeningLaws.{one_opening, has_not_fresh}
 use Rattle.skk_journal.specs.Images.{Holds, Opens, HoldsEither, SameOther}
 use Rattle.skk_journal.specs.Journal.{OpenJournal}
 use Rattle.skk_journal.specs.Causes.{IsRefused, UnlessDisk, IsNotAdded}
@@ -15,7 +23,7 @@ use Rattle.skk_journal.specs.declared.fault.AppendFault.TheVariants.{Full, Disk}
 use Rattle.skk_journal.specs.declared.fault.OpenFault.TheVariants as opening
 use Rattle.skk_journal.specs.Making.{first_generation, IsShort, IsBlank, IsNew}
 use Rattle.skk_journal.specs.Found.{found_from}
-use Rattle.skk_journal.specs.Frames.{Ends, IsFrame, IsPayload}
+use Rattle.skk_journal.specs.Frames.{Ends, IsFrame}
 use Rattle.skk_journal.specs.Heads.{head_of}
 use Rattle.skk_journal.specs.Reading.{Takes, StopsAt, StopsWithin, AreRead, BreakOff, TellsNoPlace, SameCause}
 use Rattle.skk_journal.specs.declared.found.Found.{Found}
@@ -31,20 +39,20 @@ learning =
     ∷ 227 ∷ 129 ∷ 152 ∷ 32 ∷ 47 ∷ 230 ∷ 188 ∷ 162 ∷ 229 ∷ 173 ∷ 151 ∷ 47 ∷ []
 
 -- sizes in four bytes, the least first
-sizes : map size_bytes (0 ∷ 1 ∷ 38 ∷ 256 ∷ 131072 ∷ 131073 ∷ 4294967295 ∷ [])
+sizes : map (number_bytes w32) (0 ∷ 1 ∷ 38 ∷ 256 ∷ 131072 ∷ 131073 ∷ 4294967295 ∷ [])
     ≡ (0 ∷ 0 ∷ 0 ∷ 0 ∷ []) ∷ (1 ∷ 0 ∷ 0 ∷ 0 ∷ []) ∷ (38 ∷ 0 ∷ 0 ∷ 0 ∷ []) ∷ (0 ∷ 1 ∷ 0 ∷ 0 ∷ []) ∷ (0 ∷ 0 ∷ 2 ∷ 0 ∷ [])
     ∷ (1 ∷ 0 ∷ 2 ∷ 0 ∷ []) ∷ (255 ∷ 255 ∷ 255 ∷ 255 ∷ []) ∷ []
-unfolding size_bytes
+unfolding number_bytes
 sizes = refl
 
 -- the record of that payload: an open gate, its size, and itself
 learning_record : record_bytes learning ≡ 1 ∷ 38 ∷ 0 ∷ 0 ∷ 0 ∷ learning
-unfolding size_bytes
+unfolding number_bytes
 learning_record = refl
 
 -- it needs 43 bytes, and takes the end of a new file from 18 to 61
 learning_need : (need learning ≡ 43) × (end_of [] ≡ 18) × (end_of (learning ∷ []) ≡ 61)
-unfolding need size_bytes
+unfolding need number_bytes
 learning_need = (refl, refl, refl)
 
 -- the file with that record, and a closed gate behind it
@@ -53,7 +61,7 @@ learnt_file =
     1 ∷ 83 ∷ 75 ∷ 75 ∷ 68 ∷ 69 ∷ 83 ∷ 75 ∷ 1 ∷ 1 ∷ 0 ∷ 0 ∷ 0 ∷ 0 ∷ 0 ∷ 0 ∷ 0 ∷ 1 ∷ 38 ∷ 0 ∷ 0 ∷ 0 ∷ learning ++ 0 ∷ []
 
 learnt_is : learnt_file ≡ front first_generation (learning ∷ []) ++ 0 ∷ []
-unfolding size_bytes
+unfolding number_bytes
 learnt_is = refl
 
 learnt_long : length learnt_file ≡ 61
@@ -83,15 +91,15 @@ learnt_alone other is = one_opening learnt_file (with_records (learning ∷ []))
 -- two records with their places, and what stands behind the first one's gate
 two_records : found_from 17 ((9 ∷ []) ∷ (7 ∷ 8 ∷ []) ∷ [])
     ≡ record { at = 17; payload = 9 ∷ [] } ∷ record { at = 23; payload = 7 ∷ 8 ∷ [] } ∷ []
-unfolding need size_bytes
+unfolding need number_bytes
 two_records = refl
 
 two_framed : framed ((9 ∷ []) ∷ (7 ∷ 8 ∷ []) ∷ []) ≡ 1 ∷ 1 ∷ 0 ∷ 0 ∷ 0 ∷ 9 ∷ 1 ∷ 2 ∷ 0 ∷ 0 ∷ 0 ∷ 7 ∷ 8 ∷ []
-unfolding size_bytes
+unfolding number_bytes
 two_framed = refl
 
 two_behind : behind_gate ((9 ∷ []) ∷ (7 ∷ 8 ∷ []) ∷ []) ≡ 1 ∷ 0 ∷ 0 ∷ 0 ∷ 9 ∷ 1 ∷ 2 ∷ 0 ∷ 0 ∷ 0 ∷ 7 ∷ 8 ∷ []
-unfolding size_bytes
+unfolding number_bytes
 two_behind = refl
 
 -- what files are by their heads: made anew, no learned file, cut short
@@ -120,6 +128,7 @@ bad_tails : map is_bad (
     [] ∷ (1 ∷ []) ∷ (1 ∷ 1 ∷ 0 ∷ 0 ∷ []) ∷ (1 ∷ 0 ∷ 0 ∷ 0 ∷ 0 ∷ 7 ∷ []) ∷ (1 ∷ 2 ∷ 0 ∷ 0 ∷ 0 ∷ 7 ∷ [])
     ∷ (1 ∷ 1 ∷ 0 ∷ 2 ∷ 0 ∷ 7 ∷ []) ∷ (1 ∷ 255 ∷ 255 ∷ 255 ∷ 255 ∷ 7 ∷ []) ∷ [])
     ≡ true ∷ true ∷ true ∷ true ∷ true ∷ true ∷ true ∷ []
+unfolding number_of number_step
 bad_tails = refl
 
 -- what is not: closed gates, also with garbage behind them, and records that are whole
@@ -127,6 +136,7 @@ good_tails : map is_bad (
     (0 ∷ []) ∷ (2 ∷ []) ∷ (255 ∷ 1 ∷ 0 ∷ []) ∷ (0 ∷ 1 ∷ 0 ∷ 0 ∷ 0 ∷ 0 ∷ []) ∷ (1 ∷ 1 ∷ 0 ∷ 0 ∷ 0 ∷ 7 ∷ [])
     ∷ (1 ∷ 2 ∷ 0 ∷ 0 ∷ 0 ∷ 7 ∷ 8 ∷ 9 ∷ []) ∷ [])
     ≡ false ∷ false ∷ false ∷ false ∷ false ∷ false ∷ []
+unfolding number_of number_step
 good_tails = refl
 
 -- a file whose second record ends one byte early
@@ -136,7 +146,7 @@ early =
     ∷ 1 ∷ 1 ∷ 0 ∷ 0 ∷ 0 ∷ 9 ∷ 1 ∷ 2 ∷ 0 ∷ 0 ∷ 0 ∷ 7 ∷ []
 
 early_opened : IsOpened early (bad_record 23 ((9 ∷ []) ∷ []))
-unfolding size_bytes
+unfolding number_bytes number_of number_step
 early_opened = inr (record {
   generation = first_generation;
   tail = 1 ∷ 2 ∷ 0 ∷ 0 ∷ 0 ∷ 7 ∷ [];
@@ -181,7 +191,7 @@ garbage_opened = inl (record {
 staged : HasAddition ((9 ∷ []) ∷ []) ((7 ∷ []) ∷ (8 ∷ []) ∷ []) 0
     (1 ∷ 83 ∷ 75 ∷ 75 ∷ 68 ∷ 69 ∷ 83 ∷ 75 ∷ 1 ∷ 1 ∷ 0 ∷ 0 ∷ 0 ∷ 0 ∷ 0 ∷ 0 ∷ 0
     ∷ 1 ∷ 1 ∷ 0 ∷ 0 ∷ 0 ∷ 9 ∷ 0 ∷ 1 ∷ 0 ∷ 0 ∷ 0 ∷ 7 ∷ 1 ∷ 1 ∷ 0 ∷ 0 ∷ 0 ∷ 8 ∷ 0 ∷ 5 ∷ [])
-unfolding size_bytes
+unfolding number_bytes
 staged = record {
   generation = first_generation;
   rest = 5 ∷ [];
@@ -206,14 +216,22 @@ above_limit payload long = λ sized. omega (arith, long, sized)
 none_sized : ¬ IsSized []
 none_sized = λ sized. omega (arith, sized)
 
-or_true : (b : Bool) → (b || true) ≡ true
-or_true true = refl
-or_true false = refl
-
 -- behind a gate that is open, the sizes 0, 131,073 and 2^32 - 1 are bad, whatever follows them
+bad_size : (size : ℕ) (rest : List ℕ) → size < 2 ^ 32 → payload_step (size, rest) ≡ None
+    → is_bad (1 ∷ (number_bytes w32 size ++ rest)) ≡ true
+bad_size size rest fits none =
+    ap (λ read. is_none (then_at read payload_step))
+    ((number-exact w32 told_32).complete (number_bytes w32 size) size rest (fits, refl))
+    ∙ ap is_none none
+
 bad_sizes : (rest : List ℕ) → (is_bad (1 ∷ 0 ∷ 0 ∷ 0 ∷ 0 ∷ rest) ≡ true) × (is_bad (1 ∷ 1 ∷ 0 ∷ 2 ∷ 0 ∷ rest) ≡ true)
     × (is_bad (1 ∷ 255 ∷ 255 ∷ 255 ∷ 255 ∷ rest) ≡ true)
-bad_sizes rest = (or_true _, or_true _, or_true _)
+unfolding number_bytes
+bad_sizes rest = (
+  bad_size 0 rest (lit< tt) refl,
+  bad_size 131073 rest (lit< tt) refl,
+  bad_size 4294967295 rest (lit< tt) refl,
+)
 
 -- a whole record of 131,072 bytes is not, whatever follows it
 longest_good : (payload rest : List ℕ) → length payload ≡ 131072 → is_bad (record_bytes payload ++ rest) ≡ false
@@ -227,9 +245,11 @@ cut_heads = refl
 
 cut_tails : map (λ count. is_bad (drop 17 (take count learnt_file))) (17 ∷ 18 ∷ 21 ∷ 22 ∷ 59 ∷ 60 ∷ 61 ∷ [])
     ≡ true ∷ true ∷ true ∷ true ∷ true ∷ false ∷ false ∷ []
+unfolding number_of number_step
 cut_tails = refl
 
 cut_ends : map (λ count. is_bad (drop 60 (take count learnt_file))) (60 ∷ 61 ∷ []) ≡ true ∷ false ∷ []
+unfolding number_of number_step
 cut_ends = refl
 
 -- an image is opened by its first file
@@ -295,14 +315,12 @@ closed_gates = (
 -- what stands at a gate: a record whatever follows it, a closed gate, and neither
 a_record : (payload : Bor (List ℕ)) → payload.now ≡ 7 ∷ 8 ∷ []
     → IsFrame (1 ∷ 2 ∷ 0 ∷ 0 ∷ 0 ∷ 7 ∷ 8 ∷ 5 ∷ []) (frames.Record payload)
-unfolding size_bytes
-a_record payload is =
-    let tail : List ℕ = 1 ∷ 2 ∷ 0 ∷ 0 ∷ 0 ∷ 7 ∷ 8 ∷ 5 ∷ [] in
-    subst (λ (l : List ℕ). IsSized l × ((rest : List ℕ) × (tail ≡ record_bytes l ++ rest))) (sym is)
-    ((omega arith, omega arith), (5 ∷ [], refl))
+unfolding number_of number_step
+a_record payload is = ap Some (sym is)
 
 no_record : IsFrame (2 ∷ []) frames.End × IsFrame (1 ∷ 2 ∷ 0 ∷ 0 ∷ 0 ∷ 7 ∷ []) frames.Bad
     × (¬ IsFrame (2 ∷ []) frames.Bad) × (¬ IsFrame (1 ∷ 2 ∷ 0 ∷ 0 ∷ 0 ∷ 7 ∷ []) frames.End)
+unfolding number_of number_step
 no_record = (
   (2, [], refl, λ same. omega (arith, same)),
   refl,
@@ -311,24 +329,29 @@ no_record = (
 )
 
 -- what stands behind a size: it is 0, it is too great, or there are fewer bytes; any other is that of a payload
-sizes_of : IsPayload 0 (7 ∷ []) frames.Bad × IsPayload 131073 [] frames.Bad × IsPayload 2 (7 ∷ []) frames.Bad
-    × (¬ IsPayload 1 (7 ∷ []) frames.Bad) × (¬ IsPayload 1 (7 ∷ []) frames.End)
-sizes_of = (
-  inl refl,
-  inr (inl (lit< tt)),
-  inr (inr (lit< tt)),
-  λ bad. elim bad [
-    | inl none ↦ omega (arith, none)
-    | inr other ↦ elim other [ inl great ↦ omega (arith, great) | inr short ↦ omega (arith, short) ]
-  ],
-  λ is. is,
-)
+sizes_of : map payload_step ((0, 7 ∷ []) ∷ (131073, []) ∷ (2, 7 ∷ []) ∷ (1, 7 ∷ []) ∷ (1, 7 ∷ 8 ∷ []) ∷ [])
+    ≡ None ∷ None ∷ None ∷ Some (7 ∷ [], []) ∷ Some (7 ∷ [], 8 ∷ []) ∷ []
+sizes_of = refl
 
-longest_size : (rest : List ℕ) → length rest ≡ 131072 → ¬ IsPayload 131072 rest frames.Bad
-longest_size rest long = λ bad. elim bad [
-  | inl none ↦ omega (arith, none)
-  | inr other ↦ elim other [ inl great ↦ omega (arith, great) | inr short ↦ omega (arith, short, long) ]
-]
+longest_size : (payload : List ℕ) → length payload ≡ 131072
+    → whole sized_payload (number_bytes w32 131072 ++ payload) ≡ Some payload
+longest_size payload long =
+    ap (λ size. whole sized_payload (number_bytes w32 size ++ payload)) (sym long)
+    ∙ whole-complete sized_payload sized_payload-exact (number_bytes w32 (length payload) ++ payload) payload
+    (at_limit payload long, refl)
+
+-- payloads behind their sizes, and what stands behind them: one that is whole, one that ends early, none, and no size
+by_size : map sized_payload.step (
+    (1 ∷ 0 ∷ 0 ∷ 0 ∷ 7 ∷ 8 ∷ []) ∷ (2 ∷ 0 ∷ 0 ∷ 0 ∷ 7 ∷ []) ∷ (0 ∷ 0 ∷ 0 ∷ 0 ∷ 7 ∷ []) ∷ (1 ∷ 0 ∷ 0 ∷ []) ∷ [])
+    ≡ Some (7 ∷ [], 8 ∷ []) ∷ None ∷ None ∷ None ∷ []
+unfolding number_of number_step
+by_size = refl
+
+-- two records are read again up to the closed gate behind them, and none behind that
+two_again : taken open_record.step (1 ∷ 1 ∷ 0 ∷ 0 ∷ 0 ∷ 9 ∷ 1 ∷ 2 ∷ 0 ∷ 0 ∷ 0 ∷ 7 ∷ 8 ∷ 0 ∷ 1 ∷ 0 ∷ 0 ∷ 0 ∷ 5 ∷ [])
+    ≡ ((9 ∷ []) ∷ (7 ∷ 8 ∷ []) ∷ [], 0 ∷ 1 ∷ 0 ∷ 0 ∷ 0 ∷ 5 ∷ [])
+unfolding taken number_of number_step
+two_again = refl
 
 -- a record at 17 that was read, and one behind it, with a closed gate behind that
 abbrev first : Found
@@ -351,7 +374,7 @@ first_sized = All-cons IsSized (7 ∷ 8 ∷ []) [] (omega arith, omega arith) (A
 
 -- the second one is read behind the first, in six bytes
 takes_second : Takes (Unit {0}) second_tail 24 6 (first ∷ []) (first ∷ second ∷ [])
-unfolding need size_bytes
+unfolding need number_bytes
 takes_second =
     record { taken = (9 ∷ []) ∷ []; many = refl; sized = second_sized; found = refl; is = λ told. refl }
 
@@ -365,6 +388,7 @@ stops : StopsAt (Unit {0}) second_tail 24 (first ∷ []) (first ∷ second ∷ [
     × StopsAt (Unit {0}) (1 ∷ 0 ∷ 0 ∷ 0 ∷ 0 ∷ []) 24 (first ∷ []) (first ∷ []) (Else 0)
     × (¬ StopsAt (Unit {0}) second_tail 24 (first ∷ []) (first ∷ []) (Else 0))
     × (¬ StopsAt (Unit {0}) second_tail 24 (first ∷ []) (first ∷ []) (End 0))
+unfolding number_of number_step
 stops = (
   (takes_second, λ told. (0, 5 ∷ [], refl, λ same. omega (arith, same))),
   (takes_second, λ told none. absurd (omega (arith, none))),
@@ -378,14 +402,14 @@ within = (lit≤ tt, lit≤ tt, λ is. omega (arith, is), λ is. omega (arith, i
 
 -- both records, read from the place of the first one's gate on up to a closed gate
 read : AreRead (1 ∷ 2 ∷ 0 ∷ 0 ∷ 0 ∷ 7 ∷ 8 ∷ second_tail) (first ∷ second ∷ [])
-unfolding size_bytes
+unfolding number_bytes
 read = (0 ∷ 5 ∷ [], refl, both_sized, (0, 5 ∷ [], refl, λ same. omega (arith, same)))
 
 -- the records break off at 24, behind the first one, and at no other place; nothing is said of other faults
 breaks : BreakOff (1 ∷ 2 ∷ 0 ∷ 0 ∷ 0 ∷ 7 ∷ 8 ∷ 1 ∷ 5 ∷ 0 ∷ []) (reading.Bad 24 (first ∷ []))
     × (¬ BreakOff (1 ∷ 2 ∷ 0 ∷ 0 ∷ 0 ∷ 7 ∷ 8 ∷ 1 ∷ 5 ∷ 0 ∷ []) (reading.Bad 23 (first ∷ [])))
     × BreakOff [] reading.Disk × BreakOff [] reading.Memory
-unfolding need size_bytes
+unfolding need number_bytes number_step
 breaks = (
   (1 ∷ 5 ∷ 0 ∷ [], refl, first_sized, refl, refl, refl),
   λ is. let place = is.4 in cc,

@@ -1,5 +1,4 @@
 mod Examples
-mod FrameBytes
 mod Gates
 mod HeadsOf
 mod MakingAnew

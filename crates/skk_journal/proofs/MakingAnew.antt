@@ -1,10 +1,9 @@
 -- What the steps of making a file anew leave of it.
-use Rattle.std.proofs.Common.{◌≡◌, ◌≢◌, inl, inr, ℕ, ◌≤◌, Bool, true, false, if◌then◌else◌, nat_lt}
+use Rattle.std.proofs.Common.{◌≡◌, inl, inr, ℕ, ◌≤◌, Bool, true, false, if◌then◌else◌, nat_lt}
 use Rattle.std.proofs.Common.{List, [], ◌∷◌, ◌++◌, length, get_or, drop}
 use Rattle.std.proofs.Common.{refl, sym, ◌∙◌, ap, subst, arith}
 use Rattle.std.proofs.lemmas.Bool.{cases_eq}
 use Rattle.std.proofs.lemmas.List.Elements.{All-nil}
-use Rattle.std.proofs.lemmas.Bool.Decides.{nat_tests}
 use Rattle.skk_disk.specs.Image.{Image}
 use Rattle.skk_disk.specs.Moments.{SameImages}
 use Rattle.skk_disk.specs.Steps.{PartlyWritten, PartlyCut, placed, IsPlaced}
@@ -63,11 +62,8 @@ head_placed old new is whole = whole ∙ ap (placed 1 new_head) is
 gate_either : (gate : ℕ) (image : Image) → image.a ≡ gate ∷ new_head → Opens [] image
 gate_either gate image is = elim (cases_eq gate 1) [
   | inl is_open ↦ inl (new_has image (is ∙ ap (λ (g : ℕ). g ∷ new_head) is_open))
-  | inr shut ↦ inr (refl, subst (λ (l : List ℕ). is_fresh l ≡ true) (sym is) (fresh gate shut))
+  | inr shut ↦ inr (refl, grind (arith, is, shut))
 ]
-  where
-    fresh : (gate : ℕ) → gate ≢ 1 → is_fresh (gate ∷ new_head) ≡ true
-    fresh gate shut = grind (arith, nat_tests)
 
 -- a torn write of its gate
 pub own_gate_torn : (old new : Image) → old.a ≡ 0 ∷ new_head
@@ -100,10 +96,7 @@ opens_at_once records file (inr (none, short)) = inr (none, short_fresh file sho
 judged_fresh : (fresh foreign short : Bool) (first : ℕ)
     → Fresh ≡ (if fresh then Fresh else if foreign then Foreign first else if short then CutShort else Whole)
     → fresh ≡ true
-judged_fresh true foreign short first is = refl
-judged_fresh false true short first is = cc
-judged_fresh false false true first is = cc
-judged_fresh false false false first is = cc
+judged_fresh fresh foreign short first is = grind arith
 
 -- what the head says
 pub fresh_of_head : (file : List ℕ) → Fresh ≡ head_of file → is_fresh file ≡ true

@@ -1,19 +1,22 @@
 -- Records that are read one after another, and part by part.
-use Rattle.std.proofs.Common.{◌≡◌, inl, inr, ℕ, suc, ◌+◌, ◌-◌, ◌≤◌, Bool, true, false, ◌||◌, ◌&&◌, ◌==◌, nat_lt}
+use Rattle.std.proofs.Common.{◌≡◌, inl, inr, ℕ, ◌+◌, ◌-◌, ◌≤◌, true}
 use Rattle.std.proofs.Common.{List, [], ◌∷◌, ◌++◌, length, take, drop, refl, sym, ◌∙◌, ap, subst, arith, append_assoc}
 use Rattle.std.proofs.Common.{length-append, length-drop, take-append-drop}
-use Rattle.std.proofs.lemmas.List.{append-nil, drop_at, drop_all, drop-drop, length-take, take_all, take-take}
-use Rattle.std.specs.Prelude.{⊤, All}
-use Rattle.std.proofs.lemmas.Bool.{cases_lt}
-use Rattle.std.proofs.lemmas.Bool.Decides.{nat_tests}
-use Rattle.std.specs.Int.{w32, from_le_bytes}
+use Rattle.std.proofs.lemmas.List.{append-nil, drop_at, drop_all, drop-drop, take_all}
+use Rattle.std.specs.Prelude.{⊤, All, Some}
+use Rattle.std.specs.Option.{option_map}
+use Rattle.std.proofs.lemmas.Bool.{both_ways}
+use Rattle.std.proofs.Math.Seq.{take-append-add}
 use Rattle.std.proofs.lemmas.List.Elements.{All-append, All-nil, All-cons}
 use Rattle.skk_journal.specs.declared.found.Found.{Found}
 use Rattle.skk_journal.specs.declared.records.RecordsFault.TheVariants as reading
-use Rattle.skk_journal.specs.Records.{payload_limit, IsSized, record_bytes, need, framed, first_place, end_of}
+use Rattle.skk_journal.specs.Records.{payload_limit, IsSized, record_bytes, open_record, need, framed, first_place}
+use Rattle.skk_journal.specs.Records.{end_of}
 use Rattle.skk_journal.specs.RecordLaws.{length-record_bytes, need_is, framed-append}
 use Rattle.skk_journal.specs.Found.{payloads, found_from}
-use Rattle.skk_journal.specs.Opening.{is_bad, is_bad_body}
+use Rattle.skk_journal.specs.Opening.{is_bad}
+use Rattle.skk_journal.specs.FrameLaws.{at_gate, record_read, whole_is_good}
+use Rattle.skk_journal.specs.OpeningLaws.{shut_is_good}
 use Rattle.skk_journal.specs.Frames.{Ends}
 use Rattle.skk_journal.specs.declared.frames.Stop.{Stop}
 use Rattle.skk_journal.specs.declared.frames.Stop.TheVariants.{End, Else}
@@ -90,12 +93,13 @@ takes_on tells tail at from more old mid new one two =
     }
 
 -- one more record was read, of those that stand in a slice of the part
-pub takes_frame : (part rest payload : List ℕ) (at from : ℕ) (old mid new : List Found) → from ≤ length part
-    → Takes ⊤ part at from old mid → IsSized payload
-    → take (length part - from) (drop from part) ≡ record_bytes payload ++ rest
+pub takes_frame : (part payload : List ℕ) (at from : ℕ) (old mid new : List Found) → from ≤ length part
+    → Takes ⊤ part at from old mid
+    → option_map (λ read. read.0) (open_record.step (take (length part - from) (drop from part))) ≡ Some payload
     → new ≡ mid ++ record { at = at + from; payload = payload } ∷ []
     → (from + (5 + length payload) ≤ length part) × Takes ⊤ part at (from + (5 + length payload)) old new
-takes_frame part rest payload at from old mid new within takes sized starts found =
+takes_frame part payload at from old mid new within takes read found =
+    let (rest, sized, starts) = record_read (take (length part - from) (drop from part)) payload read in
     let behind : drop from part ≡ record_bytes payload ++ rest =
     sym (take_all (length part - from) (drop from part) (omega (arith, length-drop from part))) ∙ starts in (
       omega (
@@ -131,45 +135,27 @@ module _ (tells : Type 0) (tail part : List ℕ) (count at from : ℕ) (old new 
     is = λ told. tail_is told ∙ ap (λ (l : List ℕ). framed of_part.taken ++ l) (sym (behind_part told));
   }
 
--- the tests of a body, by a part of it that is long enough for any record
-bad_tests : (part all size : ℕ) → part ≤ all → payload_limit + 4 ≤ part
-    → (nat_lt part 4 || (size == 0 || nat_lt payload_limit size || nat_lt part (4 + size))) ≡ true
-    → (nat_lt all 4 || (size == 0 || nat_lt payload_limit size || nat_lt all (4 + size))) ≡ true
-bad_tests part all size longer room bad = grind (arith, nat_tests)
-
-both_true : (x y : Bool) → (x && y) ≡ true → (x ≡ true) × (y ≡ true)
-both_true true y both = (refl, both)
-both_true false y both = cc
-
--- a part that is not all of the file
-long_bad : (gate : ℕ) (rest part : List ℕ) (count : ℕ) → part ≡ take count (gate ∷ rest) → payload_limit + 5 ≤ count
-    → count ≤ length (gate ∷ rest) → is_bad part ≡ true → is_bad (gate ∷ rest) ≡ true
-long_bad gate rest part count is room long bad =
-    let less = count - 1 in
-    let first : part ≡ gate ∷ take less rest =
-    is ∙ ap (λ (n : ℕ). take n (gate ∷ rest)) (let e : count ≡ suc less = omega arith in e) in
-    let both = both_true (gate == 1) (is_bad_body (take less rest))
-    (subst (λ (l : List ℕ). is_bad l ≡ true) first bad) in
-    let many : length (take less rest) ≡ less = omega (arith, length-take less rest) in
-    let read : from_le_bytes w32 (take 4 (take less rest)) ≡ from_le_bytes w32 (take 4 rest) =
-    ap (from_le_bytes w32) (take-take 4 less rest (omega arith)) in
-    let size = from_le_bytes w32 (take 4 rest) in
-    let body : is_bad_body rest ≡ true =
-    bad_tests (length (take less rest)) (length rest) size (omega (arith, many)) (omega (arith, many))
-    (subst (λ (n : ℕ). (nat_lt (length (take less rest)) 4 || (n == 0 || nat_lt payload_limit n
-    || nat_lt (length (take less rest)) (4 + n))) ≡ true) read both.1) in
-    ap (λ (b : Bool). b && is_bad_body rest) both.0 ∙ body
+-- a part of a file that is long enough begins as the file does
+part_begins : (front rest tail part : List ℕ) (count : ℕ) → part ≡ take count tail → tail ≡ front ++ rest
+    → length front ≤ count → part ≡ front ++ take (count - length front) rest
+part_begins front rest tail part count is starts within =
+    let all : count ≡ length front + (count - length front) = omega arith in
+    is ∙ ap (take count) starts ∙ ap (λ n. take n (front ++ rest)) all
+    ∙ take-append-add front rest (count - length front)
 
 -- a part that is bad, and is long enough for any record, is one of a file that is
 pub bad_of_part : (tail part : List ℕ) (count : ℕ) → part ≡ take count tail → payload_limit + 5 ≤ count
     → is_bad part ≡ true → is_bad tail ≡ true
-bad_of_part [] part count is room bad = refl
-bad_of_part (gate ∷ rest) [] count is room bad =
-    let none : 0 ≡ length (take count (gate ∷ rest)) = ap length is in
-    absurd (omega (arith, none, length-take count (gate ∷ rest)))
-bad_of_part (gate ∷ rest) (first ∷ part) count is room bad = elim (cases_lt (length (gate ∷ rest)) count) [
-  | inl short ↦ subst (λ (l : List ℕ). is_bad l ≡ true) (is ∙ take_all count (gate ∷ rest) (omega arith)) bad
-  | inr long ↦ long_bad gate rest (first ∷ part) count is room long bad
+bad_of_part tail part count is room bad = elim (at_gate tail) [
+  | inl (inr also) ↦ also
+  | inl (inl (gate, rest, starts, shut)) ↦
+      let begins = part_begins (gate ∷ []) rest tail part count is starts (omega arith) in
+      absurd (both_ways (is_bad part) (shut_is_good gate _ part begins shut) bad)
+  | inr (payload, rest, sized, starts) ↦
+      let bytes = record_bytes payload in
+      let begins = part_begins bytes rest tail part count is starts
+      (omega (arith, length-record_bytes payload, sized.1)) in
+      absurd (both_ways (is_bad part) (ap is_bad begins ∙ whole_is_good payload _ sized) bad)
 ]
 
 -- a closed gate in a part of a file is one of all of it

@@ -1,6 +1,6 @@
 -- A file whose head is whole, and what is read of it.
 use Rattle.std.proofs.Common.{◌≡◌, inr, ℕ, ◌≤◌, Bool, true, false, nat_lt}
-use Rattle.std.proofs.Common.{List, [], ◌∷◌, ◌++◌, length, take, drop, refl, sym, ◌∙◌, ap, subst, arith}
+use Rattle.std.proofs.Common.{List, [], ◌∷◌, ◌++◌, length, take, drop, sym, ◌∙◌, ap, subst, arith}
 use Rattle.std.proofs.Common.{append_assoc, take-append-drop, length-drop, Result, Ok, Err, IfErr, IsErrAnd}
 use Rattle.std.specs.Cmp.Lexicographic.{same_text}
 use Rattle.std.proofs.lemmas.Bool.Decides.{nat_tests}
@@ -31,9 +31,7 @@ record Tested (first : ℕ) (marked short : Bool) : Type 0 where
   long : short ≡ false
 
 tested : (first : ℕ) (marked short : Bool) → Whole ≡ judged first marked short → Tested first marked short
-tested first true true is = grind (arith, nat_tests)
-tested first true false is = record { one = grind (arith, nat_tests); right = refl; long = refl }
-tested first false short is = grind (arith, nat_tests)
+tested first marked short is = record { one = grind arith; right = grind arith; long = grind arith }
 
 pub headed : (file : List ℕ) → Whole ≡ head_of file → Headed file
 headed [] is = cc

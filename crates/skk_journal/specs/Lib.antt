@@ -1,5 +1,6 @@
 pub mod Causes
 pub mod Found
+pub mod FrameLaws
 pub mod Frames
 pub mod Heads
 pub mod Images

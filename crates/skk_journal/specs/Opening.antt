@@ -2,8 +2,8 @@
 use Rattle.std.specs.Prelude.{◌≡◌, ◌⊎◌, ℕ, ◌+◌, ◌≤◌, Bool, true, false, not, ◌&&◌, ◌||◌, ◌==◌, nat_lt}
 use Rattle.std.specs.Prelude.{List, [], ◌∷◌, ◌++◌, length, take, All}
 use Rattle.std.specs.Str.{bytes_eq}
-use Rattle.std.specs.Int.{w32, from_le_bytes}
-use Rattle.skk_journal.specs.Records.{payload_limit, IsSized, mark, generation_bytes, front, place_behind, HasRecords}
+use Rattle.std.specs.Option.{is_none}
+use Rattle.skk_journal.specs.Records.{IsSized, sized_payload, mark, generation_bytes, front, place_behind, HasRecords}
 
 -- the bytes behind the gate of a file begin with the mark
 abbrev pub is_marked : List ℕ → Bool
@@ -36,16 +36,10 @@ is_cut_short [] = false
 is_cut_short (first ∷ rest) =
     first == 1 && is_marked rest && nat_lt (length rest) (length mark + generation_bytes)
 
--- behind an open gate no record stands whole, or none with a size that a payload may have
-abbrev pub is_bad_body : List ℕ → Bool
-is_bad_body rest =
-    let size = from_le_bytes w32 (take 4 rest) in
-    nat_lt (length rest) 4 || (size == 0 || nat_lt payload_limit size || nat_lt (length rest) (4 + size))
-
 -- from the place of a gate on: there is no gate, or it is open and no good record stands whole behind it
 abbrev pub is_bad : List ℕ → Bool
 is_bad [] = true
-is_bad (gate ∷ rest) = gate == 1 && is_bad_body rest
+is_bad (gate ∷ rest) = gate == 1 && is_none (sized_payload.step rest)
 
 -- at this place, behind these records, a file has no gate, or an open one and no good record stands whole behind it
 pub record BreaksOff (records : List (List ℕ)) (at : ℕ) (file : List ℕ) : Type 0 where

@@ -3,20 +3,18 @@ use Rattle.std.specs.Prelude.{◌≡◌, ◌≢◌, ℕ, ◌+◌, List, [], ◌�
 use Rattle.std.proofs.Common.{inl, inr, refl, sym, ◌∙◌, ap, subst, arith, append_assoc, length-append}
 use Rattle.std.proofs.lemmas.Bool.{cases_eq}
 use Rattle.std.proofs.lemmas.List.Elements.{All-append}
+use Rattle.std.specs.Int.{w32}
+use Rattle.exact_readers.specs.Numbers.{number_bytes}
+use Rattle.exact_readers.specs.NumberLaws.{told_32}
 use Rattle.skk_disk.specs.Image.{Image}
-use Rattle.skk_journal.specs.Records.{size_bytes, record_bytes, need, framed, behind_gate, mark, front}
+use Rattle.skk_journal.specs.Records.{record_bytes, need, framed, behind_gate, mark, front}
 use Rattle.skk_journal.specs.Records.{IsSized, end_of, HasRecords, HasAddition}
 use Rattle.skk_journal.specs.Images.{HoldsGated, HoldsBehind, HoldsEither}
-
--- a size has four bytes
-pub length-size_bytes : (size : ℕ) → length (size_bytes size) ≡ 4
-unfolding size_bytes
-length-size_bytes size = refl
 
 -- a record has five bytes more than its payload
 pub length-record_bytes : (payload : List ℕ) → length (record_bytes payload) ≡ 5 + length payload
 length-record_bytes payload =
-    omega (arith, length-append (size_bytes (length payload)) payload, length-size_bytes (length payload))
+    omega (arith, length-append (number_bytes w32 (length payload)) payload, told_32.long (length payload))
 
 -- a record needs the bytes of a gate, of a size and of its payload
 pub need_is : (payload : List ℕ) → need payload ≡ 5 + length payload

@@ -1,6 +1,9 @@
 -- The bytes of a learned file: its head, and records behind gates. A gate is open exactly where it is 1.
-use Rattle.std.specs.Prelude.{◌≡◌, ◌≢◌, ℕ, ◌+◌, ◌<◌, ◌≤◌, List, [], ◌∷◌, ◌++◌, length, All}
-use Rattle.std.specs.Int.{w32, to_le_bytes}
+use Rattle.std.specs.Prelude.{◌≡◌, ◌≢◌, ℕ, ◌+◌, ◌<◌, ◌≤◌, ◌&&◌, nat_le, if◌then◌else◌, Option, None, Some, List, []}
+use Rattle.std.specs.Prelude.{◌∷◌, ◌++◌, length, take, drop, All}
+use Rattle.std.specs.Int.{w32}
+use Rattle.exact_readers.specs.Formats.{Format, then_at, behind}
+use Rattle.exact_readers.specs.Numbers.{number, number_bytes}
 
 -- the most bytes of a payload
 abbrev pub payload_limit : ℕ
@@ -10,17 +13,31 @@ payload_limit = 131072
 abbrev pub IsSized : List ℕ → Type 0
 IsSized payload = (1 ≤ length payload) × (length payload ≤ payload_limit)
 
--- a size in four bytes, the least first
-unfoldable pub size_bytes : ℕ → List ℕ
-size_bytes size = to_le_bytes w32 size
-
--- what stands behind the gate of a record: the size of its payload, and the payload
+-- what stands behind the gate of a record: the size of its payload in four bytes, and the payload
 abbrev pub body : List ℕ → List ℕ
-body payload = size_bytes (length payload) ++ payload
+body payload = number_bytes w32 (length payload) ++ payload
+
+-- behind a size, what has it, where a payload may, and what stands behind that
+abbrev pub payload_step : ℕ × List ℕ → Option (List ℕ × List ℕ)
+payload_step read =
+    if nat_le 1 read.0 && nat_le read.0 payload_limit && nat_le read.0 (length read.1)
+    then Some (take read.0 read.1, drop read.0 read.1)
+    else None
+
+-- a payload behind its size
+abbrev pub sized_payload : Format ℕ (List ℕ)
+sized_payload = record {
+  Spells = λ payload tokens. IsSized payload × (tokens ≡ body payload);
+  step = λ tokens. then_at ((number w32).step tokens) payload_step;
+}
 
 -- a record whose gate is open
 abbrev pub record_bytes : List ℕ → List ℕ
 record_bytes payload = 1 ∷ body payload
+
+-- the payload of such a record
+abbrev pub open_record : Format ℕ (List ℕ)
+open_record = behind (1 ∷ []) sized_payload
 
 -- the bytes that the record of a payload needs
 unfoldable pub need : List ℕ → ℕ

@@ -1,7 +1,11 @@
-ghost use Rattle.skk_journal.specs.Frames.{IsFrame, IsPayload};
+ghost use Rattle.std.specs.Prelude.{◌≡◌};
+ghost use Rattle.std.specs.Option.{option_map};
+ghost use Rattle.skk_journal.specs.Frames.{IsFrame};
+ghost use Rattle.skk_journal.specs.Records.{sized_payload};
 
 use crate::journal::PAYLOAD_LIMIT;
 use crate::steps::OPEN;
+use exact_readers::read_u32;
 
 // What stands at the place of a gate: a good record with its payload, a gate that is closed, or neither.
 #[derive(Clone, Copy, Debug)]
@@ -15,22 +19,27 @@ pub(crate) enum Frame<'a> {
 pub(crate) fn read_frame(tail: &[u8]) -> Frame<'_>
     ensures { IsFrame tail.now result }
 {
-    match tail {
-        [gate, ..] if *gate != OPEN => Frame::End,
-        [_, a, b, c, d, rest @ ..] => {
-            read_body(u32::from_le_bytes([*a, *b, *c, *d]) as usize, rest)
-        }
-        _ => Frame::Bad,
+    let Some((gate, behind)) = tail.split_first() else {
+        return Frame::Bad;
+    };
+    if *gate != OPEN {
+        return Frame::End;
+    }
+    match read_payload(behind) {
+        Some((payload, _)) => Frame::Record(payload),
+        None => Frame::Bad,
     }
 }
 
-// Reads a payload of a size.
-fn read_body(size: usize, rest: &[u8]) -> Frame<'_>
-    ensures { IsPayload size rest.now result }
+// The payload behind its size, and what stands behind it; nothing where none stands whole, or none that a record may
+// have.
+fn read_payload(bytes: &[u8]) -> Option<(&[u8], &[u8])>
+    ensures { option_map (λ parts. (parts.0.now, parts.1.now)) result ≡ sized_payload.step bytes.now }
 {
-    if size == 0 || size > PAYLOAD_LIMIT || size > rest.len() {
-        Frame::Bad
-    } else {
-        Frame::Record(&rest[..size])
+    let (size, behind) = read_u32(bytes)?;
+    let size = size as usize;
+    if size < 1 || size > PAYLOAD_LIMIT || size > behind.len() {
+        return None;
     }
+    Some(behind.split_at(size))
 }

@@ -2,7 +2,7 @@ ghost use Rattle.std.specs.Prelude.{◌≡◌, ◌+◌, ◌≤◌, ◌<◌, ◌^
 ghost use Rattle.skk_journal.specs.Records.{body};
 
 // Puts a record without its gate together, and a closed gate behind it, in the front of the buffer.
-#[tactic(auto, unfolding(crate::specs::Records::size_bytes))]
+#[tactic(auto, unfolding(exact_readers::specs::Numbers::number_bytes))]
 pub(crate) fn put_together(buffer: &mut [u8], payload: &[u8])
     requires small { length payload.now < 2 ^ 32 }
     requires room { length payload.now + 5 ≤ length buffer.old }

@@ -4,8 +4,7 @@ use Rattle.skk_journal.proofs.frames.read_frames.Goals as goal
 pub loop-payload-preserved : goal.loop-payload-preserved
 loop-payload-preserved c =
     let so_far = c.loop-payload.invariant in
-    let frame = c.in-Record.ensures in
-    let more = takes_frame c.args.part.now frame.1.0 c.in-Record.payload.now c.args.at c.loop-payload.from
-    c.args.records.now c.loop-payload.records c.add_found.new.records so_far.within so_far.taken frame.0 frame.1.1
+    let more = takes_frame c.args.part.now c.in-Record.payload.now c.args.at c.loop-payload.from c.args.records.now
+    c.loop-payload.records c.add_found.new.records so_far.within so_far.taken c.in-Record.ensures
     c.in_ok-add_found-in-Record.ensures in
     record { within = more.0; taken = more.1 }
