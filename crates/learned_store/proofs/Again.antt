@@ -1,11 +1,10 @@
 -- A row that is put again with another stamp.
 use Rattle.std.proofs.Common.{◌≡◌, ℕ, ◌≤◌, true, ◌&&◌, nat_le, Option, Some, List, ◌∷◌, ◌++◌}
-use Rattle.std.proofs.Common.{refl, sym, ap, ◌∙◌, subst}
+use Rattle.std.proofs.Common.{refl, sym, ap, ◌∙◌, subst, arith}
 use Rattle.std.proofs.lemmas.Bool.{and_parts, and_from}
 use Rattle.std.specs.BTreeMap.{BTreeMap, Updates}
 use Rattle.std.specs.Ordering.{nat_cmp}
-use Rattle.std.specs.Str.{all_scalars}
-use Rattle.skk_calls.specs.Canonical.{canonical, is_good}
+use Rattle.skk_calls.specs.Canonical.{is_good}
 use Rattle.skk_calls.specs.Rows.{Row, is_row}
 use Rattle.skk_calls.specs.States.{State, row_at, count_of, fits_count, has_stamp}
 use Rattle.learned_store.specs.declared.form.Form.{Form}
@@ -43,9 +42,7 @@ module _ (before after : RowPlace → Option Row) (counts later : BTreeMap ℕ �
       (and_from (is_good again) (has_stamp count again) good.0 stamped)
 
   sound : is_sound (Put book count again) ≡ true
-  sound =
-      and_from (are_held book count) (fits_count count again && all_scalars (canonical again)) held
-      (and_from (fits_count count again) (all_scalars (canonical again)) fits_again restamped.spelled.characters)
+  sound = grind (arith, fits_again, restamped.spelled.characters)
 
   later_count : count_of state book ≤ count
   later_count = subst (λ (n : ℕ). n ≤ count) (are.count book) counted

@@ -1,5 +1,5 @@
 -- What a chronicle says with one entry more.
-use Rattle.std.proofs.Common.{◌≡◌, ◌∙◌, ap, refl, ℕ, true, List, [], ◌∷◌, ◌++◌, ◌&&◌, ◌==◌}
+use Rattle.std.proofs.Common.{◌≡◌, ◌∙◌, ap, refl, arith, ℕ, true, List, [], ◌∷◌, ◌++◌, ◌==◌}
 use Rattle.std.proofs.lemmas.Bool.{and_from}
 use Rattle.std.proofs.lemmas.List.Elements.{filter_map-append}
 use Rattle.std.proofs.lemmas.List.Folds.{list_all-append}
@@ -18,8 +18,7 @@ pub begun-more : (notes : List Noted) (note : Noted) → is_entry note ≡ true 
     → is_chronicle (notes ++ note ∷ []) ≡ true
 begun-more [] note entry begun = absurd (cc)
 begun-more (Opened files state end limit time faults ∷ rest) note entry begun =
-    list_all-append is_entry rest (note ∷ [])
-    ∙ and_from (list_all is_entry rest) (is_entry note && true) begun (and_from (is_entry note) true entry refl)
+    grind (arith, list_all-append is_entry rest (note ∷ []))
 begun-more (Entered number call answer time faults ∷ rest) note entry begun = absurd (cc)
 
 pub opened-more : (notes : List Noted) (note : Noted) → is_chronicle notes ≡ true

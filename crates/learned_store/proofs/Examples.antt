@@ -1,5 +1,6 @@
 -- The definitions at small examples, each worked out by hand.
 use Rattle.std.proofs.Common.{◌≡◌, ℕ, ◌^◌, ◌-◌, true, false, None, Some, List, [], ◌∷◌, map, length, codes, refl}
+use Rattle.exact_readers.specs.Numbers.{number_bytes}
 use Rattle.skk_calls.specs.declared.part.Part.{Part}
 use Rattle.skk_calls.specs.declared.part.Part.TheVariants.{Nasi, Ari}
 use Rattle.skk_calls.specs.declared.call.Call.TheVariants.{Lookup, Complete, Learn, Purge, Unlearn}
@@ -14,13 +15,13 @@ use Rattle.learned_store.specs.Payloads.{payload_of, are_held, is_sound, state_t
 -- Bytes
 
 books : map book_number (0 ∷ 1 ∷ 258 ∷ 65535 ∷ []) ≡ (0 ∷ 0 ∷ []) ∷ (1 ∷ 0 ∷ []) ∷ (2 ∷ 1 ∷ []) ∷ (255 ∷ 255 ∷ []) ∷ []
-unfolding book_number
+unfolding number_bytes
 books = refl
 
 wide : map wide_number (0 ∷ 1 ∷ 578437695752307201 ∷ 18446744073709551615 ∷ [])
     ≡ (0 ∷ 0 ∷ 0 ∷ 0 ∷ 0 ∷ 0 ∷ 0 ∷ 0 ∷ []) ∷ (1 ∷ 0 ∷ 0 ∷ 0 ∷ 0 ∷ 0 ∷ 0 ∷ 0 ∷ [])
     ∷ (1 ∷ 2 ∷ 3 ∷ 4 ∷ 5 ∷ 6 ∷ 7 ∷ 8 ∷ []) ∷ (255 ∷ 255 ∷ 255 ∷ 255 ∷ 255 ∷ 255 ∷ 255 ∷ 255 ∷ []) ∷ []
-unfolding wide_number
+unfolding number_bytes
 wide = refl
 
 parts : map part_byte (Nasi ∷ Ari ∷ []) ≡ 0 ∷ 1 ∷ []
@@ -47,26 +48,26 @@ learning =
     ∷ 227 ∷ 129 ∷ 152 ∷ 32 ∷ 47 ∷ 230 ∷ 188 ∷ 162 ∷ 229 ∷ 173 ∷ 151 ∷ 47 ∷ []
 
 learning_bytes : (payload_of (Put 1 1 (row Nasi (codes "かんじ") (codes "漢字") 1)) ≡ learning) × (length learning ≡ 38)
-unfolding lib.Utf8.encode book_number wide_number
+unfolding lib.Utf8.encode number_bytes
 learning_bytes = (refl, refl)
 
 -- a row with okurigana, whose stamp is less than the count of its book; 大 for おおk
 put_payload : payload_of (Put 258 772 (row Ari (codes "おおk") (codes "大") 259))
     ≡ 1 ∷ 2 ∷ 1 ∷ 4 ∷ 3 ∷ 0 ∷ 0 ∷ 0 ∷ 0 ∷ 0 ∷ 0 ∷ 3 ∷ 1 ∷ 0 ∷ 0 ∷ 0 ∷ 0 ∷ 0 ∷ 0 ∷ 1 ∷ 227 ∷ 129 ∷ 138 ∷ 227 ∷ 129 ∷ 138
     ∷ 107 ∷ 32 ∷ 47 ∷ 229 ∷ 164 ∷ 167 ∷ 47 ∷ []
-unfolding lib.Utf8.encode book_number wide_number
+unfolding lib.Utf8.encode number_bytes
 put_payload = refl
 
 -- the row of かんじ, and that of おおk, are taken out
 drop_payloads : map payload_of (Drop 1 2 (key Nasi (codes "かんじ")) ∷ Drop 258 772 (key Ari (codes "おおk")) ∷ [])
     ≡ (2 ∷ 1 ∷ 0 ∷ 2 ∷ 0 ∷ 0 ∷ 0 ∷ 0 ∷ 0 ∷ 0 ∷ 0 ∷ 0 ∷ 227 ∷ 129 ∷ 139 ∷ 227 ∷ 130 ∷ 147 ∷ 227 ∷ 129 ∷ 152 ∷ [])
     ∷ (2 ∷ 2 ∷ 1 ∷ 4 ∷ 3 ∷ 0 ∷ 0 ∷ 0 ∷ 0 ∷ 0 ∷ 0 ∷ 1 ∷ 227 ∷ 129 ∷ 138 ∷ 227 ∷ 129 ∷ 138 ∷ 107 ∷ []) ∷ []
-unfolding lib.Utf8.encode book_number wide_number
+unfolding lib.Utf8.encode number_bytes
 drop_payloads = refl
 
 -- a book gets a count
 count_payload : payload_of (SetCount 258 578437695752307201) ≡ 3 ∷ 2 ∷ 1 ∷ 1 ∷ 2 ∷ 3 ∷ 4 ∷ 5 ∷ 6 ∷ 7 ∷ 8 ∷ []
-unfolding book_number wide_number
+unfolding number_bytes
 count_payload = refl
 
 -- the book and the count of each form

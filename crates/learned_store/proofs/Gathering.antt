@@ -1,7 +1,6 @@
 -- What was gathered of records, and how an index comes of it.
-use Rattle.std.proofs.Common.{◌≡◌, ℕ, ◌≤◌, ◌==◌, Bool, true, false, cond, ◌&&◌, Option, None, Some}
-use Rattle.std.proofs.Common.{refl, sym, ap, ◌∙◌, subst, arith}
-use Rattle.std.proofs.lemmas.Bool.{eqb-true}
+use Rattle.std.proofs.Common.{◌≡◌, ℕ, ◌≤◌, ◌==◌, Bool, true, cond, Option, None, Some}
+use Rattle.std.proofs.Common.{sym, ap, ◌∙◌, subst, arith}
 use Rattle.std.specs.BTreeMap.{BTreeMap, get, Updates}
 use Rattle.std.specs.Cmp.{unsigned_tied}
 use Rattle.std.specs.Option.{option_or, unwrap_or}
@@ -9,8 +8,8 @@ use Rattle.std.specs.Ordering.{is_eq, nat_cmp}
 use Rattle.skk_calls.specs.KeyLaws.{same_key_equal}
 use Rattle.skk_calls.specs.Rows.{RowKey, Row, same_key}
 use Rattle.skk_calls.specs.States.{State, rows_of, row_at, count_of, state_with, fits_count, is_valid}
-use Rattle.dict_laws.specs.ChangedStates.{has_key, row_in_has_key}
-use Rattle.dict_laws.specs.ValidStates.{fits_after, fits_row_at}
+use Rattle.dict_laws.specs.ChangedStates.{row_in_has_key}
+use Rattle.dict_laws.specs.ValidStates.{fits_row_at}
 use Rattle.learn_index.specs.Records.{state_counted}
 use Rattle.learned_store.specs.declared.form.Form.{Form}
 use Rattle.learned_store.specs.declared.form.Form.TheVariants.{Put, Drop, SetCount}
@@ -19,11 +18,6 @@ use Rattle.learned_store.specs.Gathering.{AreOf, count_in}
 use Rattle.learned_store.specs.Payloads.{book_of, new_count, is_sound, state_told}
 use Rattle.learned_store.specs.RowPlaces.{place_cmp, place_tied}
 use Rattle.learned_store.proofs.ToldStates.{row_told_of, count_told, row_told, valid_put, valid_counted, valid_told}
-
--- the same either way
-either_way : {X : Type 0} (b : Bool) (x : X) → cond b x x ≡ x
-either_way true x = refl
-either_way false x = refl
 
 -- Maps
 
@@ -43,14 +37,7 @@ place_changed : (before after : RowPlace → Option Row) (place : RowPlace) (row
     ≡ cond (place.book == number) (cond (same_key place.key key) row (before (place_at number key)))
     (before (place_at number key))
 place_changed before after place row changed number key =
-    changed (place_at number key)
-    ∙ ap (λ (b : Bool). cond b row (before (place_at number key))) (place_tied place (place_at number key))
-    ∙ both (place.book == number) (same_key place.key key)
-  where
-    both : (b same : Bool) → cond (b && same) row (before (place_at number key))
-        ≡ cond b (cond same row (before (place_at number key))) (before (place_at number key))
-    both true same = refl
-    both false same = refl
+    grind (arith, changed (place_at number key), place_tied place (place_at number key))
 
 -- what a map of numbers has after a change
 number_updated : (counts later : BTreeMap ℕ ℕ) (book : ℕ) (count : Option ℕ) → Updates nat_cmp counts later book count
@@ -72,41 +59,31 @@ module _ (before after : RowPlace → Option Row) (book count : ℕ) where
   pub put_told : (own : RowKey) (row : Row) → own ≡ row.key → IsChanged before after (place_at book own) (Some row)
       → IsTold (Put book count row) before after
   put_told own row is changed number key =
-      place_changed before after (place_at book own) (Some row) changed number key
-      ∙ ap (λ (k : RowKey). cond (book == number)
-      (cond (same_key k key) (Some row) (before (place_at number key))) (before (place_at number key))) is
+      grind (arith, place_changed before after (place_at book own) (Some row) changed number key)
 
   pub drop_told : (gone : RowKey) → IsChanged before after (place_at book gone) None
       → IsTold (Drop book count gone) before after
   drop_told gone changed = place_changed before after (place_at book gone) None changed
 
 pub set_told : (before : RowPlace → Option Row) (book count : ℕ) → IsTold (SetCount book count) before before
-set_told before book count number key = sym (either_way (book == number) (before (place_at number key)))
+set_told before book count number key = grind arith
 
 module _ (before after : RowPlace → Option Row) (counts later : BTreeMap ℕ ℕ) (form : Form)
     (told : IsTold form before after) (book count : ℕ) (own : book ≡ book_of form) (new : count ≡ new_count form)
     (set : Updates nat_cmp counts later book (Some count)) (state : State) (are : AreOf state counts before)
     (sound : is_sound form ≡ true) (counted : count_of state (book_of form) ≤ new_count form) where
-  counts_told : (number : ℕ) → count_in later number ≡ count_of (state_told state form) number
-  counts_told number =
-      ap (λ (found : Option ℕ). unwrap_or found 0) (number_updated counts later book (Some count) set number)
-      ∙ by (book == number) ∙ ap (λ (b : ℕ). cond (b == number) count (count_of state number)) own
-      ∙ ap (λ (n : ℕ). cond (book_of form == number) n (count_of state number)) new
-      ∙ sym (count_told state form counted number)
-    where
-      by : (b : Bool) → unwrap_or (cond b (Some count) (get nat_cmp counts number)) 0
-          ≡ cond b count (count_of state number)
-      by true = refl
-      by false = are.count number
-
   -- what was gathered is what one record more leaves
   pub are_told : AreOf (state_told state form) later after
   are_told = record {
     valid = valid_told state are.valid form sound counted;
-    count = counts_told;
-    row = λ number key. told number key
-        ∙ ap (λ (row : Option Row). cond (book_of form == number) (row_told_of form key row) row) (are.row number key)
-        ∙ sym (row_told state form counted number are.valid key);
+    count = λ number. grind (
+      arith,
+      number_updated counts later book (Some count) set number,
+      are.count number,
+      count_told state form counted number,
+    );
+    row = λ number key.
+        grind (arith, told number key, are.row number key, row_told state form counted number are.valid key);
   }
 
 -- Indexes
@@ -123,79 +100,41 @@ module _ (state : State) (valid : is_valid state ≡ true) (place : RowPlace) (r
   -- a row of a state has its key
   pub row_key : row.key ≡ place.key
   row_key =
-      same_key_equal row.key place.key
-      (subst (λ (found : Option Row). has_key place.key found ≡ true) there
-      (row_in_has_key place.key (rows_of state place.book)))
+      grind (arith, same_key_equal row.key place.key, row_in_has_key place.key (rows_of state place.book), there)
 
   -- and may stand in its book
   pub row_fits : fits_count (count_of state place.book) row ≡ true
-  row_fits =
-      subst (λ (found : Option Row). fits_after (count_of state place.book) found ≡ true) there
-      (fits_row_at state place.book valid place.key)
+  row_fits = grind (arith, fits_row_at state place.book valid place.key, there)
 
 module _ (state index : State) (rows rest : RowPlace → Option Row) (place : RowPlace) (row : Row)
     (valid : is_valid state ≡ true) (put : IsPut state index rows) (first : rows place ≡ Some row)
     (taken : IsChanged rows rest place None) where
   -- a row that is left is one of the state
   pub left_there : row_at state place.book place.key ≡ Some row
-  left_there =
-      put.rows place.book place.key
-      ∙ ap (λ (found : Option Row). option_or found (row_at index place.book place.key)) first
+  left_there = grind (arith, put.rows place.book place.key, first)
 
   -- it can be put
   pub put_next : (count : ℕ) → count ≡ count_of state place.book
       → IsPut state (state_with index place.book count row.key (Some row)) rest
   put_next count is = record {
     valid = valid_put index put.valid place.book count row fits later;
-    counts = λ number. subst (λ (n : ℕ). n ≤ count_of state number)
-        (sym (count_told index (Put place.book count row) later number)) (below number);
-    rows = λ number key. here number key
-        ∙ sym (ap (λ (found : Option Row). option_or (rest (place_at number key)) found)
-        (row_told index (Put place.book count row) later number put.valid key));
+    counts = λ number. grind (arith, is, count_told index (Put place.book count row) later number, put.counts number);
+    rows = λ number key. grind (
+      arith,
+      row_told index (Put place.book count row) later number put.valid key,
+      place_changed rows rest place None taken number key,
+      put.rows number key,
+      row_key state valid place row left_there,
+      same_key_equal row.key key,
+      left_there,
+    );
   }
     where
-      own : row.key ≡ place.key
-      own = row_key state valid place row left_there
-
       fits : fits_count count row ≡ true
       fits = subst (λ (n : ℕ). fits_count n row ≡ true) (sym is) (row_fits state valid place row left_there)
 
       later : count_of index place.book ≤ count
       later = subst (λ (n : ℕ). count_of index place.book ≤ n) (sym is) (put.counts place.book)
-
-      below : (number : ℕ) → cond (place.book == number) count (count_of index number) ≤ count_of state number
-      below number = by (place.book == number) refl
-        where
-          by : (b : Bool) → (place.book == number) ≡ b → cond b count (count_of index number) ≤ count_of state number
-          by true e =
-              let same : count ≡ count_of state number = is ∙ ap (count_of state) (eqb-true place.book number e) in
-              omega (arith, same)
-          by false e = put.counts number
-
-      here : (number : ℕ) (key : RowKey) → row_at state number key
-          ≡ option_or (rest (place_at number key))
-          (cond (place.book == number) (cond (same_key row.key key) (Some row) (row_at index number key))
-          (row_at index number key))
-      here number key =
-          by (place.book == number) (same_key row.key key) refl refl
-          ∙ sym (ap (λ (found : Option Row). option_or found
-          (cond (place.book == number) (cond (same_key row.key key) (Some row) (row_at index number key))
-          (row_at index number key)))
-          (place_changed rows rest place None taken number key
-          ∙ ap (λ (k : RowKey). cond (place.book == number)
-          (cond (same_key k key) None (rows (place_at number key)))
-          (rows (place_at number key))) (sym own)))
-        where
-          by : (b same : Bool) → (place.book == number) ≡ b → same_key row.key key ≡ same → row_at state number key
-              ≡ option_or (cond b (cond same None (rows (place_at number key)))
-              (rows (place_at number key)))
-              (cond b (cond same (Some row) (row_at index number key)) (row_at index number key))
-          by true true e f =
-              sym (ap (λ (n : ℕ). row_at state n key) (eqb-true place.book number e))
-              ∙ sym (ap (λ (k : RowKey). row_at state place.book k) (sym own ∙ same_key_equal row.key key f))
-              ∙ left_there
-          by true false e f = put.rows number key
-          by false same e f = put.rows number key
 
 -- these counts have those that an index gets, some of which are left
 pub record IsCounted (all left : BTreeMap ℕ ℕ) (before now : State) : Type 0 where
@@ -217,32 +156,23 @@ module _ (all left rest : BTreeMap ℕ ℕ) (before now : State) (counted : IsCo
   pub count_next : IsCounted all rest before (state_counted now book count)
   count_next = record {
     valid = valid_counted now counted.valid book count count_later;
-    rows = λ number key. row_told now (SetCount book count) count_later number counted.valid key
-        ∙ either_way (book == number) (row_at now number key) ∙ counted.rows number key;
-    below = λ number. subst (λ (n : ℕ). n ≤ count_in all number)
-        (sym (count_told now (SetCount book count) count_later number)) (below number);
-    counts = λ number. here number;
+    rows = λ number key.
+        grind (
+          arith,
+          row_told now (SetCount book count) count_later number counted.valid key,
+          counted.rows number key,
+        );
+    below = λ number. grind (
+      arith,
+      count_told now (SetCount book count) count_later number,
+      counted.below number,
+      count_there,
+    );
+    counts = λ number. grind (
+      arith,
+      number_updated left rest book None updates number,
+      count_told now (SetCount book count) count_later number,
+      counted.counts number,
+      count_there,
+    );
   }
-    where
-      below : (number : ℕ) → cond (book == number) count (count_of now number) ≤ count_in all number
-      below number = by (book == number) refl
-        where
-          by : (b : Bool) → (book == number) ≡ b → cond b count (count_of now number) ≤ count_in all number
-          by true e =
-              let same : count ≡ count_in all number = sym count_there ∙ ap (count_in all) (eqb-true book number e) in
-              omega (arith, same)
-          by false e = counted.below number
-
-      here : (number : ℕ) → count_in all number
-          ≡ unwrap_or (get nat_cmp rest number) (count_of (state_counted now book count) number)
-      here number =
-          by (book == number) refl
-          ∙ sym (ap (λ (found : Option ℕ). unwrap_or found (cond (book == number) count (count_of now number)))
-          (number_updated left rest book None updates number))
-          ∙ sym (ap (λ (n : ℕ). unwrap_or (get nat_cmp rest number) n)
-          (count_told now (SetCount book count) count_later number))
-        where
-          by : (b : Bool) → (book == number) ≡ b → count_in all number
-              ≡ unwrap_or (cond b None (get nat_cmp left number)) (cond b count (count_of now number))
-          by true e = sym (ap (count_in all) (eqb-true book number e)) ∙ count_there
-          by false e = counted.counts number

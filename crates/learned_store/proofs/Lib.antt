@@ -2,7 +2,6 @@ mod Again
 mod Changes
 mod Chronicles
 mod Examples
-mod Fields
 mod Gathering
 mod Kept
 mod Limits
@@ -10,14 +9,13 @@ mod Moments
 mod Needs
 mod NoForms
 mod Noted
-mod OneForm
 mod OneRecovery
 mod Opened
 mod Placed
 mod PlainRows
 mod PlansTold
-mod ReadBytes
 mod ReadForms
+mod ReadParts
 mod ReadRecords
 mod ReadRows
 mod RecoveredExamples

@@ -1,13 +1,11 @@
 -- What answers tell of the room in the learned file, with one entry more, and when a journal is in no doubt.
 use Rattle.std.proofs.Common.{◌≡◌, ◌⊎◌, inl, inr, refl, sym, ◌∙◌, ap, subst, arith}
-use Rattle.std.proofs.Common.{ℕ, ◌+◌, ◌≤◌, Bool, true, false, if◌then◌else◌, Option, None, Some, List, [], ◌∷◌, ◌++◌}
-use Rattle.std.proofs.lemmas.Bool.{cases_Bool}
+use Rattle.std.proofs.Common.{ℕ, ◌+◌, ◌≤◌, Bool, true, false, Option, None, Some, List, [], ◌∷◌, ◌++◌}
 use Rattle.skk_calls.specs.declared.answer.Answer.{Answer}
 use Rattle.skk_calls.specs.declared.answer.Answer.TheVariants.{Done, Refused}
 use Rattle.skk_calls.specs.declared.answer.Refusal.TheVariants.{Memory, Disk, JournalFull}
 use Rattle.skk_calls.specs.declared.call.Call.{Call}
 use Rattle.skk_calls.specs.declared.entry.Entry.{Entry}
-use Rattle.skk_calls.specs.Dictionary.{is_change}
 use Rattle.skk_calls.specs.Histories.{Opening, need, room, state_after, tells_change, in_doubt, in_doubt_after}
 use Rattle.skk_calls.specs.HistoryLaws.{split-last}
 use Rattle.skk_calls.specs.States.{State}
@@ -79,14 +77,7 @@ module _ {D : Type 0} (time : D → ℕ) (left_since : D → ℕ → Image → T
     pub calm-more : (given : Answer) → DoubtAfter state doubt call given later
         → in_doubt_after calls call given ≡ [] → new.in_doubt ≡ false
     calm-more (Done reply) after none =
-        elim (cases_Bool (is_change reply)) [
-          | inl changed ↦
-              calm-kept new now later keeps (after ∙ ap (λ b. if b then None else doubt) changed)
-          | inr still ↦
-              let before : calls ≡ [] = sym (ap (λ b. if b then [] else calls) still) ∙ none in
-              calm-kept new now later keeps
-              (after ∙ ap (λ b. if b then None else doubt) still ∙ none-kept old state doubt kept (calm before))
-        ]
+        grind (arith, calm-kept new now later keeps, none-kept old state doubt kept, calm)
     calm-more (Refused Memory) after none =
         calm-kept new now later keeps (after ∙ none-kept old state doubt kept (calm none))
     calm-more (Refused Disk) after none = absurd (not-empty calls call none)

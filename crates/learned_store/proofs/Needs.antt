@@ -1,6 +1,7 @@
 -- What a call needs in the learned file is what the record of its change needs there.
 use Rattle.std.proofs.Common.{◌≡◌, ℕ, ◌+◌, Option, None, Some, ◌∷◌, ◌++◌, length, encode_utf8_all}
-use Rattle.std.proofs.Common.{refl, ◌∙◌, ap, arith, length-append}
+use Rattle.std.proofs.Common.{refl, arith, length-append}
+use Rattle.exact_readers.specs.NumberLaws.{told_16, told_64}
 use Rattle.skk_calls.specs.declared.call.Call.{Call}
 use Rattle.skk_calls.specs.declared.call.Call.TheVariants.{Lookup, Complete, Learn, Purge, Unlearn}
 use Rattle.skk_calls.specs.Canonical.{canonical}
@@ -11,17 +12,8 @@ use Rattle.skk_calls.specs.States.{State, row_at, count_of}
 use Rattle.skk_journal.specs.RecordLaws.{need_is}
 use Rattle.skk_journal.specs.Records.{need as record_need}
 use Rattle.learned_store.specs.declared.form.Form.{Form}
-use Rattle.learned_store.specs.Payloads.{book_number, wide_number, part_byte, put_bytes, drop_bytes, payload_of}
-use Rattle.learned_store.specs.Payloads.{row_told, change_told}
-
--- a book's number has two bytes, and a wide number has eight
-length-book_number : (number : ℕ) → length (book_number number) ≡ 2
-unfolding book_number
-length-book_number number = refl
-
-length-wide_number : (number : ℕ) → length (wide_number number) ≡ 8
-unfolding wide_number
-length-wide_number number = refl
+use Rattle.learned_store.specs.Payloads.{book_number, wide_number, part_byte, put_bytes, drop_bytes, count_bytes}
+use Rattle.learned_store.specs.Payloads.{payload_of, row_told, change_told}
 
 -- the record of a row needs 25 bytes and those of its line
 pub put_needs : (book count : ℕ) (row : Row) → put_need row ≡ record_need (put_bytes book count row)
@@ -33,9 +25,9 @@ put_needs book count row =
       length-append (book_number book) (wide_number count ++ (wide_number row.stamp ++ line)),
       length-append (wide_number count) (wide_number row.stamp ++ line),
       length-append (wide_number row.stamp) line,
-      length-book_number book,
-      length-wide_number count,
-      length-wide_number row.stamp,
+      told_16.long book,
+      told_64.long count,
+      told_64.long row.stamp,
     )
 
 -- the record of a row that is taken out needs 17 bytes and those of its reading
@@ -47,18 +39,19 @@ drop_needs book count key =
       need_is (drop_bytes book count key),
       length-append (book_number book) (wide_number count ++ reading),
       length-append (wide_number count) reading,
-      length-book_number book,
-      length-wide_number count,
+      told_16.long book,
+      told_64.long count,
     )
+
+-- a payload that gives a count has eleven bytes
+pub counted_long : (book count : ℕ) → length (count_bytes book count) ≡ 11
+counted_long book count =
+    omega (arith, length-append (book_number book) (wide_number count), told_16.long book, told_64.long count)
 
 restored_needs : (book count : ℕ) (key : RowKey) (row : Option Row)
     → restored_need key row ≡ record_need (payload_of (row_told book count key row))
 restored_needs book count key None = drop_needs book count key
 restored_needs book count key (Some row) = put_needs book count row
-
--- a form that is told is the one that is there
-told : (a b : Form) → Some a ≡ Some b → a ≡ b
-told a b same = cc
 
 pub needs_record : (state : State) (call : Call) (form : Form) → change_told state call ≡ Some form
     → need state call ≡ record_need (payload_of form)
@@ -66,12 +59,9 @@ needs_record state (Lookup who key okuri) form is = absurd (cc)
 needs_record state (Complete who prefix) form is = absurd (cc)
 needs_record state (Learn book key okuri cand) form is =
     let count = count_of state book + 1 in
-    put_needs book count (learnt (row_at state book key) key okuri cand count)
-    ∙ ap (λ (f : Form). record_need (payload_of f)) (told _ form is)
+    grind (arith, put_needs book count (learnt (row_at state book key) key okuri cand count))
 needs_record state (Purge book key word) form is =
     let count = count_of state book + 1 in
-    put_needs book count (purged (row_at state book key) key word count)
-    ∙ ap (λ (f : Form). record_need (payload_of f)) (told _ form is)
+    grind (arith, put_needs book count (purged (row_at state book key) key word count))
 needs_record state (Unlearn learned) form is =
-    restored_needs learned.book (count_of state learned.book) learned.key learned.before
-    ∙ ap (λ (f : Form). record_need (payload_of f)) (told _ form is)
+    grind (arith, restored_needs learned.book (count_of state learned.book) learned.key learned.before)

@@ -7,7 +7,8 @@ use Rattle.skk_journal.specs.Records.{place_behind}
 use Rattle.learned_store.specs.declared.form.Form.{Form}
 use Rattle.learned_store.specs.Payloads.{Says, SaysNothing, state_told}
 use Rattle.learned_store.specs.Recovered.{Leads, Leave, BreakAt, Recovery, with_state, foreign, refused, IsRecovered}
-use Rattle.learned_store.proofs.OneForm.{LinesAreRead, one_form}
+use Rattle.learned_store.proofs.ReadForms.{one_form}
+use Rattle.learned_store.proofs.ReadRows.{LinesAreRead}
 
 parts : (a b : List ℕ) (l m : List (List ℕ)) → a ∷ l ≡ b ∷ m → (a ≡ b) × (l ≡ m)
 parts a b l m same = (cc, cc)

@@ -1,8 +1,7 @@
 -- Rows with their places, in one order or another, and without the first.
-use Rattle.std.proofs.Common.{◌≡◌, ℕ, ◌==◌, true, false, Bool, cond, Option, None, Some, List, [], ◌∷◌}
-use Rattle.std.proofs.Common.{◌++◌, refl, sym, ap, subst, ◌∙◌}
+use Rattle.std.proofs.Common.{◌≡◌, true, false, Bool, cond, Option, None, Some, List, [], ◌∷◌}
+use Rattle.std.proofs.Common.{◌++◌, refl, sym, ap, subst, ◌∙◌, arith}
 use Rattle.std.proofs.lemmas.List.{append_assoc, map-append}
-use Rattle.std.proofs.lemmas.Bool.{and_parts, eqb-true}
 use Rattle.std.proofs.lemmas.List.Sorted.{Contains-permutation, IsPermutation-map, IsPermutation-sym}
 use Rattle.std.proofs.lemmas.Map.Entries.{lookup_head, lookup_tail}
 use Rattle.std.proofs.lemmas.Map.Keys.{IsDistinct-IsPermutation, IsDistinct-head, IsDistinct-tail}
@@ -13,7 +12,7 @@ use Rattle.std.specs.List.Sorted.{IsPermutation}
 use Rattle.std.specs.Map.{keys_of, lookup}
 use Rattle.std.specs.Ordering.{eq_by_cmp, is_eq}
 use Rattle.skk_calls.specs.KeyLaws.{same_key_equal}
-use Rattle.skk_calls.specs.Rows.{RowKey, Row, same_key}
+use Rattle.skk_calls.specs.Rows.{Row}
 use Rattle.learned_store.specs.declared.placed_row.PlacedRow.{PlacedRow}
 use Rattle.learned_store.specs.declared.row_place.RowPlace.{RowPlace}
 use Rattle.learned_store.specs.Gathering.{placed_entries, are_apart, row_placed}
@@ -22,10 +21,7 @@ use Rattle.learned_store.specs.RowPlaces.{place_cmp, place_tied, place_total}
 -- places are one where their order says so
 place_one : (place other : RowPlace) → eq_by_cmp place_cmp place other ≡ true → place ≡ other
 place_one place other same =
-    let parts = and_parts (place.book == other.book) (same_key place.key other.key)
-    (sym (place_tied place other) ∙ same) in
-    ap (λ (number : ℕ). record { book = number; key = place.key }) (eqb-true place.book other.book parts.0)
-    ∙ ap (λ (key : RowKey). record { book = other.book; key = key }) (same_key_equal place.key other.key parts.1)
+    grind (arith, place_tied place other, same_key_equal place.key other.key)
 
 places_one : IsEquivalence (eq_by_cmp place_cmp)
 places_one = eq_by_cmp_equiv place_total
@@ -102,19 +98,19 @@ module _ (first : PlacedRow) (rest : List PlacedRow) where
   first_taken : are_apart (first ∷ rest) → (other : RowPlace)
       → row_placed rest other
       ≡ cond (is_eq (place_cmp first.place other)) None (row_placed (first ∷ rest) other)
-  first_taken apart other = by (eq_by_cmp place_cmp first.place other) refl
+  first_taken apart other =
+      grind (
+        arith,
+        none,
+        place_one first.place other,
+        places_one.symm first.place other,
+        lookup_tail (eq_by_cmp place_cmp other) (first.place, first.row) (placed_entries rest),
+      )
     where
       none : row_placed rest first.place ≡ None
       none =
           not_found (eq_by_cmp place_cmp first.place) (placed_entries rest)
           (IsDistinct-head (eq_by_cmp place_cmp) first.place (keys_of (placed_entries rest)) apart)
-
-      by : (b : Bool) → eq_by_cmp place_cmp first.place other ≡ b
-          → row_placed rest other ≡ cond b None (row_placed (first ∷ rest) other)
-      by true e = sym (ap (row_placed rest) (place_one first.place other e)) ∙ none
-      by false e =
-          sym (lookup_tail (eq_by_cmp place_cmp other) (first.place, first.row) (placed_entries rest)
-          (sym (places_one.symm first.place other) ∙ e))
 
 -- of rows that begin with one
 module _ (rows rest : List PlacedRow) (first : PlacedRow) (is : rows ≡ first ∷ rest) where

@@ -1,8 +1,8 @@
 -- The row of a line with one plain candidate.
-use Rattle.std.proofs.Common.{◌≡◌, ℕ, ◌≤◌, true, not, ◌&&◌, ◌||◌, ◌==◌, nat_le, List, [], ◌∷◌}
+use Rattle.std.proofs.Common.{◌≡◌, ℕ, ◌≤◌, true, not, ◌&&◌, ◌||◌, nat_le, List, [], ◌∷◌}
 use Rattle.std.proofs.Common.{refl, sym, ap, subst, ◌∙◌, arith}
 use Rattle.std.specs.List.{list_all}
-use Rattle.std.proofs.lemmas.Bool.{and_from, eq-eqb, le-leb}
+use Rattle.std.proofs.lemmas.Bool.{and_from, le-leb}
 use Rattle.skk_text.specs.Lists.{is_empty}
 use Rattle.skk_text.specs.Text.{byte_len}
 use Rattle.skk_calls.specs.declared.part.Part.{Part}
@@ -32,12 +32,7 @@ module _ (row : Row) (part : Part) (key : RowKey) (cand : Cand) (stamp : ℕ) (c
     }) (cands_is : cands ≡ cand ∷ []) (blocks_is : blocks ≡ []) (hides_is : hides ≡ []) where
   whole : row ≡ record { key = key; cands = cand ∷ []; blocks = []; hides = []; stamp = stamp }
   whole =
-      is
-      ∙ ap (λ (l : List Cand). record { key = key; cands = l; blocks = blocks; hides = hides; stamp = stamp }) cands_is
-      ∙ ap (λ (l : List Block). record { key = key; cands = cand ∷ []; blocks = l; hides = hides; stamp = stamp })
-      blocks_is
-      ∙ ap (λ (l : List (List ℕ)). record { key = key; cands = cand ∷ []; blocks = []; hides = l; stamp = stamp })
-      hides_is
+      grind (arith, is, cands_is, blocks_is, hides_is)
 
   -- they are all that it has
   pub has_one : key.part ≡ part → is_row_key key ≡ true → is_cand cand ≡ true → HasOneCand part stamp row
@@ -74,7 +69,6 @@ module _ (part : Part) (line : List ℕ) (stamp : ℕ) (row : Row) (one : HasOne
 
   pub one_cand_line : (is_line_row stamp row ≡ true) × ((part, line) ≡ parted_row row)
   one_cand_line = (
-    and_from (is_row row) (is_good row && row.stamp == stamp) one.valid
-        (and_from (is_good row) (row.stamp == stamp) good (eq-eqb row.stamp stamp one.stamp_is)),
+    grind (arith, one.valid, good, one.stamp_is),
     ap (λ (p : Part). (p, line)) (sym one.part_is) ∙ ap (λ (l : List ℕ). (row.key.part, l)) (sym own),
   )

@@ -1,232 +1,198 @@
--- What is read of the bytes of a payload, part by part, is what the payload says.
-use Rattle.std.proofs.Common.{◌≡◌, ℕ, ◌+◌, ◌^◌, ◌<◌, ◌≤◌, Bool, true, false, ◌&&◌, ◌==◌, nat_le, None, Some}
-use Rattle.std.proofs.Common.{Option, List, ◌++◌, length, take, drop as behind, refl, sym, ◌∙◌, ap, subst}
-use Rattle.std.proofs.Common.{arith, length-append, encode_utf8_all, Fits}
-use Rattle.std.proofs.Math.Facts.{Fits-lt-pow}
-use Rattle.std.proofs.lemmas.Bool.{and_parts, and_from, eq-eqb}
+-- What is read of a payload is what it says, and what may be written is read again: so a payload says one thing.
+use Rattle.std.proofs.Common.{◌≡◌, ◌^◌, ◌<◌, ◌≤◌, ◌&&◌, ◌==◌, ℕ, true, inl, inr, Option, None, Some, List, [], ◌∷◌}
+use Rattle.std.proofs.Common.{◌++◌, append-nil, append_assoc, refl, sym, ap, ◌∙◌, subst, arith}
+use Rattle.std.specs.Int.{w16, w64}
+use Rattle.std.specs.Option.{IfSome, option_map}
+use Rattle.std.proofs.lemmas.Bool.{and_parts, eqb-true}
 use Rattle.std.proofs.lemmas.Bool.Decides.{nat_tests}
-use Rattle.std.proofs.lemmas.Str.{encodes_same}
-use Rattle.std.specs.Int.{w16, w64, from_le_bytes}
-use Rattle.std.specs.Str.{all_scalars}
+use Rattle.std.proofs.lemmas.Option.{none-some, same_Some}
+use Rattle.exact_readers.specs.Exact.{IsExact}
+use Rattle.exact_readers.specs.ExactLaws.{both-exact, chosen, one_as-exact, option_map-some, then_at-some}
+use Rattle.exact_readers.specs.Formats.{both, one_as, then_at}
+use Rattle.exact_readers.specs.NumberLaws.{number-exact, told_16, told_64}
+use Rattle.exact_readers.specs.Numbers.{number}
 use Rattle.skk_text.specs.Counts.{last_count}
-use Rattle.skk_calls.specs.declared.part.Part.{Part}
-use Rattle.skk_calls.specs.Canonical.{canonical, is_good}
-use Rattle.skk_calls.specs.Rows.{Row, is_row}
-use Rattle.skk_calls.specs.States.{has_stamp, fits_count}
+use Rattle.skk_text.specs.Lists.{is_empty}
+use Rattle.skk_calls.specs.Rows.{RowKey, Row}
+use Rattle.skk_calls.specs.States.{State, count_of}
 use Rattle.learned_store.specs.declared.form.Form.{Form}
 use Rattle.learned_store.specs.declared.form.Form.TheVariants.{Put, Drop, SetCount}
-use Rattle.learned_store.specs.Payloads.{book_number, wide_number, part_byte, are_held, payload_of, is_sound}
-use Rattle.learned_store.specs.Reading.{IsRead, payload_with, Parted, is_parted, parted_bytes, is_written_key}
-use Rattle.learned_store.specs.Reading.{parted_key, is_line_row, parted_row, is_text_row, is_written_row, row_bytes}
-use Rattle.learned_store.proofs.Fields.{book_back, wide_back, held_count, counted_long}
-use Rattle.learned_store.proofs.OneForm.{part_of_byte}
-use Rattle.learned_store.proofs.SoundForms.{written_parts}
-
--- Numbers
-
--- eight bytes hold a number
-pub long_wide : (n : ℕ) → length (wide_number n) ≡ 8
-unfolding wide_number
-long_wide n = refl
-
-wide_front : (n : ℕ) (rest : List ℕ) → take 8 (wide_number n ++ rest) ≡ wide_number n
-unfolding wide_number
-wide_front n rest = refl
-
-wide_rest : (n : ℕ) (rest : List ℕ) → behind 8 (wide_number n ++ rest) ≡ rest
-unfolding wide_number
-wide_rest n rest = refl
-
--- a number and what stands behind it are told by their bytes
-wide_same : (n m : ℕ) (rest end : List ℕ) → n ≤ last_count → m ≤ last_count
-    → wide_number n ++ rest ≡ wide_number m ++ end → (n ≡ m) × (rest ≡ end)
-wide_same n m rest end held also same =
-    let bytes : wide_number n ≡ wide_number m =
-    sym (wide_front n rest) ∙ ap (λ (l : List ℕ). take 8 l) same ∙ wide_front m end in (
-      sym (wide_back n held) ∙ ap (from_le_bytes w64) bytes ∙ wide_back m also,
-      sym (wide_rest n rest) ∙ ap (λ (l : List ℕ). behind 8 l) same ∙ wide_rest m end,
-    )
+use Rattle.learned_store.specs.Payloads.{book_number, wide_number, are_held, book_of, new_count, payload_of, is_sound}
+use Rattle.learned_store.specs.Payloads.{Says, SaysNothing}
+use Rattle.learned_store.specs.Reading.{payload_with, put_with, fields, form_behind, form_of, key_of, row_of}
+use Rattle.learned_store.proofs.ReadParts.{key_sound, key_complete, row_sound, row_complete}
+use Rattle.learned_store.proofs.ReadRows.{LinesAreRead, LinesAreRows}
+use Rattle.learned_store.proofs.SoundForms.{put_parts, drop_parts}
 
 -- Fields
 
--- numbers of the code are held
-pub within : (n : ℕ) → Fits w64 n → n ≤ last_count
-within n fits = omega (arith, Fits-lt-pow fits)
+pub held : (book count : ℕ) → book < 2 ^ 16 → count < 2 ^ 64 → are_held book count ≡ true
+held book count low least = grind (arith, nat_tests)
 
-held_from : (book count : ℕ) → book < 2 ^ 16 → count ≤ last_count → are_held book count ≡ true
-held_from book count low least = grind (arith, nat_tests)
+numbers_exact : IsExact (both (number w16) (number w64))
+numbers_exact = both-exact (number w16) (number w64) (number-exact w16 told_16) (number-exact w64 told_64)
 
-pub held : (book count : ℕ) → Fits w16 book → Fits w64 count → are_held book count ≡ true
-held book count book_fits count_fits = held_from book count (Fits-lt-pow book_fits) (within count count_fits)
+fields_exact : IsExact fields
+fields_exact = both-exact (one_as (λ kind. Some kind)) (both (number w16) (number w64)) (one_as-exact _) numbers_exact
 
--- the fields take eleven bytes
-pub long_fields : (kind book count : ℕ) (rest : List ℕ) → length (payload_with kind book count rest) ≡ 11 + length rest
-unfolding book_number wide_number
-long_fields kind book count rest = omega arith
+-- the fields that are read of a payload are held, and begin it
+pub record AreFields (payload : List ℕ) (kind book count : ℕ) (rest : List ℕ) : Type 0 where
+  pub held : are_held book count ≡ true
+  pub is : payload ≡ payload_with kind book count rest
 
-book_bytes : (kind book count : ℕ) (rest : List ℕ)
-    → take 2 (behind 1 (payload_with kind book count rest)) ≡ book_number book
-unfolding book_number
-book_bytes kind book count rest = refl
-
-behind_book : (kind book count : ℕ) (rest : List ℕ)
-    → behind 3 (payload_with kind book count rest) ≡ wide_number count ++ rest
-unfolding book_number
-behind_book kind book count rest = refl
-
--- the fields of a payload are told by its bytes
-record SameFields (kind book count : ℕ) (rest : List ℕ) (other number many : ℕ) (end : List ℕ) : Type 0 where
-  kinds : kind ≡ other
-  books : book ≡ number
-  counts : count ≡ many
-  rests : rest ≡ end
-
-fields_same : (kind book count : ℕ) (rest : List ℕ) (other number many : ℕ) (end : List ℕ)
-    → are_held book count ≡ true → are_held number many ≡ true
-    → payload_with kind book count rest ≡ payload_with other number many end
-    → SameFields kind book count rest other number many end
-fields_same kind book count rest other number many end is also same =
-    let bytes : book_number book ≡ book_number number =
-    sym (book_bytes kind book count rest) ∙ ap (λ (l : List ℕ). take 2 (behind 1 l)) same
-    ∙ book_bytes other number many end in
-    let tails =
-    wide_same count many rest end (held_count book count is) (held_count number many also)
-    (sym (behind_book kind book count rest) ∙ ap (λ (l : List ℕ). behind 3 l) same
-    ∙ behind_book other number many end) in
-    record {
-      kinds = cc;
-      books = sym (book_back book count is) ∙ ap (from_le_bytes w16) bytes ∙ book_back number many also;
-      counts = tails.0;
-      rests = tails.1;
+pub fields_sound : (payload : List ℕ) (kind book count : ℕ) (rest : List ℕ)
+    → fields.step payload ≡ Some ((kind, (book, count)), rest) → AreFields payload kind book count rest
+fields_sound payload kind book count rest e =
+    let begins = fields_exact.sound payload (kind, (book, count)) rest e in
+    by begins.spelled begins.tokens_are
+  where
+    by : {piece : List ℕ} → fields.Spells (kind, (book, count)) piece → payload ≡ piece ++ rest
+        → AreFields payload kind book count rest
+    by (front, back, (x, same, one), (two, eight, (low, book_is), (least, count_is), numbers), is) whole = record {
+      held = held book count low least;
+      is =
+          whole ∙ ap (λ l. l ++ rest) (is ∙ ap (λ l. l ++ back) (one ∙ ap (λ n. n ∷ []) (same_Some x kind same)))
+          ∙ ap (λ l. kind ∷ (l ++ rest)) (numbers ∙ ap (λ l. l ++ eight) book_is
+          ∙ ap (λ l. book_number book ++ l) count_is)
+          ∙ ap (λ l. kind ∷ l) (append_assoc (book_number book) (wide_number count) rest);
     }
+
+-- and a stamp behind them begins what puts a row
+pub put_is : (payload : List ℕ) (kind book count : ℕ) (rest : List ℕ) (stamp : ℕ) (row : List ℕ) → kind ≡ 1
+    → Some ((kind, (book, count)), rest) ≡ fields.step payload → Some (stamp, row) ≡ (number w64).step rest
+    → payload ≡ put_with book count stamp row
+put_is payload kind book count rest stamp row put read stamped =
+    let begins = (number-exact w64 told_64).sound rest stamp row (sym stamped) in
+    (fields_sound payload kind book count rest (sym read)).is
+    ∙ ap (λ k. payload_with k book count rest) put
+    ∙ ap (payload_with 1 book count) (begins.tokens_are ∙ ap (λ l. l ++ row) begins.spelled.1)
+
+fields_complete : (kind book count : ℕ) (rest : List ℕ) → are_held book count ≡ true
+    → fields.step (payload_with kind book count rest) ≡ Some ((kind, (book, count)), rest)
+fields_complete kind book count rest is =
+    ap (λ l. fields.step (kind ∷ l)) (sym (append_assoc (book_number book) (wide_number count) rest))
+    ∙ fields_exact.complete (kind ∷ (book_number book ++ wide_number count)) (kind, (book, count)) rest (
+      kind ∷ [],
+      book_number book ++ wide_number count,
+      (kind, refl, refl),
+      (
+        book_number book,
+        wide_number count,
+        ((let low : book < 256 ^ 2 = grind (arith, nat_tests, is) in low), refl),
+        ((let least : count < 256 ^ 8 = grind (arith, nat_tests, is) in least), refl),
+        refl,
+      ),
+      refl,
+    )
 
 -- Forms
 
--- each payload has its fields
-pub no_fields : (payload : List ℕ) → length payload < 11 → (form : Form) → is_sound form ≡ true
-    → payload ≡ payload_of form → ⊥
-no_fields payload short (Put book count row) sound is =
-    omega (arith, short, ap length is, long_fields 1 book count (row_bytes row))
-no_fields payload short (Drop book count key) sound is =
-    omega (arith, short, ap length is, long_fields 2 book count (parted_bytes (parted_key key)))
-no_fields payload short (SetCount book count) sound is = omega (arith, short, ap length is, counted_long book count)
+-- what is read of a payload may be written, and is written so
+pub record IsRead (payload : List ℕ) (form : Form) : Type 0 where
+  pub sound : is_sound form ≡ true
+  pub is : payload ≡ payload_of form
 
-module _ (book count : ℕ) (rest : List ℕ) (is_held : are_held book count ≡ true) where
-  -- a payload puts no row into a book where no row is read behind its fields
-  pub no_put : IsRead (is_written_row count) row_bytes rest None
-      → IsRead is_sound payload_of (payload_with 1 book count rest) None
-  no_put none (Put number many row) sound is =
-      let parts = and_parts (are_held number many) (is_written_row many row) sound in
-      let same = fields_same 1 book count rest 1 number many (row_bytes row) is_held parts.0 is in
-      none row (subst (λ (n : ℕ). is_written_row n row ≡ true) (sym same.counts) parts.1) same.rests
-  no_put none (Drop number many key) sound is = absurd (cc)
-  no_put none (SetCount number many) sound is = absurd (cc)
+module _ (lines : LinesAreRows) (book count : ℕ) (rest : List ℕ) (is_held : are_held book count ≡ true) where
+  put_sound : (row : Row) → row_of count rest ≡ Some row → IsRead (payload_with 1 book count rest) (Put book count row)
+  put_sound row e =
+      let read = row_sound lines count rest row e in
+      record { sound = grind (arith, read.written); is = ap (payload_with 1 book count) read.is }
 
-  -- one takes no row out of a book where no key is read behind its fields
-  pub no_drop : IsRead is_written_key (λ key. parted_bytes (parted_key key)) rest None
-      → IsRead is_sound payload_of (payload_with 2 book count rest) None
-  no_drop none (Put number many row) sound is = absurd (cc)
-  no_drop none (Drop number many key) sound is =
-      let parts = and_parts (are_held number many) (is_written_key key) sound in
-      let same = fields_same 2 book count rest 2 number many (parted_bytes (parted_key key)) is_held parts.0 is in
-      none key parts.1 same.rests
-  no_drop none (SetCount number many) sound is = absurd (cc)
+  drop_sound : (key : RowKey) → key_of rest ≡ Some key → IsRead (payload_with 2 book count rest) (Drop book count key)
+  drop_sound key e =
+      let read = key_sound rest key e in
+      record { sound = grind (arith, read.valid, read.text); is = ap (payload_with 2 book count) read.is }
 
-  -- one gives no count where something stands behind its fields
-  pub no_count : (length rest == 0) ≡ false → IsRead is_sound payload_of (payload_with 3 book count rest) None
-  no_count some (Put number many row) sound is = absurd (cc)
-  no_count some (Drop number many key) sound is = absurd (cc)
-  no_count some (SetCount number many) sound is =
-      let long = ap length is ∙ counted_long number many in
-      let none : length rest ≡ 0 = omega (arith, long, long_fields 3 book count rest) in
-      let differ : true ≡ false = sym (eq-eqb (length rest) 0 none) ∙ some in cc
+  count_sound : is_empty rest ≡ true → IsRead (payload_with 3 book count rest) (SetCount book count)
+  count_sound none = record {
+    sound = is_held;
+    is = ap (λ l. 3 ∷ (book_number book ++ l)) (shorter rest none);
+  }
+    where
+      shorter : (rest : List ℕ) → is_empty rest ≡ true → wide_number count ++ rest ≡ wide_number count
+      shorter [] none = append-nil (wide_number count)
+      shorter (b ∷ rest) none = cc
 
--- Parts and texts
+  behind_sound : (kind : ℕ) (form : Form) → form_behind kind book count rest ≡ Some form
+      → IsRead (payload_with kind book count rest) form
+  behind_sound kind form e =
+      elim (chosen (kind == 1) _ _ _ e) [
+        | inl put ↦
+            let row = option_map-some (row_of count rest) (Put book count) form put.1 in
+            subst (λ k. IsRead (payload_with k book count rest) form) (sym (eqb-true kind 1 put.0))
+            (subst (IsRead (payload_with 1 book count rest)) row.2 (put_sound row.0 row.1))
+        | inr other ↦ elim (chosen (kind == 2) _ _ _ other.1) [
+          | inl drop ↦
+              let key = option_map-some (key_of rest) (Drop book count) form drop.1 in
+              subst (λ k. IsRead (payload_with k book count rest) form) (sym (eqb-true kind 2 drop.0))
+              (subst (IsRead (payload_with 2 book count rest)) key.2 (drop_sound key.0 key.1))
+          | inr last ↦ elim (chosen (kind == 3 && is_empty rest) _ _ _ last.1) [
+            | inl set ↦
+                let tests = and_parts (kind == 3) (is_empty rest) set.0 in
+                subst (λ k. IsRead (payload_with k book count rest) form) (sym (eqb-true kind 3 tests.0))
+                (subst (IsRead (payload_with 3 book count rest)) (same_Some (SetCount book count) form set.1)
+                (count_sound tests.1))
+            | inr none ↦ absurd (none-some form none.1)
+          ]
+        ]
+      ]
 
--- a part and a text are told by their bytes
-parted_same : (one two : Parted) → parted_bytes one ≡ parted_bytes two → one ≡ two
-parted_same (part, text) (other, content) same =
-    let bytes : part_byte part ≡ part_byte other = cc in
-    let texts : encode_utf8_all text ≡ encode_utf8_all content = cc in
-    ap (λ (p : Part). (p, text)) (part_of_byte part other bytes)
-    ∙ ap (λ (t : List ℕ). (other, t)) (encodes_same text content texts)
+pub form_sound : LinesAreRows → (payload : List ℕ) (form : Form) → form_of payload ≡ Some form → IsRead payload form
+form_sound lines payload form e =
+    let read = then_at-some (fields.step payload) _ form e in
+    let begins = fields_sound payload read.0.0.0 read.0.0.1.0 read.0.0.1.1 read.0.1 read.1 in
+    subst (λ l. IsRead l form) (sym begins.is)
+    (behind_sound lines read.0.0.1.0 read.0.0.1.1 read.0.1 begins.held read.0.0.0 form read.2)
 
-module _ {X : Type 0} (sound : X → Bool) (parted_of : X → Parted) (bytes : List ℕ) where
-  -- what is read of a part and a text is what is read of their bytes
-  pub parted_read : (parted : Parted) (found : Option X) → is_parted parted ≡ true → bytes ≡ parted_bytes parted
-      → IsRead sound parted_of parted found
-      → IsRead (λ x. sound x && is_parted (parted_of x)) (λ x. parted_bytes (parted_of x)) bytes found
-  parted_read parted (Some x) text is read = (
-    and_from (sound x) (is_parted (parted_of x)) read.0 (subst (λ (p : Parted). is_parted p ≡ true) read.1 text),
-    is ∙ ap parted_bytes read.1,
-  )
-  parted_read parted None text is none =
-      λ x both same.
-      none x (and_parts (sound x) (is_parted (parted_of x)) both).0
-      (parted_same parted (parted_of x) (sym is ∙ same))
+-- what code reads of a payload is that
+pub form_read : LinesAreRows → (payload : List ℕ) (found : Option Form) → found ≡ form_of payload
+    → IfSome found (λ form. (is_sound form ≡ true) × (payload ≡ payload_of form))
+form_read lines payload None is = tt
+form_read lines payload (Some form) is = let read = form_sound lines payload form (sym is) in (read.sound, read.is)
 
-  pub none_parted : IsRead is_parted parted_bytes bytes None
-      → IsRead {X = X} (λ x. sound x && is_parted (parted_of x)) (λ x. parted_bytes (parted_of x)) bytes None
-  none_parted none x both same = none (parted_of x) (and_parts (sound x) (is_parted (parted_of x)) both).1 same
+module _ (lines : LinesAreRead) where
+  form_complete : (form : Form) → is_sound form ≡ true → form_of (payload_of form) ≡ Some form
+  form_complete (Put book count row) sound =
+      let parts = put_parts book count row sound in
+      let last : count ≤ last_count = grind (arith, nat_tests, parts.held) in
+      ap (λ o. then_at o (λ read. form_behind read.0.0 read.0.1.0 read.0.1.1 read.1))
+      (fields_complete 1 book count _ parts.held)
+      ∙ ap (option_map (Put book count)) (row_complete lines count row last (grind (arith, sound)))
+  form_complete (Drop book count key) sound =
+      let parts = drop_parts book count key sound in
+      ap (λ o. then_at o (λ read. form_behind read.0.0 read.0.1.0 read.0.1.1 read.1))
+      (fields_complete 2 book count _ parts.held)
+      ∙ ap (option_map (Drop book count)) (key_complete key parts.valid parts.text)
+  form_complete (SetCount book count) sound =
+      ap (λ l. form_of (3 ∷ (book_number book ++ l))) (sym (append-nil (wide_number count)))
+      ∙ ap (λ o. then_at o (λ read. form_behind read.0.0 read.0.1.0 read.0.1.1 read.1))
+      (fields_complete 3 book count [] sound)
 
--- Rows
+  -- what a payload says is read of it
+  pub said : (state : State) (payload : List ℕ) (form : Form) → Says state payload form → form_of payload ≡ Some form
+  said state payload form says = ap form_of says.is ∙ form_complete form says.sound
 
-number_is : (n m : ℕ) → (n == m) ≡ true → n ≡ m
-number_is n m e = grind (arith, nat_tests)
+  -- so a payload says one thing, at whatever states
+  pub one_form : (state later : State) (payload : List ℕ) (form other : Form) → Says state payload form
+      → Says later payload other → form ≡ other
+  one_form state later payload form other says also =
+      same_Some form other (sym (said state payload form says) ∙ said later payload other also)
 
-module _ (count stamp : ℕ) (bytes : List ℕ) (last : count ≤ last_count) (held : stamp ≤ last_count) where
-  -- the stamp of a row that was written, and what stands behind it
-  stamp_is : (row : Row) → is_written_row count row ≡ true → wide_number stamp ++ bytes ≡ row_bytes row
-      → (stamp ≡ row.stamp) × (bytes ≡ parted_bytes (parted_row row))
-  stamp_is row written same =
-      let parts = written_parts count row written in
-      let low : row.stamp ≤ last_count = omega (arith, parts.at_most, last) in
-      wide_same stamp row.stamp bytes (parted_bytes (parted_row row)) held low same
+  -- and nothing where nothing is read of it
+  pub nothing_said : (state : State) (payload : List ℕ) → form_of payload ≡ None → SaysNothing state payload
+  nothing_said state payload none form says = none-some form (sym none ∙ said state payload form says)
 
-  -- a row of a stamp that the book's count allows is that of its bytes
-  pub row_read : (found : Option Row) → (nat_le 1 stamp && nat_le stamp count) ≡ true
-      → IsRead (is_text_row stamp) (λ row. parted_bytes (parted_row row)) bytes found
-      → IsRead (is_written_row count) row_bytes (wide_number stamp ++ bytes) found
-  row_read (Some row) fits read =
-      let both = and_parts (is_line_row stamp row) (all_scalars (canonical row)) read.0 in
-      let line = and_parts (is_row row) (is_good row && row.stamp == stamp) both.0 in
-      let good = and_parts (is_good row) (row.stamp == stamp) line.1 in
-      let same = number_is row.stamp stamp good.1 in
-      let stamped : has_stamp count row ≡ true =
-      subst (λ (s : ℕ). (nat_le 1 s && nat_le s count) ≡ true) (sym same) fits in (
-        and_from (fits_count count row) (all_scalars (canonical row))
-            (and_from (is_row row) (is_good row && has_stamp count row) line.0
-            (and_from (is_good row) (has_stamp count row) good.0 stamped)) both.1,
-        ap (λ (b : List ℕ). wide_number stamp ++ b) read.1
-            ∙ ap (λ (s : ℕ). wide_number s ++ parted_bytes (parted_row row)) (sym same),
-      )
-  row_read None fits none =
-      λ row written same.
-      let is = stamp_is row written same in
-      let parts = written_parts count row written in
-      let stamped : (row.stamp == stamp) ≡ true = eq-eqb row.stamp stamp (sym is.0) in
-      none row
-      (and_from (is_line_row stamp row) (all_scalars (canonical row))
-      (and_from (is_row row) (is_good row && row.stamp == stamp) parts.valid
-      (and_from (is_good row) (row.stamp == stamp) parts.good stamped)) parts.text) is.1
+  -- or something of a count below that of its book
+  pub below_said : (state : State) (payload : List ℕ) (form : Form) → form_of payload ≡ Some form
+      → new_count form < count_of state (book_of form) → SaysNothing state payload
+  below_said state payload form is below other says =
+      let same = same_Some form other (sym is ∙ said state payload other says) in
+      let counted : count_of state (book_of form) ≤ new_count form =
+      subst (λ (f : Form). count_of state (book_of f) ≤ new_count f) (sym same) says.counted in
+      omega (arith, below, counted)
 
-  -- no row has a stamp that the book's count does not allow
-  pub no_stamp : (nat_le 1 stamp && nat_le stamp count) ≡ false
-      → IsRead (is_written_row count) row_bytes (wide_number stamp ++ bytes) None
-  no_stamp not row written same =
-      let parts = written_parts count row written in
-      let is = stamp_is row written same in
-      let fits : (nat_le 1 stamp && nat_le stamp count) ≡ true =
-      subst (λ (s : ℕ). (nat_le 1 s && nat_le s count) ≡ true) (sym is.0) parts.stamp in
-      let differ : true ≡ false = sym fits ∙ not in cc
-
--- no row stands in bytes that are too few for a stamp
-pub no_number : (count : ℕ) (bytes : List ℕ) → length bytes < 8 → IsRead (is_written_row count) row_bytes bytes None
-no_number count bytes short row written same =
-    omega (
-      arith,
-      short,
-      ap length same,
-      length-append (wide_number row.stamp) (parted_bytes (parted_row row)),
-      long_wide row.stamp,
-    )
+  -- nor does code read anything then
+  pub none_read : (payload : List ℕ) (found : Option Form) → found ≡ form_of payload → found ≡ None
+      → (form : Form) → is_sound form ≡ true → payload ≡ payload_of form → ⊥
+  none_read payload found is none form sound same =
+      none-some form (sym none ∙ is ∙ ap form_of same ∙ form_complete form sound)

@@ -1,11 +1,11 @@
 -- Records that are read one after another.
 use Rattle.std.proofs.Common.{◌≡◌, ℕ, ◌+◌, List, [], ◌∷◌, ◌++◌, length}
-use Rattle.std.proofs.Common.{ap, sym, subst, ◌∙◌, arith}
+use Rattle.std.proofs.Common.{◌∙◌, arith}
 use Rattle.std.proofs.lemmas.List.{length-append, map-append}
 use Rattle.skk_calls.specs.States.{State}
 use Rattle.skk_journal.specs.declared.found.Found.{Found}
 use Rattle.skk_journal.specs.Found.{payloads, found_from}
-use Rattle.skk_journal.specs.Records.{need, first_place, framed, place_behind, record_bytes}
+use Rattle.skk_journal.specs.Records.{need, first_place, framed, record_bytes}
 use Rattle.learned_store.specs.Payloads.{SaysNothing}
 use Rattle.learned_store.specs.Recovered.{Leave, BreakAt}
 

@@ -1,13 +1,14 @@
 -- What the records of small files leave, and what these files are opened as.
 use Rattle.std.proofs.Common.{◌≡◌, ℕ, List, [], ◌∷◌, ◌++◌, codes, inl, inr, refl, ◌∙◌, ap, arith, lit≤}
 use Rattle.std.proofs.lemmas.List.Elements.{All-nil, All-cons}
+use Rattle.exact_readers.specs.Numbers.{number_bytes, number_of, number_step}
 use Rattle.skk_calls.specs.declared.part.Part.TheVariants.{Nasi}
 use Rattle.skk_calls.specs.Rows.{Row}
 use Rattle.skk_calls.specs.States.{State, empty_state}
 use Rattle.skk_journal.specs.Making.{first_generation}
 use Rattle.skk_journal.specs.Opening.{IsOpened, with_records, bad_record}
 use Rattle.skk_journal.specs.OpeningLaws.{one_opening}
-use Rattle.skk_journal.specs.Records.{IsSized, size_bytes, front, end_of}
+use Rattle.skk_journal.specs.Records.{IsSized, front, end_of}
 use Rattle.learned_store.specs.declared.form.Form.TheVariants.{Put, Drop, SetCount}
 use Rattle.learned_store.specs.Payloads.{book_number, wide_number, Says, SaysNothing}
 use Rattle.learned_store.specs.Recovered.{Leave, BreakAt, IsRecovered, with_state, foreign, refused, IsOpenedWith}
@@ -43,20 +44,20 @@ abbrev state : ℕ → List Row → State
 state count rows = record { books = record { number = 1; count = count; rows = rows } ∷ [] }
 
 first_says : Says empty_state first (Put 1 1 (row (codes "a") (codes "b") 1))
-unfolding lib.Utf8.encode book_number wide_number
+unfolding lib.Utf8.encode number_bytes
 first_says = record { sound = refl; counted = lit≤ tt; is = refl }
 
 second_says : Says (state 1 (row (codes "a") (codes "b") 1 ∷ [])) second (Put 1 2 (row (codes "c") (codes "d") 2))
-unfolding lib.Utf8.encode book_number wide_number
+unfolding lib.Utf8.encode number_bytes
 second_says = record { sound = refl; counted = lit≤ tt; is = refl }
 
 third_says : Says (state 2 (row (codes "a") (codes "b") 1 ∷ row (codes "c") (codes "d") 2 ∷ [])) third
     (Drop 1 2 (record { part = Nasi; reading = codes "a" }))
-unfolding lib.Utf8.encode book_number wide_number
+unfolding lib.Utf8.encode number_bytes
 third_says = record { sound = refl; counted = lit≤ tt; is = refl }
 
 fourth_says : Says (state 2 (row (codes "c") (codes "d") 2 ∷ [])) fourth (SetCount 1 5)
-unfolding lib.Utf8.encode book_number wide_number
+unfolding lib.Utf8.encode number_bytes
 fourth_says = record { sound = refl; counted = lit≤ tt; is = refl }
 
 -- no record leaves nothing; one leaves its row; two leave both; then one row and then the count go
@@ -93,7 +94,7 @@ nothing_says state = other_byte state 4 [] (λ same. omega (arith, same)) (λ sa
 
 -- the first record may say nothing, or the one behind another, whose gate stands at 47
 breaks : BreakAt (nothing ∷ first ∷ []) 17 × BreakAt (first ∷ nothing ∷ second ∷ nothing ∷ []) 47
-unfolding size_bytes
+unfolding number_bytes number_of number_step
 breaks = (
   record {
     before = [];
@@ -155,7 +156,7 @@ odd_opened = inl (record {
 })
 
 odd_breaks : BreakAt (first ∷ nothing ∷ []) 47
-unfolding size_bytes
+unfolding number_bytes number_of number_step
 odd_breaks = record {
   before = first ∷ [];
   payload = nothing;
@@ -169,7 +170,7 @@ odd_breaks = record {
 
 -- the same, where no gate stands behind these records
 odd_broken : IsOpened (front first_generation (first ∷ nothing ∷ [])) (bad_record 53 (first ∷ nothing ∷ []))
-unfolding size_bytes
+unfolding number_bytes number_of number_step
 odd_broken = inr (record {
   generation = first_generation;
   tail = [];
@@ -182,7 +183,7 @@ odd_broken = inr (record {
 })
 
 good_broken : IsOpened (front first_generation (first ∷ [])) (bad_record 47 (first ∷ []))
-unfolding size_bytes
+unfolding number_bytes number_of number_step
 good_broken = inr (record {
   generation = first_generation;
   tail = [];
@@ -218,7 +219,7 @@ recovered = (
 -- the state and the end of a file that is told are those of its own records; of one that is not, those of some
 opened_with : IsOpenedWith (Unit {0}) good_file (state 1 (row (codes "a") (codes "b") 1 ∷ [])) 48
     × IsOpenedWith (Unit {0}) [] empty_state 18 × IsOpenedWith ⊥ good_file empty_state 18
-unfolding size_bytes
+unfolding number_bytes number_of number_step
 opened_with = (
   record { records = first ∷ []; leave = first_leaves; end_is = refl; told = λ told. good_opened },
   record { records = []; leave = refl; end_is = refl; told = λ told. inr (refl, refl) },
@@ -226,7 +227,7 @@ opened_with = (
 )
 
 told_end : (left : State) (end : ℕ) → IsOpenedWith (Unit {0}) good_file left end → end ≡ 48
-unfolding size_bytes
+unfolding number_bytes number_of number_step
 told_end left end is =
     let one = one_opening good_file (with_records is.records) (with_records (first ∷ [])) (is.told tt) good_opened in
     let records : is.records ≡ first ∷ [] = cc one in

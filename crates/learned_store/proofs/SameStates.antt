@@ -1,8 +1,7 @@
 -- Valid states with the same counts and the same rows are one.
-use Rattle.std.proofs.Common.{◌≡◌, ℕ, ◌==◌, Bool, true, false, cond, not, nat_le, Option, None, Some}
-use Rattle.std.proofs.Common.{List, [], ◌∷◌, refl, sym, ap, ◌∙◌, subst, arith}
-use Rattle.std.proofs.lemmas.Bool.{and_parts, eqb-true, not_from_false}
-use Rattle.std.proofs.lemmas.Bool.Decides.{nat_tests}
+use Rattle.std.proofs.Common.{◌≡◌, ℕ, ◌==◌, true, false, cond, not, Option, None, Some}
+use Rattle.std.proofs.Common.{List, [], ◌∷◌, refl, ap, ◌∙◌, arith}
+use Rattle.std.proofs.lemmas.Bool.{and_parts, not_from_false}
 use Rattle.std.specs.List.{list_all}
 use Rattle.skk_text.specs.FilterLaws.{find_none, find_passes, list_all_found}
 use Rattle.skk_text.specs.Pairs.{all_pairs}
@@ -41,19 +40,18 @@ module _ {X K : Type 0} (key : X → K) (keys : Order K) where
   same_first : (x y : X) (xs ys : List X) → list_all (before key keys x) xs ≡ true
       → list_all (before key keys y) ys ≡ true
       → ((k : K) → item_of key keys k (x ∷ xs) ≡ item_of key keys k (y ∷ ys)) → x ≡ y
-  same_first x y xs ys above_x above_y same = by (keys.less (key y) (key x)) refl
-    where
-      in_ys : item_of key keys (key x) (y ∷ ys) ≡ Some x
-      in_ys = sym (same (key x)) ∙ grind (arith, itself (key x))
-
-      in_xs : item_of key keys (key y) (x ∷ xs) ≡ Some y
-      in_xs = same (key y) ∙ grind (arith, itself (key y))
-
-      by : (b : Bool) → keys.less (key y) (key x) ≡ b → x ≡ y
-      by false least = sym (first_or_greater x y ys above_y in_ys least)
-      by true less =
-          first_or_greater y x xs above_x in_xs
-          (grind (arith, keys.transitive (key x) (key y) (key x), keys.irreflexive (key x)))
+  same_first x y xs ys above_x above_y same =
+      grind (
+        arith,
+        first_or_greater x y ys above_y,
+        first_or_greater y x xs above_x,
+        same (key x),
+        same (key y),
+        itself (key x),
+        itself (key y),
+        keys.transitive (key x) (key y) (key x),
+        keys.irreflexive (key x),
+      )
 
   -- ascending lists with one item of each key are one
   pub same_list : (xs ys : List X) → ascend key keys xs ≡ true → ascend key keys ys ≡ true
@@ -65,21 +63,17 @@ module _ {X K : Type 0} (key : X → K) (keys : Order K) where
       let own = and_parts (list_all (before key keys x) xs) (all_pairs (before key keys) xs) pairs in
       let other = and_parts (list_all (before key keys y) ys) (all_pairs (before key keys) ys) others in
       let first = same_first x y xs ys own.0 other.0 same in
-      let rest = same_list xs ys own.1 other.1 (behind own.0 other.0 first) in
+      let rest =
+      same_list xs ys own.1 other.1
+      (λ k. grind (
+        arith,
+        first,
+        same k,
+        keys.equal (key x) k,
+        none_behind x xs own.0,
+        none_behind y ys other.0,
+      )) in
       ap (λ z. z ∷ xs) first ∙ ap (λ zs. y ∷ zs) rest
-    where
-      behind : list_all (before key keys x) xs ≡ true → list_all (before key keys y) ys ≡ true → x ≡ y
-          → (k : K) → item_of key keys k xs ≡ item_of key keys k ys
-      behind above_x above_y first k = by (keys.same (key x) k) refl
-        where
-          by : (b : Bool) → keys.same (key x) k ≡ b → item_of key keys k xs ≡ item_of key keys k ys
-          by true e =
-              subst (λ l. item_of key keys l xs ≡ item_of key keys l ys) (keys.equal (key x) k e)
-              (none_behind x xs above_x
-              ∙ sym (subst (λ z. item_of key keys (key z) ys ≡ None) (sym first) (none_behind y ys above_y)))
-          by false e =
-              let there : keys.same (key y) k ≡ false = subst (λ z. keys.same (key z) k ≡ false) first e in
-              grind (arith, same k)
 
 -- States
 
@@ -92,21 +86,15 @@ module _ (state : State) (number : ℕ) (valid : is_valid state ≡ true) where
   book_known : book_at state number ≡ book_of_parts number (count_of state number) (rows_of state number)
   book_known = by (book_at state number) refl
     where
-      some : (n : ℕ) → nat_le 1 n ≡ true → (n == 0) ≡ false
-      some n e = grind (arith, nat_tests)
-
       by : (found : Option NumberedBook) → book_at state number ≡ found
           → found ≡ book_of_parts number (book_count found) (book_rows found)
       by None is = refl
       by (Some book) is =
-          let here : book.number ≡ number =
-          eqb-true book.number number (find_passes (λ (b : NumberedBook). b.number == number) state.books book is) in
-          ap (λ (n : ℕ). Some (book_with n)) here
-          ∙ sym (ap (λ (b : Bool). cond b None (Some (book_with number)))
-          (some book.count (parts_at state number valid book is).count))
-        where
-          book_with : ℕ → NumberedBook
-          book_with n = record { number = n; count = book.count; rows = book.rows }
+          grind (
+            arith,
+            find_passes (λ (b : NumberedBook). b.number == number) state.books book is,
+            (parts_at state number valid book is).count,
+          )
 
 module _ (state other : State) (valid : is_valid state ≡ true) (later : is_valid other ≡ true)
     (counts : (number : ℕ) → count_of state number ≡ count_of other number)
@@ -118,10 +106,13 @@ module _ (state other : State) (valid : is_valid state ≡ true) (later : is_val
 
   same_book : (number : ℕ) → book_at state number ≡ book_at other number
   same_book number =
-      book_known state number valid
-      ∙ ap (λ (n : ℕ). book_of_parts number n (rows_of state number)) (counts number)
-      ∙ ap (book_of_parts number (count_of other number)) (same_rows number)
-      ∙ sym (book_known other number later)
+      grind (
+        arith,
+        book_known state number valid,
+        counts number,
+        same_rows number,
+        book_known other number later,
+      )
 
   pub same_state : state ≡ other
   same_state =

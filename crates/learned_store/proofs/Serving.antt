@@ -13,7 +13,6 @@ use Rattle.skk_calls.specs.declared.answer.Refusal.{Refusal}
 use Rattle.skk_calls.specs.declared.answer.Refusal.TheVariants.{Memory, Disk, JournalFull}
 use Rattle.skk_calls.specs.declared.answer.Reply.{Reply}
 use Rattle.skk_calls.specs.declared.call.Call.{Call}
-use Rattle.skk_calls.specs.declared.call.Call.TheVariants.{Lookup, Complete, Learn, Purge, Unlearn}
 use Rattle.skk_calls.specs.Dictionary.{answer, after, is_change, may_answer, may_reply, moves, state_moved}
 use Rattle.skk_calls.specs.Histories.{need, IsLegalAnswer, LacksRoom}
 use Rattle.skk_calls.specs.Rows.{Row}
@@ -38,11 +37,7 @@ use Rattle.learned_store.proofs.Told.{Told}
 -- no system file has a say in whether a reply tells of a change
 change_is_told : (files : List (List Row)) (state : State) (call : Call)
     → is_change (answer files state call) ≡ moves state call
-change_is_told files state (Lookup who key okuri) = refl
-change_is_told files state (Complete who prefix) = refl
-change_is_told files state (Learn book key okuri cand) = refl
-change_is_told files state (Purge book key word) = refl
-change_is_told files state (Unlearn learned) = refl
+change_is_told files state call = grind arith
 
 differ : (b : Bool) → b ≡ true → b ≡ false → ⊥
 differ b holds fails = let same : true ≡ false = sym holds ∙ fails in cc
@@ -55,26 +50,12 @@ IsQuiet state call (Refused refusal) = ⊥
 
 -- a look-up and a completion change nothing
 pub question_still : (state : State) (call : Call) → is_question call ≡ true → moves state call ≡ false
-question_still state (Lookup who key okuri) asks = refl
-question_still state (Complete who prefix) asks = refl
-question_still state (Learn book key okuri cand) asks = absurd (cc)
-question_still state (Purge book key word) asks = absurd (cc)
-question_still state (Unlearn learned) asks = absurd (cc)
+question_still state call asks = grind arith
 
 -- a change may be refused
 pub may_be_refused : (call : Call) (refusal : Refusal) → is_question call ≡ false
     → may_answer call (Refused refusal) ≡ true
-may_be_refused call Memory changes = refl
-may_be_refused (Lookup who key okuri) Disk changes = absurd (cc)
-may_be_refused (Complete who prefix) Disk changes = absurd (cc)
-may_be_refused (Learn book key okuri cand) Disk changes = refl
-may_be_refused (Purge book key word) Disk changes = refl
-may_be_refused (Unlearn learned) Disk changes = refl
-may_be_refused (Lookup who key okuri) (JournalFull end told limit) changes = absurd (cc)
-may_be_refused (Complete who prefix) (JournalFull end told limit) changes = absurd (cc)
-may_be_refused (Learn book key okuri cand) (JournalFull end told limit) changes = refl
-may_be_refused (Purge book key word) (JournalFull end told limit) changes = refl
-may_be_refused (Unlearn learned) (JournalFull end told limit) changes = refl
+may_be_refused call refusal changes = grind arith
 
 -- a plan without a record changes nothing
 pub unrecorded : (state : State) (call : Call) (plan : Plan) → IsPlanned state call plan → IsRecordOf plan None

@@ -14,9 +14,8 @@ use Rattle.skk_calls.specs.declared.chronicle.Noted.{Noted}
 use Rattle.skk_calls.specs.declared.chronicle.Noted.TheVariants.{Entered}
 use Rattle.skk_calls.specs.Chronicles.{history_of}
 use Rattle.skk_calls.specs.declared.answer.Reply.{Reply}
-use Rattle.skk_calls.specs.declared.call.Call.TheVariants.{Lookup, Complete, Learn, Purge, Unlearn}
 use Rattle.skk_calls.specs.declared.entry.Entry.{Entry}
-use Rattle.skk_calls.specs.Dictionary.{answer, after, moves, state_moved, is_change}
+use Rattle.skk_calls.specs.Dictionary.{answer, after, moves, is_change}
 use Rattle.skk_calls.specs.Histories.{Opening, LacksRoom, IsLegalAnswer, after_answer, in_doubt, in_doubt_after}
 use Rattle.skk_calls.specs.Histories.{room, state_after, states_left}
 use Rattle.skk_calls.specs.Rows.{Row}
@@ -61,11 +60,7 @@ doubt-among state (Some doubted) rest among one here =
 -- a call changes the state by what it is answered, whatever the system files are
 same-change : (files : List (List Row)) (state : State) (call : Call)
     → is_change (answer files state call) ≡ moves state call
-same-change files state (Lookup who key okuri) = refl
-same-change files state (Complete who prefix) = refl
-same-change files state (Learn book key okuri cand) = refl
-same-change files state (Purge book key word) = refl
-same-change files state (Unlearn learned) = refl
+same-change files state call = grind arith
 
 module _ (opening : Opening) (notes : List Noted) (number time faults : ℕ) (call : Call) where
   abbrev pub now : State
@@ -95,10 +90,7 @@ module _ (opening : Opening) (notes : List Noted) (number time faults : ℕ) (ca
   still-left : (reply : Reply) → is_change reply ≡ false → reply ≡ answer opening.files now call
       → more (Done reply) ≡ left_behind opening.state notes
   still-left reply still is =
-      same-left (Done reply)
-      (ap (λ b. if b then state_moved now call else now)
-      (sym (same-change opening.files now call) ∙ ap is_change (sym is) ∙ still))
-      (ap (λ b. if b then [] else doubts) still)
+      same-left (Done reply) (grind (arith, same-change opening.files now call, is)) (grind arith)
 
   -- what a disk failed may be left, beside what might have been before
   disk-left : more (Refused Disk) ≡ left_behind opening.state notes ++ after now call ∷ []

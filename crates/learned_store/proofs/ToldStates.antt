@@ -1,26 +1,24 @@
 -- What a record that may be written changes: the count of its book, and the row of its key.
-use Rattle.std.proofs.Common.{◌≡◌, ◌⊎◌, inl, inr, ℕ, ◌≤◌, Bool, true, false, cond, not, ◌&&◌, ◌==◌, nat_le, nat_lt}
-use Rattle.std.proofs.Common.{Option, None, Some, List, [], ◌∷◌, find, refl, sym, ap, ◌∙◌, subst, arith}
-use Rattle.std.proofs.lemmas.Bool.{and_from, and_parts, eqb-true, le-leb}
+use Rattle.std.proofs.Common.{◌≡◌, ℕ, ◌≤◌, Bool, true, false, cond, not, ◌&&◌, ◌==◌, nat_le, nat_lt}
+use Rattle.std.proofs.Common.{Option, None, Some, List, [], ◌∷◌, find, refl, arith}
+use Rattle.std.proofs.lemmas.Bool.{le-leb}
 use Rattle.std.proofs.lemmas.Bool.Decides.{nat_tests}
-use Rattle.std.specs.List.{filter, list_all}
-use Rattle.std.specs.Str.{all_scalars}
+use Rattle.std.specs.List.{filter}
 use Rattle.skk_text.specs.PairsLaws.{list_all-filter, list_all-weaker}
 use Rattle.ordered_lists.specs.OrderLaws.{list_all-insert_by}
 use Rattle.ordered_lists.specs.Orders.{insert_by}
 use Rattle.skk_calls.specs.declared.book.NumberedBook.{NumberedBook}
-use Rattle.skk_calls.specs.Canonical.{canonical}
 use Rattle.skk_calls.specs.KeyLaws.{same_key_equal, same_key_itself}
 use Rattle.skk_calls.specs.Orders.{key_less}
 use Rattle.skk_calls.specs.Rows.{RowKey, Row, same_key}
 use Rattle.skk_calls.specs.States.{State, row_in, book_at, book_rows, book_count, rows_of, count_of, row_at}
-use Rattle.skk_calls.specs.States.{without_row, with_row, without_book, with_book, state_with, rows_ascend}
-use Rattle.skk_calls.specs.States.{fits_count, is_book, books_ascend, is_valid}
+use Rattle.skk_calls.specs.States.{without_row, with_row, without_book, with_book, state_with}
+use Rattle.skk_calls.specs.States.{fits_count, is_book, is_valid}
 use Rattle.dict_laws.specs.ValidStates.{books_ascend_with_book, is_valid_changed, parts_at, rows_of_ascend, rows_of_fit}
 use Rattle.learn_index.specs.Records.{state_counted, state_without}
 use Rattle.learned_store.specs.declared.form.Form.{Form}
 use Rattle.learned_store.specs.declared.form.Form.TheVariants.{Put, Drop, SetCount}
-use Rattle.learned_store.specs.Payloads.{are_held, book_of, new_count, is_sound, state_told}
+use Rattle.learned_store.specs.Payloads.{book_of, new_count, is_sound, state_told}
 
 -- Items
 
@@ -73,46 +71,27 @@ module _ (state : State) (book : NumberedBook) where
   book_with : (number : ℕ) → book_at with_it number ≡ cond (book.number == number) (Some book) (book_at state number)
   book_with number =
       find_put (λ (b : NumberedBook). b.number == number) (λ (b : NumberedBook). not (b.number == book.number))
-      (book.number == number) (λ b. gone b.number book.number number) (λ b. left b.number book.number number)
+      (book.number == number) (λ b same e. grind arith) (λ b differs e. grind arith)
       (λ (b later : NumberedBook). nat_lt b.number later.number) book state.books refl
-    where
-      gone : (a b c : ℕ) → (b == c) ≡ true → not (a == b) ≡ true → (a == c) ≡ false
-      gone a b c same e = grind (arith, nat_tests)
-
-      left : (a b c : ℕ) → (b == c) ≡ false → not (a == b) ≡ false → (a == c) ≡ false
-      left a b c differs e = grind (arith, nat_tests)
 
   -- its count is that of the book, and others stay
   count_with : (number : ℕ) → count_of with_it number ≡ cond (book.number == number) book.count (count_of state number)
-  count_with number = ap book_count (book_with number) ∙ by (book.number == number)
-    where
-      by : (b : Bool) → book_count (cond b (Some book) (book_at state number))
-          ≡ cond b book.count (count_of state number)
-      by true = refl
-      by false = refl
+  count_with number = grind (arith, book_with number)
 
   -- and so are its rows
   rows_with : (number : ℕ) → rows_of with_it number ≡ cond (book.number == number) book.rows (rows_of state number)
-  rows_with number = ap book_rows (book_with number) ∙ by (book.number == number)
-    where
-      by : (b : Bool) → book_rows (cond b (Some book) (book_at state number))
-          ≡ cond b book.rows (rows_of state number)
-      by true = refl
-      by false = refl
+  rows_with number = grind (arith, book_with number)
 
   -- a valid state is valid with a book that may be
   valid_with : is_valid state ≡ true → is_book book ≡ true → is_valid with_it ≡ true
   valid_with valid here =
-      let parts = and_parts (books_ascend state.books) (list_all is_book state.books) valid in
-      and_from (books_ascend (with_book book state.books)) (list_all is_book (with_book book state.books))
-      (books_ascend_with_book book state.books parts.0)
-      (list_all-insert_by (λ (b later : NumberedBook). nat_lt b.number later.number) is_book book
-      (without_book book.number state.books) here
-      (list_all-filter is_book (λ (b : NumberedBook). not (b.number == book.number)) state.books parts.1))
-
--- a number that is not 0
-at_least : (n : ℕ) → (n == 0) ≡ false → nat_le 1 n ≡ true
-at_least n e = grind (arith, nat_tests)
+      grind (
+        arith,
+        books_ascend_with_book book state.books,
+        list_all-insert_by (λ (b later : NumberedBook). nat_lt b.number later.number) is_book book
+            (without_book book.number state.books) here,
+        list_all-filter is_book (λ (b : NumberedBook). not (b.number == book.number)) state.books,
+      )
 
 -- a row that may stand in a book may stand in it later
 fits_later : (count later : ℕ) → count ≤ later → (row : Row) → fits_count count row ≡ true
@@ -132,9 +111,7 @@ some_count count row fits = grind (arith, between row.stamp)
 
 -- a row that may be put may stand in its book
 put_fits : (book count : ℕ) (row : Row) → is_sound (Put book count row) ≡ true → fits_count count row ≡ true
-put_fits book count row sound =
-    (and_parts (fits_count count row) (all_scalars (canonical row))
-    (and_parts (are_held book count) (fits_count count row && all_scalars (canonical row)) sound).1).0
+put_fits book count row sound = grind arith
 
 -- a book whose count is 0 has no rows
 no_rows : (state : State) (number : ℕ) → is_valid state ≡ true → count_of state number ≡ 0
@@ -143,10 +120,7 @@ no_rows state number valid none = by (book_at state number) refl none
   where
     by : (found : Option NumberedBook) → book_at state number ≡ found → book_count found ≡ 0 → book_rows found ≡ []
     by None is e = refl
-    by (Some book) is e = absurd (never book.count (parts_at state number valid book is).count e)
-      where
-        never : (n : ℕ) → nat_le 1 n ≡ true → n ≡ 0 → ⊥
-        never n some none = grind (arith, nat_tests)
+    by (Some book) is e = absurd (grind (arith, (parts_at state number valid book is).count))
 
 -- Records
 
@@ -173,96 +147,23 @@ abbrev told_book : State → Form → NumberedBook
 told_book state form =
     record { number = book_of form; count = new_count form; rows = told_rows form (rows_of state (book_of form)) }
 
--- a record of the count 0 leaves a state as it is, and puts no row
-record Stays (state : State) (form : Form) : Type 0 where
-  same : state_told state form ≡ state
-  zero : new_count form ≡ 0
-  none : (key : RowKey) → row_told_of form key None ≡ None
-
--- every other puts its book into its place
-book_told : (state : State) (form : Form)
-    → (state_told state form ≡ with_it state (told_book state form)) ⊎ Stays state form
-book_told state (Put book count row) = inl refl
-book_told state (Drop book count gone) = by (count == 0) refl
-  where
-    neither : (b : Bool) (row : Option Row) → cond b row row ≡ row
-    neither true row = refl
-    neither false row = refl
-
-    by : (none : Bool) → (count == 0) ≡ none
-        → (state_told state (Drop book count gone) ≡ with_it state (told_book state (Drop book count gone)))
-        ⊎ Stays state (Drop book count gone)
-    by true is = inr (record {
-      same = ap (λ b. cond b state (state_with state book count gone None)) is;
-      zero = eqb-true count 0 is;
-      none = λ key. neither (same_key gone key) None;
-    })
-    by false is = inl (ap (λ b. cond b state (state_with state book count gone None)) is)
-book_told state (SetCount book count) = by (count == 0) refl
-  where
-    by : (none : Bool) → (count == 0) ≡ none
-        → (state_told state (SetCount book count) ≡ with_it state (told_book state (SetCount book count)))
-        ⊎ Stays state (SetCount book count)
-    by true is = inr (record {
-      same = ap (λ b. cond b state (with_it state (told_book state (SetCount book count)))) is;
-      zero = eqb-true count 0 is;
-      none = λ key. refl;
-    })
-    by false is = inl (ap (λ b. cond b state (with_it state (told_book state (SetCount book count)))) is)
-
 module _ (state : State) (form : Form) (later : count_of state (book_of form) ≤ new_count form) (number : ℕ) where
-  -- the count of a book that a record sets to 0 was 0
-  was_none : Stays state form → (book_of form == number) ≡ true → count_of state number ≡ 0
-  was_none stays is =
-      let here : count_of state number ≤ new_count form =
-      subst (λ (n : ℕ). count_of state n ≤ new_count form) (eqb-true (book_of form) number is) later in
-      omega (arith, here, stays.zero)
-
   -- after a record the count of its book is that which it tells, and others stay
   pub count_told : count_of (state_told state form) number
       ≡ cond (book_of form == number) (new_count form) (count_of state number)
-  count_told = by (book_told state form)
-    where
-      still : Stays state form → (same : Bool) → (book_of form == number) ≡ same
-          → count_of state number ≡ cond same (new_count form) (count_of state number)
-      still stays true is = was_none stays is ∙ sym stays.zero
-      still stays false is = refl
-
-      by : (state_told state form ≡ with_it state (told_book state form)) ⊎ Stays state form
-          → count_of (state_told state form) number
-          ≡ cond (book_of form == number) (new_count form) (count_of state number)
-      by (inl is) = ap (λ s. count_of s number) is ∙ count_with state (told_book state form) number
-      by (inr stays) =
-          ap (λ s. count_of s number) stays.same ∙ still stays (book_of form == number) refl
+  count_told = grind (arith, count_with state (told_book state form) number, later)
 
   -- and the row of a key in that book is what it says, and others stay
   pub row_told : is_valid state ≡ true → (key : RowKey) → row_at (state_told state form) number key
       ≡ cond (book_of form == number) (row_told_of form key (row_at state number key)) (row_at state number key)
-  row_told valid key = by (book_told state form)
-    where
-      still : Stays state form → (same : Bool) → (book_of form == number) ≡ same
-          → row_at state number key
-          ≡ cond same (row_told_of form key (row_at state number key)) (row_at state number key)
-      still stays true is =
-          let none = ap (row_in key) (no_rows state number valid (was_none stays is)) in
-          none ∙ sym (stays.none key) ∙ sym (ap (row_told_of form key) none)
-      still stays false is = refl
-
-      put : (same : Bool) → (book_of form == number) ≡ same
-          → row_in key (cond same (told_rows form (rows_of state (book_of form))) (rows_of state number))
-          ≡ cond same (row_told_of form key (row_at state number key)) (row_at state number key)
-      put true is =
-          row_of_told form key (rows_of state (book_of form))
-          ∙ ap (λ n. row_told_of form key (row_at state n key)) (eqb-true (book_of form) number is)
-      put false is = refl
-
-      by : (state_told state form ≡ with_it state (told_book state form)) ⊎ Stays state form
-          → row_at (state_told state form) number key
-          ≡ cond (book_of form == number) (row_told_of form key (row_at state number key)) (row_at state number key)
-      by (inl is) =
-          ap (λ s. row_at s number key) is ∙ ap (row_in key) (rows_with state (told_book state form) number)
-          ∙ put (book_of form == number) refl
-      by (inr stays) = ap (λ s. row_at s number key) stays.same ∙ still stays (book_of form == number) refl
+  row_told valid key =
+      grind (
+        arith,
+        row_of_told form key (rows_of state (book_of form)),
+        rows_with state (told_book state form) number,
+        no_rows state number valid,
+        later,
+      )
 
 module _ (state : State) where
   -- a valid state is valid after a row was put that may stand in its book
@@ -275,32 +176,25 @@ module _ (state : State) where
   -- after a row was dropped
   valid_dropped : is_valid state ≡ true → (book count : ℕ) (key : RowKey) → count_of state book ≤ count
       → is_valid (state_without state book count key) ≡ true
-  valid_dropped valid book count key later = by (count == 0) refl
-    where
-      by : (none : Bool) → (count == 0) ≡ none
-          → is_valid (cond none state (state_with state book count key None)) ≡ true
-      by true is = valid
-      by false is =
-          is_valid_changed state book count key None valid (at_least count is)
-          (le-leb (count_of state book) count later)
-          refl refl
+  valid_dropped valid book count key later =
+      grind (
+        arith,
+        later,
+        λ (some : nat_le 1 count ≡ true) (most : nat_le (count_of state book) count ≡ true).
+            is_valid_changed state book count key None valid some most refl refl,
+      )
 
   -- and after a count was set
   pub valid_counted : is_valid state ≡ true → (book count : ℕ) → count_of state book ≤ count
       → is_valid (state_counted state book count) ≡ true
-  valid_counted valid book count later = by (count == 0) refl
-    where
-      set : NumberedBook
-      set = record { number = book; count = count; rows = rows_of state book }
-
-      by : (none : Bool) → (count == 0) ≡ none → is_valid (cond none state (with_it state set)) ≡ true
-      by true is = valid
-      by false is =
-          valid_with state set valid
-          (and_from (nat_le 1 count) (rows_ascend set.rows && list_all (fits_count count) set.rows) (at_least count is)
-          (and_from (rows_ascend set.rows) (list_all (fits_count count) set.rows) (rows_of_ascend state book valid)
-          (list_all-weaker (fits_count (count_of state book)) (fits_count count)
-          (fits_later (count_of state book) count later) set.rows (rows_of_fit state book valid))))
+  valid_counted valid book count later =
+      grind (
+        arith,
+        valid_with state (record { number = book; count = count; rows = rows_of state book }) valid,
+        rows_of_ascend state book valid,
+        list_all-weaker (fits_count (count_of state book)) (fits_count count)
+            (fits_later (count_of state book) count later) (rows_of state book) (rows_of_fit state book valid),
+      )
 
   -- so it is valid after a record that may be written
   pub valid_told : is_valid state ≡ true → (form : Form) → is_sound form ≡ true

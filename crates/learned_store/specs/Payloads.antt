@@ -1,8 +1,9 @@
 -- What the record of a learned file says of a book, and its payload. All numbers are written with the least byte first.
 use Rattle.std.specs.Prelude.{◌≡◌, ℕ, ◌+◌, ◌^◌, ◌≤◌, Bool, true, ◌&&◌, nat_le, nat_lt, Option, None, Some}
 use Rattle.std.specs.Prelude.{List, ◌∷◌, ◌++◌, encode_utf8_all}
-use Rattle.std.specs.Int.{w16, w64, to_le_bytes}
+use Rattle.std.specs.Int.{w16, w64}
 use Rattle.std.specs.Str.{all_scalars}
+use Rattle.exact_readers.specs.Numbers.{number_bytes}
 use Rattle.skk_text.specs.Counts.{last_count}
 use Rattle.skk_calls.specs.declared.call.Call.{Call}
 use Rattle.skk_calls.specs.declared.call.Call.TheVariants.{Lookup, Complete, Learn, Purge, Unlearn}
@@ -17,12 +18,12 @@ use Rattle.learned_store.specs.declared.form.Form.TheVariants.{Put, Drop, SetCou
 use Rattle.learn_index.specs.Records.{state_counted, state_without}
 
 -- the number of a book in two bytes
-unfoldable pub book_number : ℕ → List ℕ
-book_number number = to_le_bytes w16 number
+abbrev pub book_number : ℕ → List ℕ
+book_number number = number_bytes w16 number
 
 -- a count or a stamp in eight bytes
-unfoldable pub wide_number : ℕ → List ℕ
-wide_number number = to_le_bytes w64 number
+abbrev pub wide_number : ℕ → List ℕ
+wide_number number = number_bytes w64 number
 
 -- the byte of a part of a dictionary
 abbrev pub part_byte : Part → ℕ

@@ -1,16 +1,24 @@
--- What is read of a payload.
-use Rattle.std.specs.Prelude.{◌≡◌, ℕ, Bool, true, ◌&&◌, ◌==◌, Option, None, Some, List, [], ◌∷◌, ◌++◌, encode_utf8_all}
-use Rattle.std.specs.Str.{all_scalars}
+-- What is read of a payload, whatever the state: its fields from the front, and behind them the row or the key to the
+-- end.
+use Rattle.std.specs.Prelude.{◌≡◌, ℕ, Bool, true, ◌&&◌, ◌==◌, nat_le, if◌then◌else◌, Option, None, Some, List, [], ◌∷◌}
+use Rattle.std.specs.Prelude.{◌++◌, encode_utf8_all}
+use Rattle.std.specs.Int.{w16, w64}
+use Rattle.std.specs.Option.{option_map}
+use Rattle.std.specs.Str.{all_scalars, chars, is_utf8}
+use Rattle.exact_readers.specs.Formats.{Format, both, one_as, then_at}
+use Rattle.exact_readers.specs.Numbers.{number}
+use Rattle.skk_text.specs.Lists.{is_empty}
 use Rattle.skk_calls.specs.declared.part.Part.{Part}
+use Rattle.skk_calls.specs.declared.part.Part.TheVariants.{Nasi, Ari}
 use Rattle.skk_calls.specs.Canonical.{canonical, is_good}
-use Rattle.skk_calls.specs.Rows.{Cand, RowKey, Row, is_row_key, is_row}
+use Rattle.skk_calls.specs.Rows.{Cand, RowKey, Row, is_row_key, is_row, same_text}
 use Rattle.skk_calls.specs.States.{fits_count}
+use Rattle.dict_format.specs.EntryRows.{row_of_line}
+use Rattle.learned_store.specs.declared.form.Form.{Form}
+use Rattle.learned_store.specs.declared.form.Form.TheVariants.{Put, Drop, SetCount}
 use Rattle.learned_store.specs.Payloads.{book_number, wide_number, part_byte}
 
--- what is read of something written: a value that may be written, and is written so; or none, where no value is
-abbrev pub IsRead : {X Y : Type 0} → (X → Bool) → (X → Y) → Y → Option X → Type 0
-IsRead sound written given (Some x) = (sound x ≡ true) × (given ≡ written x)
-IsRead sound written given None = (x : _) → sound x ≡ true → given ≡ written x → ⊥
+-- What is written
 
 -- a payload of a kind, with the number of a book and a count, and the rest behind them
 abbrev pub payload_with : ℕ → ℕ → ℕ → List ℕ → List ℕ
@@ -24,41 +32,25 @@ put_with book count stamp row = payload_with 1 book count (wide_number stamp ++ 
 abbrev pub Parted : Type 0
 Parted = Part × List ℕ
 
--- the text of a part may be written
-abbrev pub is_parted : Parted → Bool
-is_parted parted = all_scalars parted.1
-
 -- the bytes of a part and a text
 abbrev pub parted_bytes : Parted → List ℕ
 parted_bytes parted = part_byte parted.0 ∷ encode_utf8_all parted.1
-
--- a key may be written
-abbrev pub is_written_key : RowKey → Bool
-is_written_key key = is_row_key key && all_scalars key.reading
 
 -- the part of a key, and its reading
 abbrev pub parted_key : RowKey → Parted
 parted_key key = (key.part, key.reading)
 
--- a row of a stamp is one that its line is read as
-abbrev pub is_line_row : ℕ → Row → Bool
-is_line_row stamp row = is_row row && (is_good row && row.stamp == stamp)
-
 -- the part of a row, and its line
 abbrev pub parted_row : Row → Parted
 parted_row row = (row.key.part, canonical row)
 
--- a row of a stamp is read of its line, which may be written
-abbrev pub is_text_row : ℕ → Row → Bool
-is_text_row stamp row = is_line_row stamp row && all_scalars (canonical row)
+-- a row of a stamp is one that its line is read as
+abbrev pub is_line_row : ℕ → Row → Bool
+is_line_row stamp row = is_row row && (is_good row && row.stamp == stamp)
 
 -- a row may be written that stands in a book of this count
 abbrev pub is_written_row : ℕ → Row → Bool
 is_written_row count row = fits_count count row && all_scalars (canonical row)
-
--- the bytes of a row: its stamp, its part and its line
-abbrev pub row_bytes : Row → List ℕ
-row_bytes row = wide_number row.stamp ++ parted_bytes (parted_row row)
 
 -- these are the bytes of a row's part and line, which may be written
 pub record IsSpelled (row : Row) (bytes : List ℕ) : Type 0 where
@@ -74,3 +66,65 @@ pub record HasOneCand (part : Part) (stamp : ℕ) (row : Row) : Type 0 where
   pub cands : row.cands ≡ cand ∷ []
   pub blocks : row.blocks ≡ []
   pub hides : row.hides ≡ []
+
+-- What is read
+
+-- the part of a byte
+abbrev pub part_of : ℕ → Option Part
+part_of byte = if byte == 0 then Some Nasi else if byte == 1 then Some Ari else None
+
+-- the text of bytes that are UTF-8
+abbrev pub text_of : List ℕ → Option (List ℕ)
+text_of bytes = if is_utf8 bytes then Some (chars bytes) else None
+
+-- the part of the first byte, and the text of those behind it
+abbrev pub parted_of : List ℕ → Option Parted
+parted_of [] = None
+parted_of (byte ∷ bytes) = then_at (part_of byte) (λ part. option_map (λ text. (part, text)) (text_of bytes))
+
+-- the key of a part and a reading, where that is valid in it
+abbrev pub valid_key : Parted → Option RowKey
+valid_key parted =
+    let key : RowKey = record { part = parted.0; reading = parted.1 } in if is_row_key key then Some key else None
+
+-- the key of its bytes
+abbrev pub key_of : List ℕ → Option RowKey
+key_of bytes = then_at (parted_of bytes) valid_key
+
+-- a row with a stamp, where this is its own line
+abbrev pub if_own : ℕ → List ℕ → Row → Option Row
+if_own stamp line row = if same_text (canonical row) line then Some (record row { stamp = stamp }) else None
+
+-- the row of a stamp that a line spells in a part, where the line is that row's own
+abbrev pub line_row : ℕ → Parted → Option Row
+line_row stamp parted = then_at (row_of_line parted.0 parted.1) (if_own stamp parted.1)
+
+-- a row of a book of this count may have this stamp
+abbrev pub is_stamp : ℕ → ℕ → Bool
+is_stamp count stamp = nat_le 1 stamp && nat_le stamp count
+
+-- the row of a stamp that was read and of the bytes behind it
+abbrev pub stamped_row : ℕ → ℕ × List ℕ → Option Row
+stamped_row count read =
+    if is_stamp count read.0 then then_at (parted_of read.1) (line_row read.0) else None
+
+-- the row of its bytes, in a book of this count
+abbrev pub row_of : ℕ → List ℕ → Option Row
+row_of count bytes = then_at ((number w64).step bytes) (stamped_row count)
+
+-- what every payload begins with: the byte of its kind, the number of a book, and a count
+abbrev pub fields : Format ℕ (ℕ × (ℕ × ℕ))
+fields = both (one_as (λ kind. Some kind)) (both (number w16) (number w64))
+
+-- what the bytes behind the fields say
+abbrev pub form_behind : ℕ → ℕ → ℕ → List ℕ → Option Form
+form_behind kind book count rest =
+    if kind == 1 then option_map (Put book count) (row_of count rest)
+    else if kind == 2 then option_map (Drop book count) (key_of rest)
+    else if kind == 3 && is_empty rest then Some (SetCount book count)
+    else None
+
+-- what a payload says
+abbrev pub form_of : List ℕ → Option Form
+form_of payload =
+    then_at (fields.step payload) (λ read. form_behind read.0.0 read.0.1.0 read.0.1.1 read.1)

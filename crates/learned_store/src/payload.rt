@@ -1,17 +1,19 @@
-ghost use Rattle.std.specs.Prelude.{◌≡◌, ◌<◌, ◌++◌, true, nat_le, ◌&&◌, length, encode_utf8_all, None};
-ghost use Rattle.std.specs.Prelude.{IfOk, IfSome, IfNone};
-ghost use Rattle.std.specs.Str.{all_scalars};
+ghost use Rattle.std.specs.Prelude.{◌≡◌, ◌&&◌, true, nat_le, None, IfOk, IfSome};
+ghost use Rattle.std.specs.Int.{w64};
+ghost use Rattle.std.specs.Option.{option_map};
+ghost use Rattle.exact_readers.specs.Formats.{then_at};
 ghost use Rattle.skk_calls.specs.Canonical.{canonical};
-ghost use Rattle.skk_calls.specs.Rows.{is_row_key, same_text};
+ghost use Rattle.skk_calls.specs.Rows.{same_text};
 ghost use Rattle.learned_store.specs.declared.form.Form.{Form};
-ghost use Rattle.learned_store.specs.Payloads.{wide_number, part_byte, payload_of, is_sound};
-ghost use Rattle.learned_store.specs.Reading.{IsRead, payload_with, put_with, is_parted, parted_bytes, is_written_key};
-ghost use Rattle.learned_store.specs.Reading.{parted_key, is_line_row, is_text_row, parted_row, is_written_row};
-ghost use Rattle.learned_store.specs.Reading.{row_bytes};
+ghost use Rattle.learned_store.specs.declared.form.Form.TheVariants.{Put, Drop};
+ghost use Rattle.learned_store.specs.Payloads.{payload_of, is_sound};
+ghost use Rattle.learned_store.specs.Reading.{put_with, fields, form_of, form_behind, row_of, stamped_row, is_stamp};
+ghost use Rattle.learned_store.specs.Reading.{parted_of, part_of, text_of, key_of, valid_key, line_row};
 
 use crate::form::{DROP, Form, PUT, SET_COUNT};
 use crate::plain_row::plain_row;
 use dict_format::{good_rows_are_read_again, lines_spell_one_row, print_line, row_of_line};
+use exact_readers::{read_u16, read_u64};
 use skk_calls::{Cands, Part, Row, RowKey};
 use skk_text::{Copies, Memory, Text};
 use std::alloc::Global;
@@ -42,54 +44,52 @@ pub(crate) fn read_form(alloc: Global, payload: &[u8]) -> Result<Option<Form>, M
     ensures none { IfOk result (λ form. form ≡ None → (f : Form) → is_sound f ≡ true
         → payload.now ≡ payload_of f → ⊥) }
 {
+    good_rows_are_read_again();
+    lines_spell_one_row();
+    let form = any_form(alloc, payload)?;
+    Ok(form)
+}
+
+// What is read of a payload.
+fn any_form(alloc: Global, payload: &[u8]) -> Result<Option<Form>, Memory>
+    ensures { IfOk result (λ form. form ≡ form_of payload.now) }
+{
     match fields_of(payload) {
-        Some(fields) => form_of(alloc, &fields),
+        Some(fields) => form_behind(alloc, &fields),
         None => Ok(None),
     }
 }
 
-// What a payload with these fields says.
-fn form_of(alloc: Global, fields: &Fields<'_>) -> Result<Option<Form>, Memory>
-    ensures { IfOk result (IsRead is_sound payload_of
-        (payload_with fields.now.kind fields.now.book fields.now.count fields.now.rest.now)) }
+// What is read behind the fields of a payload.
+fn form_behind(alloc: Global, fields: &Fields<'_>) -> Result<Option<Form>, Memory>
+    ensures { IfOk result (λ form. form
+        ≡ form_behind fields.now.kind fields.now.book fields.now.count fields.now.rest.now) }
 {
     match fields.kind {
         PUT => put_of(alloc, fields.book, fields.count, fields.rest),
         DROP => drop_of(alloc, fields.book, fields.count, fields.rest),
-        SET_COUNT => Ok(count_of(fields.book, fields.count, fields.rest)),
+        SET_COUNT if fields.rest.is_empty() => Ok(Some(Form::SetCount {
+            book: fields.book,
+            count: fields.count,
+        })),
         _ => Ok(None),
     }
 }
 
-// What a payload says that puts a row into a book.
+// That a row is put into a book, where one is read.
 fn put_of(alloc: Global, book: u16, count: u64, rest: &[u8]) -> Result<Option<Form>, Memory>
-    ensures { IfOk result (IsRead is_sound payload_of (payload_with 1 book count rest.now)) }
+    ensures { IfOk result (λ form. form ≡ option_map (Put book count) (row_of count rest.now)) }
 {
-    match read_row(alloc, count, rest)? {
-        Some(row) => Ok(Some(Form::Put { book, count, row })),
-        None => Ok(None),
-    }
+    let row = read_row(alloc, count, rest)?;
+    Ok(row.map(|row| Form::Put { book, count, row }))
 }
 
-// What a payload says that takes a row out of a book.
+// That the row of a key is taken out of a book, where a key is read.
 fn drop_of(alloc: Global, book: u16, count: u64, rest: &[u8]) -> Result<Option<Form>, Memory>
-    ensures { IfOk result (IsRead is_sound payload_of (payload_with 2 book count rest.now)) }
+    ensures { IfOk result (λ form. form ≡ option_map (Drop book count) (key_of rest.now)) }
 {
-    match read_key(alloc, rest)? {
-        Some(key) => Ok(Some(Form::Drop { book, count, key })),
-        None => Ok(None),
-    }
-}
-
-// What a payload says that gives a book its count.
-fn count_of(book: u16, count: u64, rest: &[u8]) -> Option<Form>
-    ensures { IsRead is_sound payload_of (payload_with 3 book count rest.now) result }
-{
-    if rest.is_empty() {
-        Some(Form::SetCount { book, count })
-    } else {
-        None
-    }
+    let key = read_key(alloc, rest)?;
+    Ok(key.map(|key| Form::Drop { book, count, key }))
 }
 
 // The fields of a payload that puts a row of a stamp that its count allows into a book. The row is not read.
@@ -102,7 +102,7 @@ pub(crate) fn put_fields(payload: &[u8]) -> Option<PutFields<'_>>
     if fields.kind != PUT {
         return None;
     }
-    let (stamp, row) = wide_number(fields.rest)?;
+    let (stamp, row) = read_u64(fields.rest)?;
     if !is_stamp(fields.count, stamp) {
         return None;
     }
@@ -116,35 +116,25 @@ pub(crate) fn put_fields(payload: &[u8]) -> Option<PutFields<'_>>
 
 // The fields of a payload, where it is long enough for them.
 fn fields_of(payload: &[u8]) -> Option<Fields<'_>>
-    ensures some { IfSome result (λ fields.
-        payload.now ≡ payload_with fields.kind fields.book fields.count fields.rest.now) }
-    ensures none { IfNone result (length payload.now < 11) }
+    ensures { option_map (λ read. ((read.kind, (read.book, read.count)), read.rest.now)) result
+        ≡ fields.step payload.now }
 {
     let (kind, rest) = payload.split_first()?;
-    let (book, rest) = rest.split_first_chunk::<2>()?;
-    let (count, rest) = wide_number(rest)?;
+    let (book, rest) = read_u16(rest)?;
+    let (count, rest) = read_u64(rest)?;
     Some(Fields {
         kind: *kind,
-        book: u16::from_le_bytes(*book),
+        book,
         count,
         rest,
     })
 }
 
-// A count or a stamp, and the bytes behind it.
-fn wide_number(bytes: &[u8]) -> Option<(u64, &[u8])>
-    ensures some { IfSome result (λ parts. bytes.now ≡ wide_number parts.0 ++ parts.1.now) }
-    ensures none { IfNone result (length bytes.now < 8) }
-{
-    let (number, rest) = bytes.split_first_chunk::<8>()?;
-    Some((u64::from_le_bytes(*number), rest))
-}
-
 // The row of a book of this count, of the bytes of its stamp, its part and its line.
 fn read_row(alloc: Global, count: u64, bytes: &[u8]) -> Result<Option<Row>, Memory>
-    ensures { IfOk result (IsRead (is_written_row count) row_bytes bytes.now) }
+    ensures { IfOk result (λ row. row ≡ row_of count bytes.now) }
 {
-    match wide_number(bytes) {
+    match read_u64(bytes) {
         Some((stamp, rest)) => stamped_row(alloc, count, stamp, rest),
         None => Ok(None),
     }
@@ -152,7 +142,7 @@ fn read_row(alloc: Global, count: u64, bytes: &[u8]) -> Result<Option<Row>, Memo
 
 // The row of a book of this count, of a stamp and of the bytes behind that.
 fn stamped_row(alloc: Global, count: u64, stamp: u64, bytes: &[u8]) -> Result<Option<Row>, Memory>
-    ensures { IfOk result (IsRead (is_written_row count) row_bytes (wide_number stamp ++ bytes.now)) }
+    ensures { IfOk result (λ row. row ≡ stamped_row count (stamp, bytes.now)) }
 {
     if is_stamp(count, stamp) {
         text_row(alloc, stamp, bytes)
@@ -163,7 +153,7 @@ fn stamped_row(alloc: Global, count: u64, stamp: u64, bytes: &[u8]) -> Result<Op
 
 // The row of a stamp, of the bytes of its part and its line.
 fn text_row(alloc: Global, stamp: u64, bytes: &[u8]) -> Result<Option<Row>, Memory>
-    ensures { IfOk result (IsRead (is_text_row stamp) (λ row. parted_bytes (parted_row row)) bytes.now) }
+    ensures { IfOk result (λ row. row ≡ then_at (parted_of bytes.now) (line_row stamp)) }
 {
     match parted_text(alloc, bytes)? {
         Some((part, line)) => row_of(alloc, part, &line, stamp),
@@ -173,14 +163,14 @@ fn text_row(alloc: Global, stamp: u64, bytes: &[u8]) -> Result<Option<Row>, Memo
 
 // Whether a row of a book of this count may have this stamp.
 fn is_stamp(count: u64, stamp: u64) -> bool
-    ensures { result ≡ (nat_le 1 stamp && nat_le stamp count) }
+    ensures { result ≡ is_stamp count stamp }
 {
     1 <= stamp && stamp <= count
 }
 
 // The key of its part and its reading.
 pub(crate) fn read_key(alloc: Global, bytes: &[u8]) -> Result<Option<RowKey>, Memory>
-    ensures { IfOk result (IsRead is_written_key (λ key. parted_bytes (parted_key key)) bytes.now) }
+    ensures { IfOk result (λ key. key ≡ key_of bytes.now) }
 {
     match parted_text(alloc, bytes)? {
         Some((part, reading)) => Ok(key_of(part, reading)),
@@ -190,7 +180,7 @@ pub(crate) fn read_key(alloc: Global, bytes: &[u8]) -> Result<Option<RowKey>, Me
 
 // The key of a part and a reading.
 fn key_of(part: Part, reading: Text) -> Option<RowKey>
-    ensures { IsRead is_row_key parted_key (part, reading) result }
+    ensures { result ≡ valid_key (part, reading) }
 {
     match RowKey::new(part, reading) {
         Ok(key) => Some(key),
@@ -200,8 +190,10 @@ fn key_of(part: Part, reading: Text) -> Option<RowKey>
 
 // The row of a stamp, of its part and its line.
 fn row_of(alloc: Global, part: Part, line: &Text, stamp: u64) -> Result<Option<Row>, Memory>
-    ensures { IfOk result (IsRead (is_line_row stamp) parted_row (part, line.now)) }
+    ensures { IfOk result (λ row. row ≡ line_row stamp (part, line.now)) }
 {
+    good_rows_are_read_again();
+    lines_spell_one_row();
     match plain_row(alloc, part, line, stamp)? {
         Some(row) => Ok(Some(row)),
         None => any_row_of(alloc, part, line, stamp),
@@ -210,10 +202,8 @@ fn row_of(alloc: Global, part: Part, line: &Text, stamp: u64) -> Result<Option<R
 
 // The row of a stamp, of its part and its line, whatever stands there.
 fn any_row_of(alloc: Global, part: Part, line: &Text, stamp: u64) -> Result<Option<Row>, Memory>
-    ensures { IfOk result (IsRead (is_line_row stamp) parted_row (part, line.now)) }
+    ensures { IfOk result (λ row. row ≡ line_row stamp (part, line.now)) }
 {
-    good_rows_are_read_again();
-    lines_spell_one_row();
     let Some(row) = row_of_line(alloc, part, line.as_str())? else {
         return Ok(None);
     };
@@ -256,7 +246,7 @@ fn fitted(alloc: Global, cands: Cands) -> Result<Cands, Memory>
 
 // A part and a text in it.
 fn parted_text(alloc: Global, bytes: &[u8]) -> Result<Option<(Part, Text)>, Memory>
-    ensures { IfOk result (IsRead is_parted parted_bytes bytes.now) }
+    ensures { IfOk result (λ parted. parted ≡ parted_of bytes.now) }
 {
     let Some((part, text)) = bytes.split_first() else {
         return Ok(None);
@@ -272,7 +262,7 @@ fn parted_text(alloc: Global, bytes: &[u8]) -> Result<Option<(Part, Text)>, Memo
 
 // The part of a byte.
 fn part_of(byte: u8) -> Option<Part>
-    ensures { IsRead (λ _. true) part_byte byte result }
+    ensures { result ≡ part_of byte }
 {
     match byte {
         0 => Some(Part::Nasi),
@@ -283,7 +273,7 @@ fn part_of(byte: u8) -> Option<Part>
 
 // The text of bytes.
 fn text_of(alloc: Global, bytes: &[u8]) -> Result<Option<Text>, Memory>
-    ensures { IfOk result (IsRead all_scalars encode_utf8_all bytes.now) }
+    ensures { IfOk result (λ text. text ≡ text_of bytes.now) }
 {
     match str::from_utf8(bytes) {
         Ok(text) => Ok(Some(Text::of(String::from_str(alloc, text)?))),

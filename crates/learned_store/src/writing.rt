@@ -45,7 +45,7 @@ fn record_of(
 }
 
 // The bytes that put a row into a book, which then has a count.
-#[tactic(auto, unfolding(crate::specs::Payloads::book_number, crate::specs::Payloads::wide_number))]
+#[tactic(auto, unfolding(exact_readers::specs::Numbers::number_bytes))]
 fn put_record(alloc: Global, book: u16, count: u64, row: &Row) -> Result<Bytes, Memory>
     ensures payload { IfOk result (λ bytes. bytes ≡ put_bytes book count row.now) }
     ensures characters { OnOk result (all_scalars (canonical row.now) ≡ true) }
@@ -62,7 +62,7 @@ fn put_record(alloc: Global, book: u16, count: u64, row: &Row) -> Result<Bytes, 
 }
 
 // The bytes that take the row of a key out of a book, which then has a count.
-#[tactic(auto, unfolding(crate::specs::Payloads::book_number, crate::specs::Payloads::wide_number))]
+#[tactic(auto, unfolding(exact_readers::specs::Numbers::number_bytes))]
 fn drop_record(alloc: Global, book: u16, count: u64, key: &RowKey) -> Result<Bytes, Memory>
     ensures payload { IfOk result (λ bytes. bytes ≡ drop_bytes book count key.now) }
     ensures characters { OnOk result (all_scalars key.now.reading ≡ true) }

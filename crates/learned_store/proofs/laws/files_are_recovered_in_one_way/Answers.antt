@@ -1,5 +1,6 @@
 use Rattle.skk_calls.specs.States.{empty_state}
-use Rattle.learned_store.proofs.OneForm.{lines_are_read, one_form}
+use Rattle.learned_store.proofs.ReadForms.{one_form}
+use Rattle.learned_store.proofs.ReadRows.{lines_are_read}
 use Rattle.learned_store.proofs.OneRecovery.{leads_once, whole_or_break, recovered_once}
 use Rattle.learned_store.proofs.laws.files_are_recovered_in_one_way.Goals as goal
 

@@ -1,5 +1,16 @@
-use Rattle.learned_store.proofs.ReadForms.{no_fields}
+use Rattle.learned_store.proofs.ReadForms.{form_read, none_read}
+use Rattle.learned_store.proofs.ReadRows.{lines_are_read}
 use Rattle.learned_store.proofs.payload.read_form.Goals as goal
 
-pub returns-in-None-clause-none : goal.returns-in-None-clause-none
-returns-in-None-clause-none c = λ none form sound is. no_fields c.args.payload.now c.in-None.ensures.none form sound is
+pub returns-clause-some : goal.returns-clause-some
+returns-clause-some c =
+    form_read (record {
+      read = c.lines_spell_one_row.ensures.read;
+      valid = c.lines_spell_one_row.ensures.valid;
+      key = c.lines_spell_one_row.ensures.key;
+    }) c.args.payload.now c.in_ok-form.form c.in_ok-form.ensures
+
+pub returns-clause-none : goal.returns-clause-none
+returns-clause-none c =
+    none_read (lines_are_read c.good_rows_are_read_again.ensures c.lines_spell_one_row.ensures.read)
+    c.args.payload.now c.in_ok-form.form c.in_ok-form.ensures

@@ -1,10 +1,13 @@
 use Rattle.std.proofs.Common.{◌∙◌, ap}
 use Rattle.std.specs.Str.{chars}
-use Rattle.learned_store.proofs.ReadBytes.{text_read}
+use Rattle.learned_store.proofs.ReadParts.{text_there, text_absent}
 use Rattle.learned_store.proofs.payload.text_of.Goals as goal
 
 pub returns-in_ok-from_str-in-Ok : goal.returns-in_ok-from_str-in-Ok
 returns-in_ok-from_str-in-Ok c =
     let read = c.in-Ok.ensures.cases in
-    text_read c.args.bytes.now c.of.result read.1
+    text_there c.args.bytes.now c.of.result read.1
     (c.of.ensures ∙ ap chars (c.in_ok-from_str-in-Ok.ensures.ok ∙ read.0))
+
+pub returns-in-Err : goal.returns-in-Err
+returns-in-Err c = text_absent c.args.bytes.now c.in-Err.ensures.cases.0

@@ -1,4 +1,5 @@
 use Rattle.std.proofs.Common.{◌≡◌, ◌≤◌, Option, subst, arith}
+use Rattle.std.proofs.Math.Facts.{Fits-lt-pow}
 use Rattle.std.specs.Option.{IfSome}
 use Rattle.learned_store.specs.declared.row_place.RowPlace.{RowPlace}
 use Rattle.learned_store.specs.Gathering.{count_in, row_among}
@@ -18,5 +19,5 @@ returns-clause-again c told state gathers =
     ) in
     added (row_among c.args.self.now.rows) (row_among c.restamp.new.rows) c.args.self.now.counts c.insert.new.self
     c.args.book c.args.count c.args.stamp c.in-Some.place c.args.bytes.now own
-    (held c.args.book c.args.count c.ranges.book c.ranges.count) c.requires
+    (held c.args.book c.args.count (Fits-lt-pow c.ranges.book) (Fits-lt-pow c.ranges.count)) c.requires
     (c.in_ok-restamp.ensures.restamped c.if-not-branch.false) c.in_ok-_count.ensures.updates state gathers counted
