@@ -1,15 +1,18 @@
 -- Laws of what was printed, as lines are typed and pages are written.
-use Rattle.std.proofs.Common.{◌≡◌, ◌∙◌, sym, ap, subst, rules, ℕ, Option, Some, None, List, [], ◌++◌, append_assoc}
+use Rattle.std.proofs.Common.{◌≡◌, ◌≤◌, ◌∙◌, sym, ap, subst, rules, ℕ, Option, Some, None, List, [], ◌++◌, append_assoc}
 use Rattle.std.proofs.Common.{Result, Ok, Err, OnOk, OnErr, IsErrAnd, encode_utf8_all, arith}
 use Rattle.std.proofs.KnownBytes.{Appends-trans}
 use Rattle.std.proofs.lemmas.List.{append-nil}
 use Rattle.std.proofs.lemmas.Str.{encodes-append}
-use Rattle.std.specs.Io.KnownBytes.{Appends}
+use Rattle.std.specs.Io.KnownBytes.{Appends, Keeps}
+use Rattle.skk_outside.specs.Faults.{Rose}
 use Rattle.skk_outside.specs.Written.{AppendsPrefix}
 use Rattle.run_endings.specs.Page.{Printed}
 use Rattle.skk_outside.specs.Moved.{MovedSink}
 use Rattle.skk_outside.specs.declared.outside.Failed.{Failed}
-use Rattle.run_endings.specs.Page.{Writes}
+use Rattle.run_endings.specs.Page.{LeavesPrinted, StopsPrinting, Writes}
+use Rattle.run_endings.specs.Status.{Ended}
+use Rattle.run_endings.specs.declared.fault.RunFault.{RunFault}
 
 -- what holds anyway holds at an error
 pub on_err : {T E P : Type 0} (r : Result T E) → P → OnErr r P
@@ -149,4 +152,46 @@ writes-then first rest (Err fault) {old = old} {mid = mid} {new = new} one two =
   prefix = AppendsPrefix-behind old mid new first rest one.whole two.prefix;
   failed = omega (arith, one.counted, two.failed);
   counted = omega (arith, one.counted, two.counted);
+}
+
+-- Printing
+
+-- a sink that keeps what it was written has it
+pub Appends-kept : (old mid new : Option (List ℕ)) (bytes : List ℕ) → Appends old mid bytes → Keeps mid new
+    → Appends old new bytes
+Appends-kept None mid new bytes appends keeps = search rules
+Appends-kept (Some xs) None new bytes appends keeps = absurd appends
+Appends-kept (Some xs) (Some ys) None bytes appends keeps = absurd keeps
+Appends-kept (Some xs) (Some ys) (Some zs) bytes appends keeps = keeps ∙ appends
+
+-- what printing leaves that ends with a fault
+pub printed-fault : (bytes : List ℕ) (ended : Ended) (fault : RunFault) (sink : MovedSink)
+    → IsErrAnd ended (λ handed. handed ≡ fault)
+    → AppendsPrefix sink.written sink.written' bytes → StopsPrinting sink fault → sink.faults ≤ sink.faults'
+    → LeavesPrinted bytes ended sink
+printed-fault bytes (Ok done) fault sink is prefix stops counted = absurd (search (rules, is))
+printed-fault bytes (Err handed) fault sink is prefix stops counted = record {
+  whole = tt;
+  prefix = prefix;
+  stopped = subst (StopsPrinting sink) (sym is) stops;
+  counted = counted;
+}
+
+-- bytes that were written stay so where all that waits is written too
+pub writes-through : (bytes : List ℕ) (result : Result (Unit {0}) Failed) {old mid new : Option (List ℕ)}
+    {faults middle faults' : ℕ}
+    → Writes bytes (Ok tt) (record { written = old; written' = mid; faults = faults; faults' = middle })
+    → Keeps mid new → OnErr result (Rose middle faults') → middle ≤ faults'
+    → Writes bytes result (record { written = old; written' = new; faults = faults; faults' = faults' })
+writes-through bytes (Ok done) {old = old} {mid = mid} {new = new} written keeps failed counted = record {
+  whole = Appends-kept old mid new bytes written.whole keeps;
+  prefix = tt;
+  failed = tt;
+  counted = omega (arith, written.counted, counted);
+}
+writes-through bytes (Err fault) {old = old} {mid = mid} {new = new} written keeps failed counted = record {
+  whole = tt;
+  prefix = AppendsPrefix-whole old new bytes (Appends-kept old mid new bytes written.whole keeps);
+  failed = omega (arith, written.counted, failed);
+  counted = omega (arith, written.counted, counted);
 }

@@ -2,8 +2,9 @@ ghost use Rattle.std.specs.Prelude.{◌≡◌, ◌≤◌, ◌++◌, [], ℕ, Lis
 ghost use Rattle.skk_outside.specs.Faults.{Rose};
 ghost use Rattle.skk_outside.specs.Moved.{moved_sink};
 ghost use Rattle.skk_outside.specs.Written.{AppendsPrefix};
-ghost use Rattle.run_endings.specs.Page.{Printed, Writes};
+ghost use Rattle.run_endings.specs.Page.{LeavesPrinted, Printed, Writes};
 
+use crate::fault::RunFault;
 use skk_outside::{Failed, Sink, write_all};
 use skk_text::Text;
 use std::alloc::Global;
@@ -23,6 +24,29 @@ pub fn print<O: Sink>(out: &mut O, page: &Text) -> Result<(), Failed>
     ensures { Writes (encode_utf8_all page.now) result (moved_sink O.written O.faults out.old out.new) }
 {
     write(out, page.as_str().as_bytes())
+}
+
+/// Writes bytes, and all that waits to be written.
+pub fn write_through<O: Sink>(out: &mut O, bytes: &[u8]) -> Result<(), Failed>
+    ensures { Writes bytes.now result (moved_sink O.written O.faults out.old out.new) }
+{
+    write(out, bytes)?;
+    out.flush()
+}
+
+/// Writes a page, and all that waits to be written.
+pub fn print_through<O: Sink>(out: &mut O, page: &Text) -> Result<(), Failed>
+    ensures { Writes (encode_utf8_all page.now) result (moved_sink O.written O.faults out.old out.new) }
+{
+    write_through(out, page.as_str().as_bytes())
+}
+
+/// Prints a text: writes it, and all that waits to be written.
+pub fn print_text<O: Sink>(out: &mut O, text: &Text) -> Result<(), RunFault>
+    ensures { LeavesPrinted (encode_utf8_all text.now) result (moved_sink O.written O.faults out.old out.new) }
+{
+    print_through(out, text)?;
+    Ok(())
 }
 
 /// Writes a page that is full, and begins a new one.

@@ -40,27 +40,6 @@ Printed-longer old new page whole text longer pushed printed = (
       ∙ ap (λ w. w ++ text) (ap (λ p. printed.0 ++ p) (sym (append-nil page)) ∙ printed.2),
 )
 
--- a sink that keeps what it was written has it
-pub Appends-kept : (old mid new : Option (List ℕ)) (bytes : List ℕ) → Appends old mid bytes → Keeps mid new
-    → Appends old new bytes
-Appends-kept None mid new bytes appends keeps = search rules
-Appends-kept (Some xs) None new bytes appends keeps = absurd appends
-Appends-kept (Some xs) (Some ys) None bytes appends keeps = absurd keeps
-Appends-kept (Some xs) (Some ys) (Some zs) bytes appends keeps = keeps ∙ appends
-
--- with a fault
-pub printed-fault : (bytes : List ℕ) (ended : Ended) (fault : RunFault) (sink : MovedSink)
-    → IsErrAnd ended (λ handed. handed ≡ fault)
-    → AppendsPrefix sink.written sink.written' bytes → StopsPrinting sink fault → sink.faults ≤ sink.faults'
-    → LeavesPrinted bytes ended sink
-printed-fault bytes (Ok done) fault sink is prefix stops counted = absurd (search (rules, is))
-printed-fault bytes (Err handed) fault sink is prefix stops counted = record {
-  whole = tt;
-  prefix = prefix;
-  stopped = subst (StopsPrinting sink) (sym is) stops;
-  counted = counted;
-}
-
 -- a call that failed behind others failed since these began
 pub stops-behind : (fault : RunFault) (old mid new : Option (List ℕ)) (faults middle faults' : ℕ) → faults ≤ middle
     → StopsPrinting (record { written = mid; written' = new; faults = middle; faults' = faults' }) fault

@@ -37,7 +37,8 @@ use Rattle.run_endings.specs.declared.fault.RunFault.TheVariants.{Outside, Memor
 use Rattle.skk_top.specs.declared.serving.Outcome.{Outcome}
 use Rattle.skk_top.specs.declared.serving.Service.{Service}
 use Rattle.run_endings.specs.PageLaws.{AppendsPrefix-behind, AppendsPrefix-more, AppendsPrefix-whole}
-use Rattle.skk_top.proofs.PrintedChecks.{Appends-kept, stops-behind}
+use Rattle.run_endings.specs.PageLaws.{Appends-kept}
+use Rattle.skk_top.proofs.PrintedChecks.{stops-behind}
 use Rattle.skk_top.proofs.Served.{where_done}
 
 -- The port

@@ -6,8 +6,7 @@ ghost use Rattle.skk_top.specs.CheckedFiles.{reason_name, bad_line, bad_lines, c
 ghost use Rattle.run_endings.specs.Page.{Printed, LeavesPrinted, StopsPrinting};
 
 use dict_format::{BadLine, LineReason, Listed};
-use run_endings::{RunFault, print, print_full};
-use script_typing::push_number;
+use run_endings::{RunFault, print_full, print_through};
 use skk_calls::{Part, Row};
 use skk_outside::Sink;
 use skk_text::{Memory, Text};
@@ -17,19 +16,10 @@ use std::alloc::Global;
 pub fn print_listed<O: Sink>(alloc: Global, listed: &Listed, out: &mut O) -> Result<(), RunFault>
     ensures { LeavesPrinted (checked listed.now) result (moved_sink O.written O.faults out.old out.new) }
 {
-    print_lines(alloc, listed, out)?;
-    out.flush()?;
-    Ok(())
-}
-
-// Prints the bad lines and the counts.
-fn print_lines<O: Sink>(alloc: Global, listed: &Listed, out: &mut O) -> Result<(), RunFault>
-    ensures { LeavesPrinted (checked listed.now) result (moved_sink O.written O.faults out.old out.new) }
-{
     let mut page = Text::new(alloc);
     print_bad_lines(alloc, listed.bad.as_slice(), &mut page, out)?;
     push_counts(&mut page, listed)?;
-    print(out, &page)?;
+    print_through(out, &page)?;
     Ok(())
 }
 
@@ -59,7 +49,7 @@ fn push_bad_line(page: &mut Text, bad: &BadLine) -> Result<(), Memory>
     ensures { OnOk result (page.new ≡ page.old ++ bad_line bad.now) }
 {
     page.push_str("line ")?;
-    push_number(page, bad.line)?;
+    page.push_number(bad.line as u64)?;
     page.push(' ')?;
     page.push_str(reason_name(bad.reason))?;
     page.push('\n')
@@ -90,11 +80,11 @@ fn push_counts(page: &mut Text, listed: &Listed) -> Result<(), Memory>
 {
     let rows = listed.book.rows().as_slice();
     page.push_str("okuri-ari ")?;
-    push_number(page, count_of(Part::Ari, rows))?;
+    page.push_number(count_of(Part::Ari, rows) as u64)?;
     page.push_str(" okuri-nasi ")?;
-    push_number(page, count_of(Part::Nasi, rows))?;
+    page.push_number(count_of(Part::Nasi, rows) as u64)?;
     page.push_str(" bad ")?;
-    push_number(page, listed.bad.len())?;
+    page.push_number(listed.bad.len() as u64)?;
     page.push('\n')
 }
 

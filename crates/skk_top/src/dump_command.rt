@@ -13,7 +13,7 @@ use command_line::{DumpOptions, LIMIT, dump_options, words_of};
 use dict_files::DictionaryFiles;
 use dict_layers::System;
 use learned_store::{Store, files_are_recovered_in_one_way};
-use run_endings::{Run, RunFault, print};
+use run_endings::{Run, RunFault, print_text};
 use skk_disk::Disk;
 use skk_outside::Sink;
 use skk_text::Text;
@@ -78,14 +78,4 @@ fn print_book<D, O: Sink>(
 {
     let text = store.dump(alloc, number)?;
     print_text(out, &text)
-}
-
-/// Prints a text.
-pub fn print_text<O: Sink>(out: &mut O, text: &Text) -> Result<(), RunFault>
-    ensures { LeavesPrinted (encode_utf8_all text.now) result
-        (moved_sink O.written O.faults out.old out.new) }
-{
-    print(out, text)?;
-    out.flush()?;
-    Ok(())
 }

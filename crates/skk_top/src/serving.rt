@@ -8,7 +8,7 @@ ghost use Rattle.skk_top.specs.ServeCommand.{ServesByOffice, TellsEnd, moved_lis
 ghost use Rattle.skk_top.specs.ServeCommand.{wants_memory};
 
 use romaji_rules::Rules;
-use run_endings::{RunFault, write, write_numbered};
+use run_endings::{RunFault, write_numbered, write_through};
 use skk_calls::Office;
 use skk_outside::{Failed, Gate, Listener, Sink};
 use skk_server::{End, Served, ServedEnd, serve_all};
@@ -129,8 +129,7 @@ pub fn serve_port<
 fn print_ready<O: Sink>(out: &mut O) -> Result<(), RunFault>
     ensures { LeavesPrinted ready_line result (moved_sink O.written O.faults out.old out.new) }
 {
-    write(out, b"ready\n")?;
-    out.flush()?;
+    write_through(out, b"ready\n")?;
     Ok(())
 }
 
@@ -152,14 +151,13 @@ fn print_served<O: Sink>(count: u32, out: &mut O) -> Result<(), RunFault>
     ensures { LeavesPrinted (served_line count) result (moved_sink O.written O.faults out.old out.new) }
 {
     write_served(count, out)?;
-    out.flush()?;
     Ok(())
 }
 
-// Writes how many connections were accepted.
+// Writes how many connections were accepted, and all that waits to be written.
 fn write_served<O: Sink>(count: u32, out: &mut O) -> Result<(), Failed>
     ensures { Writes (served_line count) result (moved_sink O.written O.faults out.old out.new) }
 {
     write_numbered(out, b"served ", count as u64)?;
-    write(out, b"\n")
+    write_through(out, b"\n")
 }

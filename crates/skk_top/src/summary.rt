@@ -4,10 +4,8 @@ ghost use Rattle.skk_outside.specs.Moved.{moved_sink};
 ghost use Rattle.skk_top.specs.LoadCommand.{number_line, summary, summed, text_bytes};
 ghost use Rattle.run_endings.specs.Page.{LeavesPrinted};
 
-use crate::dump_command::print_text;
 use command_line::LoadOptions;
-use run_endings::RunFault;
-use script_typing::push_number;
+use run_endings::{RunFault, print_text};
 use session_machine::Session;
 use skk_calls::Tally;
 use skk_outside::Sink;
@@ -59,7 +57,7 @@ fn push_number_line(page: &mut Text, word: &str, number: u64) -> Result<(), Memo
     ensures { OnOk result (page.new ≡ page.old ++ number_line (chars word.now) number) }
 {
     page.push_str(word)?;
-    push_number(page, number as usize)?;
+    page.push_number(number)?;
     page.push('\n')
 }
 

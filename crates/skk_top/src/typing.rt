@@ -11,7 +11,7 @@ ghost use Rattle.skk_top.specs.Typing.{stand, TypesLine, Reaches, Breaks, Leaves
 
 use key_scripts::Line;
 use romaji_rules::Rules;
-use run_endings::{RunFault, print, print_full};
+use run_endings::{RunFault, print_full, print_through};
 use script_typing::{push_closing_line, push_output_line};
 use session_machine::Session;
 use skk_calls::Caller;
@@ -34,29 +34,11 @@ pub fn type_script<C: Caller, O: Sink>(
         (moved_sink O.written O.faults out.old out.new) }
     ensures counted { O.faults out.old ≤ O.faults out.new }
 {
-    print_script(alloc, rules, lines, caller, out)?;
-    out.flush()?;
-    Ok(())
-}
-
-// Types the lines by some rules, and prints what is typed.
-fn print_script<C: Caller, O: Sink>(
-    alloc: Global,
-    rules: &Rules,
-    lines: &[Line],
-    caller: &mut C,
-    out: &mut O,
-) -> Result<(), RunFault>
-    requires { list_all opens_well lines.now ≡ true }
-    ensures leaves { LeavesLines (typing rules.now [] lines.now) result (C.said caller.old) (C.said caller.new)
-        (moved_sink O.written O.faults out.old out.new) }
-    ensures counted { O.faults out.old ≤ O.faults out.new }
-{
     let mut sessions = BTreeMap::new(alloc);
     let mut page = Text::new(alloc);
     type_lines(alloc, rules, lines, &mut sessions, &mut page, caller, out)?;
     close_sessions(alloc, &sessions, &mut page, out)?;
-    print(out, &page)?;
+    print_through(out, &page)?;
     Ok(())
 }
 

@@ -6,7 +6,7 @@ ghost use Rattle.run_endings.specs.Page.{Printed, StopsPrinting};
 ghost use Rattle.skk_top.specs.WeaveCommand.{LeavesPages};
 
 use crate::typing::close_sessions;
-use run_endings::{RunFault, print, print_full};
+use run_endings::{RunFault, print, print_full, print_through};
 use script_typing::Typed;
 use skk_outside::Sink;
 use skk_text::Text;
@@ -23,21 +23,6 @@ pub fn print_woven<O: Sink>(
     ensures leaves { LeavesPages order.now typed result (moved_sink O.written O.faults out.old out.new) }
     ensures counted { O.faults out.old ≤ O.faults out.new }
 {
-    print_left(alloc, order, typed, out)?;
-    out.flush()?;
-    Ok(())
-}
-
-// Prints what was typed, and writes it.
-fn print_left<O: Sink>(
-    alloc: Global,
-    order: &[u8],
-    typed: Typed,
-    out: &mut O,
-) -> Result<(), RunFault>
-    ensures leaves { LeavesPages order.now typed result (moved_sink O.written O.faults out.old out.new) }
-    ensures counted { O.faults out.old ≤ O.faults out.new }
-{
     let mut typed = typed;
     let mut page = Text::new(alloc);
     print_pages(alloc, order, &mut typed, &mut page, out)?;
@@ -46,7 +31,7 @@ fn print_left<O: Sink>(
         return Err(RunFault::Memory);
     }
     close_sessions(alloc, &typed.sessions, &mut page, out)?;
-    print(out, &page)?;
+    print_through(out, &page)?;
     Ok(())
 }
 

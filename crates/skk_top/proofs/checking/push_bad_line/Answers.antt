@@ -12,9 +12,9 @@ returns c =
     let number = decimal c.args.bad.now.line in
     let name = reason_name c.args.bad.now.reason in
     let first : c.push_str.new.self ≡ page ++ codes "line " = c.in_ok-push_str.ensures.ok ∙ ap (λ t. page ++ t) line in
-    let second = c.in_ok-push_number.ensures ∙ more page (codes "line ") number c.push_str.new.self first in
+    let second = c.in_ok-push_number.ensures.ok ∙ more page (codes "line ") number c.push_str.new.self first in
     let third = c.in_ok-push.ensures.ok
-    ∙ more page (codes "line " ++ number) (codes " ") c.push_number.new.page second in
+    ∙ more page (codes "line " ++ number) (codes " ") c.push_number.new.self second in
     let fourth = c.in_ok-push_str-2.ensures.ok ∙ ap (λ t. c.push.new.self ++ t) c.reason_name.ensures
     ∙ more page (codes "line " ++ number ++ codes " ") name c.push.new.self third in
     each_ok c.push-2.result c.push-2.ensures.ok

@@ -1,24 +1,12 @@
-use Rattle.std.proofs.Common.{arith}
 use Rattle.skk_outside.specs.Moved.{moved_sink}
 use Rattle.skk_top.specs.ServeCommand.{ready_line}
 use Rattle.run_endings.specs.declared.fault.RunFault.TheVariants.{Outside}
-use Rattle.run_endings.specs.PageLaws.{AppendsPrefix-whole}
-use Rattle.skk_top.proofs.PrintedChecks.{printed-fault, Appends-kept}
+use Rattle.run_endings.specs.PageLaws.{printed-fault}
 use Rattle.skk_top.proofs.serving.print_ready.Goals as goal
 
-pub returns-in_err-write : goal.returns-in_err-write
-returns-in_err-write g c =
+pub returns-in_err-write_through : goal.returns-in_err-write_through
+returns-in_err-write_through g c =
     printed-fault ready_line c.from_residual.result Outside
-    (moved_sink g.O.Outside.written g.O.Outside.faults c.args.out.now c.write.new.out)
-    c.from_residual.ensures.1 c.in_err-write.ensures.prefix c.in_err-write.ensures.failed
-    c.in_err-write.ensures.counted
-
-pub returns-in_err-flush : goal.returns-in_err-flush
-returns-in_err-flush g c =
-    printed-fault ready_line c.from_residual-in_err-flush.result Outside
-    (moved_sink g.O.Outside.written g.O.Outside.faults c.args.out.now c.flush.new.self)
-    c.from_residual-in_err-flush.ensures.1
-    (AppendsPrefix-whole _ _ _
-    (Appends-kept _ _ _ ready_line c.in_ok-write.ensures.whole c.in_err-flush.ensures.bytes))
-    (omega (arith, c.in_ok-write.ensures.counted, c.in_err-flush.ensures.failed))
-    (omega (arith, c.in_ok-write.ensures.counted, c.in_err-flush.ensures.counted))
+    (moved_sink g.O.Outside.written g.O.Outside.faults c.args.out.now c.write_through.new.out)
+    c.from_residual.ensures.1 c.in_err-write_through.ensures.prefix c.in_err-write_through.ensures.failed
+    c.in_err-write_through.ensures.counted

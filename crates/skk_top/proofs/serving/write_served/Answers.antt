@@ -11,5 +11,5 @@ returns-in_err-write_numbered g c =
 
 pub returns : goal.returns
 returns g c =
-    writes-then (codes "served " ++ decimal c.args.count) (line_feed ∷ []) c.write.result
-    c.in_ok-write_numbered.ensures c.write.ensures
+    writes-then (codes "served " ++ decimal c.args.count) (line_feed ∷ []) c.write_through.result
+    c.in_ok-write_numbered.ensures c.write_through.ensures

@@ -4,7 +4,7 @@ use Rattle.skk_top.specs.LoadCommand.{summary, summed}
 use Rattle.run_endings.specs.Page.{LeavesPrinted}
 use Rattle.run_endings.specs.declared.fault.RunFault.TheVariants.{Memory}
 use Rattle.run_endings.specs.PageLaws.{Appends-none}
-use Rattle.skk_top.proofs.PrintedChecks.{printed-fault}
+use Rattle.run_endings.specs.PageLaws.{printed-fault}
 use Rattle.skk_top.proofs.summary.print_summary.Goals as goal
 
 pub returns-in_err-push_summary : goal.returns-in_err-push_summary

@@ -11,5 +11,5 @@ returns c =
     let word = chars c.args.word.now in
     let number = decimal c.args.number in
     each_ok c.push.result c.push.ensures.ok
-    (λ e. e ∙ more page (word ++ number) (10 ∷ []) c.push_number.new.page
-    (c.in_ok-push_number.ensures ∙ more page word number c.push_str.new.self c.in_ok-push_str.ensures.ok))
+    (λ e. e ∙ more page (word ++ number) (10 ∷ []) c.push_number.new.self
+    (c.in_ok-push_number.ensures.ok ∙ more page word number c.push_str.new.self c.in_ok-push_str.ensures.ok))

@@ -7,7 +7,7 @@ use Rattle.run_endings.specs.PageLaws.{Printed-prefix_of_page, Printed-whole, Pr
 use Rattle.run_endings.specs.PageLaws.{AppendsPrefix-whole}
 use Rattle.skk_top.proofs.PrintedChecks.{Printed-longer, stops-behind}
 use Rattle.skk_top.proofs.Weaves.{left-all, pages-broken, pages-front, pages-whole}
-use Rattle.skk_top.proofs.weaving.print_left.Goals as goal
+use Rattle.skk_top.proofs.weaving.print_woven.Goals as goal
 
 pub returns-in_err-print_pages-clause-leaves : goal.returns-in_err-print_pages-clause-leaves
 returns-in_err-print_pages-clause-leaves g c =
@@ -54,25 +54,25 @@ returns-in_err-close_sessions-clause-leaves g c =
     (g.O.Outside.faults c.close_sessions.new.out) c.in_ok-print_pages.ensures.counted
     c.in_err-close_sessions.ensures.stopped)
 
-pub returns-in_err-print-2-clause-leaves : goal.returns-in_err-print-2-clause-leaves
-returns-in_err-print-2-clause-leaves g c =
+pub returns-in_err-print_through-clause-leaves : goal.returns-in_err-print_through-clause-leaves
+returns-in_err-print_through-clause-leaves g c =
     let all : c.args.typed.whole ≡ true = sym c.in_ok-print_pages.ensures.whole ∙ c.if-not-typed.false in
     let closing = closing_lines c.args.typed.sessions.entries in
-    pages-broken c.args.order.now c.args.typed c.from_residual-in_err-print-2.result Outside
-    c.from_residual-in_err-print-2.ensures.1
-    (subst (λ t. AppendsPrefix (g.O.Outside.written c.args.out.now) (g.O.Outside.written c.print-2.new.out)
+    pages-broken c.args.order.now c.args.typed c.from_residual-in_err-print_through.result Outside
+    c.from_residual-in_err-print_through.ensures.1
+    (subst (λ t. AppendsPrefix (g.O.Outside.written c.args.out.now) (g.O.Outside.written c.print_through.new.out)
     (encode_utf8_all t)) (sym (left-all c.args.order.now c.args.typed all))
     (Printed-prefix_of_page _ _ _ c.close_sessions.new.page _ _
     (Printed-written _ _ _ (c.print_pages.new.page ++ closing) c.close_sessions.new.page _ _
     (Printed-longer _ _ c.print_pages.new.page _ closing (c.print_pages.new.page ++ closing) refl
     c.in_ok-print_pages.ensures.ok)
     (rw c.in_ok-print_pages.ensures.sessions at c.in_ok-close_sessions.ensures.ok))
-    c.in_err-print-2.ensures.prefix))
+    c.in_err-print_through.ensures.prefix))
     (omega (
       arith,
       c.in_ok-print_pages.ensures.counted,
       c.in_ok-close_sessions.ensures.counted,
-      c.in_err-print-2.ensures.failed,
+      c.in_err-print_through.ensures.failed,
     ))
 
 pub returns-clause-leaves : goal.returns-clause-leaves
@@ -80,11 +80,11 @@ returns-clause-leaves g c =
     let all : c.args.typed.whole ≡ true = sym c.in_ok-print_pages.ensures.whole ∙ c.if-not-typed.false in
     let closing = closing_lines c.args.typed.sessions.entries in
     pages-whole c.args.order.now c.args.typed all
-    (subst (λ t. Appends (g.O.Outside.written c.args.out.now) (g.O.Outside.written c.print-2.new.out)
+    (subst (λ t. Appends (g.O.Outside.written c.args.out.now) (g.O.Outside.written c.print_through.new.out)
     (encode_utf8_all t)) (sym (left-all c.args.order.now c.args.typed all))
     (Printed-whole _ _ _ c.close_sessions.new.page _
     (Printed-written _ _ _ (c.print_pages.new.page ++ closing) c.close_sessions.new.page _ _
     (Printed-longer _ _ c.print_pages.new.page _ closing (c.print_pages.new.page ++ closing) refl
     c.in_ok-print_pages.ensures.ok)
     (rw c.in_ok-print_pages.ensures.sessions at c.in_ok-close_sessions.ensures.ok))
-    c.in_ok-print-2.ensures.whole))
+    c.in_ok-print_through.ensures.whole))
