@@ -1,42 +1,30 @@
 ghost use Rattle.std.specs.Prelude.{◌≡◌, true};
 ghost use Rattle.numeric_entries.specs.Numbers.{are_numbers};
 
-use crate::distinct::distinct;
+use crate::making::{distinct_cands, text};
 use candidate_state::{
     BothFound, CandsDo, Found, Picking, Shown, ShownList, press_cands, shown_numbers, shown_plain,
 };
 use expectations::{same, same_at};
 use numeric_entries::number_key;
-use skk_calls::{Cand, Cands, Part, RowKey};
+use skk_calls::{Part, RowKey};
 use skk_text::{Copies, Notice, Text, Texts, read_keys};
 use std::alloc::Global;
 use std::process::Abort;
 
-const NUMBERS: &str = "一/ 二/ 三/ 四/ 五/ 六/ 七/ 八/ 九/ 十/ 百/ 千/";
+static NUMBERS: &str = "一,二,三,四,五,六,七,八,九,十,百,千";
 
-// The text of a string.
-fn text(rt: &impl Abort, alloc: Global, content: &str) -> Text {
-    Text::of(String::from_str(alloc, content).expect(rt, "memory"))
-}
-
-// What is found of a reading: the first of these words, each with a `/` and its note behind it.
-fn found(rt: &impl Abort, alloc: Global, reading: Text, words: &str, count: usize) -> Found {
-    let mut cands = Cands::new(alloc);
-    for entry in words.split_whitespace().take(count) {
-        let (word, note) = entry.split_once('/').expect(rt, "no `/`");
-        cands
-            .push(Cand::new(text(rt, alloc, word), text(rt, alloc, note)).expect(rt, "a candidate"))
-            .expect(rt, "memory");
-    }
+// What is found of a reading: the first so many candidates of a list.
+fn found(rt: &impl Abort, alloc: Global, reading: Text, list: &str, count: usize) -> Found {
     Found {
         key: RowKey::new(Part::Nasi, reading).expect(rt, "a key"),
-        cands: distinct(alloc, cands).expect(rt, "memory"),
+        cands: distinct_cands(rt, alloc, list, count),
     }
 }
 
-// The candidates that are shown for the first of these words.
-fn shown_list(rt: &impl Abort, alloc: Global, words: &str, count: usize) -> ShownList {
-    let found = found(rt, alloc, text(rt, alloc, "すう"), words, count);
+// The candidates that are shown of the first so many of a list.
+fn shown_list(rt: &impl Abort, alloc: Global, list: &str, count: usize) -> ShownList {
+    let found = found(rt, alloc, text(rt, alloc, "すう"), list, count);
     shown_plain(found)
 }
 
@@ -118,7 +106,7 @@ fn expect_shown<R: Abort>(rt: &R, shown: &Shown, row: &ShownRow) {
 #[test]
 fn the_first_of_each_word_is_shown(rt: HostRuntime) {
     let alloc = rt.alloc();
-    let list = shown_list(&rt, alloc, "幹事/宴会の 漢字/ 幹事/x", 3);
+    let list = shown_list(&rt, alloc, "幹事;宴会の,漢字,幹事;x", 3);
     assert_eq!(rt; list.len(), 2);
     expect_shown(&rt, &list.at(0), &("すう", "幹事", "幹事", "宴会の"));
     expect_shown(&rt, &list.at(1), &("すう", "漢字", "漢字", ""));
@@ -149,8 +137,8 @@ fn list_of_both<R: Abort>(rt: &R, alloc: Global) -> ShownList {
         .expect(rt, "no number");
     let (key, numbers) = number_key.into_parts();
     let firsts = numbers.copy(alloc).expect(rt, "memory");
-    let plain = found(rt, alloc, reading, "九年/ 9年/数字", 2);
-    let numbered = found(rt, alloc, key, "#0年/ #1年/ #3年/漢字 #4/#4", 4);
+    let plain = found(rt, alloc, reading, "九年,9年;数字", 2);
+    let numbered = found(rt, alloc, key, "#0年,#1年,#3年;漢字,#4;#4", 4);
     shown_both(rt, alloc, BothFound { plain, numbered }, &numbers, &firsts)
 }
 

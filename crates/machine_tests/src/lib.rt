@@ -8,7 +8,7 @@
 #[cfg(test)]
 mod candidates;
 #[cfg(test)]
-mod distinct;
+mod making;
 #[cfg(test)]
 mod numbers;
 #[cfg(test)]

@@ -1,16 +1,12 @@
 ghost use Rattle.std.specs.Prelude.{◌≡◌, true};
 ghost use Rattle.numeric_entries.specs.Numbers.{are_numbers};
 
+use crate::making::text;
 use expectations::same;
 use numeric_entries::{NumberKey, asks_lookup, fill, number_key};
 use skk_text::{Text, Texts};
 use std::alloc::Global;
 use std::process::Abort;
-
-// The text of a string.
-fn text(rt: &impl Abort, alloc: Global, content: &str) -> Text {
-    Text::of(String::from_str(alloc, content).expect(rt, "memory"))
-}
 
 // The words of a string.
 fn words(rt: &impl Abort, alloc: Global, content: &str) -> Texts {

@@ -1,3 +1,4 @@
+use crate::making::name_of;
 use expectations::{same, same_at};
 use kana_input::{Plain, PlainThen, press_plain};
 use romaji_rules::Rules;
@@ -7,7 +8,7 @@ use std::process::Abort;
 
 // What is typed in hiragana mode; `=`; and then all that is inserted, what waits, the mode, and
 // what the last key does besides.
-const CASES: &str = "
+static CASES: &str = "
 kan=か:n:Hira:Stay kana=かな::Hira:Stay kany=か:ny:Hira:Stay kan1=かん1::Hira:Stay kanq=かん::Kata:Stay
 qkan<cj>=カン::Kata:Stay zl=→::Hira:Stay kal=か::Ascii:Stay laA/=aA/::Ascii:Stay La=ａ::Wide:Stay
 La<cj>=ａ::Hira:Stay kanQ=かん::Hira:OpenReading(None) n/=ん::Hira:OpenAbbrev kanK=かん::Hira:OpenReading(Some(107))
@@ -26,10 +27,27 @@ fn outcome_of(rt: &impl Abort, alloc: Global, rules: &Rules, keys: &str) -> Stri
         inserted.push_str(done.insert.as_str()).expect(rt, "memory");
         then = done.then;
     }
-    let inserted = inserted.as_str();
-    let pending = plain.pending.as_str();
-    let mode = plain.mode;
-    format!(in alloc; "{inserted}:{pending}:{mode:?}:{then:?}").expect(rt, "memory")
+    outcome_text(rt, alloc, &plain, inserted.as_str(), then)
+}
+
+// An outcome, as the cases have it.
+fn outcome_text(
+    rt: &impl Abort,
+    alloc: Global,
+    plain: &Plain,
+    inserted: &str,
+    then: PlainThen,
+) -> String {
+    let mode = name_of(rt, alloc, plain.mode);
+    let then = name_of(rt, alloc, then);
+    [
+        inserted,
+        plain.pending.as_str(),
+        mode.as_str(),
+        then.as_str(),
+    ]
+    .join(alloc, ":")
+    .expect(rt, "memory")
 }
 
 #[test]

@@ -1,18 +1,16 @@
-ghost use Rattle.std.specs.Prelude.{◌≡◌, ◌≢◌, [], true};
-ghost use Rattle.std.specs.List.{list_all};
-ghost use Rattle.skk_calls.specs.Dictionary.{is_plain_reading};
+ghost use Rattle.std.specs.Prelude.{◌≢◌, []};
 
+use crate::making::{listed_readings, name_of};
 use expectations::{same, same_at};
 use reading_state::{AfterConfirm, Reading, ReadingDo, ReadingThen, press_reading};
 use romaji_rules::Rules;
-use skk_calls::{Part, RowKey};
-use skk_text::{Copies, Key, Notice, Text, Texts, read_keys};
+use skk_text::{Key, Notice, Texts, read_keys};
 use std::alloc::Global;
 use std::process::Abort;
 
 // What is typed into a new reading, where `_` is the space; `=`; the reading, with `*` before the kana of an okurigana
 // that was begun; `:` and what is pending; and then what the last key tells, and what it does.
-const CASES: &str = "
+static CASES: &str = "
 kanj=かん:j:Empty:stay kanji=かんじ::Empty:stay a1;-=あ1;ー::Empty:stay ;=::Reading:stay
 Kanji_=かんじ::Empty:convert kan_=かん::Empty:convert _=::Empty:drop k_=::Empty:drop
 ugoK_=うご::Empty:stay YoN_=よ*ん::Empty:convert
@@ -51,15 +49,24 @@ fn word_of(then: ReadingThen) -> &'static str {
 
 // A reading and what is done with it, as the cases have it.
 fn case_text(rt: &impl Abort, alloc: Global, reading: &Reading, done: ReadingDo) -> String {
-    let text = reading.text().as_str();
-    let pending = reading.pending().as_str();
-    let then = word_of(done.then);
-    let notice = done.notice;
-    let told = match reading.begun_text() {
-        Some(kana) => format!(in alloc; "{text}*{}:{pending}:{notice:?}:{then}", kana.as_str()),
-        None => format!(in alloc; "{text}:{pending}:{notice:?}:{then}"),
+    let (star, kana) = match reading.begun_text() {
+        Some(kana) => ("*", kana.as_str()),
+        None => ("", ""),
     };
-    told.expect(rt, "memory")
+    let notice = name_of(rt, alloc, done.notice);
+    [
+        reading.text().as_str(),
+        star,
+        kana,
+        ":",
+        reading.pending().as_str(),
+        ":",
+        notice.as_str(),
+        ":",
+        word_of(done.then),
+    ]
+    .concat(alloc)
+    .expect(rt, "memory")
 }
 
 // Presses keys, and gives what the last one gives.
@@ -118,43 +125,15 @@ fn outcome_of<R: Abort>(
     case_text(rt, alloc, &reading, done)
 }
 
-// Completes a reading.
+// Completes か.
 fn complete<R: Abort>(rt: &R, alloc: Global, reading: &mut Reading) {
-    let notice = reading
-        .complete(alloc, completions(rt, alloc))
-        .expect(rt, "memory");
+    let readings = listed_readings(rt, alloc, "かん,かんじ,かき");
+    let notice = reading.complete(alloc, readings).expect(rt, "memory");
     same(notice, Notice::Empty).expect(rt, "as wanted");
 }
 
-// The readings かん, かんじ and かき, which complete か.
-fn completions(rt: &impl Abort, alloc: Global) -> Texts
-    ensures { list_all is_plain_reading result ≡ true }
-{
-    let mut readings = Texts::new(alloc);
-    readings
-        .push(plain_reading(rt, alloc, "かん"))
-        .expect(rt, "memory");
-    readings
-        .push(plain_reading(rt, alloc, "かんじ"))
-        .expect(rt, "memory");
-    readings
-        .push(plain_reading(rt, alloc, "かき"))
-        .expect(rt, "memory");
-    readings
-}
-
-// A valid reading without okurigana.
-fn plain_reading(rt: &impl Abort, alloc: Global, text: &str) -> Text
-    ensures { is_plain_reading result ≡ true }
-{
-    let mut reading = Text::new(alloc);
-    reading.push_str(text).expect(rt, "memory");
-    let key = RowKey::new(Part::Nasi, reading).expect(rt, "a key");
-    key.reading().copy(alloc).expect(rt, "memory")
-}
-
 // What is typed where か was completed, and the reading after it.
-const COMPLETED: &str = "
+static COMPLETED: &str = "
 .=かんじ::Empty:stay .<tab>=かき::Empty:stay ..<tab>=かき::NoMore:stay ,=かん::NoMore:stay .,=かん::Empty:stay
 .n.=かんじん。::Empty:stay .,n=かん:n:Empty:stay ._=かんじ::Empty:convert .<undo>=かんじ::NoUndo:stay
 ..<bs>,=か、::Empty:stay .Ku=かんじ*く::Empty:convert .<cg>=かんじ::Empty:drop
@@ -180,20 +159,15 @@ fn notice_of_none(rt: &impl Abort, alloc: Global) -> Notice {
         .expect(rt, "memory")
 }
 
-// The reading after keys.
-fn reading_after(rt: &impl Abort, alloc: Global, reading: Reading, keys: &str) -> Reading {
-    let rules = Rules::standard(alloc).expect(rt, "memory");
-    let mut reading = reading;
-    press_keys(rt, alloc, &mut reading, &rules, keys);
-    reading
-}
-
 // The part and the text of the key that a reading is converted by.
 fn key_of(rt: &impl Abort, alloc: Global, reading: &Reading) -> String
     requires { reading.now.text ≢ [] }
 {
     let key = reading.key(alloc).expect(rt, "memory");
-    format!(in alloc; "{:?} {}", key.part(), key.reading().as_str()).expect(rt, "memory")
+    let part = name_of(rt, alloc, key.part());
+    [part.as_str(), key.reading().as_str()]
+        .join(alloc, " ")
+        .expect(rt, "memory")
 }
 
 // The kana of the okurigana that a reading is converted by, or `-` where there is none.
@@ -206,25 +180,31 @@ fn okuri_of(rt: &impl Abort, alloc: Global, reading: &Reading) -> String {
     String::from_str(alloc, kana).expect(rt, "memory")
 }
 
-// Tells the key and the okurigana that a reading is converted by.
-fn expect_key<R: Abort>(rt: &R, alloc: Global, reading: &Reading, key: &str, okuri: &str) {
+// Tells the key and the okurigana that a reading is converted by behind these keys.
+fn expect_key<R: Abort>(
+    rt: &R,
+    alloc: Global,
+    reading: &mut Reading,
+    keys: &str,
+    wanted: (&str, &str),
+) {
+    let rules = Rules::standard(alloc).expect(rt, "memory");
+    press_keys(rt, alloc, reading, &rules, keys);
     assert!(rt; reading.text().byte_len() > 0);
     let found = (key_of(rt, alloc, reading), okuri_of(rt, alloc, reading));
-    same((found.0.as_str(), found.1.as_str()), (key, okuri)).expect(rt, "as wanted");
+    same((found.0.as_str(), found.1.as_str()), wanted).expect(rt, "as wanted");
 }
 
 // A reading is converted by its text, with the letter of an okurigana.
 #[test]
 fn readings_are_converted_by_their_keys(rt: HostRuntime) {
-    let alloc = rt.alloc();
-    let reading = reading_after(&rt, alloc, Reading::new(alloc), "ugoKu");
-    expect_key(&rt, alloc, &reading, "Ari うごk", "く")
+    let mut reading = Reading::new(rt.alloc());
+    expect_key(&rt, rt.alloc(), &mut reading, "ugoKu", ("Ari うごk", "く"))
 }
 
 // An abbreviation is converted as it was typed.
 #[test]
 fn abbreviations_are_converted_by_themselves(rt: HostRuntime) {
-    let alloc = rt.alloc();
-    let reading = reading_after(&rt, alloc, Reading::abbrev(alloc), "Vim9_");
-    expect_key(&rt, alloc, &reading, "Nasi Vim9", "-")
+    let mut reading = Reading::abbrev(rt.alloc());
+    expect_key(&rt, rt.alloc(), &mut reading, "Vim9_", ("Nasi Vim9", "-"))
 }

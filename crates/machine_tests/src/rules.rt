@@ -1,12 +1,13 @@
+use crate::making::text;
 use expectations::{same, same_at};
-use romaji_rules::{Kana, Out, Pending, RuleFault, Rules};
-use skk_text::{Copies, Text, TextFault};
+use romaji_rules::{Kana, Out, OutRef, Pending, RuleFault, Rules};
+use skk_text::{Text, TextFault};
 use std::alloc::Global;
 use std::process::Abort;
 
 // Each input of the standard table, and each followed by `a`: what is typed, `=`, what comes out in
 // hiragana, `:`, and what is pending then.
-const CASES: &str = "
+static CASES: &str = "
 a=あ: aa=ああ: i=い: ia=いあ: u=う: ua=うあ: e=え: ea=えあ: o=お: oa=おあ:
 ka=か: kaa=かあ: ki=き: kia=きあ: ku=く: kua=くあ: ke=け: kea=けあ: ko=こ: koa=こあ:
 sa=さ: saa=さあ: si=し: sia=しあ: su=す: sua=すあ: se=せ: sea=せあ: so=そ: soa=そあ:
@@ -57,18 +58,22 @@ rr=っ:r rra=っら: ss=っ:s ssa=っさ: tt=っ:t tta=った: vv=っ:v vva=っ�
 xx=っ:x xxa=っぁ: yy=っ:y yya=っや: zz=っ:z zza=っざ:
 ";
 
-// What comes out of the letters that are typed, in hiragana, and what is pending behind them.
-fn output_of(rt: &impl Abort, alloc: Global, rules: &Rules, letters: &str) -> (Text, Pending) {
+// What comes out of the letters that are typed, in hiragana, `:`, and what is pending behind them.
+fn output_of(rt: &impl Abort, alloc: Global, rules: &Rules, letters: &str) -> String {
     let mut pending = Pending::new();
-    let mut hira = Text::new(alloc);
+    let mut hira = String::new(alloc);
     for c in letters.bytes() {
-        let out = rules
-            .feed(&mut pending, c)
-            .text(alloc, Kana::Hiragana)
-            .expect(rt, "memory");
+        let out = text_of(rt, alloc, rules.feed(&mut pending, c), Kana::Hiragana);
         hira.push_str(out.as_str()).expect(rt, "memory");
     }
-    (hira, pending)
+    [hira.as_str(), pending.as_str()]
+        .join(alloc, ":")
+        .expect(rt, "memory")
+}
+
+// The text of an output.
+fn text_of(rt: &impl Abort, alloc: Global, out: OutRef<'_>, kana: Kana) -> Text {
+    out.text(alloc, kana).expect(rt, "memory")
 }
 
 #[test]
@@ -83,9 +88,8 @@ fn reads_the_standard_table(rt: HostRuntime) {
 
 fn expect_case<R: Abort>(rt: &R, alloc: Global, rules: &Rules, case: &str) {
     let (letters, wanted) = case.split_once('=').expect(rt, "no `=`");
-    let wanted = wanted.split_once(':').expect(rt, "no `:`");
-    let (out, left) = output_of(rt, alloc, rules, letters);
-    same_at((out.as_str(), left.as_str()), wanted, letters).expect(rt, "as wanted");
+    let output = output_of(rt, alloc, rules, letters);
+    same_at(output.as_str(), wanted, letters).expect(rt, "as wanted");
 }
 
 #[test]
@@ -94,54 +98,40 @@ fn letters_go_on_or_begin_anew(rt: HostRuntime) {
     let mut pending = Pending::of(b"n");
     assert!(rt; rules.extend(&mut pending, b'y').is_some());
     same(pending.as_str(), "ny").expect(&rt, "as wanted");
-    assert!(rt; !rules.goes_on(&pending, b'q'));
-    let out = rules.feed_anew(&mut pending, b'q');
-    same(
-        out.text(rt.alloc(), Kana::Hiragana)
-            .expect(&rt, "memory")
-            .as_str(),
-        "q",
-    )
-    .expect(&rt, "as wanted");
+    expect_anew(&rt, rt.alloc(), &rules, &mut pending);
     assert!(rt; pending.is_empty());
+}
+
+// A `q` does not go on with what is pending, and comes out by itself.
+fn expect_anew<R: Abort>(rt: &R, alloc: Global, rules: &Rules, pending: &mut Pending) {
+    assert!(rt; !rules.goes_on(pending, b'q'));
+    let out = text_of(rt, alloc, rules.feed_anew(pending, b'q'), Kana::Hiragana);
+    same(out.as_str(), "q").expect(rt, "as wanted");
 }
 
 #[test]
 fn what_is_pending_comes_out(rt: HostRuntime) {
     let rules = Rules::standard(rt.alloc()).expect(&rt, "memory");
+    for (kana, wanted) in [(Kana::Hiragana, "ん"), (Kana::Katakana, "ン")] {
+        expect_flushed(&rt, rt.alloc(), &rules, kana, wanted);
+    }
+}
+
+// Tells what comes out of `ny` whose last letter is deleted.
+fn expect_flushed<R: Abort>(rt: &R, alloc: Global, rules: &Rules, kana: Kana, wanted: &str) {
     let mut pending = Pending::of(b"ny");
     pending.delete_last();
-    let out = rules.flush(&mut pending);
-    same(
-        out.text(rt.alloc(), Kana::Hiragana)
-            .expect(&rt, "memory")
-            .as_str(),
-        "ん",
-    )
-    .expect(&rt, "as wanted");
-    same(
-        out.text(rt.alloc(), Kana::Katakana)
-            .expect(&rt, "memory")
-            .as_str(),
-        "ン",
-    )
-    .expect(&rt, "as wanted");
+    let out = text_of(rt, alloc, rules.flush(&mut pending), kana);
+    same(out.as_str(), wanted).expect(rt, "as wanted");
 }
 
 #[test]
 fn outputs_are_in_both_kana(rt: HostRuntime) {
-    let mut hira = Text::new(rt.alloc());
-    hira.push('な').expect(&rt, "memory");
-    let out = Out::of_hiragana(rt.alloc(), hira).expect(&rt, "memory");
+    let out = Out::of_hiragana(rt.alloc(), text(&rt, rt.alloc(), "な")).expect(&rt, "memory");
     same(out.in_kana(Kana::Hiragana).as_str(), "な").expect(&rt, "as wanted");
     same(out.in_kana(Kana::Katakana).as_str(), "ナ").expect(&rt, "as wanted");
     let nothing = Out::nothing(rt.alloc());
     assert!(rt; nothing.in_kana(Kana::Katakana).is_empty());
-}
-
-// The fault of a file, if it has one.
-fn fault_of(alloc: Global, file: &str) -> Option<RuleFault> {
-    Rules::read(alloc, file.as_bytes()).err()
 }
 
 // A file, and its fault, if it has one.
@@ -193,9 +183,19 @@ static RULE_FILES: &[(&str, Option<RuleFault>)] = &[
 #[test]
 fn rule_files_are_read_or_refused(rt: HostRuntime) {
     for (file, fault) in RULE_FILES {
-        let told = fault_of(rt.alloc(), file);
-        assert!(rt; told == *fault, "{file}");
+        expect_fault(&rt, rt.alloc(), file.as_bytes(), *fault, file);
     }
+}
+
+// Tells the fault of a file, if it has one.
+fn expect_fault<R: Abort>(
+    rt: &R,
+    alloc: Global,
+    file: &[u8],
+    fault: Option<RuleFault>,
+    case: &str,
+) {
+    same_at(Rules::read(alloc, file).err(), fault, case).expect(rt, "as wanted");
 }
 
 // A file of so many rules, of which the 4,097th has the input of the first.
@@ -214,12 +214,13 @@ fn many_rules(rt: &impl Abort, alloc: Global, count: usize) -> Text {
 // Tells the fault of a file of so many rules, if it has one.
 fn expect_many<R: Abort>(rt: &R, alloc: Global, count: usize, fault: Option<RuleFault>) {
     let file = many_rules(rt, alloc, count);
-    expect_fault(rt, alloc, file.as_str().as_bytes(), fault);
+    expect_fault(rt, alloc, file.as_str().as_bytes(), fault, "many rules");
 }
 
-// Tells the fault of a file, if it has one.
-fn expect_fault<R: Abort>(rt: &R, alloc: Global, file: &[u8], fault: Option<RuleFault>) {
-    assert!(rt; Rules::read(alloc, file).err() == fault);
+// Tells the fault of so many bytes of a comment, if they have one.
+fn expect_long<R: Abort>(rt: &R, alloc: Global, bytes: usize, fault: Option<RuleFault>) {
+    let file = vec![in alloc; b'#'; bytes].expect(rt, "memory");
+    expect_fault(rt, alloc, &file, fault, "a long comment");
 }
 
 #[test]
@@ -231,12 +232,9 @@ fn rule_files_have_limits(rt: HostRuntime) {
         4097,
         Some(RuleFault::BadLine { line: 4097 }),
     );
-    let mut bytes = Vec::new(rt.alloc());
-    bytes.resize(1_048_576, b'#').expect(&rt, "memory");
-    expect_fault(&rt, rt.alloc(), &bytes, None);
-    bytes.push(b'#').expect(&rt, "memory");
+    expect_long(&rt, rt.alloc(), 1_048_576, None);
     let long = TextFault::TooLong { bytes: 1_048_577 };
-    expect_fault(&rt, rt.alloc(), &bytes, Some(RuleFault::NoText(long)));
-    let invalid = TextFault::NotUtf8 { at: 1 };
-    expect_fault(&rt, rt.alloc(), b"#\xFFa", Some(RuleFault::NoText(invalid)));
+    expect_long(&rt, rt.alloc(), 1_048_577, Some(RuleFault::NoText(long)));
+    let invalid = RuleFault::NoText(TextFault::NotUtf8 { at: 1 });
+    expect_fault(&rt, rt.alloc(), b"#\xFFa", Some(invalid), "no text");
 }

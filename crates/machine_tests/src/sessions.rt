@@ -1,47 +1,33 @@
-ghost use Rattle.std.specs.Prelude.{◌≡◌, true, ℕ, List, Option, IfOk};
-ghost use Rattle.std.specs.List.{list_all};
-ghost use Rattle.skk_calls.specs.Dictionary.{is_plain_reading, may_answer};
+ghost use Rattle.std.specs.Prelude.{◌≡◌, true, ℕ, List, Option};
+ghost use Rattle.skk_calls.specs.Dictionary.{may_answer};
 ghost use Rattle.skk_calls.specs.Rows.{Cand, Learned, RowKey};
 ghost use Rattle.skk_calls.specs.declared.call.Call.TheVariants as calls;
 
-use crate::distinct::distinct;
+use crate::making::{distinct_cands, listed_readings};
 use expectations::{same, same_at};
 use romaji_rules::Rules;
 use session_machine::Session;
 use skk_calls::{
-    Answer, Call, Caller, Cand, Cands, DialogTrace, DistinctCands, Learned, Part, Refusal, Reply,
-    RowKey,
+    Answer, Call, Caller, DialogTrace, DistinctCands, Learned, Refusal, Reply, RowKey,
 };
-use skk_text::{Copies, Keys, Memory, Mode, Text, Texts, read_keys};
+use skk_text::{Copies, Keys, Mode, Text, read_keys};
 use std::alloc::Global;
 use std::process::Abort;
 
-// The candidates of every key, each with its note.
-static FOUND: &[(&str, &str)] = &[
-    ("甲", ""),
-    ("乙", "二"),
-    ("丙", ""),
-    ("丁", ""),
-    ("戊", ""),
-    ("己", ""),
-    ("庚", ""),
-    ("辛", ""),
-    ("壬", ""),
-    ("癸", ""),
-    ("子", ""),
-    ("丑", ""),
-];
+// The candidates of every key, each with its note behind a `;`.
+static FOUND: &str = "甲,乙;二,丙,丁,戊,己,庚,辛,壬,癸,子,丑";
 
 // A dictionary that answers each call by the next of these words, which a space stands between: a look-up that has a
 // number for its word finds the first so many of the candidates above, one that has `long` a long candidate, and every
 // other the words between its commas, as a completion finds the readings between them.
 #[derive(Drop)]
-struct Finder<'a> {
+struct Finder<'a, R: Abort> {
+    rt: &'a R,
     words: &'a str,
     said: DialogTrace,
 }
 
-impl Caller for Finder<'_> {
+impl<R: Abort> Caller for Finder<'_, R> {
     ghost number = { λ _. 7 };
 
     ghost said = { λ caller. caller.said };
@@ -53,79 +39,68 @@ impl Caller for Finder<'_> {
     fn call(&mut self, alloc: Global, call: &Call) -> Answer {
         let (word, words) = self.words.split_once(' ').unwrap_or((self.words, ""));
         self.words = words;
-        let answer = answer_by(alloc, word, call);
+        let answer = answer_by(self.rt, alloc, word, call);
         self.said.note(call, &answer);
         answer
     }
 }
 
 // What a call is answered by a word.
-fn answer_by(alloc: Global, word: &str, call: &Call) -> Answer
+fn answer_by(rt: &impl Abort, alloc: Global, word: &str, call: &Call) -> Answer
     ensures { may_answer call.now result ≡ true }
 {
     match call {
-        Call::Lookup { .. } => lookup_answer(alloc, word),
-        Call::Complete { .. } => completion_answer(alloc, word),
-        Call::Learn { book, key, .. } => learning_answer(alloc, word, *book, key),
+        Call::Lookup { .. } => lookup_answer(rt, alloc, word),
+        Call::Complete { .. } => completion_answer(rt, alloc, word),
+        Call::Learn { book, key, .. } => learning_answer(rt, alloc, word, *book, key),
         Call::Purge { .. } => purge_answer(word),
         Call::Unlearn { .. } => unlearning_answer(word),
     }
 }
 
 // What a look-up is answered.
-fn lookup_answer(alloc: Global, word: &str) -> Answer
+fn lookup_answer(rt: &impl Abort, alloc: Global, word: &str) -> Answer
     ensures { (who : ℕ) (key : RowKey) (okuri : Option (List ℕ))
         → may_answer (calls.Lookup who key okuri) result ≡ true }
 {
-    match distinct_cands(alloc, word) {
-        Ok(cands) => Answer::Done(Reply::Found(cands)),
-        Err(_) => Answer::Refused(Refusal::Memory),
+    if word == "memory" {
+        return Answer::Refused(Refusal::Memory);
     }
-}
-
-// The candidates that a look-up finds, the first of each word.
-fn distinct_cands(alloc: Global, word: &str) -> Result<DistinctCands, Memory> {
-    let cands = cands_by(alloc, word)?;
-    distinct(alloc, cands)
+    Answer::Done(Reply::Found(cands_by(rt, alloc, word)))
 }
 
 // The candidates that a look-up finds by a word.
-fn cands_by(alloc: Global, word: &str) -> Result<Cands, Memory> {
+fn cands_by(rt: &impl Abort, alloc: Global, word: &str) -> DistinctCands {
     if let Ok(count) = word.parse() {
-        return first_cands(alloc, count);
+        return distinct_cands(rt, alloc, FOUND, count);
     }
-    match word {
-        "long" => long_cands(alloc),
-        "memory" => Err(Memory),
-        _ => listed_cands(alloc, word),
+    if word == "long" {
+        let word = "x".repeat(alloc, LONG).expect(rt, "memory");
+        return distinct_cands(rt, alloc, word.as_str(), 1);
     }
+    distinct_cands(rt, alloc, word, usize::MAX)
 }
 
 // What a completion is answered.
-fn completion_answer(alloc: Global, word: &str) -> Answer
+fn completion_answer(rt: &impl Abort, alloc: Global, word: &str) -> Answer
     ensures { (who : ℕ) (prefix : List ℕ) → may_answer (calls.Complete who prefix) result ≡ true }
 {
     if word == "memory" {
         return Answer::Refused(Refusal::Memory);
     }
-    match listed_readings(alloc, word) {
-        Ok(readings) => Answer::Done(Reply::Readings(readings)),
-        Err(_) => Answer::Refused(Refusal::Memory),
-    }
+    Answer::Done(Reply::Readings(listed_readings(rt, alloc, word)))
 }
 
 // What a learning is answered.
-fn learning_answer(alloc: Global, word: &str, book: u16, key: &RowKey) -> Answer
+fn learning_answer(rt: &impl Abort, alloc: Global, word: &str, book: u16, key: &RowKey) -> Answer
     ensures { (book : ℕ) (key : RowKey) (okuri : Option (List ℕ)) (cand : Cand)
         → may_answer (calls.Learn book key okuri cand) result ≡ true }
 {
     if word != "learned" {
         return other_answer(word);
     }
-    match key.copy(alloc) {
-        Ok(key) => Answer::Done(Reply::Learned(Learned::new(book, key, 1, None))),
-        Err(_) => Answer::Refused(Refusal::Memory),
-    }
+    let key = key.copy(alloc).expect(rt, "memory");
+    Answer::Done(Reply::Learned(Learned::new(book, key, 1, None)))
 }
 
 // What a purge is answered.
@@ -176,60 +151,11 @@ fn refusal_by(word: &str) -> Refusal {
     }
 }
 
-// The first so many candidates.
-fn first_cands(alloc: Global, count: usize) -> Result<Cands, Memory> {
-    let mut cands = Cands::new(alloc);
-    for (word, note) in FOUND.iter().take(count) {
-        let word = Text::of(String::from_str(alloc, word)?);
-        let note = Text::of(String::from_str(alloc, note)?);
-        if let Ok(cand) = Cand::new(word, note) {
-            cands.push(cand)?;
-        }
-    }
-    Ok(cands)
-}
-
 // How many bytes the word has that `long` finds.
 const LONG: usize = 2_048;
 
 // How many of them a text has just room for.
 const MANY: usize = 512;
-
-// A long candidate.
-fn long_cands(alloc: Global) -> Result<Cands, Memory> {
-    let mut cands = Cands::new(alloc);
-    let word = Text::of("x".repeat(alloc, LONG)?);
-    if let Ok(cand) = Cand::new(word, Text::new(alloc)) {
-        cands.push(cand)?;
-    }
-    Ok(cands)
-}
-
-// The candidates of the words that commas stand between, without notes.
-fn listed_cands(alloc: Global, words: &str) -> Result<Cands, Memory> {
-    let mut cands = Cands::new(alloc);
-    for word in words.split(',') {
-        let word = Text::of(String::from_str(alloc, word)?);
-        if let Ok(cand) = Cand::new(word, Text::new(alloc)) {
-            cands.push(cand)?;
-        }
-    }
-    Ok(cands)
-}
-
-// The readings that commas stand between.
-fn listed_readings(alloc: Global, words: &str) -> Result<Texts, Memory>
-    ensures { IfOk result (λ readings. list_all is_plain_reading readings ≡ true) }
-{
-    let mut readings = Texts::new(alloc);
-    for word in words.split(',') {
-        let reading = Text::of(String::from_str(alloc, word)?);
-        if let Ok(key) = RowKey::new(Part::Nasi, reading) {
-            readings.push(key.reading().copy(alloc)?)?;
-        }
-    }
-    Ok(readings)
-}
 
 // The session after the keys, where `_` is the space. It begins in hiragana mode,
 // and its calls are answered by these words.
@@ -247,7 +173,7 @@ fn keys_of(rt: &impl Abort, alloc: Global, text: &str) -> Keys {
 
 fn session_by(rt: &impl Abort, alloc: Global, rules: &Rules, keys: &Keys, words: &str) -> Session {
     let said = DialogTrace::new(alloc).expect(rt, "memory");
-    let mut caller = Finder { words, said };
+    let mut caller = Finder { rt, words, said };
     Session::new(alloc, 7, 0)
         .play(alloc, rules, keys.as_slice(), &mut caller)
         .expect(rt, "memory")
@@ -255,7 +181,7 @@ fn session_by(rt: &impl Abort, alloc: Global, rules: &Rules, keys: &Keys, words:
 
 // What is typed; the words that its calls are answered by; `=`; and the display and the notice behind it. A call for
 // which no word is left finds nothing, or is refused for want of memory.
-const CASES: &str = "
+static CASES: &str = "
 kitte =きって|
 kya<bs> =き|
 <undo> =|no-undo
@@ -493,8 +419,9 @@ A_I_U_E_O_A_I_Ka_lx<ret><ret> 0 0 0 0 0 0 0 0 learned disk=[[[[[[辞書登録]]]
 fn case_text(rt: &impl Abort, alloc: Global, session: &Session) -> String {
     let display = session.display(alloc).expect(rt, "memory");
     let notice = session.notice(alloc).expect(rt, "memory");
-    let display = display.as_str();
-    format!(in alloc; "{display}|{}", notice.as_str()).expect(rt, "memory")
+    [display.as_str(), notice.as_str()]
+        .join(alloc, "|")
+        .expect(rt, "memory")
 }
 
 #[test]
@@ -528,11 +455,16 @@ fn session_after_long(
     keys: &str,
     words: &str,
 ) -> Session {
-    let choices = "Ka_<cj>".repeat(alloc, count).expect(rt, "memory");
-    let answers = "long learned ".repeat(alloc, count).expect(rt, "memory");
-    let keys = format!(in alloc; "{}{keys}", choices.as_str()).expect(rt, "memory");
-    let words = format!(in alloc; "{}{words}", answers.as_str()).expect(rt, "memory");
+    let keys = repeated(rt, alloc, "Ka_<cj>", count, keys);
+    let words = repeated(rt, alloc, "long learned ", count, words);
     session_after(rt, alloc, keys.as_str(), words.as_str())
+}
+
+// A text so many times, and this behind it.
+fn repeated(rt: &impl Abort, alloc: Global, unit: &str, count: usize, behind: &str) -> String {
+    let mut text = unit.repeat(alloc, count).expect(rt, "memory");
+    text.push_str(behind).expect(rt, "memory");
+    text
 }
 
 // Choices fit just up to the limit of a text: one more does not, nor does the word of a registration.

@@ -1,42 +1,43 @@
 ghost use Rattle.std.specs.Prelude.{◌≡◌, ◌∷◌, ◌^◌, ◌<◌, [], true};
 ghost use Rattle.skk_outside.specs.Memory.{names_differ};
 
-use crate::making::{bytes, text};
+use crate::making::{bytes, fails, pieces_of, sink, source_of, text};
 use expectations::{same, same_at};
 use skk_outside::{
-    Failed, Gate, HostShelf, Link, Listener, MemLink, MemListener, MemShelf, MemSink, MemSource,
-    Open, PIECE, ReadFault, ReaderSource, Shelf, Sink, Source, WriterSink, read_named_file,
-    read_to_end, write_all,
+    Failed, Gate, HostShelf, Link, Listener, MemLink, MemListener, MemShelf, Open, PIECE,
+    ReadFault, ReaderSource, Shelf, Sink, Source, WriterSink, read_named_file, read_to_end,
+    write_all,
 };
-use skk_text::{Bytes, Memory, Text};
-use std::alloc::{AllocError, Global};
+use skk_text::{Bytes, Text};
+use std::alloc::Global;
 use std::io::{self, ErrorKind, Read, Write};
 use std::process::Abort;
 
 // Three pieces, of which one is empty.
-fn pieces(alloc: Global, fails: Vec<u64>) -> Result<MemSource, AllocError> {
-    let mut pieces = Vec::new(alloc);
-    for piece in ["xyz", "", "w"] {
-        pieces.push(Bytes::of(piece.as_bytes().to_vec(alloc)?))?;
+static PIECES: [&str; 3] = ["xyz", "", "w"];
+
+// What a read into two bytes gives, and the two bytes then, which were 0 before the first read.
+type ShortRead = (Result<usize, Failed>, [u8; 2]);
+
+fn expect_reads<S: Source>(rt: &impl Abort, source: &mut S, reads: &[ShortRead]) {
+    let mut into = [0; 2];
+    for (answer, left) in reads {
+        same(source.read(&mut into), *answer).expect(rt, "as wanted");
+        same(into, *left).expect(rt, "as wanted");
     }
-    Ok(MemSource::new(pieces, fails))
 }
+
+static PIECES_READ: [ShortRead; 3] = [(Ok(2), *b"xy"), (Err(Failed), *b"xy"), (Ok(1), *b"zy")];
 
 #[test]
 fn a_source_in_memory_reads_piece_by_piece(rt: HostRuntime) {
-    let mut source = pieces(rt.alloc(), vec![in rt.alloc(); 2].expect(&rt, "memory")).expect(
-        &rt, "memory",
-    );
-    let mut into = [0; 2];
-    same(source.read(&mut into), Ok(2)).expect(&rt, "as wanted");
-    same(source.read(&mut into), Err(Failed)).expect(&rt, "as wanted");
-    same(source.read(&mut into), Ok(1)).expect(&rt, "as wanted");
-    same(into, *b"zy").expect(&rt, "as wanted");
+    let mut source = source_of(&rt, rt.alloc(), &PIECES, 2);
+    expect_reads(&rt, &mut source, &PIECES_READ);
 }
 
 #[test]
 fn a_sink_in_memory_writes_but_at_calls_that_fail(rt: HostRuntime) {
-    let mut sink = MemSink::new(rt.alloc(), vec![in rt.alloc(); 2].expect(&rt, "memory"));
+    let mut sink = sink(&rt, rt.alloc(), 2);
     same(sink.write(b"xy"), Ok(2)).expect(&rt, "as wanted");
     same(sink.flush(), Err(Failed)).expect(&rt, "as wanted");
     same(write_all(&mut sink, b"zw"), Ok(())).expect(&rt, "as wanted");
@@ -45,35 +46,36 @@ fn a_sink_in_memory_writes_but_at_calls_that_fail(rt: HostRuntime) {
 
 // A link of one piece, whose third call fails.
 fn link(rt: &impl Abort, alloc: Global) -> MemLink {
-    let mut pieces = Vec::new(alloc);
-    pieces.push(bytes(rt, alloc, b"xy")).expect(rt, "memory");
-    MemLink::new(alloc, pieces, vec![in alloc; 3].expect(rt, "memory"))
+    MemLink::new(alloc, pieces_of(rt, alloc, &["xy"]), fails(rt, alloc, 3))
 }
+
+static LINK_READ: [ShortRead; 1] = [(Ok(2), *b"xy")];
+
+static LINK_END: [ShortRead; 1] = [(Ok(0), [0; 2])];
 
 #[test]
 fn a_link_in_memory_is_read_and_written(rt: HostRuntime) {
     let mut link = link(&rt, rt.alloc());
-    let mut into = [0; 2];
-    same(link.read(&mut into), Ok(2)).expect(&rt, "as wanted");
-    same(into, *b"xy").expect(&rt, "as wanted");
+    expect_reads(&rt, &mut link, &LINK_READ);
     same(link.write(b"zw"), Ok(2)).expect(&rt, "as wanted");
     same(link.flush(), Err(Failed)).expect(&rt, "as wanted");
-    same(link.read(&mut into), Ok(0)).expect(&rt, "as wanted");
-    same(link.is_closed(), false).expect(&rt, "as wanted");
-    link.close();
-    same(link.is_closed(), true).expect(&rt, "as wanted");
+    expect_reads(&rt, &mut link, &LINK_END);
+    expect_closing(&rt, &mut link);
     same(link.written(), b"zw".as_slice()).expect(&rt, "as wanted");
+}
+
+// Closes a link, which was open.
+fn expect_closing(rt: &impl Abort, link: &mut MemLink) {
+    same(link.is_closed(), false).expect(rt, "as wanted");
+    link.close();
+    same(link.is_closed(), true).expect(rt, "as wanted");
 }
 
 #[test]
 fn a_listener_in_memory_gives_its_links_and_takes_them_back(rt: HostRuntime) {
-    let mut coming = Vec::new(rt.alloc());
-    coming.push(link(&rt, rt.alloc())).expect(&rt, "memory");
-    let mut net = MemListener::new(
-        rt.alloc(),
-        coming,
-        vec![in rt.alloc(); 2].expect(&rt, "memory"),
-    );
+    let alloc = rt.alloc();
+    let coming = Vec::from_array(alloc, [link(&rt, alloc)]).expect(&rt, "memory");
+    let mut net = MemListener::new(alloc, coming, fails(&rt, alloc, 2));
     same(net.open(1178), Ok(())).expect(&rt, "as wanted");
     same(net.accept().err(), Some(Failed)).expect(&rt, "as wanted");
     if let Some(link) = net.accept().expect(&rt, "memory") {
@@ -85,21 +87,19 @@ fn a_listener_in_memory_gives_its_links_and_takes_them_back(rt: HostRuntime) {
 }
 
 // What is read of the pieces up to a limit.
-fn read_pieces(alloc: Global, limit: usize) -> Result<Bytes, ReadFault>
+fn read_pieces(rt: &impl Abort, alloc: Global, limit: usize) -> Result<Bytes, ReadFault>
     requires { limit < 2 ^ 62 }
 {
-    let mut source = pieces(alloc, Vec::new(alloc))?;
+    let mut source = source_of(rt, alloc, &PIECES, 0);
     read_to_end(alloc, &mut source, limit)
 }
 
 #[test]
 fn a_source_is_read_up_to_the_limit(rt: HostRuntime) {
-    same(
-        read_pieces(rt.alloc(), 4).expect(&rt, "memory").as_slice(),
-        b"xyzw".as_slice(),
-    )
-    .expect(&rt, "as wanted");
-    same(read_pieces(rt.alloc(), 3).err(), Some(ReadFault::TooLong)).expect(&rt, "as wanted");
+    let whole = read_pieces(&rt, rt.alloc(), 4).expect(&rt, "memory");
+    same(whole.as_slice(), b"xyzw".as_slice()).expect(&rt, "as wanted");
+    let fault = read_pieces(&rt, rt.alloc(), 3).err();
+    same(fault, Some(ReadFault::TooLong)).expect(&rt, "as wanted");
 }
 
 // Gives one byte at a time, and fails at its second read.
@@ -128,14 +128,11 @@ fn a_reader_is_a_source(rt: HostRuntime) {
     same(bytes.as_slice(), &[7, 8, 9].as_slice()).expect(&rt, "as wanted");
 }
 
+static HALTING_READ: [ShortRead; 3] = [(Ok(1), [1, 0]), (Err(Failed), [1, 0]), (Ok(1), [3, 0])];
+
 #[test]
 fn a_read_that_fails_may_be_tried_again(rt: HostRuntime) {
-    let mut source = ReaderSource::new(Halting(0));
-    let mut into = [0; 2];
-    same(source.read(&mut into), Ok(1)).expect(&rt, "as wanted");
-    same(source.read(&mut into), Err(Failed)).expect(&rt, "as wanted");
-    same(source.read(&mut into), Ok(1)).expect(&rt, "as wanted");
-    same(into, [3, 0]).expect(&rt, "as wanted");
+    expect_reads(&rt, &mut ReaderSource::new(Halting(0)), &HALTING_READ);
 }
 
 // Takes two bytes, one at a time, and then none.
@@ -199,7 +196,7 @@ fn file(rt: &impl Abort, alloc: Global, letter: char, content: &[u8]) -> (Text, 
 // A read of a file: its name, the place that is read from, the answer, and all of the buffer then, which was dots.
 type Reading = (&'static str, u64, Result<usize, Failed>, &'static str);
 
-fn expect_read<R: Abort, H: Shelf>(rt: &R, alloc: Global, shelf: &mut H, reading: &Reading) {
+fn expect_read<H: Shelf>(rt: &impl Abort, alloc: Global, shelf: &mut H, reading: &Reading) {
     let (name, place, answer, left) = *reading;
     let text = text(rt, alloc, name);
     let mut into = vec![in alloc; b'.'; left.len()].expect(rt, "memory");
@@ -290,18 +287,22 @@ fn a_file_is_read_up_to_the_limit(rt: HostRuntime) {
 
 fn expect_whole_read(rt: &impl Abort, alloc: Global, reading: &WholeReading) {
     let (name, limit, fail, fault) = *reading;
-    let mut shelf = MemShelf::new(
-        three_files(rt, alloc),
-        vec![in alloc; fail].expect(rt, "memory"),
-    );
-    let text = text(rt, alloc, name);
-    match read_named_file(alloc, &mut shelf, &text, limit as usize) {
-        Ok(bytes) => assert!(rt;
-            fault.is_none() && holds(name, bytes.as_slice()),
-            "{reading:?}"
-        ),
-        Err(why) => same_at(Some(why), fault, reading).expect(rt, "as wanted"),
+    let read = whole_read(rt, alloc, (name, limit, fail));
+    if let Ok(bytes) = &read {
+        same_at(holds(name, bytes.as_slice()), true, reading).expect(rt, "as wanted");
     }
+    same_at(read.err(), fault, reading).expect(rt, "as wanted");
+}
+
+// What is read of a file up to a limit, where the call with a number is to fail.
+fn whole_read(
+    rt: &impl Abort,
+    alloc: Global,
+    (name, limit, fail): (&str, u32, u64),
+) -> Result<Bytes, ReadFault> {
+    let mut shelf = MemShelf::new(three_files(rt, alloc), fails(rt, alloc, fail));
+    let name = text(rt, alloc, name);
+    read_named_file(alloc, &mut shelf, &name, limit as usize)
 }
 
 // Whether the file of a name holds these bytes.

@@ -1,33 +1,26 @@
 ghost use Rattle.skk_disk.specs.Image.{empty_image};
 
-use crate::making::{bytes, text};
+use crate::making::{disk, fails, pieces_of, shelf_of, sink, source_of, words_of};
+use crate::runs::expect_written;
 use crate::side_by_side::Meeting;
 use crate::statuses::status_in_threads;
 use expectations::{same, same_at};
 use skk_disk::{Disk, MemDisk, Which};
-use skk_outside::{
-    Count, Failed, Gate, MemLink, MemListener, MemShelf, MemSink, MemSource, Open, Outside,
-};
+use skk_outside::{Count, Failed, Gate, MemLink, MemListener, MemSink, Open, Outside};
 use std::alloc::Global;
 use std::process::Abort;
 use std::sync::Wait;
 use std::sync::atomic::{AtomicBool, AtomicU32, Ordering};
 use std::thread::Threads;
 
-const WORDS: &str = ";; okuri-nasi entries.\n125 /東京都葛飾区/\nかんじ /漢字/幹事;宴会の/感じ/\n";
+static WORDS: &str = ";; okuri-nasi entries.\n125 /東京都葛飾区/\nかんじ /漢字/幹事;宴会の/感じ/\n";
 
 // A link: what each read of it gives, and the number of its call that is to fail.
 type Given = (&'static [&'static str], u64);
 
 fn link_of(rt: &impl Abort, alloc: Global, given: &Given) -> MemLink {
     let (reads, fail) = *given;
-    let mut pieces = Vec::new(alloc);
-    for read in reads {
-        pieces
-            .push(bytes(rt, alloc, read.as_bytes()))
-            .expect(rt, "memory");
-    }
-    MemLink::new(alloc, pieces, vec![in alloc; fail].expect(rt, "memory"))
+    MemLink::new(alloc, pieces_of(rt, alloc, reads), fails(rt, alloc, fail))
 }
 
 // A listener to which links come, and of which the call with this number is to fail.
@@ -36,112 +29,67 @@ fn listener_of(rt: &impl Abort, alloc: Global, links: &[Given], fail: u64) -> Me
     for given in links {
         coming.push(link_of(rt, alloc, given)).expect(rt, "memory");
     }
-    MemListener::new(alloc, coming, vec![in alloc; fail].expect(rt, "memory"))
+    MemListener::new(alloc, coming, fails(rt, alloc, fail))
 }
 
 // Serves with these options, over a dictionary and an input that must not be read.
 fn serve<D: Disk + Drop + Send, G: Gate + Sync, R: Threads + Wait + Abort + Copy + Send + Sync>(
     rt: R,
     alloc: Global,
-    options: [&str; 2],
+    options: &str,
     disk: D,
     net: &mut MemListener,
     gate: &G,
     out: &mut MemSink,
     err: &mut MemSink,
 ) -> u8 {
-    let name = text(&rt, alloc, "words");
-    let content = bytes(&rt, alloc, WORDS.as_bytes());
-    let mut shelf = MemShelf::new(
-        Vec::from_array(alloc, [(name, content)]).expect(&rt, "memory"),
-        Vec::new(alloc),
-    );
-    let mut input = MemSource::new(Vec::new(alloc), vec![in alloc; 1].expect(&rt, "memory"));
-    let [first, second] = options;
-    let words = [
-        text(&rt, alloc, "serve"),
-        text(&rt, alloc, "--learned"),
-        text(&rt, alloc, "learned"),
-        text(&rt, alloc, first),
-        text(&rt, alloc, second),
-    ];
+    let mut shelf = shelf_of(&rt, alloc, WORDS.as_bytes(), 0);
+    let mut input = source_of(&rt, alloc, &[], 1);
+    let words = words_of(&rt, alloc, options);
     status_in_threads(
-        rt, alloc, &words, &mut shelf, disk, &mut input, out, err, net, gate,
+        rt,
+        alloc,
+        words.as_slice(),
+        &mut shelf,
+        disk,
+        &mut input,
+        out,
+        err,
+        net,
+        gate,
     )
 }
 
-// The numbers of the listener's call and of the call that writes that are to fail; how many connections are asked for;
-// the status; what is printed and told; and what each link is written that comes back.
-type ServedRow = (
-    (u64, u64),
+// What is served: the words; the links that come; the numbers of the listener's call and of the call that writes that
+// are to fail; the status; and what is printed and told.
+type Serving = (
     &'static str,
+    &'static [Given],
+    (u64, u64),
     u8,
     &'static str,
     &'static str,
-    &'static [&'static str],
 );
 
-static TWO: [Given; 2] = [(&["1ぬ "], 0), (&[], 0)];
-
-static SERVED: [ServedRow; 9] = [
-    ((0, 0), "2", 0, "ready\nserved 2\n", "", &["4ぬ \n", ""]),
-    // fewer than come, and more
-    ((0, 0), "1", 0, "ready\nserved 1\n", "", &["4ぬ \n"]),
-    ((0, 0), "9", 0, "ready\nserved 2\n", "", &["4ぬ \n", ""]),
-    // the port can't be opened, and the second link not accepted
-    ((1, 0), "2", 4, "", "skk: outside\n", &[]),
-    ((3, 0), "2", 4, "ready\n", "skk: outside\n", &["4ぬ \n"]),
-    // the first line is not written, or not handed on, and then the second one
-    ((0, 1), "2", 4, "", "skk: outside\n", &[]),
-    ((0, 2), "2", 4, "ready\n", "skk: outside\n", &[]),
-    (
-        (0, 4),
-        "2",
-        4,
-        "ready\nserved ",
-        "skk: outside\n",
-        &["4ぬ \n", ""],
-    ),
-    (
-        (0, 6),
-        "2",
-        4,
-        "ready\nserved 2\n",
-        "skk: outside\n",
-        &["4ぬ \n", ""],
-    ),
-];
-
-// The port is asked for by the listener's first call, and each link by one more.
-#[test]
-fn connections_are_served(rt: HostRuntime) {
-    for row in &SERVED {
-        expect_served(rt, rt.alloc(), row);
-    }
-}
-
-fn expect_served<R: Threads + Wait + Copy + Send + Sync + Abort>(
-    rt: R,
-    alloc: Global,
-    row: &ServedRow,
-) {
-    let ((call, write), connections, status, printed, told, links) = *row;
-    let mut net = listener_of(&rt, alloc, &TWO, call);
-    let mut out = MemSink::new(alloc, vec![in alloc; write].expect(&rt, "memory"));
-    let mut err = MemSink::new(alloc, Vec::new(alloc));
-    let disk = MemDisk::new(alloc, Vec::new(alloc));
-    let options = ["--connections", connections];
-    let ended = serve(
-        rt, alloc, options, disk, &mut net, &Open, &mut out, &mut err,
-    );
+// Tells the status of what is served over a disk, and what is printed and told, and gives the listener.
+fn expect_serving<
+    D: Disk + Drop + Send,
+    G: Gate + Sync,
+    R: Threads + Wait + Abort + Copy + Send + Sync,
+>(rt: R, alloc: Global, serving: &Serving, disk: D, gate: &G) -> MemListener {
+    let (words, links, (call, write), status, printed, told) = *serving;
+    let mut net = listener_of(&rt, alloc, links, call);
+    let mut out = sink(&rt, alloc, write);
+    let mut err = sink(&rt, alloc, 0);
+    let ended = serve(rt, alloc, words, disk, &mut net, gate, &mut out, &mut err);
     same_at(ended, status, printed).expect(&rt, "as wanted");
-    same_at(out.written(), printed.as_bytes(), printed).expect(&rt, "as wanted");
-    same_at(err.written(), told.as_bytes(), printed).expect(&rt, "as wanted");
-    expect_links(&rt, net.over(), links);
+    expect_written(&rt, &out, printed);
+    expect_written(&rt, &err, told);
+    net
 }
 
 // Each link that came back was closed, and was written this.
-fn expect_links<R: Abort>(rt: &R, over: &[MemLink], links: &[&str]) {
+fn expect_links(rt: &impl Abort, over: &[MemLink], links: &[&str]) {
     same(over.len(), links.len()).expect(rt, "as wanted");
     for (link, wanted) in over.iter().zip(links) {
         assert!(rt; link.is_closed());
@@ -149,9 +97,23 @@ fn expect_links<R: Abort>(rt: &R, over: &[MemLink], links: &[&str]) {
     }
 }
 
+const OUTSIDE: &str = "skk: outside\n";
+
+const ONE: &str = "serve --learned learned --connections 1";
+
+const TWO: &str = "serve --learned learned --connections 2";
+
+const NINE: &str = "serve --learned learned --connections 9";
+
+const DICT: &str = "serve --learned learned --dict words";
+
+const LIMIT: &str = "serve --learned learned --dict=words --limit=64";
+
+const PAIR: &[Given] = &[(&["1ぬ "], 0), (&[], 0)];
+
 // A client that ends itself, a bad byte, a typist's first line that is bad, a link whose read fails and one whose write
 // fails, and a line of keys that is bad. None of them changes the status.
-static ENDS: [Given; 6] = [
+const ENDS: &[Given] = &[
     (&["201ぬ "], 0),
     (&["9"], 0),
     (&["T1 2\nka\n"], 0),
@@ -160,7 +122,7 @@ static ENDS: [Given; 6] = [
     (&["T1 1\n<zz>\nka\n"], 0),
 ];
 
-static ENDED: [&str; 6] = [
+const ENDED: &[&str] = &[
     "skk-desk-1.0 ",
     "0\n",
     "0\n",
@@ -169,38 +131,59 @@ static ENDED: [&str; 6] = [
     "かな\t\t\n?0\nかな\tか\t\n",
 ];
 
+// What is served, and what each link is written that comes back. The port is asked for by the listener's first call,
+// and each link by one more.
+static SERVED: [(Serving, &[&str]); 10] = [
+    (
+        (TWO, PAIR, (0, 0), 0, "ready\nserved 2\n", ""),
+        &["4ぬ \n", ""],
+    ),
+    // fewer than come, and more
+    ((ONE, PAIR, (0, 0), 0, "ready\nserved 1\n", ""), &["4ぬ \n"]),
+    (
+        (NINE, PAIR, (0, 0), 0, "ready\nserved 2\n", ""),
+        &["4ぬ \n", ""],
+    ),
+    // the port can't be opened, and the second link not accepted
+    ((TWO, PAIR, (1, 0), 4, "", OUTSIDE), &[]),
+    ((TWO, PAIR, (3, 0), 4, "ready\n", OUTSIDE), &["4ぬ \n"]),
+    // the first line is not written, or not handed on, and then the second one
+    ((TWO, PAIR, (0, 1), 4, "", OUTSIDE), &[]),
+    ((TWO, PAIR, (0, 2), 4, "ready\n", OUTSIDE), &[]),
+    (
+        (TWO, PAIR, (0, 4), 4, "ready\nserved ", OUTSIDE),
+        &["4ぬ \n", ""],
+    ),
+    (
+        (TWO, PAIR, (0, 6), 4, "ready\nserved 2\n", OUTSIDE),
+        &["4ぬ \n", ""],
+    ),
+    // connections end each for itself
+    ((DICT, ENDS, (0, 0), 0, "ready\nserved 6\n", ""), ENDED),
+];
+
 #[test]
-fn connections_end_each_for_itself(rt: HostRuntime) {
-    let alloc = rt.alloc();
-    let mut net = listener_of(&rt, alloc, &ENDS, 0);
-    let mut out = MemSink::new(alloc, Vec::new(alloc));
-    let mut err = MemSink::new(alloc, Vec::new(alloc));
-    let disk = MemDisk::new(alloc, Vec::new(alloc));
-    let options = ["--dict", "words"];
-    let status = serve(
-        rt, alloc, options, disk, &mut net, &Open, &mut out, &mut err,
-    );
-    same(status, 0).expect(&rt, "as wanted");
-    same(out.written(), b"ready\nserved 6\n".as_slice()).expect(&rt, "as wanted");
-    expect_links(&rt, net.over(), &ENDED);
+fn connections_are_served(rt: HostRuntime) {
+    for (serving, links) in &SERVED {
+        let net = expect_serving(rt, rt.alloc(), serving, disk(rt.alloc()), &Open);
+        expect_links(&rt, net.over(), links);
+    }
 }
 
-static HELD: [Given; 2] = [(&["1ぬ 1ぬ "], 0), (&["1ぬ 1ぬ "], 0)];
+static HELD: Serving = (
+    DICT,
+    &[(&["1ぬ 1ぬ "], 0), (&["1ぬ 1ぬ "], 0)],
+    (0, 0),
+    0,
+    "ready\nserved 2\n",
+    "",
+);
 
 // Two connections are served at the same time: each waits for the other between its replies.
 #[test]
 fn two_held(rt: HostRuntime) {
-    let alloc = rt.alloc();
     let meeting = Meeting::new();
-    let mut net = listener_of(&rt, alloc, &HELD, 0);
-    let mut out = MemSink::new(alloc, Vec::new(alloc));
-    let mut err = MemSink::new(alloc, Vec::new(alloc));
-    let disk = MemDisk::new(alloc, Vec::new(alloc));
-    let options = ["--dict", "words"];
-    let status = serve(
-        rt, alloc, options, disk, &mut net, &meeting, &mut out, &mut err,
-    );
-    same(status, 0).expect(&rt, "as wanted");
+    let net = expect_serving(rt, rt.alloc(), &HELD, disk(rt.alloc()), &meeting);
     expect_links(&rt, net.over(), &["4ぬ \n4ぬ \n", "4ぬ \n4ぬ \n"]);
     same(meeting.count(), 2).expect(&rt, "as wanted");
     assert!(rt; !meeting.is_missed());
@@ -329,27 +312,26 @@ impl Gate for Witness<'_> {
     }
 }
 
-static LEARNT: [Given; 1] = [(&["T1 1\n", "Kanji <cj>\n"], 0)];
+static LEARNT: Serving = (
+    DICT,
+    &[(&["T1 1\n", "Kanji <cj>\n"], 0)],
+    (0, 0),
+    0,
+    "ready\nserved 1\n",
+    "",
+);
 
 // What is learnt is on the disk before the line that tells of it is written.
 #[test]
 fn written_first(rt: HostRuntime) {
-    let alloc = rt.alloc();
     let watch = Watch::new();
     let witness = Witness {
         watch: &watch,
         first: AtomicU32::new(0),
         second: AtomicU32::new(0),
     };
-    let mut net = listener_of(&rt, alloc, &LEARNT, 0);
-    let mut out = MemSink::new(alloc, Vec::new(alloc));
-    let mut err = MemSink::new(alloc, Vec::new(alloc));
-    let disk = Watched::new(alloc, &watch);
-    let options = ["--dict", "words"];
-    let status = serve(
-        rt, alloc, options, disk, &mut net, &witness, &mut out, &mut err,
-    );
-    same(status, 0).expect(&rt, "as wanted");
+    let disk = Watched::new(rt.alloc(), &watch);
+    let net = expect_serving(rt, rt.alloc(), &LEARNT, disk, &witness);
     expect_links(&rt, net.over(), &["かな\t\t\nかな\t漢字\t\n"]);
     let first = witness.first.load(Ordering::SeqCst);
     let second = witness.second.load(Ordering::SeqCst);
@@ -368,51 +350,29 @@ impl Gate for Breaker<'_> {
     }
 }
 
-static FULL: [Given; 1] = [(&["T1 1\n/125 <cj>\n"], 0)];
+static FULL: Serving = (
+    LIMIT,
+    &[(&["T1 1\n/125 <cj>\n"], 0)],
+    (0, 0),
+    7,
+    "ready\nserved 1\n",
+    "skk: journal full\n",
+);
 
-static BOTH: [Given; 1] = [(&["T1 1\n", "/125 <cj>\nKanji <cj>\n"], 0)];
+static BOTH: Serving = (
+    LIMIT,
+    &[(&["T1 1\n", "/125 <cj>\nKanji <cj>\n"], 0)],
+    (0, 0),
+    4,
+    "ready\nserved 1\n",
+    OUTSIDE,
+);
 
 // A learned file that is full for one learning, and a disk that fails the next: the disk comes first.
 #[test]
 fn a_disk_that_fails_comes_before_a_full_file(rt: HostRuntime) {
-    let alloc = rt.alloc();
-    expect_refused(
-        rt,
-        alloc,
-        &Open,
-        &Watch::new(),
-        &FULL,
-        7,
-        "skk: journal full\n",
-    );
+    expect_serving(rt, rt.alloc(), &FULL, disk(rt.alloc()), &Open);
     let watch = Watch::new();
-    expect_refused(
-        rt,
-        alloc,
-        &Breaker(&watch),
-        &watch,
-        &BOTH,
-        4,
-        "skk: outside\n",
-    );
-}
-
-fn expect_refused<G: Gate + Sync, R: Threads + Wait + Copy + Send + Sync + Abort>(
-    rt: R,
-    alloc: Global,
-    gate: &G,
-    watch: &Watch,
-    links: &[Given],
-    status: u8,
-    told: &str,
-) {
-    let mut net = listener_of(&rt, alloc, links, 0);
-    let mut out = MemSink::new(alloc, Vec::new(alloc));
-    let mut err = MemSink::new(alloc, Vec::new(alloc));
-    let disk = Watched::new(alloc, watch);
-    let options = ["--dict=words", "--limit=64"];
-    let ended = serve(rt, alloc, options, disk, &mut net, gate, &mut out, &mut err);
-    same(ended, status).expect(&rt, "as wanted");
-    same(out.written(), b"ready\nserved 1\n".as_slice()).expect(&rt, "as wanted");
-    same(err.written(), told.as_bytes()).expect(&rt, "as wanted");
+    let disk = Watched::new(rt.alloc(), &watch);
+    expect_serving(rt, rt.alloc(), &BOTH, disk, &Breaker(&watch));
 }

@@ -1,19 +1,18 @@
-use crate::making::{bytes, text};
+use crate::making::{disk, shelf_of, sink, source_of, words_of};
 use crate::statuses::status_in_threads;
 use expectations::same;
-use skk_disk::MemDisk;
-use skk_outside::{Gate, MemListener, MemShelf, MemSink, MemSource};
+use skk_outside::{Gate, MemListener, MemSink};
 use std::alloc::Global;
 use std::process::Abort;
 use std::sync::Wait;
 use std::sync::atomic::{AtomicBool, AtomicU32, Ordering};
 use std::thread::{self, Threads};
 
-const WORDS: &str = ";; okuri-nasi entries.\nかんじ /漢字/幹事;宴会の/感じ/\n";
+static WORDS: &str = ";; okuri-nasi entries.\nかんじ /漢字/幹事;宴会の/感じ/\n";
 
-const LINES: &str = "1:Kanji \n1: \n2:Kanji \n2: \n";
+static LINES: &str = "1:Kanji \n1: \n2:Kanji \n2: \n";
 
-const TYPED: &str = "1\tかな\t▼漢字\t\n1\tかな\t▼幹事\t;宴会の\n2\tかな\t▼漢字\t\n2\tかな\t▼幹事\t;宴会の\n1=\n2=\n";
+static TYPED: &str = "1\tかな\t▼漢字\t\n1\tかな\t▼幹事\t;宴会の\n2\tかな\t▼漢字\t\n2\tかな\t▼幹事\t;宴会の\n1=\n2=\n";
 
 // How often a caller looks whether the other has come, at most.
 const TURNS: u32 = 1_000_000;
@@ -68,27 +67,23 @@ fn type_by_two<R: Threads + Wait + Abort + Copy + Send + Sync>(
     meeting: &Meeting,
     out: &mut MemSink,
 ) -> u8 {
-    let name = text(&rt, alloc, "words");
-    let content = bytes(&rt, alloc, WORDS.as_bytes());
-    let mut shelf = MemShelf::new(
-        Vec::from_array(alloc, [(name, content)]).expect(&rt, "memory"),
-        Vec::new(alloc),
-    );
-    let lines = bytes(&rt, alloc, LINES.as_bytes());
-    let mut input = MemSource::new(
-        Vec::from_array(alloc, [lines]).expect(&rt, "memory"),
-        Vec::new(alloc),
-    );
-    let words = [
-        text(&rt, alloc, "type"),
-        text(&rt, alloc, "--dict=words"),
-        text(&rt, alloc, "--threads"),
-    ];
-    let disk = MemDisk::new(alloc, Vec::new(alloc));
-    let mut err = MemSink::new(alloc, Vec::new(alloc));
+    let mut shelf = shelf_of(&rt, alloc, WORDS.as_bytes(), 0);
+    let mut input = source_of(&rt, alloc, &[LINES], 0);
+    let words = words_of(&rt, alloc, "type --dict=words --threads");
+    let disk = disk(alloc);
+    let mut err = sink(&rt, alloc, 0);
     let mut net = MemListener::new(alloc, Vec::new(alloc), Vec::new(alloc));
     status_in_threads(
-        rt, alloc, &words, &mut shelf, disk, &mut input, out, &mut err, &mut net, meeting,
+        rt,
+        alloc,
+        words.as_slice(),
+        &mut shelf,
+        disk,
+        &mut input,
+        out,
+        &mut err,
+        &mut net,
+        meeting,
     )
 }
 
@@ -97,7 +92,7 @@ fn type_by_two<R: Threads + Wait + Abort + Copy + Send + Sync>(
 fn two_typed(rt: HostRuntime) {
     let alloc = rt.alloc();
     let meeting = Meeting::new();
-    let mut out = MemSink::new(alloc, Vec::new(alloc));
+    let mut out = sink(&rt, alloc, 0);
     let status = type_by_two(rt, alloc, &meeting, &mut out);
     same(status, 0).expect(&rt, "as wanted");
     same(out.written(), TYPED.as_bytes()).expect(&rt, "as wanted");

@@ -1,7 +1,7 @@
 use Rattle.std.proofs.Common.{◌≡◌, ℕ, false, List, [], ◌∷◌, ◌++◌, ◌∙◌, rules, refl, sym}
 use Rattle.romaji_rules.specs.declared.rule.Rule.{Rule}
 use Rattle.romaji_rules.specs.Typed.{goes_on, extends_pending}
-use Rattle.machine_tests.proofs.rules.letters_go_on_or_begin_anew.Goals as goal
+use Rattle.machine_tests.proofs.rules.expect_anew.Goals as goal
 
 -- what is pending is not extended by a character that does not go on with it
 not-extended : (rules : List Rule) (pending : List ℕ) (c : ℕ) → goes_on rules (pending ++ c ∷ []) ≡ false
@@ -11,4 +11,4 @@ not-extended rules (b ∷ pending) c e = e
 
 pub feed_anew-out-requires : goal.feed_anew-out-requires
 feed_anew-out-requires g c =
-    not-extended c.expect-rules.result c.extend.new.pending 113 (sym c.goes_on.ensures.computed ∙ search rules)
+    not-extended rules.now pending.old 113 (sym c.goes_on.ensures.computed ∙ search rules)

@@ -1,8 +1,0 @@
-use Rattle.std.proofs.Common.{◌≡◌, true}
-use Rattle.std.specs.List.{list_all}
-use Rattle.skk_calls.specs.Dictionary.{is_plain_reading}
-use Rattle.machine_tests.proofs.sessions.listed_readings.Given as goal
-
--- each of the readings so far is valid
-abbrev pub invariant-loop-word : goal.invariant-loop-word
-invariant-loop-word l = list_all is_plain_reading l.readings ≡ true
