@@ -1,10 +1,8 @@
 -- Commands read from words.
 use Rattle.std.proofs.Common.{◌≡◌, ◌≤◌, ◌∙◌, ap, ℕ, Option, None, Some, true, List, ◌∷◌, length, refl, arith}
-use Rattle.std.proofs.Common.{if◌then◌else◌}
 use Rattle.std.specs.Option.{option_and_then}
-use Rattle.std.proofs.lemmas.Bool.{false_from_ne_true}
 use Rattle.command_line.specs.Settings.{settings_of, fits, AreNoneOrMany}
-use Rattle.command_line.specs.Command.{takes, command, command_with, command_named, command_of}
+use Rattle.command_line.specs.Command.{takes, command_with, command_named, command_of}
 use Rattle.command_line.specs.declared.command_name.CommandName.{CommandName}
 use Rattle.command_line.specs.declared.command_name.CommandName.TheVariants.{TypeScript, Serve, Check, Dump, Load}
 use Rattle.command_line.specs.declared.setting.Setting.{Setting}
@@ -21,9 +19,7 @@ most Load settings fit = omega (arith, fits-few (takes Load) settings fit)
 with-none : (name : CommandName) (given : Option (List Setting)) → AreNoneOrMany given
     → option_and_then (command_with name) given ≡ None
 with-none name None many = refl
-with-none name (Some settings) many =
-    ap (λ b. if b then Some (command name settings) else None)
-    (false_from_ne_true (fits (takes name) settings) (λ fit. omega (arith, many, most name settings fit)))
+with-none name (Some settings) many = grind (arith, many, most name settings)
 
 pub no_command : (word : List ℕ) (words : List (List ℕ)) (name : CommandName) → command_named word ≡ Some name
     → AreNoneOrMany (settings_of words) → command_of (word ∷ words) ≡ None

@@ -55,9 +55,7 @@ as-valued rules number has (Number least most) value is =
     subst (λ t. IsFound rules (name_at number) (rule_by t (name_at number) has.required)) is has.found
 
 no-value : (taken : Takes) → takes_value taken ≡ false → taken ≡ Nothing
-no-value Nothing none = refl
-no-value Name none = cc
-no-value (Number least most) none = cc
+no-value taken none = grind arith
 
 -- numbers that are taken are those of 64 bits
 abbrev is-small : Takes → Bool

@@ -1,11 +1,11 @@
 -- How options are spelled: no two alike, and so that `clap` finds them.
-use Rattle.std.proofs.Common.{◌≡◌, ◌∙◌, ◌&&◌, ◌==◌, not, sym, ap, subst, refl, arith, inl, inr, ℕ, suc, zero, Bool}
+use Rattle.std.proofs.Common.{◌≡◌, ◌∙◌, ◌&&◌, ◌==◌, not, ap, subst, refl, arith, ℕ, suc, zero, Bool}
 use Rattle.std.proofs.Common.{true, false, Option, Some, None, List, [], ◌∷◌, ◌++◌}
 use lib.Utf8.{encode, encodes}
 use Rattle.std.specs.List.{list_any}
 use Rattle.std.specs.Option.{IfSome, option_map_or}
 use Rattle.std.specs.Str.{bytes_eq}
-use Rattle.std.proofs.lemmas.Bool.{and_parts, cases_Bool, eq-eqb, eqb-true, false_from_ne_true, not-true, or_parts}
+use Rattle.std.proofs.lemmas.Bool.{eq-eqb, or_parts}
 use Rattle.std.proofs.lemmas.Slice.Eq.{bytes_eq-Decides}
 use Rattle.std.proofs.lemmas.Str.{encodes-append, encodes-IsAscii}
 use Rattle.clap.specs.Lexer.{long_of}
@@ -15,8 +15,6 @@ use Rattle.clap.proofs.LexerLemmas.{name_and_value-at, name_and_value-without}
 use Rattle.command_line.specs.Arguments.{option_named, place, name_at}
 use Rattle.command_line.specs.SettingLaws.{in-table}
 use Rattle.command_line.specs.declared.argument.Argument.{Argument}
-use Rattle.command_line.specs.declared.argument.Argument.TheVariants.{File, Dictionary, Rules, Learned, Limit, Port}
-use Rattle.command_line.specs.declared.argument.Argument.TheVariants.{Connections, Book, Seed, Sessions, Lines, Threads}
 use Rattle.command_line.specs.declared.argument.OptionRow.{OptionRow}
 use Rattle.command_line.proofs.WordTexts.{ascii, is_ascii}
 
@@ -25,33 +23,18 @@ abbrev place_named : List ℕ → ℕ
 place_named word = option_map_or (λ row. place row.argument) (option_named word) 0
 
 spelled-back : (argument : Argument) → place_named (45 ∷ 45 ∷ name_at (place argument)) ≡ place argument
-spelled-back File = refl
-spelled-back Dictionary = refl
-spelled-back Rules = refl
-spelled-back Learned = refl
-spelled-back Limit = refl
-spelled-back Port = refl
-spelled-back Connections = refl
-spelled-back Book = refl
-spelled-back Seed = refl
-spelled-back Sessions = refl
-spelled-back Lines = refl
-spelled-back Threads = refl
+spelled-back argument = grind arith
 
 -- two names are alike exactly where they are of one argument
 pub names_tell : (a b : Argument) → bytes_eq (name_at (place a)) (name_at (place b)) ≡ (place a == place b)
 names_tell a b =
-    let same = bytes_eq (name_at (place a)) (name_at (place b)) in
-    let tell = bytes_eq-Decides (name_at (place a)) (name_at (place b)) in
-    elim (cases_Bool (place a == place b)) [
-      | inl own ↦ tell.1 (ap name_at (eqb-true (place a) (place b) own)) ∙ sym own
-      | inr other ↦
-          false_from_ne_true same (λ told.
-          let one : place a ≡ place b =
-          sym (spelled-back a) ∙ ap (λ name. place_named (45 ∷ 45 ∷ name)) (tell.0 told) ∙ spelled-back b in
-          let e : (place a == place b) ≡ true = eq-eqb (place a) (place b) one in
-          cc) ∙ sym other
-    ]
+    grind (
+      arith,
+      (bytes_eq-Decides (name_at (place a)) (name_at (place b))).0,
+      (bytes_eq-Decides (name_at (place a)) (name_at (place b))).1,
+      spelled-back a,
+      spelled-back b,
+    )
 
 -- a name of ASCII characters without a `=`
 abbrev pub is_plain : Text → Bool
@@ -83,25 +66,19 @@ pub record IsLong (word name : Text) (value : Option Text) : Type 0 where
 pub long_alone : (name : Text) → is_plain name ≡ true → IsLong (45 ∷ 45 ∷ name) name None
 long_alone [] plain = cc
 long_alone (c ∷ cs) plain =
-    let none = not-true (list_any (λ x. x == 61) (c ∷ cs))
-    (and_parts (is_ascii (c ∷ cs)) (not (list_any (λ x. x == 61) (c ∷ cs))) plain).1 in
-    record { dashes = refl; long = ap Some (name_and_value-without (c ∷ cs) (lacks (c ∷ cs) none)) }
+    record { dashes = refl; long = ap Some (name_and_value-without (c ∷ cs) (lacks (c ∷ cs) (grind arith))) }
 
 pub long_joined : (name text : Text) → is_plain name ≡ true
     → IsLong (45 ∷ 45 ∷ name ++ 61 ∷ text) name (Some text)
 long_joined [] text plain = cc
 long_joined (c ∷ cs) text plain =
-    let none = not-true (list_any (λ x. x == 61) (c ∷ cs))
-    (and_parts (is_ascii (c ∷ cs)) (not (list_any (λ x. x == 61) (c ∷ cs))) plain).1 in
-    record { dashes = refl; long = ap Some (name_and_value-at (c ∷ cs) text (lacks (c ∷ cs) none)) }
+    record { dashes = refl; long = ap Some (name_and_value-at (c ∷ cs) text (lacks (c ∷ cs) (grind arith))) }
 
 -- its bytes
 pub spelling_bytes : (name : Text) → is_plain name ≡ true → encodes (45 ∷ 45 ∷ name) ≡ 45 ∷ 45 ∷ name
 spelling_bytes [] plain = cc
 spelling_bytes (c ∷ cs) plain =
-    encodes-IsAscii (45 ∷ 45 ∷ c ∷ cs)
-    (ascii (45 ∷ 45 ∷ c ∷ cs)
-    (and_parts (is_ascii (c ∷ cs)) (not (list_any (λ x. x == 61) (c ∷ cs))) plain).0)
+    encodes-IsAscii (45 ∷ 45 ∷ c ∷ cs) (ascii (45 ∷ 45 ∷ c ∷ cs) (grind arith))
 
 equals-bytes : (text : List ℕ) → encodes (61 ∷ text) ≡ 61 ∷ encodes text
 unfolding encode

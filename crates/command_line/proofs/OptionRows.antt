@@ -1,6 +1,6 @@
 -- What `clap` finds in the words of options: a row for each setting, in their order, and the defaults of those that are
 -- not given.
-use Rattle.std.proofs.Common.{◌≡◌, ◌∙◌, ◌||◌, sym, ap, subst, refl, arith, inl, inr, cond}
+use Rattle.std.proofs.Common.{◌≡◌, ◌∙◌, ◌||◌, sym, ap, refl, arith, inl, inr, cond}
 use Rattle.std.proofs.Common.{ℕ, Bool, true, false, if◌then◌else◌, Option, Some, None, List, [], ◌∷◌, ◌++◌, map, codes}
 use Rattle.std.proofs.Common.{fold}
 use lib.Utf8.{encodes}
@@ -8,7 +8,7 @@ use Rattle.std.specs.Fmt.{decimal}
 use Rattle.std.specs.List.{find}
 use Rattle.std.specs.Option.{option_map}
 use Rattle.std.specs.Str.{bytes_eq}
-use Rattle.std.proofs.lemmas.Bool.{cases_Bool, cond-true, cond-false, eqb-true, or_parts}
+use Rattle.std.proofs.lemmas.Bool.{cases_Bool, cond-true, cond-false, eqb-true}
 use Rattle.std.proofs.lemmas.List.{append-nil}
 use Rattle.std.proofs.lemmas.List.Sums.{sum_by-cons}
 use Rattle.std.proofs.lemmas.Slice.Eq.{bytes_eq-Decides}
@@ -45,10 +45,7 @@ row_for given = use_row (name_at (place given.argument)) (shown given.value)
 absent : (id : Text) (change : Row → List Row) (missing rows : List Row) → has_row id rows ≡ false
     → at_row id change missing rows ≡ rows ++ missing
 absent id change missing [] none = refl
-absent id change missing (r ∷ rs) none =
-    let parts = or_parts (bytes_eq r.id id) (has_row id rs) none in
-    cond-false (bytes_eq r.id id) (change r ++ rs) (r ∷ at_row id change missing rs) parts.0
-    ∙ ap (λ l. r ∷ l) (absent id change missing rs parts.1)
+absent id change missing (r ∷ rs) none = grind (arith, absent id change missing rs)
 
 -- none of this id is taken out
 untouched : (id : Text) (rows : List Row) → has_row id rows ≡ false → without id rows ≡ rows
@@ -100,23 +97,19 @@ there-is id (r ∷ rs) some =
 
 there-is-none : (id : Text) (rows : List Row) → has_row id rows ≡ false → row_in id rows ≡ None
 there-is-none id [] none = refl
-there-is-none id (r ∷ rs) none =
-    let parts = or_parts (bytes_eq r.id id) (has_row id rs) none in
-    cond-false (bytes_eq r.id id) (Some r) (row_in id rs) parts.0 ∙ there-is-none id rs parts.1
+there-is-none id (r ∷ rs) none = grind (arith, there-is-none id rs)
 
 -- a row more of the id, where there was none
 pushed-own : (id : Text) (rows : List Row) (row : Row) → has_row id rows ≡ false → bytes_eq row.id id ≡ true
     → row_in id (rows ++ row ∷ []) ≡ Some row
-pushed-own id [] row none same = cond-true (bytes_eq row.id id) (Some row) None same
-pushed-own id (r ∷ rs) row none same =
-    let parts = or_parts (bytes_eq r.id id) (has_row id rs) none in
-    cond-false (bytes_eq r.id id) (Some r) (row_in id (rs ++ row ∷ [])) parts.0 ∙ pushed-own id rs row parts.1 same
+pushed-own id [] row none same = grind arith
+pushed-own id (r ∷ rs) row none same = grind (arith, pushed-own id rs row)
 
 -- and of another
 pushed-other : (id : Text) (rows : List Row) (row : Row) → bytes_eq row.id id ≡ false
     → row_in id (rows ++ row ∷ []) ≡ row_in id rows
-pushed-other id [] row other = cond-false (bytes_eq row.id id) (Some row) None other
-pushed-other id (r ∷ rs) row other = ap (λ o. cond (bytes_eq r.id id) (Some r) o) (pushed-other id rs row other)
+pushed-other id [] row other = grind arith
+pushed-other id (r ∷ rs) row other = grind (arith, pushed-other id rs row)
 
 -- the row of an argument is that of its value
 pub row_given : (argument : Argument) (settings : List Setting)
@@ -165,23 +158,13 @@ after id (rule ∷ rules) row = after id rules (if bytes_eq rule.id id then fill
 -- a row that is there stays
 pub after_row : (id : Text) (rules : List Rule) (row : Row) → after id rules (Some row) ≡ Some row
 after_row id [] row = refl
-after_row id (rule ∷ rules) row = ap (after id rules) (either (bytes_eq rule.id id)) ∙ after_row id rules row
-  where
-    either : (b : Bool) → (if b then filled-in rule (Some row) else Some row) ≡ Some row
-    either true = refl
-    either false = refl
+after_row id (rule ∷ rules) row = grind (arith, after_row id rules row)
 
 -- the defaults of one option, of which there is no row yet
 new-default : (id : Text) (rule : Rule) (texts : List Text) (rows : List Row) → has_row rule.id rows ≡ false
     → row_in id (default_rows rule.id (reading_by rule) texts rows)
     ≡ (if bytes_eq rule.id id then default-row rule texts else row_in id rows)
-new-default id rule [] rows none =
-    elim (cases_Bool (bytes_eq rule.id id)) [
-      | inl same ↦
-          there-is-none id rows (subst (λ name. has_row name rows ≡ false) ((bytes_eq-Decides rule.id id).0 same) none)
-          ∙ sym (cond-true (bytes_eq rule.id id) None (row_in id rows) same)
-      | inr other ↦ sym (cond-false (bytes_eq rule.id id) None (row_in id rows) other)
-    ]
+new-default id rule [] rows none = grind (arith, (bytes_eq-Decides rule.id id).0, there-is-none id rows)
 new-default id rule (text ∷ texts) rows none =
     let row : Row = record {
       id = rule.id;
@@ -190,46 +173,25 @@ new-default id rule (text ∷ texts) rows none =
       source = Some DefaultValue;
       reading = reading_by rule;
     } in
-    ap (row_in id) (absent rule.id (more_values DefaultValue (text ∷ texts)) (row ∷ []) rows none)
-    ∙ elim (cases_Bool (bytes_eq rule.id id)) [
-      | inl same ↦
-          pushed-own id rows row
-          (subst (λ name. has_row name rows ≡ false) ((bytes_eq-Decides rule.id id).0 same) none) same
-          ∙ sym (cond-true (bytes_eq rule.id id) (Some row) (row_in id rows) same)
-      | inr other ↦
-          pushed-other id rows row other ∙ sym (cond-false (bytes_eq rule.id id) (Some row) (row_in id rows) other)
-    ]
+    grind (
+      arith,
+      absent rule.id (more_values DefaultValue (text ∷ texts)) (row ∷ []) rows none,
+      (bytes_eq-Decides rule.id id).0,
+      pushed-own id rows row,
+      pushed-other id rows row,
+    )
 
 one-default : (id : Text) (rule : Rule) (rows : List Row)
     → row_in id (with_default rows rule)
     ≡ (if bytes_eq rule.id id then filled-in rule (row_in id rows) else row_in id rows)
 one-default id rule rows =
-    let named = bytes_eq rule.id id in
-    let new = default_rows rule.id (reading_by rule) rule.defaults rows in
-    elim (cases_Bool (has_row rule.id rows)) [
-      | inl some ↦
-          ap (row_in id) (cond-true (has_row rule.id rows) rows new some)
-          ∙ elim (cases_Bool named) [
-            | inl same ↦
-                let is = there-is id rows
-                (subst (λ name. has_row name rows ≡ true) ((bytes_eq-Decides rule.id id).0 same) some) in
-                is.1 ∙ sym (ap (filled-in rule) is.1)
-                ∙ sym (cond-true named (filled-in rule (row_in id rows)) (row_in id rows) same)
-            | inr other ↦ sym (cond-false named (filled-in rule (row_in id rows)) (row_in id rows) other)
-          ]
-      | inr none ↦
-          ap (row_in id) (cond-false (has_row rule.id rows) rows new none)
-          ∙ new-default id rule rule.defaults rows none
-          ∙ elim (cases_Bool named) [
-            | inl same ↦
-                let lacks = there-is-none id rows
-                (subst (λ name. has_row name rows ≡ false) ((bytes_eq-Decides rule.id id).0 same) none) in
-                ap (λ o. cond named o (row_in id rows)) (sym (ap (filled-in rule) lacks))
-            | inr other ↦
-                cond-false named (default-row rule rule.defaults) (row_in id rows) other
-                ∙ sym (cond-false named (filled-in rule (row_in id rows)) (row_in id rows) other)
-          ]
-    ]
+    grind (
+      arith,
+      new-default id rule rule.defaults rows,
+      there-is id rows,
+      there-is-none id rows,
+      (bytes_eq-Decides rule.id id).0,
+    )
 
 pub defaulted : (id : Text) (rules : List Rule) (rows : List Row)
     → row_in id (fold with_default rows rules) ≡ after id rules (row_in id rows)

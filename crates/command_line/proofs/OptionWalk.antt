@@ -1,11 +1,11 @@
 -- What `clap` makes of the words of options: the walk over them, from one option to the next.
 use Rattle.std.proofs.Common.{◌≡◌, ◌∙◌, ◌&&◌, ◌||◌, ◌==◌, not, ap, refl, ℕ, Bool, true, false, if◌then◌else◌, Option}
-use Rattle.std.proofs.Common.{Some, None, List, [], ◌∷◌, fold, nat_lt}
+use Rattle.std.proofs.Common.{Some, None, List, [], ◌∷◌, fold, nat_lt, arith}
 use Rattle.std.specs.Option.{option_map_or, option_and_then}
 use Rattle.std.specs.Str.{bytes_eq}
-use Rattle.std.proofs.lemmas.Bool.{and_from, false_from_ne_true, eq-eqb, not-true}
+use Rattle.std.proofs.lemmas.Bool.{and_from, not-true}
 use Rattle.std.proofs.lemmas.Slice.Eq.{bytes_eq-Decides}
-use Rattle.clap.specs.Lexer.{long_of, long_of_rest, short_of, short_of_rest, strip_byte}
+use Rattle.clap.specs.Lexer.{long_of, short_of, short_of_rest}
 use Rattle.clap.specs.Simple.{Shape, filled, new_rule, new_shape}
 use Rattle.clap.specs.Takes.{bundle_passes, flag_word_passes, long_passes, other_passes, react_passes, settle_passes}
 use Rattle.clap.specs.Takes.{step_passes, turn_passes, use_passes, walk_passes}
@@ -63,15 +63,10 @@ pub record Follows (title : Text) (rules : List Rule) (w : Walk) (words : List T
 
 -- a value that does not begin with `-` is no flag
 no-dashes : (x : ℕ) (xs : Text) → (x == 45) ≡ false → bytes_eq (x ∷ xs) (45 ∷ 45 ∷ []) ≡ false
-no-dashes x xs e = false_from_ne_true (bytes_eq (x ∷ xs) (45 ∷ 45 ∷ [])) (λ same.
-    let list : x ∷ xs ≡ 45 ∷ 45 ∷ [] = (bytes_eq-Decides (x ∷ xs) (45 ∷ 45 ∷ [])).0 same in
-    let first : x ≡ 45 = cc list in
-    let is : (x == 45) ≡ true = eq-eqb x 45 first in
-    cc)
+no-dashes x xs e = grind (arith, (bytes_eq-Decides (x ∷ xs) (45 ∷ 45 ∷ [])).0)
 
 no-long : (x : ℕ) (xs : Text) → (x == 45) ≡ false → long_of (x ∷ xs) ≡ None
-no-long x xs e =
-    ap (λ b. option_and_then long_of_rest (option_and_then (strip_byte 45) (if b then Some xs else None))) e
+no-long x xs e = grind arith
 
 no-short : (x : ℕ) (xs : Text) → (x == 45) ≡ false → short_of (x ∷ xs) ≡ None
 no-short x xs e = ap (λ b. option_and_then short_of_rest (if b then Some xs else None)) e

@@ -1,5 +1,5 @@
 -- The options that are made of what `clap` finds are those that words ask for.
-use Rattle.std.proofs.Common.{◌≡◌, ◌≢◌, ◌≤◌, ◌∙◌, sym, ap, subst, refl, arith, inl, inr, ℕ, Bool, true, false}
+use Rattle.std.proofs.Common.{◌≡◌, ◌≢◌, ◌≤◌, ◌∙◌, sym, ap, subst, refl, arith, ℕ, Bool, true, false}
 use Rattle.std.proofs.Common.{if◌then◌else◌, Option, Some, None, List, [], ◌∷◌, codes}
 use lib.Utf8.{encodes}
 use Rattle.std.specs.Fmt.{decimal}
@@ -7,7 +7,7 @@ use Rattle.std.specs.List.{AllByRecursion}
 use Rattle.std.specs.Map.{lookup}
 use Rattle.std.specs.Option.{IfSome, IsSome, option_and_then, option_map, unwrap_or}
 use Rattle.std.specs.Str.{bytes_eq, chars}
-use Rattle.std.proofs.lemmas.Bool.{cases_Bool, cond_both, cond-true, cond-false}
+use Rattle.std.proofs.lemmas.Bool.{cond_both}
 use Rattle.std.proofs.lemmas.Option.{IfSome_then}
 use Rattle.std.proofs.lemmas.Slice.Eq.{bytes_eq-Decides}
 use Rattle.std.proofs.lemmas.Str.{encodes_same}
@@ -26,7 +26,7 @@ use Rattle.command_line.specs.declared.argument.Argument.{Argument}
 use Rattle.command_line.specs.declared.argument.Takes.TheVariants.{Number}
 use Rattle.command_line.specs.declared.command.Command.{Command}
 use Rattle.command_line.specs.declared.command_name.CommandName.{CommandName}
-use Rattle.command_line.specs.declared.command_name.CommandName.TheVariants.{TypeScript, Serve, Check, Dump, Load}
+use Rattle.command_line.specs.declared.command_name.CommandName.TheVariants.{Dump, Load}
 use Rattle.command_line.specs.declared.setting.Setting.{Setting}
 use Rattle.command_line.proofs.WordTexts.{number-read}
 
@@ -44,11 +44,7 @@ titled word = found command_names (refl, (refl, (refl, (refl, (refl, tt)))))
         (λ same. ap (bytes_eq word) (sym all.0) ∙ same) (λ _. found rows all.1)
 
 own-title : (name : CommandName) → command_named (title name) ≡ Some name
-own-title TypeScript = refl
-own-title Serve = refl
-own-title Check = refl
-own-title Dump = refl
-own-title Load = refl
+own-title name = grind arith
 
 -- what is read of the commands of one name alone is read of the settings of the words that have it
 module _ {X : Type 0} (name : CommandName) (read : Command → Option X) (make : List Setting → X)
@@ -59,28 +55,12 @@ module _ {X : Type 0} (name : CommandName) (read : Command → Option X) (make :
       → option_and_then read (option_and_then (command_with name) given)
       ≡ option_map make (option_and_then (settings_with name) given)
   of-settings None = refl
-  of-settings (Some settings) =
-      let fit = fits (takes name) settings in
-      elim (cases_Bool fit) [
-        | inl passes ↦
-            ap (option_and_then read) (cond-true fit (Some (command name settings)) None passes) ∙ own settings
-            ∙ sym (ap (option_map make) (cond-true fit (Some settings) None passes))
-        | inr fails ↦
-            ap (option_and_then read) (cond-false fit (Some (command name settings)) None fails)
-            ∙ sym (ap (option_map make) (cond-false fit (Some settings) None fails))
-      ]
+  of-settings (Some settings) = grind (arith, own settings)
 
   of-others : (other : CommandName) → title other ≢ title name → (given : Option (List Setting))
       → option_and_then read (option_and_then (command_with other) given) ≡ None
   of-others other differs None = refl
-  of-others other differs (Some settings) =
-      let fit = fits (takes other) settings in
-      elim (cases_Bool fit) [
-        | inl passes ↦
-            ap (option_and_then read) (cond-true fit (Some (command other settings)) None passes)
-            ∙ others other differs settings
-        | inr fails ↦ ap (option_and_then read) (cond-false fit (Some (command other settings)) None fails)
-      ]
+  of-others other differs (Some settings) = grind (arith, others other differs settings)
 
   unnamed : (word : List ℕ) (named : Option CommandName) (given : Option (List Setting))
       → IfSome named (λ other. bytes_eq word (title other) ≡ true) → bytes_eq word (title name) ≡ false
@@ -96,36 +76,24 @@ module _ {X : Type 0} (name : CommandName) (read : Command → Option X) (make :
   asked_by [] = refl
   asked_by (word ∷ words) =
       let given = settings_of words in
-      let own = bytes_eq word (title name) in
-      elim (cases_Bool own) [
-        | inl same ↦
-            ap (λ o. option_and_then read (option_and_then (λ n. option_and_then (command_with n) given) o))
-            (ap command_named ((bytes_eq-Decides word (title name)).0 same) ∙ own-title name)
-            ∙ of-settings given
-            ∙ sym (ap (option_map make) (cond-true own (option_and_then (settings_with name) given) None same))
-        | inr differs ↦
-            unnamed word (command_named word) given (titled word) differs
-            ∙ sym (ap (option_map make) (cond-false own (option_and_then (settings_with name) given) None differs))
-      ]
+      grind (
+        arith,
+        (bytes_eq-Decides word (title name)).0,
+        own-title name,
+        of-settings given,
+        unnamed word (command_named word) given (titled word),
+      )
 
 not-dumped : (other : CommandName) → title other ≢ title Dump → (settings : List Setting)
     → book_dumped (command other settings) ≡ None
-not-dumped TypeScript differs settings = refl
-not-dumped Serve differs settings = refl
-not-dumped Check differs settings = refl
-not-dumped Dump differs settings = absurd (differs refl)
-not-dumped Load differs settings = refl
+not-dumped other differs settings = grind (arith, differs)
 
 pub dump_asked : (words : List (List ℕ)) → book_to_dump words ≡ option_map dump_options (settings_asked Dump words)
 dump_asked words = asked_by Dump book_dumped dump_options (λ settings. refl) not-dumped words
 
 not-loaded : (other : CommandName) → title other ≢ title Load → (settings : List Setting)
     → load_of (command other settings) ≡ None
-not-loaded TypeScript differs settings = refl
-not-loaded Serve differs settings = refl
-not-loaded Check differs settings = refl
-not-loaded Dump differs settings = refl
-not-loaded Load differs settings = absurd (differs refl)
+not-loaded other differs settings = grind (arith, differs)
 
 pub load_as_asked : (words : List (List ℕ)) → load_asked words ≡ option_map load_options (settings_asked Load words)
 load_as_asked words = asked_by Load load_of load_options (λ settings. refl) not-loaded words
@@ -169,11 +137,7 @@ pub same_text : (argument : Argument) (settings : List Setting) (text : List ℕ
     → text ≡ text_of argument settings
 same_text argument settings text found is bytes =
     encodes_same text (text_of argument settings)
-    (bytes ∙ ap (λ o. unwrap_or o []) is ∙ by (text_given argument settings))
-  where
-    by : (given : Option (List ℕ)) → unwrap_or (option_map encodes given) [] ≡ encodes (unwrap_or given [])
-    by None = refl
-    by (Some name) = refl
+    (grind (arith, bytes, is))
 
 -- a number that is found is that of the setting
 pub same_number : (argument : Argument) (least most : ℕ) (settings : List Setting) (number : ℕ)
@@ -199,5 +163,4 @@ same_number argument least most settings number found given taken small is read 
 pub same_flag : (given flag : Bool) (text : Option (List ℕ))
     → text ≡ Some (if given then codes "true" else codes "false")
     → (text ≡ Some (codes "true") → flag ≡ true) → (text ≡ Some (codes "false") → flag ≡ false) → flag ≡ given
-same_flag true flag text is set unset = set is
-same_flag false flag text is set unset = unset is
+same_flag given flag text is set unset = grind (arith, set, unset)

@@ -1,5 +1,5 @@
 -- What `clap` finds in the words of a command that takes nothing but options is what the grammar reads there.
-use Rattle.std.proofs.Common.{◌≡◌, ◌≢◌, ◌∙◌, ◌&&◌, ◌||◌, ◌==◌, not, sym, ap, subst, refl, arith, inl, inr, cond, ℕ}
+use Rattle.std.proofs.Common.{◌≡◌, ◌≢◌, ◌∙◌, ◌&&◌, ◌||◌, ◌==◌, not, sym, ap, subst, refl, arith, cond, ℕ}
 use Rattle.std.proofs.Common.{Bool, true, false, if◌then◌else◌, Option, Some, None, is_some, List, [], ◌∷◌, ◌++◌, map}
 use Rattle.std.proofs.Common.{codes, fold, length, nat_le, slice_get}
 use lib.Utf8.{encodes}
@@ -7,7 +7,8 @@ use Rattle.std.specs.Fmt.{decimal}
 use Rattle.std.specs.List.{AllByRecursion, list_all, sum_by}
 use Rattle.std.specs.Option.{IfSome, option_and_then, option_map, option_map_or}
 use Rattle.std.specs.Str.{bytes_eq}
-use Rattle.std.proofs.lemmas.Bool.{and_from, and_parts, cases_Bool, cond_both, cond-true, cond-false, leb-true, le-leb}
+use Rattle.std.proofs.lemmas.Bool.{and_from, and_parts, cond_both, leb-true}
+use Rattle.std.proofs.lemmas.Bool.Decides.{nat_tests}
 use Rattle.std.proofs.lemmas.List.Sums.{sum_by-cons}
 use Rattle.std.proofs.lemmas.Option.{IfSome_then}
 use Rattle.clap.specs.Facts.{explicit_source}
@@ -168,8 +169,7 @@ explicit-there name argument (Some value) some =
     ap explicit (after_row (name_at (place argument)) (rules_of name) (row_for (setting argument value)))
 
 or-given : (needed given : Bool) → (needed ≡ true → given ≡ true) → (not needed || given) ≡ true
-or-given true given there = there refl
-or-given false given there = refl
+or-given needed given there = grind (arith, there)
 
 all-there : (name : CommandName) (settings : List Setting) (rows : List TakesRow)
     → list_all (is_within settings) rows ≡ true
@@ -205,19 +205,12 @@ given-tells : (argument : Argument) (settings : List Setting)
     → is_some (value_given argument settings) ≡ is_given argument settings
 given-tells argument [] = refl
 given-tells argument (first ∷ settings) =
-    let own = is_of argument first in
-    let counted = sum_by-cons (λ s. cond (is_of argument s) 1 0) first settings in
-    elim (cases_Bool own) [
-      | inl same ↦
-          ap is_some (cond-true own (Some first.value) (value_given argument settings) same)
-          ∙ sym (le-leb 1 (times argument (first ∷ settings))
-          (omega (arith, counted, ap {B = ℕ} (λ (b : Bool). cond b 1 0) same)))
-      | inr other ↦
-          let more : times argument settings ≡ times argument (first ∷ settings) =
-          omega (arith, counted, ap {B = ℕ} (λ (b : Bool). cond b 1 0) other) in
-          ap is_some (cond-false own (Some first.value) (value_given argument settings) other)
-          ∙ given-tells argument settings ∙ ap (nat_le 1) more
-    ]
+    grind (
+      arith,
+      nat_tests,
+      sum_by-cons (λ (s : Setting). cond (is_of argument s) 1 0) first settings,
+      given-tells argument settings,
+    )
 
 abbrev first-in : Option Row → Option Text
 first-in row = option_and_then (λ r. slice_get r.values 0) row

@@ -2,7 +2,8 @@
 use Rattle.std.proofs.Common.{◌≡◌, ◌<◌, ◌≤◌, ◌+◌, ◌∙◌, ◌&&◌, ◌==◌, ◌⊎◌, sym, ap, ℕ, Bool, true, false, if◌then◌else◌}
 use Rattle.std.proofs.Common.{cond, None, Some, List, [], ◌∷◌, ◌++◌, length, take, get_or, arith, inl, inr, nat_le}
 use Rattle.std.specs.List.{list_all, sum_by, cons_option}
-use Rattle.std.proofs.lemmas.Bool.{and_parts, and_from, false_from_ne_true, eqb-true, leb-true, le-leb}
+use Rattle.std.proofs.lemmas.Bool.{and_parts, and_from, false_from_ne_true, leb-true}
+use Rattle.std.proofs.lemmas.Bool.Decides.{nat_tests}
 use Rattle.std.proofs.lemmas.List.{take_more, take_all, length_push}
 use Rattle.std.proofs.lemmas.List.Elements.{filter_map-append}
 use Rattle.std.proofs.lemmas.List.Folds.{list_all_more}
@@ -65,26 +66,17 @@ within-most : (settings : List Setting) (rows : List Row) → list_all (is_withi
     → sum_by (λ row. times row.0 settings) rows ≤ sum_by (λ row. row.2) rows
 within-most settings [] all = omega arith
 within-most settings (row ∷ rows) all =
-    let parts = and_parts (is_within settings row) (list_all (is_within settings) rows) all in
-    let bounds = and_parts (nat_le row.1 (times row.0 settings)) (nat_le (times row.0 settings) row.2) parts.0 in
-    let few : times row.0 settings ≤ row.2 = leb-true (times row.0 settings) row.2 bounds.1 in
-    omega (
+    grind (
       arith,
-      within-most settings rows parts.1,
-      sum_by-cons (λ r. times r.0 settings) row rows,
+      within-most settings rows,
+      leb-true (times row.0 settings) row.2,
+      sum_by-cons (λ (r : Row). times r.0 settings) row rows,
       sum_by-cons (λ (r : Row). r.2) row rows,
     )
 
 pub fits-few : (rows : List Row) (settings : List Setting) → fits rows settings ≡ true
     → length settings ≤ sum_by (λ row. row.2) rows
-fits-few rows settings fit =
-    let parts =
-    and_parts (list_all (is_within settings) rows) (sum_by (λ row. times row.0 settings) rows == length settings) fit in
-    omega (
-      arith,
-      within-most settings rows parts.0,
-      eqb-true (sum_by (λ row. times row.0 settings) rows) (length settings) parts.1,
-    )
+fits-few rows settings fit = grind (arith, within-most settings rows)
 
 -- rows are kept so far, by their counts
 pub record AreKept (settings : List Setting) (rows : List Row) (counted : ℕ) : Type 0 where
@@ -97,9 +89,7 @@ pub one_more_row : (settings : List Setting) (rows : List Row) (place counted co
     → count ≡ times row.0 settings → row.1 ≤ count → count ≤ row.2
     → AreKept settings (take (place + 1) rows) (counted + count)
 one_more_row settings rows place counted count row kept within at e above below =
-    let passes : is_within settings row ≡ true =
-    and_from (nat_le row.1 (times row.0 settings)) (nat_le (times row.0 settings) row.2)
-    (le-leb row.1 (times row.0 settings) (omega arith)) (le-leb (times row.0 settings) row.2 (omega arith)) in
+    let passes : is_within settings row ≡ true = grind (arith, nat_tests) in
     record {
       all =
           list_all_more (is_within settings) rows place row within

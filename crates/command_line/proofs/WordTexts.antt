@@ -5,11 +5,10 @@ use Rattle.std.proofs.Common.{subst, arith, inl, inr, Decides, nat_le, nat_lt, z
 use lib.Utf8.{encode, encodes}
 use Rattle.std.specs.Fmt.{decimal}
 use Rattle.std.specs.List.{list_all}
-use Rattle.std.specs.Option.{option_map}
 use Rattle.std.specs.Str.{chars, bytes_eq, IsUtf8, IsAscii}
 use Rattle.std.specs.Str.Parse.{digits_value, IsNumeral}
-use Rattle.std.proofs.lemmas.Bool.{cases_Bool, cases_lt, and_parts, false_from_ne_true, ne_eqb, eq-eqb, ltb-true}
-use Rattle.std.proofs.lemmas.Bool.{leb-true, le-leb, lt-leb, and_left, and_right, eqb-true}
+use Rattle.std.proofs.lemmas.Bool.{cases_lt, and_parts, false_from_ne_true, ne_eqb, eq-eqb, ltb-true}
+use Rattle.std.proofs.lemmas.Bool.{leb-true, le-leb, lt-leb, eqb-true}
 use Rattle.std.proofs.lemmas.Fmt.{decimal_is_IsNumeral}
 use Rattle.std.proofs.Math.Seq.{drop-append-add}
 use Rattle.std.proofs.lemmas.List.{get_or-append-add, get_or_at, get_or_past, take_at}
@@ -18,7 +17,7 @@ use Rattle.std.proofs.lemmas.Str.{byte_from_char, char_from_byte, encode_ascii, 
 use Rattle.std.proofs.lemmas.Str.{encodes-IsAscii, length-le-encodes}
 use Rattle.std.proofs.lemmas.Str.Parse.{digit_at}
 use Rattle.skk_text.specs.TextLaws.{chars-split}
-use Rattle.command_line.specs.Words.{is_name, number_within, with_character, cut}
+use Rattle.command_line.specs.Words.{is_name, number_within, cut}
 
 -- the empty text has no characters
 pub empty : chars [] ≡ []
@@ -29,16 +28,7 @@ empty = refl
 first-test : (b : Bool) (c : ℕ) (bs rest : List ℕ) → bs ≡ encode c ++ rest → 0 < length bs
     → Decides b (get_or bs 0 0 ≡ 45) → not b ≡ not (c == 45)
 first-test b c bs rest e some decides =
-    elim (cases_Bool b) [
-      | inl told ↦
-          let byte : get_or bs 0 0 ≡ 45 = decides.0 told in
-          let is : c ≡ 45 = char_from_byte bs rest c e (omega arith) some ∙ byte in
-          ap not (told ∙ sym (eq-eqb c 45 is))
-      | inr other ↦
-          let differs : c ≢ 45 = λ is. let told : b ≡ true =
-          decides.1 (byte_from_char bs rest c e (omega arith) ∙ is) in cc in
-          ap not (other ∙ sym (ne_eqb c 45 differs))
-    ]
+    grind (arith, decides.0, decides.1, char_from_byte bs rest c e, byte_from_char bs rest c e)
 
 name-of : (cs bs : List ℕ) (b : Bool) → encodes cs ≡ bs → 0 < length bs → Decides b (get_or bs 0 0 ≡ 45)
     → not b ≡ is_name cs
@@ -100,20 +90,12 @@ written least most number small =
 pub number-read : (bs : List ℕ) (least most number : ℕ) → bs ≡ decimal number → number < 2 ^ 64 → least ≤ number
     → number ≤ most → Some number ≡ number_within least most (chars bs)
 number-read bs least most number e small above below =
-    sym (ap (λ t. number_within least most (chars t)) e ∙ written least most number small
-    ∙ ap (λ b. if b && nat_le number most then Some number else None) (le-leb least number above)
-    ∙ ap (λ b. if b then Some number else None) (le-leb number most below))
+    grind (arith, written least most number small, le-leb least number, le-leb number most)
 
 pub number-beyond : (bs : List ℕ) (least most number : ℕ) → bs ≡ decimal number → number < 2 ^ 64
     → (number < least) ⊎ (most < number) → None ≡ number_within least most (chars bs)
 number-beyond bs least most number e small out =
-    let none : (nat_le least number && nat_le number most) ≡ false =
-    elim out [
-      | inl less ↦ and_left (nat_le least number) (nat_le number most) (lt-leb least number less)
-      | inr more ↦ and_right (nat_le least number) (nat_le number most) (lt-leb number most more)
-    ] in
-    sym (ap (λ t. number_within least most (chars t)) e ∙ written least most number small
-    ∙ ap (λ b. if b then Some number else None) none)
+    grind (arith, written least most number small, lt-leb least number, lt-leb number most)
 
 -- a text that is no number's is none within bounds
 pub no-number : (bs : List ℕ) (least most : ℕ) → IsUtf8 bs → most < 2 ^ 64
@@ -148,17 +130,12 @@ behind-first c cs none k within = λ is.
 
 uncut : (cs : List ℕ) → ((k : ℕ) → k < length (encodes cs) → get_or (encodes cs) k 0 ≢ 61) → cut cs ≡ None
 uncut [] none = refl
-uncut (c ∷ cs) none =
-    ap (λ b. if b then Some ([], cs) else option_map (with_character c) (cut cs)) (not-equals c cs none)
-    ∙ ap (option_map (with_character c)) (uncut cs (behind-first c cs none))
+uncut (c ∷ cs) none = grind (arith, not-equals c cs none, uncut cs (behind-first c cs none))
 
 cut-behind : (cs rest : List ℕ) → ((k : ℕ) → k < length (encodes cs) → get_or (encodes cs) k 0 ≢ 61)
     → cut (cs ++ 61 ∷ rest) ≡ Some (cs, rest)
 cut-behind [] rest none = refl
-cut-behind (c ∷ cs) rest none =
-    ap (λ b. if b then Some ([], cs ++ 61 ∷ rest) else option_map (with_character c) (cut (cs ++ 61 ∷ rest)))
-    (not-equals c cs none)
-    ∙ ap (option_map (with_character c)) (cut-behind cs rest (behind-first c cs none))
+cut-behind (c ∷ cs) rest none = grind (arith, not-equals c cs none, cut-behind cs rest (behind-first c cs none))
 
 -- so is a text
 abbrev Lacks : List ℕ → Type 0

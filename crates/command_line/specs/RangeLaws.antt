@@ -1,16 +1,16 @@
 -- The numbers of commands lie in their ranges.
-use Rattle.std.proofs.Common.{◌≡◌, ◌≢◌, ◌≤◌, ◌∙◌, ◌&&◌, ◌==◌, sym, ap, subst, refl, ℕ, Bool, true, false, cond}
-use Rattle.std.proofs.Common.{Option, Some, None, List, [], ◌∷◌, length, arith, inl, inr, nat_le}
+use Rattle.std.proofs.Common.{◌≡◌, ◌≢◌, ◌≤◌, ◌&&◌, sym, subst, refl, ℕ, true, false, cond}
+use Rattle.std.proofs.Common.{Option, Some, None, List, [], ◌∷◌, arith, nat_le}
 use Rattle.std.specs.Fmt.{decimal}
-use Rattle.std.specs.List.{AllByRecursion, list_all, sum_by}
+use Rattle.std.specs.List.{AllByRecursion}
 use Rattle.std.specs.Option.{IfSome, option_and_then, unwrap_or}
 use Rattle.std.specs.Str.{bytes_eq}
 use Rattle.std.specs.Str.Parse.{digits_value}
-use Rattle.std.proofs.lemmas.Bool.{cases_Bool, cond_both, cond-true, cond-false, and_parts, leb-true, eqb-true}
+use Rattle.std.proofs.lemmas.Bool.{cond_both, and_parts, leb-true, eqb-true}
 use Rattle.std.proofs.lemmas.List.Sums.{sum_by-cons}
-use Rattle.std.proofs.lemmas.Option.{IfSome_then, none-some}
+use Rattle.std.proofs.lemmas.Option.{IfSome_then}
 use Rattle.command_line.specs.Arguments.{option_named, value_of, place, takes_at}
-use Rattle.command_line.specs.Command.{takes, required, optional, command, command_with, command_named, command_of}
+use Rattle.command_line.specs.Command.{takes, required, command, command_with, command_named, command_of}
 use Rattle.command_line.specs.Command.{book_dumped, book_to_dump, load_of, load_asked, port_served}
 use Rattle.command_line.specs.Command.{port_to_serve}
 use Rattle.command_line.specs.OptionLaws.{IfSome-all, IfSome-map, IfSome-and_then, IfSome-if}
@@ -22,7 +22,7 @@ use Rattle.command_line.specs.Settings.{number_given, number_or, is_within, fits
 use Rattle.command_line.specs.Words.{is_name, number_within}
 use Rattle.command_line.specs.declared.argument.Argument.{Argument}
 use Rattle.command_line.specs.declared.argument.Argument.TheVariants.{Limit, Port, Connections, Book, Seed}
-use Rattle.command_line.specs.declared.argument.Argument.TheVariants.{Sessions, Lines, Threads}
+use Rattle.command_line.specs.declared.argument.Argument.TheVariants.{Sessions, Lines}
 use Rattle.command_line.specs.declared.argument.OptionRow.{OptionRow}
 use Rattle.command_line.specs.declared.argument.Takes.{Takes}
 use Rattle.command_line.specs.declared.argument.Takes.TheVariants.{Nothing, Name, Number}
@@ -130,19 +130,13 @@ pub there : (argument : Argument) (settings : List Setting) → 1 ≤ times argu
     → value_given argument settings ≢ None
 there argument [] once = absurd (omega (arith, once))
 there argument (first ∷ settings) once =
-    elim (cases_Bool (is_of argument first)) [
-      | inl own ↦ λ e. none-some first.value
-          (sym e ∙ cond-true (is_of argument first) (Some first.value) (value_given argument settings) own)
-      | inr other ↦ λ e.
-          there argument settings
-          (omega (
-            arith,
-            once,
-            sum_by-cons (λ s. cond (is_of argument s) 1 0) first settings,
-            ap {B = ℕ} (λ (b : Bool). cond b 1 0) other,
-          ))
-          (sym (cond-false (is_of argument first) (Some first.value) (value_given argument settings) other) ∙ e)
-    ]
+    λ e. grind (
+      arith,
+      e,
+      once,
+      sum_by-cons (λ (s : Setting). cond (is_of argument s) 1 0) first settings,
+      there argument settings,
+    )
 
 needed : (argument : Argument) (settings : List Setting) → is_within settings (required argument) ≡ true
     → value_given argument settings ≢ None
@@ -162,19 +156,11 @@ in_range Serve settings given fit = (
 in_range Check settings given fit = tt
 in_range Dump settings given fit = (lies-in Book 0 65535 0 settings given refl (λ e. (omega arith, omega arith))).1
 in_range Load settings given fit =
-    let rows = and_parts (list_all (is_within settings) (takes Load))
-    (sum_by (λ row. times row.0 settings) (takes Load) == length settings) fit in
-    let first = and_parts (is_within settings (required Seed))
-    (list_all (is_within settings) (required Sessions ∷ required Lines ∷ optional Threads ∷ [])) rows.0 in
-    let second = and_parts (is_within settings (required Sessions))
-    (list_all (is_within settings) (required Lines ∷ optional Threads ∷ [])) first.1 in
-    let third =
-    and_parts (is_within settings (required Lines)) (list_all (is_within settings) (optional Threads ∷ [])) second.1 in
     let seed : LiesFrom 0 18446744073709551615 (number_or 0 Seed settings) =
     lies-in Seed 0 18446744073709551615 0 settings given refl (λ e. (omega arith, omega arith)) in (
       omega (arith, seed.1),
-      lies-in Sessions 1 64 0 settings given refl (λ e. absurd (needed Sessions settings second.0 e)),
-      lies-in Lines 1 20000 0 settings given refl (λ e. absurd (needed Lines settings third.0 e)),
+      lies-in Sessions 1 64 0 settings given refl (λ e. absurd (needed Sessions settings (grind arith) e)),
+      lies-in Lines 1 20000 0 settings given refl (λ e. absurd (needed Lines settings (grind arith) e)),
     )
 
 -- so it is with words that are a command

@@ -1,8 +1,7 @@
 -- The readings of a file behind one that a walk has come to, and those of them that go on from a prefix.
 use Rattle.std.proofs.Common.{◌≡◌, ◌<◌, ℕ, Bool, true, false, cond, ◌&&◌, not, nat_eq, None, Some, List, [], ◌∷◌}
-use Rattle.std.proofs.Common.{length, get_or, zero, suc, refl, sym, ap, ◌∙◌, arith}
-use Rattle.std.specs.List.{filter, list_all, starts_with}
-use Rattle.std.proofs.lemmas.Bool.{and_parts, both_ways}
+use Rattle.std.proofs.Common.{length, get_or, zero, suc, refl, ap, ◌∙◌, arith}
+use Rattle.std.specs.List.{filter, starts_with}
 use Rattle.skk_text.specs.FilterLaws.{filter_all, find_passes, list_all_kept}
 use Rattle.ordered_lists.specs.OrderLaws.{less_than_all, none_behind, not_itself}
 use Rattle.skk_calls.specs.Completions.{goes_on_from}
@@ -16,53 +15,30 @@ use Rattle.dict_complete.specs.PrefixLaws.{goes_on_between, goes_on_greater, gre
 filter_within : {X : Type 0} (p q : X → Bool) → ((x : X) → p x ≡ true → q x ≡ true) → (xs : List X)
     → filter p (filter q xs) ≡ filter p xs
 filter_within p q so [] = refl
-filter_within {X} p q so (x ∷ xs) = by (q x) (p x) refl refl (filter_within p q so xs)
-  where
-    by : (b a : Bool) → q x ≡ b → p x ≡ a → filter p (filter q xs) ≡ filter p xs
-        → filter p (cond b (x ∷ filter q xs) (filter q xs)) ≡ cond a (x ∷ filter p xs) (filter p xs)
-    by true a f e rest = rw e (ap (λ (ys : List X). cond a (x ∷ ys) ys) rest)
-    by false true f e rest = absurd (both_ways (q x) f (so x e))
-    by false false f e rest = rest
+filter_within p q so (x ∷ xs) = grind (arith, so x, filter_within p q so xs)
 
 -- where the next text is this one, the greater ones are it and those greater than it
 pub above_next : (texts : List (List ℕ)) (low next : List ℕ) → texts_ascend texts ≡ true
     → next_above texts low ≡ Some next → filter (text_less low) texts ≡ next ∷ filter (text_less next) texts
 above_next [] low next ascend found = cc
 above_next (text ∷ texts) low next ascend found =
-    let parts = and_parts (list_all (text_less text) texts) (texts_ascend texts) ascend in
-    by (text_less low text) refl found parts.0 (above_next texts low next parts.1)
-  where
-    by : (b : Bool) → text_less low text ≡ b → cond b (Some text) (next_above texts low) ≡ Some next
-        → list_all (text_less text) texts ≡ true
-        → (next_above texts low ≡ Some next → filter (text_less low) texts ≡ next ∷ filter (text_less next) texts)
-        → cond b (text ∷ filter (text_less low) texts) (filter (text_less low) texts)
-        ≡ next ∷ cond (text_less next text) (text ∷ filter (text_less next) texts) (filter (text_less next) texts)
-    by true less found above rest =
-        let same : next ≡ text = cc in
-        rw (same, not_itself text_less text_order text)
-        (ap (λ others. text ∷ others)
-        (filter_all (text_less low) texts (less_than_all text_less text_order low text texts less above)
-        ∙ sym (filter_all (text_less text) texts above)))
-    by false not_less found above rest =
-        let greater = find_passes (text_less low) texts next found in
-        rw (text_order.one_way text next (by_low (text_less text next) refl greater)) (rest found)
-      where
-        by_low : (b : Bool) → text_less text next ≡ b → text_less low next ≡ true → text_less text next ≡ true
-        by_low true e greater = e
-        by_low false e greater =
-            absurd (both_ways (text_less low next) (text_order.chain low text next not_less e) greater)
+    grind (
+      arith,
+      above_next texts low next,
+      not_itself text_less text_order text,
+      filter_all (text_less low) texts,
+      filter_all (text_less text) texts,
+      less_than_all text_less text_order low text texts,
+      find_passes (text_less low) texts next,
+      text_order.one_way text next,
+      text_order.chain low text next,
+    )
 
 -- where there is no next text, none is greater
 pub none_above : (texts : List (List ℕ)) (low : List ℕ) → next_above texts low ≡ None
     → filter (text_less low) texts ≡ []
 none_above [] low none = refl
-none_above (text ∷ texts) low none = by (text_less low text) none (none_above texts low)
-  where
-    by : (b : Bool) → cond b (Some text) (next_above texts low) ≡ None
-        → (next_above texts low ≡ None → filter (text_less low) texts ≡ [])
-        → cond b (text ∷ filter (text_less low) texts) (filter (text_less low) texts) ≡ []
-    by true found rest = cc
-    by false found rest = rest found
+none_above (text ∷ texts) low none = grind (arith, none_above texts low)
 
 -- the texts that go on from a prefix are greater
 pub all_behind : (prefix : List ℕ) (texts : List (List ℕ))
@@ -73,12 +49,7 @@ all_behind prefix texts = filter_within (goes_on_from prefix) (text_less prefix)
 pub next_greater : (texts : List (List ℕ)) (prefix low next : List ℕ) → text_less low prefix ≡ false
     → next_above texts low ≡ Some next → text_less prefix next ≡ true
 next_greater texts prefix low next reached found =
-    by (text_less prefix next) refl (find_passes (text_less low) texts next found)
-  where
-    by : (b : Bool) → text_less prefix next ≡ b → text_less low next ≡ true → b ≡ true
-    by true e greater = refl
-    by false e greater =
-        absurd (both_ways (text_less low next) (text_order.chain low prefix next reached e) greater)
+    grind (arith, find_passes (text_less low) texts next found, text_order.chain low prefix next)
 
 -- so where it begins with the prefix it is one of those that go on
 pub next_goes_on : (texts : List (List ℕ)) (prefix low next : List ℕ) → texts_ascend texts ≡ true
@@ -104,13 +75,8 @@ next_ends texts prefix low next ascend reached found ends =
     here = ap (λ b. b && not (same_text next prefix)) ends
 
     later : (text : List ℕ) → text_less next text ≡ true → goes_on_from prefix text ≡ false
-    later text less = by (goes_on_from prefix text) refl
-      where
-        by : (b : Bool) → goes_on_from prefix text ≡ b → b ≡ false
-        by true e =
-            absurd (both_ways (goes_on_from prefix next) here
-            (goes_on_between prefix next text (next_greater texts prefix low next reached found) less e))
-        by false e = refl
+    later text less =
+        grind (arith, here, goes_on_between prefix next text (next_greater texts prefix low next reached found))
 
 -- what a walk steps over is no more behind it
 pub fewer_left : (texts : List (List ℕ)) (low next : List ℕ) → texts_ascend texts ≡ true
@@ -123,6 +89,5 @@ fewer_left texts low next ascend found =
 pub file_ascends : (files : List (List (List ℕ))) (file : ℕ) → all_ascend files ≡ true
     → texts_ascend (get_or files file []) ≡ true
 file_ascends [] file ascend = refl
-file_ascends (texts ∷ files) zero ascend = (and_parts (texts_ascend texts) (all_ascend files) ascend).0
-file_ascends (texts ∷ files) (suc file) ascend =
-    file_ascends files file (and_parts (texts_ascend texts) (all_ascend files) ascend).1
+file_ascends (texts ∷ files) zero ascend = grind arith
+file_ascends (texts ∷ files) (suc file) ascend = grind (arith, file_ascends files file)

@@ -1,9 +1,9 @@
 -- Texts that begin with a prefix, in the order of their bytes.
-use Rattle.std.proofs.Common.{◌≡◌, ℕ, Bool, true, false, not, nat_eq, List, [], ◌∷◌, ◌++◌, drop, length, refl, sym}
+use Rattle.std.proofs.Common.{◌≡◌, ℕ, true, false, not, nat_eq, List, [], ◌∷◌, ◌++◌, drop, length, refl, sym}
 use Rattle.std.proofs.Common.{ap, ◌∙◌, append_assoc, arith, encode_utf8, encode_utf8_all, length-append}
 use Rattle.std.specs.Cmp.{both_ways as same_tests}
 use Rattle.std.specs.List.{starts_with}
-use Rattle.std.proofs.lemmas.Bool.{and_from, and_parts, both_ways, not_from_false, not-true}
+use Rattle.std.proofs.lemmas.Bool.{and_parts, both_ways, not-true}
 use Rattle.std.proofs.lemmas.Bool.Decides.{Decides-eqb}
 use Rattle.std.proofs.lemmas.List.{append-nil}
 use Rattle.std.proofs.lemmas.Slice.Eq.{starts_is}
@@ -85,20 +85,12 @@ goes_on_greater prefix text e =
 
 -- a text that is less than another is not that
 pub less_other : (text other : List ℕ) → text_less text other ≡ true → same_text text other ≡ false
-less_other text other less = by (same_text text other) refl
-  where
-    by : (b : Bool) → same_text text other ≡ b → b ≡ false
-    by true e =
-        absurd (both_ways (text_less text other)
-        (ap (λ t. text_less t other) (same_equal text other e) ∙ not_itself text_less text_order other) less)
-    by false e = refl
+less_other text other less = grind (arith, same_equal text other, not_itself text_less text_order other)
 
 -- what is greater and begins with a prefix goes on from it
 pub greater_goes_on : (prefix text : List ℕ) → text_less prefix text ≡ true → starts_with nat_eq text prefix ≡ true
     → goes_on_from prefix text ≡ true
-greater_goes_on prefix text less begins =
-    and_from (starts_with nat_eq text prefix) (not (same_text text prefix)) begins
-    (not_from_false (same_text text prefix) (same_other text prefix ∙ less_other prefix text less))
+greater_goes_on prefix text less begins = grind (arith, same_other prefix text, less_other prefix text)
 
 -- between a prefix and what goes on from it stands only what goes on from it
 pub goes_on_between : (prefix text other : List ℕ) → text_less prefix text ≡ true → text_less text other ≡ true

@@ -36,21 +36,13 @@ first-found : (part : Part) (bytes reading : List ℕ) (places : List Place) →
     ≡ row_in (record { part = part; reading = reading }) (filter_map (row_at part bytes) places)
 first-found part bytes reading [] are = refl
 first-found part bytes reading (place ∷ places) are =
-    by (row_at part bytes place) refl
-    (first-found part bytes reading places (All-tail (IsEntry part bytes) place places are))
-  where
-    keyed : (row : Row) → row_at part bytes place ≡ Some row
-        → (row.key.part ≡ part) × (reading_at bytes place ≡ encode_utf8_all row.key.reading)
-    keyed = (All-head (IsEntry part bytes) place places are).keyed
-
-    by : (found : Option Row) → row_at part bytes place ≡ found
-        → first_row part bytes (filter (has_reading bytes (encode_utf8_all reading)) places)
-        ≡ row_in (record { part = part; reading = reading }) (filter_map (row_at part bytes) places)
-        → first_row part bytes (filter (has_reading bytes (encode_utf8_all reading)) (place ∷ places))
-        ≡ row_in (record { part = part; reading = reading }) (filter_map (row_at part bytes) (place ∷ places))
-    by None e rest = grind arith
-    by (Some row) e rest =
-        let is = keyed row e in grind (arith, same_encoded row.key.reading reading, same_part_itself part)
+    grind (
+      arith,
+      (All-head (IsEntry part bytes) place places are).keyed,
+      same_part_itself part,
+      λ (row : Row). same_encoded row.key.reading reading,
+      first-found part bytes reading places (All-tail (IsEntry part bytes) place places are),
+    )
 
 -- Sorted entries
 

@@ -106,11 +106,7 @@ item_of text = candidate (before_note text) (note_of_text text)
 filtered : (test : ℕ → Bool) (text : List ℕ) → byte_len (filter test text) ≤ byte_len text
 filtered test [] = omega arith
 filtered test (c ∷ text) =
-    let bytes = byte_len-append (c ∷ []) text in
-    elim (cases_Bool (test c)) [
-      | inl passes ↦ rw passes (omega (arith, bytes, byte_len-append (c ∷ []) (filter test text), filtered test text))
-      | inr fails ↦ rw fails (omega (arith, bytes, filtered test text))
-    ]
+    grind (arith, byte_len-append (c ∷ []) text, byte_len-append (c ∷ []) (filter test text), filtered test text)
 
 -- the word of a text and its note lie within the text
 pub record IsCut (text : List ℕ) (parts : List ℕ × List ℕ) : Type 0 where
@@ -172,13 +168,7 @@ fit (text ∷ texts) plain =
 
 -- a text that does not begin with a semicolon has a word
 has_word : (c : ℕ) (text : List ℕ) → is_semicolon c ≡ false → is_empty (before_note (c ∷ text)) ≡ false
-has_word c text other = by (cut is_semicolon text)
-  where
-    by : (found : Option (List ℕ × List ℕ))
-        → is_empty (unwrap_or {T = List ℕ × List ℕ} (if is_semicolon c then Some ([], text)
-        else option_map (λ parts. (c ∷ parts.0, parts.1)) found) (c ∷ text, [])).0 ≡ false
-    by None = rw other refl
-    by (Some parts) = rw other refl
+has_word c text other = grind arith
 
 -- so the row of such texts has a candidate
 has_cand : (key : RowKey) (c : ℕ) (text : List ℕ) (texts : List (List ℕ)) → is_semicolon c ≡ false

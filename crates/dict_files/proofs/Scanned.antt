@@ -65,14 +65,7 @@ module _ (bytes line : List ℕ) (start : ℕ) (part : Part) (stands : StandsAt 
 
   -- without a space it spells none
   none-spelled : position is_space line ≡ None → row_of_line part (chars line) ≡ None
-  none-spelled nowhere = by (row_of_line part (chars line)) refl
-    where
-      by : (found : Option Row) → row_of_line part (chars line) ≡ found → found ≡ None
-      by None e = refl
-      by (Some row) e =
-          let cut_is = (cut-behind row e).1 in
-          let not_cut = rw nowhere at (cut-position is_space line) in
-          cc
+  none-spelled nowhere = grind (arith, cut-behind, cut-position is_space line)
 
   -- so it is passed over
   pub entry-passed : (number : ℕ) (places : PartPlaces) (left : List FileEntry) → position is_space line ≡ None

@@ -1,5 +1,5 @@
 -- The readings that a walk goes over ascend.
-use Rattle.std.proofs.Common.{◌≡◌, ℕ, true, not, List, [], ◌∷◌, map, refl, sym, ap, ◌∙◌}
+use Rattle.std.proofs.Common.{◌≡◌, ℕ, true, not, List, [], ◌∷◌, map, refl, sym, ap, ◌∙◌, arith}
 use Rattle.std.specs.List.{filter}
 use Rattle.std.proofs.lemmas.Bool.{and_from, not-true}
 use Rattle.skk_text.specs.PairsLaws.{pairs_weaker}
@@ -32,6 +32,4 @@ walked_ascend rows =
 -- in each file
 pub all_walked_ascend : (files : List (List Row)) → all_ascend (map walked_readings files) ≡ true
 all_walked_ascend [] = refl
-all_walked_ascend (rows ∷ files) =
-    and_from (texts_ascend (walked_readings rows)) (all_ascend (map walked_readings files)) (walked_ascend rows)
-    (all_walked_ascend files)
+all_walked_ascend (rows ∷ files) = grind (arith, walked_ascend rows, all_walked_ascend files)

@@ -62,9 +62,5 @@ module _ (rows : List Row) (before after : Readings) (key : RowKey) (is_new : Bo
   knows-again old = record {
     differ = knew.differ;
     known =
-        λ other. added other ∙ ap (λ b. b || same_key key other) (knew.known other)
-        ∙ by other (same_key key other) refl;
+        λ other. grind (arith, added other, knew.known other, same_key_equal key other, knew.known key, tells);
   }
-    where
-      by : (other : RowKey) (b : Bool) → same_key key other ≡ b → (has_key rows other || b) ≡ has_key rows other
-      by other b e = grind (arith, e, same_key_equal key other, knew.known key, tells)

@@ -1,6 +1,5 @@
 -- Texts that do not begin as a form does.
-use Rattle.std.proofs.Common.{◌≡◌, ◌==◌, drop, if◌then◌else◌, ℕ, Option, None, Some, List, [], ◌∷◌, refl, inl, inr}
-use Rattle.std.proofs.lemmas.Bool.{cases_Bool}
+use Rattle.std.proofs.Common.{◌≡◌, ◌==◌, drop, if◌then◌else◌, ℕ, Option, None, Some, List, [], ◌∷◌, refl, arith}
 use Rattle.skk_calls.specs.declared.part.Part.TheVariants.{Ari}
 use Rattle.exact_readers.specs.Formats.{past}
 use Rattle.dict_format.specs.Items.{opens_block}
@@ -8,11 +7,7 @@ use Rattle.dict_format.specs.Items.{opens_block}
 -- a text that does not begin with a character begins with no word that does
 pub past_none : (c : ℕ) (word text : List ℕ) → past (c ∷ []) text ≡ None → past (c ∷ word) text ≡ None
 past_none c word [] e = refl
-past_none c word (d ∷ text) e =
-    elim (cases_Bool (d == c)) [
-      | inl begins ↦ let some : ◌≡◌ {A = Option (List ℕ)} (Some text) None = rw begins at e in cc
-      | inr other ↦ rw other refl
-    ]
+past_none c word (d ∷ text) e = grind arith
 
 -- what stands behind the bracket that opens a block
 pub behind_bracket : (text : List ℕ)

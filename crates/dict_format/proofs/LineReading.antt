@@ -300,12 +300,7 @@ module _ (part : Part) (line : List ℕ) where
 
   -- and the row that is read is the one that is spelled
   pub read-exact : (row : Row) → SpellsRow part line row ↔ (row_of_line part line ≡ Some row)
-  read-exact row = (λ is. ap result_ok (line_reading-row row is), by (line_reading part line) refl)
-    where
-      by : (read : Result Row LineReason) → line_reading part line ≡ read → result_ok read ≡ Some row
-          → SpellsRow part line row
-      by (Ok other) e is = spelled row (e ∙ ap Ok (same_Some other row is))
-      by (Err first) e is = cc
+  read-exact row = (λ is. ap result_ok (line_reading-row row is), λ e. spelled row (grind arith))
 
   -- a line spells a row or has a first reason
   pub row_or_reason : ((row : Row) × SpellsRow part line row) ⊎ ((first : LineReason) × IsReason part line first)

@@ -42,9 +42,7 @@ rows_apart part row other here there differ =
 
 -- of two rows of which one is printed before the other the keys differ
 texts_unlike : (text other : List ℕ) → text_less text other ≡ true → same_text text other ≡ false
-texts_unlike text other less =
-    false_from_ne_true (same_text text other) (λ e. both_ways (text_less text other)
-    (ap (text_less text) (sym (same_equal text other e)) ∙ not_itself text_less text_order text) less)
+texts_unlike text other less = grind (arith, same_equal text other, not_itself text_less text_order text)
 
 printed_apart : (part : Part) (row other : Row) → is_printed_before part row other ≡ true
     → differ_in_key row other ≡ true

@@ -95,10 +95,9 @@ each_has : (blocks : List Block) → list_all has_word blocks ≡ true
     → list_all (λ b. some_word (words_with b.okuri blocks)) blocks ≡ true
 each_has [] all = refl
 each_has (b ∷ blocks) all =
-    let parts = and_parts (has_word b) (list_all has_word blocks) all in
     let rest = list_all-weaker (λ c. some_word (words_with c.okuri blocks))
     (λ c. some_word (words_with c.okuri (b ∷ blocks))) (λ c. more_words b blocks c.okuri) blocks
-    (each_has blocks parts.1) in
+    (each_has blocks (grind arith)) in
     let own = list_any-append (λ word. not (is_empty word)) b.words (words_with b.okuri blocks) in
     grind (arith, own, same_itself b.okuri)
 

@@ -64,13 +64,7 @@ module _
     (valid : (part : Part) (line : List ℕ) (row : Row) → row_of_line part line ≡ Some row → is_row row ≡ true) where
   spelled-rows : (entries : List FileEntry) → list_all is_row (spelled_rows entries) ≡ true
   spelled-rows [] = refl
-  spelled-rows (entry ∷ entries) = by (row_of_line entry.part entry.text) refl (spelled-rows entries)
-    where
-      by : (found : Option Row) → row_of_line entry.part entry.text ≡ found
-          → list_all is_row (spelled_rows entries) ≡ true
-          → list_all is_row (cons_option found (spelled_rows entries)) ≡ true
-      by None e rest = rest
-      by (Some row) e rest = grind (arith, valid entry.part entry.text row e)
+  spelled-rows (entry ∷ entries) = grind (arith, valid entry.part entry.text, spelled-rows entries)
 
   pub listed-rows : (entries : List FileEntry) → list_all is_row (listed_rows entries) ≡ true
   listed-rows entries = rows-added [] (spelled_rows entries) refl (spelled-rows entries)

@@ -1,6 +1,6 @@
 -- The candidates of a row in the order of an okurigana: their words, which differ.
-use Rattle.std.proofs.Common.{◌≡◌, ℕ, Bool, true, false, not, ◌||◌, Option, None, Some, List, [], ◌∷◌, ◌++◌, refl}
-use Rattle.std.proofs.Common.{sym, ap, ◌∙◌, cond, ◌+◌, suc, length, nat_lt, position, slice_get, append_assoc, arith}
+use Rattle.std.proofs.Common.{◌≡◌, ℕ, true, false, not, ◌||◌, Option, None, Some, List, [], ◌∷◌, ◌++◌, refl}
+use Rattle.std.proofs.Common.{sym, ap, ◌∙◌, length, nat_lt, position, slice_get, append_assoc, arith}
 use Rattle.std.proofs.Common.{get_or, one-add}
 use Rattle.std.specs.List.{filter, fold, position_or_len}
 use Rattle.std.proofs.lemmas.Bool.Decides.{nat_tests}
@@ -9,7 +9,7 @@ use Rattle.std.proofs.lemmas.List.Elements.{filter-append}
 use Rattle.std.proofs.lemmas.List.Quantifiers.{position-Some}
 use Rattle.std.proofs.lemmas.Option.{slice_get_read}
 use Rattle.skk_text.specs.FilterLaws.{list_all_found, filter_same}
-use Rattle.skk_calls.specs.Found.{block_of, note_of, with_block_first, without_hidden, ordered}
+use Rattle.skk_calls.specs.Found.{note_of, with_block_first, without_hidden, ordered}
 use Rattle.skk_calls.specs.KeyLaws.{same_equal, same_other}
 use Rattle.skk_calls.specs.RowLaws.{block_parts, row_parts}
 use Rattle.skk_calls.specs.Rows.{Cand, Block, Row, same_text, has_text, texts_differ, words_of, is_block, is_row}
@@ -67,15 +67,14 @@ block_first_differ row block differ is_one =
 pub ordered_differ : (row : Row) → is_row row ≡ true → (okuri : Option (List ℕ))
     → texts_differ (words_of (ordered row okuri)) ≡ true
 ordered_differ row valid None = (row_parts row valid).words
-ordered_differ row valid (Some okuri) = by (block_of okuri row.blocks) refl
-  where
-    by : (found : Option Block) → block_of okuri row.blocks ≡ found
-        → texts_differ (words_of (with_block_first row found)) ≡ true
-    by None e = (row_parts row valid).words
-    by (Some block) e =
-        let kept = row_parts row valid in
-        block_first_differ row block kept.words
-        (list_all_found is_block (λ b. same_text b.okuri okuri) row.blocks block kept.blocks e)
+ordered_differ row valid (Some okuri) =
+    grind (
+      arith,
+      (row_parts row valid).words,
+      λ (block : Block). block_first_differ row block (row_parts row valid).words,
+      λ (block : Block). list_all_found is_block (λ (b : Block). same_text b.okuri okuri) row.blocks block
+          (row_parts row valid).blocks,
+    )
 
 -- Candidates that are added
 
@@ -117,22 +116,13 @@ note_at_place : (cands : List Cand) (word : List ℕ) (cand : Cand)
     → cand ≡ record { word = word; note = note_of cands word }
 note_at_place [] word cand here = cc
 note_at_place (first ∷ cands) word cand here =
-    by (same_text word first.word) refl here (note_at_place cands word cand)
-  where
-    by : (b : Bool) → same_text word first.word ≡ b
-        → slice_get (first ∷ cands) (cond (not b) (1 + position_or_len (same_text word) (words_of cands)) 0) ≡ Some cand
-        → (slice_get cands (position_or_len (same_text word) (words_of cands)) ≡ Some cand
-        → cand ≡ record { word = word; note = note_of cands word })
-        → cand ≡ record { word = word; note = cond (same_text first.word word) first.note (note_of cands word) }
-    by true same at rest =
-        let is : first ≡ cand = cc in
-        let found : same_text first.word word ≡ true = same_other first.word word ∙ same in
-        rw found
-        (sym is ∙ ap (λ (w : List ℕ). record { word = w; note = first.note }) (same_equal first.word word found))
-    by false same at rest =
-        let none : same_text first.word word ≡ false = same_other first.word word ∙ same in
-        rw none
-        (rest (ap (slice_get (first ∷ cands)) (sym (one-add (position_or_len (same_text word) (words_of cands)))) ∙ at))
+    grind (
+      arith,
+      same_other first.word word,
+      same_equal first.word word,
+      one-add (position_or_len (same_text word) (words_of cands)),
+      note_at_place cands word cand,
+    )
 
 pub note_at : (cands : List Cand) (word : List ℕ) (place : ℕ) (cand : Cand)
     → position (same_text word) (words_of cands) ≡ Some place → cand ≡ get_or cands place cand
@@ -141,12 +131,8 @@ note_at cands word place cand found here =
     let at = position_or_len (same_text word) (words_of cands) in
     let low = (position-Some (same_text word) (words_of cands) place [] found).0 in
     note_at_place cands word cand
-    (ap (slice_get cands) (is at (nat_lt at (length (words_of cands))) found)
+    (ap (slice_get cands) (grind arith)
     ∙ slice_get_read cands (length cands) place cand refl (omega (arith, low, length-map cands word_of)) here)
-  where
-    is : (at : ℕ) (b : Bool) → cond b (Some at) None ≡ Some place → at ≡ place
-    is at true e = cc
-    is at false e = cc
 
 -- a word that stands nowhere has no note
 no_note_past : (cands : List Cand) (word : List ℕ)
@@ -154,28 +140,10 @@ no_note_past : (cands : List Cand) (word : List ℕ)
     → note_of cands word ≡ []
 no_note_past [] word none = refl
 no_note_past (first ∷ cands) word none =
-    by (same_text word first.word) refl none (no_note_past cands word)
-  where
-    by : (b : Bool) → same_text word first.word ≡ b
-        → nat_lt (cond (not b) (1 + position_or_len (same_text word) (words_of cands)) 0)
-        (suc (length (words_of cands))) ≡ false
-        → (nat_lt (position_or_len (same_text word) (words_of cands)) (length (words_of cands)) ≡ false
-        → note_of cands word ≡ [])
-        → cond (same_text first.word word) first.note (note_of cands word) ≡ []
-    by true same at rest = grind (arith, nat_tests)
-    by false same at rest =
-        let none : same_text first.word word ≡ false = same_other first.word word ∙ same in
-        rw none (rest (later (position_or_len (same_text word) (words_of cands)) (length (words_of cands)) at))
-      where
-        later : (at len : ℕ) → nat_lt (1 + at) (suc len) ≡ false → nat_lt at len ≡ false
-        later at len e = grind (arith, nat_tests)
+    grind (arith, nat_tests, same_other first.word word, no_note_past cands word)
 
 pub no_note : (cands : List Cand) (word : List ℕ) → position (same_text word) (words_of cands) ≡ None
     → note_of cands word ≡ []
 no_note cands word none =
     let at = position_or_len (same_text word) (words_of cands) in
-    no_note_past cands word (past at (nat_lt at (length (words_of cands))) none)
-  where
-    past : (at : ℕ) (b : Bool) → cond b (Some at) None ≡ None → b ≡ false
-    past at true e = cc
-    past at false e = refl
+    no_note_past cands word (grind arith)

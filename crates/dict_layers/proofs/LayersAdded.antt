@@ -1,6 +1,6 @@
 -- The candidates of layers, as they are added layer by layer, where words that were given or hidden are passed.
-use Rattle.std.proofs.Common.{◌≡◌, ℕ, Bool, true, false, not, ◌&&◌, ◌||◌, cond, Option, List, [], ◌∷◌, ◌++◌, refl}
-use Rattle.std.proofs.Common.{sym, ap, ◌∙◌}
+use Rattle.std.proofs.Common.{◌≡◌, ℕ, Bool, true, not, ◌&&◌, ◌||◌, Option, List, [], ◌∷◌, ◌++◌, refl}
+use Rattle.std.proofs.Common.{sym, ap, ◌∙◌, arith}
 use Rattle.std.specs.List.{filter, fold}
 use Rattle.std.proofs.lemmas.List.{append-nil}
 use Rattle.std.proofs.lemmas.List.Folds.{list_any-append}
@@ -23,24 +23,8 @@ merged_differ layers okuri = first_of_each-differ word_of (cands_of_layers [] la
 
 -- Tests
 
-neither : (a b : Bool) → (not b && not a) ≡ not (a || b)
-neither true true = refl
-neither true false = refl
-neither false true = refl
-neither false false = refl
-
-or_true : (a : Bool) → (a || true) ≡ true
-or_true true = refl
-or_true false = refl
-
-or_none : (a : Bool) → (a || false) ≡ a
-or_none true = refl
-or_none false = refl
-
 joined : (c d w h s : Bool) → (s || d) ≡ (w || d) → ((c || d) || (w || h)) ≡ ((c || s) || (d || h))
-joined true d w h s same = refl
-joined false true w h s same = sym (or_true s)
-joined false false w h s same = ap (λ b. b || h) (sym (sym (or_none s) ∙ same ∙ or_none w))
+joined c d w h s same = grind arith
 
 -- Filters
 
@@ -48,34 +32,14 @@ joined false false w h s same = ap (λ b. b || h) (sym (sym (or_none s) ∙ same
 filter_twice : {X : Type 0} (p q r : X → Bool) → ((x : X) → (q x && p x) ≡ r x) → (xs : List X)
     → filter p (filter q xs) ≡ filter r xs
 filter_twice p q r both [] = refl
-filter_twice {X} p q r both (x ∷ xs) = by (q x) (both x) (filter_twice p q r both xs)
-  where
-    by : (b : Bool) → (b && p x) ≡ r x → filter p (filter q xs) ≡ filter r xs
-        → filter p (cond b (x ∷ filter q xs) (filter q xs)) ≡ cond (r x) (x ∷ filter r xs) (filter r xs)
-    by true here rest = ap (λ b. cond b (x ∷ filter p (filter q xs)) (filter p (filter q xs))) here
-        ∙ ap (λ ys. cond (r x) (x ∷ ys) ys) rest
-    by false here rest = rest ∙ ap (λ b. cond b (x ∷ filter r xs) (filter r xs)) here
+filter_twice p q r both (x ∷ xs) = grind (arith, both x, filter_twice p q r both xs)
 
 -- what is hidden of candidates has words that are hidden
 hidden_words : (hidden : List (List ℕ)) (cands : List Cand) (text : List ℕ)
     → (has_text (words_of (without_hidden hidden cands)) text || has_text hidden text)
     ≡ (has_text (words_of cands) text || has_text hidden text)
 hidden_words hidden [] text = refl
-hidden_words hidden (cand ∷ cands) text =
-    by (has_text hidden cand.word) refl (same_text text cand.word) refl (hidden_words hidden cands text)
-  where
-    by : (b : Bool) → has_text hidden cand.word ≡ b → (s : Bool) → same_text text cand.word ≡ s
-        → (has_text (words_of (without_hidden hidden cands)) text || has_text hidden text)
-        ≡ (has_text (words_of cands) text || has_text hidden text)
-        → (has_text (words_of (cond (not b) (cand ∷ without_hidden hidden cands) (without_hidden hidden cands))) text
-        || has_text hidden text)
-        ≡ ((same_text text cand.word || has_text (words_of cands) text) || has_text hidden text)
-    by true e true same rest =
-        let there : has_text hidden text ≡ true = ap (has_text hidden) (same_equal text cand.word same) ∙ e in
-        rw (there, same) (or_true (has_text (words_of (without_hidden hidden cands)) text))
-    by true e false same rest = rw same rest
-    by false e true same rest = rw same refl
-    by false e false same rest = rw same rest
+hidden_words hidden (cand ∷ cands) text = grind (arith, same_equal text cand.word, hidden_words hidden cands text)
 
 -- Layers
 
@@ -96,8 +60,7 @@ layer_shown cands new hidden passed row okuri valid alike shown =
     ∙ ap (λ kept. cands ++ kept)
     (sym (filter_twice (λ (cand : Cand). not (has_text (words_of cands) cand.word))
     (λ (cand : Cand). not (has_text hidden cand.word)) (λ (cand : Cand). not (has_text passed cand.word))
-    (λ cand.
-    neither (has_text (words_of cands) cand.word) (has_text hidden cand.word) ∙ ap not (sym (alike cand.word))) items))
+    (λ cand. grind (arith, alike cand.word)) items))
     ∙ sym (fold_new-apart word_of cands (without_hidden hidden items) differ)
 
 -- before the first layer

@@ -1,9 +1,9 @@
 -- The books that an index keeps, and the state of those that have changed.
-use Rattle.std.proofs.Common.{◌≡◌, ◌==◌, ℕ, ◌+◌, ◌*◌, ◌^◌, ◌≤◌, Bool, true, false, cond, not, ◌||◌, nat_lt, nat_le}
+use Rattle.std.proofs.Common.{◌≡◌, ◌==◌, ℕ, ◌+◌, ◌*◌, ◌^◌, ◌≤◌, Bool, true, false, not, nat_lt, nat_le}
 use Rattle.std.proofs.Common.{Option, None, Some, List, [], ◌∷◌, length, find, refl, sym, ap, ◌∙◌, arith}
 use Rattle.std.specs.Cmp.{IsStrictWeakOrder}
 use Rattle.std.specs.List.{filter, list_all, sum_by}
-use Rattle.std.proofs.lemmas.Bool.{and_from, and_parts, ltb-true, not_from_false}
+use Rattle.std.proofs.lemmas.Bool.{and_parts, ltb-true, not_from_false}
 use Rattle.std.proofs.lemmas.Bool.Decides.{nat_tests}
 use Rattle.std.proofs.lemmas.List.{nil_from_length}
 use Rattle.std.proofs.lemmas.List.Elements.{All-weaker}
@@ -36,56 +36,32 @@ number_order = IsStrictWeakOrder-by_number (λ (book : NumberedBook). book.numbe
 -- two filters, in either order
 filter_swap : {X : Type 0} (p q : X → Bool) (xs : List X) → filter p (filter q xs) ≡ filter q (filter p xs)
 filter_swap p q [] = refl
-filter_swap p q (x ∷ xs) = by (p x) (q x) refl refl (filter_swap p q xs)
-  where
-    by : (a b : Bool) → p x ≡ a → q x ≡ b → filter p (filter q xs) ≡ filter q (filter p xs)
-        → filter p (cond b (x ∷ filter q xs) (filter q xs)) ≡ filter q (cond a (x ∷ filter p xs) (filter p xs))
-    by true true e f rest = rw (e, f) (ap (λ ys. x ∷ ys) rest)
-    by true false e f rest = rw f rest
-    by false true e f rest = rw e rest
-    by false false e f rest = rest
+filter_swap p q (x ∷ xs) = grind (arith, filter_swap p q xs)
 
 -- an item that passes, put among others that are filtered
 filter_put : (p : NumberedBook → Bool) (x : NumberedBook) (xs : List NumberedBook) → p x ≡ true
     → all_pairs by_number xs ≡ true → filter p (insert_by by_number x xs) ≡ insert_by by_number x (filter p xs)
 filter_put p x [] e pairs = rw e refl
 filter_put p x (y ∷ ys) e pairs =
-    let parts = and_parts (list_all (by_number y) ys) (all_pairs by_number ys) pairs in
-    by (by_number x y) refl parts.0 (filter_put p x ys e parts.1)
-  where
-    behind : (b : Bool) → by_number x y ≡ false
-        → filter p (insert_by by_number x ys) ≡ insert_by by_number x (filter p ys)
-        → cond b (y ∷ filter p (insert_by by_number x ys)) (filter p (insert_by by_number x ys))
-        ≡ insert_by by_number x (cond b (y ∷ filter p ys) (filter p ys))
-    behind true f rest = rw f (ap (λ zs. y ∷ zs) rest)
-    behind false f rest = rest
-
-    by : (b : Bool) → by_number x y ≡ b → list_all (by_number y) ys ≡ true
-        → filter p (insert_by by_number x ys) ≡ insert_by by_number x (filter p ys)
-        → filter p (cond b (x ∷ y ∷ ys) (y ∷ insert_by by_number x ys)) ≡ insert_by by_number x (filter p (y ∷ ys))
-    by true f above rest =
-        let all : list_all (by_number x) (y ∷ ys) ≡ true = and_from (by_number x y) (list_all (by_number x) ys) f
-        (list_all-weaker (by_number y) (by_number x) (λ z g. less_trans by_number number_order x y z f g) ys above) in
-        ap (λ b. cond b (x ∷ filter p (y ∷ ys)) (filter p (y ∷ ys))) e
-        ∙ sym (insert_first by_number x (filter p (y ∷ ys)) (list_all-filter (by_number x) p (y ∷ ys) all))
-    by false f above rest = behind (p y) f rest
+    grind (
+      arith,
+      filter_put p x ys e,
+      λ (f : by_number x y ≡ true). list_all-weaker (by_number y) (by_number x)
+          (λ z g. less_trans by_number number_order x y z f g) ys,
+      list_all-filter (by_number x) p (y ∷ ys),
+      insert_first by_number x (filter p (y ∷ ys)),
+    )
 
 -- Books that have changed
 
 -- a book that has not changed has no rows
 no_rows : (book : NumberedBook) → has_changed book ≡ false → has_count book ≡ true → book.rows ≡ []
 no_rows book e counts =
-    nil_from_length book.rows (short (length book.rows) (ap (λ b. b || nat_lt (length book.rows) 1) (sym e) ∙ counts))
-  where
-    short : (n : ℕ) → nat_lt n 1 ≡ true → n ≡ 0
-    short n f = grind (arith, nat_tests)
+    nil_from_length book.rows (grind (arith, nat_tests))
 
 -- nor a count
 no_count : (book : NumberedBook) → has_changed book ≡ false → book.count ≡ 0
-no_count book e = none book.count e
-  where
-    none : (n : ℕ) → nat_lt 0 n ≡ false → n ≡ 0
-    none n f = grind (arith, nat_tests)
+no_count book e = grind (arith, nat_tests)
 
 module _ {A : Type 0} (read : Option NumberedBook → A)
     (nothing : (book : NumberedBook) → has_changed book ≡ false → has_count book ≡ true → read (Some book) ≡ read None)
@@ -96,9 +72,7 @@ module _ {A : Type 0} (read : Option NumberedBook → A)
       ≡ read (find (λ book. book.number == number) books)
   read_changed [] pairs counts = refl
   read_changed (y ∷ ys) pairs counts =
-      let parts = and_parts (list_all (by_number y) ys) (all_pairs by_number ys) pairs in
-      let more = and_parts (has_count y) (list_all has_count ys) counts in
-      by (has_changed y) (y.number == number) refl refl parts.0 more.0 (read_changed ys parts.1 more.1)
+      grind (arith, nothing y, read_changed ys, none_behind)
     where
       -- no other book has the number
       none_behind : (y.number == number) ≡ true → list_all (by_number y) ys ≡ true
@@ -111,19 +85,6 @@ module _ {A : Type 0} (read : Option NumberedBook → A)
         where
           greater : (a b c : ℕ) → (a == b) ≡ true → nat_lt a c ≡ true → not (c == b) ≡ true
           greater a b c f g = grind (arith, nat_tests)
-
-      by : (b d : Bool) → has_changed y ≡ b → (y.number == number) ≡ d → list_all (by_number y) ys ≡ true
-          → has_count y ≡ true
-          → read (find (λ book. book.number == number) (filter has_changed ys))
-          ≡ read (find (λ book. book.number == number) ys)
-          → read (find (λ book. book.number == number) (cond b (y ∷ filter has_changed ys) (filter has_changed ys)))
-          ≡ read (cond d (Some y) (find (λ book. book.number == number) ys))
-      by true true e f above here rest =
-          ap (λ b. read (cond b (Some y) (find (λ book. book.number == number) (filter has_changed ys)))) f
-      by true false e f above here rest =
-          ap (λ b. read (cond b (Some y) (find (λ book. book.number == number) (filter has_changed ys)))) f ∙ rest
-      by false true e f above here rest = ap read (none_behind f above) ∙ sym (nothing y e here)
-      by false false e f above here rest = rest
 
 module _ (all : State) (rows : ℕ) (keeps : IsKept all rows) where
   -- the rows of a book are those of the state
@@ -147,20 +108,13 @@ module _ (all : State) (rows : ℕ) (keeps : IsKept all rows) where
           → sum_by (λ book. length book.rows) (filter has_changed books) ≡ sum_by (λ book. length book.rows) books
       by [] counts = refl
       by (y ∷ ys) counts =
-          let parts = and_parts (has_count y) (list_all has_count ys) counts in
-          either (has_changed y) refl parts.0 (by ys parts.1)
-        where
-          either : (b : Bool) → has_changed y ≡ b → has_count y ≡ true
-              → sum_by (λ book. length book.rows) (filter has_changed ys) ≡ sum_by (λ book. length book.rows) ys
-              → sum_by (λ book. length book.rows) (cond b (y ∷ filter has_changed ys) (filter has_changed ys))
-              ≡ sum_by (λ book. length book.rows) (y ∷ ys)
-          either true e here rest =
-              sum_by-cons (λ (book : NumberedBook). length book.rows) y (filter has_changed ys)
-              ∙ ap (λ n. length y.rows + n) rest ∙ sym (sum_by-cons (λ (book : NumberedBook). length book.rows) y ys)
-          either false e here rest =
-              let none : length y.rows ≡ 0 = ap length (no_rows y e here) in
-              let more = sum_by-cons (λ (book : NumberedBook). length book.rows) y ys in
-              omega (arith, none, rest, more)
+          grind (
+            arith,
+            by ys,
+            no_rows y,
+            sum_by-cons (λ (book : NumberedBook). length book.rows) y (filter has_changed ys),
+            sum_by-cons (λ (book : NumberedBook). length book.rows) y ys,
+          )
 
   -- a book that has changed comes in its place
   pub book_changed : (book : NumberedBook) → has_changed book ≡ true
@@ -215,16 +169,13 @@ pub rows_counted : (all : State) (rows : ℕ) → IsKept all rows → rows ≤ 6
 rows_counted all rows keeps =
     let books = all.books in
     let short = few 0 books keeps.ascend keeps.held
-    (list_all-weaker is_held (λ book. nat_le 0 book.number) (λ book e. from_zero book.number) books keeps.held)
+    (list_all-weaker is_held (λ book. nat_le 0 book.number) (λ book e. grind (arith, nat_tests)) books keeps.held)
     (omega arith) in
     let each = All-weaker (λ book. is_held book ≡ true) (λ book. length book.rows ≤ 18446744073709551616)
     (λ book e. few_rows book e) books (AllPass-from_list_all is_held books keeps.held) in
     let sum = sum_by-le (λ (book : NumberedBook). length book.rows) 18446744073709551616 books each in
     omega (arith, keeps.counted, sum, short)
   where
-    from_zero : (n : ℕ) → nat_le 0 n ≡ true
-    from_zero n = grind (arith, nat_tests)
-
     few_rows : (book : NumberedBook) → is_held book ≡ true → length book.rows ≤ 18446744073709551616
     few_rows book e =
         let low = ltb-true (length book.rows) (2 ^ 64)

@@ -45,11 +45,7 @@ read_at p (y ∷ ys) (suc i) x e read = read_at p ys i x e read
 
 -- a book that has room is there
 pub room_there : (index : Index) (number : ℕ) → 0 < spare_of index number → keeps_book index number ≡ true
-room_there index number room = by (find (λ s. s.number == number) index.spare) room
-  where
-    by : (found : Option Spare) → 0 < changes_of found → is_some found ≡ true
-    by None e = absurd (omega (arith, e))
-    by (Some s) e = refl
+room_there index number room = grind arith
 
 -- what is read of items among which one is put
 map_insert : {X Y : Type 0} (f : X → Y) (xs : List X) (i : ℕ) (x : X)
@@ -68,14 +64,9 @@ filter_insert p (y ∷ ys) (suc i) x e = ap (λ zs. cond (p y) (y ∷ zs) zs) (f
 -- an item that is put among others is found, if none is found before
 inserted_found : {X : Type 0} (p : X → Bool) (xs : List X) (i : ℕ) (x : X) → p x ≡ true
     → is_some (find p (insert xs i x)) ≡ true
-inserted_found p xs zero x e = ap (λ b. is_some (cond b (Some x) (find p xs))) e
-inserted_found p [] (suc i) x e = ap (λ b. is_some (cond b (Some x) None)) e
-inserted_found p (y ∷ ys) (suc i) x e = by (p y) (inserted_found p ys i x e)
-  where
-    by : (b : Bool) → is_some (find p (insert ys i x)) ≡ true
-        → is_some (cond b (Some y) (find p (insert ys i x))) ≡ true
-    by true rest = refl
-    by false rest = rest
+inserted_found p xs zero x e = grind arith
+inserted_found p [] (suc i) x e = grind arith
+inserted_found p (y ∷ ys) (suc i) x e = grind (arith, inserted_found p ys i x e)
 
 -- books in memory ascend by their numbers
 pub numbers_ascend : (items : List LearnedBook) → books_ascend (kept items).books ≡ true
@@ -95,19 +86,7 @@ module _ (items : List LearnedBook) (number place : ℕ) (ascend : books_ascend 
   -- a book that is there stands at the place
   pub stands : (state : State) → keeps_book (record { state = state; spare = map spare items }) number ≡ true
       → passes (λ (book : LearnedBook). book.number == number) (slice_get items place) ≡ true
-  stands state there =
-      by (slice_get items place)
-      (ap is_some (ap (option_map spare) (sym found) ∙ sym (find-map spare (λ s. s.number == number) items)) ∙ there)
-    where
-      by : (item : Option LearnedBook) → is_some (option_map spare
-          (option_and_then (λ (book : LearnedBook). cond (book.number == number) (Some book) None) item)) ≡ true
-          → passes (λ (book : LearnedBook). book.number == number) item ≡ true
-      by None e = cc
-      by (Some book) e = either (book.number == number) e
-        where
-          either : (b : Bool) → is_some (option_map spare (cond b (Some book) None)) ≡ true → b ≡ true
-          either true f = refl
-          either false f = cc
+  stands state there = grind (arith, found, find-map spare (λ (s : Spare). s.number == number) items)
 
   -- and is the one that is read there
   pub stands_at : (state : State) (book : LearnedBook)
@@ -120,15 +99,7 @@ module _ (items : List LearnedBook) (number place : ℕ) (ascend : books_ascend 
   -- a book that stands at the place is there
   pub there_by : (state : State) → passes (λ (book : LearnedBook). book.number == number) (slice_get items place) ≡ true
       → keeps_book (record { state = state; spare = map spare items }) number ≡ true
-  there_by state there =
-      ap is_some (find-map spare (λ s. s.number == number) items ∙ ap (option_map spare) found)
-      ∙ by (slice_get items place) there
-    where
-      by : (item : Option LearnedBook) → passes (λ (book : LearnedBook). book.number == number) item ≡ true
-          → is_some (option_map spare
-          (option_and_then (λ (book : LearnedBook). cond (book.number == number) (Some book) None) item)) ≡ true
-      by None e = cc
-      by (Some book) e = ap (λ b. is_some (option_map spare (cond b (Some book) None))) e
+  there_by state there = grind (arith, found, find-map spare (λ (s : Spare). s.number == number) items)
 
   -- a book that has not changed, put where its number is not there
   module _ (rows : ℕ) (keeps : IsKept (kept items) rows) (new : LearnedBook) (same : new.number ≡ number)

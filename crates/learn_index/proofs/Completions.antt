@@ -1,6 +1,6 @@
 -- What a completion is answered: the readings of books, of which the newest are enough, and of the walks over files.
 use Rattle.std.proofs.Common.{◌≡◌, ◌==◌, ℕ, Bool, true, false, cond, List, [], ◌∷◌, ◌++◌, map, take}
-use Rattle.std.proofs.Common.{refl, sym, ap, ◌∙◌}
+use Rattle.std.proofs.Common.{refl, ap, ◌∙◌, arith}
 use Rattle.std.specs.List.{filter, flat_map, list_all}
 use Rattle.std.proofs.lemmas.Bool.{and_from, and_parts}
 use Rattle.std.proofs.lemmas.List.Folds.{list_all-append, list_all-map}
@@ -14,7 +14,7 @@ use Rattle.skk_calls.specs.Dictionary.{is_plain_reading}
 use Rattle.skk_calls.specs.Found.{first_of_each}
 use Rattle.skk_calls.specs.KeyLaws.{same_part_equal}
 use Rattle.skk_calls.specs.Orders.{is_newer, text_less}
-use Rattle.skk_calls.specs.Rows.{Row, is_row, is_row_key, keys_differ, same_part, texts_differ}
+use Rattle.skk_calls.specs.Rows.{Row, is_row, keys_differ}
 use Rattle.skk_calls.specs.States.{State, count_of, fits_count, is_valid, rows_of}
 use Rattle.dict_laws.specs.ValidStates.{rows_of_ascend, rows_of_fit}
 use Rattle.dict_files.specs.Files.{is_file}
@@ -32,10 +32,7 @@ walked_on : (prefix : List ℕ)
     → (files : List (List Row)) → list_all is_file files ≡ true
     → flat_map (filter (goes_on_from prefix)) (map walked_readings files) ≡ flat_map (ascending_readings prefix) files
 walked_on prefix same [] valid = refl
-walked_on prefix same (rows ∷ files) valid =
-    let parts = and_parts (is_file rows) (list_all is_file files) valid in
-    let differ = (and_parts (list_all is_row rows) (keys_differ rows) parts.0).1 in
-    rw (same rows differ, walked_on prefix same files parts.1) refl
+walked_on prefix same (rows ∷ files) valid = grind (arith, same rows, walked_on prefix same files)
 
 -- The readings of the books
 
@@ -59,7 +56,8 @@ module _ (files : List (List Row)) (state : State) (who : ℕ) (prefix : List �
       ap (λ readings. completions_among (take completion_limit own) readings (map walked_readings files) prefix)
       (first_shared (who == 0))
       ∙ first_enough own shared (map walked_readings files) prefix
-      (newest_differ prefix (rows_of state who) (rows_of_ascend state who valid)) (shared_differ (who == 0))
+      (newest_differ prefix (rows_of state who) (rows_of_ascend state who valid))
+      (grind (arith, newest_differ prefix (rows_of state 0) (rows_of_ascend state 0 valid)))
       ∙ ap (λ readings. take completion_limit (first_of_each (λ reading. reading) [] (own ++ shared ++ readings)))
       (walked_on prefix same files filed)
     where
@@ -69,37 +67,18 @@ module _ (files : List (List Row)) (state : State) (who : ℕ) (prefix : List �
       first_shared true = refl
       first_shared false = refl
 
-      shared_differ : (b : Bool) → texts_differ (cond b [] (newest_readings prefix (rows_of state 0))) ≡ true
-      shared_differ true = refl
-      shared_differ false = newest_differ prefix (rows_of state 0) (rows_of_ascend state 0 valid)
-
 -- Valid readings
 
 -- the reading of a row that completes a prefix is valid
 plain_row : (prefix : List ℕ) (row : Row) → is_row row ≡ true → completes prefix row ≡ true
     → is_plain_reading (reading_of row) ≡ true
-plain_row prefix row valid e =
-    ap (λ part. is_row_key (record { part = part; reading = row.key.reading }))
-    (sym (same_part_equal row.key.part Nasi (and_parts (same_part row.key.part Nasi) _ e).0))
-    ∙ (and_parts (is_row_key row.key) _ valid).0
+plain_row prefix row valid e = grind (arith, same_part_equal row.key.part Nasi)
 
 -- so are those of all rows
 plain_rows : (prefix : List ℕ) (rows : List Row) → list_all is_row rows ≡ true
     → list_all (λ row. is_plain_reading (reading_of row)) (filter (completes prefix) rows) ≡ true
 plain_rows prefix [] valid = refl
-plain_rows prefix (row ∷ rows) valid =
-    let parts = and_parts (is_row row) (list_all is_row rows) valid in
-    by (completes prefix row) refl parts.0 (plain_rows prefix rows parts.1)
-  where
-    by : (b : Bool) → completes prefix row ≡ b → is_row row ≡ true
-        → list_all (λ r. is_plain_reading (reading_of r)) (filter (completes prefix) rows) ≡ true
-        → list_all (λ r. is_plain_reading (reading_of r))
-        (cond b (row ∷ filter (completes prefix) rows) (filter (completes prefix) rows)) ≡ true
-    by true e here rest =
-        and_from (is_plain_reading (reading_of row))
-        (list_all (λ r. is_plain_reading (reading_of r)) (filter (completes prefix) rows))
-        (plain_row prefix row here e) rest
-    by false e here rest = rest
+plain_rows prefix (row ∷ rows) valid = grind (arith, plain_row prefix row, plain_rows prefix rows)
 
 -- of a book and of a file
 newest_plain : (prefix : List ℕ) (rows : List Row) → list_all is_row rows ≡ true
@@ -120,12 +99,12 @@ filed_plain : (prefix : List ℕ) (files : List (List Row)) → list_all is_file
     → list_all is_plain_reading (flat_map (ascending_readings prefix) files) ≡ true
 filed_plain prefix [] valid = refl
 filed_plain prefix (rows ∷ files) valid =
-    let parts = and_parts (is_file rows) (list_all is_file files) valid in
-    let good = (and_parts (list_all is_row rows) (keys_differ rows) parts.0).0 in
-    list_all-append is_plain_reading (ascending_readings prefix rows) (flat_map (ascending_readings prefix) files)
-    ∙ and_from (list_all is_plain_reading (ascending_readings prefix rows))
-    (list_all is_plain_reading (flat_map (ascending_readings prefix) files)) (ascending_plain prefix rows good)
-    (filed_plain prefix files parts.1)
+    grind (
+      arith,
+      list_all-append is_plain_reading (ascending_readings prefix rows) (flat_map (ascending_readings prefix) files),
+      ascending_plain prefix rows,
+      filed_plain prefix files,
+    )
 
 -- the rows of a book of a valid state are rows
 rows_valid : (state : State) (number : ℕ) → is_valid state ≡ true → list_all is_row (rows_of state number) ≡ true
@@ -148,9 +127,6 @@ completions_plain files state who prefix valid filed =
     ∙ and_from (list_all is_plain_reading (own ++ shared)) (list_all is_plain_reading behind)
     (list_all-append is_plain_reading own shared
     ∙ and_from (list_all is_plain_reading own) (list_all is_plain_reading shared)
-    (newest_plain prefix (rows_of state who) (rows_valid state who valid)) (shared_plain (who == 0)))
+    (newest_plain prefix (rows_of state who) (rows_valid state who valid))
+    (grind (arith, newest_plain prefix (rows_of state 0) (rows_valid state 0 valid))))
     (filed_plain prefix files filed)))
-  where
-    shared_plain : (b : Bool) → list_all is_plain_reading (cond b [] (newest_readings prefix (rows_of state 0))) ≡ true
-    shared_plain true = refl
-    shared_plain false = newest_plain prefix (rows_of state 0) (rows_valid state 0 valid)

@@ -4,7 +4,7 @@ use Rattle.std.proofs.Common.{nat_lt, List, []}
 use Rattle.std.proofs.Common.{◌∷◌, ◌-◌, drop, get_or, length, length-drop, refl, sym, ap, ◌∙◌, arith, take}
 use Rattle.std.specs.Cmp.{IsStrictWeakOrder}
 use Rattle.std.specs.List.{filter, list_all, starts_with}
-use Rattle.std.proofs.lemmas.Bool.{and_from, and_parts, both_ways, not-true, not_from_false}
+use Rattle.std.proofs.lemmas.Bool.{and_from, and_parts, not-true, not_from_false}
 use Rattle.std.proofs.lemmas.Bool.Decides.{nat_tests}
 use Rattle.std.proofs.lemmas.List.{append-nil, take_all}
 use Rattle.skk_text.specs.FilterLaws.{list_all_kept}
@@ -13,12 +13,11 @@ use Rattle.skk_text.specs.Pairs.{all_pairs}
 use Rattle.skk_text.specs.PairsLaws.{all_pairs-filter, all_pairs-map, pairs_within}
 use Rattle.ordered_lists.specs.OrderLaws.{all_pairs-sort_by, apart, none_behind}
 use Rattle.ordered_lists.specs.Orders.{IsPlace, sort_by}
-use Rattle.skk_calls.specs.declared.part.Part.{Part}
-use Rattle.skk_calls.specs.declared.part.Part.TheVariants.{Nasi, Ari}
+use Rattle.skk_calls.specs.declared.part.Part.TheVariants.{Nasi}
 use Rattle.skk_calls.specs.Completions.{completes, goes_on_from, newest_readings, reading_of}
 use Rattle.skk_calls.specs.KeyLaws.{same_equal, same_other}
 use Rattle.skk_calls.specs.OrderLaws.{row_keys, text_order, texts_apart}
-use Rattle.skk_calls.specs.Orders.{is_newer, key_less, less_by_part, plain_key, row_less, text_less}
+use Rattle.skk_calls.specs.Orders.{is_newer, key_less, plain_key, row_less, text_less}
 use Rattle.skk_calls.specs.Rows.{Row, RowKey, same_part, same_text, texts_differ}
 use Rattle.skk_calls.specs.States.{rows_ascend}
 use Rattle.dict_complete.specs.PrefixLaws.{begins_from, goes_on_between, goes_on_greater, less_other}
@@ -34,17 +33,12 @@ begins prefix row = same_part row.key.part Nasi && starts_with nat_eq row.key.re
 -- what completes a prefix has no okurigana and goes on from it
 completing_parts : (prefix : List ℕ) (row : Row) → completes prefix row ≡ true
     → (same_part row.key.part Nasi ≡ true) × (goes_on_from prefix row.key.reading ≡ true)
-completing_parts prefix row e =
-    let parts =
-    and_parts (same_part row.key.part Nasi) (not (is_empty row.cands) && goes_on_from prefix row.key.reading) e in
-    (parts.0, (and_parts (not (is_empty row.cands)) (goes_on_from prefix row.key.reading) parts.1).1)
+completing_parts prefix row e = (grind arith, grind arith)
 
 -- what begins with a prefix, has a candidate and is another reading completes it
 pub completes_begun : (prefix : List ℕ) (row : Row) → begins prefix row ≡ true
     → (not (is_empty row.cands) && not (same_text row.key.reading prefix)) ≡ completes prefix row
-completes_begun prefix row e =
-    let parts = and_parts (same_part row.key.part Nasi) (starts_with nat_eq row.key.reading prefix) e in
-    sym (rw (parts.0, parts.1) refl)
+completes_begun prefix row e = grind arith
 
 -- The run of rows that begin with a prefix
 
@@ -56,56 +50,25 @@ all_behind rows place =
 module _ (prefix : List ℕ) where
   -- a row that is less than the prefix does not complete it
   low_fails : (row : Row) → key_less row.key (plain_key prefix) ≡ true → completes prefix row ≡ false
-  low_fails row less = by row.key.part less
-    where
-      by : (p : Part) → less_by_part p Nasi (text_less row.key.reading prefix) ≡ true
-          → (same_part p Nasi && (not (is_empty row.cands) && goes_on_from prefix row.key.reading)) ≡ false
-      by Ari e = refl
-      by Nasi e = either (not (is_empty row.cands)) (goes_on_from prefix row.key.reading) refl
-        where
-          either : (a b : Bool) → goes_on_from prefix row.key.reading ≡ b → (a && b) ≡ false
-          either true true f =
-              absurd (both_ways (text_less prefix row.key.reading) (text_order.one_way row.key.reading prefix e)
-              (goes_on_greater prefix row.key.reading f))
-          either true false f = refl
-          either false b f = refl
+  low_fails row less =
+      grind (
+        arith,
+        text_order.one_way row.key.reading prefix,
+        goes_on_greater prefix row.key.reading,
+      )
 
   -- behind a row that is not less than the prefix and does not begin with it, none completes it
   behind_fails : (row : Row) → key_less row.key (plain_key prefix) ≡ false → begins prefix row ≡ false → (other : Row)
       → row_less row other ≡ true → completes prefix other ≡ false
-  behind_fails row not_low ends other above = by row.key.part other.key.part not_low ends above
-    where
-      -- the reading is greater than the prefix
-      greater : text_less row.key.reading prefix ≡ false → starts_with nat_eq row.key.reading prefix ≡ false
-          → text_less prefix row.key.reading ≡ true
-      greater not_less other_start = either (same_text row.key.reading prefix) refl
-        where
-          either : (b : Bool) → same_text row.key.reading prefix ≡ b → text_less prefix row.key.reading ≡ true
-          either true e =
-              absurd (both_ways (starts_with nat_eq row.key.reading prefix) other_start
-              (begins_from row.key.reading prefix []
-              (same_equal row.key.reading prefix e ∙ sym (append-nil prefix))))
-          either false e =
-              ap (λ b. b || text_less prefix row.key.reading) (sym not_less)
-              ∙ texts_apart row.key.reading prefix e
-
-      by : (p q : Part) → less_by_part p Nasi (text_less row.key.reading prefix) ≡ false
-          → (same_part p Nasi && starts_with nat_eq row.key.reading prefix) ≡ false
-          → less_by_part p q (text_less row.key.reading other.key.reading) ≡ true
-          → (same_part q Nasi && (not (is_empty other.cands) && goes_on_from prefix other.key.reading)) ≡ false
-      by p Ari e f g = refl
-      by Ari Nasi e f g = cc
-      by Nasi Nasi e f g = either (not (is_empty other.cands)) (goes_on_from prefix other.key.reading) refl
-        where
-          either : (a b : Bool) → goes_on_from prefix other.key.reading ≡ b → (a && b) ≡ false
-          either true true h =
-              let between =
-              goes_on_between prefix row.key.reading other.key.reading (greater e f) g h in
-              absurd (both_ways (starts_with nat_eq row.key.reading prefix) f
-              (and_parts (starts_with nat_eq row.key.reading prefix)
-              (not (same_text row.key.reading prefix)) between).0)
-          either true false h = refl
-          either false b h = refl
+  behind_fails row not_low ends other above =
+      grind (
+        arith,
+        same_equal row.key.reading prefix,
+        begins_from row.key.reading prefix [],
+        append-nil prefix,
+        texts_apart row.key.reading prefix,
+        goes_on_between prefix row.key.reading other.key.reading,
+      )
 
   -- before the place of the prefix no row completes it
   pub completing_behind : (rows : List Row) (place : ℕ) → IsPlace key row_keys (plain_key prefix) rows place
@@ -123,8 +86,7 @@ module _ (prefix : List ℕ) where
   pub behind_ascends : (rows : List Row) (place : ℕ) → rows_ascend rows ≡ true → rows_ascend (drop place rows) ≡ true
   behind_ascends rows zero ascend = ascend
   behind_ascends [] (suc place) ascend = refl
-  behind_ascends (row ∷ rows) (suc place) ascend =
-      behind_ascends rows place (and_parts (list_all (row_less row) rows) (rows_ascend rows) ascend).1
+  behind_ascends (row ∷ rows) (suc place) ascend = grind (arith, behind_ascends rows place)
 
   pub behind_high : (rows : List Row) (place : ℕ) → IsPlace key row_keys (plain_key prefix) rows place
       → list_all (λ row. not (key_less row.key (plain_key prefix))) (drop place rows) ≡ true
@@ -152,17 +114,9 @@ module _ (prefix : List ℕ) where
   run_ends (first ∷ rows) zero row ascend high within is ends =
       let parts = and_parts (list_all (row_less first) rows) (rows_ascend rows) ascend in
       let not_low = (and_parts (not (key_less first.key (plain_key prefix))) _ high).0 in
-      rw is (none_behind row_less (completes prefix) row rows (ended (completes prefix row) refl)
+      rw is (none_behind row_less (completes prefix) row rows (grind arith)
       (behind_fails row (not-true (key_less row.key (plain_key prefix)) (rw (← is) not_low)) ends)
       (rw (← is) parts.0))
-    where
-      ended : (b : Bool) → completes prefix row ≡ b → b ≡ false
-      ended true e =
-          let parts = completing_parts prefix row e in
-          absurd (both_ways (begins prefix row) ends
-          (and_from (same_part row.key.part Nasi) (starts_with nat_eq row.key.reading prefix) parts.0
-          (and_parts (starts_with nat_eq row.key.reading prefix) (not (same_text row.key.reading prefix)) parts.1).0))
-      ended false e = refl
   run_ends (first ∷ rows) (suc i) row ascend high within is ends =
       run_ends rows i row (and_parts (list_all (row_less first) rows) (rows_ascend rows) ascend).1
       (and_parts (not (key_less first.key (plain_key prefix))) _ high).1 (omega (arith, within)) is ends
@@ -213,15 +167,7 @@ apart_newer row other less =
 -- of two of them that are in order the readings are
 readings_less : (prefix : List ℕ) (row other : Row) → completes prefix row ≡ true → completes prefix other ≡ true
     → row_less row other ≡ true → text_less row.key.reading other.key.reading ≡ true
-readings_less prefix row other e f less =
-    by row.key.part other.key.part (completing_parts prefix row e).0 (completing_parts prefix other f).0 less
-  where
-    by : (p q : Part) → same_part p Nasi ≡ true → same_part q Nasi ≡ true
-        → less_by_part p q (text_less row.key.reading other.key.reading) ≡ true
-        → text_less row.key.reading other.key.reading ≡ true
-    by Nasi Nasi g h less = less
-    by Ari q g h less = cc
-    by Nasi Ari g h less = cc
+readings_less prefix row other e f less = grind arith
 
 -- one of them is always newer
 pub completing_apart : (prefix : List ℕ) (rows : List Row) → rows_ascend rows ≡ true

@@ -19,7 +19,6 @@ use Rattle.skk_calls.specs.Dictionary.{is_row_or_none, is_stamped, stamp_of, lin
 use Rattle.skk_calls.specs.KeyLaws.{same_key_equal, same_key_itself}
 use Rattle.skk_calls.specs.Learning.{learnt, purged, purge_changes, is_row_before, is_valid_learned}
 use Rattle.skk_calls.specs.Rows.{RowKey, Cand, Row, Learned as LearnedRow, same_key, is_row_key, is_row}
-use Rattle.skk_calls.specs.RowLaws.{row_parts}
 use Rattle.skk_calls.specs.States.{State, row_in, rows_of, row_at, count_of, without_row, with_book, state_with}
 use Rattle.skk_calls.specs.States.{has_stamp, fits_count, is_valid}
 use Rattle.dict_laws.specs.ChangedStates.{after_moved, before_has_key, book_at_changed, changed_book, count_of_changed}
@@ -100,25 +99,17 @@ pub put_valid : (state : State) (book count : ℕ) (row : Row) → is_valid stat
     → nat_le (count_of state book) count ≡ true → fits_count count row ≡ true
     → is_valid (state_with state book count row.key (Some row)) ≡ true
 put_valid state book count row valid later fits =
-    is_valid_changed state book count row.key (Some row) valid (stamped count row fits) later
+    is_valid_changed state book count row.key (Some row) valid (grind (arith, between row.stamp count)) later
     (same_key_itself row.key) fits
   where
-    stamped : (n : ℕ) (r : Row) → fits_count n r ≡ true → nat_le 1 n ≡ true
-    stamped n r e =
-        let stamp = (and_parts (is_good r) (has_stamp n r) (and_parts (is_row r) (is_good r && has_stamp n r) e).1).1 in
-        between r.stamp n stamp
-      where
-        between : (s m : ℕ) → (nat_le 1 s && nat_le s m) ≡ true → nat_le 1 m ≡ true
-        between s m f = grind (arith, nat_tests)
+    between : (s m : ℕ) → (nat_le 1 s && nat_le s m) ≡ true → nat_le 1 m ≡ true
+    between s m f = grind (arith, nat_tests)
 
 -- and so may none
 pub drop_valid : (state : State) (book count : ℕ) (key : RowKey) → is_valid state ≡ true → 0 < count
     → nat_le (count_of state book) count ≡ true → is_valid (state_with state book count key None) ≡ true
 drop_valid state book count key valid some later =
-    is_valid_changed state book count key None valid (at_least count some) later refl refl
-  where
-    at_least : (n : ℕ) → 0 < n → nat_le 1 n ≡ true
-    at_least n e = grind (arith, nat_tests)
+    is_valid_changed state book count key None valid (grind (arith, nat_tests)) later refl refl
 
 -- a key that no row has
 abbrev no_key : RowKey
@@ -134,14 +125,7 @@ none_there state book valid =
     (rows_of state book) (rows_of_fit state book valid))
   where
     differs : (row : Row) → is_row row ≡ true → same_key row.key no_key ≡ false
-    differs row e = either (same_key row.key no_key) refl
-      where
-        either : (b : Bool) → same_key row.key no_key ≡ b → b ≡ false
-        either true f =
-            let valid_key : is_row_key no_key ≡ true =
-            ap is_row_key (sym (same_key_equal row.key no_key f)) ∙ (row_parts row e).key in
-            cc
-        either false f = refl
+    differs row e = grind (arith, same_key_equal row.key no_key)
 
 -- a book may get a later count
 pub count_valid : (state : State) (book count : ℕ) → is_valid state ≡ true → 0 < count
@@ -182,12 +166,7 @@ before_valid state book key stamp valid later =
     by : (found : Option Row) → fits_after (count_of state book) found ≡ true → has_key key found ≡ true
         → is_row_before key stamp found ≡ true
     by None fits has = refl
-    by (Some row) fits has =
-        let parts = and_parts (is_good row) (has_stamp (count_of state book) row)
-        (and_parts (is_row row) (is_good row && has_stamp (count_of state book) row) fits).1 in
-        and_from (same_key row.key key) (is_good row && (nat_le 1 row.stamp && nat_lt row.stamp stamp)) has
-        (and_from (is_good row) (nat_le 1 row.stamp && nat_lt row.stamp stamp) parts.0
-        (between row.stamp (count_of state book) stamp parts.1 later))
+    by (Some row) fits has = grind (arith, between row.stamp (count_of state book) stamp)
 
 -- the plan of a change that would leave a row
 abbrev pub row_plan : ℕ → ℕ → RowKey → Row → Reply → Plan

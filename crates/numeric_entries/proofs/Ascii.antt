@@ -3,11 +3,11 @@ use Rattle.std.proofs.Common.{◌≡◌, ◌<◌, ℕ, zero, suc, true, List, []
 use Rattle.std.specs.Char.{is_ascii_digit}
 use Rattle.std.specs.List.{list_all}
 use Rattle.std.specs.Str.{IsAscii}
-use Rattle.std.proofs.lemmas.Bool.{and_parts, leb-true}
+use Rattle.std.proofs.lemmas.Bool.{and_parts}
+use Rattle.std.proofs.lemmas.Bool.Decides.{nat_tests}
 
 digit-ascii : (c : ℕ) → is_ascii_digit c ≡ true → c < 128
-digit-ascii c digit =
-    let last : c < 58 = omega (arith, leb-true c 57 (and_parts _ _ digit).1) in omega arith
+digit-ascii c digit = grind (arith, nat_tests)
 
 -- each byte of digits is below 128
 pub digits-ascii : (digits : List ℕ) → list_all is_ascii_digit digits ≡ true → IsAscii digits

@@ -2,14 +2,13 @@
 use Rattle.std.proofs.Common.{◌≡◌, ◌∙◌, ◌<◌, ◌≤◌, ◌+◌, ℕ, Bool, true, false, Option, None, Some, List, [], ◌∷◌}
 use Rattle.std.proofs.Common.{◌++◌, inl, inr, length, length-append, take, drop, get_or, refl, sym, ap, arith, add-zero}
 use Rattle.std.proofs.Common.{append_assoc, encode_utf8_all}
-use Rattle.std.specs.Prelude.{◌==◌}
 use Rattle.std.specs.List.{list_any}
 use Rattle.std.specs.Option.{option_map_or}
 use Rattle.std.specs.Bool.{MatchBool}
 use Rattle.std.specs.Str.{chars, IsUtf8}
 use Rattle.std.specs.Str.Pattern.{FindsText, HasMatch, LacksTextAt}
 use Rattle.std.proofs.Math.Seq.{drop-append_seam}
-use Rattle.std.proofs.lemmas.Bool.{or_cases, or_right}
+use Rattle.std.proofs.lemmas.Bool.{or_cases}
 use Rattle.std.proofs.lemmas.Bool.Decides.{nat_tests}
 use Rattle.std.proofs.lemmas.List.{drop_all, get_or-drop, get_or-take, length-drop, length-take-le}
 use Rattle.std.proofs.lemmas.Str.{chars-nil, encodes-append}
@@ -50,10 +49,7 @@ asks-holds (c ∷ next ∷ word) e =
         let held = others e in (c ∷ held.0, held.1, ap (λ text. c ∷ text) held.2)
     by (Some form) is e rest others =
         elim (or_cases (is_lookup (stands next form)) (asks_lookup word) e) [
-          | inl here ↦
-              let begun = form_begun c next form is in
-              let named = begun.1 ∙ ap (λ (f : Form). Some f) (lookup_form next form here) in
-              ([], word, ap (λ d. d ∷ next ∷ word) begun.0 ∙ ap (λ d. 35 ∷ d ∷ word) (lookup_named next named))
+          | inl here ↦ ([], word, grind (arith, form_begun c next, lookup_form next, lookup_named next))
           | inr later ↦
               let held = rest later in (c ∷ next ∷ held.0, held.1, ap (λ text. c ∷ next ∷ text) held.2)
         ]
@@ -61,23 +57,8 @@ asks-holds (c ∷ next ∷ word) e =
 -- a word that holds the mark asks for a look-up
 holds-asks : (before behind : List ℕ) → asks_lookup (before ++ (mark ++ behind)) ≡ true
 holds-asks [] behind = refl
-holds-asks (c ∷ []) behind = by (c == 35) refl
-  where
-    by : (b : Bool) → (c == 35) ≡ b → asks_lookup (c ∷ mark ++ behind) ≡ true
-    by true hash = rw hash refl
-    by false other = rw other refl
-holds-asks (c ∷ next ∷ before) behind =
-    by (form_of c next) refl (holds-asks before behind) (holds-asks (next ∷ before) behind)
-  where
-    word : List ℕ
-    word = before ++ (mark ++ behind)
-
-    by : (found : Option Form) → form_of c next ≡ found → asks_lookup (before ++ (mark ++ behind)) ≡ true
-        → asks_lookup (next ∷ before ++ (mark ++ behind)) ≡ true
-        → asks_lookup (c ∷ next ∷ before ++ (mark ++ behind)) ≡ true
-    by None is rest others = ap (asks c next (before ++ (mark ++ behind))) is ∙ others
-    by (Some form) is rest others =
-        ap (asks c next (before ++ (mark ++ behind))) is ∙ or_right (is_lookup (stands next form)) _ rest
+holds-asks (c ∷ []) behind = grind arith
+holds-asks (c ∷ next ∷ before) behind = grind (arith, holds-asks before behind, holds-asks (next ∷ before) behind)
 
 -- a word asks for a look-up exactly where it holds the mark
 pub asks_lookup-Holds : (word : List ℕ) → (asks_lookup word ≡ true → Holds mark word)

@@ -1,13 +1,11 @@
 -- The parts of a word, and what they are filled with.
-use Rattle.std.proofs.Common.{◌≡◌, ◌∙◌, ◌+◌, ℕ, zero, suc, Bool, true, false, Option, None, Some, List, [], ◌∷◌, ◌++◌}
-use Rattle.std.proofs.Common.{add-one, drop, refl, sym, ap, append_assoc}
-use Rattle.std.specs.Prelude.{◌==◌, slice_get, if◌then◌else◌}
+use Rattle.std.proofs.Common.{◌≡◌, ◌∙◌, ◌+◌, ℕ, zero, suc, Bool, true, Some, List, [], ◌∷◌, ◌++◌}
+use Rattle.std.proofs.Common.{add-one, drop, refl, sym, ap, append_assoc, arith}
+use Rattle.std.specs.Prelude.{slice_get}
 use Rattle.std.specs.List.{list_all}
-use Rattle.std.specs.Option.{option_map_or}
-use Rattle.std.proofs.lemmas.Bool.{and_parts, eqb-true}
 use Rattle.numeric_entries.specs.declared.form.Form.{Form}
-use Rattle.numeric_entries.specs.Forms.{Part, stays, stands, form_of, form_named, form_text, parts_of, filled_parts}
-use Rattle.numeric_entries.specs.Forms.{fill}
+use Rattle.numeric_entries.specs.Forms.{Part, stands, form_of, form_named, form_text, filled_parts, fill}
+use Rattle.std.proofs.lemmas.Bool.Decides.{nat_tests}
 
 -- the item of a place is the first behind those before it
 pub drop-got : {X : Type 0} (xs : List X) (place : ℕ) (x : X) → slice_get xs place ≡ Some x
@@ -20,37 +18,19 @@ drop-got (y ∷ ys) (suc place) x e = rw add-one (drop-got ys place x e ∙ ap (
 pub got-passes : {X : Type 0} (test : X → Bool) (xs : List X) (place : ℕ) (x : X) → list_all test xs ≡ true
     → slice_get xs place ≡ Some x → test x ≡ true
 got-passes test [] place x all e = cc
-got-passes test (y ∷ ys) zero x all e =
-    let same : y ≡ x = cc in ap test (sym same) ∙ (and_parts (test y) (list_all test ys) all).0
-got-passes test (y ∷ ys) (suc place) x all e =
-    got-passes test ys place x (and_parts (test y) (list_all test ys) all).1 e
+got-passes test (y ∷ ys) zero x all e = grind (arith, e, all)
+got-passes test (y ∷ ys) (suc place) x all e = grind (arith, got-passes test ys place x)
 
 -- a form is a `#` and the character that names it
 pub form_begun : (c next : ℕ) (form : Form) → form_of c next ≡ Some form → (c ≡ 0x23) × (form_named next ≡ Some form)
-form_begun c next form e = by (c == 0x23) refl e
-  where
-    by : (b : Bool) → (c == 0x23) ≡ b → (if b then form_named next else None) ≡ Some form
-        → (c ≡ 0x23) × (form_named next ≡ Some form)
-    by true hash e = (eqb-true c 0x23 hash, e)
-    by false other e = cc
+form_begun c next form e = grind (arith, nat_tests)
 
 -- a word that is filled with no number stays
 pub fill_none : (word : List ℕ) → fill word [] [] ≡ word
 fill_none [] = refl
 fill_none (c ∷ []) = refl
-fill_none (c ∷ next ∷ word) = by (form_of c next) refl (fill_none word) (fill_none (next ∷ word))
-  where
-    filled : Option Form → List ℕ
-    filled found =
-        filled_parts
-        (option_map_or (λ form. stands next form ∷ parts_of word) found (stays c ∷ parts_of (next ∷ word))) [] []
-
-    by : (found : Option Form) → form_of c next ≡ found → fill word [] [] ≡ word
-        → fill (next ∷ word) [] [] ≡ next ∷ word → fill (c ∷ next ∷ word) [] [] ≡ c ∷ next ∷ word
-    by None e rest others = ap filled e ∙ ap (λ text. c ∷ text) others
-    by (Some form) e rest others =
-        ap filled e ∙ ap (λ text. 0x23 ∷ next ∷ text) rest
-        ∙ ap (λ d. d ∷ next ∷ word) (sym (form_begun c next form e).0)
+fill_none (c ∷ next ∷ word) =
+    grind (arith, form_begun c next, fill_none word, fill_none (next ∷ word))
 
 -- a form that was written is filled with the next number
 pub form_pushed : (old pushed after rest all : List ℕ) (c : ℕ) (form : Form) (parts : List Part) (number first : List ℕ)

@@ -1,8 +1,7 @@
 -- What an open reading keeps, and the steps that begin an okurigana or end a prefix.
 use Rattle.std.proofs.Common.{◌≡◌, ◌∙◌, ℕ, true, false, ◌&&◌, not, List, [], ◌∷◌, ◌++◌, Option, None, Some, Result, Ok}
-use Rattle.std.proofs.Common.{Err, sym, ap, refl}
+use Rattle.std.proofs.Common.{Err, sym, ap, refl, arith}
 use Rattle.std.specs.Result.{IsOk, IsErr}
-use Rattle.std.proofs.lemmas.Bool.{and_parts, and_from, not-true}
 use Rattle.skk_text.specs.Lists.{is_empty}
 use Rattle.skk_text.specs.Text.{without_last}
 use Rattle.skk_text.specs.declared.notice.Notice.{Notice}
@@ -25,28 +24,20 @@ pub record Kept (text : List ℕ) (begun : Begun) : Type 0 where
 
 pub kept : (text : List ℕ) (okuri : Option Begun) (begun : Begun) → (may_read text && fits_reading text okuri) ≡ true
     → okuri ≡ Some begun → Kept text begun
-kept text okuri begun is e =
-    let parts = and_parts (may_read text) (fits_reading text okuri) is in
-    let fits = and_parts (is_letter (begun.letter ∷ [])) _ (ap (fits_reading text) (sym e) ∙ parts.1) in
-    let rest = and_parts (may_end begun.text) _ fits.1 in
-    record { may = parts.0; letter = fits.0; kana = rest.0; some = not-true (is_empty text) rest.1 }
+kept text okuri begun is e = grind arith
 
 -- an okurigana without its last kana may be begun too
 pub kept-shortened : (text : List ℕ) (okuri : Option Begun) (begun : Begun)
     → (may_read text && fits_reading text okuri) ≡ true → okuri ≡ Some begun
     → (may_read text && fits_reading text (Some (record { letter = begun.letter; text = without_last begun.text })))
     ≡ true
-kept-shortened text okuri begun is e =
-    let k = kept text okuri begun is e in
-    and_from _ _ k.may (and_from _ _ k.letter (and_from _ _ (may_end-without_last begun.text k.kana) (ap not k.some)))
+kept-shortened text okuri begun is e = grind (arith, kept text okuri begun, may_end-without_last begun.text)
 
 -- an okurigana that stands behind a reading may stand behind another that is not empty
 pub refitted : (old new : List ℕ) (okuri : Option Begun) → may_read new ≡ true → is_empty new ≡ false
     → (may_read old && fits_reading old okuri) ≡ true → (may_read new && fits_reading new okuri) ≡ true
-refitted old new None may some is = and_from _ _ may refl
-refitted old new (Some begun) may some is =
-    let k = kept old (Some begun) begun is refl in
-    and_from _ _ may (and_from _ _ k.letter (and_from _ _ k.kana (ap not some)))
+refitted old new None may some is = grind arith
+refitted old new (Some begun) may some is = grind arith
 
 -- a result that is no fault is a value
 pub ok_unless : {A E : Type 0} (result : Result A E) → (IsErr result → ⊥) → IsOk result

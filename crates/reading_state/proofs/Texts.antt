@@ -1,11 +1,8 @@
 -- Texts that may stand in an open reading: what is behind them, and what is before.
 use Rattle.std.proofs.Common.{◌≡◌, ◌≢◌, zero, suc, Some, slice_get, ◌≤◌, ◌<◌, ℕ, ◌+◌, ◌-◌, Bool, true, false}
-use Rattle.std.proofs.Common.{◌&&◌, ◌||◌}
-use Rattle.std.proofs.Common.{not, nat_le, List, [], ◌∷◌, ◌++◌, ◌∙◌, sym, ap, refl, length, drop}
+use Rattle.std.proofs.Common.{◌&&◌, ◌||◌, not, nat_le, List, [], ◌∷◌, ◌++◌, ◌∙◌, ap, refl, length, drop}
 use Rattle.std.proofs.Common.{length-append, append_assoc, arith}
 use Rattle.std.specs.List.{list_all}
-use Rattle.std.specs.Option.{option_map_or}
-use Rattle.std.proofs.lemmas.Bool.{and_parts, and_from, le-leb, leb-true, lt-ltb, le-ltb, ne_eqb}
 use Rattle.std.proofs.lemmas.List.{take-append-drop}
 use Rattle.std.proofs.lemmas.List.Folds.{list_all-append}
 use Rattle.std.proofs.Math.Seq.{drop-append_seam}
@@ -18,6 +15,7 @@ use Rattle.skk_calls.specs.Rows.{begins_well, is_reading_char, is_okuri_char, is
 use Rattle.skk_calls.specs.declared.part.Part.TheVariants.{Ari}
 use Rattle.skk_text.specs.declared.notice.Notice.TheVariants as notices
 use Rattle.reading_state.specs.Puts.{may_read, may_end, refusal}
+use Rattle.std.proofs.lemmas.Bool.Decides.{nat_tests}
 
 -- a text with a piece behind it is empty where both are
 pub is_empty_append : (text piece : List ℕ) → is_empty (text ++ piece) ≡ (is_empty text && is_empty piece)
@@ -26,76 +24,45 @@ is_empty_append (c ∷ text) piece = refl
 
 -- a text with a character has a byte
 some_bytes : (c : ℕ) (text : List ℕ) → nat_le 1 (byte_len (c ∷ text)) ≡ true
-some_bytes c text = le-leb 1 (byte_len (c ∷ text)) (omega (arith, length-le-encodes (c ∷ text)))
+some_bytes c text = grind (arith, nat_tests, length-le-encodes (c ∷ text))
 
 -- a reading has at most 254 bytes, and an okurigana at most 60
 pub may_read-short : (text : List ℕ) → may_read text ≡ true → byte_len text ≤ 254
 may_read-short [] may = omega arith
-may_read-short (c ∷ text) may =
-    let parts = and_parts (begins_well (c ∷ text)) _ may in
-    leb-true (byte_len (c ∷ text)) 254 (and_parts (list_all is_reading_char (c ∷ text)) _ parts.1).1
+may_read-short (c ∷ text) may = grind (arith, nat_tests)
 
 pub may_end-short : (text : List ℕ) → may_end text ≡ true → byte_len text ≤ 60
 may_end-short [] may = omega arith
-may_end-short (c ∷ text) may =
-    let parts = and_parts (nat_le 1 (byte_len (c ∷ text))) _ may in
-    leb-true (byte_len (c ∷ text)) 60 (and_parts (nat_le (byte_len (c ∷ text)) 60) _ parts.1).0
-
--- tests in another order
-turned : (a b : Bool) → (a && (b && true)) ≡ (b && a)
-turned true true = refl
-turned true false = refl
-turned false true = refl
-turned false false = refl
+may_end-short (c ∷ text) may = grind (arith, nat_tests)
 
 -- what a reading with a piece behind it asks of the piece
 pub may_read-behind : (text piece : List ℕ) → may_read text ≡ true → byte_len text + byte_len piece ≤ 254
     → may_read (text ++ piece)
     ≡ (list_all is_reading_char piece && (not (is_empty text) || (is_empty piece || begins_well piece)))
 may_read-behind [] [] may fits = refl
-may_read-behind [] (c ∷ piece) may fits =
-    rw (le-leb (byte_len (c ∷ piece)) 254 (omega arith))
-    (turned (begins_well (c ∷ piece)) (list_all is_reading_char (c ∷ piece)))
+may_read-behind [] (c ∷ piece) may fits = grind (arith, nat_tests)
 may_read-behind (t ∷ text) piece may fits =
-    let parts = and_parts (begins_well (t ∷ text)) _ may in
-    let chars = (and_parts (list_all is_reading_char (t ∷ text)) _ parts.1).0 in
-    let short : nat_le (byte_len ((t ∷ text) ++ piece)) 254 ≡ true =
-    le-leb (byte_len ((t ∷ text) ++ piece)) 254 (omega (arith, byte_len-append (t ∷ text) piece)) in
-    let all : list_all is_reading_char ((t ∷ text) ++ piece) ≡ list_all is_reading_char piece =
-    list_all-append is_reading_char (t ∷ text) piece ∙ ap (λ b. b && list_all is_reading_char piece) chars in
-    ap (λ b. b && (list_all is_reading_char ((t ∷ text) ++ piece) && nat_le (byte_len ((t ∷ text) ++ piece)) 254))
-    parts.0
-    ∙ ap (λ b. list_all is_reading_char ((t ∷ text) ++ piece) && b) short
-    ∙ ap (λ b. b && true) all
+    grind (arith, nat_tests, byte_len-append (t ∷ text) piece, list_all-append is_reading_char (t ∷ text) piece)
 
 -- what an okurigana with a piece behind it asks of the piece
 pub may_end-behind : (text piece : List ℕ) → may_end text ≡ true → byte_len text + byte_len piece ≤ 60
     → may_end (text ++ piece) ≡ list_all is_okuri_char piece
 may_end-behind [] [] may fits = refl
-may_end-behind [] (c ∷ piece) may fits = rw (some_bytes c piece, le-leb (byte_len (c ∷ piece)) 60 (omega arith)) refl
+may_end-behind [] (c ∷ piece) may fits = grind (arith, nat_tests, some_bytes c piece)
 may_end-behind (t ∷ text) piece may fits =
-    let parts = and_parts (nat_le 1 (byte_len (t ∷ text))) _ may in
-    let chars = (and_parts (nat_le (byte_len (t ∷ text)) 60) _ parts.1).1 in
-    let short : nat_le (byte_len ((t ∷ text) ++ piece)) 60 ≡ true =
-    le-leb (byte_len ((t ∷ text) ++ piece)) 60 (omega (arith, byte_len-append (t ∷ text) piece)) in
-    let all : list_all is_okuri_char ((t ∷ text) ++ piece) ≡ list_all is_okuri_char piece =
-    list_all-append is_okuri_char (t ∷ text) piece ∙ ap (λ b. b && list_all is_okuri_char piece) chars in
-    ap (λ b. b && (nat_le (byte_len ((t ∷ text) ++ piece)) 60 && list_all is_okuri_char ((t ∷ text) ++ piece)))
-    (some_bytes t (text ++ piece))
-    ∙ ap (λ b. b && list_all is_okuri_char ((t ∷ text) ++ piece)) short
-    ∙ all
+    grind (
+      arith,
+      nat_tests,
+      some_bytes t (text ++ piece),
+      byte_len-append (t ∷ text) piece,
+      list_all-append is_okuri_char (t ∷ text) piece,
+    )
 
 -- the beginning of a reading may be one too
 may_read-before : (text behind : List ℕ) → may_read (text ++ behind) ≡ true → may_read text ≡ true
 may_read-before [] behind may = refl
 may_read-before (t ∷ text) behind may =
-    let parts = and_parts (begins_well (t ∷ text)) _ may in
-    let rest = and_parts (list_all is_reading_char ((t ∷ text) ++ behind)) _ parts.1 in
-    let chars = and_parts (list_all is_reading_char (t ∷ text)) _
-    (sym (list_all-append is_reading_char (t ∷ text) behind) ∙ rest.0) in
-    let short : byte_len ((t ∷ text) ++ behind) ≤ 254 = leb-true _ _ rest.1 in
-    and_from _ _ parts.0
-    (and_from _ _ chars.0 (le-leb (byte_len (t ∷ text)) 254 (omega (arith, byte_len-append (t ∷ text) behind))))
+    grind (arith, nat_tests, byte_len-append (t ∷ text) behind, list_all-append is_reading_char (t ∷ text) behind)
 
 pub may_read-without_last : (text : List ℕ) → may_read text ≡ true → may_read (without_last text) ≡ true
 may_read-without_last text may =
@@ -106,13 +73,13 @@ may_read-without_last text may =
 may_end-before : (text behind : List ℕ) → may_end (text ++ behind) ≡ true → may_end text ≡ true
 may_end-before [] behind may = refl
 may_end-before (t ∷ text) behind may =
-    let parts = and_parts (nat_le 1 (byte_len ((t ∷ text) ++ behind))) _ may in
-    let rest = and_parts (nat_le (byte_len ((t ∷ text) ++ behind)) 60) _ parts.1 in
-    let chars =
-    and_parts (list_all is_okuri_char (t ∷ text)) _ (sym (list_all-append is_okuri_char (t ∷ text) behind) ∙ rest.1) in
-    let short : byte_len ((t ∷ text) ++ behind) ≤ 60 = leb-true _ _ rest.0 in
-    and_from _ _ (some_bytes t text)
-    (and_from _ _ (le-leb (byte_len (t ∷ text)) 60 (omega (arith, byte_len-append (t ∷ text) behind))) chars.0)
+    grind (
+      arith,
+      nat_tests,
+      some_bytes t text,
+      byte_len-append (t ∷ text) behind,
+      list_all-append is_okuri_char (t ∷ text) behind,
+    )
 
 pub may_end-without_last : (text : List ℕ) → may_end text ≡ true → may_end (without_last text) ≡ true
 may_end-without_last text may =
@@ -140,24 +107,15 @@ pub with_letter_valid : (text : List ℕ) (letter : ℕ) → is_plain_reading te
     → is_row_key (record { part = Ari; reading = text ++ letter ∷ [] }) ≡ true
 with_letter_valid [] letter plain is = cc
 with_letter_valid (t ∷ text) letter may is =
-    let parts = and_parts (begins_well (t ∷ text)) _ may in
-    let rest = and_parts (list_all is_reading_char (t ∷ text)) _ parts.1 in
-    let range = and_parts (nat_le 0x61 letter) _ is in
-    let from : 0x61 ≤ letter = leb-true _ _ range.0 in
-    let to : letter ≤ 0x7A = leb-true _ _ range.1 in
-    let char : is_reading_char letter ≡ true =
-    and_from _ _ (lt-ltb 0x20 letter (omega arith)) (ap not (ne_eqb letter 0x7F (λ e. omega arith))) in
-    let chars : list_all is_reading_char ((t ∷ text) ++ letter ∷ []) ≡ true =
-    list_all-append is_reading_char (t ∷ text) (letter ∷ []) ∙ and_from _ _ rest.0 (and_from _ _ char refl) in
-    let one : byte_len (letter ∷ []) ≡ 1 = ap (λ bytes. length (bytes ++ [])) (encode_ascii letter (omega arith)) in
-    let short : byte_len (t ∷ text) ≤ 254 = leb-true _ _ rest.1 in
-    let bytes : byte_len ((t ∷ text) ++ letter ∷ []) ≤ 255 = omega (arith, byte_len-append (t ∷ text) (letter ∷ [])) in
-    let two : 2 ≤ length ((t ∷ text) ++ letter ∷ []) = omega (arith, length-append text (letter ∷ [])) in
-    and_from _ _ parts.0
-    (and_from _ _ chars
-    (and_from _ _ (le-leb (byte_len ((t ∷ text) ++ letter ∷ [])) 255 bytes)
-    (and_from _ _ (le-leb 2 (length ((t ∷ text) ++ letter ∷ [])) two)
-    (ap is_letter (last_chars-behind (t ∷ text) letter) ∙ is))))
+    grind (
+      arith,
+      nat_tests,
+      encode_ascii letter,
+      last_chars-behind (t ∷ text) letter,
+      byte_len-append (t ∷ text) (letter ∷ []),
+      list_all-append is_reading_char (t ∷ text) (letter ∷ []),
+      length-append text (letter ∷ []),
+    )
 
 -- the mark `>` takes one byte
 mark_bytes : byte_len (0x3E ∷ []) ≡ 1
@@ -177,14 +135,10 @@ mark_read text may some fits = rw (may_read-behind text (0x3E ∷ []) may (omega
 -- `>` is put where it fits, and passes the limit where it does not
 pub mark_put : (text : List ℕ) → may_read text ≡ true → is_empty text ≡ false → byte_len text < 254
     → refusal 254 may_read text (0x3E ∷ []) ≡ notices.Empty
-mark_put text may some fits =
-    rw (
-      le-ltb 254 (byte_len text + byte_len (0x3E ∷ [])) (omega (arith, mark_bytes)),
-      mark_read text may some fits,
-    ) refl
+mark_put text may some fits = grind (arith, nat_tests, mark_bytes, mark_read text)
 
 pub mark_refused : (text : List ℕ) → 254 ≤ byte_len text → refusal 254 may_read text (0x3E ∷ []) ≡ notices.Limit
-mark_refused text full = rw (lt-ltb 254 (byte_len text + byte_len (0x3E ∷ [])) (omega (arith, mark_bytes))) refl
+mark_refused text full = grind (arith, nat_tests, mark_bytes)
 
 -- a valid reading may stand in an open one
 pub plain_read : (text : List ℕ) → is_plain_reading text ≡ true → may_read text ≡ true
@@ -200,10 +154,8 @@ plain_some (c ∷ text) plain = refl
 pub completion_read : (readings : List (List ℕ)) (place : ℕ) (text : List ℕ) → list_all is_plain_reading readings ≡ true
     → slice_get readings place ≡ Some text → is_plain_reading text ≡ true
 completion_read [] place text all at = cc
-completion_read (first ∷ rest) zero text all at =
-    sym (ap (λ found. option_map_or is_plain_reading found true) at) ∙ (and_parts (is_plain_reading first) _ all).0
-completion_read (first ∷ rest) (suc place) text all at =
-    completion_read rest place text (and_parts (is_plain_reading first) _ all).1 at
+completion_read (first ∷ rest) zero text all at = grind arith
+completion_read (first ∷ rest) (suc place) text all at = grind (arith, completion_read rest place text)
 
 pub ruleset marks = (mark_read, mark_put, mark_refused, may_read-short, byte_len-append, append_assoc)
 

@@ -1,6 +1,6 @@
 -- What the tests of a rule set tell: whether a text begins an input, and whether it is one.
-use Rattle.std.proofs.Common.{◌≡◌, ℕ, ◌<◌, Bool, true, false, ◌&&◌, nat_lt, nat_eq, Option, None, Some, is_some, List}
-use Rattle.std.proofs.Common.{[], ◌∷◌, ◌++◌, refl, sym, ◌∙◌, ◌⊎◌, inl, inr, ◌||◌, ap, subst, length, drop, arith}
+use Rattle.std.proofs.Common.{◌≡◌, ℕ, ◌<◌, Bool, true, ◌&&◌, nat_lt, nat_eq, None, Some, is_some, List}
+use Rattle.std.proofs.Common.{[], ◌∷◌, ◌++◌, refl, ◌∙◌, ◌⊎◌, ap, subst, length, drop, arith}
 use Rattle.std.proofs.Common.{Decides, length-append, Contains, IsTrue, ◌↔◌}
 use Rattle.std.specs.Borrow.{Bor}
 use Rattle.std.specs.List.{list_any, starts_with}
@@ -66,11 +66,7 @@ module _ (rules : List Rule) (text : List ℕ) where
 
   -- whether the text is an input
   pub rule_of-Decides : Decides (is_some (rule_of rules text)) (IsInput rules text)
-  rule_of-Decides = by (rule_of rules text) refl
-    where
-      by : (o : Option Rule) → rule_of rules text ≡ o → Decides (is_some o) (IsInput rules text)
-      by None e = (λ t. absurd (both_ways false refl t), λ h. absurd (rule_of-None e h))
-      by (Some rule) e = let found = rule_of-Some rule e in (λ t. (rule, found.0, found.1), λ h. refl)
+  rule_of-Decides = (λ t. grind (arith, t, rule_of-Some), λ h. grind (arith, rule_of-None, h))
 
   -- whether the text is an input or begins one
   pub goes_on-Decides : Decides (goes_on rules text) (GoesOn rules text)
@@ -78,7 +74,7 @@ module _ (rules : List Rule) (text : List ℕ) where
       Decides-or (begins_input rules text) (is_some (rule_of rules text)) begins_input-Decides rule_of-Decides
 
   pub goes_on-exact : (r : Bool) → r ≡ goes_on rules text → IsTrue r ↔ GoesOn rules text
-  goes_on-exact r e = (λ t. goes_on-Decides.0 (sym e ∙ t), λ h. e ∙ goes_on-Decides.1 h)
+  goes_on-exact r e = rw e goes_on-Decides
 
 -- a text that begins an input, or is one, goes on
 pub standing-goes_on : (rules : List Rule) (text whole : List ℕ) (standing : Standing) → IsStanding rules text standing
@@ -86,9 +82,5 @@ pub standing-goes_on : (rules : List Rule) (text whole : List ℕ) (standing : S
     → text ≡ whole → (IsTrue true ↔ GoesOn rules whole) × (true ≡ goes_on rules whole)
 standing-goes_on rules text whole standing is cases same = (goes_on-exact rules whole true goes, goes)
   where
-    by : (standing ≡ Begins) ⊎ ((rule : Bor Rule) × (standing ≡ Input rule)) → goes_on rules text ≡ true
-    by (inl e) = ap (λ b. b || is_some (rule_of rules text)) (subst (IsStanding rules text) e is)
-    by (inr (rule, e)) = let input = subst (IsStanding rules text) e is in rw (input.0, input.1) refl
-
     goes : true ≡ goes_on rules whole
-    goes = sym (by cases) ∙ ap (goes_on rules) same
+    goes = grind (arith, is, cases, same)

@@ -4,20 +4,17 @@ use Rattle.std.proofs.Common.{Bor, List, [], ◌∷◌, ◌++◌, length, get_or
 use Rattle.std.specs.List.{slice_split, onto_first}
 use Rattle.std.proofs.lemmas.Bool.{and_left, and_right, ne_eqb}
 use Rattle.std.proofs.lemmas.List.Splits.{slice_split-cons_no}
-use Rattle.skk_text.specs.Lines.{lines_of, with_first}
+use Rattle.skk_text.specs.Lines.{lines_of}
 use Rattle.romaji_rules.specs.RuleFiles.{begins_with_end, without_returns}
 use Rattle.romaji_rules.specs.RuleLines.{IsOneLine}
+use Rattle.std.proofs.lemmas.Bool.Decides.{nat_tests}
 
 -- Lines
 
 -- a character that is no LF, nor a CR before one, goes on with the first line
 goes_on_line : (c : ℕ) (rest line : List ℕ) (lines : List (List ℕ)) → c ≢ 10 → (c == 13 && begins_with_end rest) ≡ false
     → lines_of (without_returns rest) ≡ line ∷ lines → lines_of (without_returns (c ∷ rest)) ≡ (c ∷ line) ∷ lines
-goes_on_line c rest line lines other kept first =
-    ap (λ b. lines_of (cond b (without_returns rest) (c ∷ without_returns rest))) kept
-    ∙ ap (λ b. cond b ([] ∷ lines_of (without_returns rest)) (with_first c (lines_of (without_returns rest))))
-    (ne_eqb c 10 other)
-    ∙ ap (with_first c) first
+goes_on_line c rest line lines other kept first = grind (arith, nat_tests, other, kept, first)
 
 -- a line with CR LF is the first without both
 pub returned : (line behind : List ℕ) → IsOneLine (line ++ 13 ∷ [])

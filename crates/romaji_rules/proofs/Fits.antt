@@ -1,7 +1,7 @@
 -- What a rule set's tests tell of the texts that may be pending.
-use Rattle.std.proofs.Common.{◌≡◌, ℕ, ◌<◌, ◌≤◌, Bool, true, not, ◌&&◌, nat_le, Some, List, [], ◌∷◌, ◌++◌, refl, sym}
+use Rattle.std.proofs.Common.{◌≡◌, ℕ, ◌<◌, ◌≤◌, Bool, true, ◌&&◌, nat_le, Some, List, [], ◌∷◌, ◌++◌, sym}
 use Rattle.std.proofs.Common.{◌∙◌, ap, subst, inl, inr, ◌⊎◌, Contains, length, IsAscii, arith, zero, suc, length-append}
-use Rattle.std.proofs.Common.{lit<, leb-true}
+use Rattle.std.proofs.Common.{lit<}
 use Rattle.std.specs.List.{list_all}
 use Rattle.std.proofs.lemmas.List.Folds.{list_all-append}
 use Rattle.std.proofs.lemmas.Bool.{and_parts}
@@ -13,20 +13,16 @@ use Rattle.romaji_rules.specs.Typed.{begins_input, rule_of, fed}
 use Rattle.romaji_rules.proofs.Begins.{begins_input-Decides, rule_of-Some}
 use Rattle.romaji_rules.proofs.Found.{list_all-Contains}
 use Rattle.romaji_rules.proofs.Step.{Fed-computed}
+use Rattle.std.proofs.lemmas.Bool.Decides.{nat_tests}
 
 -- characters that may be typed are ASCII
 below_128 : (c : ℕ) → is_input_char c ≡ true → c < 128
-below_128 c e =
-    let in_range : (nat_le 0x21 c && nat_le c 0x7E) ≡ true =
-    (and_parts (nat_le 0x21 c && nat_le c 0x7E) (not (nat_le 0x41 c && nat_le c 0x5A)) e).0 in
-    let below : c ≤ 0x7E = leb-true c 0x7E (and_parts (nat_le 0x21 c) (nat_le c 0x7E) in_range).1 in
-    omega (arith, below)
+below_128 c e = grind (arith, nat_tests)
 
 chars-IsAscii : (text : List ℕ) → list_all is_input_char text ≡ true → IsAscii text
 chars-IsAscii [] e i = lit< tt
-chars-IsAscii (c ∷ text) e zero = below_128 c (and_parts (is_input_char c) (list_all is_input_char text) e).0
-chars-IsAscii (c ∷ text) e (suc i) =
-    chars-IsAscii text (and_parts (is_input_char c) (list_all is_input_char text) e).1 i
+chars-IsAscii (c ∷ text) e zero = grind (arith, below_128 c)
+chars-IsAscii (c ∷ text) e (suc i) = grind (arith, chars-IsAscii text)
 
 -- an input, and what begins one
 prefix-IsAscii : (prefix whole : List ℕ) → is_input_text whole ≡ true → IsProperPrefix prefix whole → IsAscii prefix
@@ -37,13 +33,7 @@ prefix-IsAscii prefix whole e h =
     (sym (list_all-append is_input_char prefix (h.0 ∷ h.1)) ∙ ap (list_all is_input_char) (sym h.2) ∙ all)).0
 
 prefix-short : (prefix whole : List ℕ) → is_input_text whole ≡ true → IsProperPrefix prefix whole → length prefix < 8
-prefix-short prefix whole e h =
-    let sizes : (nat_le 1 (length whole) && nat_le (length whole) 8) ≡ true =
-    (and_parts (nat_le 1 (length whole) && nat_le (length whole) 8) (list_all is_input_char whole) e).0 in
-    let size : nat_le (length whole) 8 ≡ true =
-    (and_parts (nat_le 1 (length whole)) (nat_le (length whole) 8) sizes).1 in
-    let bound : length whole ≤ 8 = leb-true (length whole) 8 size in
-    omega (arith, bound, ap length h.2, length-append prefix (h.0 ∷ h.1))
+prefix-short prefix whole e h = grind (arith, nat_tests, length-append prefix (h.0 ∷ h.1))
 
 module _ (rules : List Rule) (fits : is_rule_set rules ≡ true) where
   rule_fits : (rule : Rule) → Contains rules rule → (is_input_text rule.input && is_next_text rules rule.next) ≡ true
@@ -52,14 +42,10 @@ module _ (rules : List Rule) (fits : is_rule_set rules ≡ true) where
       list_all-Contains test rules rule (and_parts (list_all test rules) (inputs_differ rules) fits).0 h
 
   begins-IsAscii : (text : List ℕ) → BeginsInput rules text → IsAscii text
-  begins-IsAscii text h =
-      prefix-IsAscii text h.0.input
-      (and_parts (is_input_text h.0.input) (is_next_text rules h.0.next) (rule_fits h.0 h.1)).0 h.2
+  begins-IsAscii text h = grind (arith, rule_fits h.0, prefix-IsAscii text h.0.input)
 
   begins-short : (text : List ℕ) → BeginsInput rules text → length text < 8
-  begins-short text h =
-      prefix-short text h.0.input
-      (and_parts (is_input_text h.0.input) (is_next_text rules h.0.next) (rule_fits h.0 h.1)).0 h.2
+  begins-short text h = grind (arith, rule_fits h.0, prefix-short text h.0.input)
 
   -- a text that begins an input is ASCII, and short enough to be pending
   pub begins-fits : (text other : List ℕ) → begins_input rules text ≡ true → other ≡ text
@@ -71,12 +57,7 @@ module _ (rules : List Rule) (fits : is_rule_set rules ≡ true) where
 
   -- a rule's next text is empty or begins an input
   pub next-waits : (rule : Rule) → Contains rules rule → (rule.next ≡ []) ⊎ BeginsInput rules rule.next
-  next-waits rule h =
-      by rule.next (and_parts (is_input_text rule.input) (is_next_text rules rule.next) (rule_fits rule h)).1
-    where
-      by : (next : List ℕ) → is_next_text rules next ≡ true → (next ≡ []) ⊎ BeginsInput rules next
-      by [] e = inl refl
-      by (c ∷ next) e = inr ((begins_input-Decides rules (c ∷ next)).0 e)
+  next-waits rule h = grind (arith, rule_fits rule, begins_input-Decides rules rule.next)
 
   -- so is that of the rule that is found, and it is ASCII, and short enough to be pending
   pub found-waits : (text next : List ℕ) (rule : Rule) → rule_of rules text ≡ Some rule → next ≡ rule.next
@@ -87,12 +68,8 @@ module _ (rules : List Rule) (fits : is_rule_set rules ≡ true) where
 
   pub found-fits : (text next : List ℕ) (rule : Rule) → rule_of rules text ≡ Some rule → next ≡ rule.next
       → IsAscii next × (length next ≤ 8)
-  found-fits text next rule e same = by (found-waits text next rule e same)
-    where
-      by : (next ≡ []) ⊎ BeginsInput rules next → IsAscii next × (length next ≤ 8)
-      by (inl none) = (subst IsAscii (sym none) (chars-IsAscii [] refl), omega (arith, ap length none))
-      by (inr begin) =
-          let short : length next < 8 = begins-short next begin in (begins-IsAscii next begin, omega (arith, short))
+  found-fits text next rule e same =
+      grind (arith, found-waits text next rule, begins-short next, begins-IsAscii next, chars-IsAscii [])
 
   rule-waits : (text next : List ℕ) (out : Out) → IsRule rules text next out → (next ≡ []) ⊎ BeginsInput rules next
   rule-waits text next out h = subst (λ (n : List ℕ). (n ≡ []) ⊎ BeginsInput rules n) h.3 (next-waits h.0 h.1)

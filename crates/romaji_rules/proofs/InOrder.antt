@@ -1,8 +1,8 @@
 -- Which rule of those in order by their inputs begins with a text and goes on.
-use Rattle.std.proofs.Common.{◌≡◌, ℕ, Bool, true, false, cond, ◌&&◌, ◌||◌, nat_lt, nat_eq, Some, List, [], ◌∷◌}
+use Rattle.std.proofs.Common.{◌≡◌, ℕ, Bool, true, false, ◌&&◌, nat_lt, nat_eq, List, [], ◌∷◌, arith}
 use Rattle.std.proofs.Common.{◌++◌, length, drop, refl, sym, ap, ◌∙◌}
 use Rattle.std.specs.List.{list_all, starts_with}
-use Rattle.std.proofs.lemmas.Bool.{and_parts, and_right, both_ways, false_from_ne_true}
+use Rattle.std.proofs.lemmas.Bool.{both_ways, false_from_ne_true}
 use Rattle.std.proofs.lemmas.Bool.Decides.{Decides-eqb, same_from_decides}
 use Rattle.std.proofs.lemmas.List.{append-nil}
 use Rattle.std.proofs.lemmas.List.Sorted.{Contains-permutation, IsPermutation-sym}
@@ -30,9 +30,7 @@ begins_ascending : (text : List ℕ) (rules : List Rule) → ascend input byte_k
     → begins_input rules text
     ≡ passes (λ rule. starts_with nat_eq rule.input text) (item_above input byte_keys text rules)
 begins_ascending text [] pairs = refl
-begins_ascending text (rule ∷ rules) pairs =
-    let parts = and_parts (list_all (before input byte_keys rule) rules) (ascend input byte_keys rules) pairs in
-    by (bytes_less text rule.input) refl parts.0 (begins_ascending text rules parts.1)
+begins_ascending text (rule ∷ rules) pairs = grind (arith, not_low, high, none_behind, begins_ascending text rules)
   where
     prefix : (r : Rule) → begins text r ≡ true → IsProperPrefix text r.input
     prefix r = (prefix-Decides r.input text).0
@@ -68,22 +66,6 @@ begins_ascending text (rule ∷ rules) pairs =
         let mid = between text rule.input (h2.0 ∷ h2.1) less (ap (bytes_less rule.input) (sym h2.2) ∙ later) in
         both_ways (starts_with nat_eq rule.input text) e
         ((starts_is Decides-eqb rule.input text (starts_with nat_eq rule.input text) refl).1 mid.0 mid.1))
-
-    first : (b : Bool) → starts_with nat_eq rule.input text ≡ b → bytes_less text rule.input ≡ true
-        → list_all (before input byte_keys rule) rules ≡ true → (begins text rule || begins_input rules text) ≡ b
-    first true e less above = ap (λ b. b || begins_input rules text) (high less e)
-    first false e less above =
-        ap (λ b. b || begins_input rules text)
-        (and_right (nat_lt (length text) (length rule.input)) (starts_with nat_eq rule.input text) e)
-        ∙ none_behind less e above
-
-    by : (b : Bool) → bytes_less text rule.input ≡ b → list_all (before input byte_keys rule) rules ≡ true
-        → begins_input rules text
-        ≡ passes (λ r. starts_with nat_eq r.input text) (item_above input byte_keys text rules)
-        → (begins text rule || begins_input rules text)
-        ≡ passes (λ r. starts_with nat_eq r.input text) (cond b (Some rule) (item_above input byte_keys text rules))
-    by true less above rest = first (starts_with nat_eq rule.input text) refl less above
-    by false e above rest = ap (λ b. b || begins_input rules text) (not_low e) ∙ rest
 
 -- Rules in order
 

@@ -1,10 +1,10 @@
 -- What is found among the rules in the slot of a text, and one rule more.
 use Rattle.std.proofs.Common.{◌≡◌, ◌≢◌, ◌≤◌, ◌==◌, ℕ, zero, suc, Bool, true, false, cond, not, ◌&&◌, nat_eq}
-use Rattle.std.proofs.Common.{Option, None, Some, is_some, List, [], ◌∷◌, ◌++◌, length, get_or, map, slice_get, refl}
+use Rattle.std.proofs.Common.{None, Some, is_some, List, [], ◌∷◌, ◌++◌, length, get_or, map, slice_get, refl}
 use Rattle.std.proofs.Common.{sym, ap, ◌∙◌, subst, arith}
-use Rattle.std.specs.List.{filter, list_all, starts_with}
+use Rattle.std.specs.List.{filter, starts_with}
 use Rattle.std.specs.Str.{bytes_eq}
-use Rattle.std.proofs.lemmas.Bool.{and_parts, both_ways, eqb-true, false_from_ne_true}
+use Rattle.std.proofs.lemmas.Bool.{both_ways, eqb-true}
 use Rattle.std.proofs.lemmas.Bool.Decides.{Decides-eqb}
 use Rattle.std.proofs.lemmas.List.{append-nil}
 use Rattle.std.proofs.lemmas.List.Folds.{list_all-append}
@@ -28,13 +28,8 @@ use Rattle.romaji_rules.proofs.InOrder.{begins, begins_in_order}
 pub rule_in_slot : (rules : List Rule) (text : List ℕ)
     → rule_of (slot_rules (slot_of text) rules) text ≡ rule_of rules text
 rule_in_slot rules text =
-    find-filter (λ rule. bytes_eq rule.input text) (λ rule. slot_of rule.input == slot_of text) other rules
-  where
-    other : (rule : Rule) → (slot_of rule.input == slot_of text) ≡ false → bytes_eq rule.input text ≡ false
-    other rule e =
-        false_from_ne_true (bytes_eq rule.input text) (λ t.
-        both_ways (slot_of rule.input == slot_of text) e ((Decides-eqb (slot_of rule.input) (slot_of text)).1
-        (ap slot_of ((bytes_eq-Decides rule.input text).0 t))))
+    find-filter (λ rule. bytes_eq rule.input text) (λ rule. slot_of rule.input == slot_of text)
+    (λ rule e. grind (arith, e, bytes_eq-Decides rule.input text)) rules
 
 -- a text of two bytes or more begins an input where the first in its slot that is greater begins with it
 pub begins_in_slot : (rules : List Rule) (text : List ℕ) → inputs_differ rules ≡ true → 2 ≤ length text
@@ -71,20 +66,26 @@ none_in_slot all items places text empty index =
 
 -- One rule more
 
+-- the item of a place stands there too once there is more behind the list
+stands_longer : {X : Type 0} (xs more : List X) (place : ℕ) (x : X) → slice_get xs place ≡ Some x
+    → slice_get (xs ++ more) place ≡ Some x
+stands_longer [] more place x e = cc
+stands_longer (y ∷ ys) more zero x e = e
+stands_longer (y ∷ ys) more (suc place) x e = stands_longer ys more place x e
+
 -- what stands in a list stands at the same places once there is more behind it
 has_longer : {X : Type 0} (all more : List X) (places : List ℕ) (xs : List X) → HasAt all places xs
     → HasAt (all ++ more) places xs
 has_longer all more [] xs e = e
 has_longer all more (place ∷ places) [] e = cc
-has_longer {X} all more (place ∷ places) (x ∷ xs) e =
-    let first = first_read (slice_get all) place places x xs e in
-    ap (λ o. o ∷ map (slice_get (all ++ more)) places) (there all place first.0)
-    ∙ ap (λ os. Some x ∷ os) (has_longer all more places xs first.1)
-  where
-    there : (ys : List X) (k : ℕ) → slice_get ys k ≡ Some x → slice_get (ys ++ more) k ≡ Some x
-    there [] k here = cc
-    there (y ∷ ys) zero here = here
-    there (y ∷ ys) (suc k) here = there ys k here
+has_longer all more (place ∷ places) (x ∷ xs) e =
+    grind (
+      arith,
+      e,
+      stands_longer all more place x,
+      first_read (slice_get all) place places x xs,
+      has_longer all more places xs,
+    )
 
 module _ (rules : List Rule) (rule : Rule) (slots more : List (List ℕ))
     (indexes : (slot : ℕ) → IsIndex input byte_keys rules (get_or slots slot []) (slot_rules slot rules))
@@ -119,26 +120,13 @@ pub differ_with : (rules : List Rule) (rule : Rule)
     → inputs_differ (rules ++ rule ∷ []) ≡ (inputs_differ rules && not (is_some (rule_of rules rule.input)))
 differ_with [] rule = refl
 differ_with (other ∷ rules) rule =
-    let differs = λ (r : Rule). not (bytes_eq other.input r.input) in
-    ap (λ b. b && inputs_differ (rules ++ rule ∷ [])) (list_all-append differs rules (rule ∷ []))
-    ∙ ap (λ b. (list_all differs rules && (differs rule && true)) && b) (differ_with rules rule)
-    ∙ by (list_all differs rules) (bytes_eq other.input rule.input) (inputs_differ rules)
-  where
-    by : (all same differ : Bool)
-        → (all && (not same && true)) && (differ && not (is_some (rule_of rules rule.input)))
-        ≡ ((all && differ) && not (is_some (cond same (Some other) (rule_of rules rule.input))))
-    by false same differ = refl
-    by true true false = refl
-    by true true true = refl
-    by true false differ = refl
+    grind (
+      arith,
+      list_all-append (λ (r : Rule). not (bytes_eq other.input r.input)) rules (rule ∷ []),
+      differ_with rules rule,
+    )
 
 -- so with inputs that differ none before the last has its own
 pub none_before : (rules : List Rule) (rule : Rule) → inputs_differ (rules ++ rule ∷ []) ≡ true
     → rule_of rules rule.input ≡ None
-none_before rules rule e =
-    by (rule_of rules rule.input)
-    (and_parts (inputs_differ rules) (not (is_some (rule_of rules rule.input))) (sym (differ_with rules rule) ∙ e)).1
-  where
-    by : (found : Option Rule) → not (is_some found) ≡ true → found ≡ None
-    by None none = refl
-    by (Some other) none = cc
+none_before rules rule e = grind (arith, differ_with rules rule)

@@ -1,15 +1,14 @@
 -- The step that is computed is the step of the relation, and where no two rules have one input it is the only one.
 use Rattle.std.proofs.Common.{◌≡◌, ℕ, Bool, true, false, cond, not, Option, None, Some, List, [], ◌∷◌, ◌++◌, refl, sym}
-use Rattle.std.proofs.Common.{◌∙◌, ap, subst, inl, inr, ◌⊎◌, Contains, arith, Result, Ok, Err, IfOk}
-use Rattle.std.specs.List.{list_all}
+use Rattle.std.proofs.Common.{◌∙◌, ap, subst, inl, inr, Contains, arith, Result, Ok, Err, IfOk}
 use Rattle.std.specs.Str.{bytes_eq}
 use Rattle.std.proofs.lemmas.Slice.Eq.{bytes_eq-Decides}
-use Rattle.std.proofs.lemmas.Bool.{and_parts, both_ways, false_from_ne_true, not-true}
+use Rattle.std.proofs.lemmas.Bool.{both_ways}
 use Rattle.romaji_rules.specs.declared.out.Out.{Out}
 use Rattle.romaji_rules.specs.declared.rule.Rule.{Rule}
 use Rattle.romaji_rules.specs.Fed.{BeginsInput, IsRule, IsInput, Flushed, FedAlone, FedAfter, Fed}
 use Rattle.romaji_rules.specs.Fitting.{inputs_differ}
-use Rattle.romaji_rules.specs.Output.{nothing, itself, appended}
+use Rattle.romaji_rules.specs.Output.{nothing, appended}
 use Rattle.romaji_rules.specs.Typed.{Step, begins_input, rule_of, out_of, flushed, step_of, after_out, fed_alone}
 use Rattle.romaji_rules.specs.Typed.{fed_after, fed}
 use Rattle.romaji_rules.proofs.Begins.{begins_input-Decides, rule_of-Some, rule_of-None}
@@ -31,19 +30,14 @@ module _ (rules : List Rule) where
       by (Some rule) e = inl (rule.next, found pending rule e)
 
   fed_alone-exact : (c : ℕ) → FedAlone rules c (fed_alone rules c).pending (fed_alone rules c).out
-  fed_alone-exact c = by (begins_input rules text) refl (rule_of rules text) refl
-    where
-      text : List ℕ
-      text = c ∷ []
-
-      step : Bool → Option Rule → Step
-      step b o = cond b (record { pending = text; out = nothing }) (step_of o (record { pending = []; out = itself c }))
-
-      by : (b : Bool) → begins_input rules text ≡ b → (o : Option Rule) → rule_of rules text ≡ o
-          → FedAlone rules c (step b o).pending (step b o).out
-      by true e o r = inl ((begins_input-Decides rules text).0 e, refl, refl)
-      by false e None r = inr (inr (not-BeginsInput text e, rule_of-None rules text r, refl, refl))
-      by false e (Some rule) r = inr (inl (not-BeginsInput text e, found text rule r))
+  fed_alone-exact c =
+      grind (
+        arith,
+        (begins_input-Decides rules (c ∷ [])).0,
+        not-BeginsInput (c ∷ []),
+        rule_of-None rules (c ∷ []),
+        found (c ∷ []),
+      )
 
   fed_after-exact : (pending : List ℕ) (c : ℕ)
       → FedAfter rules pending c (fed_after rules pending c).pending (fed_after rules pending c).out
@@ -85,26 +79,17 @@ pub same_rule : (rules : List Rule) → inputs_differ rules ≡ true → (a b : 
     → a.input ≡ b.input → a ≡ b
 same_rule [] d a b x y e = absurd (omega (arith, x.1))
 same_rule (rule ∷ rules) d a b x y e =
-    by (Contains-cases rule rules a x) (Contains-cases rule rules b y) (same_rule rules parts.1 a b)
-  where
-    differs_from : Rule → Bool
-    differs_from other = not (bytes_eq rule.input other.input)
-
-    parts : (list_all differs_from rules ≡ true) × (inputs_differ rules ≡ true)
-    parts = and_parts (list_all differs_from rules) (inputs_differ rules) d
-
-    differs : (r : Rule) → Contains rules r → rule.input ≡ r.input → ⊥
-    differs r at same =
-        absurd (both_ways (bytes_eq rule.input r.input)
-        (not-true (bytes_eq rule.input r.input) (list_all-Contains differs_from rules r parts.0 at))
-        ((bytes_eq-Decides rule.input r.input).1 same))
-
-    by : (rule ≡ a) ⊎ Contains rules a → (rule ≡ b) ⊎ Contains rules b
-        → (Contains rules a → Contains rules b → a.input ≡ b.input → a ≡ b) → a ≡ b
-    by (inl f) (inl g) rest = sym f ∙ g
-    by (inl f) (inr g) rest = absurd (differs b g (ap (λ (r : Rule). r.input) f ∙ e))
-    by (inr f) (inl g) rest = absurd (differs a f (ap (λ (r : Rule). r.input) g ∙ sym e))
-    by (inr f) (inr g) rest = rest f g e
+    let differs = λ (other : Rule). not (bytes_eq rule.input other.input) in
+    grind (
+      arith,
+      Contains-cases rule rules a x,
+      Contains-cases rule rules b y,
+      same_rule rules,
+      list_all-Contains differs rules a,
+      list_all-Contains differs rules b,
+      bytes_eq-Decides rule.input a.input,
+      bytes_eq-Decides rule.input b.input,
+    )
 
 module _ (rules : List Rule) (differ : inputs_differ rules ≡ true) where
   one_rule : (text next : List ℕ) (out : Out) → IsRule rules text next out
@@ -120,18 +105,13 @@ module _ (rules : List Rule) (differ : inputs_differ rules ≡ true) where
           (rule, e, sym (ap (λ (r : Rule). r.next) same) ∙ h.3, sym (ap (λ (r : Rule). r.out) same) ∙ h.4)
 
   pub no_rule : (text : List ℕ) → ¬ IsInput rules text → rule_of rules text ≡ None
-  no_rule text none = by (rule_of rules text) refl
-    where
-      by : (o : Option Rule) → rule_of rules text ≡ o → rule_of rules text ≡ None
-      by None e = e
-      by (Some rule) e = let at = rule_of-Some rules text rule e in absurd (none (rule, at.0, at.1))
+  no_rule text none = grind (arith, none, rule_of-Some rules text)
 
   begins_input-true : (text : List ℕ) → BeginsInput rules text → begins_input rules text ≡ true
   begins_input-true text h = (begins_input-Decides rules text).1 h
 
   begins_input-false : (text : List ℕ) → ¬ BeginsInput rules text → begins_input rules text ≡ false
-  begins_input-false text none =
-      false_from_ne_true (begins_input rules text) (λ t. none ((begins_input-Decides rules text).0 t))
+  begins_input-false text none = grind (arith, none, begins_input-Decides rules text)
 
   pub one_flushed : (pending : List ℕ) (out : Out) → Flushed rules pending out → flushed rules pending ≡ out
   one_flushed pending out (inl h) = let rule = one_rule pending h.0 out h.1 in ap out_of rule.1 ∙ rule.3
@@ -139,10 +119,9 @@ module _ (rules : List Rule) (differ : inputs_differ rules ≡ true) where
 
   one_alone : (c : ℕ) (next : List ℕ) (out : Out) → FedAlone rules c next out
       → fed_alone rules c ≡ record { pending = next; out = out }
-  one_alone c next out (inl h) = rw (begins_input-true (c ∷ []) h.0) cc
-  one_alone c next out (inr (inl h)) =
-      let rule = one_rule (c ∷ []) next out h.1 in rw (begins_input-false (c ∷ []) h.0, rule.1) cc
-  one_alone c next out (inr (inr h)) = rw (begins_input-false (c ∷ []) h.0, no_rule (c ∷ []) h.1) cc
+  one_alone c next out h =
+      let text = c ∷ [] in
+      grind (arith, begins_input-true text, begins_input-false text, one_rule text next out, no_rule text)
 
   one_after : (pending : List ℕ) (c : ℕ) (next : List ℕ) (out : Out) → FedAfter rules pending c next out
       → fed_after rules pending c ≡ record { pending = next; out = out }

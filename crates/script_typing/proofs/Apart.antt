@@ -1,9 +1,9 @@
 -- Sessions whose typists are apart print what they print where all calls are answered one after another.
-use Rattle.std.proofs.Common.{◌≡◌, ◌∙◌, ap, sym, subst, refl, ℕ, ◌==◌, Bool, true, false, cond}
+use Rattle.std.proofs.Common.{◌≡◌, ◌∙◌, ap, sym, subst, refl, arith, ℕ, ◌==◌, Bool, true, false, cond}
 use Rattle.std.proofs.Common.{None, Some, List, [], ◌∷◌, ◌++◌, append_assoc}
 use Rattle.std.proofs.lemmas.Bool.{and_parts, eq-eqb, eqb-true}
 use Rattle.std.proofs.lemmas.List.{append-nil, map-append}
-use Rattle.std.specs.List.{cons_option, fold, list_all}
+use Rattle.std.specs.List.{fold, list_all}
 use Rattle.romaji_rules.specs.declared.rule.Rule.{Rule}
 use Rattle.skk_calls.specs.declared.answer.Answer.{Answer}
 use Rattle.skk_calls.specs.declared.call.Call.{Call}
@@ -152,21 +152,8 @@ said-entries number (pair ∷ first) history = ap (λ d. pair ∷ d) (said-entri
 -- and of a caller what it has said in both
 dialog-entries : (number other : ℕ) (first : Dialog) (history : List Entry)
     → dialog (entries_by number first ++ history) other ≡ cond (number == other) first [] ++ dialog history other
-dialog-entries number other [] history = by (number == other)
-  where
-    by : (b : Bool) → dialog history other ≡ cond b [] [] ++ dialog history other
-    by true = refl
-    by false = refl
-dialog-entries number other (pair ∷ first) history =
-    by (number == other) refl (dialog-entries number other first history)
-  where
-    by : (b : Bool) → (number == other) ≡ b
-        → dialog (entries_by number first ++ history) other
-        ≡ cond (number == other) first [] ++ dialog history other
-        → cons_option (cond b (Some pair) None) (dialog (entries_by number first ++ history) other)
-        ≡ cond b (pair ∷ first) [] ++ dialog history other
-    by true is rest = ap (λ d. pair ∷ d) (rest ∙ ap (λ b. cond b first [] ++ dialog history other) is)
-    by false is rest = rest ∙ ap (λ b. cond b first [] ++ dialog history other) is
+dialog-entries number other [] history = grind arith
+dialog-entries number other (pair ∷ first) history = grind (arith, dialog-entries number other first history)
 
 -- Sessions in front of lines
 
@@ -222,10 +209,7 @@ module _ (files : List (List Row)) (table : List Rule) (typist_of : ℕ → ℕ)
   others-leave writer number (call ∷ calls) alone all differ shared own alike =
       let owns = and_parts (is_own writer call) (list_all (is_own writer) calls) own in
       let is : owner call ≡ writer = eqb-true (owner call) writer owns.0 in
-      let leaves =
-      others_leave_alike all (typist_of number) call
-      (subst (λ w. (w == typist_of number) ≡ false) (sym is) differ)
-      (subst (λ w. (w == 0) ≡ false) (sym is) shared) in
+      let leaves = others_leave_alike all (typist_of number) call (grind (arith, is)) (grind (arith, is)) in
       others-leave writer number calls alone (after all call) differ shared owns.1
       (leaves.0 ∙ alike.0, leaves.1 ∙ alike.1, leaves.2 ∙ alike.2)
 

@@ -1,5 +1,5 @@
 -- What callers by their numbers have said, for each task.
-use Rattle.std.proofs.Common.{◌≡◌, ◌∙◌, ap, sym, subst, refl, arith, ℕ, ◌+◌, ◌≤◌, ◌==◌, Bool, true, false, cond}
+use Rattle.std.proofs.Common.{◌≡◌, ◌∙◌, ap, sym, subst, refl, arith, ℕ, ◌+◌, ◌≤◌, Bool, true}
 use Rattle.std.proofs.Common.{List, [], ◌∷◌, length, map}
 use Rattle.std.proofs.lemmas.List.{length-map}
 use Rattle.romaji_rules.specs.declared.rule.Rule.{Rule}
@@ -82,15 +82,12 @@ said-at : (said : ℕ → Dialog) (first : ℕ) (tasks : Tasks) (numbers : List 
 said-at said first [] numbers counted same none number = sym none
 said-at said first (task ∷ tasks) [] counted same none number = absurd (omega (arith, same))
 said-at said first (task ∷ tasks) (caller ∷ numbers) counted same none number =
-    by (task.0 == number)
-    (said-at said (first + 1) tasks numbers counted.1 (omega (arith, same))
-    (ap said (omega arith) ∙ none) number)
-  where
-    by : (b : Bool) → said_of tasks (map said numbers) number ≡ said (first + 1 + place_of tasks number)
-        → cond b (said caller) (said_of tasks (map said numbers) number)
-        ≡ said (first + cond b 0 (place_of tasks number + 1))
-    by true rest = ap said (omega (arith, counted.0))
-    by false rest = rest ∙ ap said (omega arith)
+    grind (
+      arith,
+      counted.0,
+      said-at said (first + 1) tasks numbers counted.1 (omega (arith, same))
+          (ap said (omega arith) ∙ none) number,
+    )
 
 pub said-of : (said : ℕ → Dialog) (tasks : Tasks) (numbers : List ℕ) (dialogs : List Dialog)
     → AreCallers said numbers dialogs → length dialogs ≡ length tasks → (number : ℕ)

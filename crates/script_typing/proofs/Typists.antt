@@ -1,12 +1,12 @@
 -- A script whose typists are apart prints what it prints where all calls are answered one after another.
 use Rattle.std.proofs.Common.{◌≡◌, ◌≢◌, ◌∙◌, ap, sym, subst, refl, arith, ℕ, ◌+◌, ◌≤◌, ◌<◌, ◌==◌, Bool, true, false}
-use Rattle.std.proofs.Common.{cond, suc, nat_lt, unwrap_or}
-use Rattle.std.proofs.Common.{◌&&◌, ◌||◌, not, None, Some, List, [], ◌∷◌, length, drop, get_or, map, inl, inr}
-use Rattle.std.proofs.lemmas.Bool.{and_parts, and_from, cases_order, eqb-true, eqb-false, eq-eqb, ne_eqb}
-use Rattle.std.proofs.lemmas.Bool.{not_from_false, not-true, ltb-true, lt-ltb}
+use Rattle.std.proofs.Common.{cond, suc, nat_lt}
+use Rattle.std.proofs.Common.{◌&&◌, ◌||◌, not, List, [], ◌∷◌, length, drop, get_or, map}
+use Rattle.std.proofs.lemmas.Bool.{and_parts, ne_eqb}
+use Rattle.std.proofs.lemmas.Bool.{ltb-true, lt-ltb}
 use Rattle.std.proofs.lemmas.List.Sums.{sum_by-cons}
 use Rattle.std.proofs.lemmas.List.{length-map, get_or-map}
-use Rattle.std.specs.List.{cons_option, list_all, count_by}
+use Rattle.std.specs.List.{list_all, count_by}
 use Rattle.romaji_rules.specs.declared.rule.Rule.{Rule}
 use Rattle.skk_calls.specs.declared.answer.Answer.{Answer}
 use Rattle.skk_calls.specs.declared.entry.Entry.{Entry}
@@ -48,41 +48,13 @@ by-entries : (test : ℕ → Bool) (history : List Entry)
     → list_all (λ entry. test entry.number) history ≡ true
 by-entries test [] holds = refl
 by-entries test (entry ∷ history) holds =
-    and_from (test entry.number) (list_all (λ e. test e.number) history)
-    (holds entry.number (some (entry.number == entry.number) (ne entry.number)))
-    (by-entries test history (λ number said. holds number (λ none. said (rest number (entry.number == number) none))))
-  where
-    ne : (number : ℕ) → (number == number) ≡ true
-    ne number = eq-eqb number number refl
-
-    some : (b : Bool) → b ≡ true
-        → cons_option (cond b (Some (entry.call, entry.answer)) None) (dialog history entry.number) ≢ []
-    some true is none = cc (none)
-    some false is none = absurd (cc (is))
-
-    rest : (number : ℕ) (b : Bool)
-        → cons_option (cond b (Some (entry.call, entry.answer)) None) (dialog history number) ≡ []
-        → dialog history number ≡ []
-    rest number true none = absurd (cc (none))
-    rest number false none = none
+    grind (arith, holds entry.number, by-entries test history (λ number said. grind (arith, holds number)))
 
 -- where no entry was refused, no call of a caller was
 served-by : (history : List Entry) (number : ℕ) → list_all (λ entry. is_reply entry.answer) history ≡ true
     → list_all (λ pair. is_reply pair.1) (dialog history number) ≡ true
 served-by [] number served = refl
-served-by (entry ∷ history) number served =
-    by (entry.number == number) (parts.0) (served-by history number parts.1)
-  where
-    parts : (is_reply entry.answer ≡ true) × (list_all (λ e. is_reply e.answer) history ≡ true)
-    parts = and_parts (is_reply entry.answer) (list_all (λ e. is_reply e.answer) history) served
-
-    by : (b : Bool) → is_reply entry.answer ≡ true
-        → list_all (λ pair. is_reply pair.1) (dialog history number) ≡ true
-        → list_all (λ pair. is_reply pair.1)
-        (cons_option (cond b (Some (entry.call, entry.answer)) None) (dialog history number)) ≡ true
-    by true first rest =
-        and_from (is_reply entry.answer) (list_all (λ pair. is_reply pair.1) (dialog history number)) first rest
-    by false first rest = rest
+served-by (entry ∷ history) number served = grind (arith, served-by history number)
 
 -- what a history comes to is told by its calls and answers alone
 state-of_one : (state : State) (history : List Entry)
@@ -124,9 +96,7 @@ made-at : (f g : ℕ → Session) (tasks : Tasks)
     → by_number f tasks ≡ by_number g tasks
 made-at f g [] same = refl
 made-at f g (task ∷ tasks) same =
-    ap (λ v. (task.0, v) ∷ by_number f tasks) (same 0 (omega arith))
-    ∙ ap (λ es. (task.0, g task.0) ∷ es)
-    (made-at f g tasks (λ place within. same (suc place) (omega (arith, within))))
+    grind (arith, same 0 (omega arith), made-at f g tasks (λ place within. same (suc place) (omega (arith, within))))
 
 -- Ends of tasks
 
@@ -144,30 +114,13 @@ module _ (table : List Rule) (said : ℕ → Dialog) where
       (said (place + place_of tasks number)) [] (ends (end_at place tasks leads number))
   lead-at place [] leads number within = absurd (omega (arith, within))
   lead-at place (task ∷ tasks) leads number within =
-      by (task.0 == number) refl within (lead-at (place + 1) tasks leads.1 number)
-    where
-      by : (b : Bool) → (task.0 == number) ≡ b → cond b 0 (place_of tasks number + 1) < length (task ∷ tasks)
-          → (place_of tasks number < length tasks
-          → Leads (own_typing table (new_session number number) (lines_at tasks number))
-          (said (place + 1 + place_of tasks number)) [] (ends (end_at (place + 1) tasks leads.1 number)))
-          → Leads (own_typing table (new_session number number) (lines_at (task ∷ tasks) number))
-          (said (place + cond b 0 (place_of tasks number + 1))) []
-          (ends (cond b leads.0.0 (end_at (place + 1) tasks leads.1 number)))
-      by true is within_all rest =
-          let here : place ≡ place + 0 = omega arith in
-          subst (λ p. Leads (own_typing table (new_session number number) (lines_at (task ∷ tasks) number)) (said p) []
-          (ends leads.0.0)) here
-          (subst (λ (ls : List Line). Leads (own_typing table (new_session number number) ls) (said place) []
-          (ends leads.0.0)) (sym (lines-here task tasks number is))
-          (subst (λ n. Leads (own_typing table (new_session n n) task.1) (said place) [] (ends leads.0.0))
-          (eqb-true task.0 number is) leads.0.1))
-      by false is within_all rest =
-          let there : place + 1 + place_of tasks number ≡ place + (place_of tasks number + 1) = omega arith in
-          subst (λ p. Leads (own_typing table (new_session number number) (lines_at (task ∷ tasks) number)) (said p) []
-          (ends (end_at (place + 1) tasks leads.1 number))) there
-          (subst (λ (ls : List Line). Leads (own_typing table (new_session number number) ls)
-          (said (place + 1 + place_of tasks number)) [] (ends (end_at (place + 1) tasks leads.1 number)))
-          (sym (lines-there task tasks number is)) (rest (omega (arith, within_all))))
+      grind (
+        arith,
+        leads.0.1,
+        lines-here task tasks number,
+        lines-there task tasks number,
+        lead-at (place + 1) tasks leads.1 number,
+      )
 
 -- the sessions behind the tasks are those that their lines lead to
 sessions-led : (table : List Rule) (said : ℕ → Dialog) (place : ℕ) (tasks : Tasks)
@@ -175,15 +128,13 @@ sessions-led : (table : List Rule) (said : ℕ → Dialog) (place : ℕ) (tasks 
     → sessions_from table said place tasks ≡ by_number (end_at table said place tasks leads) tasks
 sessions-led table said place [] leads ascend = refl
 sessions-led table said place (task ∷ tasks) leads ascend =
-    ap (λ o. (task.0, unwrap_or o (new_session task.0 task.0)) ∷ sessions_from table said (place + 1) tasks)
-    (led-end leads.0.1)
-    ∙ ap (λ b. (task.0, cond b leads.0.0 (end_at table said (place + 1) tasks leads.1 task.0))
-    ∷ sessions_from table said (place + 1) tasks) (sym (eq-eqb task.0 task.0 refl))
-    ∙ ap (λ es. (task.0, end_at table said place (task ∷ tasks) leads task.0) ∷ es)
-    (sessions-led table said (place + 1) tasks leads.1 ascend.1
-    ∙ above-same (end_at table said (place + 1) tasks leads.1) (end_at table said place (task ∷ tasks) leads) task.0
-    (λ other differ. ap (λ b. cond b leads.0.0 (end_at table said (place + 1) tasks leads.1 other))
-    (ne_eqb task.0 other (λ same. eqb-false other task.0 differ (sym same)))) tasks ascend.0)
+    grind (
+      arith,
+      led-end leads.0.1,
+      sessions-led table said (place + 1) tasks leads.1 ascend.1,
+      above-same (end_at table said (place + 1) tasks leads.1) (end_at table said place (task ∷ tasks) leads) task.0
+          (λ other differ. grind arith) tasks ascend.0,
+    )
 
 module _ (table : List Rule)
     (new_own : (typist : ℕ) → IsOwn typist (new_session typist typist))
@@ -211,19 +162,7 @@ module _ (table : List Rule)
       → StartsOwn (first_session number own).typist (new_session number number) own
   starts number [] well keys private = new_own number
   starts number (Keys named ks ∷ lines) well keys private = (new_own number, keys)
-  starts number (Opening named typist book ∷ lines) well keys private = (
-    refl,
-    own (book == 0) (book == typist) refl refl
-        (and_parts (book == 0 || book == typist) (list_all opens_well lines) well).0
-        (and_parts (not (typist == 0)) (not (book == 0)) private).1,
-    keys,
-  )
-    where
-      own : (shared own : Bool) → (book == 0) ≡ shared → (book == typist) ≡ own → (shared || own) ≡ true
-          → not shared ≡ true → book ≡ typist
-      own true is_own is same either nonzero = absurd (cc (nonzero))
-      own false true is same either nonzero = eqb-true book typist same
-      own false false is same either nonzero = absurd (cc (either))
+  starts number (Opening named typist book ∷ lines) well keys private = (refl, grind arith, keys)
 
   module _ (opening : opening_value) (history : List Entry) (lines : List Line)
       (given_own : (typist number : ℕ) → GivesOwn typist (dialog history number))
@@ -260,9 +199,7 @@ module _ (table : List Rule)
 
     -- no typist is 0
     not-shared : (place : ℕ) → place < length tasks → (typist_at place == 0) ≡ false
-    not-shared place within =
-        not-true (typist_at place == 0)
-        (and_parts (not (typist_at place == 0)) (not ((first_at tasks place).book == 0)) (private-at place within)).0
+    not-shared place within = grind (arith, private-at place within)
 
     -- own lines start as their typist's
     starts-at : (number : ℕ) → place_of tasks number < length tasks
@@ -299,17 +236,7 @@ module _ (table : List Rule)
 
     own-at : (place : ℕ) → list_all (is_own (typist_at place)) (calls_of (dialog history place)) ≡ true
     own-at place =
-        elim (cases_order place (length tasks)) [
-          | inl same ↦ none (strangers place (omega (arith, same)))
-          | inr (inl less) ↦
-              let is = place-at tasks place ascend less in
-              subst (λ p. list_all (is_own (typist_at p)) (calls_of (dialog history p)) ≡ true) is
-              (own-named (number_at tasks place) (omega (arith, is, less)))
-          | inr (inr more) ↦ none (strangers place (omega (arith, more)))
-        ]
-      where
-        none : dialog history place ≡ [] → list_all (is_own (typist_at place)) (calls_of (dialog history place)) ≡ true
-        none is = ap (λ (d : Dialog). list_all (is_own (typist_at place)) (calls_of d)) is
+        grind (arith, strangers place, place-at tasks place ascend, own-named (number_at tasks place))
 
     abbrev typists : List ℕ
     typists = map (λ (s : Session). s.typist) (map (λ task. first_session task.0 task.1) tasks)
@@ -329,33 +256,20 @@ module _ (table : List Rule)
     differs : (place other : ℕ) → place < length tasks → other < length tasks → place ≢ other
         → (typist_at other == typist_at place) ≡ false
     differs place other within also places =
-        ne_eqb (typist_at other) (typist_at place)
-        (λ same. differ-at typists place other parts.1 (omega (arith, within, typists-long))
-        (omega (arith, also, typists-long)) places
-        (typist-there place within ∙ sym same ∙ sym (typist-there other also)))
+        grind (
+          arith,
+          differ-at typists place other parts.1,
+          typists-long,
+          typist-there place within,
+          typist-there other also,
+        )
 
     -- each entry is of a caller, or of one that is apart from it
     apart-from : (place : ℕ) → place < length tasks → list_all (is_apart typist_at place) history ≡ true
-    apart-from place within = by-entries (λ other. other == place
-        || (not (typist_at other == typist_at place) && not (typist_at other == 0))) history holds
-      where
-        holds : (other : ℕ) → (dialog history other ≢ [])
-            → (other == place || (not (typist_at other == typist_at place) && not (typist_at other == 0))) ≡ true
-        holds other said =
-            elim (cases_order other (length tasks)) [
-              | inl same ↦ absurd (said (strangers other (omega (arith, same))))
-              | inr (inl less) ↦ by (other == place) refl less
-              | inr (inr more) ↦ absurd (said (strangers other (omega (arith, more))))
-            ]
-          where
-            by : (b : Bool) → (other == place) ≡ b → other < length tasks
-                → (b || (not (typist_at other == typist_at place) && not (typist_at other == 0))) ≡ true
-            by true is less = refl
-            by false is less =
-                and_from (not (typist_at other == typist_at place)) (not (typist_at other == 0))
-                (not_from_false (typist_at other == typist_at place)
-                (differs place other within less (λ same. eqb-false other place is (sym same))))
-                (not_from_false (typist_at other == 0) (not-shared other less))
+    apart-from place within =
+        by-entries (λ other. other == place
+        || (not (typist_at other == typist_at place) && not (typist_at other == 0))) history
+        (λ other said. grind (arith, strangers other, differs place other within, not-shared other))
 
     -- so each caller is answered as if it called alone
     alone-at : (place : ℕ) → place < length tasks
@@ -385,9 +299,7 @@ module _ (table : List Rule)
     places-differ : (number other : ℕ) → named number ≡ true → named other ≡ true → (other == number) ≡ false
         → place_of tasks number ≢ place_of tasks other
     places-differ number other is also differ_is same =
-        eqb-false other number differ_is
-        (sym (number-at tasks other (placed other also)) ∙ ap (number_at tasks) (sym same)
-        ∙ number-at tasks number (placed number is))
+        grind (arith, number-at tasks other, number-at tasks number)
 
     apart-named : (number other : ℕ) → named number ≡ true → named other ≡ true → (other == number) ≡ false
         → (typist_of number == typist_of other) ≡ false
@@ -441,39 +353,21 @@ module _ (table : List Rule)
     -- each caller says the same in the history of one
     said-same : (place : ℕ) → dialog played.history place ≡ dialog history place
     said-same place =
-        elim (cases_order place (length tasks)) [
-          | inl same ↦ beyond (omega (arith, same))
-          | inr (inl less) ↦
-              subst (λ p. dialog played.history p ≡ dialog history p) (place-at tasks place ascend less)
-              (played.says (number_at tasks place) (named-at place less))
-          | inr (inr more) ↦ beyond (omega (arith, more))
-        ]
-      where
-        beyond : length tasks ≤ place → dialog played.history place ≡ dialog history place
-        beyond behind =
-            played.strangers place (λ number is. ne_eqb (place_of tasks number) place
-            (λ same. omega (arith, behind, same, placed number is)))
-            ∙ sym (strangers place behind)
+        grind (
+          arith,
+          strangers place,
+          place-at tasks place ascend,
+          played.says (number_at tasks place),
+          named-at place,
+          λ (behind : length tasks ≤ place).
+              played.strangers place (λ number is. grind (arith, behind, placed number is)),
+        )
 
     -- callers that have said something have typists that differ
     callers-differ : (first second : ℕ) → dialog history first ≢ [] → dialog history second ≢ []
         → typist_at first ≡ typist_at second → first ≡ second
     callers-differ first second some also same =
-        elim (cases_order first (length tasks)) [
-          | inl is ↦ absurd (some (strangers first (omega (arith, is))))
-          | inr (inl less) ↦ elim (cases_order second (length tasks)) [
-            | inl is ↦ absurd (also (strangers second (omega (arith, is))))
-            | inr (inl too) ↦ by (first == second) refl less too
-            | inr (inr more) ↦ absurd (also (strangers second (omega (arith, more))))
-          ]
-          | inr (inr more) ↦ absurd (some (strangers first (omega (arith, more))))
-        ]
-      where
-        by : (b : Bool) → (first == second) ≡ b → first < length tasks → second < length tasks → first ≡ second
-        by true is less too = eqb-true first second is
-        by false is less too =
-            absurd (cc (sym (differs second first too less (λ places. eqb-false first second is (sym places)))
-            ∙ eq-eqb (typist_at first) (typist_at second) same))
+        grind (arith, strangers first, strangers second, differs second first)
 
     -- the sessions behind the lines are those that the callers' own lines end with
     sessions-played : sessions_from table (dialog history) 0 tasks ≡ played.behind

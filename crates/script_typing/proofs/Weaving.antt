@@ -1,7 +1,6 @@
 -- What the pages of workers come to in the order of the script.
-use Rattle.std.proofs.Common.{◌≡◌, ◌∙◌, ap, sym, subst, refl, ℕ, ◌==◌, Bool, true, false, cond, unwrap_or}
+use Rattle.std.proofs.Common.{◌≡◌, ◌∙◌, ap, sym, subst, refl, arith, ℕ, ◌==◌, Bool, true, false, unwrap_or}
 use Rattle.std.proofs.Common.{Option, None, Some, List, [], ◌∷◌, ◌++◌, append_assoc}
-use Rattle.std.proofs.lemmas.Bool.{eqb-true, eq-eqb}
 use Rattle.std.specs.BTreeMap.{is_at}
 use Rattle.std.specs.List.{fold}
 use Rattle.std.specs.Map.{lookup}
@@ -60,21 +59,12 @@ pub record IsWoven (table : List Rule) (whole : Bool) (sessions : SessionMap) (g
 -- an own line is the first
 pub own-first : (line : Line) (lines : List Line)
     → own_lines (session_of line) (line ∷ lines) ≡ line ∷ own_lines (session_of line) lines
-own-first line lines =
-    ap (λ b. cond b (line ∷ own_lines (session_of line) lines) (own_lines (session_of line) lines))
-    (eq-eqb (session_of line) (session_of line) refl)
+own-first line lines = grind arith
 
 -- another's is not there
 pub own-other : (line : Line) (lines : List Line) (number : ℕ) → (number == session_of line) ≡ false
     → own_lines number (line ∷ lines) ≡ own_lines number lines
-own-other line lines number differ =
-    ap (λ b. cond b (line ∷ own_lines number lines) (own_lines number lines)) (swapped (session_of line == number) refl)
-  where
-    swapped : (b : Bool) → (session_of line == number) ≡ b → (session_of line == number) ≡ false
-    swapped false is = is
-    swapped true is =
-        let same : number ≡ session_of line = sym (eqb-true (session_of line) number is) in
-        absurd (cc (sym (eq-eqb number (session_of line) same) ∙ differ))
+own-other line lines number differ = grind arith
 
 -- a session that was put into its place
 pub session-put : (sessions : SessionMap) (number : ℕ) (session : Session)
@@ -114,34 +104,23 @@ module _ (table : List Rule) (whole : Bool) where
     ahead-opened : (number typist book : ℕ) (lines : List Line) (sessions : SessionMap) (given : Given)
         (pages : PageMap) → AreAhead ended sessions given (Opening number typist book ∷ lines) pages
         → AreAhead ended (with_session sessions number (new_session typist book)) given lines pages
-    ahead-opened number typist book lines sessions given pages ahead other = by (other == number) refl
+    ahead-opened number typist book lines sessions given pages ahead other =
+        grind (
+          arith,
+          session-put sessions number (new_session typist book),
+          session-others sessions number (new_session typist book) other,
+          own-other (Opening number typist book) lines other,
+          ahead other,
+          opened,
+        )
       where
-        by : (b : Bool) → (other == number) ≡ b
-            → IsAhead table whole other
-            (session_or_new (with_session sessions number (new_session typist book)) other) (ended other)
-            (own_lines other lines) (given other) (pages_at pages other)
-        by true is =
-            let same : other ≡ number = eqb-true other number is in
-            subst (λ n. IsAhead table whole n
-            (session_or_new (with_session sessions number (new_session typist book)) n) (ended n)
-            (own_lines n lines) (given n) (pages_at pages n)) (sym same)
-            (subst (λ (s : Session). IsAhead table whole number s (ended number) (own_lines number lines)
-            (given number) (pages_at pages number)) (sym (session-put sessions number (new_session typist book)))
-            (opened (subst (λ (own : List Line). IsAhead table whole number (session_or_new sessions number)
-            (ended number) own (given number) (pages_at pages number))
-            (own-first (Opening number typist book) lines) (ahead number))))
-          where
-            opened : IsAhead table whole number (session_or_new sessions number) (ended number)
-                (Opening number typist book ∷ own_lines number lines) (given number) (pages_at pages number)
-                → IsAhead table whole number (new_session typist book) (ended number) (own_lines number lines)
-                (given number) (pages_at pages number)
-            opened a = record { rest = a.rest; printed = a.printed; all = a.all; ended = a.ended }
-        by false differ =
-            subst (λ (s : Session). IsAhead table whole other s (ended other) (own_lines other lines) (given other)
-            (pages_at pages other)) (sym (session-others sessions number (new_session typist book) other differ))
-            (subst (λ (own : List Line). IsAhead table whole other (session_or_new sessions other) (ended other) own
-            (given other) (pages_at pages other)) (own-other (Opening number typist book) lines other differ)
-            (ahead other))
+        opened : IsAhead table whole number (new_session typist book) (ended number) (own_lines number lines)
+            (given number) (pages_at pages number)
+        opened =
+            let known : IsAhead table whole number (session_or_new sessions number) (ended number)
+            (Opening number typist book ∷ own_lines number lines) (given number) (pages_at pages number) =
+            rw (own-first (Opening number typist book) lines) at (ahead number) in
+            record { rest = known.rest; printed = known.printed; all = known.all; ended = known.ended }
 
     -- a line of keys that were taken, whose page is the next of its session
     module _ (number : ℕ) (ks : List Key) (lines : List Line) (sessions : SessionMap) (given : Given)
@@ -196,44 +175,31 @@ module _ (table : List Rule) (whole : Bool) where
       -- so it is with each session
       pub ahead-typed : AreAhead ended (with_session sessions number session) (with_given given number left) lines
           (without_first pages number)
-      ahead-typed other = by (other == number) refl
+      ahead-typed other =
+          grind (
+            arith,
+            session-put sessions number session,
+            session-others sessions number session other,
+            own-other keys_line lines other,
+            there-unset pages number (behind_first (pages_at pages number)) other,
+            behind,
+            own-behind,
+            ahead other,
+          )
         where
-          by : (b : Bool) → (other == number) ≡ b
-              → IsAhead table whole other (session_or_new (with_session sessions number session) other) (ended other)
-              (own_lines other lines) (cond b left (given other)) (pages_at (without_first pages number) other)
-          by true is =
-              let same : other ≡ number = eqb-true other number is in
-              subst (λ n. IsAhead table whole n (session_or_new (with_session sessions number session) n) (ended n)
-              (own_lines n lines) left (pages_at (without_first pages number) n)) (sym same)
-              (subst (λ (s : Session). IsAhead table whole number s (ended number) (own_lines number lines) left
-              (pages_at (without_first pages number) number)) (sym (session-put sessions number session))
-              (subst (λ (ps : PageList). IsAhead table whole number session (ended number) (own_lines number lines) left
-              ps) (sym behind) own-behind))
-            where
-              behind : pages_at (without_first pages number) number ≡ more
-              behind =
-                  ap (λ ps. unwrap_or ps [])
-                  (there-set pages number (page ∷ more) (behind_first (pages_at pages number))
-                  (some-there (lookup (is_at (nat_cmp number)) pages) page more there))
-                  ∙ ap behind_first there
-          by false differ =
-              subst (λ (s : Session). IsAhead table whole other s (ended other) (own_lines other lines) (given other)
-              (pages_at (without_first pages number) other))
-              (sym (session-others sessions number session other differ))
-              (subst (λ (ps : PageList). IsAhead table whole other (session_or_new sessions other) (ended other)
-              (own_lines other lines) (given other) ps)
-              (sym (ap (λ ps. unwrap_or ps [])
-              (there-unset pages number (behind_first (pages_at pages number)) other differ)))
-              (subst (λ (ls : List Line). IsAhead table whole other (session_or_new sessions other) (ended other) ls
-              (given other) (pages_at pages other)) (own-other keys_line lines other differ) (ahead other)))
+          behind : pages_at (without_first pages number) number ≡ more
+          behind =
+              ap (λ ps. unwrap_or ps [])
+              (there-set pages number (page ∷ more) (behind_first (pages_at pages number))
+              (some-there (lookup (is_at (nat_cmp number)) pages) page more there))
+              ∙ ap behind_first there
 
 -- what is made of numbers by functions that agree is the same
 by_number-same : {A B : Type 0} (f g : ℕ → B) → ((number : ℕ) → f number ≡ g number) → (entries : List (ℕ × A))
     → by_number f entries ≡ by_number g entries
 by_number-same f g same [] = refl
 by_number-same f g same (entry ∷ entries) =
-    ap (λ v. (entry.0, v) ∷ by_number f entries) (same entry.0)
-    ∙ ap (λ es. (entry.0, g entry.0) ∷ es) (by_number-same f g same entries)
+    grind (arith, same entry.0, by_number-same f g same entries)
 
 -- where no line is left and all is whole, a session is the one that its lines end with
 none-left : (session end : Session) (answers : List Answer) → end_of (ends session) answers ≡ Some end → session ≡ end

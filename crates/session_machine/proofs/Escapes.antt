@@ -1,10 +1,10 @@
 -- Texts as they are printed: runs without an escape, and escapes between them.
-use Rattle.std.proofs.Common.{◌≡◌, ◌<◌, ◌+◌, ◌||◌, ◌==◌, ◌∙◌, sym, ap, ℕ, true, false, List, [], ◌∷◌, ◌++◌, length}
+use Rattle.std.proofs.Common.{◌≡◌, ◌<◌, ◌+◌, ◌∙◌, sym, ap, ℕ, true, false, List, [], ◌∷◌, ◌++◌, length}
 use Rattle.std.proofs.Common.{take, drop, get_or, refl, subst, arith, length-append, length-take, inl, inr}
 use lib.Utf8.{encode, encodes}
 use Rattle.std.specs.List.{flat_map}
 use Rattle.std.specs.Str.{chars, IsUtf8}
-use Rattle.std.proofs.lemmas.Bool.{cases_Bool, or_parts, or_cases, eqb-true}
+use Rattle.std.proofs.lemmas.Bool.{cases_Bool}
 use Rattle.std.proofs.lemmas.List.{get_or-append-add, get_or-take}
 use Rattle.std.proofs.lemmas.List.Concat.{flat_map-append}
 use Rattle.std.proofs.lemmas.Str.{encodes-chars, encode_ascii}
@@ -13,25 +13,11 @@ use Rattle.session_machine.specs.Display.{escaped, has_escape}
 
 -- a character without an escape is printed as it is
 pub plain : (c : ℕ) → has_escape c ≡ false → escaped c ≡ c ∷ []
-plain c none =
-    let parts = or_parts (c == 10 || c == 13 || c == 9) (c == 92) none in
-    let more = or_parts (c == 10 || c == 13) (c == 9) parts.0 in
-    let two = or_parts (c == 10) (c == 13) more.0 in
-    rw (two.0, two.1, more.1, parts.1) refl
+plain c none = grind arith
 
 -- one with an escape is ASCII
 pub escape-small : (c : ℕ) → has_escape c ≡ true → c < 128
-escape-small c e =
-    elim (or_cases (c == 10 || c == 13 || c == 9) (c == 92) e) [
-      | inl more ↦ elim (or_cases (c == 10 || c == 13) (c == 9) more) [
-        | inl two ↦ elim (or_cases (c == 10) (c == 13) two) [
-          | inl is ↦ omega (arith, eqb-true c 10 is)
-          | inr is ↦ omega (arith, eqb-true c 13 is)
-        ]
-        | inr is ↦ omega (arith, eqb-true c 9 is)
-      ]
-      | inr is ↦ omega (arith, eqb-true c 92 is)
-    ]
+escape-small c e = grind arith
 
 -- characters of whose bytes none has an escape are printed as they are
 pub run-plain : (cs : List ℕ) → ((k : ℕ) → k < length (encodes cs) → has_escape (get_or (encodes cs) k 0) ≡ false)

@@ -1,17 +1,13 @@
 -- What the changes of a session keep, every key keeps; and what it asks is what may be asked of such sessions.
-use Rattle.std.proofs.Common.{◌≡◌, ◌==◌, ℕ, slice_get, Bool, true, false, Option, Some, None, Result, Ok, Err, List}
-use Rattle.std.proofs.Common.{[], ◌∷◌, ◌++◌, length, refl, subst, if◌then◌else◌, ◌&&◌}
+use Rattle.std.proofs.Common.{◌≡◌, ◌==◌, ℕ, Bool, true, false, Option, Some, None, Result, Ok, Err, List}
+use Rattle.std.proofs.Common.{[], ◌∷◌, ◌++◌, length, refl, subst, arith, ◌&&◌}
 use Rattle.std.specs.Bool.{⊤}
 use Rattle.std.proofs.lemmas.Bool.{and_parts}
-use Rattle.std.specs.Char.{is_ascii_digit}
-use Rattle.std.specs.List.{list_any}
-use Rattle.std.specs.Option.{option_map_or}
 use Rattle.skk_text.specs.Text.{byte_len}
 use Rattle.skk_text.specs.declared.key.Key.{Key}
 use Rattle.skk_text.specs.declared.key.Key.TheVariants.{Char}
 use Rattle.skk_text.specs.declared.notice.Notice.{Notice}
 use Rattle.skk_text.specs.declared.notice.Notice.TheVariants as notices
-use Rattle.skk_text.specs.Lists.{is_empty}
 use Rattle.skk_text.specs.declared.mode.Mode.{Mode}
 use Rattle.skk_text.specs.declared.mode.Mode.TheVariants.{Ascii, Wide}
 use Rattle.skk_calls.specs.declared.answer.Answer.{Answer}
@@ -25,7 +21,6 @@ use Rattle.skk_calls.specs.declared.call.Call.TheVariants.{Lookup, Complete, Lea
 use Rattle.skk_calls.specs.declared.part.Part.TheVariants.{Nasi}
 use Rattle.dict_laws.specs.OwnBooks.{AsksOnly}
 use Rattle.dict_laws.specs.OwnBookLaws.{only_followed}
-use Rattle.numeric_entries.specs.Forms.{asks_lookup}
 use Rattle.numeric_entries.specs.Numbers.{numbers_of}
 use Rattle.romaji_rules.specs.declared.rule.Rule.{Rule}
 use Rattle.kana_input.specs.declared.plain.PlainThen.{PlainThen}
@@ -45,7 +40,7 @@ use Rattle.candidate_state.specs.declared.cands_do.CandsDo.TheVariants as cands
 use Rattle.candidate_state.specs.declared.shown.BothFound.{BothFound}
 use Rattle.candidate_state.specs.declared.shown.Found.{Found}
 use Rattle.candidate_state.specs.Picking.{picking_step, new_picking}
-use Rattle.candidate_state.specs.Shown.{Shown, shown_plain}
+use Rattle.candidate_state.specs.Shown.{Shown, shown_plain, shown_numbers}
 use Rattle.session_machine.specs.declared.frame.Choice.{Choice}
 use Rattle.session_machine.specs.declared.frame.Conversion.{Conversion}
 use Rattle.session_machine.specs.declared.frame.State.{State}
@@ -55,7 +50,7 @@ use Rattle.session_machine.specs.declared.frame.Waiting.{Waiting}
 use Rattle.session_machine.specs.declared.frame.Waiting.TheVariants as waits
 use Rattle.session_machine.specs.declared.session_notice.SessionNotice.{SessionNotice}
 use Rattle.session_machine.specs.declared.session_notice.SessionNotice.TheVariants as told
-use Rattle.session_machine.specs.Answered.{answer_notice, says_purged, learnt_by}
+use Rattle.session_machine.specs.Answered.{answer_notice, learnt_by}
 use Rattle.session_machine.specs.Converted.{pick, found_by, key_found, with_found, looked_up, first_word}
 use Rattle.session_machine.specs.Converted.{number_looked_up, first_words, filled, both_found, plain_found, converted}
 use Rattle.session_machine.specs.Converted.{completions_answered, completing, left_open}
@@ -124,12 +119,8 @@ module _ {Asked : Call → Type 0} {Given : Answer → Type 0} {Holds : Session 
   told-kept session notice holds = keeps.noticed session notice holds
 
   inserted-kept : (session : Session) (piece : List ℕ) → Holds session → Holds (with_insertion session piece)
-  inserted-kept session piece holds = by (has_room session piece) refl
-    where
-      by : (room : Bool) → has_room session piece ≡ room
-          → Holds (if room then with_piece session piece else noting session notices.Limit)
-      by true e = keeps.longer session piece e holds
-      by false e = noted-kept session notices.Limit holds
+  inserted-kept session piece holds =
+      grind (arith, holds, keeps.longer session piece, noted-kept session notices.Limit holds)
 
   -- a session whose reading stays open, or whose candidates stay
   open-kept : (session : Session) (reading : Reading) (refusal : Option Refusal) → Holds session
@@ -142,27 +133,22 @@ module _ {Asked : Call → Type 0} {Given : Answer → Type 0} {Holds : Session 
   -- Registrations
 
   cancelled-kept : (session : Session) → Holds session → Holds (cancelled session)
-  cancelled-kept session holds = by (innermost session.outer) refl
-    where
-      by : (found : Option OuterFrame) → innermost session.outer ≡ found
-          → Holds (option_map_or (back_in session) found session)
-      by None e = holds
-      by (Some frame) e = keeps.closed session frame e holds
+  cancelled-kept session holds = grind (arith, holds, keeps.closed session)
 
   registering-kept : (session : Session) (waiting : Waiting) → Holds session → Holds (registering session waiting)
-  registering-kept session waiting holds = by (length session.outer == depth_limit) refl
-    where
-      by : (full : Bool) → (length session.outer == depth_limit) ≡ full → Holds (if full
-          then record (with_state session (waiting_state waiting)) { notice = told.Depth }
-          else record session { frame = new_frame; outer = session.outer ++ outside session.frame waiting ∷ [] })
-      by true e =
-          keeps.noticed (with_state session (waiting_state waiting)) told.Depth
-          (keeps.stated session (waiting_state waiting) holds)
-      by false e = keeps.opened session waiting e holds
+  registering-kept session waiting holds =
+      grind (
+        arith,
+        holds,
+        keeps.opened session waiting,
+        keeps.noticed (with_state session (waiting_state waiting)) told.Depth
+            (keeps.stated session (waiting_state waiting) holds),
+      )
 
   ended-kept : (session : Session) (frame : OuterFrame) → innermost session.outer ≡ Some frame → Holds session
       → Kept (ended_in session frame)
-  ended-kept session frame is holds = by_word (is_empty session.frame.text)
+  ended-kept session frame is holds =
+      grind (arith, keeps.closed session frame is holds, learnt, noted-kept session notices.Limit holds)
     where
       word : List ℕ
       word = session.frame.text
@@ -173,34 +159,23 @@ module _ {Asked : Call → Type 0} {Given : Answer → Type 0} {Holds : Session 
       piece : List ℕ
       piece = registered_piece frame.mode (waiting_reading frame.waiting) session.frame.text
 
-      by_room : (room : Bool) → (is_word word && fits_behind frame.text piece) ≡ room
-          → Kept (if room
-          then asks (registration session.book reading word)
-          (λ answer. becomes (registered session frame piece answer))
-          else becomes (noting session notices.Limit))
-      by_room true e = (
+      learnt : (is_word word && fits_behind frame.text piece) ≡ true
+          → Kept (asks (registration session.book reading word)
+          (λ answer. becomes (registered session frame piece answer)))
+      learnt e = (
         keeps.learns session (registered_key reading) (okuri_of reading) (record { word = word; note = [] }) holds,
         λ answer given. told-kept (record session { frame = with_word frame piece; outer = beyond session.outer })
             (answer_notice answer)
             (keeps.ended session frame piece is (and_parts (is_word word) (fits_behind frame.text piece) e).1 holds),
       )
-      by_room false e = noted-kept session notices.Limit holds
-
-      by_word : (none : Bool) → Kept (if none then becomes (back_in session frame)
-          else if is_word word && fits_behind frame.text piece
-          then asks (registration session.book reading word)
-          (λ answer. becomes (registered session frame piece answer))
-          else becomes (noting session notices.Limit))
-      by_word true = keeps.closed session frame is holds
-      by_word false = by_room (is_word word && fits_behind frame.text piece) refl
 
   returned-kept : (session : Session) → Holds session → Kept (returned session)
-  returned-kept session holds = by (innermost session.outer) refl
-    where
-      by : (found : Option OuterFrame) → innermost session.outer ≡ found
-          → Kept (option_map_or (ended_in session) found (becomes (with_insertion session (10 ∷ []))))
-      by None e = inserted-kept session (10 ∷ []) holds
-      by (Some frame) e = ended-kept session frame e holds
+  returned-kept session holds =
+      grind (
+        arith,
+        inserted-kept session (10 ∷ []) holds,
+        λ (frame : OuterFrame) (is : innermost session.outer ≡ Some frame). ended-kept session frame is holds,
+      )
 
   -- Readings
 
@@ -214,30 +189,24 @@ module _ {Asked : Call → Type 0} {Given : Answer → Type 0} {Holds : Session 
   confirmed-kept : (session : Session) (reading : Reading) (other : Bool) (after : AfterConfirm) → Holds session
       → Kept (confirmed session reading other after)
   confirmed-kept session reading other after holds =
-      by (has_room session (reading_piece session.frame.mode reading other)) refl
-    where
-      piece : List ℕ
-      piece = reading_piece session.frame.mode reading other
-
-      by : (room : Bool) → has_room session piece ≡ room
-          → Kept (if room then confirmed_effect (with_piece session piece) after
-          else becomes (noting (with_state session (states.Reading reading)) notices.Limit))
-      by true e = after-kept (with_piece session piece) after (keeps.longer session piece e holds)
-      by false e =
-          noted-kept (with_state session (states.Reading reading)) notices.Limit
-          (keeps.stated session (states.Reading reading) holds)
+      let piece = reading_piece session.frame.mode reading other in
+      grind (
+        arith,
+        holds,
+        keeps.longer session piece,
+        after-kept (with_piece session piece) after,
+        noted-kept (with_state session (states.Reading reading)) notices.Limit
+            (keeps.stated session (states.Reading reading) holds),
+      )
 
   pick-kept : (session : Session) (reading : Reading) (shown : List Shown) → Holds session
       → Kept (pick session reading shown)
-  pick-kept session reading shown holds = by (length shown == 0)
-    where
-      picking : State
-      picking = states.Picking (record { reading = reading; picking = new_picking shown })
-
-      by : (none : Bool) → Kept (if none then becomes (registering session (waits.Reading reading))
-          else becomes (with_state session picking))
-      by true = registering-kept session (waits.Reading reading) holds
-      by false = keeps.stated session picking holds
+  pick-kept session reading shown holds =
+      grind (
+        arith,
+        registering-kept session (waits.Reading reading) holds,
+        keeps.stated session (states.Picking (record { reading = reading; picking = new_picking shown })) holds,
+      )
 
   looked-kept : (session : Session) (reading : Reading) (key : RowKey) (behind : Found → Meaning) → Holds session
       → ((found : Found) → Kept (behind found)) → Kept (looked_up session reading key behind)
@@ -274,22 +243,22 @@ module _ {Asked : Call → Type 0} {Given : Answer → Type 0} {Holds : Session 
   both-kept : (session : Session) (reading : Reading) (found : BothFound) → Holds session
       → Kept (both_found session reading found)
   both-kept session reading found holds =
-      by (list_any (λ (cand : Cand). asks_lookup cand.word) found.numbered.cands) refl
-    where
-      by : (asks : Bool) → list_any (λ (cand : Cand). asks_lookup cand.word) found.numbered.cands ≡ asks
-          → Kept (both_found session reading found)
-      by true e = rw e (words-kept session reading found [] (numbers_of reading.text) holds)
-      by false e = rw e (pick-kept session reading _ holds)
+      grind (
+        arith,
+        words-kept session reading found [] (numbers_of reading.text) holds,
+        pick-kept session reading (shown_numbers found (numbers_of reading.text) (numbers_of reading.text)) holds,
+      )
 
   read-kept : (session : Session) (reading : Reading) (plain : Found) → Holds session
       → Kept (plain_found session reading plain)
-  read-kept session reading plain holds = by (list_any is_ascii_digit reading.text) refl
-    where
-      by : (digits : Bool) → list_any is_ascii_digit reading.text ≡ digits → Kept (plain_found session reading plain)
-      by true e = rw e (looked-kept session reading (number_key_of reading)
-          (λ numbered. both_found session reading (record { plain = plain; numbered = numbered })) holds
-          (λ numbered. both-kept session reading (record { plain = plain; numbered = numbered }) holds))
-      by false e = rw e (pick-kept session reading (shown_plain plain) holds)
+  read-kept session reading plain holds =
+      grind (
+        arith,
+        looked-kept session reading (number_key_of reading)
+            (λ numbered. both_found session reading (record { plain = plain; numbered = numbered })) holds
+            (λ numbered. both-kept session reading (record { plain = plain; numbered = numbered }) holds),
+        pick-kept session reading (shown_plain plain) holds,
+      )
 
   converted-kept : (session : Session) (reading : Reading) → Holds session → Kept (converted session reading)
   converted-kept session reading holds =
@@ -347,16 +316,12 @@ module _ {Asked : Call → Type 0} {Given : Answer → Type 0} {Holds : Session 
 
   undone-kept : (session : Session) (bytes : ℕ) → Holds session
       → Kept (undone session (choice_at bytes session.frame.last_choice))
-  undone-kept session bytes holds = by session.frame.last_choice refl
-    where
-      by_end : (choice : Choice) → session.frame.last_choice ≡ Some choice → (there : Bool)
-          → Kept (undone session (if there then Some choice else None))
-      by_end choice e true = choice-undone-kept session choice e holds
-      by_end choice e false = noted-kept session notices.NoUndo holds
-
-      by : (last : Option Choice) → session.frame.last_choice ≡ last → Kept (undone session (choice_at bytes last))
-      by None e = noted-kept session notices.NoUndo holds
-      by (Some choice) e = by_end choice e (bytes == choice.end)
+  undone-kept session bytes holds =
+      grind (
+        arith,
+        λ (choice : Choice) (is : session.frame.last_choice ≡ Some choice). choice-undone-kept session choice is holds,
+        noted-kept session notices.NoUndo holds,
+      )
 
   plain-effect-kept : (rules : List Rule) (session : Session) (effect : PlainThen) → Holds session
       → Kept (plain_effect rules session effect)
@@ -416,43 +381,30 @@ module _ {Asked : Call → Type 0} {Given : Answer → Type 0} {Holds : Session 
   choosing-kept : (rules : List Rule) (session : Session) (conversion : Conversion) (effect : AfterChoose)
       (shown : Shown) → Holds session → Kept (choosing rules session conversion effect shown)
   choosing-kept rules session conversion effect shown holds =
-      by (has_room session (choice_piece session.frame.mode conversion.reading shown)) refl
-    where
-      piece : List ℕ
-      piece = choice_piece session.frame.mode conversion.reading shown
-
-      by : (room : Bool) → has_room session piece ≡ room
-          → Kept (if room then learning rules session conversion piece effect shown
-          else becomes (noting (with_state session (states.Picking conversion)) notices.Limit))
-      by true e = learning-kept rules session conversion piece effect shown e holds
-      by false e =
-          noted-kept (with_state session (states.Picking conversion)) notices.Limit
-          (keeps.stated session (states.Picking conversion) holds)
+      let piece = choice_piece session.frame.mode conversion.reading shown in
+      grind (
+        arith,
+        λ (room : has_room session piece ≡ true). learning-kept rules session conversion piece effect shown room holds,
+        noted-kept (with_state session (states.Picking conversion)) notices.Limit
+            (keeps.stated session (states.Picking conversion) holds),
+      )
 
   purging-kept : (session : Session) (conversion : Conversion) (shown : Shown) → Holds session
       → Kept (purging session conversion shown)
   purging-kept session conversion shown holds = (
     keeps.purges session shown.key shown.cand.word holds,
-    λ answer given. by answer (says_purged answer),
+    λ answer given. grind (
+      arith,
+      keeps.noticed session (answer_notice answer) holds,
+      keeps.noticed (with_state session (states.Picking conversion)) (answer_notice answer)
+          (keeps.stated session (states.Picking conversion) holds),
+    ),
   )
-    where
-      by : (answer : Answer) (purged : Bool)
-          → Holds (record (if purged then session else with_state session (states.Picking conversion)) {
-            notice = answer_notice answer;
-          })
-      by answer true = keeps.noticed session (answer_notice answer) holds
-      by answer false =
-          keeps.noticed (with_state session (states.Picking conversion)) (answer_notice answer)
-          (keeps.stated session (states.Picking conversion) holds)
 
   candidate-kept : (session : Session) (conversion : Conversion) (place : ℕ) (meaning : Shown → Meaning)
       → Holds session → ((shown : Shown) → Kept (meaning shown)) → Kept (of_candidate session conversion place meaning)
-  candidate-kept session conversion place meaning holds kept = by (slice_get conversion.picking.shown place)
-    where
-      by : (found : Option Shown)
-          → Kept (option_map_or meaning found (becomes (with_state session (states.Picking conversion))))
-      by None = keeps.stated session (states.Picking conversion) holds
-      by (Some shown) = kept shown
+  candidate-kept session conversion place meaning holds kept =
+      grind (arith, keeps.stated session (states.Picking conversion) holds, kept)
 
   picking-effect-kept : (rules : List Rule) (session : Session) (conversion : Conversion) (effect : CandsDo)
       → Holds session → Kept (picking_effect rules session conversion effect)

@@ -1,7 +1,7 @@
 -- A session that is a typist's own asks the typist's own calls alone, and stays so.
-use Rattle.std.proofs.Common.{◌≡◌, ◌-◌, ◌∙◌, sym, ap, ℕ, slice_get, Bool, true, false, cond, ◌&&◌, nat_lt, None, Some}
-use Rattle.std.proofs.Common.{Option, List, [], ◌∷◌, length, refl, zero, suc}
-use Rattle.std.proofs.lemmas.Bool.{and_from, and_parts, eq-eqb}
+use Rattle.std.proofs.Common.{◌≡◌, ◌-◌, ◌∙◌, sym, ap, ℕ, slice_get, Bool, true, None, Some}
+use Rattle.std.proofs.Common.{Option, List, [], ◌∷◌, length, refl, arith, zero, suc}
+use Rattle.std.proofs.lemmas.Bool.{eq-eqb}
 use Rattle.std.proofs.lemmas.List.Folds.{list_all-append}
 use Rattle.std.specs.List.{list_all}
 use Rattle.skk_text.specs.PairsLaws.{list_all-take}
@@ -29,11 +29,7 @@ module _ (typist : ℕ) where
   within_own : (bytes : ℕ) (choice : Option Choice) → is_own_choice typist choice ≡ true
       → is_own_choice typist (choice_within bytes choice) ≡ true
   within_own bytes None own = refl
-  within_own bytes (Some choice) own = by (nat_lt bytes choice.end)
-    where
-      by : (shorter : Bool) → is_own_choice typist (cond shorter None (Some choice)) ≡ true
-      by true = refl
-      by false = own
+  within_own bytes (Some choice) own = grind (arith, own)
 
   -- what a frame outside keeps is of the typist's book
   abbrev outer_own : OuterFrame → Bool
@@ -44,11 +40,8 @@ module _ (typist : ℕ) where
       → list_all outer_own frames ≡ true
       → is_own_choice typist frame.last_choice ≡ true
   innermost_own [] n frame is all = cc
-  innermost_own (first ∷ frames) zero frame is all =
-      let same : first ≡ frame = cc in
-      ap outer_own (sym same) ∙ (and_parts (outer_own first) (list_all outer_own frames) all).0
-  innermost_own (first ∷ frames) (suc n) frame is all =
-      innermost_own frames n frame is (and_parts (outer_own first) (list_all outer_own frames) all).1
+  innermost_own (first ∷ frames) zero frame is all = grind (arith, is)
+  innermost_own (first ∷ frames) (suc n) frame is all = grind (arith, innermost_own frames n frame is)
 
   -- each change that keys make of a session leaves it the typist's own
   pub own-kept : Keeps (λ call. is_own typist call ≡ true) (λ given. gives_own typist given ≡ true) (IsOwn typist)
@@ -76,9 +69,7 @@ module _ (typist : ℕ) where
       own.0,
       own.1,
       refl,
-      list_all-append outer_own session.outer (outside session.frame waiting ∷ [])
-          ∙ and_from (list_all outer_own session.outer) (outer_own (outside session.frame waiting) && true) own.3
-          (and_from (outer_own (outside session.frame waiting)) true own.2 refl),
+      grind (arith, own.2, own.3, list_all-append outer_own session.outer (outside session.frame waiting ∷ [])),
     );
     closed = λ session frame is own. (
       own.0,

@@ -1,6 +1,6 @@
 -- The change in doubt of a history is found entry by entry.
 use Rattle.std.proofs.Common.{◌≡◌, ◌∙◌, ap, refl, true, false, Some, None, List, [], ◌∷◌, ◌++◌}
-use Rattle.std.proofs.Common.{if◌then◌else◌}
+use Rattle.std.proofs.Common.{if◌then◌else◌, arith}
 use Rattle.std.specs.List.{fold}
 use Rattle.skk_calls.specs.declared.answer.Answer.{Answer}
 use Rattle.skk_calls.specs.declared.answer.Answer.TheVariants.{Done, Refused}
@@ -21,14 +21,7 @@ last-more (first ∷ second ∷ calls) call = last-more (second ∷ calls) call
 -- the last of the calls in doubt behind an answer
 last-behind : (calls : List Call) (call : Call) (answer : Answer)
     → last_of (in_doubt_after calls call answer) ≡ doubt_behind (last_of calls) call answer
-last-behind calls call (Done reply) =
-    elim (is_change reply) as (λ b. last_of (if b then [] else calls) ≡ (if b then None else last_of calls)) [
-      | true ↦ refl
-      | false ↦ refl
-    ]
-last-behind calls call (Refused Memory) = refl
-last-behind calls call (Refused Disk) = last-more calls call
-last-behind calls call (Refused (JournalFull told need limit)) = refl
+last-behind calls call answer = grind (arith, last-more calls call)
 
 -- and behind a history
 pub last-in-doubt : (calls : List Call) (history : List Entry)

@@ -1,5 +1,5 @@
 -- What interactions ask and end with, one behind another, and by one answer more.
-use Rattle.std.proofs.Common.{◌≡◌, ◌∙◌, ap, refl, true, Some, None, List, [], ◌∷◌, ◌++◌, ℕ}
+use Rattle.std.proofs.Common.{◌≡◌, ◌∙◌, ap, refl, arith, true, Some, None, List, [], ◌∷◌, ◌++◌, ℕ}
 use Rattle.std.proofs.lemmas.Bool.{and_from, and_parts}
 use Rattle.skk_text.specs.declared.key.Key.{Key}
 use Rattle.romaji_rules.specs.declared.rule.Rule.{Rule}
@@ -135,12 +135,8 @@ pub may-answer-more : {S : Type 0} (interaction : Interaction S) (answers : List
     → may_answer call answer ≡ true → may_answer_all interaction (answers ++ answer ∷ []) ≡ true
 may-answer-more (ends value) answers call answer all e may = refl
 may-answer-more (asks first next) [] call answer all e may =
-    let same : first ≡ call = cc in
-    and_from (may_answer first answer) (may_answer_all (next answer) [])
-    (ap (λ c. may_answer c answer) same ∙ may) (may-answer-none (next answer))
+    grind (arith, may-answer-none (next answer))
 may-answer-more (asks first next) (given ∷ answers) call answer all e may =
-    let parts = and_parts (may_answer first given) (may_answer_all (next given) answers) all in
-    and_from (may_answer first given) (may_answer_all (next given) (answers ++ answer ∷ [])) parts.0
-    (may-answer-more (next given) answers call answer parts.1 e may)
+    grind (arith, may-answer-more (next given) answers call answer)
 may-answer-more (prints text rest) answers call answer all e may =
     may-answer-more rest answers call answer all e may

@@ -1,7 +1,7 @@
 -- A world stands after any events.
 use Rattle.std.proofs.Common.{◌≡◌, ◌≢◌, ◌⊎◌, inl, inr, ◌∙◌, sym, ap, refl, subst, ℕ, suc, zero, Bool, true, false}
 use Rattle.std.proofs.Common.{◌==◌, Some, None, Option, List, [], ◌∷◌, ◌++◌, map, slice_get}
-use Rattle.std.proofs.Common.{if◌then◌else◌, eq-eqb}
+use Rattle.std.proofs.Common.{if◌then◌else◌, eq-eqb, arith}
 use Rattle.std.specs.Prelude.{is_some, slice_set}
 use Rattle.std.proofs.lemmas.Bool.Decides.{eqb_tells}
 use Rattle.std.proofs.lemmas.List.{append-nil}
@@ -115,16 +115,8 @@ stands-started world place key seat stands found idle = record {
 stands-key : (world : World) (place : ℕ) (key : Key) (next : World) (found : Option Seat) → Stands world
     → slice_get world.seats place ≡ found → option_and_then (started world place key) found ≡ Some next → Stands next
 stands-key world place key next None stands read e = absurd (cc)
-stands-key world place key next (Some seat) stands read e = by seat.under_way refl e
-  where
-    by : (under : Option UnderWay) → seat.under_way ≡ under
-        → (if is_some under then None else Some (with_seat world place (with_answers world.rules seat key [])))
-        ≡ Some next
-        → Stands next
-    by None idle is =
-        let same : with_seat world place (with_answers world.rules seat key []) ≡ next = cc in
-        subst Stands same (stands-started world place key seat stands read idle)
-    by (Some under) busy is = absurd (cc)
+stands-key world place key next (Some seat) stands read e =
+    grind (arith, stands-started world place key seat stands read)
 
 -- Calls
 
@@ -167,9 +159,7 @@ stands-given : (world : World) (place : ℕ) (seat : Seat) (call : Call) (next :
     → option_map (entered world place seat call) given ≡ Some next → Stands next
 stands-given world place seat call next None stands found asks legal e = absurd (cc)
 stands-given world place seat call next (Some answer) stands found asks legal e =
-    let same : entered world place seat call answer ≡ next = cc in
-    subst Stands same
-    (stands-entered world place seat call answer stands found asks (λ end. legal answer end refl))
+    grind (arith, stands-entered world place seat call answer stands found asks (λ end. legal answer end refl))
 
 -- a world stands after an answer to the call that a place asks, where such an answer is always legal
 stands-answered : (world : World) (place : ℕ) (answer_of : Call → Option Answer) (next : World)
@@ -179,34 +169,25 @@ stands-answered : (world : World) (place : ℕ) (answer_of : Call → Option Ans
     → slice_get world.seats place ≡ found → option_and_then (answered_by answer_of world place) found ≡ Some next
     → Stands next
 stands-answered world place answer_of next None stands legal read e = absurd (cc)
-stands-answered world place answer_of next (Some seat) stands legal read e = by (asked_in world.rules seat) refl e
-  where
-    by : (asks : Option Call) → asked_in world.rules seat ≡ asks
-        → option_and_then (λ call. option_map (entered world place seat call) (answer_of call)) asks ≡ Some next
-        → Stands next
-    by None is rest = absurd (cc)
-    by (Some call) is rest =
-        stands-given world place seat call next (answer_of call) stands read is (λ answer end. legal call answer end)
-        rest
+stands-answered world place answer_of next (Some seat) stands legal read e =
+    grind (
+      arith,
+      λ (call : Call) (is : asked_in world.rules seat ≡ Some call).
+          stands-given world place seat call next (answer_of call) stands read is (legal call),
+    )
 
 -- a reply of the dictionary is legal
 served-legal : (world : World) (call : Call) (given : Answer) (end : ℕ)
     → Some (Done (answer world.files world.state call)) ≡ Some given
     → IsLegalAnswer AnyNumbers (opening_of world) world.state end call given
 served-legal world call given end e =
-    let same : Done (answer world.files world.state call) ≡ given = cc in
-    subst (λ a. IsLegalAnswer AnyNumbers (opening_of world) world.state end call a) same refl
+    grind arith
 
 -- a refusal for another cause than memory is of a call that would change something
 refused-moves : (state : State) (call : Call) (refusal : Refusal) (given : Answer)
     → (if moves state call then Some (Refused refusal) else None) ≡ Some given
     → (moves state call ≡ true) × (Refused refusal ≡ given)
-refused-moves state call refusal given e = by (moves state call) refl e
-  where
-    by : (b : Bool) → moves state call ≡ b → (if b then Some (Refused refusal) else None) ≡ Some given
-        → (moves state call ≡ true) × (Refused refusal ≡ given)
-    by true is rest = (is, cc)
-    by false is rest = absurd (cc)
+refused-moves state call refusal given e = (grind arith, grind arith)
 
 -- a refusal that may come is legal
 refused-legal : (world : World) (refusal : Refusal) (call : Call) (given : Answer) (end : ℕ)
@@ -229,8 +210,7 @@ stands-kept : (world : World) (next : World) (doubt : Option Call)
     → option_map (λ call. reopened world (after world.state call)) doubt ≡ Some next → Stands next
 stands-kept world next None e = absurd (cc)
 stands-kept world next (Some call) e =
-    let same : reopened world (after world.state call) ≡ next = cc in
-    subst Stands same (stands-reopened world (after world.state call))
+    grind (arith, stands-reopened world (after world.state call))
 
 -- a world stands after an event
 stands-stepped : (world next : World) (event : Event) → Stands world → stepped world event ≡ Some next → Stands next
@@ -243,18 +223,16 @@ stands-stepped world next (events.Refuse place refusal) stands e =
     stands-answered world place (refusal_of world.state refusal) next (slice_get world.seats place) stands
     (refused-legal world refusal) refl e
 stands-stepped world next (events.Crash false) stands e =
-    let same : reopened world world.state ≡ next = cc in subst Stands same (stands-reopened world world.state)
+    grind (arith, stands-reopened world world.state)
 stands-stepped world next (events.Crash true) stands e = stands-kept world next (last_of (in_doubt [] world.history)) e
 
 -- a world stands after any events
 pub stands-after : (world : World) (happened : List Event) (next : World) → Stands world
     → all_stepped world happened ≡ Some next → Stands next
-stands-after world [] next stands e = let same : world ≡ next = cc in subst Stands same stands
+stands-after world [] next stands e = grind (arith, stands)
 stands-after world (event ∷ more) next stands e =
-    by (stepped world event) refl e (λ one after is. stands-after one more next after is)
-  where
-    by : (one : Option World) → stepped world event ≡ one
-        → option_and_then (λ after. all_stepped after more) one ≡ Some next
-        → ((one : World) → Stands one → all_stepped one more ≡ Some next → Stands next) → Stands next
-    by None is rest later = absurd (cc)
-    by (Some one) is rest later = later one (stands-stepped world one event stands is) rest
+    grind (
+      arith,
+      λ (one : World) (is : stepped world event ≡ Some one).
+          stands-after one more next (stands-stepped world one event stands is),
+    )

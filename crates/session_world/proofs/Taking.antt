@@ -1,6 +1,6 @@
 -- What a seat comes to that changes in its place, and whose key under way gets an answer.
 use Rattle.std.proofs.Common.{◌≡◌, ◌∙◌, ap, refl, subst, true, ℕ, Option, Some, None, IsSomeAnd, List, [], ◌∷◌, ◌++◌}
-use Rattle.std.proofs.Common.{get_or, slice_get, slice_set}
+use Rattle.std.proofs.Common.{get_or, slice_get, slice_set, arith}
 use Rattle.std.specs.Option.{option_and_then, option_map_or}
 use Rattle.std.proofs.lemmas.Option.{get_or_from_slice_get}
 use Rattle.romaji_rules.specs.declared.rule.Rule.{Rule}
@@ -29,7 +29,11 @@ pub may-take : (rules : List Rule) (seat : Seat) (key : UnderWay) (answer : Answ
     → IsSomeAnd (asked_in rules seat) (λ call. may_answer call answer ≡ true)
     → may_answer_all (pressed rules seat.session key.key) (key.answers ++ answer ∷ []) ≡ true
 may-take rules seat key answer under may asks =
-    by (next_asked (pressed rules seat.session key.key) key.answers) refl asked
+    grind (
+      arith,
+      asked,
+      λ (call : Call). may-answer-more (pressed rules seat.session key.key) key.answers call answer all,
+    )
   where
     all : may_answer_all (pressed rules seat.session key.key) key.answers ≡ true
     all =
@@ -42,13 +46,6 @@ may-take rules seat key answer under may asks =
         subst (λ (u : Option UnderWay). IsSomeAnd (option_and_then
         (λ (k : UnderWay). next_asked (pressed rules seat.session k.key) k.answers) u)
         (λ call. may_answer call answer ≡ true)) under asks
-
-    by : (next : Option Call) → next_asked (pressed rules seat.session key.key) key.answers ≡ next
-        → IsSomeAnd next (λ call. may_answer call answer ≡ true)
-        → may_answer_all (pressed rules seat.session key.key) (key.answers ++ answer ∷ []) ≡ true
-    by None e is = absurd is
-    by (Some call) e is =
-        may-answer-more (pressed rules seat.session key.key) key.answers call answer all e is
 
 -- the seat of a key under way goes on with its answers and one more
 pub answered-with : (rules : List Rule) (seat : Seat) (key : UnderWay) (answer : Answer) → seat.under_way ≡ Some key

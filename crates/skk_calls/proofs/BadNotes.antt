@@ -4,7 +4,7 @@ use Rattle.std.proofs.Common.{sym, ap, refl, length, take, drop, arith}
 use Rattle.std.specs.Str.{chars, IsUtf8, IsCharBoundary, NonePass, NoCharPasses}
 use Rattle.std.specs.Str.Pattern.{HasPassingCharAt, FindsBy, MatchBeginsAt}
 use Rattle.std.specs.Char.{char_set_contains}
-use Rattle.std.proofs.lemmas.Bool.{and_from, and_parts, both_ways}
+use Rattle.std.proofs.lemmas.Bool.{and_from}
 use Rattle.std.proofs.lemmas.Bool.Decides.{nat_tests}
 use Rattle.std.proofs.lemmas.List.{take-append-drop, length-take-le, nil_from_length}
 use Rattle.std.proofs.lemmas.Str.{IsUtf8-take, IsUtf8-drop, chars-append, chars_past_char, chars_from_encodes}
@@ -78,19 +78,9 @@ no_bytes text e = nil_from_length text (omega (arith, length-le-encodes text))
 same_front : (front other back rest : List ℕ) (c d : ℕ) → is_note front ≡ true → is_note other ≡ true
     → is_note_char c ≡ false → is_note_char d ≡ false → front ++ c ∷ back ≡ other ++ d ∷ rest → front ≡ other
 same_front [] [] back rest c d f o b g e = refl
-same_front [] (x ∷ other) back rest c d f o b g e =
-    let head : c ≡ x = cc in
-    absurd (both_ways (is_note_char c) b (ap is_note_char head ∙ (and_parts (is_note_char x) (is_note other) o).0))
-same_front (x ∷ front) [] back rest c d f o b g e =
-    let head : x ≡ d = cc in
-    absurd
-    (both_ways (is_note_char d) g (ap is_note_char (sym head) ∙ (and_parts (is_note_char x) (is_note front) f).0))
-same_front (x ∷ front) (y ∷ other) back rest c d f o b g e =
-    let head : x ≡ y = cc in
-    let tail : front ≡ other =
-    same_front front other back rest c d (and_parts (is_note_char x) (is_note front) f).1
-    (and_parts (is_note_char y) (is_note other) o).1 b g (cc) in
-    cc
+same_front [] (x ∷ other) back rest c d f o b g e = grind arith
+same_front (x ∷ front) [] back rest c d f o b g e = grind arith
+same_front (x ∷ front) (y ∷ other) back rest c d f o b g e = grind (arith, same_front front other back rest c d)
 
 -- so the first fault is at one place
 pub fault-one_place : (note : List ℕ) (at place : ℕ) → IsBadNote note at → IsBadNote note place → at ≡ place

@@ -1,8 +1,8 @@
 -- The last character of a reading, and the bytes that it takes.
-use Rattle.std.proofs.Common.{◌≡◌, ◌≤◌, ◌<◌, ◌⊎◌, inl, inr, ℕ, ◌+◌, ◌-◌, false, ◌&&◌, nat_le, nat_lt, List, [], ◌∷◌}
+use Rattle.std.proofs.Common.{◌≡◌, ◌≤◌, ℕ, ◌+◌, ◌-◌, false, nat_le, nat_lt, List, [], ◌∷◌}
 use Rattle.std.proofs.Common.{◌∙◌, sym, ap, refl, length, take, drop, encode_utf8, encode_utf8_all, length-append}
 use Rattle.std.proofs.Common.{arith}
-use Rattle.std.proofs.lemmas.Bool.{cases_lt, lt-ltb, le-ltb, le-leb, lt-leb, and_right}
+use Rattle.std.proofs.lemmas.Bool.Decides.{nat_tests}
 use Rattle.std.proofs.lemmas.List.{append-nil, take-append-drop, length-take-le}
 use Rattle.std.proofs.lemmas.Str.{encode_ascii, encodes-append, length-encode, length-le-encodes}
 use Rattle.std.specs.Char.{len_utf8}
@@ -22,19 +22,29 @@ wide_char c h = grind arith
 -- bytes are a letter where the characters are
 pub letter-encoded : (text : List ℕ) → is_letter (encode_utf8_all text) ≡ is_letter text
 letter-encoded [] = refl
-letter-encoded (c ∷ []) = rw append-nil (by (cases_lt c 128))
-  where
-    by : (c < 128) ⊎ (128 ≤ c) → is_letter (encode_utf8 c) ≡ (nat_le 0x61 c && nat_le c 0x7A)
-    by (inl lt) = rw (encode_ascii c lt)
-    by (inr ge) =
-        no_letter (encode_utf8 c) (omega (arith, length-encode c, wide_char c ge))
-        ∙ sym (and_right (nat_le 0x61 c) (nat_le c 0x7A) (lt-leb c 0x7A (omega arith)))
+letter-encoded (c ∷ []) =
+    rw append-nil (grind (
+      arith,
+      nat_tests,
+      encode_ascii c,
+      length-encode c,
+      wide_char c,
+      no_letter (encode_utf8 c),
+    ))
 letter-encoded (c ∷ d ∷ text) =
     no_letter (encode_utf8_all (c ∷ d ∷ text)) (omega (arith, length-le-encodes (c ∷ d ∷ text)))
 
 -- the last character is shorter than the text where that has two
 pub last-shorter : (text : List ℕ) → nat_lt (byte_len (last_chars 1 text)) (byte_len text) ≡ nat_le 2 (length text)
-last-shorter text = by (cases_lt (length text) 2)
+last-shorter text =
+    grind (
+      arith,
+      nat_tests,
+      total,
+      whole,
+      length-le-encodes (take (length text - 1) text),
+      length-take-le (length text - 1) text,
+    )
   where
     total : byte_len text ≡ length (encode_utf8_all (take (length text - 1) text)) + byte_len (last_chars 1 text)
     total =
@@ -42,18 +52,5 @@ last-shorter text = by (cases_lt (length text) 2)
         ∙ ap length (encodes-append (take (length text - 1) text) (last_chars 1 text))
         ∙ length-append (encode_utf8_all (take (length text - 1) text)) (encode_utf8_all (last_chars 1 text))
 
-    by : (length text < 2) ⊎ (2 ≤ length text)
-        → nat_lt (byte_len (last_chars 1 text)) (byte_len text) ≡ nat_le 2 (length text)
-    by (inl lt) =
-        let none : length text - 1 ≡ 0 = omega arith in
-        let whole : byte_len (last_chars 1 text) ≡ byte_len text = ap (λ n. byte_len (drop n text)) none in
-        le-ltb (byte_len (last_chars 1 text)) (byte_len text) (omega (arith, whole)) ∙ sym (lt-leb 2 (length text) lt)
-    by (inr ge) =
-        lt-ltb (byte_len (last_chars 1 text)) (byte_len text)
-        (omega (
-          arith,
-          total,
-          length-le-encodes (take (length text - 1) text),
-          length-take-le (length text - 1) text (omega arith),
-        ))
-        ∙ sym (le-leb 2 (length text) ge)
+    whole : length text - 1 ≡ 0 → byte_len (last_chars 1 text) ≡ byte_len text
+    whole none = ap (λ n. byte_len (drop n text)) none

@@ -1,7 +1,7 @@
 -- What holds of texts of which no two are the same.
-use Rattle.std.proofs.Common.{◌≡◌, ℕ, true, false, not, ◌||◌, List, [], ◌∷◌, ◌++◌, refl, ◌∙◌, ap}
+use Rattle.std.proofs.Common.{◌≡◌, ℕ, true, false, not, List, [], ◌∷◌, ◌++◌, refl, ◌∙◌, ap, arith}
 use Rattle.std.specs.List.{list_all}
-use Rattle.std.proofs.lemmas.Bool.{and_from, and_parts, not-true, not_from_false, or_from, or_parts}
+use Rattle.std.proofs.lemmas.Bool.{and_from}
 use Rattle.std.proofs.lemmas.List.Folds.{list_any-append}
 use Rattle.skk_text.specs.FilterLaws.{list_all_kept}
 use Rattle.skk_text.specs.PairsLaws.{list_all-weaker, all_pairs-filter}
@@ -13,33 +13,23 @@ use Rattle.skk_calls.specs.Rows.{same_text, has_text, texts_differ}
 pub none_same : (texts : List (List ℕ)) (text : List ℕ) → has_text texts text ≡ false
     → list_all (λ other. not (same_text text other)) texts ≡ true
 none_same [] text none = refl
-none_same (other ∷ texts) text none =
-    let parts = or_parts (same_text text other) (has_text texts text) none in
-    and_from (not (same_text text other)) (list_all (λ o. not (same_text text o)) texts)
-    (not_from_false (same_text text other) parts.0) (none_same texts text parts.1)
+none_same (other ∷ texts) text none = grind (arith, none_same texts text)
 
 -- a list has not a text that is the same as none of it
 pub has_none : (texts : List (List ℕ)) (text : List ℕ) → list_all (λ other. not (same_text text other)) texts ≡ true
     → has_text texts text ≡ false
 has_none [] text none = refl
-has_none (other ∷ texts) text none =
-    let parts = and_parts (not (same_text text other)) (list_all (λ o. not (same_text text o)) texts) none in
-    or_from (same_text text other) (has_text texts text) (not-true (same_text text other) parts.0)
-    (has_none texts text parts.1)
+has_none (other ∷ texts) text none = grind (arith, has_none texts text)
 
 -- of texts that differ the others have not the first, and differ
 pub differ_parts : (text : List ℕ) (texts : List (List ℕ)) → texts_differ (text ∷ texts) ≡ true
     → (has_text texts text ≡ false) × (texts_differ texts ≡ true)
-differ_parts text texts e =
-    let parts = and_parts (list_all (λ other. not (same_text text other)) texts) (texts_differ texts) e in
-    (has_none texts text parts.0, parts.1)
+differ_parts text texts e = (has_none texts text (grind arith), grind arith)
 
 -- texts that differ still do with a new one in front of them
 pub differ_from : (text : List ℕ) (texts : List (List ℕ)) → has_text texts text ≡ false → texts_differ texts ≡ true
     → texts_differ (text ∷ texts) ≡ true
-differ_from text texts none apart =
-    and_from (list_all (λ other. not (same_text text other)) texts) (texts_differ texts)
-    (none_same texts text none) apart
+differ_from text texts none apart = grind (arith, none_same texts text)
 
 -- texts that differ still do where one is put in front of them and left out behind it
 pub differ_front : (text : List ℕ) (texts : List (List ℕ)) → texts_differ texts ≡ true
@@ -57,10 +47,12 @@ pub differ_end : (texts : List (List ℕ)) (last : List ℕ) → texts_differ te
     → texts_differ (texts ++ last ∷ []) ≡ true
 differ_end [] last differ new = refl
 differ_end (text ∷ texts) last differ new =
-    let parts = differ_parts text texts differ in
-    let others = or_parts (same_text last text) (has_text texts last) new in
-    differ_from text (texts ++ last ∷ [])
-    (list_any-append (same_text text) texts (last ∷ [])
-    ∙ or_from (has_text texts text) (same_text text last || false) parts.0
-    (or_from (same_text text last) false (same_other text last ∙ others.0) refl))
-    (differ_end texts last parts.1 others.1)
+    grind (
+      arith,
+      (differ_parts text texts differ).0,
+      (differ_parts text texts differ).1,
+      same_other text last,
+      list_any-append (same_text text) texts (last ∷ []),
+      differ_end texts last,
+      differ_from text (texts ++ last ∷ []),
+    )

@@ -1,12 +1,10 @@
 -- Texts and keys that are the same are equal.
-use Rattle.std.proofs.Common.{◌≡◌, ℕ, Bool, true, false, List, refl, sym, ◌∙◌, ap, encode_utf8_all}
+use Rattle.std.proofs.Common.{◌≡◌, ℕ, true, false, List, refl, sym, ap, encode_utf8_all, arith}
 use Rattle.std.specs.Str.{bytes_eq}
-use Rattle.std.proofs.lemmas.Bool.{and_from, and_parts}
 use Rattle.std.proofs.lemmas.Bool.Decides.{same_from_decides, Decides-like}
 use Rattle.std.proofs.lemmas.Slice.Eq.{bytes_eq-Decides}
 use Rattle.std.proofs.lemmas.Str.{encodes_same}
 use Rattle.skk_calls.specs.declared.part.Part.{Part}
-use Rattle.skk_calls.specs.declared.part.Part.TheVariants.{Nasi, Ari}
 use Rattle.skk_calls.specs.Rows.{RowKey, same_text, same_part, same_key}
 
 -- a text is the same as itself
@@ -34,44 +32,21 @@ same_encoded text other =
 
 -- a part is the same as itself
 pub same_part_itself : (part : Part) → same_part part part ≡ true
-same_part_itself Nasi = refl
-same_part_itself Ari = refl
+same_part_itself part = grind arith
 
 -- parts that are the same are equal
 pub same_part_equal : (part other : Part) → same_part part other ≡ true → part ≡ other
-same_part_equal Nasi Nasi e = refl
-same_part_equal Ari Ari e = refl
-same_part_equal Nasi Ari e = cc
-same_part_equal Ari Nasi e = cc
+same_part_equal part other e = grind arith
 
 -- a key is the same as itself
 pub same_key_itself : (key : RowKey) → same_key key key ≡ true
-same_key_itself key =
-    and_from (same_part key.part key.part) (same_text key.reading key.reading) (same_part_itself key.part)
-    (same_itself key.reading)
-
--- the key of a part and a reading
-abbrev key_of : Part → List ℕ → RowKey
-key_of part reading = record { part = part; reading = reading }
+same_key_itself key = grind (arith, same_part_itself key.part, same_itself key.reading)
 
 -- keys that are the same are equal
 pub same_key_equal : (key other : RowKey) → same_key key other ≡ true → key ≡ other
 same_key_equal key other e =
-    let part : key.part ≡ other.part =
-    same_part_equal key.part other.part
-    (and_parts (same_part key.part other.part) (same_text key.reading other.reading) e).0 in
-    let reading : key.reading ≡ other.reading =
-    same_equal key.reading other.reading
-    (and_parts (same_part key.part other.part) (same_text key.reading other.reading) e).1 in
-    ap (λ (p : Part). key_of p key.reading) part ∙ ap (key_of other.part) reading
+    grind (arith, same_part_equal key.part other.part, same_equal key.reading other.reading)
 
 -- keys that differ differ in either order
 pub same_key_other : (key other : RowKey) → same_key key other ≡ false → same_key other key ≡ false
-same_key_other key other e = by (same_key other key) refl
-  where
-    by : (b : Bool) → same_key other key ≡ b → b ≡ false
-    by true found =
-        let equal : same_key key other ≡ true =
-        ap (same_key key) (same_key_equal other key found) ∙ same_key_itself key in
-        cc
-    by false found = refl
+same_key_other key other e = grind (arith, same_key_equal other key, same_key_itself key)

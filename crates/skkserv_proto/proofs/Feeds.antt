@@ -1,5 +1,5 @@
 -- A feeder that is fed more bytes.
-use Rattle.std.proofs.Common.{◌≡◌, ◌<◌, ◌≤◌, ℕ, ◌+◌, ◌-◌, min, Option, None, Some, List, [], ◌∷◌, ◌++◌, length}
+use Rattle.std.proofs.Common.{◌≡◌, ◌<◌, ◌≤◌, ℕ, ◌+◌, ◌-◌, min, None, Some, List, [], ◌∷◌, ◌++◌, length}
 use Rattle.std.proofs.Common.{refl, sym, ap, ◌∙◌, subst, arith, length-append, append_assoc, append-nil, inl, inr, ◌⊎◌}
 use Rattle.std.specs.Option.{option_map}
 use Rattle.std.proofs.lemmas.Grind.{flat_map-append}
@@ -78,13 +78,7 @@ ends-behind bytes behind skipped count more place e long ends = by place ends
     bad : first_bad bytes ≡ option_map (λ at. skipped + more + at) (first_bad behind)
     bad =
         ap (λ rest. option_map (λ at. length bytes - length rest + at) (bad_in rest)) e
-        ∙ each (bad_in (tokens_of behind).1)
-      where
-        each : (found : Option ℕ) → option_map (λ at. length bytes - length (tokens_of behind).1 + at) found
-            ≡ option_map (λ at. skipped + more + at)
-            (option_map (λ at. length behind - length (tokens_of behind).1 + at) found)
-        each None = refl
-        each (Some at) = ap Some (omega (arith, long, within-rest behind))
+        ∙ grind (arith, within-rest behind)
 
     none : first_bad behind ≡ None → first_bad bytes ≡ None
     none f = bad ∙ ap (option_map (λ at. skipped + more + at)) f

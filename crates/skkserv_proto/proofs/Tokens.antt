@@ -23,12 +23,7 @@ use Rattle.skkserv_proto.specs.Requests.{end_by, end_in, all_asked, requests, re
 
 -- a byte with a reading behind it is no token by itself
 not_alone : (command : Command) (wants : Wants) → wanted_by command ≡ Some wants → asked_by command ≡ None
-not_alone commands.LineEnd wants e = cc
-not_alone commands.End wants e = refl
-not_alone commands.Version wants e = cc
-not_alone commands.Host wants e = cc
-not_alone (commands.Reading wanted) wants e = refl
-not_alone commands.Other wants e = refl
+not_alone command wants e = grind arith
 
 pub token-exact : IsExact token
 token-exact =
@@ -83,17 +78,13 @@ step-other byte rest e = rw e refl
 pub bad-long : (byte : ℕ) (wants : Wants) (text : List ℕ) → command_at byte ≡ commands.Reading wants
     → longest_reading < length (reading_in text) → bad_in (byte ∷ text) ≡ Some (longest_reading + 1)
 bad-long byte wants text e long =
-    let more : nat_lt longest_reading (length (reading_in text)) ≡ true =
-    lt-ltb longest_reading (length (reading_in text)) long in
-    rw (e, more) refl
+    grind (arith, lt-ltb longest_reading (length (reading_in text)))
 
 -- one that is not has none
 pub bad-open : (byte : ℕ) (wants : Wants) (text : List ℕ) → command_at byte ≡ commands.Reading wants
     → length (reading_in text) ≤ longest_reading → bad_in (byte ∷ text) ≡ None
 bad-open byte wants text e short =
-    let more : nat_lt longest_reading (length (reading_in text)) ≡ false =
-    le-ltb longest_reading (length (reading_in text)) short in
-    rw (e, more) refl
+    grind (arith, le-ltb longest_reading (length (reading_in text)))
 
 -- nor has the end
 pub bad-end : (byte : ℕ) (text : List ℕ) → command_at byte ≡ commands.End → bad_in (byte ∷ text) ≡ None
@@ -171,22 +162,13 @@ bad-on bytes fed =
     let last = (tokens_of (rest ++ fed)).1 in
     ap (λ (parts : List (List Request) × List ℕ).
     option_map (λ at. length (bytes ++ fed) - length parts.1 + at) (bad_in parts.1)) (goes-on bytes fed)
-    ∙ by (bad_in last)
-  where
-    by : (found : Option ℕ)
-        → option_map (λ at. length (bytes ++ fed) - length (tokens_of ((tokens_of bytes).1 ++ fed)).1 + at) found
-        ≡ option_map (λ at. length bytes - length (tokens_of bytes).1 + at)
-        (option_map (λ at. length ((tokens_of bytes).1 ++ fed) - length (tokens_of ((tokens_of bytes).1 ++ fed)).1 + at)
-        found)
-    by None = refl
-    by (Some at) =
-        ap Some (omega (
-          arith,
-          length-append bytes fed,
-          length-append (tokens_of bytes).1 fed,
-          within bytes,
-          within ((tokens_of bytes).1 ++ fed),
-        ))
+    ∙ grind (
+      arith,
+      length-append bytes fed,
+      length-append (tokens_of bytes).1 fed,
+      within bytes,
+      within ((tokens_of bytes).1 ++ fed),
+    )
 
 -- bytes that begin with no token have none
 pub no-tokens : (bytes : List ℕ) → token.step bytes ≡ None → tokens_of bytes ≡ ([], bytes)
@@ -197,11 +179,7 @@ pub bad-here : (bytes : List ℕ) → token.step bytes ≡ None → first_bad by
 bad-here bytes none =
     ap (λ (parts : List (List Request) × List ℕ).
     option_map (λ at. length bytes - length parts.1 + at) (bad_in parts.1)) (no-tokens bytes none)
-    ∙ by (bad_in bytes)
-  where
-    by : (found : Option ℕ) → option_map (λ at. length bytes - length bytes + at) found ≡ found
-    by None = refl
-    by (Some at) = ap Some (omega arith)
+    ∙ grind arith
 
 -- and they ask what stands there
 pub requests-here : (bytes : List ℕ) → token.step bytes ≡ None → requests bytes ≡ end_in bytes

@@ -1,12 +1,11 @@
 -- Maps by strings, as the words in them.
-use Rattle.std.proofs.Common.{◌≡◌, ℕ, Bool, true, false, cond, ◌||◌, Some, is_some, unwrap_or, String}
-use Rattle.std.proofs.Common.{string_bytes, encode_utf8_all, List, [], ◌∷◌, ◌++◌, map, refl, sym, ap, ◌∙◌}
+use Rattle.std.proofs.Common.{◌≡◌, ℕ, true, false, is_some, unwrap_or, String}
+use Rattle.std.proofs.Common.{string_bytes, encode_utf8_all, List, [], ◌∷◌, map, refl, sym, ap, ◌∙◌, arith}
 use Rattle.std.specs.declared.alloc.Global.{Global}
 use Rattle.std.specs.List.{AllByRecursion, IsDistinct}
 use Rattle.std.specs.Map.{lookup, keys_of, set_value}
 use Rattle.std.specs.Str.{bytes_eq, chars, IsUtf8}
 use Rattle.std.specs.String.{string_eq}
-use Rattle.std.proofs.lemmas.Bool.{or_from}
 use Rattle.std.proofs.lemmas.Map.Keys.{IsDistinct-head, IsDistinct-tail}
 use Rattle.std.proofs.lemmas.Str.{encodes-chars, IsUtf8-string_bytes}
 use Rattle.indexmap.specs.IndexMap.{insert_entry}
@@ -40,13 +39,7 @@ module _ {V : Type 0} where
   pub has_word : (text : List ℕ) (words : List (List ℕ × V))
       → is_some (lookup (same_text text) words) ≡ has_text (map (λ pair. pair.0) words) text
   has_word text [] = refl
-  has_word text (word ∷ words) = by (same_text text word.0) (has_word text words)
-    where
-      by : (b : Bool) → is_some (lookup (same_text text) words) ≡ has_text (map (λ pair. pair.0) words) text
-          → is_some (cond b (Some word.1) (lookup (same_text text) words))
-          ≡ (b || has_text (map (λ pair. pair.0) words) text)
-      by true rest = refl
-      by false rest = rest
+  has_word text (word ∷ words) = grind (arith, has_word text words)
 
   -- and sets it there
   pub written : (bytes : List ℕ) → IsUtf8 bytes → (entries : List (String Global × V)) (value : V)
@@ -54,55 +47,21 @@ module _ {V : Type 0} where
       ≡ set_value (same_text (chars bytes)) (map worded entries) value
   written bytes utf8 [] value = refl
   written bytes utf8 (entry ∷ entries) value =
-      rw (same_bytes bytes utf8 entry.0)
-      (by (same_text (chars bytes) (characters entry.0)) (written bytes utf8 entries value))
-    where
-      rest : List (String Global × V)
-      rest = set_value (λ key. bytes_eq bytes (string_bytes key)) entries value
-
-      by : (b : Bool) → map worded rest ≡ set_value (same_text (chars bytes)) (map worded entries) value
-          → map worded (cond b ((entry.0, value) ∷ entries) (entry ∷ rest))
-          ≡ cond b ((characters entry.0, value) ∷ map worded entries)
-          (worded entry ∷ set_value (same_text (chars bytes)) (map worded entries) value)
-      by true later = refl
-      by false later = ap (λ pairs. worded entry ∷ pairs) later
+      grind (arith, same_bytes bytes utf8 entry.0, written bytes utf8 entries value)
 
   -- it has a string where the characters are one of its words
   pub has_string : (word : String Global) (entries : List (String Global × V))
       → is_some (lookup (string_eq word) entries)
       ≡ has_text (map (λ pair. pair.0) (map worded entries)) (characters word)
   has_string word [] = refl
-  has_string word (entry ∷ entries) =
-      rw (same_string word entry.0) (by (same_text (characters word) (characters entry.0)) (has_string word entries))
-    where
-      has : Bool
-      has = has_text (map (λ pair. pair.0) (map worded entries)) (characters word)
-
-      by : (b : Bool) → is_some (lookup (string_eq word) entries) ≡ has
-          → is_some (cond b (Some entry.1) (lookup (string_eq word) entries)) ≡ (b || has)
-      by true later = refl
-      by false later = later
+  has_string word (entry ∷ entries) = grind (arith, same_string word entry.0, has_string word entries)
 
   -- a string that it has keeps its value, and another one goes to the end
   pub inserted : (word : String Global) (value : V) (entries : List (String Global × V))
       → map worded (insert_entry string_eq entries word (unwrap_or (lookup (string_eq word) entries) value))
       ≡ with_new (λ pair. pair.0) (map worded entries) (characters word, value)
   inserted word value [] = refl
-  inserted word value (entry ∷ entries) =
-      rw (same_string word entry.0)
-      (by (same_text (characters word) (characters entry.0))
-      (has_text (map (λ pair. pair.0) (map worded entries)) (characters word)) (inserted word value entries))
-    where
-      by : (b c : Bool)
-          → map worded (insert_entry string_eq entries word (unwrap_or (lookup (string_eq word) entries) value))
-          ≡ cond c (map worded entries) (map worded entries ++ (characters word, value) ∷ [])
-          → (let first = unwrap_or (cond b (Some entry.1) (lookup (string_eq word) entries)) value in
-          map worded (cond b ((entry.0, first) ∷ entries) (entry ∷ insert_entry string_eq entries word first)))
-          ≡ cond (b || c) (map worded (entry ∷ entries))
-          (map worded (entry ∷ entries) ++ (characters word, value) ∷ [])
-      by true c later = refl
-      by false true later = ap (λ pairs. worded entry ∷ pairs) later
-      by false false later = ap (λ pairs. worded entry ∷ pairs) later
+  inserted word value (entry ∷ entries) = grind (arith, same_string word entry.0, inserted word value entries)
 
   -- its words differ
   pub words_differ : (entries : List (String Global × V)) → IsDistinct string_eq (keys_of entries)
@@ -117,7 +76,4 @@ module _ {V : Type 0} where
           → AllByRecursion (λ other. string_eq entry.0 other ≡ false) (keys_of others)
           → has_text (map (λ pair. pair.0) (map worded others)) (characters entry.0) ≡ false
       none [] apart = refl
-      none (other ∷ others) apart =
-          or_from (same_text (characters entry.0) (characters other.0))
-          (has_text (map (λ pair. pair.0) (map worded others)) (characters entry.0))
-          (sym (same_string entry.0 other.0) ∙ apart.0) (none others apart.1)
+      none (other ∷ others) apart = grind (arith, same_string entry.0 other.0, none others apart.1)

@@ -1,8 +1,7 @@
 -- What holds of the first of each text, and of items that are added one by one where their texts are new.
-use Rattle.std.proofs.Common.{◌≡◌, ℕ, Bool, true, false, cond, not, ◌&&◌, ◌||◌, List, [], ◌∷◌, ◌++◌, map, refl, sym, ap}
+use Rattle.std.proofs.Common.{◌≡◌, ℕ, Bool, true, false, not, ◌||◌, List, [], ◌∷◌, ◌++◌, map, refl, sym, ap, arith}
 use Rattle.std.proofs.Common.{◌∙◌, append_assoc}
 use Rattle.std.specs.List.{filter, fold, list_all}
-use Rattle.std.proofs.lemmas.Bool.{and_from, and_parts, cond_both, not-true}
 use Rattle.std.proofs.lemmas.List.{append-nil, map-append}
 use Rattle.std.proofs.lemmas.List.Folds.{list_all-append, list_any-append}
 use Rattle.std.proofs.lemmas.List.Sums.{fold-append}
@@ -22,22 +21,9 @@ texts_stay (text ∷ texts) = ap (λ others. text ∷ others) (texts_stay texts)
 
 -- Tests
 
-or_last : (a b : Bool) → (a || (b || false)) ≡ (b || a)
-or_last true true = refl
-or_last true false = refl
-or_last false true = refl
-or_last false false = refl
-
 -- a test or none is the test
 pub or_none : (a : Bool) → (a || false) ≡ a
-or_none true = refl
-or_none false = refl
-
-or_turned : (a b c : Bool) → ((a || b) || c) ≡ (b || (a || c))
-or_turned true true c = refl
-or_turned true false c = refl
-or_turned false true c = refl
-or_turned false false c = refl
+or_none a = grind arith
 
 -- Items that are added one by one
 
@@ -46,39 +32,29 @@ module _ {X : Type 0} (text_of : X → List ℕ) where
   texts_pushed : (xs : List X) (y : X) (text : List ℕ)
       → has_text (map text_of (xs ++ y ∷ [])) text ≡ (same_text text (text_of y) || has_text (map text_of xs) text)
   texts_pushed xs y text =
-      ap (λ texts. has_text texts text) (map-append text_of xs (y ∷ []))
-      ∙ list_any-append (same_text text) (map text_of xs) (text_of y ∷ [])
-      ∙ or_last (has_text (map text_of xs) text) (same_text text (text_of y))
+      grind (
+        arith,
+        map-append text_of xs (y ∷ []),
+        list_any-append (same_text text) (map text_of xs) (text_of y ∷ []),
+      )
 
   -- the texts with one more item are the same whether its text was new or not
   pub with_new-texts : (xs : List X) (y : X) (text : List ℕ) → has_text (map text_of (with_new text_of xs y)) text
       ≡ (same_text text (text_of y) || has_text (map text_of xs) text)
-  with_new-texts xs y text =
-      cond_both (has_text (map text_of xs) (text_of y)) xs (xs ++ y ∷ [])
-      (λ zs. has_text (map text_of zs) text ≡ (same_text text (text_of y) || has_text (map text_of xs) text))
-      (λ there. known there (same_text text (text_of y)) refl) (λ none. texts_pushed xs y text)
-    where
-      known : has_text (map text_of xs) (text_of y) ≡ true → (b : Bool) → same_text text (text_of y) ≡ b
-          → has_text (map text_of xs) text ≡ (b || has_text (map text_of xs) text)
-      known there true e = ap (has_text (map text_of xs)) (same_equal text (text_of y) e) ∙ there
-      known there false e = refl
+  with_new-texts xs y text = grind (arith, same_equal text (text_of y), texts_pushed xs y text)
 
   -- the texts of items to which others were added one by one
   pub fold_new-texts : (xs ys : List X) (text : List ℕ) → has_text (map text_of (fold (with_new text_of) xs ys)) text
       ≡ (has_text (map text_of xs) text || has_text (map text_of ys) text)
-  fold_new-texts xs [] text = sym (or_none (has_text (map text_of xs) text))
+  fold_new-texts xs [] text = grind arith
   fold_new-texts xs (y ∷ ys) text =
-      fold_new-texts (with_new text_of xs y) ys text
-      ∙ ap (λ b. b || has_text (map text_of ys) text) (with_new-texts xs y text)
-      ∙ or_turned (same_text text (text_of y)) (has_text (map text_of xs) text) (has_text (map text_of ys) text)
+      grind (arith, fold_new-texts (with_new text_of xs y) ys text, with_new-texts xs y text)
 
   -- the texts differ still
   pub with_new-differ : (xs : List X) (y : X) → texts_differ (map text_of xs) ≡ true
       → texts_differ (map text_of (with_new text_of xs y)) ≡ true
   with_new-differ xs y differ =
-      cond_both (has_text (map text_of xs) (text_of y)) xs (xs ++ y ∷ [])
-      (λ zs. texts_differ (map text_of zs) ≡ true) (λ there. differ)
-      (λ none. ap texts_differ (map-append text_of xs (y ∷ [])) ∙ differ_end (map text_of xs) (text_of y) differ none)
+      grind (arith, map-append text_of xs (y ∷ []), differ_end (map text_of xs) (text_of y))
 
   pub fold_new-differ : (xs ys : List X) → texts_differ (map text_of xs) ≡ true
       → texts_differ (map text_of (fold (with_new text_of) xs ys)) ≡ true
@@ -88,17 +64,13 @@ module _ {X : Type 0} (text_of : X → List ℕ) where
   -- what holds of all holds of those that are added
   pub with_new-all : (p : X → Bool) (xs : List X) (y : X) → list_all p xs ≡ true → p y ≡ true
       → list_all p (with_new text_of xs y) ≡ true
-  with_new-all p xs y all one =
-      cond_both (has_text (map text_of xs) (text_of y)) xs (xs ++ y ∷ []) (λ zs. list_all p zs ≡ true) (λ there. all)
-      (λ none. list_all-append p xs (y ∷ [])
-      ∙ and_from (list_all p xs) (p y && true) all (and_from (p y) true one refl))
+  with_new-all p xs y all one = grind (arith, list_all-append p xs (y ∷ []))
 
   pub fold_new-all : (p : X → Bool) (xs ys : List X) → list_all p xs ≡ true → list_all p ys ≡ true
       → list_all p (fold (with_new text_of) xs ys) ≡ true
   fold_new-all p xs [] all more = all
   fold_new-all p xs (y ∷ ys) all more =
-      let parts = and_parts (p y) (list_all p ys) more in
-      fold_new-all p (with_new text_of xs y) ys (with_new-all p xs y all parts.0) parts.1
+      grind (arith, fold_new-all p (with_new text_of xs y) ys, with_new-all p xs y)
 
   -- of items that a text differs from, the same are new where an item of that text is added
   still_new : (xs : List X) (x : X) (ys : List X)
@@ -107,35 +79,21 @@ module _ {X : Type 0} (text_of : X → List ℕ) where
       ≡ filter (λ y. not (has_text (map text_of xs) (text_of y))) ys
   still_new xs x [] unlike = refl
   still_new xs x (y ∷ ys) unlike =
-      let parts = and_parts (not (same_text (text_of x) (text_of y)))
-      (list_all (λ other. not (same_text (text_of x) other)) (map text_of ys)) unlike in
-      let other : same_text (text_of y) (text_of x) ≡ false =
-      same_other (text_of y) (text_of x) ∙ not-true (same_text (text_of x) (text_of y)) parts.0 in
-      let same : has_text (map text_of (xs ++ x ∷ [])) (text_of y) ≡ has_text (map text_of xs) (text_of y) =
-      texts_pushed xs x (text_of y) ∙ ap (λ b. b || has_text (map text_of xs) (text_of y)) other in
-      ap (λ b. cond (not b) (y ∷ filter (λ z. not (has_text (map text_of (xs ++ x ∷ [])) (text_of z))) ys)
-      (filter (λ z. not (has_text (map text_of (xs ++ x ∷ [])) (text_of z))) ys)) same
-      ∙ ap (λ zs. cond (not (has_text (map text_of xs) (text_of y))) (y ∷ zs) zs) (still_new xs x ys parts.1)
+      grind (arith, same_other (text_of y) (text_of x), texts_pushed xs x (text_of y), still_new xs x ys)
 
   -- of items whose texts differ, those come to the end whose texts are new
   pub fold_new-apart : (xs ys : List X) → texts_differ (map text_of ys) ≡ true
       → fold (with_new text_of) xs ys ≡ xs ++ filter (λ y. not (has_text (map text_of xs) (text_of y))) ys
   fold_new-apart xs [] differ = sym (append-nil xs)
   fold_new-apart xs (y ∷ ys) differ =
-      let parts = and_parts (list_all (λ other. not (same_text (text_of y) other)) (map text_of ys))
-      (texts_differ (map text_of ys)) differ in
-      by (has_text (map text_of xs) (text_of y)) parts.0 (λ zs. fold_new-apart zs ys parts.1)
-    where
-      by : (b : Bool) → list_all (λ other. not (same_text (text_of y) other)) (map text_of ys) ≡ true
-          → ((zs : List X)
-          → fold (with_new text_of) zs ys ≡ zs ++ filter (λ z. not (has_text (map text_of zs) (text_of z))) ys)
-          → fold (with_new text_of) (cond b xs (xs ++ y ∷ [])) ys
-          ≡ xs ++ cond (not b) (y ∷ filter (λ z. not (has_text (map text_of xs) (text_of z))) ys)
-          (filter (λ z. not (has_text (map text_of xs) (text_of z))) ys)
-      by true unlike rest = rest xs
-      by false unlike rest =
-          rest (xs ++ y ∷ []) ∙ ap (λ zs. (xs ++ y ∷ []) ++ zs) (still_new xs y ys unlike)
-          ∙ append_assoc xs (y ∷ []) (filter (λ z. not (has_text (map text_of xs) (text_of z))) ys)
+      let fresh = filter (λ z. not (has_text (map text_of xs) (text_of z))) ys in
+      grind (
+        arith,
+        fold_new-apart xs ys,
+        fold_new-apart (xs ++ y ∷ []) ys,
+        still_new xs y ys,
+        append_assoc xs (y ∷ []) fresh,
+      )
 
   all_new : (xs : List X) → filter (λ x. not (has_text [] (text_of x))) xs ≡ xs
   all_new [] = refl
@@ -152,24 +110,14 @@ module _ {X : Type 0} (text_of : X → List ℕ) where
       → ((text : List ℕ) → has_text seen text ≡ has_text (map text_of xs) text)
       → xs ++ first_of_each text_of seen ys ≡ fold (with_new text_of) xs ys
   first_unseen seen xs [] same = append-nil xs
-  first_unseen seen xs (y ∷ ys) same = by (has_text seen (text_of y)) refl (λ texts zs. first_unseen texts zs ys)
-    where
-      by : (b : Bool) → has_text seen (text_of y) ≡ b
-          → ((texts : List (List ℕ)) (zs : List X)
-          → ((text : List ℕ) → has_text texts text ≡ has_text (map text_of zs) text)
-          → zs ++ first_of_each text_of texts ys ≡ fold (with_new text_of) zs ys)
-          → xs ++ cond b (first_of_each text_of seen ys) (y ∷ first_of_each text_of (text_of y ∷ seen) ys)
-          ≡ fold (with_new text_of) (with_new text_of xs y) ys
-      by true e rest =
-          let there : has_text (map text_of xs) (text_of y) ≡ true = sym (same (text_of y)) ∙ e in
-          rw there (rest seen xs same)
-      by false e rest =
-          let none : has_text (map text_of xs) (text_of y) ≡ false = sym (same (text_of y)) ∙ e in
-          rw none (
-          sym (append_assoc xs (y ∷ []) (first_of_each text_of (text_of y ∷ seen) ys))
-          ∙ rest (text_of y ∷ seen) (xs ++ y ∷ [])
-          (λ text. ap (λ b. same_text text (text_of y) || b) (same text) ∙ sym (texts_pushed xs y text))
-          )
+  first_unseen seen xs (y ∷ ys) same =
+      grind (
+        arith,
+        same (text_of y),
+        first_unseen seen xs ys same,
+        first_unseen (text_of y ∷ seen) (xs ++ y ∷ []) ys (λ text. grind (arith, same text, texts_pushed xs y text)),
+        append_assoc xs (y ∷ []) (first_of_each text_of (text_of y ∷ seen) ys),
+      )
 
   -- the first of each are what is added one by one
   pub first_of_each-fold : (xs : List X) → first_of_each text_of [] xs ≡ fold (with_new text_of) [] xs
@@ -216,11 +164,4 @@ texts_fold_new texts others text =
 -- what is made of items with one more is what is made of each
 pub with_new-map : {X Y : Type 0} (f : X → Y) (text_of : Y → List ℕ) (xs : List X) (x : X)
     → map f (with_new (λ y. text_of (f y)) xs x) ≡ with_new text_of (map f xs) (f x)
-with_new-map f text_of xs x =
-    by (has_text (map (λ y. text_of (f y)) xs) (text_of (f x)))
-    ∙ ap (λ texts. cond (has_text texts (text_of (f x))) (map f xs) (map f xs ++ f x ∷ []))
-    (sym (map-map text_of f xs))
-  where
-    by : (b : Bool) → map f (cond b xs (xs ++ x ∷ [])) ≡ cond b (map f xs) (map f xs ++ f x ∷ [])
-    by true = refl
-    by false = map-append f xs (x ∷ [])
+with_new-map f text_of xs x = grind (arith, map-append f xs (x ∷ []), map-map text_of f xs)

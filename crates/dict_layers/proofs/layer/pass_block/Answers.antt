@@ -1,4 +1,4 @@
-use Rattle.std.proofs.Common.{◌≡◌, ◌∙◌, ◌||◌, ap, sym, Bool, true, false, refl}
+use Rattle.std.proofs.Common.{◌≡◌, ◌∙◌, ◌||◌, ap, sym, Bool, arith}
 use Rattle.skk_calls.specs.RowLaws.{row_parts}
 use Rattle.skk_calls.specs.Rows.{has_text, words_of}
 use Rattle.word_sets.specs.FirstLaws.{texts_fold_new}
@@ -6,9 +6,7 @@ use Rattle.dict_layers.proofs.BlockFirst.{block_first_texts}
 use Rattle.dict_layers.proofs.layer.pass_block.Goals as goal
 
 grouped : (a b c d : Bool) → ((a || b) || (c || d)) ≡ (a || ((b || c) || d))
-grouped true b c d = refl
-grouped false true c d = refl
-grouped false false c d = refl
+grouped a b c d = grind arith
 
 pub returns : goal.returns
 returns c = λ text.

@@ -1,4 +1,4 @@
-use Rattle.std.proofs.Common.{◌≡◌, ◌∙◌, ◌||◌, ℕ, List, ap, Bool, true, false, refl}
+use Rattle.std.proofs.Common.{◌≡◌, ◌∙◌, ◌||◌, ℕ, List, ap, Bool, arith}
 use Rattle.std.specs.List.{fold}
 use Rattle.std.proofs.lemmas.Result.{on_ok_weaker}
 use Rattle.skk_calls.specs.Rows.{has_text, words_of}
@@ -7,8 +7,7 @@ use Rattle.word_sets.specs.Firsts.{with_new}
 use Rattle.dict_layers.proofs.layer.pass_row.Goals as goal
 
 grouped : (a b c : Bool) → ((a || b) || c) ≡ (a || (b || c))
-grouped true b c = refl
-grouped false b c = refl
+grouped a b c = grind arith
 
 pub returns-clause-words : goal.returns-clause-words
 returns-clause-words c =
