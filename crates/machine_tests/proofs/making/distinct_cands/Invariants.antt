@@ -6,4 +6,4 @@ use Rattle.machine_tests.proofs.making.distinct_cands.Given as goal
 
 -- each of the candidates so far is one
 abbrev pub invariant-loop-cand : goal.invariant-loop-cand
-invariant-loop-cand l = list_all is_cand (map as_cand l.first) ≡ true
+invariant-loop-cand g l = list_all is_cand (map as_cand l.first) ≡ true

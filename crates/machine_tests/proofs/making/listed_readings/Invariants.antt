@@ -5,4 +5,4 @@ use Rattle.machine_tests.proofs.making.listed_readings.Given as goal
 
 -- each of the readings so far is valid
 abbrev pub invariant-loop-reading : goal.invariant-loop-reading
-invariant-loop-reading l = list_all is_plain_reading l.readings ≡ true
+invariant-loop-reading g l = list_all is_plain_reading l.readings ≡ true

@@ -9,6 +9,6 @@ not-extended : (rules : List Rule) (pending : List ℕ) (c : ℕ) → goes_on ru
 not-extended rules [] c e = refl
 not-extended rules (b ∷ pending) c e = e
 
-pub feed_anew-out-requires : goal.feed_anew-out-requires
-feed_anew-out-requires g c =
-    not-extended rules.now pending.old 113 (sym c.goes_on.ensures.computed ∙ search rules)
+pub feed_anew-requires : goal.feed_anew-requires
+feed_anew-requires g c =
+    not-extended c.args.rules.now c.args.pending.now 113 (sym c.goes_on.ensures.computed ∙ search rules)
