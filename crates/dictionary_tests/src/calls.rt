@@ -1,26 +1,15 @@
-ghost use Rattle.std.specs.Prelude.{◌≡◌, [], ◌∷◌, true};
+ghost use Rattle.std.specs.Prelude.{◌≡◌, true};
 ghost use Rattle.skk_calls.specs.Dictionary.{is_fit};
-ghost use Rattle.skk_calls.specs.declared.part.Part.TheVariants.{Nasi};
 
+use crate::making::{key, long_text, text};
 use expectations::{same, same_at};
 use skk_calls::{
     Answer, Call, Caller, Cand, CandFault, Chronicle, DialogTrace, Noted, Okuri, OkuriFault, Part,
     Refusal, Reply, RowKey, RowKeyFault, Tally, needs_quotes,
 };
-use skk_text::{Memory, Text};
 use skk_trace::{Shows, Trace};
 use std::alloc::Global;
 use std::process::Abort;
-
-// A text that is `unit` so many times, and then `end`.
-fn repeat(rt: &impl Abort, alloc: Global, unit: &str, count: usize, end: &str) -> Text {
-    let mut text = Text::new(alloc);
-    for _ in 0..count {
-        text.push_str(unit).expect(rt, "memory");
-    }
-    text.push_str(end).expect(rt, "memory");
-    text
-}
 
 // The parts of a key whose reading is a text so many times and an end, and why it is none.
 type ReadingRow = (Part, &'static str, usize, &'static str, Option<RowKeyFault>);
@@ -46,9 +35,9 @@ fn readings_of_keys_are_checked(rt: HostRuntime) {
     }
 }
 
-fn expect_reading<R: Abort>(rt: &R, alloc: Global, row: &ReadingRow) {
+fn expect_reading(rt: &impl Abort, alloc: Global, row: &ReadingRow) {
     let (part, unit, count, end, fault) = *row;
-    let reading = repeat(rt, alloc, unit, count, end);
+    let reading = long_text(rt, alloc, "", unit, count, end);
     same_at(RowKey::new(part, reading).err(), fault, row).expect(rt, "as wanted");
 }
 
@@ -71,9 +60,9 @@ fn okurigana_are_checked(rt: HostRuntime) {
     }
 }
 
-fn expect_okuri<R: Abort>(rt: &R, alloc: Global, row: &OkuriRow) {
+fn expect_okuri(rt: &impl Abort, alloc: Global, row: &OkuriRow) {
     let (unit, count, fault) = *row;
-    let okuri = repeat(rt, alloc, unit, count, "");
+    let okuri = long_text(rt, alloc, "", unit, count, "");
     same_at(Okuri::new(okuri).err(), fault, row).expect(rt, "as wanted");
 }
 
@@ -97,10 +86,10 @@ fn candidates_are_checked(rt: HostRuntime) {
     }
 }
 
-fn expect_cand<R: Abort>(rt: &R, alloc: Global, row: &CandRow) {
+fn expect_cand(rt: &impl Abort, alloc: Global, row: &CandRow) {
     let (count, note, fault) = *row;
-    let word = repeat(rt, alloc, "a", count, "");
-    let note = repeat(rt, alloc, note, 1, "");
+    let word = long_text(rt, alloc, "", "a", count, "");
+    let note = text(rt, alloc, note);
     same_at(Cand::new(word, note).err(), fault, row).expect(rt, "as wanted");
 }
 
@@ -124,25 +113,9 @@ static QUOTES: [(&str, bool); 14] = [
 #[test]
 fn words_need_quotes(rt: HostRuntime) {
     for (word, needed) in &QUOTES {
-        let text = repeat(&rt, rt.alloc(), word, 1, "");
+        let text = text(&rt, rt.alloc(), word);
         same_at(needs_quotes(&text), *needed, word).expect(&rt, "as wanted");
     }
-}
-
-// A text of one character.
-fn one_character(rt: &impl Abort, alloc: Global, c: char) -> Text
-    ensures { result ≡ c ∷ [] }
-{
-    let mut text = Text::new(alloc);
-    text.push(c).expect(rt, "memory");
-    text
-}
-
-// The key か without okurigana.
-fn short_key(rt: &impl Abort, alloc: Global) -> RowKey
-    ensures { result ≡ record { part = Nasi; reading = 0x304B ∷ [] } }
-{
-    RowKey::new(Part::Nasi, one_character(rt, alloc, 'か')).expect(rt, "a key")
 }
 
 // Counts an answer that is done, and one that is refused.
@@ -209,7 +182,11 @@ impl Caller for Lacking {
 // Looks the key か up, and tells whether the call is refused as out of memory.
 fn is_refused(rt: &impl Abort, alloc: Global, caller: &mut impl Caller) -> bool {
     let call = look_up(rt, alloc);
-    is_out_of_memory(alloc, caller, &call)
+    let answer = caller.call(alloc, &call);
+    let refused = matches!(answer, Answer::Refused(Refusal::Memory));
+    drop(answer);
+    drop(call);
+    refused
 }
 
 // The call that looks the key か up.
@@ -218,16 +195,9 @@ fn look_up(rt: &impl Abort, alloc: Global) -> Call
 {
     Call::Lookup {
         who: 1,
-        key: short_key(rt, alloc),
+        key: key(rt, alloc, "か"),
         okuri: None,
     }
-}
-
-// Whether a call is refused as out of memory.
-fn is_out_of_memory(alloc: Global, caller: &mut impl Caller, call: &Call) -> bool
-    requires { is_fit call.now ≡ true }
-{
-    matches!(caller.call(alloc, call), Answer::Refused(Refusal::Memory))
 }
 
 #[test]

@@ -1,9 +1,6 @@
-use crate::files::bytes;
 use crate::learning::{add_texts, run};
-use crate::making::text;
+use crate::making::{files_of, text};
 use dict_complete::complete;
-use dict_files::{DictionaryFile, DictionaryFiles};
-use dict_layers::System;
 use expectations::{same, same_at};
 use skk_text::Texts;
 use std::alloc::Global;
@@ -57,7 +54,7 @@ static COUNTED: [Counted; 8] = [
 
 // The prefix itself, another reading, a key with okurigana and a purged row do not complete, and what was learnt last
 // comes first. The shared book comes second, once, and then each file.
-const BOOKS: &str = "
+static BOOKS: &str = "
 learn 1 かき 柿 = learned 1 after 0
 learn 1 かん 缶 = learned 2 after 0
 learn 1 か 蚊 = learned 3 after 0
@@ -92,7 +89,7 @@ complete 0 か = かに かん かい かめ かお
 ";
 
 // Of rows with one stamp the one whose reading is less by its bytes comes first.
-const ONE_STAMP: &str = "
+static ONE_STAMP: &str = "
 learn 1 かん 缶 = learned 1 after 0
 learn 2 かき 柿 = learned 1 after 0
 learn 3 かさ 傘 = learned 1 after 0
@@ -112,7 +109,7 @@ fn readings_are_joined(rt: HostRuntime) {
     }
 }
 
-fn expect_joined<R: Abort>(rt: &R, alloc: Global, row: &Joined) {
+fn expect_joined(rt: &impl Abort, alloc: Global, row: &Joined) {
     let (newest, shared, file, other, prefix, wanted) = *row;
     let books = (texts(rt, alloc, newest), texts(rt, alloc, shared));
     let given = given_of(rt, alloc, &books, file, other, prefix);
@@ -130,7 +127,7 @@ fn given_of(
     other: &str,
     prefix: &str,
 ) -> Texts {
-    let system = files_of(rt, alloc, file, other);
+    let system = files_of(rt, alloc, &[file, other]);
     complete(alloc, newest, shared, &system, &text(rt, alloc, prefix)).expect(rt, "memory")
 }
 
@@ -141,7 +138,7 @@ fn readings_are_256_at_most(rt: HostRuntime) {
     }
 }
 
-fn expect_counted<R: Abort>(rt: &R, alloc: Global, row: &Counted) {
+fn expect_counted(rt: &impl Abort, alloc: Global, row: &Counted) {
     let (in_book, in_file, count, last) = *row;
     let newest = texts(rt, alloc, &numbered(rt, alloc, in_book, " "));
     let file = numbered(rt, alloc, in_file, " /亜/\n");
@@ -150,13 +147,10 @@ fn expect_counted<R: Abort>(rt: &R, alloc: Global, row: &Counted) {
 }
 
 // Tells how many texts there are, and the last of them.
-fn expect_last<R: Abort>(rt: &R, texts: &Texts, count: usize, last: &str) {
+fn expect_last(rt: &impl Abort, texts: &Texts, count: usize, last: &str) {
     same(texts.len(), count).expect(rt, "as wanted");
-    same(
-        texts.as_slice().last().map(|text| text.as_str()),
-        Some(last),
-    )
-    .expect(rt, "as wanted");
+    let found = texts.as_slice().last().expect(rt, "no text");
+    same(found.as_str(), last).expect(rt, "as wanted");
 }
 
 #[test]
@@ -183,16 +177,4 @@ fn numbered(rt: &impl Abort, alloc: Global, count: usize, behind: &str) -> Strin
             .expect(rt, "memory");
     }
     readings
-}
-
-// Two files as they lie.
-fn files_of(rt: &impl Abort, alloc: Global, file: &str, other: &str) -> System {
-    let mut files = DictionaryFiles::new(alloc);
-    files
-        .push(DictionaryFile::open(alloc, bytes(rt, alloc, file.as_bytes())).expect(rt, "a file"))
-        .expect(rt, "memory");
-    files
-        .push(DictionaryFile::open(alloc, bytes(rt, alloc, other.as_bytes())).expect(rt, "a file"))
-        .expect(rt, "memory");
-    System::of_files(alloc, files).expect(rt, "memory")
 }

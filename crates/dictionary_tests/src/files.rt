@@ -1,9 +1,9 @@
-use crate::making::text;
-use dict_files::{DictionaryFile, DictionaryFiles, walks_go_over_completions};
-use dict_format::{FileFault, print_line, read_file};
+use crate::making::{files_of, rows_of, text};
+use dict_files::{DictionaryFile, walks_go_over_completions};
+use dict_format::{FileFault, print_line};
 use dict_layers::System;
 use expectations::{same, same_at};
-use skk_calls::{Books, Part, RowKey, Rows, Walk};
+use skk_calls::{Part, RowKey, Rows, Walk};
 use skk_text::{Bytes, Text, TextFault};
 use std::alloc::Global;
 use std::process::Abort;
@@ -80,30 +80,6 @@ static KEYS: [(Part, &str); 24] = [
     (Part::Nasi, "\u{10FFFF}"),
 ];
 
-pub fn bytes(rt: &impl Abort, alloc: Global, content: &[u8]) -> Bytes {
-    let mut bytes = Vec::new(alloc);
-    bytes.extend_from_slice(content).expect(rt, "memory");
-    Bytes::of(bytes)
-}
-
-// A file's rows in memory.
-fn rows_of(rt: &impl Abort, alloc: Global, file: &str) -> System {
-    let mut books = Books::new(alloc);
-    books
-        .push(read_file(alloc, file.as_bytes()).expect(rt, "a file").book)
-        .expect(rt, "memory");
-    System::of_books(alloc, books).expect(rt, "memory")
-}
-
-// A file as it lies.
-fn file_of(rt: &impl Abort, alloc: Global, file: &str) -> System {
-    let mut files = DictionaryFiles::new(alloc);
-    files
-        .push(DictionaryFile::open(alloc, bytes(rt, alloc, file.as_bytes())).expect(rt, "a file"))
-        .expect(rt, "memory");
-    System::of_files(alloc, files).expect(rt, "memory")
-}
-
 // The lines of the rows of a key.
 fn lines_of(rt: &impl Abort, alloc: Global, system: &System, part: Part, reading: &str) -> Text {
     match RowKey::new(part, text(rt, alloc, reading)) {
@@ -158,14 +134,14 @@ fn files_as_they_lie_have_the_rows_that_are_read(rt: HostRuntime) {
     }
 }
 
-fn expect_same_file<R: Abort>(rt: &R, alloc: Global, file: &str) {
-    let rows = rows_of(rt, alloc, file);
-    let lies = file_of(rt, alloc, file);
+fn expect_same_file(rt: &impl Abort, alloc: Global, file: &str) {
+    let rows = rows_of(rt, alloc, &[file]);
+    let lies = files_of(rt, alloc, &[file]);
     expect_same(rt, alloc, &rows, &lies)
 }
 
 // Tells that a file as it lies has the rows and the readings of its rows in memory.
-fn expect_same<R: Abort>(rt: &R, alloc: Global, rows: &System, lies: &System) {
+fn expect_same(rt: &impl Abort, alloc: Global, rows: &System, lies: &System) {
     same(lies.file_count(), 1).expect(rt, "as wanted");
     for (part, reading) in &KEYS {
         let wanted = lines_of(rt, alloc, rows, *part, reading);
@@ -176,8 +152,8 @@ fn expect_same<R: Abort>(rt: &R, alloc: Global, rows: &System, lies: &System) {
 }
 
 // Tells which lines the rows of a key have.
-fn expect_lines<R: Abort>(
-    rt: &R,
+fn expect_lines(
+    rt: &impl Abort,
     alloc: Global,
     lies: &System,
     (part, reading): (Part, &str),
@@ -188,7 +164,7 @@ fn expect_lines<R: Abort>(
 }
 
 // Tells which readings the first file has.
-fn expect_readings<R: Abort>(rt: &R, alloc: Global, lies: &System, wanted: &str) {
+fn expect_readings(rt: &impl Abort, alloc: Global, lies: &System, wanted: &str) {
     let readings = readings_of(rt, alloc, lies);
     same(readings.as_str(), wanted).expect(rt, "as wanted");
 }
@@ -223,7 +199,7 @@ static READINGS: [(&str, &str); 6] = [
 #[test]
 fn the_first_line_of_a_key_that_spells_a_row_counts(rt: HostRuntime) {
     for (file, part, reading, line) in &FIRST_LINES {
-        let lies = file_of(&rt, rt.alloc(), file);
+        let lies = files_of(&rt, rt.alloc(), &[*file]);
         expect_lines(&rt, rt.alloc(), &lies, (*part, *reading), line);
     }
 }
@@ -231,14 +207,16 @@ fn the_first_line_of_a_key_that_spells_a_row_counts(rt: HostRuntime) {
 #[test]
 fn readings_are_gone_over_in_order(rt: HostRuntime) {
     for (file, readings) in &READINGS {
-        let lies = file_of(&rt, rt.alloc(), file);
+        let lies = files_of(&rt, rt.alloc(), &[*file]);
         expect_readings(&rt, rt.alloc(), &lies, readings);
     }
 }
 
 #[test]
 fn files_that_are_no_text_are_refused(rt: HostRuntime) {
-    let file = bytes(&rt, rt.alloc(), b"\xE3\x81\x82 /\xA4\xA2/\n");
-    let fault = DictionaryFile::open(rt.alloc(), file).err();
+    let file = b"\xE3\x81\x82 /\xA4\xA2/\n"
+        .to_vec(rt.alloc())
+        .expect(&rt, "memory");
+    let fault = DictionaryFile::open(rt.alloc(), Bytes::of(file)).err();
     same(fault, Some(FileFault::NoText(TextFault::NotUtf8 { at: 5 }))).expect(&rt, "as wanted");
 }

@@ -1,4 +1,4 @@
-use crate::making::text;
+use crate::making::{long_text, text};
 use dict_format::{
     BadLines, FileFault, LineFault, LineReason, files_list_one_thing, lines_spell_one_row,
     lines_spell_rows_or_have_reasons, print_file, print_item, print_line,
@@ -9,24 +9,6 @@ use skk_calls::{Book, Cand, Part};
 use skk_text::{Text, TextFault};
 use std::alloc::Global;
 use std::process::Abort;
-
-// A text that is `start`, `unit` so many times, and then `end`.
-fn long_text(
-    rt: &impl Abort,
-    alloc: Global,
-    start: &str,
-    unit: &str,
-    count: usize,
-    end: &str,
-) -> Text {
-    let mut text = Text::new(alloc);
-    text.push_str(start).expect(rt, "memory");
-    for _ in 0..count {
-        text.push_str(unit).expect(rt, "memory");
-    }
-    text.push_str(end).expect(rt, "memory");
-    text
-}
 
 // The canonical line of the row that a line spells, or why it spells none.
 fn printed_line(alloc: Global, part: Part, line: &Text) -> Result<Text, LineFault> {
@@ -133,7 +115,7 @@ fn lines_are_read_and_printed(rt: HostRuntime) {
     }
 }
 
-fn expect_line<R: Abort>(rt: &R, alloc: Global, part: Part, line: &str, canonical: &str) {
+fn expect_line(rt: &impl Abort, alloc: Global, part: Part, line: &str, canonical: &str) {
     match printed_line(alloc, part, &text(rt, alloc, line)) {
         Ok(again) => same(again.as_str(), canonical).expect(rt, "as wanted"),
         Err(fault) => assert!(rt; false, "at {line:?}: {fault:?}"),
@@ -262,7 +244,7 @@ fn lines_are_refused_by_their_first_reason(rt: HostRuntime) {
     }
 }
 
-fn expect_refused<R: Abort>(rt: &R, alloc: Global, row: &RefusedRow) {
+fn expect_refused(rt: &impl Abort, alloc: Global, row: &RefusedRow) {
     let (part, start, unit, count, end, reason) = *row;
     let line = long_text(rt, alloc, start, unit, count, end);
     let fault = printed_line(alloc, part, &line).err();
@@ -336,19 +318,19 @@ static FILES: &[FileRow] = &[
 ];
 
 // Tells how a file is printed, and its bad lines.
-fn expect_file<R: Abort>(rt: &R, alloc: Global, row: &FileRow) {
+fn expect_file(rt: &impl Abort, alloc: Global, row: &FileRow) {
     let (file, printed, bad) = *row;
     let listed = read_file(alloc, file.as_bytes()).expect(rt, "a file");
     expect_printed(rt, alloc, &listed.book, printed);
     expect_bad(rt, &listed.bad, bad);
 }
 
-fn expect_printed<R: Abort>(rt: &R, alloc: Global, book: &Book, printed: &str) {
+fn expect_printed(rt: &impl Abort, alloc: Global, book: &Book, printed: &str) {
     let text = print_file(alloc, book).expect(rt, "memory");
     same(text.as_str(), printed).expect(rt, "as wanted");
 }
 
-fn expect_bad<R: Abort>(rt: &R, found: &BadLines, bad: &[(usize, LineReason)]) {
+fn expect_bad(rt: &impl Abort, found: &BadLines, bad: &[(usize, LineReason)]) {
     same_at(found.len(), bad.len(), bad).expect(rt, "as wanted");
     for (found, wanted) in found.as_slice().iter().zip(bad) {
         same_at((found.line, found.reason), *wanted, bad).expect(rt, "as wanted");

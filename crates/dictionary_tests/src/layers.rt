@@ -1,8 +1,8 @@
-use crate::making::text;
-use dict_format::{read_file, read_line};
+use crate::making::{add_entry, okuri, rows_of, text};
+use dict_format::read_line;
 use dict_layers::{RowList, System, cands_in_order, merge};
 use expectations::{same, same_at};
-use skk_calls::{Books, Cands, Okuri, Part, Row, RowKey, Walk};
+use skk_calls::{Cands, Part, Row, RowKey, Walk};
 use std::alloc::Global;
 use std::process::Abort;
 
@@ -12,44 +12,38 @@ fn row(rt: &impl Abort, alloc: Global, line: &str) -> Row {
     read_line(alloc, Part::Ari, &line).expect(rt, "a line")
 }
 
-// An okurigana, where there is one.
-fn okurigana(rt: &impl Abort, alloc: Global, content: Option<&str>) -> Option<Okuri> {
-    let content = text(rt, alloc, content?);
-    Some(Okuri::new(content).expect(rt, "an okurigana"))
-}
-
 // The candidates, each as its word, a semicolon, its note, and a slash.
 fn told(rt: &impl Abort, alloc: Global, cands: &Cands) -> String {
     let mut told = String::new(alloc);
     for cand in cands.as_slice() {
-        let (word, note) = (cand.word().as_str(), cand.note().as_str());
-        write!(told, "{word};{note}/").expect(rt, "memory");
+        add_entry(rt, &mut told, cand.word().as_str(), cand.note().as_str());
     }
     told
 }
 
-const BLOCKS: &str = "おおk /大/多;おおい/[く/多/]/[き/大/]/[い/覆/]/";
+static BLOCKS: &str = "おおk /大/多;おおい/[く/多/]/[き/大/]/[い/覆/]/";
 
-// An okurigana, and the candidates of that row in their order for it.
-static IN_ORDER: [(Option<&str>, &str); 5] = [
-    (Some("く"), "多;おおい/大;/"),
-    (Some("き"), "大;/多;おおい/"),
-    (Some("い"), "覆;/大;/多;おおい/"),
-    (Some("た"), "大;/多;おおい/"),
-    (None, "大;/多;おおい/"),
+// An okurigana, which may be empty, and the candidates of that row in their order for it.
+static IN_ORDER: [(&str, &str); 5] = [
+    ("く", "多;おおい/大;/"),
+    ("き", "大;/多;おおい/"),
+    ("い", "覆;/大;/多;おおい/"),
+    ("た", "大;/多;おおい/"),
+    ("", "大;/多;おおい/"),
 ];
 
 #[test]
 fn words_of_a_block_stand_first(rt: HostRuntime) {
     let row = row(&rt, rt.alloc(), BLOCKS);
     for (okuri, wanted) in &IN_ORDER {
-        expect_order(&rt, rt.alloc(), &row, *okuri, wanted);
+        expect_order(&rt, rt.alloc(), &row, okuri, wanted);
     }
 }
 
-fn expect_order(rt: &impl Abort, alloc: Global, row: &Row, okuri: Option<&str>, wanted: &str) {
-    let okuri = okurigana(rt, alloc, okuri);
+fn expect_order(rt: &impl Abort, alloc: Global, row: &Row, okurigana: &str, wanted: &str) {
+    let okuri = okuri(rt, alloc, okurigana);
     let cands = cands_in_order(alloc, row, okuri.as_ref()).expect(rt, "memory");
+    drop(okuri);
     let told = told(rt, alloc, &cands);
     same_at(told.as_str(), wanted, wanted).expect(rt, "as wanted");
 }
@@ -82,13 +76,20 @@ fn layers_are_merged(rt: HostRuntime) {
 fn expect_merged(rt: &impl Abort, alloc: Global, rows: [&str; 2], okuri: &str, wanted: &str) {
     let [upper, lower] = rows;
     let (upper, lower) = (row(rt, alloc, upper), row(rt, alloc, lower));
-    let mut layers = RowList::new(alloc);
-    layers.push(&upper).expect(rt, "memory");
-    layers.push(&lower).expect(rt, "memory");
-    let okuri = okurigana(rt, alloc, Some(okuri));
-    let cands = merge(alloc, &layers, okuri.as_ref()).expect(rt, "memory");
-    let told = told(rt, alloc, cands.cands());
+    let told = merged_text(rt, alloc, [&upper, &lower], okuri);
     same_at(told.as_str(), wanted, wanted).expect(rt, "as wanted");
+}
+
+// The candidates of rows, the upper one first, for an okurigana.
+fn merged_text(rt: &impl Abort, alloc: Global, rows: [&Row; 2], okurigana: &str) -> String {
+    let [upper, lower] = rows;
+    let mut layers = RowList::new(alloc);
+    layers.push(upper).expect(rt, "memory");
+    layers.push(lower).expect(rt, "memory");
+    let okuri = okuri(rt, alloc, okurigana);
+    let cands = merge(alloc, &layers, okuri.as_ref()).expect(rt, "memory");
+    drop(okuri);
+    told(rt, alloc, cands.cands())
 }
 
 // Two files of rows in no order, of which each has one that only hides words.
@@ -97,15 +98,6 @@ static FILES: [&str; 2] = [
         ;; okuri-ari entries.\nおおk /下/\nうごk /下/\nいt /下/\n",
     "かんじ /下/\np# /(skk-ignore-dic-word \"下\")/\n",
 ];
-
-fn system(rt: &impl Abort, alloc: Global) -> System {
-    let mut books = Books::new(alloc);
-    for file in &FILES {
-        let listed = read_file(alloc, file.as_bytes()).expect(rt, "a file");
-        books.push(listed.book).expect(rt, "memory");
-    }
-    System::of_books(alloc, books).expect(rt, "memory")
-}
 
 // A key, and how many rows it has.
 static COUNTS: [(Part, &str, usize); 9] = [
@@ -122,7 +114,7 @@ static COUNTS: [(Part, &str, usize); 9] = [
 
 #[test]
 fn rows_of_a_key_are_found(rt: HostRuntime) {
-    let system = system(&rt, rt.alloc());
+    let system = rows_of(&rt, rt.alloc(), &FILES);
     for (part, reading, count) in &COUNTS {
         let found = count_of(&rt, rt.alloc(), &system, *part, reading);
         same_at(found, *count, reading).expect(&rt, "as wanted");
@@ -136,24 +128,24 @@ fn count_of(rt: &impl Abort, alloc: Global, system: &System, part: Part, reading
     found.len()
 }
 
-// A file, a reading, and the next one, where there is one.
-static NEXT: [(usize, &str, Option<&str>); 9] = [
-    (0, "", Some("#ねん")),
-    (0, "#ねん", Some("125")),
-    (0, "125", Some("p#")),
-    (0, "p#", Some("かんじ")),
-    (0, "か", Some("かんじ")),
-    (0, "かんじ", Some("ちょう>")),
-    (0, "ちょう>", None),
-    (1, "", Some("かんじ")),
-    (1, "かんじ", None),
+// A file, a reading, and the next one, which is empty where there is none.
+static NEXT: [(usize, &str, &str); 9] = [
+    (0, "", "#ねん"),
+    (0, "#ねん", "125"),
+    (0, "125", "p#"),
+    (0, "p#", "かんじ"),
+    (0, "か", "かんじ"),
+    (0, "かんじ", "ちょう>"),
+    (0, "ちょう>", ""),
+    (1, "", "かんじ"),
+    (1, "かんじ", ""),
 ];
 
 #[test]
 fn readings_are_gone_over(rt: HostRuntime) {
-    let system = system(&rt, rt.alloc());
+    let system = rows_of(&rt, rt.alloc(), &FILES);
     for (file, low, wanted) in &NEXT {
-        expect_next(&rt, rt.alloc(), &system, (*file, *low), *wanted);
+        expect_next(&rt, rt.alloc(), &system, (*file, *low), wanted);
     }
 }
 
@@ -162,10 +154,12 @@ fn expect_next(
     alloc: Global,
     walk: &impl Walk,
     (file, low): (usize, &str),
-    wanted: Option<&str>,
+    wanted: &str,
 ) {
     assert!(rt; file < walk.files());
     let low = text(rt, alloc, low);
-    let next = walk.above(alloc, file, &low).expect(rt, "memory");
-    same(next.as_ref().map(|text| text.as_str()), wanted).expect(rt, "as wanted");
+    match walk.above(alloc, file, &low).expect(rt, "memory") {
+        Some(next) => same(next.as_str(), wanted).expect(rt, "as wanted"),
+        None => same("", wanted).expect(rt, "as wanted"),
+    }
 }

@@ -1,18 +1,16 @@
 ghost use Rattle.std.specs.Prelude.{◌≡◌, ◌||◌, true, false, not};
 ghost use Rattle.std.specs.Bool.{OnTrue};
-ghost use Rattle.skk_calls.specs.declared.part.Part.TheVariants.{Ari};
 ghost use Rattle.skk_text.specs.Lists.{is_empty};
 ghost use Rattle.skk_calls.specs.Dictionary.{is_fit};
 ghost use Rattle.skk_calls.specs.Rows.{is_word};
 ghost use Rattle.skk_calls.specs.States.{fits_count, has_stamp};
 
+use crate::making::{self, key, okuri};
 use dict_layers::System;
 use dict_rows::line_length;
 use expectations::same_at;
 use learn_index::{Index, KeptRow};
-use skk_calls::{
-    Block, Blocks, Book, Books, Call, Cand, Cands, Learned, Okuri, Part, Reply, Row, RowKey,
-};
+use skk_calls::{Block, Blocks, Book, Books, Call, Cand, Cands, Learned, Part, Reply, Row, RowKey};
 use skk_text::{Copies, Text, Texts};
 use std::alloc::Global;
 use std::mem::swap;
@@ -123,40 +121,21 @@ row 7 か = none
 count 7 = 5
 ";
 
-#[test]
-fn layers_are_looked_up(rt: HostRuntime) {
-    run(&rt, rt.alloc(), LAYERS)
-}
+static SCRIPTS: [&str; 6] = [LAYERS, TAKEN_BACK, PURGES, LAST_STAMPS, LONG, REBUILT];
 
 #[test]
-fn learnings_are_taken_back(rt: HostRuntime) {
-    run(&rt, rt.alloc(), TAKEN_BACK)
+fn books_keep_what_is_learnt(rt: HostRuntime) {
+    for script in &SCRIPTS {
+        run(&rt, rt.alloc(), script);
+    }
 }
 
-#[test]
-fn words_are_purged(rt: HostRuntime) {
-    run(&rt, rt.alloc(), PURGES)
-}
-
-#[test]
-fn stamps_end(rt: HostRuntime) {
-    run(&rt, rt.alloc(), LAST_STAMPS)
-}
-
-#[test]
-fn lines_may_be_long(rt: HostRuntime) {
-    run(&rt, rt.alloc(), LONG)
-}
-
-#[test]
-fn states_are_rebuilt(rt: HostRuntime) {
-    run(&rt, rt.alloc(), REBUILT)
-}
-
-// Runs a script: on each line stands a command, a `=`, and what it tells.
+// Runs a script over books of its own: on each line stands a command, a `=`, and what it tells.
 pub fn run(rt: &impl Abort, alloc: Global, script: &str) {
     let mut desk = Desk::new(rt, alloc);
-    desk.run_lines(rt, alloc, script)
+    for line in script.trim().lines() {
+        desk.run_line(rt, alloc, line);
+    }
 }
 
 // A command, and what it is given: empty or 0 where it is given less.
@@ -201,45 +180,49 @@ impl Desk {
         }
     }
 
-    fn run_lines(&mut self, rt: &impl Abort, alloc: Global, script: &str) {
-        for line in script.trim().lines() {
-            self.run_line(rt, alloc, line);
-        }
-    }
-
     fn run_line(&mut self, rt: &impl Abort, alloc: Global, line: &str) {
         let (command, wanted) = line.split_once('=').expect(rt, "no `=`");
         let told = self.run(rt, alloc, &parts(command));
-        same_at(told.as_str(), wanted.trim(), line).expect(rt, "as wanted");
+        same_at(told.trim(), wanted.trim(), line).expect(rt, "as wanted");
     }
 
     // Runs a command, and gives what it tells.
     fn run(&mut self, rt: &impl Abort, alloc: Global, line: &Line) -> String {
         match line.command {
-            "learn" | "purge" | "find" | "complete" => self.ask_line(rt, alloc, line),
-            "forge" => self.forge(rt, alloc, line),
+            "learn" | "purge" | "find" | "complete" => self.ask(
+                rt,
+                alloc,
+                call_of(rt, alloc, line),
+            ),
             "unlearn" => self.unlearn(rt, alloc, line.number),
+            "row" | "book" | "count" | "rows" => self.tell(rt, alloc, line),
+            _ => {
+                self.change(rt, alloc, line);
+                String::from_str(alloc, "done").expect(rt, "memory")
+            }
+        }
+    }
+
+    // Runs a command that tells nothing.
+    fn change(&mut self, rt: &impl Abort, alloc: Global, line: &Line) {
+        match line.command {
+            "forge" => self.forge(rt, alloc, line),
             "file" => self.file(rt, alloc, line),
             "block" => self.block(rt, alloc, line),
             "put" => self.put(rt, alloc, line),
             "drop" => self.drop_row(rt, alloc, line),
             "set" => self.set_count(rt, alloc, line),
-            "swap" => self.swap(rt, alloc),
-            _ => self.tell(rt, alloc, line),
+            "swap" => swap(&mut self.index, &mut self.rebuilt),
+            _ => panic!(rt; "no command"),
         }
-    }
-
-    // Asks the call of a line.
-    fn ask_line(&mut self, rt: &impl Abort, alloc: Global, line: &Line) -> String {
-        let call = call_of(rt, alloc, line);
-        self.ask(rt, alloc, call)
     }
 
     // Asks a call, tells its reply, and keeps what was learnt.
     fn ask(&mut self, rt: &impl Abort, alloc: Global, call: Call) -> String
         requires { is_fit call ≡ true }
     {
-        let reply = self.reply(rt, alloc, call);
+        let reply = self.reply_to(rt, alloc, &call);
+        drop(call);
         let told = reply_text(rt, alloc, &reply);
         self.keep(rt, reply);
         told
@@ -247,16 +230,10 @@ impl Desk {
 
     // Keeps what was learnt, where a reply tells of that.
     fn keep(&mut self, rt: &impl Abort, reply: Reply) {
-        if let Some(learned) = learned_of(reply) {
-            self.learnings.push(learned).expect(rt, "memory");
+        match reply {
+            Reply::Learned(learned) => self.learnings.push(learned).expect(rt, "memory"),
+            other => drop(other),
         }
-    }
-
-    // The reply to a call. Calls are let go here alone: each place where one is takes long to prove.
-    fn reply(&mut self, rt: &impl Abort, alloc: Global, call: Call) -> Reply
-        requires { is_fit call ≡ true }
-    {
-        self.reply_to(rt, alloc, &call)
     }
 
     fn reply_to(&mut self, rt: &impl Abort, alloc: Global, call: &Call) -> Reply
@@ -273,112 +250,92 @@ impl Desk {
     }
 
     // Keeps as learnt what was never learnt.
-    fn forge(&mut self, rt: &impl Abort, alloc: Global, line: &Line) -> String {
-        let key = key(rt, alloc, line.reading);
-        let learned = Learned::new(
-            line.number,
-            key,
-            line.word.parse().expect(rt, "a number"),
-            None,
-        );
+    fn forge(&mut self, rt: &impl Abort, alloc: Global, line: &Line) {
+        let stamp = line.word.parse().expect(rt, "a number");
+        let learned = Learned::new(line.number, key(rt, alloc, line.reading), stamp, None);
         self.learnings.push(learned).expect(rt, "memory");
-        done_text(rt, alloc)
     }
 
     // Takes back what was learnt, by its place among what is kept.
     fn unlearn(&mut self, rt: &impl Abort, alloc: Global, place: u16) -> String {
         let place = usize::from(place);
-        if place >= self.learnings.len() {
-            return done_text(rt, alloc);
-        }
+        assert!(rt; place < self.learnings.len());
         let learned = self.learnings.remove(place);
         self.ask(rt, alloc, Call::Unlearn { learned })
     }
 
     // Makes a book the one system file, or this and another the two.
-    fn file(&mut self, rt: &impl Abort, alloc: Global, line: &Line) -> String {
+    fn file(&mut self, rt: &impl Abort, alloc: Global, line: &Line) {
         let mut books = Books::new(alloc);
-        books
-            .push(self.index.book(alloc, line.number).expect(rt, "memory"))
-            .expect(rt, "memory");
-        if !line.reading.is_empty() {
-            books
-                .push(
-                    self.index
-                        .book(alloc, line.reading.parse().expect(rt, "a number"))
-                        .expect(rt, "memory"),
-                )
-                .expect(rt, "memory");
+        push_book(rt, alloc, &mut books, &self.index, line.number);
+        if let Ok(other) = line.reading.parse() {
+            push_book(rt, alloc, &mut books, &self.index, other);
         }
         self.system = System::of_books(alloc, books).expect(rt, "memory");
-        done_text(rt, alloc)
     }
 
     // Puts a row with a block alone into a book, with its count.
-    fn block(&mut self, rt: &impl Abort, alloc: Global, line: &Line) -> String {
+    fn block(&mut self, rt: &impl Abort, alloc: Global, line: &Line) {
         let count = self.index.count(line.number);
-        let block = one_block(rt, alloc, line);
-        let key = key(rt, alloc, line.reading);
-        if key.part() != Part::Ari {
-            return done_text(rt, alloc);
-        }
-        let row = block_row(rt, alloc, key, block, count);
-        put_into(rt, &mut self.index, alloc, line.number, count, row)
+        let row = block_row(rt, alloc, line, count);
+        put_into(rt, &mut self.index, alloc, (line.number, count), row)
     }
 
     // Copies a row into what is rebuilt: into its book, or into another.
-    fn put(&mut self, rt: &impl Abort, alloc: Global, line: &Line) -> String {
+    fn put(&mut self, rt: &impl Abort, alloc: Global, line: &Line) {
         let key = key(rt, alloc, line.reading);
         let row = self.index.row(line.number, &key).expect(rt, "no row");
         let row = row.copy(alloc).expect(rt, "memory");
         let count = self.index.count(line.number);
         let book = line.word.parse().unwrap_or(line.number);
-        put_into(rt, &mut self.rebuilt, alloc, book, count, row)
+        put_into(rt, &mut self.rebuilt, alloc, (book, count), row)
     }
 
-    fn drop_row(&mut self, rt: &impl Abort, alloc: Global, line: &Line) -> String {
+    fn drop_row(&mut self, rt: &impl Abort, alloc: Global, line: &Line) {
         let key = key(rt, alloc, line.reading);
         let count = line.word.parse().expect(rt, "a number");
-        if self.index.count(line.number) <= count {
-            self.index
-                .drop_row(alloc, line.number, count, &key)
-                .expect(rt, "memory");
-        }
-        done_text(rt, alloc)
+        assert!(rt; self.index.count(line.number) <= count);
+        self.index
+            .drop_row(alloc, line.number, count, &key)
+            .expect(rt, "memory");
     }
 
-    fn set_count(&mut self, rt: &impl Abort, alloc: Global, line: &Line) -> String {
+    fn set_count(&mut self, rt: &impl Abort, alloc: Global, line: &Line) {
         let count = line.reading.parse().expect(rt, "a number");
-        if self.index.count(line.number) <= count {
-            self.index
-                .set_count(alloc, line.number, count)
-                .expect(rt, "memory");
-        }
-        done_text(rt, alloc)
-    }
-
-    // Goes on with what was rebuilt.
-    fn swap(&mut self, rt: &impl Abort, alloc: Global) -> String {
-        swap(&mut self.index, &mut self.rebuilt);
-        done_text(rt, alloc)
+        assert!(rt; self.index.count(line.number) <= count);
+        self.index
+            .set_count(alloc, line.number, count)
+            .expect(rt, "memory");
     }
 
     // Tells of a row, the readings of a book, a count, or how many rows there are.
     fn tell(&self, rt: &impl Abort, alloc: Global, line: &Line) -> String {
+        let mut told = String::new(alloc);
         match line.command {
-            "row" => {
-                let key = key(rt, alloc, line.reading);
-                row_text(rt, alloc, self.index.row(line.number, &key))
+            "row" => self.add_row(rt, &mut told, &key(rt, alloc, line.reading), line.number),
+            "book" => {
+                let book = self.index.book(alloc, line.number).expect(rt, "memory");
+                add_readings(rt, &mut told, &book)
             }
-            "book" => readings_text(
-                rt,
-                alloc,
-                &self.index.book(alloc, line.number).expect(rt, "memory"),
-            ),
-            "count" => format!(in alloc; "{}", self.index.count(line.number)).expect(rt, "memory"),
-            _ => format!(in alloc; "{}", self.index.rows()).expect(rt, "memory"),
+            "count" => add_number(rt, &mut told, "", self.index.count(line.number)),
+            _ => add_number(rt, &mut told, "", self.index.rows() as u64),
+        }
+        told
+    }
+
+    // Adds the row of a key in a book.
+    fn add_row(&self, rt: &impl Abort, told: &mut String, key: &RowKey, number: u16) {
+        match self.index.row(number, key) {
+            Some(row) => add_row(rt, told, row),
+            None => told.push_str("none").expect(rt, "memory"),
         }
     }
+}
+
+// Adds a book of an index to others.
+fn push_book(rt: &impl Abort, alloc: Global, books: &mut Books, index: &Index, number: u16) {
+    let book = index.book(alloc, number).expect(rt, "memory");
+    books.push(book).expect(rt, "memory");
 }
 
 // The call of a line.
@@ -429,40 +386,40 @@ fn completing(rt: &impl Abort, alloc: Global, line: &Line) -> Call
 {
     Call::Complete {
         who: line.number,
-        prefix: text(rt, alloc, line.reading),
-    }
-}
-
-// What a command tells that tells nothing.
-fn done_text(rt: &impl Abort, alloc: Global) -> String {
-    String::from_str(alloc, "done").expect(rt, "memory")
-}
-
-// What was learnt, where a reply tells of that.
-fn learned_of(reply: Reply) -> Option<Learned> {
-    match reply {
-        Reply::Learned(learned) => Some(learned),
-        _ => None,
+        prefix: making::text(rt, alloc, line.reading),
     }
 }
 
 // A reply.
 fn reply_text(rt: &impl Abort, alloc: Global, reply: &Reply) -> String {
-    let told = match reply {
-        Reply::Found(found) => return words_text(rt, alloc, found.cands()),
-        Reply::Learned(learned) => {
-            let before = learned.before().map_or(0, |row| row.stamp());
-            format!(in alloc; "learned {} after {before}", learned.stamp()).expect(rt, "memory")
-        }
-        Reply::Purged => String::from_str(alloc, "purged").expect(rt, "memory"),
-        Reply::Unchanged => String::from_str(alloc, "unchanged").expect(rt, "memory"),
-        Reply::Restored => String::from_str(alloc, "restored").expect(rt, "memory"),
-        Reply::Overtaken(stamp) => format!(in alloc; "overtaken {stamp}").expect(rt, "memory"),
-        Reply::TooBig(bytes) => format!(in alloc; "too big {bytes}").expect(rt, "memory"),
-        Reply::StampsEnd => String::from_str(alloc, "stamps end").expect(rt, "memory"),
-        Reply::Readings(readings) => return texts_text(rt, alloc, readings),
-    };
+    let mut told = String::new(alloc);
+    match reply {
+        Reply::Found(found) => add_words(rt, &mut told, found.cands()),
+        Reply::Readings(readings) => add_texts(rt, &mut told, readings),
+        Reply::Learned(learned) => add_learned(rt, &mut told, learned),
+        Reply::Overtaken(stamp) => add_number(rt, &mut told, "overtaken ", *stamp),
+        Reply::TooBig(bytes) => add_number(rt, &mut told, "too big ", *bytes),
+        Reply::Purged => told.push_str("purged").expect(rt, "memory"),
+        Reply::Unchanged => told.push_str("unchanged").expect(rt, "memory"),
+        Reply::Restored => told.push_str("restored").expect(rt, "memory"),
+        Reply::StampsEnd => told.push_str("stamps end").expect(rt, "memory"),
+    }
     told
+}
+
+// Adds the stamps of what was learnt, and of the row before it.
+fn add_learned(rt: &impl Abort, told: &mut String, learned: &Learned) {
+    let before = match learned.before() {
+        Some(row) => row.stamp(),
+        None => 0,
+    };
+    add_number(rt, told, "learned ", learned.stamp());
+    add_number(rt, told, " after ", before);
+}
+
+// Adds a number with these words before it.
+fn add_number(rt: &impl Abort, told: &mut String, words: &str, number: u64) {
+    write!(told, "{words}{number}").expect(rt, "memory");
 }
 
 // A text: a `~` and a number stand for so many `x` that it has so many characters.
@@ -470,23 +427,6 @@ fn text(rt: &impl Abort, alloc: Global, content: &str) -> Text {
     let (begin, width) = content.split_once('~').unwrap_or((content, "0"));
     let width: usize = width.parse().expect(rt, "a number");
     Text::of(format!(in alloc; "{begin:x<width$}").expect(rt, "memory"))
-}
-
-// A key, with okurigana where its reading ends in a letter behind kana.
-fn key(rt: &impl Abort, alloc: Global, reading: &str) -> RowKey {
-    let part = match reading.as_bytes() {
-        [0x80..=0xFF, .., b'a'..=b'z'] => Part::Ari,
-        _ => Part::Nasi,
-    };
-    RowKey::new(part, text(rt, alloc, reading)).expect(rt, "a key")
-}
-
-// An okurigana, where there is one.
-fn okuri(rt: &impl Abort, alloc: Global, content: &str) -> Option<Okuri> {
-    if content.is_empty() {
-        return None;
-    }
-    Some(Okuri::new(text(rt, alloc, content)).expect(rt, "an okurigana"))
 }
 
 // A candidate without a note.
@@ -502,74 +442,50 @@ fn word(rt: &impl Abort, alloc: Global, content: &str) -> Text
     cand.word().copy(alloc).expect(rt, "memory")
 }
 
-// The words of candidates.
-fn words_text(rt: &impl Abort, alloc: Global, cands: &Cands) -> String {
-    let mut told = String::new(alloc);
-    add_words(rt, &mut told, cands);
-    trim(rt, alloc, &told)
-}
-
-// Texts.
-fn texts_text(rt: &impl Abort, alloc: Global, texts: &Texts) -> String {
-    let mut told = String::new(alloc);
-    add_texts(rt, &mut told, texts);
-    trim(rt, alloc, &told)
-}
-
-// The readings of a book.
-fn readings_text(rt: &impl Abort, alloc: Global, book: &Book) -> String {
-    let mut told = String::new(alloc);
-    for row in book.rows().as_slice() {
-        told.push(' ').expect(rt, "memory");
-        told.push_str(row.key().reading().as_str())
-            .expect(rt, "memory");
-    }
-    trim(rt, alloc, &told)
-}
-
 // The words of candidates, each with a space before it.
 fn add_words(rt: &impl Abort, told: &mut String, cands: &Cands) {
     for cand in cands.as_slice() {
-        told.push(' ').expect(rt, "memory");
-        told.push_str(cand.word().as_str()).expect(rt, "memory");
+        add_word(rt, told, cand.word());
     }
 }
 
 // Texts, each with a space before it.
 pub fn add_texts(rt: &impl Abort, told: &mut String, texts: &Texts) {
     for text in texts.as_slice() {
-        told.push(' ').expect(rt, "memory");
-        told.push_str(text.as_str()).expect(rt, "memory");
+        add_word(rt, told, text);
+    }
+}
+
+// A text with a space before it.
+fn add_word(rt: &impl Abort, told: &mut String, word: &Text) {
+    told.push(' ').expect(rt, "memory");
+    told.push_str(word.as_str()).expect(rt, "memory");
+}
+
+// The readings of a book, each with a space before it.
+fn add_readings(rt: &impl Abort, told: &mut String, book: &Book) {
+    for row in book.rows().as_slice() {
+        add_word(rt, told, row.key().reading());
     }
 }
 
 // A row: its stamp, its words, its blocks, and what it hides.
-fn row_text(rt: &impl Abort, alloc: Global, row: Option<&Row>) -> String {
-    let Some(row) = row else {
-        return String::from_str(alloc, "none").expect(rt, "memory");
-    };
-    let mut told = format!(in alloc; "{}:", row.stamp()).expect(rt, "memory");
-    add_words(rt, &mut told, row.cands());
+fn add_row(rt: &impl Abort, told: &mut String, row: &Row) {
+    add_number(rt, told, "", row.stamp());
+    told.push(':').expect(rt, "memory");
+    add_words(rt, told, row.cands());
     told.push_str(" /").expect(rt, "memory");
-    add_blocks(rt, &mut told, row.blocks());
+    add_blocks(rt, told, row.blocks());
     told.push_str(" /").expect(rt, "memory");
-    add_texts(rt, &mut told, row.hides());
-    told
+    add_texts(rt, told, row.hides());
 }
 
 // The blocks of a row, each its okurigana and its words.
 fn add_blocks(rt: &impl Abort, told: &mut String, blocks: &Blocks) {
     for block in blocks.as_slice() {
-        told.push(' ').expect(rt, "memory");
-        told.push_str(block.okuri().text().as_str())
-            .expect(rt, "memory");
+        add_word(rt, told, block.okuri().text());
         add_texts(rt, told, block.words());
     }
-}
-
-// A text without the spaces around it.
-fn trim(rt: &impl Abort, alloc: Global, told: &str) -> String {
-    String::from_str(alloc, told.trim()).expect(rt, "memory")
 }
 
 // The block of an okurigana, of one word.
@@ -581,10 +497,11 @@ fn one_block(rt: &impl Abort, alloc: Global, line: &Line) -> Block {
 }
 
 // A row with a block alone.
-fn block_row(rt: &impl Abort, alloc: Global, key: RowKey, block: Block, stamp: u64) -> Row
-    requires { key.part ≡ Ari }
-{
+fn block_row(rt: &impl Abort, alloc: Global, line: &Line, stamp: u64) -> Row {
+    let key = key(rt, alloc, line.reading);
+    assert!(rt; key.part() == Part::Ari);
     let _reading = key.reading();
+    let block = one_block(rt, alloc, line);
     let _okuri = block.okuri();
     let mut blocks = Blocks::new(alloc);
     blocks.push(block).expect(rt, "memory");
@@ -592,27 +509,20 @@ fn block_row(rt: &impl Abort, alloc: Global, key: RowKey, block: Block, stamp: u
     Row::new(key, cands, blocks, hides, stamp)
 }
 
-// Puts a row into an index, where it fits the book of this count.
+// Puts a row into a book of an index, where it fits the book with this count.
 fn put_into(
     rt: &impl Abort,
     index: &mut Index,
     alloc: Global,
-    number: u16,
-    count: u64,
+    (number, count): (u16, u64),
     row: Row,
-) -> String {
-    if !fits_count(&row, count) || count < index.count(number) {
-        panic!(rt; "does not fit");
-    }
-    index
-        .put(
-            alloc,
-            number,
-            count,
-            KeptRow::new(alloc, row).expect(rt, "memory"),
-        )
-        .expect(rt, "memory");
-    done_text(rt, alloc)
+) {
+    assert!(rt;
+        fits_count(&row, count) && count >= index.count(number),
+        "does not fit"
+    );
+    let row = KeptRow::new(alloc, row).expect(rt, "memory");
+    index.put(alloc, number, count, row).expect(rt, "memory");
 }
 
 // Whether a row that hides no words may stand in a book of this count.

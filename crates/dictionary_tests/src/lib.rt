@@ -3,6 +3,9 @@
 //!
 //! They stand above those crates, so that none of these is proved once with its tests and once without. It has no
 //! public item.
+//!
+//! A value of several kinds, as a call, a reply or an option, is let go by `drop`: where it is let go at the end of a
+//! function, the proof goes through its kinds there.
 #![tactic(auto)]
 
 #[cfg(test)]

@@ -1,11 +1,11 @@
 ghost use Rattle.std.specs.Prelude.{◌≡◌};
 ghost use Rattle.std.specs.Option.{option_copied, IfSome};
 
-use crate::making::text;
+use crate::making::{self, key, text};
 use dict_format::print_line;
 use dict_rows::{learn_row, line_length, purge_row};
 use expectations::{same, same_at};
-use skk_calls::{Cand, Okuri, Part, Row, RowKey};
+use skk_calls::{Cand, Row, RowKey};
 use skk_text::{Copies, Text};
 use std::alloc::Global;
 use std::process::Abort;
@@ -13,7 +13,7 @@ use std::process::Abort;
 // A key; what is learnt, behind a `+`, with its note behind a `|` and its okurigana behind a `*`, and what is purged,
 // behind a `-`, with the stamps 1, 2 and so on; and behind the `=` the stamp and the line. In words `~` is CR and `^`
 // is LF.
-const CHANGES: &str = r#"
+static CHANGES: &str = r#"
 かんじ +漢字 = 1 かんじ /漢字/
 かんじ -漢字 -漢字 = 1 かんじ /(skk-ignore-dic-word "漢字")/
 かんじ -漢字 -幹事 -漢字 = 2 かんじ /(skk-ignore-dic-word "漢字" "幹事")/
@@ -38,18 +38,10 @@ const CHANGES: &str = r#"
 おおk +a/b*き +大*き = 2 おおk /大/(concat "a\057b")/[き/大/(concat "a\057b")/]/
 "#;
 
-// The text of a string of the tables, with the characters that stand for others there.
+// The text of a string of the table, with the characters that stand for others there.
 fn table_text(rt: &impl Abort, alloc: Global, content: &str) -> Text {
-    let mut text = Text::new(alloc);
-    for c in content.chars() {
-        text.push(match c {
-            '~' => '\r',
-            '^' => '\n',
-            _ => c,
-        })
-        .expect(rt, "memory");
-    }
-    text
+    let content = content.replace(alloc, "~", "\r").expect(rt, "memory");
+    Text::of(content.replace(alloc, "^", "\n").expect(rt, "memory"))
 }
 
 // The candidate of a word, which has its note behind a `|`.
@@ -57,35 +49,6 @@ fn cand(rt: &impl Abort, alloc: Global, entry: &str) -> Cand {
     let (word, note) = entry.split_once('|').unwrap_or((entry, ""));
     let word = table_text(rt, alloc, word);
     Cand::new(word, text(rt, alloc, note)).expect(rt, "a candidate")
-}
-
-// The key of a reading, which has okurigana where it ends in a letter.
-fn key(rt: &impl Abort, alloc: Global, reading: &str) -> RowKey {
-    let part = match reading.chars().last() {
-        Some('a'..='z') => Part::Ari,
-        _ => Part::Nasi,
-    };
-    RowKey::new(part, text(rt, alloc, reading)).expect(rt, "a key")
-}
-
-// The row after a candidate is learnt, with an okurigana that may be empty.
-fn learnt_row_with(
-    rt: &impl Abort,
-    alloc: Global,
-    row: Option<&Row>,
-    key: &RowKey,
-    okuri: &str,
-    cand: &Cand,
-    stamp: u64,
-) -> Row
-    requires { IfSome (option_copied row) (λ before. before.key ≡ key.now) }
-    ensures { result.key ≡ key.now }
-{
-    if okuri.is_empty() {
-        return learn_row(alloc, row, key, None, cand, stamp).expect(rt, "memory");
-    }
-    let okuri = Okuri::new(text(rt, alloc, okuri)).expect(rt, "an okurigana");
-    learn_row(alloc, row, key, Some(&okuri), cand, stamp).expect(rt, "memory")
 }
 
 // The row after a candidate is learnt, which may have its okurigana behind a `*`.
@@ -102,7 +65,10 @@ fn learnt_row(
 {
     let (entry, okuri) = entry.split_once('*').unwrap_or((entry, ""));
     let cand = cand(rt, alloc, entry);
-    learnt_row_with(rt, alloc, row, key, okuri, &cand, stamp)
+    let okuri = making::okuri(rt, alloc, okuri);
+    let learnt = learn_row(alloc, row, key, okuri.as_ref(), &cand, stamp).expect(rt, "memory");
+    drop(okuri);
+    learnt
 }
 
 // The row after a word is purged, or none where nothing changes.
@@ -166,19 +132,25 @@ fn row_of(rt: &impl Abort, alloc: Global, case: &str) -> Row {
 
 #[test]
 fn changes_make_rows(rt: HostRuntime) {
-    let alloc = rt.alloc();
     same(CHANGES.trim().lines().count(), 22).expect(&rt, "as wanted");
     for line in CHANGES.trim().lines() {
-        let (case, wanted) = line.split_once(" = ").expect(&rt, "no ` = `");
-        expect_row(&rt, alloc, &row_of(&rt, alloc, case), wanted);
+        expect_changes(&rt, rt.alloc(), line);
     }
 }
 
+fn expect_changes(rt: &impl Abort, alloc: Global, line: &str) {
+    let (case, wanted) = line.split_once(" = ").expect(rt, "no ` = `");
+    let row = row_of(rt, alloc, case);
+    expect_row(rt, alloc, &row, wanted);
+}
+
 // Tells the stamp and the line of a row's copy, and that the line has as many bytes as are told of the row.
-fn expect_row<R: Abort>(rt: &R, alloc: Global, row: &Row, wanted: &str) {
+fn expect_row(rt: &impl Abort, alloc: Global, row: &Row, wanted: &str) {
+    let (stamp, wanted) = wanted.split_once(' ').expect(rt, "no stamp");
     let copy = row.copy(alloc).expect(rt, "memory");
+    let stamp = stamp.parse().expect(rt, "a number");
+    same_at(copy.stamp(), stamp, wanted).expect(rt, "as wanted");
     let line = print_line(alloc, &copy).expect(rt, "memory");
-    let told = format!(in alloc; "{} {}", copy.stamp(), line.as_str()).expect(rt, "memory");
-    same(told.as_str(), wanted).expect(rt, "as wanted");
+    same(line.as_str(), wanted).expect(rt, "as wanted");
     same_at(line_length(row), line.byte_len() as u64, wanted).expect(rt, "as wanted");
 }

@@ -1,8 +1,11 @@
+use crate::making::text;
 use expectations::same;
 use skk_text::{
     Bytes, Copies, Key, KeyFault, Keys, Text, Texts, print_keys, read_keys, to_hiragana,
     to_katakana, to_wide,
 };
+use std::alloc::Global;
+use std::process::Abort;
 
 #[test]
 fn lists_keep_their_items_in_order(rt: HostRuntime) {
@@ -11,6 +14,10 @@ fn lists_keep_their_items_in_order(rt: HostRuntime) {
     keys.push(Key::Ret).expect(&rt, "memory");
     same(keys.len(), 2).expect(&rt, "as wanted");
     same(*keys.at(1), Key::Ret).expect(&rt, "as wanted");
+}
+
+#[test]
+fn lists_are_made_of_vectors(rt: HostRuntime) {
     same(Texts::of(Vec::new(rt.alloc())).len(), 0).expect(&rt, "as wanted");
     let bytes = Bytes::of(vec![in rt.alloc(); 1, 2].expect(&rt, "memory"));
     same(bytes.as_slice(), &[1, 2].as_slice()).expect(&rt, "as wanted");
@@ -24,37 +31,47 @@ fn texts_count_bytes_and_show_characters(rt: HostRuntime) {
     same(line.byte_len(), 11).expect(&rt, "as wanted");
     same(line.last(2), "a𠮷").expect(&rt, "as wanted");
     line.delete_last();
-    let mut lines = Texts::new(rt.alloc());
-    lines.push(line).expect(&rt, "memory");
-    let copies = lines.copy(rt.alloc()).expect(&rt, "memory");
-    for text in lines.into_vec() {
-        same(text.as_str(), "かなa").expect(&rt, "as wanted");
-    }
-    for copy in copies.into_vec() {
-        same(copy.into_string().as_str(), "かなa").expect(&rt, "as wanted");
+    expect_copies(&rt, rt.alloc(), line, "かなa")
+}
+
+// Tells the text that a line has in a list, and in a copy of that.
+fn expect_copies(rt: &impl Abort, alloc: Global, line: Text, wanted: &str) {
+    let mut lines = Texts::new(alloc);
+    lines.push(line).expect(rt, "memory");
+    let copies = lines.copy(alloc).expect(rt, "memory");
+    expect_each(rt, lines, wanted);
+    expect_each(rt, copies, wanted);
+}
+
+fn expect_each(rt: &impl Abort, texts: Texts, wanted: &str) {
+    for text in texts.into_vec() {
+        same(text.as_str(), wanted).expect(rt, "as wanted");
+        same(text.into_string().as_str(), wanted).expect(rt, "as wanted");
     }
 }
 
 #[test]
 fn kana_are_converted(rt: HostRuntime) {
-    let text = Text::of(String::from_str(rt.alloc(), "ゔかーア").expect(&rt, "memory"));
-    let katakana = to_katakana(rt.alloc(), &text).expect(&rt, "memory");
-    same(katakana.as_str(), "ヴカーア").expect(&rt, "as wanted");
-    let hiragana = to_hiragana(rt.alloc(), &katakana).expect(&rt, "memory");
-    same(hiragana.as_str(), "ゔかーあ").expect(&rt, "as wanted");
+    expect_kana(&rt, rt.alloc(), "ゔかーア", "ヴカーア", "ゔかーあ");
     same(to_wide(b'a'), 'ａ').expect(&rt, "as wanted");
 }
 
+// Tells what a text is in katakana, and what that is in hiragana.
+fn expect_kana(rt: &impl Abort, alloc: Global, kana: &str, katakana: &str, hiragana: &str) {
+    let made = to_katakana(alloc, &text(rt, alloc, kana)).expect(rt, "memory");
+    same(made.as_str(), katakana).expect(rt, "as wanted");
+    let back = to_hiragana(alloc, &made).expect(rt, "memory");
+    same(back.as_str(), hiragana).expect(rt, "as wanted");
+}
+
+static KEY_TEXT: &str = "a <ret><lt>>~<undo><tab><bs><cg><cj>";
+
 #[test]
 fn keys_are_printed_as_they_are_read(rt: HostRuntime) {
-    let text = "a <ret><lt>>~<undo><tab><bs><cg><cj>";
-    let keys = read_keys(rt.alloc(), text.as_bytes()).expect(&rt, "keys");
+    let keys = read_keys(rt.alloc(), KEY_TEXT.as_bytes()).expect(&rt, "keys");
     same(keys.len(), 11).expect(&rt, "as wanted");
-    same(
-        print_keys(rt.alloc(), &keys).expect(&rt, "memory").as_str(),
-        text,
-    )
-    .expect(&rt, "as wanted");
+    let printed = print_keys(rt.alloc(), &keys).expect(&rt, "memory");
+    same(printed.as_str(), KEY_TEXT).expect(&rt, "as wanted");
 }
 
 static FAULTS: &[(&[u8], KeyFault)] = &[

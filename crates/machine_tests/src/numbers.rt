@@ -52,6 +52,7 @@ fn numbers_of_a_reading_fill_a_word(rt: HostRuntime) {
     }
     let key = key_of(&rt, rt.alloc(), "かんじ");
     assert!(rt; key.is_none());
+    drop(key);
 }
 
 fn expect_filling<R: Abort>(rt: &R, alloc: Global, filling: &Filling) {

@@ -49,24 +49,15 @@ fn word_of(then: ReadingThen) -> &'static str {
 
 // A reading and what is done with it, as the cases have it.
 fn case_text(rt: &impl Abort, alloc: Global, reading: &Reading, done: ReadingDo) -> String {
-    let (star, kana) = match reading.begun_text() {
-        Some(kana) => ("*", kana.as_str()),
-        None => ("", ""),
+    let text = reading.text().as_str();
+    let pending = reading.pending().as_str();
+    let then = word_of(done.then);
+    let notice = done.notice;
+    let told = match reading.begun_text() {
+        Some(kana) => format!(in alloc; "{text}*{}:{pending}:{notice:?}:{then}", kana.as_str()),
+        None => format!(in alloc; "{text}:{pending}:{notice:?}:{then}"),
     };
-    let notice = name_of(rt, alloc, done.notice);
-    [
-        reading.text().as_str(),
-        star,
-        kana,
-        ":",
-        reading.pending().as_str(),
-        ":",
-        notice.as_str(),
-        ":",
-        word_of(done.then),
-    ]
-    .concat(alloc)
-    .expect(rt, "memory")
+    told.expect(rt, "memory")
 }
 
 // Presses keys, and gives what the last one gives.
@@ -177,7 +168,9 @@ fn okuri_of(rt: &impl Abort, alloc: Global, reading: &Reading) -> String {
         Some(okuri) => okuri.text().as_str(),
         None => "-",
     };
-    String::from_str(alloc, kana).expect(rt, "memory")
+    let kana = String::from_str(alloc, kana).expect(rt, "memory");
+    drop(okuri);
+    kana
 }
 
 // Tells the key and the okurigana that a reading is converted by behind these keys.
