@@ -2,7 +2,7 @@
 //! the second word says, and prints the end of the file.
 //!
 //! It stands on `skk_text`, `skk_disk` and `skk_journal`. Its disk has a second file beside the first one, with `.b`
-//! behind its name, which is never opened. It is no part of the input method, and promises nothing but to end.
+//! behind its name, which is never made. It is no part of the input method, and promises nothing but to end.
 #![tactic(auto)]
 
 use skk_disk::{Disk, FileDisk};

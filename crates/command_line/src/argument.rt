@@ -17,7 +17,7 @@ pub enum Argument {
     Rules,
     /// The learned file.
     Learned,
-    /// The most bytes of the learned file.
+    /// The most bytes of each file of the learned dictionary.
     Limit,
     /// The port that is served.
     Port,

@@ -17,7 +17,7 @@ use skk_text::Text;
 /// The port that is served where none is given.
 const PORT: u64 = 1178;
 
-/// The most bytes of a learned file where no number is given, which is the greatest limit.
+/// The most bytes of each file of the learned dictionary where no number is given, which is the greatest limit.
 pub const LIMIT: u64 = 268_435_456;
 
 /// How many connections are served where no number is given.
@@ -156,7 +156,7 @@ pub struct TypeOptions<'a> {
     pub rules: Option<Word<'a>>,
     /// The learned file; where there is none, what is learnt goes with the run.
     pub learned: Option<Word<'a>>,
-    /// The most bytes of the learned file, from 64 to 268,435,456; the latter where it is not given.
+    /// The most bytes of each file of the learned dictionary, from 64 to 268,435,456; the latter where it is not given.
     pub limit: Option<u64>,
     /// Whether each session has a thread of its own.
     pub threads: bool,
@@ -191,7 +191,7 @@ impl<'a> TypeOptions<'a> {
         if self.threads { Some(self) } else { None }
     }
 
-    /// The most bytes of the learned file.
+    /// The most bytes of each file of the learned dictionary.
     pub fn limit(&self) -> u64
         ensures { result ≡ limit_of self.now.limit }
     {
@@ -208,7 +208,7 @@ pub struct ServeOptions<'a> {
     pub dictionaries: ArrayVec<Word<'a>, DICTIONARIES>,
     /// The file of the rules; the standard table where there is none.
     pub rules: Option<Word<'a>>,
-    /// The most bytes of the learned file, from 64 to 268,435,456; the latter where it is not given.
+    /// The most bytes of each file of the learned dictionary, from 64 to 268,435,456; the latter where it is not given.
     pub limit: Option<u64>,
     /// The port, from 1 to 65,535.
     pub port: u64,
@@ -232,7 +232,7 @@ impl<'a> ServeOptions<'a> {
         })
     }
 
-    /// The most bytes of the learned file.
+    /// The most bytes of each file of the learned dictionary.
     pub fn limit(&self) -> u64
         ensures { result ≡ limit_of self.now.limit }
     {

@@ -35,12 +35,12 @@ AreRepliesOf files state history =
 -- so is each of a legal history
 pub legal_replies : (opening : Opening) (history : List Entry) → IsLegal opening history
     → AreRepliesOf opening.files opening.state history
-legal_replies opening history legal prefix entry rest e = by _ _ entry.answer (legal prefix entry rest e)
+legal_replies opening history legal prefix entry rest e = by _ entry.answer (legal prefix entry rest e)
   where
-    by : (state : State) (end : ℕ) (given : Answer) → IsLegalAnswer LacksRoom opening state end entry.call given
+    by : (state : State) (given : Answer) → IsLegalAnswer LacksRoom opening state entry.call given
         → IsReplyOf opening.files state entry.call given
-    by state end (Done reply) is = is
-    by state end (Refused refusal) is = tt
+    by state (Done reply) is = is
+    by state (Refused refusal) is = tt
 
 -- and each behind its first entry
 replies_rest : (files : List (List Row)) (state : State) (entry : Entry) (history : List Entry)

@@ -1,4 +1,4 @@
--- The state and the room after a legal history, by its changes.
+-- The state after a legal history, by its changes.
 use Rattle.std.proofs.Common.{◌≡◌, ℕ, ◌+◌, Bool, true, false, cond, List, [], ◌∷◌, refl, ◌∙◌, ap, map, arith}
 use Rattle.std.specs.List.{filter}
 use Rattle.skk_calls.specs.declared.answer.Answer.{Answer}
@@ -8,7 +8,7 @@ use Rattle.skk_calls.specs.declared.call.Call.TheVariants.{Lookup, Complete, Lea
 use Rattle.skk_calls.specs.declared.entry.Entry.{Entry}
 use Rattle.skk_calls.specs.Dictionary.{answer, is_change, moves, after}
 use Rattle.skk_calls.specs.Histories.{Opening, LacksRoom, IsLegalAnswer, IsLegal, tells_change, after_answer}
-use Rattle.skk_calls.specs.Histories.{after_entry, state_after, end_after, room, changes, after_calls, need, needs}
+use Rattle.skk_calls.specs.Histories.{after_entry, state_after, changes, after_calls}
 use Rattle.skk_calls.specs.Rows.{Row}
 use Rattle.skk_calls.specs.States.{State}
 use Rattle.dict_laws.proofs.TakenBack.{after_unmoved}
@@ -23,11 +23,11 @@ files_have_no_say files state (Purge book key word) = refl
 files_have_no_say files state (Unlearn learned) = refl
 
 -- a call with a legal answer makes another state exactly where the answer tells of a change
-state_as_told : (opening : Opening) (state : State) (end : ℕ) (call : Call) (told : Answer)
-    → IsLegalAnswer LacksRoom opening state end call told
+state_as_told : (opening : Opening) (state : State) (call : Call) (told : Answer)
+    → IsLegalAnswer LacksRoom opening state call told
     → after_answer state call told ≡ cond (tells_change told) (after state call) state
-state_as_told opening state end call (Refused refusal) legal = refl
-state_as_told opening state end call (Done reply) legal = by (is_change reply) refl
+state_as_told opening state call (Refused refusal) legal = refl
+state_as_told opening state call (Done reply) legal = by (is_change reply) refl
   where
     by : (b : Bool) → is_change reply ≡ b → after state call ≡ cond b (after state call) state
     by true e = refl
@@ -35,53 +35,22 @@ state_as_told opening state end call (Done reply) legal = by (is_change reply) r
         let unmoved : moves state call ≡ false = cc (files_have_no_say opening.files state call, ap is_change legal) in
         after_unmoved state call unmoved
 
--- an opening with another state and another end
-abbrev moved_on : Opening → State → ℕ → Opening
-moved_on opening state end = record opening { state = state; end = end }
+-- an opening with another state
+abbrev moved_on : Opening → State → Opening
+moved_on opening state = record opening { state = state }
 
 -- of a legal history what stands behind the first entry is legal from there on
 legal_rest : (opening : Opening) (entry : Entry) (history : List Entry) → IsLegal opening (entry ∷ history)
-    → IsLegal (moved_on opening (after_entry opening.state entry) (end_after opening.state opening.end entry)) history
+    → IsLegal (moved_on opening (after_entry opening.state entry)) history
 legal_rest opening entry history legal prefix next rest e = legal (entry ∷ prefix) next rest (ap (λ l. entry ∷ l) e)
 
--- a sum of three numbers
-three : (a b c : ℕ) → a + b + c ≡ a + (b + c)
-three a b c = omega arith
-
--- the state after a legal history is the one after its changes, and the room is the opened end and what they need
+-- the state after a legal history is the one after its changes
 pub by_changes : (opening : Opening) (history : List Entry) → IsLegal opening history
-    → (state_after opening.state history ≡ after_calls opening.state (changes history))
-    × (room opening.state opening.end history ≡ opening.end + needs opening.state (changes history))
-by_changes opening [] legal = (refl, omega arith)
+    → state_after opening.state history ≡ after_calls opening.state (changes history)
+by_changes opening [] legal = refl
 by_changes opening (entry ∷ history) legal =
-    by (tells_change entry.answer)
-    (state_as_told opening opening.state opening.end entry.call entry.answer (legal [] entry history refl))
-    (by_changes (moved_on opening (after_entry opening.state entry) (end_after opening.state opening.end entry)) history
-    (legal_rest opening entry history legal))
-  where
-    by : (b : Bool) → after_entry opening.state entry ≡ cond b (after opening.state entry.call) opening.state
-        → (state_after (after_entry opening.state entry) history
-        ≡ after_calls (after_entry opening.state entry) (changes history))
-        × (room (after_entry opening.state entry)
-        (cond b (opening.end + need opening.state entry.call) opening.end) history
-        ≡ cond b (opening.end + need opening.state entry.call) opening.end + needs (after_entry opening.state entry)
-        (changes history))
-        → (state_after (after_entry opening.state entry) history
-        ≡ after_calls opening.state
-        (map (λ (e : Entry). e.call) (cond b (entry ∷ filter (λ (e : Entry). tells_change e.answer) history)
-        (filter (λ (e : Entry). tells_change e.answer) history))))
-        × (room (after_entry opening.state entry)
-        (cond b (opening.end + need opening.state entry.call) opening.end) history
-        ≡ opening.end + needs opening.state
-        (map (λ (e : Entry). e.call) (cond b (entry ∷ filter (λ (e : Entry). tells_change e.answer) history)
-        (filter (λ (e : Entry). tells_change e.answer) history))))
-    by true same rest = (
-      rest.0 ∙ ap (λ (s : State). after_calls s (changes history)) same,
-      rest.1 ∙ ap (λ (s : State). opening.end + need opening.state entry.call + needs s (changes history)) same
-          ∙ three opening.end (need opening.state entry.call)
-          (needs (after opening.state entry.call) (changes history)),
-    )
-    by false same rest = (
-      rest.0 ∙ ap (λ (s : State). after_calls s (changes history)) same,
-      rest.1 ∙ ap (λ (s : State). opening.end + needs s (changes history)) same,
+    grind (
+      arith,
+      state_as_told opening opening.state entry.call entry.answer (legal [] entry history refl),
+      by_changes (moved_on opening (after_entry opening.state entry)) history (legal_rest opening entry history legal),
     )

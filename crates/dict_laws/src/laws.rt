@@ -10,7 +10,7 @@ ghost use Rattle.skk_calls.specs.Completions.{completions, completion_limit, goe
 ghost use Rattle.skk_calls.specs.Dictionary.{answer, after, is_call, is_fit, is_okuri_or_none, is_row_or_none};
 ghost use Rattle.skk_calls.specs.Dictionary.{is_stamped, speaks_of};
 ghost use Rattle.skk_calls.specs.Found.{found, merged, ordered};
-ghost use Rattle.skk_calls.specs.Histories.{Opening, IsLegal, room, state_after, changes, after_calls, needs};
+ghost use Rattle.skk_calls.specs.Histories.{Opening, IsLegal, state_after, changes, after_calls};
 ghost use Rattle.skk_calls.specs.Learning.{learnt, purged, purge_changes};
 ghost use Rattle.skk_calls.specs.Orders.{text_less};
 ghost use Rattle.skk_calls.specs.Rows.{RowKey, Cand, Row, Learned, has_text, texts_differ, words_of, is_row_key};
@@ -132,13 +132,10 @@ pub fn prefixes_of_legal_histories_are_legal()
         → IsLegal opening prefix }
 {}
 
-/// The changes of a legal history make its state, and the end of the learned file is the opened one and what each of
-/// them needs, at its own state.
-pub fn changes_make_state_and_room()
-    ensures state { (opening : Opening) (history : List Entry) → IsLegal opening history →
+/// The changes of a legal history make its state.
+pub fn changes_make_states()
+    ensures { (opening : Opening) (history : List Entry) → IsLegal opening history →
         state_after opening.state history ≡ after_calls opening.state (changes history) }
-    ensures room { (opening : Opening) (history : List Entry) → IsLegal opening history →
-        room opening.state opening.end history ≡ opening.end + needs opening.state (changes history) }
 {}
 
 /// Answers that are counted one by one come to the tally of their history.

@@ -113,6 +113,7 @@ number_short width bytes short = grind (arith, nat_tests)
 
 -- Widths
 
+-- numbers of two bytes are told by them
 pub told_16 : AreTold w16
 unfolding number_bytes number_of
 told_16 = record {
@@ -124,6 +125,7 @@ told_16 = record {
   written = λ bytes long small. le_bytes_2 bytes _ long (small_at bytes small) refl;
 }
 
+-- numbers of four bytes are told by them
 pub told_32 : AreTold w32
 unfolding number_bytes number_of
 told_32 = record {
@@ -135,6 +137,7 @@ told_32 = record {
   written = λ bytes long small. le_bytes_4 bytes _ long (small_at bytes small) refl;
 }
 
+-- numbers of eight bytes are told by them
 pub told_64 : AreTold w64
 unfolding number_bytes number_of
 told_64 = record {

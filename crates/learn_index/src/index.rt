@@ -9,7 +9,7 @@ ghost use Rattle.skk_calls.specs.States.{is_valid, fits_count};
 ghost use Rattle.skk_calls.specs.Tallies.{count_rows};
 ghost use Rattle.learn_index.specs.FileRows.{AreFileRows};
 ghost use Rattle.learn_index.specs.Index.{spare_of};
-ghost use Rattle.learn_index.specs.Kept.{keeps_book};
+ghost use Rattle.learn_index.specs.Kept.{changed, keeps_book, kept};
 ghost use Rattle.learn_index.specs.Plans.{is_question, IsPlanned, IsMade, HasRoom};
 ghost use Rattle.learn_index.specs.Records.{state_counted, state_without};
 
@@ -247,6 +247,15 @@ impl Index {
         ensures { IfOk result (λ book. book ≡ rows_of self.now.state number) }
     {
         Ok(Book::new(copied_rows(alloc, self.rows_of(number))?))
+    }
+
+    /// The books in memory, in order by their numbers: those that have changed are the state, and the others have no
+    /// rows. Takes constant time and no memory.
+    pub fn books(&self) -> &[LearnedBook]
+        ensures state { changed (kept result.now) ≡ self.now.state }
+        ensures valid { is_valid self.now.state ≡ true }
+    {
+        &self.books
     }
 
     // The rows of a book, ascending by their keys. Takes a logarithm in the number of books, and no memory.

@@ -19,6 +19,7 @@ mod planning;
 mod rows_of_files;
 mod serving;
 
+pub use book::LearnedBook;
 pub use index::Index;
 pub use kept_row::KeptRow;
 pub use plan::Plan;

@@ -6,11 +6,11 @@ use Rattle.skk_calls.specs.declared.answer.Answer.TheVariants.{Done, Refused}
 use Rattle.skk_calls.specs.declared.answer.Refusal.TheVariants.{Memory, Disk, JournalFull}
 use Rattle.skk_calls.specs.declared.call.Call.{Call}
 use Rattle.skk_calls.specs.declared.entry.Entry.{Entry}
-use Rattle.skk_calls.specs.Histories.{Opening, need, room, state_after, tells_change, in_doubt, in_doubt_after}
+use Rattle.skk_calls.specs.Histories.{Opening, need, tight, state_after, tells_change, in_doubt, in_doubt_after}
 use Rattle.skk_calls.specs.HistoryLaws.{split-last}
 use Rattle.skk_calls.specs.States.{State}
 use Rattle.skk_disk.specs.Image.{Image}
-use Rattle.skk_journal.specs.Journal.{OpenJournal}
+use Rattle.skk_journal.specs.Journal.{OpenJournal, is_in_doubt}
 use Rattle.learned_store.specs.Limits.{HasRoomFor, HadRoom, AllHadRoom}
 use Rattle.learned_store.specs.Stores.{OpenStore, Keeps, DoubtAfter}
 
@@ -32,24 +32,24 @@ had-more opening history entry had last prefix one rest e =
 
 module _ {D : Type 0} (opening : Opening) (history : List Entry) (store : OpenStore D) (call : Call)
     (limit : store.limit ≡ opening.limit) (state : store.state ≡ state_after opening.state history)
-    (end : store.journal.end ≡ room opening.state opening.end history)
-    (calm : in_doubt [] history ≡ [] → store.journal.in_doubt ≡ false) where
-  has-room : store.journal.end + need store.state call ≤ store.limit → HasRoomFor opening history call
+    (calm : in_doubt [] history ≡ [] → is_in_doubt store.journal.doubt ≡ false) where
+  has-room : tight store.state + need store.state call ≤ store.limit → HasRoomFor opening history call
   has-room fits =
-      let same : need store.state call ≡ need (state_after opening.state history) call =
-      ap (λ (s : State). need s call) state in
-      omega (arith, fits, same, end, limit)
+      let same : tight store.state + need store.state call
+      ≡ tight (state_after opening.state history) + need (state_after opening.state history) call =
+      ap (λ (s : State). tight s + need s call) state in
+      omega (arith, fits, same, limit)
 
   -- what the answer of a store behind a history tells of the room
   pub had-room : (given : Answer)
-      → (tells_change given ≡ true → store.journal.end + need store.state call ≤ store.limit)
+      → (tells_change given ≡ true → tight store.state + need store.state call ≤ store.limit)
       → (given ≡ Refused Disk
-      → (store.journal.in_doubt ≡ true) ⊎ (store.journal.end + need store.state call ≤ store.limit))
+      → (is_in_doubt store.journal.doubt ≡ true) ⊎ (tight store.state + need store.state call ≤ store.limit))
       → HadRoom opening history call given
   had-room (Done reply) fits failed = λ changed. has-room (fits changed)
   had-room (Refused Memory) fits failed = tt
   had-room (Refused Disk) fits failed = elim (failed refl) [
-    | inl doubts ↦ inl (λ none. differ store.journal.in_doubt doubts (calm none))
+    | inl doubts ↦ inl (λ none. differ (is_in_doubt store.journal.doubt) doubts (calm none))
     | inr fitted ↦ inr (has-room fitted)
   ]
   had-room (Refused (JournalFull told needs most)) fits failed = tt
@@ -61,21 +61,21 @@ not-empty (first ∷ calls) call e = cc
 module _ {D : Type 0} (time : D → ℕ) (left_since : D → ℕ → Image → Type 0) where
   -- a journal that keeps a state is in doubt exactly where another state is
   calm-kept : (journal : OpenJournal D) (state : State) (doubt : Option State)
-      → Keeps time left_since journal state doubt → doubt ≡ None → journal.in_doubt ≡ false
+      → Keeps time left_since journal state doubt → doubt ≡ None → is_in_doubt journal.doubt ≡ false
   calm-kept journal state None keeps none = keeps.2.calm
   calm-kept journal state (Some other) keeps none = absurd (cc)
 
   none-kept : (journal : OpenJournal D) (state : State) (doubt : Option State)
-      → Keeps time left_since journal state doubt → journal.in_doubt ≡ false → doubt ≡ None
+      → Keeps time left_since journal state doubt → is_in_doubt journal.doubt ≡ false → doubt ≡ None
   none-kept journal state None keeps calm = refl
-  none-kept journal state (Some other) keeps calm = absurd (differ journal.in_doubt keeps.4.doubt calm)
+  none-kept journal state (Some other) keeps calm = absurd (differ (is_in_doubt journal.doubt) keeps.4.doubt calm)
 
   module _ (old new : OpenJournal D) (state now : State) (calls : List Call) (call : Call) (doubt later : Option State)
       (kept : Keeps time left_since old state doubt) (keeps : Keeps time left_since new now later)
-      (calm : calls ≡ [] → old.in_doubt ≡ false) where
+      (calm : calls ≡ [] → is_in_doubt old.doubt ≡ false) where
     -- where no call is in doubt after an answer, the journal is in no doubt then
     pub calm-more : (given : Answer) → DoubtAfter state doubt call given later
-        → in_doubt_after calls call given ≡ [] → new.in_doubt ≡ false
+        → in_doubt_after calls call given ≡ [] → is_in_doubt new.doubt ≡ false
     calm-more (Done reply) after none =
         grind (arith, calm-kept new now later keeps, none-kept old state doubt kept, calm)
     calm-more (Refused Memory) after none =

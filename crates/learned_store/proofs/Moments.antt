@@ -8,8 +8,6 @@ use Rattle.skk_calls.specs.declared.chronicle.Noted.{Noted}
 use Rattle.skk_calls.specs.States.{State}
 use Rattle.skk_disk.specs.Image.{Image}
 use Rattle.skk_disk.specs.Moments.{Passes, Earlier}
-use Rattle.skk_disk.specs.Steps.{ComeFrom}
-use Rattle.skk_journal.specs.Images.{SameOther}
 use Rattle.learned_store.specs.Stores.{RecoversOneOf}
 use Rattle.learned_store.specs.Stands.{time_of, faults_of, left_behind, RecoversBy, StandsOver, HasCause, GoOn}
 
@@ -38,19 +36,6 @@ goes_on-start time faults [] last_time last_faults on = omega (arith, on.0)
 goes_on-start time faults (first ∷ notes) last_time last_faults on =
     let rest = goes_on-start (time_of first) (faults_of first) notes last_time last_faults on.3 in
     omega (arith, on.0, rest)
-
--- the second file stays as it was, over one call more
-pub other-more : (start old new : ℕ) (past mid since : ℕ → Image → Type 0) → start ≤ old → Earlier mid
-    → Passes old new mid since → ComeFrom SameOther (past start) (mid start)
-    → ComeFrom SameOther (mid old) (since old) → ComeFrom SameOther (past start) (since start)
-other-more start old new past mid since begun earlier passes before now image left =
-    elim (passes.goes_on start image begun left) [
-      | inl there ↦ before image there
-      | inr here ↦
-          let one = now image here in
-          let first = before one.0 (earlier start old one.0 begun one.1) in
-          (first.0, first.1, one.2 ∙ first.2)
-    ]
 
 module _ (opened : State) (old new : ℕ) (past since : ℕ → Image → Type 0) (notes : List Noted) (note : Noted)
     (earlier : Earlier since) (passes : Passes old new past since) (made : time_of note ≡ new)

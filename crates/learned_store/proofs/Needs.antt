@@ -1,6 +1,6 @@
 -- What a call needs in the learned file is what the record of its change needs there.
 use Rattle.std.proofs.Common.{◌≡◌, ℕ, ◌+◌, Option, None, Some, ◌∷◌, ◌++◌, length, encode_utf8_all}
-use Rattle.std.proofs.Common.{refl, arith, length-append}
+use Rattle.std.proofs.Common.{arith, length-append}
 use Rattle.exact_readers.specs.NumberLaws.{told_16, told_64}
 use Rattle.skk_calls.specs.declared.call.Call.{Call}
 use Rattle.skk_calls.specs.declared.call.Call.TheVariants.{Lookup, Complete, Learn, Purge, Unlearn}

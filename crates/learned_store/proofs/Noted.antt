@@ -1,6 +1,6 @@
 -- The notes of a store stand over its disk from the first one on, and with each call more.
 use Rattle.std.proofs.Common.{◌≡◌, inl, refl, sym, ◌∙◌, ap, subst, arith}
-use Rattle.std.proofs.Common.{ℕ, ◌+◌, ◌<◌, ◌≤◌, if◌then◌else◌, None, List, [], ◌∷◌, ◌++◌}
+use Rattle.std.proofs.Common.{ℕ, ◌+◌, ◌<◌, ◌≤◌, None, List, [], ◌∷◌, ◌++◌}
 use Rattle.std.proofs.Common.{map, Contains}
 use Rattle.std.proofs.lemmas.List.Elements.{All-nil}
 use Rattle.skk_outside.specs.Faults.{Rose}
@@ -13,9 +13,8 @@ use Rattle.skk_calls.specs.declared.chronicle.Noted.TheVariants.{Entered}
 use Rattle.skk_calls.specs.declared.entry.Entry.{Entry}
 use Rattle.skk_calls.specs.Chronicles.{history_of}
 use Rattle.skk_calls.specs.Dictionary.{answer, after}
-use Rattle.skk_calls.specs.Histories.{Opening, LacksRoom, IsLegal, IsLegalAnswer, after_answer, tells_change}
-use Rattle.skk_calls.specs.Histories.{need}
-use Rattle.skk_calls.specs.Histories.{in_doubt, room, state_after}
+use Rattle.skk_calls.specs.Histories.{Opening, LacksRoom, IsLegal, IsLegalAnswer, after_answer, need, tight}
+use Rattle.skk_calls.specs.Histories.{in_doubt, state_after}
 use Rattle.skk_calls.specs.Rows.{Row}
 use Rattle.skk_calls.specs.States.{State}
 use Rattle.skk_calls.specs.Tallies.{Tally, tally_of, tally_with}
@@ -28,11 +27,11 @@ use Rattle.learned_store.specs.Stores.{OpenStore, opening_now, Keeps, RecoversOn
 use Rattle.learned_store.specs.Stores.{DoubtAfter}
 use Rattle.learned_store.specs.Stands.{time_of, left_behind, RecoversBy, HasCause, IsOneOf, Stands, Counts}
 use Rattle.learned_store.specs.Stands.{opening_note}
-use Rattle.skk_calls.specs.HistoryLaws.{state-more, room-more, doubt-more, legal-more, history-more}
+use Rattle.skk_calls.specs.HistoryLaws.{state-more, doubt-more, legal-more, history-more}
 use Rattle.learned_store.proofs.Chronicles.{begun-more, opened-more}
 use Rattle.learned_store.proofs.Kept.{opened_now}
 use Rattle.learned_store.proofs.Limits.{had-none, had-more, had-room, calm-more}
-use Rattle.learned_store.proofs.Moments.{goes_on-more, goes_on-start, other-more, stands_over-more}
+use Rattle.learned_store.proofs.Moments.{goes_on-more, goes_on-start, stands_over-more}
 use Rattle.learned_store.proofs.Standing.{recovers-more, doubt-among, within-left, doubt-left}
 
 legal-none : (opening : Opening) → IsLegal opening []
@@ -68,7 +67,6 @@ module _ {D : Type 0} (time faults : D → ℕ) (left_since : D → ℕ → Imag
         files = refl;
         limit = refl;
         state = refl;
-        end = refl;
         calm = λ none. keeps.2.calm;
         keeps = (None, tt, keeps);
         moments = now store keeps;
@@ -78,19 +76,18 @@ module _ {D : Type 0} (time faults : D → ℕ) (left_since : D → ℕ → Imag
           goes_on = λ t image le left. inl (same.no_more t image left);
           keeps = λ t image le left. same.no_fewer t image left;
         };
-        other = λ image left. (image, same.no_more (time store.journal.disk) image left, refl);
       })
 
 -- a legal answer over one opening is legal over another one with the same files and the same limit
-legal-over : (one other : Opening) (state : State) (end : ℕ) (call : Call) (given : Answer)
-    → one.files ≡ other.files → one.limit ≡ other.limit → IsLegalAnswer LacksRoom one state end call given
-    → IsLegalAnswer LacksRoom other state end call given
-legal-over one other state end call (Done reply) files limit is =
+legal-over : (one other : Opening) (state : State) (call : Call) (given : Answer)
+    → one.files ≡ other.files → one.limit ≡ other.limit → IsLegalAnswer LacksRoom one state call given
+    → IsLegalAnswer LacksRoom other state call given
+legal-over one other state call (Done reply) files limit is =
     subst (λ (f : List (List Row)). reply ≡ answer f state call) files is
-legal-over one other state end call (Refused Memory) files limit is = tt
-legal-over one other state end call (Refused Disk) files limit is = is
-legal-over one other state end call (Refused (JournalFull told needs most)) files limit is =
-    (is.0, (is.1.0, is.1.1, is.1.2 ∙ limit, subst (λ (n : ℕ). n < end + need state call) limit is.1.3))
+legal-over one other state call (Refused Memory) files limit is = tt
+legal-over one other state call (Refused Disk) files limit is = is
+legal-over one other state call (Refused (JournalFull told needs most)) files limit is =
+    (is.0, (is.1.0, is.1.1, is.1.2 ∙ limit, subst (λ (n : ℕ). n < tight state + need state call) limit is.1.3))
 
 -- a refusal for the disk has its cause
 cause : (before number time faults : ℕ) (call : Call) (given : Answer) → (given ≡ Refused Disk → Rose before faults)
@@ -103,25 +100,23 @@ cause before number time faults call (Refused (JournalFull told needs most)) ros
 module _ {D : Type 0} (time faults : D → ℕ) (left_since : D → ℕ → Image → Type 0) (opening : Opening)
     (past : ℕ → Image → Type 0) (notes : List Noted) (old new : OpenStore D) (number : ℕ) (call : Call) (given : Answer)
     (stands : Stands time faults left_since opening past notes old) where
-  pub stands_more : Earlier (left_since old.journal.disk) → Earlier (left_since new.journal.disk)
+  pub stands_more : Earlier (left_since new.journal.disk)
       → Serves time faults left_since old new call given
       → Stands time faults left_since opening past
       (notes ++ Entered number call given (time new.journal.disk) (faults new.journal.disk) ∷ []) new
-  stands_more before_now earlier serves =
+  stands_more earlier serves =
       let note : Noted = Entered number call given (time new.journal.disk) (faults new.journal.disk) in
       let entry : Entry = record { number = number; call = call; answer = given } in
       let history = history_of notes in
       let before : State = state_after opening.state history in
-      let ended : ℕ = room opening.state opening.end history in
       let more = history-more notes note in
       let doubt = stands.keeps.0 in
       let kept = stands.keeps.2 in
       let later = serves.after doubt kept in
-      let legal_here : IsLegalAnswer LacksRoom opening before ended call given =
-      subst (λ (e : ℕ). IsLegalAnswer LacksRoom opening before e call given) stands.end
-      (subst (λ (s : State). IsLegalAnswer LacksRoom opening s old.journal.end call given) stands.state
-      (legal-over (opening_now time faults old) opening old.state old.journal.end call given
-      stands.files stands.limit serves.legal)) in
+      let legal_here : IsLegalAnswer LacksRoom opening before call given =
+      subst (λ (s : State). IsLegalAnswer LacksRoom opening s call given) stands.state
+      (legal-over (opening_now time faults old) opening old.state call given stands.files stands.limit
+      serves.legal) in
       let state_here : new.state ≡ state_after opening.state (history_of (notes ++ note ∷ [])) =
       serves.state ∙ ap (λ (s : State). after_answer s call given) stands.state
       ∙ sym (ap (state_after opening.state) more ∙ state-more opening.state history entry) in
@@ -136,14 +131,11 @@ module _ {D : Type 0} (time faults : D → ℕ) (left_since : D → ℕ → Imag
         );
         fits = subst (AllHadRoom opening) (sym more)
             (had-more opening history entry stands.fits
-            (had-room opening history old call stands.limit stands.state stands.end stands.calm given serves.fits
+            (had-room opening history old call stands.limit stands.state stands.calm given serves.fits
             serves.room));
         files = serves.files ∙ stands.files;
         limit = serves.limit ∙ stands.limit;
         state = state_here;
-        end = serves.end
-            ∙ (λ i. if tells_change given then stands.end i + need (stands.state i) call else stands.end i)
-            ∙ sym (ap (room opening.state opening.end) more ∙ room-more opening.state opening.end history entry);
         calm = λ none.
             calm-more time left_since old.journal new.journal old.state new.state (in_doubt [] history) call doubt
             later.0 kept later.2 stands.calm given later.1
@@ -169,9 +161,6 @@ module _ {D : Type 0} (time faults : D → ℕ) (left_since : D → ℕ → Imag
             serves.failed);
         passes = passes_on opening.time (time old.journal.disk) (time new.journal.disk) past
             (left_since old.journal.disk) (left_since new.journal.disk) stands.passes serves.past earlier;
-        other = other-more opening.time (time old.journal.disk) (time new.journal.disk) past
-            (left_since old.journal.disk) (left_since new.journal.disk) stands.passes.later before_now serves.past
-            stands.other serves.other;
       }
 
 -- a tally counts one answer more

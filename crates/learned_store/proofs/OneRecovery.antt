@@ -1,6 +1,11 @@
--- Records leave one state at most, and a file is opened in one way at most.
+-- Records leave one state at most, and an image is opened in one way at most.
 use Rattle.std.proofs.Common.{◌≡◌, ℕ, List, [], ◌∷◌, ◌++◌, inl, inr, refl, sym, ◌∙◌, ap, subst}
+use Rattle.skk_disk.specs.declared.which.Which.{Which}
+use Rattle.skk_disk.specs.Image.{Image}
 use Rattle.skk_calls.specs.States.{State, empty_state}
+use Rattle.skk_journal.specs.declared.choice.Choice.TheVariants.{LiveIn}
+use Rattle.skk_journal.specs.declared.live.Live.{Live}
+use Rattle.skk_journal.specs.Choice.{choice}
 use Rattle.skk_journal.specs.Opening.{with_records, not_journal, bad_record, IsOpened}
 use Rattle.skk_journal.specs.OpeningLaws.{one_opening}
 use Rattle.skk_journal.specs.Records.{place_behind}
@@ -79,86 +84,115 @@ module _ (read : LinesAreRead) where
   whole_or_break records at state whole one =
       no_break empty_state records one.before one.payload one.behind one.state state one.is whole one.left one.none
 
--- what the frames of a file come to
-module _ (file : List ℕ) where
-  one_list : (one two : List (List ℕ)) → IsOpened file (with_records one) → IsOpened file (with_records two)
+-- what both files of an image come to
+module _ (image : Image) where
+  one_list : (one two : List (List ℕ)) → IsOpened image (with_records one) → IsOpened image (with_records two)
       → one ≡ two
   one_list one two is also =
       let same : with_records one ≡ with_records two =
-      one_opening file (with_records one) (with_records two) is also in cc
+      one_opening image (with_records one) (with_records two) is also in cc
 
-  one_bad : (at other : ℕ) (one two : List (List ℕ)) → IsOpened file (bad_record at one)
-      → IsOpened file (bad_record other two) → (at ≡ other) × (one ≡ two)
-  one_bad at other one two is also =
-      let same : bad_record at one ≡ bad_record other two =
-      one_opening file (bad_record at one) (bad_record other two) is also in (cc, cc)
+  one_bad : (file other : Which) (at place : ℕ) (one two : List (List ℕ)) → IsOpened image (bad_record file at one)
+      → IsOpened image (bad_record other place two) → (file ≡ other) × (at ≡ place) × (one ≡ two)
+  one_bad file other at place one two is also =
+      let same : bad_record file at one ≡ bad_record other place two =
+      one_opening image (bad_record file at one) (bad_record other place two) is also in (cc, cc, cc)
 
-  one_first : (one two : ℕ) → IsOpened file (not_journal one) → IsOpened file (not_journal two) → one ≡ two
-  one_first one two is also =
-      let same : not_journal one ≡ not_journal two =
-      one_opening file (not_journal one) (not_journal two) is also in cc
+  one_first : (file other : Which) (one two : ℕ) → IsOpened image (not_journal file one)
+      → IsOpened image (not_journal other two) → foreign file one ≡ foreign other two
+  one_first file other one two is also =
+      let same : not_journal file one ≡ not_journal other two =
+      one_opening image (not_journal file one) (not_journal other two) is also in cc
 
-  whole_or_bad : (records others : List (List ℕ)) (at : ℕ) → IsOpened file (with_records records)
-      → IsOpened file (bad_record at others) → ⊥
-  whole_or_bad records others at is also =
-      let same : with_records records ≡ bad_record at others =
-      one_opening file (with_records records) (bad_record at others) is also in absurd (cc)
+  whole_or_bad : (records others : List (List ℕ)) (file : Which) (at : ℕ) → IsOpened image (with_records records)
+      → IsOpened image (bad_record file at others) → ⊥
+  whole_or_bad records others file at is also =
+      let same : with_records records ≡ bad_record file at others =
+      one_opening image (with_records records) (bad_record file at others) is also in absurd (cc)
 
-  whole_or_foreign : (records : List (List ℕ)) (first : ℕ) → IsOpened file (with_records records)
-      → IsOpened file (not_journal first) → ⊥
-  whole_or_foreign records first is also =
-      let same : with_records records ≡ not_journal first =
-      one_opening file (with_records records) (not_journal first) is also in absurd (cc)
+  whole_or_foreign : (records : List (List ℕ)) (file : Which) (first : ℕ) → IsOpened image (with_records records)
+      → IsOpened image (not_journal file first) → ⊥
+  whole_or_foreign records file first is also =
+      let same : with_records records ≡ not_journal file first =
+      one_opening image (with_records records) (not_journal file first) is also in absurd (cc)
 
-  foreign_or_bad : (first at : ℕ) (others : List (List ℕ)) → IsOpened file (not_journal first)
-      → IsOpened file (bad_record at others) → ⊥
-  foreign_or_bad first at others is also =
-      let same : not_journal first ≡ bad_record at others =
-      one_opening file (not_journal first) (bad_record at others) is also in absurd (cc)
+  foreign_or_bad : (file other : Which) (first at : ℕ) (others : List (List ℕ))
+      → IsOpened image (not_journal file first) → IsOpened image (bad_record other at others) → ⊥
+  foreign_or_bad file other first at others is also =
+      let same : not_journal file first ≡ bad_record other at others =
+      one_opening image (not_journal file first) (bad_record other at others) is also in absurd (cc)
 
-module _ (read : LinesAreRead) (file : List ℕ) where
-  refused_once : (at other : ℕ) → IsRecovered file (refused at) → IsRecovered file (refused other) → at ≡ other
-  refused_once at other (inl one) (inl two) =
-      let same = one_list file one.0 two.0 one.1 two.1 in
-      break_once read two.0 at other (subst (λ (l : List (List ℕ)). BreakAt l at) same one.2) two.2
-  refused_once at other (inl one) (inr (inl two)) = absurd (whole_or_bad file one.0 two.0 two.1 one.1 two.2)
-  refused_once at other (inl one) (inr (inr two)) = absurd (whole_or_bad file one.0 two.0 other one.1 two.2)
-  refused_once at other (inr (inl one)) (inl two) = absurd (whole_or_bad file two.0 one.0 one.1 two.1 one.2)
-  refused_once at other (inr (inl one)) (inr (inl two)) =
-      let same = one_bad file one.1 two.1 one.0 two.0 one.2 two.2 in
-      break_once read two.0 at other (subst (λ (l : List (List ℕ)). BreakAt l at) same.1 one.3) two.3
-  refused_once at other (inr (inl one)) (inr (inr two)) =
-      let same = one_bad file one.1 other one.0 two.0 one.2 two.2 in
-      absurd (whole_or_break read two.0 at two.1 two.3 (subst (λ (l : List (List ℕ)). BreakAt l at) same.1 one.3))
-  refused_once at other (inr (inr one)) (inl two) = absurd (whole_or_bad file two.0 one.0 at two.1 one.2)
-  refused_once at other (inr (inr one)) (inr (inl two)) =
-      let same = one_bad file at two.1 one.0 two.0 one.2 two.2 in
-      absurd (whole_or_break read two.0 other one.1 (subst (λ (l : List (List ℕ)). Leave l one.1) same.1 one.3) two.3)
-  refused_once at other (inr (inr one)) (inr (inr two)) = (one_bad file at other one.0 two.0 one.2 two.2).0
+  one_live : (one two : Live) → choice image ≡ LiveIn one → choice image ≡ LiveIn two → one ≡ two
+  one_live one two is also =
+      let same : LiveIn one ≡ LiveIn two = sym is ∙ also in cc
 
-  whole_or_refused : (state : State) (at : ℕ) → IsRecovered file (with_state state) → IsRecovered file (refused at) → ⊥
-  whole_or_refused state at whole (inl one) =
-      let same = one_list file one.0 whole.0 one.1 whole.1 in
-      whole_or_break read whole.0 at state whole.2 (subst (λ (l : List (List ℕ)). BreakAt l at) same one.2)
-  whole_or_refused state at whole (inr (inl one)) = whole_or_bad file whole.0 one.0 one.1 whole.1 one.2
-  whole_or_refused state at whole (inr (inr one)) = whole_or_bad file whole.0 one.0 at whole.1 one.2
+module _ (read : LinesAreRead) (image : Image) where
+  one_refusal : (file other : Which) (at place : ℕ) → file ≡ other → at ≡ place
+      → refused file at ≡ refused other place
+  one_refusal file other at place same also = cc
 
-  foreign_or_refused : (first at : ℕ) → IsRecovered file (foreign first) → IsRecovered file (refused at) → ⊥
-  foreign_or_refused first at is (inl one) = whole_or_foreign file one.0 first one.1 is
-  foreign_or_refused first at is (inr (inl one)) = foreign_or_bad file first one.1 one.0 is one.2
-  foreign_or_refused first at is (inr (inr one)) = foreign_or_bad file first at one.0 is one.2
+  refused_once : (file other : Which) (at place : ℕ) → IsRecovered image (refused file at)
+      → IsRecovered image (refused other place) → refused file at ≡ refused other place
+  refused_once file other at place (inl one) (inl two) =
+      let same = one_list image one.records two.records one.opened two.opened in
+      one_refusal file other at place
+      (one.of_live ∙ ap (λ (l : Live). l.file) (one_live image one.live two.live one.chosen two.chosen)
+      ∙ sym two.of_live)
+      (break_once read two.records at place (subst (λ (l : List (List ℕ)). BreakAt l at) same one.breaks) two.breaks)
+  refused_once file other at place (inl one) (inr (inl two)) =
+      absurd (whole_or_bad image one.records two.0 other two.1 one.opened two.2)
+  refused_once file other at place (inl one) (inr (inr two)) =
+      absurd (whole_or_bad image one.records two.0 other place one.opened two.2)
+  refused_once file other at place (inr (inl one)) (inl two) =
+      absurd (whole_or_bad image two.records one.0 file one.1 two.opened one.2)
+  refused_once file other at place (inr (inl one)) (inr (inl two)) =
+      let same = one_bad image file other one.1 two.1 one.0 two.0 one.2 two.2 in
+      one_refusal file other at place same.0
+      (break_once read two.0 at place (subst (λ (l : List (List ℕ)). BreakAt l at) same.2 one.3) two.3)
+  refused_once file other at place (inr (inl one)) (inr (inr two)) =
+      let same = one_bad image file other one.1 place one.0 two.0 one.2 two.2 in
+      absurd (whole_or_break read two.0 at two.1 two.3 (subst (λ (l : List (List ℕ)). BreakAt l at) same.2 one.3))
+  refused_once file other at place (inr (inr one)) (inl two) =
+      absurd (whole_or_bad image two.records one.0 file at two.opened one.2)
+  refused_once file other at place (inr (inr one)) (inr (inl two)) =
+      let same = one_bad image file other at two.1 one.0 two.0 one.2 two.2 in
+      absurd (whole_or_break read two.0 place one.1 (subst (λ (l : List (List ℕ)). Leave l one.1) same.2 one.3) two.3)
+  refused_once file other at place (inr (inr one)) (inr (inr two)) =
+      let same = one_bad image file other at place one.0 two.0 one.2 two.2 in
+      one_refusal file other at place same.0 same.1
 
-  -- a file is opened in one way at most
-  pub recovered_once : (one two : Recovery) → IsRecovered file one → IsRecovered file two → one ≡ two
+  whole_or_refused : (state : State) (file : Which) (at : ℕ) → IsRecovered image (with_state state)
+      → IsRecovered image (refused file at) → ⊥
+  whole_or_refused state file at whole (inl one) =
+      let same = one_list image one.records whole.0 one.opened whole.1 in
+      whole_or_break read whole.0 at state whole.2 (subst (λ (l : List (List ℕ)). BreakAt l at) same one.breaks)
+  whole_or_refused state file at whole (inr (inl one)) = whole_or_bad image whole.0 one.0 file one.1 whole.1 one.2
+  whole_or_refused state file at whole (inr (inr one)) = whole_or_bad image whole.0 one.0 file at whole.1 one.2
+
+  foreign_or_refused : (file other : Which) (first at : ℕ) → IsRecovered image (foreign file first)
+      → IsRecovered image (refused other at) → ⊥
+  foreign_or_refused file other first at is (inl one) =
+      whole_or_foreign image one.records file first one.opened is
+  foreign_or_refused file other first at is (inr (inl one)) =
+      foreign_or_bad image file other first one.1 one.0 is one.2
+  foreign_or_refused file other first at is (inr (inr one)) =
+      foreign_or_bad image file other first at one.0 is one.2
+
+  -- an image is opened in one way at most
+  pub recovered_once : (one two : Recovery) → IsRecovered image one → IsRecovered image two → one ≡ two
   recovered_once (with_state one) (with_state two) is also =
-      let same = one_list file is.0 also.0 is.1 also.1 in
+      let same = one_list image is.0 also.0 is.1 also.1 in
       ap with_state (leads_once read empty_state also.0 one two
       (subst (λ (l : List (List ℕ)). Leave l one) same is.2) also.2)
-  recovered_once (with_state one) (foreign two) is also = absurd (whole_or_foreign file is.0 two is.1 also)
-  recovered_once (with_state one) (refused two) is also = absurd (whole_or_refused one two is also)
-  recovered_once (foreign one) (with_state two) is also = absurd (whole_or_foreign file also.0 one also.1 is)
-  recovered_once (foreign one) (foreign two) is also = ap foreign (one_first file one two is also)
-  recovered_once (foreign one) (refused two) is also = absurd (foreign_or_refused one two is also)
-  recovered_once (refused one) (with_state two) is also = absurd (whole_or_refused two one also is)
-  recovered_once (refused one) (foreign two) is also = absurd (foreign_or_refused two one also is)
-  recovered_once (refused one) (refused two) is also = ap refused (refused_once one two is also)
+  recovered_once (with_state one) (foreign file two) is also =
+      absurd (whole_or_foreign image is.0 file two is.1 also)
+  recovered_once (with_state one) (refused file two) is also = absurd (whole_or_refused one file two is also)
+  recovered_once (foreign file one) (with_state two) is also =
+      absurd (whole_or_foreign image also.0 file one also.1 is)
+  recovered_once (foreign file one) (foreign other two) is also = one_first image file other one two is also
+  recovered_once (foreign file one) (refused other two) is also =
+      absurd (foreign_or_refused file other one two is also)
+  recovered_once (refused file one) (with_state two) is also = absurd (whole_or_refused two file one also is)
+  recovered_once (refused file one) (foreign other two) is also =
+      absurd (foreign_or_refused other file two one also is)
+  recovered_once (refused file one) (refused other two) is also = refused_once file other one two is also

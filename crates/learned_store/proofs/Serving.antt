@@ -1,12 +1,12 @@
 -- What each way of answering a call does to a store.
-use Rattle.std.proofs.Common.{◌≡◌, ℕ, ◌+◌, ◌<◌, ◌≤◌, Bool, true, false, cond, Option, None, Some, List, [], ◌∷◌, ◌++◌}
-use Rattle.std.proofs.Common.{◌⊎◌, inl, inr, refl, sym, ◌∙◌, ap, subst, arith}
+use Rattle.std.proofs.Common.{◌≡◌, ℕ, ◌+◌, ◌<◌, ◌≤◌, nat_le, Bool, true, false, cond, Option, None, Some, List, [], ◌∷◌}
+use Rattle.std.proofs.Common.{◌++◌, ◌⊎◌, refl, sym, ◌∙◌, ap, subst, arith}
 use Rattle.std.specs.Prelude.{⊤}
+use Rattle.std.proofs.lemmas.Bool.Decides.{nat_tests}
 use Rattle.skk_outside.specs.Faults.{Rose}
 use Rattle.skk_disk.specs.Image.{Image}
 use Rattle.skk_disk.specs.MomentLaws.{passes_nothing}
 use Rattle.skk_disk.specs.Moments.{Passes}
-use Rattle.skk_disk.specs.Steps.{ComeFrom}
 use Rattle.skk_calls.specs.declared.answer.Answer.{Answer}
 use Rattle.skk_calls.specs.declared.answer.Answer.TheVariants.{Done, Refused}
 use Rattle.skk_calls.specs.declared.answer.Refusal.{Refusal}
@@ -14,25 +14,21 @@ use Rattle.skk_calls.specs.declared.answer.Refusal.TheVariants.{Memory, Disk, Jo
 use Rattle.skk_calls.specs.declared.answer.Reply.{Reply}
 use Rattle.skk_calls.specs.declared.call.Call.{Call}
 use Rattle.skk_calls.specs.Dictionary.{answer, after, is_change, may_answer, may_reply, moves, state_moved}
-use Rattle.skk_calls.specs.Histories.{need, IsLegalAnswer, LacksRoom}
+use Rattle.skk_calls.specs.Histories.{tight, IsLegalAnswer, LacksRoom}
 use Rattle.skk_calls.specs.Rows.{Row}
 use Rattle.skk_calls.specs.States.{State}
-use Rattle.skk_journal.specs.declared.fault.AppendFault.{AppendFault}
-use Rattle.skk_journal.specs.declared.fault.AppendFault.TheVariants as append
-use Rattle.skk_journal.specs.Images.{Each, SameOther}
-use Rattle.skk_journal.specs.Journal.{OpenJournal, Rests}
+use Rattle.skk_journal.specs.Images.{Each}
+use Rattle.skk_journal.specs.Journal.{OpenJournal, is_in_doubt}
 use Rattle.skk_journal.specs.Records.{need as record_need}
 use Rattle.learn_index.specs.declared.plan.Plan.{Plan}
 use Rattle.learn_index.specs.declared.plan.Plan.TheVariants.{Still, Move}
 use Rattle.learn_index.specs.Plans.{is_question, IsPlanned}
 use Rattle.learn_index.specs.ReplyLaws.{may-change}
-use Rattle.learned_store.specs.Committed.{RestsOrDoubts, HoldsOneOf, IsTold, RestsOrDoubtsAfter, HoldNoMore}
 use Rattle.learned_store.specs.Recovered.{Leave}
-use Rattle.learned_store.specs.Served.{Serves}
-use Rattle.learned_store.specs.Stores.{OpenStore, opening_now, RecoversOneOf, with_doubt}
-use Rattle.learned_store.specs.Written.{IsRecordOf}
-use Rattle.learned_store.proofs.Kept.{kept, keeps_again, leave_on, opened_now, doubted_opened, one_of_opened}
-use Rattle.learned_store.proofs.Told.{Told}
+use Rattle.learned_store.specs.Served.{Serves, end_added}
+use Rattle.learned_store.specs.Stores.{OpenStore, opening_now, Adds, Keeps, KeepsOneOf, RecoversOneOf, with_doubt}
+use Rattle.learned_store.specs.Written.{IsRecordOf, Told}
+use Rattle.learned_store.proofs.Kept.{leave_on, opened_now}
 
 -- no system file has a say in whether a reply tells of a change
 change_is_told : (files : List (List Row)) (state : State) (call : Call)
@@ -66,7 +62,7 @@ unrecorded state call (Move book count key row reply) planned none = absurd none
 module _ {D : Type 0} (time faults : D → ℕ) (left_since : D → ℕ → Image → Type 0) where
   -- where nothing is done to a store
   pub quiet : (store : OpenStore D) (call : Call) (given : Answer)
-      → IsLegalAnswer LacksRoom (opening_now time faults store) store.state store.journal.end call given
+      → IsLegalAnswer LacksRoom (opening_now time faults store) store.state call given
       → may_answer call given ≡ true → IsQuiet store.state call given
       → Serves time faults left_since store store call given
   quiet store call (Done reply) legal may still =
@@ -78,8 +74,7 @@ module _ {D : Type 0} (time faults : D → ℕ) (left_since : D → ℕ → Imag
         room = λ same. absurd (cc);
         failed = λ same. absurd (cc);
         state = sym (ap (λ (b : Bool). cond b (state_moved store.state call) store.state) still);
-        end = sym
-            (ap (λ (b : Bool). cond b (store.journal.end + need store.state call) store.journal.end) none);
+        end = λ told. absurd (differ (is_change reply) told none);
         files = refl;
         limit = refl;
         still = λ e. refl;
@@ -89,7 +84,6 @@ module _ {D : Type 0} (time faults : D → ℕ) (left_since : D → ℕ → Imag
             (with_doubt store.state doubt)) image)
             (sym none) (opened_now time left_since store.journal store.state doubt keeps image left);
         after = λ doubt keeps. (doubt, sym (ap (λ (b : Bool). cond b None doubt) none), keeps);
-        other = λ image left. (image, left, refl);
         past = passes_nothing (time store.journal.disk) (left_since store.journal.disk);
         counted = omega arith;
       }
@@ -100,14 +94,13 @@ module _ {D : Type 0} (time faults : D → ℕ) (left_since : D → ℕ → Imag
     room = λ same. absurd (cc);
     failed = λ same. absurd (cc);
     state = refl;
-    end = refl;
+    end = λ told. absurd (cc);
     files = refl;
     limit = refl;
     still = λ e. refl;
     memory = λ e. refl;
     images = λ doubt keeps. opened_now time left_since store.journal store.state doubt keeps;
     after = λ doubt keeps. (doubt, refl, keeps);
-    other = λ image left. (image, left, refl);
     past = passes_nothing (time store.journal.disk) (left_since store.journal.disk);
     counted = omega arith;
   }
@@ -130,11 +123,7 @@ module _ {D : Type 0} (time faults : D → ℕ) (left_since : D → ℕ → Imag
       (quiet store call (Done reply) is (ap (may_reply call) is ∙ may-change files state call changes) still)
 
   module _ (old new : OpenJournal D) (state : State) (files : List (List Row)) (limit : ℕ) (call : Call)
-      (payload : List ℕ) (told : Told state call payload)
-      (images : (records : List (List ℕ)) (doubted : Option (List ℕ))
-      → RestsOrDoubts time left_since old records doubted
-      → Each (left_since new.disk (time old.disk)) (HoldsOneOf records doubted payload))
-      (other : ComeFrom SameOther (left_since old.disk (time old.disk)) (left_since new.disk (time old.disk)))
+      (payload : List ℕ) (changes : is_question call ≡ false) (told : Told state call payload)
       (past : Passes (time old.disk) (time new.disk) (left_since old.disk) (left_since new.disk))
       (counted : faults old.disk ≤ faults new.disk) where
     abbrev before : OpenStore D
@@ -143,140 +132,113 @@ module _ {D : Type 0} (time faults : D → ℕ) (left_since : D → ℕ → Imag
     abbrev behind : State → OpenStore D
     behind now = record { journal = new; state = now; files = files; limit = limit }
 
-    -- the records with the new one leave the state after the call
-    leaves_after : (records : List (List ℕ)) → Leave records state → Leave (records ++ payload ∷ []) (after state call)
-    leaves_after records left =
+    -- the record adds the change to its state
+    adds : Adds payload state (after state call)
+    adds records left =
         subst (λ (s : State). Leave (records ++ payload ∷ []) s) told.leaves
         (leave_on records state payload told.form left told.says)
 
-    -- where the record was added, and the plan was applied
-    pub changed : (reply : Reply) → reply ≡ answer files state call → may_reply call reply ≡ true
-        → old.end + record_need payload ≤ limit → new.end ≡ old.end + record_need payload
-        → ((records : List (List ℕ)) (doubted : Option (List ℕ)) → RestsOrDoubts time left_since old records doubted
-        → Rests time left_since new (records ++ payload ∷ []))
-        → Serves time faults left_since before (behind (after state call)) call (Done reply)
-    changed reply is may fits end added =
-        let yes : is_change reply ≡ true = ap is_change is ∙ change_is_told files state call ∙ told.moved in
-        record {
-          legal = is;
-          may = may;
-          fits = λ tells. omega (arith, fits, told.needs);
-          room = λ same. absurd (cc);
-          failed = λ same. absurd (cc);
-          state = refl;
-          end = end ∙ ap (λ (n : ℕ). old.end + n) (sym told.needs)
-              ∙ sym (ap (λ (b : Bool). cond b (old.end + need state call) old.end) yes);
-          files = refl;
-          limit = refl;
-          still = λ still. absurd (differ (moves state call) told.moved still);
-          memory = λ same. absurd (cc);
-          images = λ doubt keeps image left.
-              let k = kept time left_since old state doubt keeps in
-              subst (λ (b : Bool). RecoversOneOf (cond b (with_doubt state doubt ++ after state call ∷ [])
-              (with_doubt state doubt)) image)
-              (sym yes) (one_of_opened k.records k.doubted state doubt payload (after state call) image k.left
-              k.doubt_left (leaves_after k.records k.left) (images k.records k.doubted k.stands image left));
-          after = λ doubt keeps.
-              let k = kept time left_since old state doubt keeps in (
-                None,
-                sym (ap (λ (b : Bool). cond b None doubt) yes),
-                (k.records ++ payload ∷ [], leaves_after k.records k.left, added k.records k.doubted k.stands),
-              );
-          other = other;
-          past = past;
-          counted = counted;
-        }
+    -- where the live file ends behind a record that had room there, and behind one that a compaction made room for
+    pub end_behind : old.end + record_need payload ≤ limit → new.end ≡ old.end + record_need payload
+        → new.end ≡ end_added limit state old.end call
+    end_behind fits is =
+        subst (λ (n : ℕ). new.end ≡ cond (nat_le (old.end + n) limit) old.end (tight state) + n) (sym told.needs)
+        (grind (arith, nat_tests, fits, is))
 
-    -- what is said where the record was not added, for this reason
-    module _ (fault : AppendFault) (tells : IsTold old.end (record_need payload) limit fault)
-        (same_end : new.end ≡ old.end)
-        (stands : (records : List (List ℕ)) (doubted : Option (List ℕ))
-        → RestsOrDoubts time left_since old records doubted
-        → RestsOrDoubtsAfter time left_since new records doubted payload fault) where
-      -- since it would end behind the limit
-      pub full : (end told_need told_limit : ℕ) → fault ≡ append.Full end told_need told_limit
-          → may_answer call (Refused (JournalFull end told_need told_limit)) ≡ true
-          → ((records : List (List ℕ)) (doubted : Option (List ℕ)) → RestsOrDoubts time left_since old records doubted
-          → HoldNoMore (left_since new.disk (time old.disk)) records doubted fault)
-          → Serves time faults left_since before (behind state) call (Refused (JournalFull end told_need told_limit))
-      full end told_need told_limit is may no_more =
-          let numbers = subst (IsTold old.end (record_need payload) limit) is tells in
+    pub end_compacted : limit < old.end + record_need payload → new.end ≡ tight state + record_need payload
+        → new.end ≡ end_added limit state old.end call
+    end_compacted lacks is =
+        subst (λ (n : ℕ). new.end ≡ cond (nat_le (old.end + n) limit) old.end (tight state) + n) (sym told.needs)
+        (grind (arith, nat_tests, lacks, is))
+
+    module _ (images : (doubt : Option State) → Adds payload state (after state call)
+        → Keeps time left_since old state doubt
+        → Each (left_since new.disk (time old.disk))
+        (RecoversOneOf (with_doubt state doubt ++ after state call ∷ []))) where
+      -- where the record was added, and the plan was applied
+      pub changed : tight state + record_need payload ≤ limit → new.end ≡ end_added limit state old.end call
+          → ((doubt : Option State) → Adds payload state (after state call) → Keeps time left_since old state doubt
+          → Keeps time left_since new (after state call) None)
+          → Serves time faults left_since before (behind (after state call)) call (Done (answer files state call))
+      changed fits end keeps_on =
+          let reply = answer files state call in
+          let yes : is_change reply ≡ true = change_is_told files state call ∙ told.moved in
           record {
-            legal = (
-              told.moved,
-              (
-                numbers.0,
-                numbers.1 ∙ sym told.needs,
-                numbers.2,
-                subst (λ (n : ℕ). limit < old.end + n) (sym told.needs) numbers.3,
-              ),
-            );
-            may = may;
-            fits = λ change. absurd (cc);
+            legal = refl;
+            may = may-change files state call changes;
+            fits = λ tells. omega (arith, fits, told.needs);
             room = λ same. absurd (cc);
             failed = λ same. absurd (cc);
             state = refl;
-            end = same_end;
+            end = λ tells. end;
             files = refl;
             limit = refl;
             still = λ still. absurd (differ (moves state call) told.moved still);
             memory = λ same. absurd (cc);
             images = λ doubt keeps image left.
-                let k = kept time left_since old state doubt keeps in
-                doubted_opened k.records k.doubted state doubt image k.left k.doubt_left
-                (subst (HoldNoMore (left_since new.disk (time old.disk)) k.records k.doubted) is
-                (no_more k.records k.doubted k.stands) image left);
+                subst (λ (b : Bool). RecoversOneOf (cond b (with_doubt state doubt ++ after state call ∷ [])
+                (with_doubt state doubt)) image) (sym yes) (images doubt adds keeps image left);
             after = λ doubt keeps.
-                let k = kept time left_since old state doubt keeps in
-                let rests = subst (RestsOrDoubtsAfter time left_since new k.records k.doubted payload) is
-                (stands k.records k.doubted k.stands) in
-                (None, refl, (k.records, k.left, rests));
-            other = other;
+                (None, sym (ap (λ (b : Bool). cond b None doubt) yes), keeps_on doubt adds keeps);
             past = past;
             counted = counted;
           }
 
-      -- since the disk failed
-      pub failed : fault ≡ append.Disk → may_answer call (Refused Disk) ≡ true
-          → (old.in_doubt ≡ true) ⊎ (old.end + record_need payload ≤ limit)
+      -- where the disk failed
+      pub failed : (is_in_doubt old.doubt ≡ true) ⊎ (tight state + record_need payload ≤ limit)
           → Rose (faults old.disk) (faults new.disk)
+          → ((doubt : Option State) → Adds payload state (after state call) → Keeps time left_since old state doubt
+          → KeepsOneOf time left_since new state (doubt ∷ None ∷ Some state ∷ Some (after state call) ∷ []))
           → Serves time faults left_since before (behind state) call (Refused Disk)
-      failed is may had rose = record {
+      failed had rose stands = record {
         legal = told.moved;
-        may = may;
+        may = may_be_refused call Disk changes;
         fits = λ change. absurd (cc);
         room = λ same.
-            subst (λ (n : ℕ). (old.in_doubt ≡ true) ⊎ (old.end + n ≤ limit)) (sym told.needs) had;
+            subst (λ (n : ℕ). (is_in_doubt old.doubt ≡ true) ⊎ (tight state + n ≤ limit)) (sym told.needs) had;
         failed = λ same. rose;
         state = refl;
-        end = same_end;
+        end = λ change. absurd (cc);
         files = refl;
         limit = refl;
         still = λ still. absurd (differ (moves state call) told.moved still);
         memory = λ same. absurd (cc);
-        images = λ doubt keeps image left.
-            let k = kept time left_since old state doubt keeps in
-            one_of_opened k.records k.doubted state doubt payload (after state call) image k.left
-            k.doubt_left (leaves_after k.records k.left) (images k.records k.doubted k.stands image left);
-        after = λ doubt keeps.
-            let k = kept time left_since old state doubt keeps in
-            elim (subst (RestsOrDoubtsAfter time left_since new k.records k.doubted payload) is
-            (stands k.records k.doubted k.stands)) [
-              | inl as_before ↦ (
-                doubt,
-                inl refl,
-                keeps_again time left_since new k.records k.doubted state doubt k.left k.doubt_left as_before,
-              )
-              | inr other_way ↦ elim other_way [
-                | inl nothing ↦ (None, inr (inl refl), (k.records, k.left, nothing))
-                | inr doubts ↦ (
-                  Some (after state call),
-                  inr (inr refl),
-                  (k.records, payload, k.left, leaves_after k.records k.left, doubts),
-                )
-              ]
-            ];
-        other = other;
+        images = λ doubt keeps. images doubt adds keeps;
+        after = λ doubt keeps. stands doubt adds keeps;
         past = past;
         counted = counted;
       }
+
+    -- where no file had room for the record
+    pub full : (told_end told_need : ℕ) → told_end ≡ tight state → told_need ≡ record_need payload
+        → limit < tight state + record_need payload
+        → ((doubt : Option State) → Keeps time left_since old state doubt
+        → Each (left_since new.disk (time old.disk)) (RecoversOneOf (with_doubt state doubt)))
+        → ((doubt : Option State) → Keeps time left_since old state doubt → Keeps time left_since new state None)
+        → Serves time faults left_since before (behind state) call
+        (Refused (JournalFull told_end told_need limit))
+    full told_end told_need end_is need_is lacks images settled = record {
+      legal = (
+        told.moved,
+        (
+          end_is,
+          need_is ∙ sym told.needs,
+          refl,
+          subst (λ (n : ℕ). limit < tight state + n) (sym told.needs) lacks,
+        ),
+      );
+      may = may_be_refused call (JournalFull told_end told_need limit) changes;
+      fits = λ change. absurd (cc);
+      room = λ same. absurd (cc);
+      failed = λ same. absurd (cc);
+      state = refl;
+      end = λ change. absurd (cc);
+      files = refl;
+      limit = refl;
+      still = λ still. absurd (differ (moves state call) told.moved still);
+      memory = λ same. absurd (cc);
+      images = images;
+      after = λ doubt keeps. (None, refl, settled doubt keeps);
+      past = past;
+      counted = counted;
+    }

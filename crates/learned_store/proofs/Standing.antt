@@ -17,7 +17,7 @@ use Rattle.skk_calls.specs.declared.answer.Reply.{Reply}
 use Rattle.skk_calls.specs.declared.entry.Entry.{Entry}
 use Rattle.skk_calls.specs.Dictionary.{answer, after, moves, is_change}
 use Rattle.skk_calls.specs.Histories.{Opening, LacksRoom, IsLegalAnswer, after_answer, in_doubt, in_doubt_after}
-use Rattle.skk_calls.specs.Histories.{room, state_after, states_left}
+use Rattle.skk_calls.specs.Histories.{state_after, states_left}
 use Rattle.skk_calls.specs.Rows.{Row}
 use Rattle.skk_calls.specs.States.{State}
 use Rattle.skk_disk.specs.Image.{Image}
@@ -34,10 +34,18 @@ head : (state : State) (states : List State) → Contains (state ∷ states) sta
 head state states = (0, omega arith, refl)
 
 -- what a list of one has
-only : (state one : State) → Contains (state ∷ []) one → state ≡ one
-only state one here = elim (Contains-push_cases [] state one here) [
+only : {X : Type 0} (x one : X) → Contains (x ∷ []) one → x ≡ one
+only x one here = elim (Contains-push_cases [] x one here) [
   | inl none ↦ absurd (omega (arith, none.1))
   | inr same ↦ same
+]
+
+-- what holds of the first one and of each behind it holds of each
+either : {X : Type 0} (P : X → Type 0) (x : X) (rest : List X) → P x → ((one : X) → Contains rest one → P one)
+    → (one : X) → Contains (x ∷ rest) one → P one
+either P x rest first behind one here = elim (Contains-append_cases (x ∷ []) rest one here) [
+  | inl is ↦ subst P (only x one is) first
+  | inr is ↦ behind one is
 ]
 
 -- a state in doubt is one of more
@@ -138,7 +146,7 @@ module _ (opening : Opening) (notes : List Noted) (number time faults : ℕ) (ca
 
   -- what is in doubt after the call is what a stop may leave with the entry
   pub doubt-left : (given : Answer) (doubt later : Option State)
-      → IsLegalAnswer LacksRoom opening now (room opening.state opening.end (history_of notes)) call given
+      → IsLegalAnswer LacksRoom opening now call given
       → IsOneOf doubt (left_behind opening.state notes) → DoubtAfter now doubt call given later
       → IsOneOf later (more given)
   doubt-left (Done reply) doubt later legal among is =
@@ -155,16 +163,16 @@ module _ (opening : Opening) (notes : List Noted) (number time faults : ℕ) (ca
       subst (λ d. IsOneOf d (more (Refused Memory))) (sym is)
       (subst (IsOneOf doubt) (sym (same-left (Refused Memory) refl refl)) among)
   doubt-left (Refused Disk) doubt later legal among is =
-      elim is [
-        | inl same ↦ subst (λ d. IsOneOf d (more (Refused Disk))) (sym same)
-            (subst (IsOneOf doubt) (sym disk-left)
-            (wider doubt (left_behind opening.state notes) (after now call ∷ []) among))
-        | inr other ↦ elim other [
-          | inl none ↦ subst (λ d. IsOneOf d (more (Refused Disk))) (sym none) tt
-          | inr some ↦ subst (λ d. IsOneOf d (more (Refused Disk))) (sym some)
-              (subst (λ states. Contains states (after now call)) (sym disk-left)
-              (Contains-push (left_behind opening.state notes) (after now call)))
-        ]
-      ]
+      let is_left : Option State → Type 0 = λ (d : Option State). IsOneOf d (more (Refused Disk)) in
+      either is_left doubt (None ∷ Some now ∷ Some (after now call) ∷ [])
+      (subst (IsOneOf doubt) (sym disk-left)
+      (wider doubt (left_behind opening.state notes) (after now call ∷ []) among))
+      (either is_left None (Some now ∷ Some (after now call) ∷ []) tt
+      (either is_left (Some now) (Some (after now call) ∷ [])
+      (subst (λ states. Contains states now) (sym (left-more (Refused Disk))) (head _ _))
+      (λ one here. subst is_left (only (Some (after now call)) one here)
+      (subst (λ states. Contains states (after now call)) (sym disk-left)
+      (Contains-push (left_behind opening.state notes) (after now call))))))
+      later is
   doubt-left (Refused (JournalFull told need limit)) doubt later legal among is =
       subst (λ d. IsOneOf d (more (Refused (JournalFull told need limit)))) (sym is) tt

@@ -2,30 +2,19 @@
 use Rattle.std.proofs.Common.{◌≡◌, ℕ, true, Option, None, Some, List, sym, ◌∙◌, ap, subst}
 use Rattle.skk_calls.specs.declared.call.Call.{Call}
 use Rattle.skk_calls.specs.Dictionary.{after, is_call, moves}
-use Rattle.skk_calls.specs.Histories.{need}
 use Rattle.skk_calls.specs.Rows.{RowKey, Row}
 use Rattle.skk_calls.specs.States.{State, is_valid}
 use Rattle.skk_journal.specs.Records.{IsSized, need as record_need}
 use Rattle.learn_index.specs.declared.plan.Plan.{Plan}
 use Rattle.learn_index.specs.declared.plan.Plan.TheVariants.{Still, Move}
 use Rattle.learn_index.specs.Plans.{IsPlanned}
-use Rattle.learned_store.specs.declared.form.Form.{Form}
-use Rattle.learned_store.specs.Payloads.{Says, row_told, state_told, change_told}
-use Rattle.learned_store.specs.Written.{may_stand, TellsOf}
+use Rattle.learned_store.specs.Payloads.{row_told, change_told}
+use Rattle.learned_store.specs.Written.{Told, may_stand, TellsOf}
 use Rattle.learned_store.proofs.Changes.{change_leaves}
 use Rattle.learned_store.proofs.Needs.{needs_record}
 use Rattle.learned_store.proofs.PlansTold.{plan_told}
 use Rattle.learned_store.proofs.Sized.{sound_sized}
 use Rattle.learned_store.proofs.SoundChanges.{put_sound, drop_sound, change_later}
-
--- a payload tells of a call that changes a state what the call makes of it
-pub record Told (state : State) (call : Call) (payload : List ℕ) : Type 0 where
-  pub form : Form
-  pub moved : moves state call ≡ true
-  pub sized : IsSized payload
-  pub says : Says state payload form
-  pub leaves : state_told state form ≡ after state call
-  pub needs : need state call ≡ record_need payload
 
 module _ (state : State) (call : Call) (valid : is_valid state ≡ true) (typed : is_call call ≡ true)
     (later : is_valid (after state call) ≡ true) where

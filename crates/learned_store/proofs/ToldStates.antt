@@ -94,7 +94,7 @@ module _ (state : State) (book : NumberedBook) where
       )
 
 -- a row that may stand in a book may stand in it later
-fits_later : (count later : ℕ) → count ≤ later → (row : Row) → fits_count count row ≡ true
+pub fits_later : (count later : ℕ) → count ≤ later → (row : Row) → fits_count count row ≡ true
     → fits_count later row ≡ true
 fits_later count later most row fits = grind (arith, stamped row.stamp)
   where

@@ -1,10 +1,12 @@
-pub mod Committed
+pub mod Compacted
+pub mod Compacting
 pub mod Gathering
 pub mod Limits
 pub mod Payloads
 pub mod Reading
 pub mod Recovered
 pub mod Recovering
+pub mod Rooms
 pub mod RowPlaces
 pub mod Served
 pub mod Stands

@@ -6,12 +6,12 @@ use Rattle.skk_calls.specs.declared.answer.Refusal.TheVariants.{Disk}
 use Rattle.skk_calls.specs.declared.call.Call.{Call}
 use Rattle.skk_calls.specs.declared.entry.Entry.{Entry}
 use Rattle.skk_calls.specs.Dictionary.{is_change}
-use Rattle.skk_calls.specs.Histories.{Opening, need, room, state_after, in_doubt}
+use Rattle.skk_calls.specs.Histories.{Opening, need, state_after, in_doubt, tight}
 
--- behind a history the learned file has room for what a call needs
+-- behind a history the learned file has room for what a call needs, once it holds nothing but its state
 abbrev pub HasRoomFor : Opening → List Entry → Call → Type 0
 HasRoomFor opening history call =
-    room opening.state opening.end history + need (state_after opening.state history) call ≤ opening.limit
+    let state = state_after opening.state history in tight state + need state call ≤ opening.limit
 
 -- what an answer behind a history tells of that room: a change that is done had it; one that a disk failed had it too,
 -- or came behind a change in doubt

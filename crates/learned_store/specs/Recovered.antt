@@ -3,7 +3,13 @@ use Rattle.std.specs.Prelude.{◌≡◌, ◌⊎◌, ⊤, ℕ, List, [], ◌∷�
 use Rattle.skk_calls.specs.States.{State, empty_state}
 use Rattle.skk_journal.specs.declared.fault.OpenFault.{OpenFault}
 use Rattle.skk_journal.specs.declared.fault.OpenFault.TheVariants.{NotJournal, BadRecord}
-use Rattle.skk_journal.specs.Opening.{with_records, not_journal, bad_record, IsOpened, OpensAtOnce}
+use Rattle.skk_disk.specs.Image.{Image}
+use Rattle.skk_disk.specs.declared.which.Which.{Which}
+use Rattle.skk_journal.specs.declared.choice.Choice.TheVariants.{LiveIn}
+use Rattle.skk_journal.specs.declared.live.Live.{Live}
+use Rattle.skk_journal.specs.Causes.{file_number}
+use Rattle.skk_journal.specs.Choice.{choice}
+use Rattle.skk_journal.specs.Opening.{with_records, not_journal, bad_record, IsOpened}
 use Rattle.skk_journal.specs.Records.{place_behind, end_of}
 use Rattle.learned_store.specs.declared.form.Form.{Form}
 use Rattle.learned_store.specs.Payloads.{Says, SaysNothing, state_told}
@@ -29,37 +35,46 @@ pub record BreakAt (records : List (List ℕ)) (at : ℕ) : Type 0 where
   pub none : SaysNothing state payload
   pub place : at ≡ place_behind before
 
--- what a file is opened as: a state; no learned file, by its first byte; or the least place that is refused
+-- what both files of a disk are opened as: a state; no learned file, by the first byte of one of them; or the least
+-- place in one of them that is refused
 pub data Recovery : Type 0 where
   with_state : State → Recovery
-  foreign : ℕ → Recovery
-  refused : ℕ → Recovery
+  foreign : Which → ℕ → Recovery
+  refused : Which → ℕ → Recovery
 
--- a file is opened so: its records leave the state; it is no learned file; or the least place is that of a record whose
--- payload is none of the forms, be there a bad frame behind it or none, or that of a bad frame behind records that are
--- all of the forms
-abbrev pub IsRecovered : List ℕ → Recovery → Type 0
-IsRecovered file (with_state state) =
-    (records : List (List ℕ)) × IsOpened file (with_records records) × Leave records state
-IsRecovered file (foreign first) = IsOpened file (not_journal first)
-IsRecovered file (refused at) =
-    ((records : List (List ℕ)) × IsOpened file (with_records records) × BreakAt records at)
-    ⊎ (((before : List (List ℕ)) × (frame : ℕ) × IsOpened file (bad_record frame before) × BreakAt before at)
-    ⊎ ((before : List (List ℕ)) × (state : State) × IsOpened file (bad_record at before) × Leave before state))
+-- the records of a live file break at a place of it where the first of them stands whose payload is none of the forms
+pub record BreaksIn (image : Image) (file : Which) (at : ℕ) : Type 0 where
+  pub live : Live
+  pub chosen : choice image ≡ LiveIn live
+  pub of_live : file ≡ live.file
+  pub records : List (List ℕ)
+  pub opened : IsOpened image (with_records records)
+  pub breaks : BreakAt records at
 
--- a file is refused so: no learned one, by its first byte; or at the least place, and no records are told
-abbrev pub IsRefused : List ℕ → OpenFault → Type 0
-IsRefused file (NotJournal first) = IsRecovered file (foreign first)
-IsRefused file (BadRecord at before) = IsRecovered file (refused at) × (before ≡ [])
-IsRefused file fault = ⊤
+-- an image is opened so: the records of its live file leave the state, or no file is live and there are none; one of
+-- its files is no learned file; or the least place is that of a record of the live file whose payload is none of the
+-- forms, be there a bad frame behind it or none, or that of a bad frame behind records that are all of the forms
+abbrev pub IsRecovered : Image → Recovery → Type 0
+IsRecovered image (with_state state) =
+    (records : List (List ℕ)) × IsOpened image (with_records records) × Leave records state
+IsRecovered image (foreign file first) = IsOpened image (not_journal file first)
+IsRecovered image (refused file at) =
+    BreaksIn image file at
+    ⊎ (((before : List (List ℕ)) × (frame : ℕ) × IsOpened image (bad_record file frame before) × BreakAt before at)
+    ⊎ ((before : List (List ℕ)) × (state : State) × IsOpened image (bad_record file at before) × Leave before state))
 
--- records leave a state and end so; where a file is told, they are those that it is opened with
-pub record IsOpenedWith (tells : Type 0) (file : List ℕ) (state : State) (end : ℕ) : Type 0 where
+-- an image is refused so: one of its files is no learned one, by its first byte; or at the least place of one, and no
+-- records are told
+abbrev pub IsRefused : Image → OpenFault → Type 0
+IsRefused image (NotJournal number first) =
+    (file : Which) × (number ≡ file_number file) × IsRecovered image (foreign file first)
+IsRefused image (BadRecord number at before) =
+    (file : Which) × (number ≡ file_number file) × IsRecovered image (refused file at) × (before ≡ [])
+IsRefused image fault = ⊤
+
+-- records leave a state and end so; where both files are told, they are those that these are opened with
+pub record IsOpenedWith (tells : Type 0) (image : Image) (state : State) (end : ℕ) : Type 0 where
   pub records : List (List ℕ)
   pub leave : Leave records state
   pub end_is : end ≡ end_of records
-  pub told : tells → IsOpened file (with_records records)
-
--- a file is opened as a state at each moment of its opening too: it has records that leave it, or one byte at most
-abbrev pub RecoversAtOnce : List ℕ → State → Type 0
-RecoversAtOnce file state = (records : List (List ℕ)) × OpensAtOnce records file × Leave records state
+  pub told : tells → IsOpened image (with_records records)

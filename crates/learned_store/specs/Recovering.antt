@@ -11,7 +11,7 @@ abbrev pub IsBreak : List (List ℕ) → RecoverFault → Type 0
 IsBreak records (Break at) = BreakAt records at
 IsBreak records Memory = ⊤
 
--- how a file is refused of whose records no state was recovered: no records are told
-abbrev pub refusal_of : RecoverFault → OpenFault
-refusal_of (Break at) = opening.BadRecord at []
-refusal_of Memory = opening.Memory
+-- how the file of a number is refused of whose records no state was recovered: no records are told
+abbrev pub refusal_of : ℕ → RecoverFault → OpenFault
+refusal_of file (Break at) = opening.BadRecord file at []
+refusal_of file Memory = opening.Memory

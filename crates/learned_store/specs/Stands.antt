@@ -10,15 +10,14 @@ use Rattle.skk_calls.specs.declared.chronicle.Noted.{Noted}
 use Rattle.skk_calls.specs.declared.chronicle.Noted.TheVariants.{Opened, Entered}
 use Rattle.skk_calls.specs.Chronicles.{history_of, is_chronicle}
 use Rattle.skk_calls.specs.Dictionary.{may_answer}
-use Rattle.skk_calls.specs.Histories.{Opening, room, need, tells_change, in_doubt, state_after, states_left}
+use Rattle.skk_calls.specs.Histories.{Opening, need, tells_change, in_doubt, state_after, states_left, tight}
 use Rattle.skk_calls.specs.Openings.{IsLegalOver}
 use Rattle.skk_calls.specs.States.{State}
 use Rattle.skk_calls.specs.Tallies.{Tally, tally_of}
 use Rattle.skk_disk.specs.Image.{Image}
 use Rattle.skk_disk.specs.Moments.{Passes}
-use Rattle.skk_disk.specs.Steps.{ComeFrom}
-use Rattle.skk_journal.specs.Images.{Each, SameOther}
-use Rattle.skk_journal.specs.Journal.{OpenJournal}
+use Rattle.skk_journal.specs.Images.{Each}
+use Rattle.skk_journal.specs.Journal.{OpenJournal, is_in_doubt}
 use Rattle.learned_store.specs.Limits.{AllHadRoom}
 use Rattle.learned_store.specs.Stores.{OpenStore, RecoversOneOf, Keeps, with_doubt}
 
@@ -79,10 +78,9 @@ KeepsAmong time left_since journal state states =
     (doubt : Option State) × IsOneOf doubt states × Keeps time left_since journal state doubt
 
 -- the notes of an opening and of what was entered behind it, and the store that they were made over: each answer is
--- legal and had room, the store has the state and the end behind them, and is in doubt only where a change is, each
--- image of each moment since the opening is opened as a state that a stop may leave, times and counts of faults go on
--- to those of the disk, what a stop before the opening might have left is what it might have left then, and the second
--- file stays as it was then
+-- legal and had room, the store has the state behind them, and is in doubt only where a change is, each image of each
+-- moment since the opening is opened as a state that a stop may leave, times and counts of faults go on to those of the
+-- disk, and what a stop before the opening might have left is what it might have left then
 pub record Stands {D : Type 0} (time faults : D → ℕ) (left_since : D → ℕ → Image → Type 0) (opening : Opening)
     (past : ℕ → Image → Type 0) (notes : List Noted) (store : OpenStore D) : Type 0 where
   pub begun : is_chronicle notes ≡ true
@@ -91,13 +89,11 @@ pub record Stands {D : Type 0} (time faults : D → ℕ) (left_since : D → ℕ
   pub files : store.files ≡ opening.files
   pub limit : store.limit ≡ opening.limit
   pub state : store.state ≡ state_after opening.state (history_of notes)
-  pub end : store.journal.end ≡ room opening.state opening.end (history_of notes)
-  pub calm : in_doubt [] (history_of notes) ≡ [] → store.journal.in_doubt ≡ false
+  pub calm : in_doubt [] (history_of notes) ≡ [] → is_in_doubt store.journal.doubt ≡ false
   pub keeps : KeepsAmong time left_since store.journal store.state (left_behind opening.state notes)
   pub moments : StandsOver opening.state notes opening.time (time store.journal.disk) (left_since store.journal.disk)
   pub goes_on : GoOn opening.time opening.faults notes (time store.journal.disk) (faults store.journal.disk)
   pub passes : Passes opening.time (time store.journal.disk) past (left_since store.journal.disk)
-  pub other : ComeFrom SameOther (past opening.time) (left_since store.journal.disk opening.time)
 
 -- a store and the notes of what it was opened with and answered
 pub record NotedStore (D : Type 0) : Type 0 where
@@ -110,11 +106,10 @@ pub record NotesCall {D : Type 0} (time faults : D → ℕ) (left_since : D → 
   pub notes : new.notes
       ≡ old.notes ++ Entered number call answer (time new.store.journal.disk) (faults new.store.journal.disk) ∷ []
   pub may : may_answer call answer ≡ true
-  pub fits : tells_change answer ≡ true → old.store.journal.end + need old.store.state call ≤ old.store.limit
+  pub fits : tells_change answer ≡ true → tight old.store.state + need old.store.state call ≤ old.store.limit
   pub room : answer ≡ Refused Disk
-      → (old.store.journal.in_doubt ≡ true) ⊎ (old.store.journal.end + need old.store.state call ≤ old.store.limit)
-  pub other : ComeFrom SameOther (left_since old.store.journal.disk (time old.store.journal.disk))
-      (left_since new.store.journal.disk (time old.store.journal.disk))
+      → (is_in_doubt old.store.journal.doubt ≡ true)
+      ⊎ (tight old.store.state + need old.store.state call ≤ old.store.limit)
   pub past : Passes (time old.store.journal.disk) (time new.store.journal.disk)
       (left_since old.store.journal.disk) (left_since new.store.journal.disk)
   pub counted : faults old.store.journal.disk ≤ faults new.store.journal.disk

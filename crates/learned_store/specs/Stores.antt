@@ -1,5 +1,6 @@
 -- An open store, what each image of its disk is opened as, and what a call leaves in doubt.
-use Rattle.std.specs.Prelude.{◌≡◌, ◌⊎◌, ℕ, if◌then◌else◌, Option, None, Some, List, [], ◌∷◌, ◌++◌, Contains}
+use Rattle.std.specs.Prelude.{◌≡◌, ℕ, if◌then◌else◌, Option, None, Some, List, [], ◌∷◌, ◌++◌, All}
+use Rattle.std.specs.Prelude.{Contains}
 use Rattle.skk_calls.specs.declared.answer.Answer.{Answer}
 use Rattle.skk_calls.specs.declared.answer.Answer.TheVariants.{Done, Refused}
 use Rattle.skk_calls.specs.declared.answer.Refusal.TheVariants.{Memory, Disk, JournalFull}
@@ -10,6 +11,7 @@ use Rattle.skk_calls.specs.Rows.{Row}
 use Rattle.skk_calls.specs.States.{State}
 use Rattle.skk_disk.specs.Image.{Image}
 use Rattle.skk_journal.specs.Journal.{OpenJournal, Rests, Doubts}
+use Rattle.skk_journal.specs.Records.{IsSized, framed}
 use Rattle.learned_store.specs.Recovered.{Leave, with_state, IsRecovered}
 
 -- an open journal and the state that its records leave, the rows of the system files, and the limit of the learned file
@@ -32,20 +34,35 @@ opening_now time faults store = record {
 
 -- an image is opened as a state
 abbrev pub Recovers : State → Image → Type 0
-Recovers state image = IsRecovered image.a (with_state state)
+Recovers state image = IsRecovered image (with_state state)
 
 -- an image is opened as one of these states
 abbrev pub RecoversOneOf : List State → Image → Type 0
 RecoversOneOf states image = (state : State) × Contains states state × Recovers state image
 
--- the records of a journal leave a state. Where another state is in doubt, one record more leaves that, and stands
--- behind a gate that may be open or closed
+-- the records of a journal leave a state. Where another state is in doubt, others leave that, which may count: a record
+-- more stands behind some gate, or the other file is filled and its own gate may be open
 abbrev pub Keeps : {D : Type 0} → (D → ℕ) → (D → ℕ → Image → Type 0) → OpenJournal D → State → Option State → Type 0
 Keeps time left_since journal state None =
     (records : List (List ℕ)) × Leave records state × Rests time left_since journal records
 Keeps time left_since journal state (Some doubted) =
-    (records : List (List ℕ)) × (payload : List ℕ) × Leave records state × Leave (records ++ payload ∷ []) doubted
-    × Doubts time left_since journal records (payload ∷ [])
+    (records others : List (List ℕ)) × Leave records state × Leave others doubted
+    × Doubts time left_since journal records others
+
+-- a journal keeps a state, and what is in doubt is one of these
+abbrev pub KeepsOneOf : {D : Type 0} → (D → ℕ) → (D → ℕ → Image → Type 0) → OpenJournal D → State
+    → List (Option State) → Type 0
+KeepsOneOf time left_since journal state doubts =
+    (doubt : Option State) × Contains doubts doubt × Keeps time left_since journal state doubt
+
+-- behind records that leave a state one of this payload leaves that one
+abbrev pub Adds : List ℕ → State → State → Type 0
+Adds payload state after = (records : List (List ℕ)) → Leave records state → Leave (records ++ payload ∷ []) after
+
+-- bytes are records that leave a state
+abbrev pub IsCompaction : State → List ℕ → Type 0
+IsCompaction state bytes =
+    (records : List (List ℕ)) × All IsSized records × (bytes ≡ framed records) × Leave records state
 
 -- a state and the one in doubt beside it, where there is one
 abbrev pub with_doubt : State → Option State → List State
@@ -61,9 +78,10 @@ states_within state doubt call (Refused Disk) = with_doubt state doubt ++ after 
 states_within state doubt call (Refused refusal) = with_doubt state doubt
 
 -- what is in doubt after a call: nothing after a change, and where the file was full; where a disk failed, what was
--- before, nothing, or the state after the call; else what was before
+-- before, nothing, the state itself, which the other file may have, or the state after the call; else what was before
 abbrev pub DoubtAfter : State → Option State → Call → Answer → Option State → Type 0
 DoubtAfter state doubt call (Done reply) now = now ≡ (if is_change reply then None else doubt)
 DoubtAfter state doubt call (Refused Memory) now = now ≡ doubt
-DoubtAfter state doubt call (Refused Disk) now = (now ≡ doubt) ⊎ ((now ≡ None) ⊎ (now ≡ Some (after state call)))
+DoubtAfter state doubt call (Refused Disk) now =
+    Contains (doubt ∷ None ∷ Some state ∷ Some (after state call) ∷ []) now
 DoubtAfter state doubt call (Refused (JournalFull end need limit)) now = now ≡ None

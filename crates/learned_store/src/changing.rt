@@ -1,21 +1,29 @@
-ghost use Rattle.std.specs.Prelude.{◌≡◌, true, false, List};
+ghost use Rattle.std.specs.Prelude.{◌≡◌, ◌+◌, ◌≤◌, true, false, List, IsOk, IsErrOf, MatchResult};
+ghost use Rattle.skk_calls.specs.declared.answer.Answer.TheVariants.{Done, Refused};
+ghost use Rattle.skk_calls.specs.declared.answer.Refusal.TheVariants as refusals;
 ghost use Rattle.skk_calls.specs.declared.call.Call.{Call as call_value};
-ghost use Rattle.skk_calls.specs.Dictionary.{is_call, is_fit};
+ghost use Rattle.skk_calls.specs.Dictionary.{after, answer, is_call, is_fit};
+ghost use Rattle.skk_calls.specs.Histories.{tight};
 ghost use Rattle.skk_calls.specs.Rows.{Row};
+ghost use Rattle.skk_journal.specs.Records.{IsSized, need};
 ghost use Rattle.learn_index.specs.Plans.{is_question, IsPlanned, IsMade, HasRoom};
 ghost use Rattle.learned_store.specs.Served.{Serves};
-ghost use Rattle.learned_store.specs.Written.{TellsOf};
+ghost use Rattle.learned_store.specs.Written.{TellsOf, Told};
 
-use crate::committing::commit;
+use crate::committing::{commit, commit_compacted, settle};
+use crate::room::{Room, room_for};
+use crate::sizes::record_need;
 use crate::writing::planned_record;
 use dict_laws::changes_keep_states_valid;
 use learn_index::{Index, Plan};
 use skk_calls::{Answer, Call, Refusal};
 use skk_disk::Disk;
-use skk_journal::{AppendFault, Journal};
+use skk_journal::Journal;
+use skk_outside::Failed;
+use skk_text::Memory;
 use std::alloc::Global;
 
-// Answers a change, over any system files. All memory is taken before the learned file is touched.
+// Answers a change, over any system files. All memory is taken before the learned dictionary is touched.
 pub(crate) fn change<D: Disk>(
     alloc: Global,
     journal: &mut Journal<D>,
@@ -25,9 +33,11 @@ pub(crate) fn change<D: Disk>(
 ) -> Answer
     requires change { is_question call.now ≡ false }
     requires fit { is_fit call.now ≡ true }
-    ensures { (files : List (List Row)) → Serves D.time D.faults D.left_since
+    requires tight { tight index.old.state ≤ journal.old.end }
+    ensures serves { (files : List (List Row)) → Serves D.time D.faults D.left_since
         (record { journal = journal.old; state = index.old.state; files = files; limit = limit })
         (record { journal = journal.new; state = index.new.state; files = files; limit = limit }) call.now result }
+    ensures tight { tight index.new.state ≤ journal.new.end }
 {
     let Ok(plan) = index.plan(alloc, call) else {
         return Answer::Refused(Refusal::Memory);
@@ -37,12 +47,13 @@ pub(crate) fn change<D: Disk>(
     };
     match record {
         None => Answer::Done(index.apply(plan)),
-        Some(record) => write_and_apply(journal, index, limit, plan, record.as_slice()),
+        Some(record) => write_and_apply(alloc, journal, index, limit, plan, record.as_slice()),
     }
 }
 
-// Adds the record of a plan to the learned file, and applies the plan where it was added.
+// Writes the record of a plan where there is room for it, and applies the plan where it was written.
 fn write_and_apply<D: Disk>(
+    alloc: Global,
     journal: &mut Journal<D>,
     index: &mut Index,
     limit: u64,
@@ -52,19 +63,72 @@ fn write_and_apply<D: Disk>(
     requires made { IsMade index.old.state plan }
     requires room { HasRoom index.old plan }
     requires told { TellsOf plan payload.now }
-    ensures { (files : List (List Row)) (call : call_value) → is_question call ≡ false → is_call call ≡ true
+    requires tight { tight index.old.state ≤ journal.old.end }
+    ensures serves { (files : List (List Row)) (call : call_value) → is_question call ≡ false → is_call call ≡ true
         → is_fit call ≡ true → IsPlanned index.old.state call plan → Serves D.time D.faults D.left_since
         (record { journal = journal.old; state = index.old.state; files = files; limit = limit })
         (record { journal = journal.new; state = index.new.state; files = files; limit = limit }) call result }
+    ensures tight { tight index.new.state ≤ journal.new.end }
 {
     changes_keep_states_valid();
     // The count of a book tells that the state is valid.
     let _valid = index.count(0);
-    match commit(journal, limit, payload) {
+    match write(alloc, journal, index, limit, payload) {
         Ok(()) => Answer::Done(index.apply(plan)),
-        Err(AppendFault::Full { end, need, limit }) => {
-            Answer::Refused(Refusal::JournalFull { end, need, limit })
+        Err(refusal) => {
+            drop(plan);
+            Answer::Refused(refusal)
         }
-        Err(AppendFault::Disk) => Answer::Refused(Refusal::Disk),
+    }
+}
+
+// Writes the record of a change where there is room for it: behind the records of the live file, or else in the other
+// file behind those of the state.
+fn write<D: Disk>(
+    alloc: Global,
+    journal: &mut Journal<D>,
+    index: &Index,
+    limit: u64,
+    payload: &[u8],
+) -> Result<(), Refusal>
+    requires sized { IsSized payload.now }
+    requires tight { tight index.now.state ≤ journal.old.end }
+    ensures serves { (files : List (List Row)) (call : call_value) → is_question call ≡ false
+        → Told index.now.state call payload.now → MatchResult result
+        (λ _. Serves D.time D.faults D.left_since
+        (record { journal = journal.old; state = index.now.state; files = files; limit = limit })
+        (record { journal = journal.new; state = after index.now.state call; files = files; limit = limit }) call
+        (Done (answer files index.now.state call)))
+        (λ refusal. Serves D.time D.faults D.left_since
+        (record { journal = journal.old; state = index.now.state; files = files; limit = limit })
+        (record { journal = journal.new; state = index.now.state; files = files; limit = limit }) call
+        (Refused refusal)) }
+    ensures tight { MatchResult result
+        (λ _. tight index.now.state + need payload.now ≤ journal.new.end)
+        (λ _. tight index.now.state ≤ journal.new.end) }
+{
+    match room_for(alloc, index, journal, limit, payload) {
+        Ok(Room::Behind) => unless_disk(commit(journal, limit, payload)),
+        Ok(Room::Compacted(records)) => {
+            unless_disk(commit_compacted(journal, limit, records.as_slice(), payload))
+        }
+        Ok(Room::Full(end)) => {
+            let need = record_need(payload);
+            match settle(journal) {
+                Ok(()) => Err(Refusal::JournalFull { end, need, limit }),
+                Err(Failed) => Err(Refusal::Disk),
+            }
+        }
+        Err(Memory) => Err(Refusal::Memory),
+    }
+}
+
+// A disk that failed, as a change is refused for it.
+fn unless_disk(done: Result<(), Failed>) -> Result<(), Refusal>
+    ensures { MatchResult done (λ _. IsOk result) (λ _. IsErrOf result refusals.Disk) }
+{
+    match done {
+        Ok(()) => Ok(()),
+        Err(Failed) => Err(Refusal::Disk),
     }
 }

@@ -1,80 +1,159 @@
-ghost use Rattle.std.specs.Prelude.{◌≡◌, ◌⊎◌, ◌+◌, ◌≤◌, ◌++◌, ◌∷◌, [], List, ℕ, Option, true, false, IfErr};
-ghost use Rattle.std.specs.Prelude.{OnOk, OnErr, IsErrOf};
+ghost use Rattle.std.specs.Prelude.{◌≡◌, ◌⊎◌, ◌+◌, ◌≤◌, ◌++◌, ◌∷◌, [], ℕ, length, Option, None, Some, true, false};
+ghost use Rattle.std.specs.Prelude.{OnOk, OnErr, MatchResult};
 ghost use Rattle.skk_outside.specs.Faults.{Rose};
+ghost use Rattle.skk_calls.specs.States.{State};
 ghost use Rattle.skk_disk.specs.Moments.{Passes};
-ghost use Rattle.skk_disk.specs.Steps.{ComeFrom};
-ghost use Rattle.skk_journal.specs.Images.{Each, SameOther};
-ghost use Rattle.skk_journal.specs.Journal.{Rests};
-ghost use Rattle.skk_journal.specs.Records.{IsSized, need};
-ghost use Rattle.learned_store.specs.Committed.{RestsOrDoubts, HoldsDoubted, HoldsOneOf, IsTold};
-ghost use Rattle.learned_store.specs.Committed.{RestsOrDoubtsAfter, HoldNoMore};
+ghost use Rattle.skk_journal.specs.Images.{Each};
+ghost use Rattle.skk_journal.specs.Journal.{is_in_doubt};
+ghost use Rattle.skk_journal.specs.Records.{IsSized, first_place, need};
+ghost use Rattle.learned_store.specs.Stores.{Adds, IsCompaction, Keeps, KeepsOneOf, RecoversOneOf, with_doubt};
 
 use skk_disk::Disk;
 use skk_journal::{AppendFault, Journal};
 use skk_outside::Failed;
 
-// Adds a record to the learned file, after a record in doubt was closed.
+// Adds a record to the live file, after a gate in doubt was closed.
 pub(crate) fn commit<D: Disk>(
     journal: &mut Journal<D>,
     limit: u64,
     payload: &[u8],
-) -> Result<(), AppendFault>
-    requires { IsSized payload.now }
-
-    // It is added only where it ends within the limit, and a disk fails only then, or where one is in doubt.
-    ensures fits { OnOk result (journal.old.end + need payload.now ≤ limit) }
-    ensures room { IsErrOf result AppendFault.Disk →
-        (journal.old.in_doubt ≡ true) ⊎ (journal.old.end + need payload.now ≤ limit) }
-    ensures told { IfErr result (IsTold journal.old.end (need payload.now) limit) }
-    ensures failed { IsErrOf result AppendFault.Disk → Rose (D.faults journal.old.disk) (D.faults journal.new.disk) }
+) -> Result<(), Failed>
+    requires sized { IsSized payload.now }
+    requires room { journal.old.end + need payload.now ≤ limit }
     ensures end { OnOk result (journal.new.end ≡ journal.old.end + need payload.now) }
     ensures end_stays { OnErr result (journal.new.end ≡ journal.old.end) }
+    ensures calm { OnOk result (is_in_doubt journal.new.doubt ≡ false) }
 
-    // What each image has afterwards, and at each moment.
-    ensures ok { OnOk result ((records : List (List ℕ)) (doubted : Option (List ℕ)) →
-        RestsOrDoubts D.time D.left_since journal.old records doubted →
-        Rests D.time D.left_since journal.new (records ++ payload.now ∷ [])) }
-    ensures err { (records : List (List ℕ)) (doubted : Option (List ℕ)) →
-        RestsOrDoubts D.time D.left_since journal.old records doubted →
-        IfErr result (RestsOrDoubtsAfter D.time D.left_since journal.new records doubted payload.now) }
-    ensures images { (records : List (List ℕ)) (doubted : Option (List ℕ)) →
-        RestsOrDoubts D.time D.left_since journal.old records doubted →
-        Each (D.left_since journal.new.disk (D.time journal.old.disk)) (HoldsOneOf records doubted payload.now) }
-    ensures full { (records : List (List ℕ)) (doubted : Option (List ℕ)) →
-        RestsOrDoubts D.time D.left_since journal.old records doubted →
-        IfErr result (HoldNoMore (D.left_since journal.new.disk (D.time journal.old.disk)) records doubted) }
-    ensures other { ComeFrom SameOther (D.left_since journal.old.disk (D.time journal.old.disk))
-        (D.left_since journal.new.disk (D.time journal.old.disk)) }
+    // What each image is opened as afterwards, and at each moment.
+    ensures ok { OnOk result ((state after : State) (doubt : Option State) → Adds payload.now state after →
+        Keeps D.time D.left_since journal.old state doubt → Keeps D.time D.left_since journal.new after None) }
+    ensures err { OnErr result ((state after : State) (doubt : Option State) → Adds payload.now state after →
+        Keeps D.time D.left_since journal.old state doubt →
+        KeepsOneOf D.time D.left_since journal.new state (doubt ∷ None ∷ Some state ∷ Some after ∷ [])) }
+    ensures images { (state after : State) (doubt : Option State) → Adds payload.now state after →
+        Keeps D.time D.left_since journal.old state doubt →
+        Each (D.left_since journal.new.disk (D.time journal.old.disk))
+        (RecoversOneOf (with_doubt state doubt ++ after ∷ [])) }
 
     ensures past { Passes (D.time journal.old.disk) (D.time journal.new.disk)
         (D.left_since journal.old.disk) (D.left_since journal.new.disk) }
+    ensures failed { OnErr result (Rose (D.faults journal.old.disk) (D.faults journal.new.disk)) }
     ensures counted { D.faults journal.old.disk ≤ D.faults journal.new.disk }
 {
     settle(journal)?;
-    journal.append(limit, payload)
+    add(journal, limit, payload)
 }
 
-// Closes the gate of a record in doubt.
-fn settle<D: Disk>(journal: &mut Journal<D>) -> Result<(), Failed>
-    ensures calm { OnOk result (journal.new.in_doubt ≡ false) }
-    ensures doubted { OnErr result (journal.old.in_doubt ≡ true) }
-    ensures failed { OnErr result (Rose (D.faults journal.old.disk) (D.faults journal.new.disk)) }
-    ensures end { journal.new.end ≡ journal.old.end }
+// Adds a record for which the live file has no room: after a gate in doubt was closed the records of the state are
+// written into the other file, which is live then.
+pub(crate) fn commit_compacted<D: Disk>(
+    journal: &mut Journal<D>,
+    limit: u64,
+    compacted: &[u8],
+    payload: &[u8],
+) -> Result<(), Failed>
+    requires sized { IsSized payload.now }
+    requires room { first_place + 1 + length compacted.now + need payload.now ≤ limit }
+    ensures end { OnOk result (journal.new.end ≡ first_place + 1 + length compacted.now + need payload.now) }
+    ensures end_left { OnErr result ((journal.new.end ≡ journal.old.end)
+        ⊎ (journal.new.end ≡ first_place + 1 + length compacted.now)) }
+    ensures calm { OnOk result (is_in_doubt journal.new.doubt ≡ false) }
 
-    ensures ok { OnOk result ((records : List (List ℕ)) (doubted : Option (List ℕ)) →
-        RestsOrDoubts D.time D.left_since journal.old records doubted → Rests D.time D.left_since journal.new records) }
-    ensures err { OnErr result ((records : List (List ℕ)) (doubted : Option (List ℕ)) →
-        RestsOrDoubts D.time D.left_since journal.old records doubted →
-        RestsOrDoubts D.time D.left_since journal.new records doubted) }
-    ensures images { (records : List (List ℕ)) (doubted : Option (List ℕ)) →
-        RestsOrDoubts D.time D.left_since journal.old records doubted →
-        Each (D.left_since journal.new.disk (D.time journal.old.disk)) (HoldsDoubted records doubted) }
-    ensures other { ComeFrom SameOther (D.left_since journal.old.disk (D.time journal.old.disk))
-        (D.left_since journal.new.disk (D.time journal.old.disk)) }
+    // What each image is opened as afterwards, and at each moment.
+    ensures ok { OnOk result ((state after : State) (doubt : Option State) → Adds payload.now state after →
+        IsCompaction state compacted.now →
+        Keeps D.time D.left_since journal.old state doubt → Keeps D.time D.left_since journal.new after None) }
+    ensures err { OnErr result ((state after : State) (doubt : Option State) → Adds payload.now state after →
+        IsCompaction state compacted.now →
+        Keeps D.time D.left_since journal.old state doubt →
+        KeepsOneOf D.time D.left_since journal.new state (doubt ∷ None ∷ Some state ∷ Some after ∷ [])) }
+    ensures images { (state after : State) (doubt : Option State) → Adds payload.now state after →
+        IsCompaction state compacted.now →
+        Keeps D.time D.left_since journal.old state doubt →
+        Each (D.left_since journal.new.disk (D.time journal.old.disk))
+        (RecoversOneOf (with_doubt state doubt ++ after ∷ [])) }
 
     ensures past { Passes (D.time journal.old.disk) (D.time journal.new.disk)
         (D.left_since journal.old.disk) (D.left_since journal.new.disk) }
+    ensures failed { OnErr result (Rose (D.faults journal.old.disk) (D.faults journal.new.disk)) }
+    ensures counted { D.faults journal.old.disk ≤ D.faults journal.new.disk }
+{
+    settle(journal)?;
+    shrink(journal, compacted)?;
+    add(journal, limit, payload)
+}
+
+// Closes the gate in doubt.
+pub(crate) fn settle<D: Disk>(journal: &mut Journal<D>) -> Result<(), Failed>
+    ensures calm { OnOk result (is_in_doubt journal.new.doubt ≡ false) }
+    ensures stands { OnErr result (is_in_doubt journal.old.doubt ≡ true) }
+    ensures end { journal.new.end ≡ journal.old.end }
+
+    ensures keeps { (state : State) (doubt : Option State) → Keeps D.time D.left_since journal.old state doubt →
+        MatchResult result
+        (λ _. Keeps D.time D.left_since journal.new state None)
+        (λ _. Keeps D.time D.left_since journal.new state doubt) }
+    ensures images { (state : State) (doubt : Option State) → Keeps D.time D.left_since journal.old state doubt →
+        Each (D.left_since journal.new.disk (D.time journal.old.disk)) (RecoversOneOf (with_doubt state doubt)) }
+
+    ensures past { Passes (D.time journal.old.disk) (D.time journal.new.disk)
+        (D.left_since journal.old.disk) (D.left_since journal.new.disk) }
+    ensures failed { OnErr result (Rose (D.faults journal.old.disk) (D.faults journal.new.disk)) }
     ensures counted { D.faults journal.old.disk ≤ D.faults journal.new.disk }
 {
     journal.repair()
+}
+
+// Writes the records of the state into the other file.
+fn shrink<D: Disk>(journal: &mut Journal<D>, compacted: &[u8]) -> Result<(), Failed>
+    requires { is_in_doubt journal.old.doubt ≡ false }
+    ensures calm { OnOk result (is_in_doubt journal.new.doubt ≡ false) }
+    ensures end { OnOk result (journal.new.end ≡ first_place + 1 + length compacted.now) }
+    ensures end_stays { OnErr result (journal.new.end ≡ journal.old.end) }
+
+    ensures keeps { (state : State) → IsCompaction state compacted.now →
+        Keeps D.time D.left_since journal.old state None →
+        MatchResult result
+        (λ _. Keeps D.time D.left_since journal.new state None)
+        (λ _. KeepsOneOf D.time D.left_since journal.new state (None ∷ Some state ∷ [])) }
+    ensures images { (state : State) → IsCompaction state compacted.now →
+        Keeps D.time D.left_since journal.old state None →
+        Each (D.left_since journal.new.disk (D.time journal.old.disk)) (RecoversOneOf (state ∷ [])) }
+
+    ensures past { Passes (D.time journal.old.disk) (D.time journal.new.disk)
+        (D.left_since journal.old.disk) (D.left_since journal.new.disk) }
+    ensures failed { OnErr result (Rose (D.faults journal.old.disk) (D.faults journal.new.disk)) }
+    ensures counted { D.faults journal.old.disk ≤ D.faults journal.new.disk }
+{
+    journal.compact(compacted)
+}
+
+// Adds a record that ends within the limit.
+fn add<D: Disk>(journal: &mut Journal<D>, limit: u64, payload: &[u8]) -> Result<(), Failed>
+    requires calm { is_in_doubt journal.old.doubt ≡ false }
+    requires sized { IsSized payload.now }
+    requires room { journal.old.end + need payload.now ≤ limit }
+    ensures calm { OnOk result (is_in_doubt journal.new.doubt ≡ false) }
+    ensures end { OnOk result (journal.new.end ≡ journal.old.end + need payload.now) }
+    ensures end_stays { OnErr result (journal.new.end ≡ journal.old.end) }
+
+    ensures ok { OnOk result ((state after : State) → Adds payload.now state after →
+        Keeps D.time D.left_since journal.old state None → Keeps D.time D.left_since journal.new after None) }
+    ensures err { OnErr result ((state after : State) → Adds payload.now state after →
+        Keeps D.time D.left_since journal.old state None →
+        KeepsOneOf D.time D.left_since journal.new state (None ∷ Some after ∷ [])) }
+    ensures images { (state after : State) → Adds payload.now state after →
+        Keeps D.time D.left_since journal.old state None →
+        Each (D.left_since journal.new.disk (D.time journal.old.disk)) (RecoversOneOf (state ∷ after ∷ [])) }
+
+    ensures past { Passes (D.time journal.old.disk) (D.time journal.new.disk)
+        (D.left_since journal.old.disk) (D.left_since journal.new.disk) }
+    ensures failed { OnErr result (Rose (D.faults journal.old.disk) (D.faults journal.new.disk)) }
+    ensures counted { D.faults journal.old.disk ≤ D.faults journal.new.disk }
+{
+    match journal.append(limit, payload) {
+        Ok(()) => Ok(()),
+        Err(AppendFault::Disk) => Err(Failed),
+        Err(AppendFault::Full { .. }) => unreachable!(),
+    }
 }

@@ -1,15 +1,18 @@
-ghost use Rattle.std.specs.Prelude.{◌≡◌, ◌≤◌, ℕ, true, List, Option, Some};
+ghost use Rattle.std.specs.Prelude.{◌≡◌, ◌≤◌, ◌+◌, ℕ, All, true, List, Option, Some, map};
+ghost use Rattle.std.specs.List.{list_all};
 ghost use Rattle.skk_calls.specs.declared.call.Call.{Call};
 ghost use Rattle.skk_calls.specs.Dictionary.{after, is_call, is_fit, moves};
-ghost use Rattle.skk_calls.specs.Histories.{need};
+ghost use Rattle.skk_calls.specs.Histories.{need, tight};
 ghost use Rattle.skk_calls.specs.Rows.{RowKey, Row, is_row_key};
 ghost use Rattle.skk_calls.specs.States.{State, count_of, fits_count, is_valid};
+ghost use Rattle.skk_disk.specs.Image.{Image};
 ghost use Rattle.skk_journal.specs.Images.{Each};
 ghost use Rattle.skk_journal.specs.Journal.{OpenJournal};
-ghost use Rattle.skk_journal.specs.Records.{need as record_need};
+ghost use Rattle.skk_journal.specs.Records.{IsSized, end_of, need as record_need};
 ghost use Rattle.learned_store.specs.declared.form.Form.{Form};
 ghost use Rattle.learned_store.specs.declared.form.Form.TheVariants.{Put, Drop};
-ghost use Rattle.learned_store.specs.Payloads.{Says, book_of, new_count, payload_of};
+ghost use Rattle.learned_store.specs.Compacted.{compacted, is_written};
+ghost use Rattle.learned_store.specs.Payloads.{Says, book_of, new_count, payload_of, is_sound};
 ghost use Rattle.learned_store.specs.Payloads.{state_told, change_told};
 ghost use Rattle.learned_store.specs.Recovered.{BreakAt, Leave, Recovery, IsRecovered};
 ghost use Rattle.learned_store.specs.Stores.{Keeps, RecoversOneOf, with_doubt};
@@ -45,18 +48,42 @@ pub fn changes_tell_what_may_be_written()
 }
 
 /// A payload says one thing at most, whatever the state; records leave one state at most, and none where one of them
-/// says nothing; and a file is opened in one way at most.
+/// says nothing; and an image is opened in one way at most.
 pub fn files_are_recovered_in_one_way()
     ensures form { (state later : State) (payload : List ℕ) (form other : Form) → Says state payload form
         → Says later payload other → form ≡ other }
     ensures state { (records : List (List ℕ)) (one two : State) → Leave records one → Leave records two → one ≡ two }
     ensures whole { (records : List (List ℕ)) (at : ℕ) (state : State) → Leave records state → BreakAt records at
         → ⊥ }
-    ensures file { (file : List ℕ) (one two : Recovery) → IsRecovered file one → IsRecovered file two → one ≡ two }
+    ensures image { (image : Image) (one two : Recovery) → IsRecovered image one → IsRecovered image two → one ≡ two }
 {
     good_rows_are_read_again();
     lines_spell_one_row();
 }
+
+/// What records leave, the records of its compaction leave: it is a valid state that may be written, and of any such
+/// state they leave it. Each of them may be written and fits a record.
+pub fn compacted_records_leave_their_state()
+    ensures again { (records : List (List ℕ)) (state : State) → Leave records state
+        → Leave (map payload_of (compacted state)) state }
+    ensures left { (records : List (List ℕ)) (state : State) → Leave records state
+        → (is_valid state ≡ true) × (is_written state ≡ true) }
+    ensures leave { (state : State) → is_valid state ≡ true → is_written state ≡ true
+        → Leave (map payload_of (compacted state)) state }
+    ensures sound { (state : State) → is_written state ≡ true → list_all is_sound (compacted state) ≡ true }
+    ensures sized { (state : State) → is_written state ≡ true → All IsSized (map payload_of (compacted state)) }
+{}
+
+/// The records of a compaction end at the tight end of their state, and no records leave a state and end before that.
+pub fn the_tight_end_is_least()
+    ensures compacted { (state : State) → end_of (map payload_of (compacted state)) ≡ tight state }
+    ensures least { (records : List (List ℕ)) (state : State) → Leave records state → tight state ≤ end_of records }
+{}
+
+/// A change makes the tight end of a state at most so much greater as it needs.
+pub fn changes_keep_the_tight_end()
+    ensures { (state : State) (call : Call) → tight (after state call) ≤ tight state + need state call }
+{}
 
 /// Where a journal keeps a state, each image that a stop now may leave is opened as that state, or as the one in doubt.
 pub fn kept_states_are_recovered<D: Disk>()

@@ -1,11 +1,12 @@
-//! The learned index and the learned file joined: a dictionary each of whose changes stands on a disk, and its history.
+//! The learned index and the learned files joined: a dictionary whose changes each stand on a disk, and its history.
 //!
-//! It stands on `skk_text`, `exact_readers`, `skk_outside`, `skk_trace`, `skk_calls`, `dict_laws`, `skk_disk`,
-//! `skk_journal`, `dict_format`, `dict_layers` and `learn_index`. A record puts a row into a book, takes a row out, or
-//! gives a book its count; each of them sets the count. What a record says is defined from its values to its bytes,
-//! and a payload says nothing where no values have these bytes. The records of a file, one after another, lead from
-//! no books to a state, or the first of them that says nothing stands at a place: `Store::open` gives that state, or
-//! the least place that is refused.
+//! It stands on `skk_text`, `exact_readers`, `skk_outside`, `skk_trace`, `skk_calls`, `dict_laws`, `dict_rows`,
+//! `skk_disk`, `skk_journal`, `dict_format`, `dict_layers` and `learn_index`. A record puts a row into a book, takes a
+//! row out, or gives a book its count; each of them sets the count. What a record says is defined from its values to
+//! its bytes, and a payload says nothing where no values have these bytes. The records of a file, one after another,
+//! lead from no books to a state, or the first of them that says nothing stands at a place: `Store::open` gives that
+//! state, or the least place that is refused. A compaction writes the records of a state alone: each row of each book
+//! is put, and where a book has no row its count is set.
 //!
 //! A `Store` answers calls as the dictionary of one thread. It takes the memory of a change and of its record first,
 //! then closes a record in doubt, adds the record, and only then changes the index, so that a stop at any moment
@@ -14,13 +15,15 @@
 //! has each entry that was made by then. `Alone` is the one caller of a store, with no lock.
 //!
 //! Laws say that a file is opened in one way at most, that the record of a change may be written and leaves the state
-//! that the change leaves, that it needs what the change needs, and what the images of a store are opened as.
+//! that the change leaves, that it needs what the change needs, that the records of a compaction leave their state and
+//! end where a file of that state ends at least, and what the images of a store are opened as.
 #![tactic(auto)]
 
 mod alone;
 mod changing;
 mod closed;
 mod committing;
+mod compacting;
 mod form;
 mod gathered;
 mod laws;
@@ -31,7 +34,9 @@ mod payload;
 mod placed_row;
 mod plain_row;
 mod recovery;
+mod room;
 mod row_place;
+mod sizes;
 mod stamped_row;
 mod store;
 mod writing;
@@ -40,8 +45,9 @@ pub use alone::Alone;
 pub use closed::Closed;
 pub use form::Form;
 pub use laws::{
-    changes_need_their_records, changes_tell_what_may_be_written, files_are_recovered_in_one_way,
-    kept_states_are_recovered, records_leave_what_changes_leave,
+    changes_keep_the_tight_end, changes_need_their_records, changes_tell_what_may_be_written,
+    compacted_records_leave_their_state, files_are_recovered_in_one_way, kept_states_are_recovered,
+    records_leave_what_changes_leave, the_tight_end_is_least,
 };
 pub use learned_name::LearnedName;
 pub use noting::{NoDesk, Noting};

@@ -1,14 +1,13 @@
 ghost use Rattle.std.specs.Prelude.{◌≡◌, ◌⊎◌, ◌≤◌, ◌+◌, ◌∷◌, [], ◌++◌, ℕ, None, true, IfOk, IfErr};
 ghost use Rattle.skk_disk.specs.Image.{Image};
 ghost use Rattle.skk_disk.specs.Moments.{Passes, SameImages};
-ghost use Rattle.skk_disk.specs.Steps.{ComeFrom};
 ghost use Rattle.skk_calls.specs.declared.answer.Refusal.TheVariants as refusals;
 ghost use Rattle.skk_calls.specs.declared.chronicle.Noted.TheVariants.{Entered};
 ghost use Rattle.skk_calls.specs.Chronicles.{history_of};
 ghost use Rattle.skk_calls.specs.Dictionary.{is_fit, may_answer};
-ghost use Rattle.skk_calls.specs.Histories.{need, tells_change};
+ghost use Rattle.skk_calls.specs.Histories.{need, tells_change, tight};
 ghost use Rattle.skk_calls.specs.Tallies.{tally_of};
-ghost use Rattle.skk_journal.specs.Images.{SameOther};
+ghost use Rattle.skk_journal.specs.Journal.{is_in_doubt};
 ghost use Rattle.learn_index.specs.FileRows.{AreFileRows};
 ghost use Rattle.learned_store.specs.Stores.{opening_now, Keeps, Recovers};
 ghost use Rattle.learned_store.specs.Stands.{Stands, StandsOver, RecoverAmong, NotesCall, left_behind, opening_note};
@@ -83,12 +82,9 @@ impl<D: Disk, N: LearnedName> Noting<D, N> {
             (D.time self.new.store.journal.disk) (D.faults self.new.store.journal.disk) ∷ [] }
         ensures may { may_answer call.now result ≡ true }
         ensures fits { tells_change result ≡ true →
-            self.old.store.journal.end + need self.old.store.state call.now ≤ self.old.store.limit }
-        ensures room { result ≡ Answer.Refused refusals.Disk → (self.old.store.journal.in_doubt ≡ true)
-            ⊎ (self.old.store.journal.end + need self.old.store.state call.now ≤ self.old.store.limit) }
-        ensures other { ComeFrom SameOther
-            (D.left_since self.old.store.journal.disk (D.time self.old.store.journal.disk))
-            (D.left_since self.new.store.journal.disk (D.time self.old.store.journal.disk)) }
+            tight self.old.store.state + need self.old.store.state call.now ≤ self.old.store.limit }
+        ensures room { result ≡ Answer.Refused refusals.Disk → (is_in_doubt self.old.store.journal.doubt ≡ true)
+            ⊎ (tight self.old.store.state + need self.old.store.state call.now ≤ self.old.store.limit) }
         ensures past { Passes (D.time self.old.store.journal.disk) (D.time self.new.store.journal.disk)
             (D.left_since self.old.store.journal.disk) (D.left_since self.new.store.journal.disk) }
         ensures counted { D.faults self.old.store.journal.disk ≤ D.faults self.new.store.journal.disk }

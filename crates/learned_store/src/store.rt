@@ -2,16 +2,16 @@ ghost use Rattle.std.specs.Prelude.{◌≡◌, ◌⊎◌, ◌≤◌, ◌+◌, if
 ghost use Rattle.skk_text.specs.Counts.{last_count};
 ghost use Rattle.skk_outside.specs.Faults.{Rose};
 ghost use Rattle.skk_disk.specs.Moments.{Passes};
-ghost use Rattle.skk_disk.specs.Steps.{ComeFrom};
 ghost use Rattle.skk_calls.specs.Dictionary.{is_fit, may_answer, moves};
-ghost use Rattle.skk_calls.specs.Histories.{after_answer, need, tells_change, IsLegalAnswer, LacksRoom};
+ghost use Rattle.skk_calls.specs.Histories.{after_answer, need, tells_change, tight, IsLegalAnswer, LacksRoom};
 ghost use Rattle.skk_calls.specs.States.{State, rows_of};
 ghost use Rattle.skk_calls.specs.Tallies.{count_rows};
 ghost use Rattle.dict_format.specs.PrintedFiles.{printed_file};
 ghost use Rattle.learn_index.specs.FileRows.{AreFileRows};
 ghost use Rattle.learn_index.specs.Plans.{is_question};
-ghost use Rattle.skk_journal.specs.Images.{Each, SameOther};
-ghost use Rattle.learned_store.specs.Served.{Serves};
+ghost use Rattle.skk_journal.specs.Journal.{is_in_doubt};
+ghost use Rattle.skk_journal.specs.Images.{Each};
+ghost use Rattle.learned_store.specs.Served.{Serves, end_added};
 ghost use Rattle.learned_store.specs.Stores.{opening_now, Keeps, RecoversOneOf, states_within, DoubtAfter};
 
 use crate::changing::change;
@@ -25,7 +25,7 @@ use skk_text::{Memory, Text};
 use std::alloc::Global;
 use std::marker::Model;
 
-/// A learned dictionary over system files, each of whose changes stands in the learned file of a disk.
+/// A learned dictionary over system files, each of whose changes stands in the live file of a disk.
 #[derive(Drop)]
 pub struct Store<D> {
     pub(crate) journal: Journal<D>,
@@ -35,11 +35,16 @@ pub struct Store<D> {
 }
 
 impl<D> Model for Store<D> {
+    ghost use Rattle.std.specs.Prelude.{◌≤◌};
+    ghost use Rattle.skk_calls.specs.Histories.{tight};
     ghost use Rattle.learned_store.specs.Stores.{OpenStore};
 
     ghost Value = { OpenStore D };
 
     ghost view = { λ s. record { journal = s.journal; state = s.index.state; files = s.system; limit = s.limit } };
+
+    // The live file holds at least what the state needs.
+    ghost invariant = { λ s. tight s.index.state ≤ s.journal.end };
 }
 
 impl<D> Store<D> {
@@ -75,28 +80,30 @@ impl<D> Store<D> {
 }
 
 impl<D: Disk> Store<D> {
-    /// Answers a call. For a change all memory is taken first, and then its record is added to the learned file, after
-    /// a record in doubt was closed; a change is made only where its record was added. Where the call changes nothing,
-    /// and after `Refused(Memory)`, the disk was not touched. Costs what the call costs the index, and a change two
-    /// writes and two syncs, or three where a record was in doubt.
+    /// Answers a call. For a change all memory is taken first, and then its record is added to the live file, after a
+    /// gate in doubt was closed; a change is made only where its record was added. Where the live file has no room for
+    /// it, the rows of the state are written into the other file first, which is live then; it is refused only where it
+    /// has no room there either. Where the call changes nothing, and after `Refused(Memory)`, the disk was not touched.
+    /// Costs what the call costs the index, and a change two writes and two syncs, or three where a gate was in doubt;
+    /// where rows are written into the other file, at most eleven calls more, and time and memory in what they hold.
     pub fn serve(&mut self, alloc: Global, call: &Call) -> Answer
         requires { is_fit call.now ≡ true }
 
         // The answer is that of a dictionary of one thread, or a refusal with its cause.
         ensures legal { IsLegalAnswer LacksRoom (opening_now D.time D.faults self.old) self.old.state
-            self.old.journal.end call.now result }
+            call.now result }
         ensures may { may_answer call.now result ≡ true }
         ensures fits { tells_change result ≡ true →
-            self.old.journal.end + need self.old.state call.now ≤ self.old.limit }
-        ensures room { result ≡ Answer.Refused Refusal.Disk → (self.old.journal.in_doubt ≡ true)
-            ⊎ (self.old.journal.end + need self.old.state call.now ≤ self.old.limit) }
+            tight self.old.state + need self.old.state call.now ≤ self.old.limit }
+        ensures room { result ≡ Answer.Refused Refusal.Disk → (is_in_doubt self.old.journal.doubt ≡ true)
+            ⊎ (tight self.old.state + need self.old.state call.now ≤ self.old.limit) }
         ensures failed { result ≡ Answer.Refused Refusal.Disk →
             Rose (D.faults self.old.journal.disk) (D.faults self.new.journal.disk) }
 
         // What stands after it.
         ensures state { self.new.state ≡ after_answer self.old.state call.now result }
-        ensures end { self.new.journal.end ≡ (if tells_change result
-            then self.old.journal.end + need self.old.state call.now else self.old.journal.end) }
+        ensures end { tells_change result ≡ true → self.new.journal.end
+            ≡ end_added self.old.limit self.old.state self.old.journal.end call.now }
         ensures files { self.new.files ≡ self.old.files }
         ensures limit { self.new.limit ≡ self.old.limit }
         ensures still { moves self.old.state call.now ≡ false → self.new.journal ≡ self.old.journal }
@@ -111,8 +118,6 @@ impl<D: Disk> Store<D> {
             Keeps D.time D.left_since self.old.journal self.old.state doubt →
             (now : Option State) × DoubtAfter self.old.state doubt call.now result now
             × Keeps D.time D.left_since self.new.journal self.new.state now }
-        ensures other { ComeFrom SameOther (D.left_since self.old.journal.disk (D.time self.old.journal.disk))
-            (D.left_since self.new.journal.disk (D.time self.old.journal.disk)) }
 
         ensures past { Passes (D.time self.old.journal.disk) (D.time self.new.journal.disk)
             (D.left_since self.old.journal.disk) (D.left_since self.new.journal.disk) }

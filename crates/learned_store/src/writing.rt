@@ -2,10 +2,10 @@ ghost use Rattle.std.specs.Prelude.{◌≡◌, true, IfOk, OnOk};
 ghost use Rattle.std.specs.Option.{option_copied};
 ghost use Rattle.std.specs.Str.{all_scalars};
 ghost use Rattle.skk_calls.specs.Canonical.{canonical};
-ghost use Rattle.learned_store.specs.Payloads.{put_bytes, drop_bytes, part_byte, row_told};
+ghost use Rattle.learned_store.specs.Payloads.{put_bytes, drop_bytes, count_bytes, part_byte, row_told};
 ghost use Rattle.learned_store.specs.Written.{IsWritten, IsRecordOf};
 
-use crate::form::{DROP, PUT};
+use crate::form::{DROP, PUT, SET_COUNT};
 use dict_format::print_line;
 use learn_index::{KeptRow, Plan};
 use skk_calls::{Part, Row, RowKey};
@@ -46,7 +46,7 @@ fn record_of(
 
 // The bytes that put a row into a book, which then has a count.
 #[tactic(auto, unfolding(exact_readers::specs::Numbers::number_bytes))]
-fn put_record(alloc: Global, book: u16, count: u64, row: &Row) -> Result<Bytes, Memory>
+pub(crate) fn put_record(alloc: Global, book: u16, count: u64, row: &Row) -> Result<Bytes, Memory>
     ensures payload { IfOk result (λ bytes. bytes ≡ put_bytes book count row.now) }
     ensures characters { OnOk result (all_scalars (canonical row.now) ≡ true) }
 {
@@ -73,6 +73,18 @@ fn drop_record(alloc: Global, book: u16, count: u64, key: &RowKey) -> Result<Byt
     record.extend_from_slice(&count.to_le_bytes())?;
     record.push(part_byte(key.part()))?;
     record.extend_from_slice(key.reading().as_str().as_bytes())?;
+    Ok(Bytes::of(record))
+}
+
+// The bytes that give a book a count.
+#[tactic(auto, unfolding(exact_readers::specs::Numbers::number_bytes))]
+pub(crate) fn count_record(alloc: Global, book: u16, count: u64) -> Result<Bytes, Memory>
+    ensures { IfOk result (λ bytes. bytes ≡ count_bytes book count) }
+{
+    let mut record = Vec::new(alloc);
+    record.push(SET_COUNT)?;
+    record.extend_from_slice(&book.to_le_bytes())?;
+    record.extend_from_slice(&count.to_le_bytes())?;
     Ok(Bytes::of(record))
 }
 

@@ -50,18 +50,20 @@ ended_with_refusals : (map (ended_by (Ok tt)) (came_to false false false ∷ cam
     ≡ Err Words ∷ Err Words ∷ [])
 ended_with_refusals = (refl, refl)
 
--- what a learned file that was not opened is for the run, its status and its words
-unopened : map fault_of_opening (opening.Disk ∷ opening.NotJournal 80 ∷ opening.BadRecord 17 [] ∷ opening.Memory ∷ [])
-    ≡ Outside ∷ NotJournal 80 ∷ BadRecord 17 ∷ Memory ∷ []
+-- what it is for the run that its learned dictionary was not opened, its status and its words
+unopened : map fault_of_opening (opening.Disk ∷ opening.NotJournal 0 80 ∷ opening.NotJournal 1 80
+    ∷ opening.BadRecord 0 17 [] ∷ opening.BadRecord 1 17 [] ∷ opening.Memory ∷ [])
+    ≡ Outside ∷ NotJournal 0 80 ∷ NotJournal 1 80 ∷ BadRecord 0 17 ∷ BadRecord 1 17 ∷ Memory ∷ []
 unopened = refl
 
-learned_statuses : map status_of (NotJournal 80 ∷ BadRecord 17 ∷ JournalFull ∷ []) ≡ 5 ∷ 5 ∷ 7 ∷ []
+learned_statuses : map status_of (NotJournal 0 80 ∷ BadRecord 1 17 ∷ JournalFull ∷ []) ≡ 5 ∷ 5 ∷ 7 ∷ []
 learned_statuses = refl
 
-learned_words : map fault_words (NotJournal 80 ∷ BadRecord 17 ∷ JournalFull ∷ [])
-    ≡ codes "learned file byte 80" ∷ codes "learned file record at 17" ∷ codes "journal full" ∷ []
+learned_told : map fault_words (NotJournal 0 80 ∷ NotJournal 1 80 ∷ BadRecord 0 17 ∷ BadRecord 1 17 ∷ JournalFull ∷ [])
+    ≡ codes "learned file byte 80" ∷ codes "learned file 2 byte 80" ∷ codes "learned file record at 17"
+    ∷ codes "learned file 2 record at 17" ∷ codes "journal full" ∷ []
 unfolding digits
-learned_words = refl
+learned_told = refl
 
 handed_faults : (map (fault_of_read Rules) (reading.TooLong ∷ reading.Failed ∷ reading.Memory ∷ [])
     ≡ Refused Rules TooLong ∷ Outside ∷ Memory ∷ [])

@@ -1,5 +1,5 @@
 -- How a run ends: its status, and its line on standard error.
-use Rattle.std.specs.Prelude.{◌⊎◌, ◌||◌, ℕ, Bool, if◌then◌else◌, Result, Ok, Err, List, ◌++◌, [], ◌∷◌, codes}
+use Rattle.std.specs.Prelude.{◌⊎◌, ◌||◌, ◌==◌, ℕ, Bool, if◌then◌else◌, Result, Ok, Err, List, ◌++◌, [], ◌∷◌, codes}
 use Rattle.std.specs.Fmt.{decimal}
 use Rattle.std.specs.Io.KnownBytes.{Appends}
 use Rattle.skk_calls.specs.Tallies.{Tally}
@@ -38,8 +38,8 @@ status_of_file (Dictionary number) = 3
 abbrev pub status_of : RunFault → ℕ
 status_of Words = 1
 status_of (Refused file flaw) = status_of_file file
-status_of (NotJournal first) = 5
-status_of (BadRecord at) = 5
+status_of (NotJournal file first) = 5
+status_of (BadRecord file at) = 5
 status_of Outside = 4
 status_of Memory = 6
 status_of JournalFull = 7
@@ -74,12 +74,16 @@ flaw_words TooLong = codes "too long"
 flaw_words (Byte at) = codes "byte " ++ decimal at
 flaw_words (Line number) = codes "line " ++ decimal number
 
+-- the words that name a file of the learned dictionary by its number
+abbrev pub learned_words : ℕ → List ℕ
+learned_words file = if file == 0 then codes "learned file " else codes "learned file 2 "
+
 -- the words of a fault
 abbrev pub fault_words : RunFault → List ℕ
 fault_words Words = codes "words"
 fault_words (Refused file flaw) = file_words file flaw ++ flaw_words flaw
-fault_words (NotJournal first) = codes "learned file byte " ++ decimal first
-fault_words (BadRecord at) = codes "learned file record at " ++ decimal at
+fault_words (NotJournal file first) = learned_words file ++ (codes "byte " ++ decimal first)
+fault_words (BadRecord file at) = learned_words file ++ (codes "record at " ++ decimal at)
 fault_words Outside = codes "outside"
 fault_words Memory = codes "memory"
 fault_words JournalFull = codes "journal full"
@@ -115,9 +119,9 @@ abbrev pub fault_of_script : ScriptFault → RunFault
 fault_of_script (scripts.BadLine number) = Refused Script (Line number)
 fault_of_script scripts.Memory = Memory
 
--- what it is for the run that its learned file was not opened
+-- what it is for the run that its learned dictionary was not opened
 abbrev pub fault_of_opening : OpenFault → RunFault
 fault_of_opening opening.Disk = Outside
-fault_of_opening (opening.NotJournal first) = NotJournal first
-fault_of_opening (opening.BadRecord at before) = BadRecord at
+fault_of_opening (opening.NotJournal file first) = NotJournal file first
+fault_of_opening (opening.BadRecord file at before) = BadRecord file at
 fault_of_opening opening.Memory = Memory

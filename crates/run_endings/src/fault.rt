@@ -4,7 +4,7 @@ ghost use Rattle.skk_outside.specs.Moved.{moved_sink};
 ghost use Rattle.run_endings.specs.Finishes.{finish_of};
 ghost use Rattle.run_endings.specs.Page.{Writes};
 ghost use Rattle.run_endings.specs.Status.{run_status, run_message, Tells, file_words, flaw_words};
-ghost use Rattle.run_endings.specs.Status.{fault_words, message_of};
+ghost use Rattle.run_endings.specs.Status.{learned_words, fault_words, message_of};
 
 use crate::finish::{Finish, Run};
 use crate::page::write;
@@ -22,15 +22,17 @@ pub enum RunFault {
     Words,
     /// A file is refused.
     Refused { file: RunFile, flaw: Flaw },
-    /// The learned file is none: it has two bytes or more, and this is its first one.
-    NotJournal { first: u8 },
-    /// A record of the learned file is bad, and this is the least place of one, in bytes.
-    BadRecord { at: u64 },
+    /// A file of the learned dictionary, 0 for the first one and 1 for the second, is none: it has two bytes or more,
+    /// and this is its first one.
+    NotJournal { file: u8, first: u8 },
+    /// A file of the learned dictionary, by the same numbers, has a bad record, and this is the least place of one, in
+    /// bytes.
+    BadRecord { file: u8, at: u64 },
     /// A call on the outside failed.
     Outside,
     /// Out of memory.
     Memory,
-    /// All was done but a change that the learned file had no room for.
+    /// All was done but a change that no learned file had room for.
     JournalFull,
 }
 
@@ -81,7 +83,7 @@ impl RunFault {
         match self {
             RunFault::Words => 1,
             RunFault::Refused { file, flaw: _ } => file.status(),
-            RunFault::NotJournal { first: _ } | RunFault::BadRecord { at: _ } => 5,
+            RunFault::NotJournal { .. } | RunFault::BadRecord { .. } => 5,
             RunFault::Outside => 4,
             RunFault::Memory => 6,
             RunFault::JournalFull => 7,
@@ -111,10 +113,10 @@ impl RunFault {
         match self {
             RunFault::Words => write(err, b"words"),
             RunFault::Refused { file, flaw } => tell_refused(file, flaw, err),
-            RunFault::NotJournal { first } => {
-                write_numbered(err, b"learned file byte ", u64::from(first))
+            RunFault::NotJournal { file, first } => {
+                tell_learned(file, b"byte ", u64::from(first), err)
             }
-            RunFault::BadRecord { at } => write_numbered(err, b"learned file record at ", at),
+            RunFault::BadRecord { file, at } => tell_learned(file, b"record at ", at, err),
             RunFault::Outside => write(err, b"outside"),
             RunFault::Memory => write(err, b"memory"),
             RunFault::JournalFull => write(err, b"journal full"),
@@ -149,6 +151,26 @@ fn tell_dictionary<E: Sink>(number: usize, err: &mut E) -> Result<(), Failed>
 {
     write_numbered(err, b"dictionary ", number as u64)?;
     write(err, b" ")
+}
+
+// Writes the words that name a file of the learned dictionary, and behind them what is wrong with it, with a number.
+fn tell_learned<E: Sink>(file: u8, wrong: &[u8], number: u64, err: &mut E) -> Result<(), Failed>
+    ensures { Writes (learned_words file ++ (wrong.now ++ decimal number)) result
+        (moved_sink E.written E.faults err.old err.new) }
+{
+    name_learned(file, err)?;
+    write_numbered(err, wrong, number)
+}
+
+// Writes the words that name a file of the learned dictionary.
+fn name_learned<E: Sink>(file: u8, err: &mut E) -> Result<(), Failed>
+    ensures { Writes (learned_words file) result (moved_sink E.written E.faults err.old err.new) }
+{
+    if file == 0 {
+        write(err, b"learned file ")
+    } else {
+        write(err, b"learned file 2 ")
+    }
 }
 
 // Writes the words of a flaw.
@@ -218,8 +240,12 @@ impl From<OpenFault> for RunFault {
     fn from(fault: OpenFault) -> RunFault {
         match fault {
             OpenFault::Disk => RunFault::Outside,
-            OpenFault::NotJournal { first } => RunFault::NotJournal { first },
-            OpenFault::BadRecord { at, before: _ } => RunFault::BadRecord { at },
+            OpenFault::NotJournal { file, first } => RunFault::NotJournal { file, first },
+            OpenFault::BadRecord {
+                file,
+                at,
+                before: _,
+            } => RunFault::BadRecord { file, at },
             OpenFault::Memory => RunFault::Memory,
         }
     }

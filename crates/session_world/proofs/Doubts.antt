@@ -1,13 +1,10 @@
 -- The change in doubt of a history is found entry by entry.
-use Rattle.std.proofs.Common.{◌≡◌, ◌∙◌, ap, refl, true, false, Some, None, List, [], ◌∷◌, ◌++◌}
-use Rattle.std.proofs.Common.{if◌then◌else◌, arith}
+use Rattle.std.proofs.Common.{◌≡◌, ◌∙◌, ap, refl, Some, List, [], ◌∷◌, ◌++◌}
+use Rattle.std.proofs.Common.{arith}
 use Rattle.std.specs.List.{fold}
 use Rattle.skk_calls.specs.declared.answer.Answer.{Answer}
-use Rattle.skk_calls.specs.declared.answer.Answer.TheVariants.{Done, Refused}
-use Rattle.skk_calls.specs.declared.answer.Refusal.TheVariants.{Memory, Disk, JournalFull}
 use Rattle.skk_calls.specs.declared.call.Call.{Call}
 use Rattle.skk_calls.specs.declared.entry.Entry.{Entry}
-use Rattle.skk_calls.specs.Dictionary.{is_change}
 use Rattle.skk_calls.specs.Histories.{in_doubt, in_doubt_after}
 use Rattle.session_world.specs.Doubts.{doubt_after, doubt_behind}
 use Rattle.session_world.specs.Worlds.{last_of}

@@ -1,6 +1,5 @@
 -- What interactions ask and end with, one behind another, and by one answer more.
 use Rattle.std.proofs.Common.{◌≡◌, ◌∙◌, ap, refl, arith, true, Some, None, List, [], ◌∷◌, ◌++◌, ℕ}
-use Rattle.std.proofs.lemmas.Bool.{and_from, and_parts}
 use Rattle.skk_text.specs.declared.key.Key.{Key}
 use Rattle.romaji_rules.specs.declared.rule.Rule.{Rule}
 use Rattle.skk_calls.specs.declared.answer.Answer.{Answer}

@@ -1,8 +1,8 @@
 -- A world stands after any events.
-use Rattle.std.proofs.Common.{◌≡◌, ◌≢◌, ◌⊎◌, inl, inr, ◌∙◌, sym, ap, refl, subst, ℕ, suc, zero, Bool, true, false}
+use Rattle.std.proofs.Common.{◌≡◌, ◌≢◌, ◌⊎◌, inl, inr, ◌∙◌, sym, ap, refl, subst, ℕ, suc, zero, true, false}
 use Rattle.std.proofs.Common.{◌==◌, Some, None, Option, List, [], ◌∷◌, ◌++◌, map, slice_get}
 use Rattle.std.proofs.Common.{if◌then◌else◌, eq-eqb, arith}
-use Rattle.std.specs.Prelude.{is_some, slice_set}
+use Rattle.std.specs.Prelude.{slice_set}
 use Rattle.std.proofs.lemmas.Bool.Decides.{eqb_tells}
 use Rattle.std.proofs.lemmas.List.{append-nil}
 use Rattle.std.specs.Option.{option_and_then, option_map}
@@ -15,7 +15,7 @@ use Rattle.skk_calls.specs.declared.answer.Refusal.TheVariants.{Memory, Disk, Jo
 use Rattle.skk_calls.specs.declared.call.Call.{Call}
 use Rattle.skk_calls.specs.declared.entry.Entry.{Entry}
 use Rattle.skk_calls.specs.Dictionary.{answer, after, moves}
-use Rattle.skk_calls.specs.Histories.{Opening, IsLegalAnswer, IsLegalWhere, after_entry, dialog, in_doubt, room}
+use Rattle.skk_calls.specs.Histories.{Opening, IsLegalAnswer, IsLegalWhere, after_entry, dialog, in_doubt}
 use Rattle.skk_calls.specs.Rows.{Row}
 use Rattle.skk_calls.specs.States.{State}
 use Rattle.session_world.specs.Seats.{new_seat, renewed, asked_in, with_answers, answered}
@@ -25,7 +25,6 @@ use Rattle.session_world.specs.Worlds.{last_of, stepped, all_stepped}
 use Rattle.session_world.specs.declared.event.Event.{Event}
 use Rattle.session_world.specs.declared.event.Event.TheVariants as events
 use Rattle.session_world.specs.declared.seat.Seat.{Seat}
-use Rattle.session_world.specs.declared.seat.UnderWay.{UnderWay}
 use Rattle.skk_calls.specs.HistoryLaws.{dialog-other, dialog-own, legal-more, state-more}
 use Rattle.session_world.proofs.Seats.{played-answered, played-new, played-started}
 
@@ -123,7 +122,7 @@ stands-key world place key next (Some seat) stands read e =
 -- a world in which the call that a place asks was answered stands, where the answer is legal
 stands-entered : (world : World) (place : ℕ) (seat : Seat) (call : Call) (answer : Answer) → Stands world
     → slice_get world.seats place ≡ Some seat → asked_in world.rules seat ≡ Some call
-    → ((end : ℕ) → IsLegalAnswer AnyNumbers (opening_of world) world.state end call answer)
+    → IsLegalAnswer AnyNumbers (opening_of world) world.state call answer
     → Stands (entered world place seat call answer)
 stands-entered world place seat call answer stands found asks legal =
     let entry : Entry = record { number = place; call = call; answer = answer } in record {
@@ -146,26 +145,24 @@ stands-entered world place seat call answer stands found asks legal =
           ap (λ state. after_entry state entry) stands.state ∙ sym (state-more world.opened world.history entry);
       legal =
           legal-more AnyNumbers (opening_of world) world.history entry stands.legal
-          (subst (λ state. IsLegalAnswer AnyNumbers (opening_of world) state
-          (room world.opened 0 world.history) call answer) stands.state
-          (legal (room world.opened 0 world.history)));
+          (subst (λ state. IsLegalAnswer AnyNumbers (opening_of world) state call answer) stands.state legal);
     }
 
 -- the same of an answer that may be none
 stands-given : (world : World) (place : ℕ) (seat : Seat) (call : Call) (next : World) (given : Option Answer)
     → Stands world → slice_get world.seats place ≡ Some seat → asked_in world.rules seat ≡ Some call
-    → ((answer : Answer) (end : ℕ) → given ≡ Some answer
-    → IsLegalAnswer AnyNumbers (opening_of world) world.state end call answer)
+    → ((answer : Answer) → given ≡ Some answer
+    → IsLegalAnswer AnyNumbers (opening_of world) world.state call answer)
     → option_map (entered world place seat call) given ≡ Some next → Stands next
 stands-given world place seat call next None stands found asks legal e = absurd (cc)
 stands-given world place seat call next (Some answer) stands found asks legal e =
-    grind (arith, stands-entered world place seat call answer stands found asks (λ end. legal answer end refl))
+    grind (arith, stands-entered world place seat call answer stands found asks (legal answer refl))
 
 -- a world stands after an answer to the call that a place asks, where such an answer is always legal
 stands-answered : (world : World) (place : ℕ) (answer_of : Call → Option Answer) (next : World)
     (found : Option Seat) → Stands world
-    → ((call : Call) (answer : Answer) (end : ℕ) → answer_of call ≡ Some answer
-    → IsLegalAnswer AnyNumbers (opening_of world) world.state end call answer)
+    → ((call : Call) (answer : Answer) → answer_of call ≡ Some answer
+    → IsLegalAnswer AnyNumbers (opening_of world) world.state call answer)
     → slice_get world.seats place ≡ found → option_and_then (answered_by answer_of world place) found ≡ Some next
     → Stands next
 stands-answered world place answer_of next None stands legal read e = absurd (cc)
@@ -177,11 +174,10 @@ stands-answered world place answer_of next (Some seat) stands legal read e =
     )
 
 -- a reply of the dictionary is legal
-served-legal : (world : World) (call : Call) (given : Answer) (end : ℕ)
+served-legal : (world : World) (call : Call) (given : Answer)
     → Some (Done (answer world.files world.state call)) ≡ Some given
-    → IsLegalAnswer AnyNumbers (opening_of world) world.state end call given
-served-legal world call given end e =
-    grind arith
+    → IsLegalAnswer AnyNumbers (opening_of world) world.state call given
+served-legal world call given e = grind arith
 
 -- a refusal for another cause than memory is of a call that would change something
 refused-moves : (state : State) (call : Call) (refusal : Refusal) (given : Answer)
@@ -190,18 +186,18 @@ refused-moves : (state : State) (call : Call) (refusal : Refusal) (given : Answe
 refused-moves state call refusal given e = (grind arith, grind arith)
 
 -- a refusal that may come is legal
-refused-legal : (world : World) (refusal : Refusal) (call : Call) (given : Answer) (end : ℕ)
+refused-legal : (world : World) (refusal : Refusal) (call : Call) (given : Answer)
     → refusal_of world.state refusal call ≡ Some given
-    → IsLegalAnswer AnyNumbers (opening_of world) world.state end call given
-refused-legal world Memory call given end e =
+    → IsLegalAnswer AnyNumbers (opening_of world) world.state call given
+refused-legal world Memory call given e =
     let same : Refused Memory ≡ given = cc in
-    subst (λ a. IsLegalAnswer AnyNumbers (opening_of world) world.state end call a) same tt
-refused-legal world Disk call given end e =
+    subst (λ a. IsLegalAnswer AnyNumbers (opening_of world) world.state call a) same tt
+refused-legal world Disk call given e =
     let refused = refused-moves world.state call Disk given e in
-    subst (λ a. IsLegalAnswer AnyNumbers (opening_of world) world.state end call a) refused.1 refused.0
-refused-legal world (JournalFull told need limit) call given end e =
+    subst (λ a. IsLegalAnswer AnyNumbers (opening_of world) world.state call a) refused.1 refused.0
+refused-legal world (JournalFull told need limit) call given e =
     let refused = refused-moves world.state call (JournalFull told need limit) given e in
-    subst (λ a. IsLegalAnswer AnyNumbers (opening_of world) world.state end call a) refused.1 (refused.0, tt)
+    subst (λ a. IsLegalAnswer AnyNumbers (opening_of world) world.state call a) refused.1 (refused.0, tt)
 
 -- Events
 

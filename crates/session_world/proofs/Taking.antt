@@ -1,5 +1,5 @@
 -- What a seat comes to that changes in its place, and whose key under way gets an answer.
-use Rattle.std.proofs.Common.{◌≡◌, ◌∙◌, ap, refl, subst, true, ℕ, Option, Some, None, IsSomeAnd, List, [], ◌∷◌, ◌++◌}
+use Rattle.std.proofs.Common.{◌≡◌, ◌∙◌, ap, subst, true, ℕ, Option, Some, IsSomeAnd, List, [], ◌∷◌, ◌++◌}
 use Rattle.std.proofs.Common.{get_or, slice_get, slice_set, arith}
 use Rattle.std.specs.Option.{option_and_then, option_map_or}
 use Rattle.std.proofs.lemmas.Option.{get_or_from_slice_get}

@@ -47,8 +47,8 @@ opening_of world =
     record { files = world.files; state = world.opened; end = 0; limit = 0; time = 0; faults = 0 }
 
 -- any numbers may be told of a learned file that is full
-abbrev pub AnyNumbers : histories.Opening → State → ℕ → Call → histories.FullFile → Type 0
-AnyNumbers opening state end call told = ⊤
+abbrev pub AnyNumbers : histories.Opening → State → Call → histories.FullFile → Type 0
+AnyNumbers opening state call told = ⊤
 
 -- each seat of a world has played its part of the history; its dictionary is the state after the history; and the
 -- history is legal

@@ -14,7 +14,8 @@ use Rattle.skk_calls.specs.declared.entry.Entry.{Entry}
 use Rattle.skk_calls.specs.Chronicles.{is_chronicle, is_chronicle_or_none, noted, opening_of, history_of}
 use Rattle.skk_calls.specs.Dictionary.{answer}
 use Rattle.skk_calls.specs.Histories.{Opening, LacksRoom, IsLegalAnswer, IsLegal, after_entry, state_after}
-use Rattle.skk_calls.specs.Histories.{end_after, room, changes, after_calls, need, needs, dialog, in_doubt, states_left}
+use Rattle.skk_calls.specs.Histories.{changes, after_calls, need, needs, tight, dialog, in_doubt}
+use Rattle.skk_calls.specs.Histories.{states_left}
 use Rattle.skk_calls.specs.Openings.{fresh_opening, said_in, are_of_one, is_reply, are_served}
 use Rattle.skk_calls.specs.Rows.{Row, Learned}
 use Rattle.skk_calls.specs.States.{State, empty_state}
@@ -107,13 +108,21 @@ states_after : Gives (state_after empty_state) (
 unfolding lib.Utf8.encode
 states_after = refl
 
--- the end of the learned file after a history, where it was 18 before
-rooms_after : Gives (room empty_state 18) (
-    ([], 18) ∷ (history, 61) ∷ (learned_first ∷ learned_second ∷ [], 110) ∷ (learned_first ∷ took_back ∷ [], 87)
+-- 18 bytes without a book, and more for the records of each row, or of a count where a book has none
+tight_ends : Gives tight (
+    (empty_state, 18) ∷ (books (book 1 1 [] ∷ []), 34) ∷ (first_state, 61) ∷ (second_state, 110)
+    ∷ (books (book 1 2 (katsushika_row ∷ first_row ∷ []) ∷ book 2 1 [] ∷ book 3 1 (first_row ∷ []) ∷ []), 169)
+    ∷ [])
+unfolding lib.Utf8.encode
+tight_ends = refl
+
+-- the tight end after a history: what was taken back leaves no more than a count
+tight_after : Gives (λ (entries : List Entry). tight (state_after empty_state entries)) (
+    ([], 18) ∷ (history, 61) ∷ (learned_first ∷ learned_second ∷ [], 110) ∷ (learned_first ∷ took_back ∷ [], 34)
     ∷ (looked_up ∷ lacked ∷ full ∷ failed ∷ [], 18)
     ∷ [])
 unfolding lib.Utf8.encode
-rooms_after = refl
+tight_after = refl
 
 -- the calls that changed something, the state that they make, and the bytes that they need, each at its own state
 calls_that_changed : Gives changes (
@@ -216,80 +225,77 @@ abbrev opening : Opening
 opening = opening_of_limit 64
 
 -- 49 bytes behind the first 18 pass 66 bytes, but not 67
-full_is_legal : IsLegalAnswer LacksRoom (opening_of_limit 66) empty_state 18 learn_katsushika
+full_is_legal : IsLegalAnswer LacksRoom (opening_of_limit 66) empty_state learn_katsushika
     (Refused (JournalFull 18 49 66))
 unfolding lib.Utf8.encode
 full_is_legal = (refl, (refl, refl, refl, omega arith))
 
-room_for_all : IsLegalAnswer LacksRoom (opening_of_limit 67) empty_state 18 learn_katsushika
+room_for_all : IsLegalAnswer LacksRoom (opening_of_limit 67) empty_state learn_katsushika
     (Refused (JournalFull 18 49 67)) → ⊥
 unfolding lib.Utf8.encode
 room_for_all h = omega (arith, h.1.3)
 
 -- the file is told to be full at its own end, need and limit alone, and for a change alone
-other_end : IsLegalAnswer LacksRoom opening empty_state 18 learn_katsushika (Refused (JournalFull 19 49 64)) → ⊥
+other_end : IsLegalAnswer LacksRoom opening empty_state learn_katsushika (Refused (JournalFull 19 49 64)) → ⊥
 other_end h = let e : 19 ≡ 18 = h.1.0 in omega (arith, e)
 
-other_need : IsLegalAnswer LacksRoom opening empty_state 18 learn_katsushika (Refused (JournalFull 18 48 64)) → ⊥
+other_need : IsLegalAnswer LacksRoom opening empty_state learn_katsushika (Refused (JournalFull 18 48 64)) → ⊥
 unfolding lib.Utf8.encode
 other_need h = let e : 48 ≡ 49 = h.1.1 in omega (arith, e)
 
-other_limit : IsLegalAnswer LacksRoom opening empty_state 18 learn_katsushika (Refused (JournalFull 18 49 65)) → ⊥
+other_limit : IsLegalAnswer LacksRoom opening empty_state learn_katsushika (Refused (JournalFull 18 49 65)) → ⊥
 other_limit h = let e : 65 ≡ 64 = h.1.2 in omega (arith, e)
 
-no_change : IsLegalAnswer LacksRoom (opening_of_limit 17) empty_state 18 lookup_kanji (Refused (JournalFull 18 0 17))
+no_change : IsLegalAnswer LacksRoom (opening_of_limit 17) empty_state lookup_kanji (Refused (JournalFull 18 0 17))
     → ⊥
 no_change h = false≢true h.0
 
 -- the disk may fail a change alone
-disk_is_legal : IsLegalAnswer LacksRoom opening empty_state 18 learn_kanji (Refused Disk)
+disk_is_legal : IsLegalAnswer LacksRoom opening empty_state learn_kanji (Refused Disk)
 unfolding lib.Utf8.encode
 disk_is_legal = refl
 
-disk_is_not_legal : IsLegalAnswer LacksRoom opening empty_state 18 lookup_kanji (Refused Disk) → ⊥
+disk_is_not_legal : IsLegalAnswer LacksRoom opening empty_state lookup_kanji (Refused Disk) → ⊥
 disk_is_not_legal h = false≢true h
 
 -- memory may lack for each call
-memory_is_legal : IsLegalAnswer LacksRoom opening empty_state 18 lookup_kanji (Refused Memory)
+memory_is_legal : IsLegalAnswer LacksRoom opening empty_state lookup_kanji (Refused Memory)
 memory_is_legal = tt
 
 -- a reply is the dictionary's, over the files, and no other
-reply_is_legal : IsLegalAnswer LacksRoom opening empty_state 18 lookup_kanji found_kanji
+reply_is_legal : IsLegalAnswer LacksRoom opening empty_state lookup_kanji found_kanji
 reply_is_legal = refl
 
-other_reply : IsLegalAnswer LacksRoom opening empty_state 18 lookup_kanji (Done (replies.Found [])) → ⊥
+other_reply : IsLegalAnswer LacksRoom opening empty_state lookup_kanji (Done (replies.Found [])) → ⊥
 other_reply h = cc
 
 -- Legal histories
 
--- each answer is legal at the state and the end that the answers before it leave
-abbrev IsLegalFrom : Opening → State → ℕ → List Entry → Type 0
-IsLegalFrom over state end [] = Unit {0}
-IsLegalFrom over state end (entry ∷ rest) =
-    IsLegalAnswer LacksRoom over state end entry.call entry.answer
-    × IsLegalFrom over (after_entry state entry) (end_after state end entry) rest
+-- each answer is legal at the state that the answers before it leave
+abbrev IsLegalFrom : Opening → State → List Entry → Type 0
+IsLegalFrom over state [] = Unit {0}
+IsLegalFrom over state (entry ∷ rest) =
+    IsLegalAnswer LacksRoom over state entry.call entry.answer × IsLegalFrom over (after_entry state entry) rest
 
 -- a history that is legal answer by answer is legal
-legal_by_answers : (over : Opening) (state : State) (end : ℕ) (whole : List Entry) → IsLegalFrom over state end whole
+legal_by_answers : (over : Opening) (state : State) (whole : List Entry) → IsLegalFrom over state whole
     → (prefix : List Entry) (entry : Entry) (rest : List Entry) → whole ≡ prefix ++ entry ∷ rest
-    → IsLegalAnswer LacksRoom over (state_after state prefix) (room state end prefix) entry.call entry.answer
-legal_by_answers over state end [] legal [] entry rest e = cc
-legal_by_answers over state end [] legal (p ∷ prefix) entry rest e = cc
-legal_by_answers over state end (first_entry ∷ whole) legal [] entry rest e =
+    → IsLegalAnswer LacksRoom over (state_after state prefix) entry.call entry.answer
+legal_by_answers over state [] legal [] entry rest e = cc
+legal_by_answers over state [] legal (p ∷ prefix) entry rest e = cc
+legal_by_answers over state (first_entry ∷ whole) legal [] entry rest e =
     let same : first_entry ≡ entry = cc in
-    subst (λ (x : Entry). IsLegalAnswer LacksRoom over state end x.call x.answer) same legal.0
-legal_by_answers over state end (first_entry ∷ whole) legal (p ∷ prefix) entry rest e =
+    subst (λ (x : Entry). IsLegalAnswer LacksRoom over state x.call x.answer) same legal.0
+legal_by_answers over state (first_entry ∷ whole) legal (p ∷ prefix) entry rest e =
     let same : first_entry ≡ p = cc in
     let behind : whole ≡ prefix ++ entry ∷ rest = cc in
-    subst (λ (x : Entry). IsLegalAnswer LacksRoom over (state_after (after_entry state x) prefix)
-    (room (after_entry state x) (end_after state end x) prefix) entry.call entry.answer)
-    same (legal_by_answers over (after_entry state first_entry) (end_after state end first_entry) whole legal.1 prefix
-    entry rest behind)
+    subst (λ (x : Entry). IsLegalAnswer LacksRoom over (state_after (after_entry state x) prefix) entry.call
+    entry.answer) same (legal_by_answers over (after_entry state first_entry) whole legal.1 prefix entry rest behind)
 
--- a learning, and behind it another for which the file is full: it ends at 61 by then
+-- a learning, and behind it another for which the file is full: what it holds by then ends at 61
 legal_history : IsLegal opening (learned_first ∷ full ∷ [])
 unfolding lib.Utf8.encode
-legal_history = legal_by_answers opening empty_state 18 (learned_first ∷ full ∷ []) (
+legal_history = legal_by_answers opening empty_state (learned_first ∷ full ∷ []) (
   refl,
   ((refl, (refl, refl, refl, omega arith)), tt),
 )
@@ -297,7 +303,7 @@ legal_history = legal_by_answers opening empty_state 18 (learned_first ∷ full 
 -- two learnings, where the stamp of the second is the next one
 legal_learnings : IsLegal opening (learned_first ∷ learned_second ∷ [])
 unfolding lib.Utf8.encode
-legal_learnings = legal_by_answers opening empty_state 18 (learned_first ∷ learned_second ∷ []) (refl, (refl, tt))
+legal_learnings = legal_by_answers opening empty_state (learned_first ∷ learned_second ∷ []) (refl, (refl, tt))
 
 -- the stamp that a reply tells
 abbrev stamp_told : Reply → ℕ

@@ -1,6 +1,6 @@
 -- Histories: which calls were answered how, in one order.
 use Rattle.std.specs.Prelude.{◌≡◌, ⊤, ℕ, ◌+◌, ◌<◌, Bool, true, false, ◌==◌, if◌then◌else◌, Option, None, Some, List, []}
-use Rattle.std.specs.Prelude.{◌∷◌, ◌++◌, map}
+use Rattle.std.specs.Prelude.{◌∷◌, ◌++◌, map, sum_by}
 use Rattle.std.specs.List.{filter, filter_map}
 use Rattle.skk_text.specs.Text.{byte_len}
 use Rattle.skk_calls.specs.declared.answer.Answer.{Answer}
@@ -48,9 +48,17 @@ state_after state (entry ∷ history) = state_after (after_entry state entry) hi
 abbrev pub changes : List Entry → List Call
 changes history = map (λ entry. entry.call) (filter (λ entry. tells_change entry.answer) history)
 
--- the bytes of the gate of a record in the learned file
+-- the bytes of a gate in the learned file, be it that of a record, its own or the last one
 abbrev pub gate_bytes : ℕ
 gate_bytes = 1
+
+-- the bytes of the mark of a learned file
+abbrev pub mark_bytes : ℕ
+mark_bytes = 8
+
+-- the bytes of the generation of a learned file
+abbrev pub generation_bytes : ℕ
+generation_bytes = 8
 
 -- the bytes of a record's length
 abbrev pub length_bytes : ℕ
@@ -101,14 +109,22 @@ need state (Learn book key okuri cand) =
 need state (Purge book key word) = put_need (purged (row_at state book key) key word (count_of state book + 1))
 need state (Unlearn learned) = restored_need learned.key (unlearnt learned)
 
--- the end of the learned file after an entry
-abbrev pub end_after : State → ℕ → Entry → ℕ
-end_after state end entry = if tells_change entry.answer then end + need state entry.call else end
+-- the bytes that the record of a book's count needs
+abbrev pub count_need : ℕ
+count_need = gate_bytes + length_bytes + kind_bytes + book_bytes + count_bytes
 
--- the end of the learned file after a history
-abbrev pub room : State → ℕ → List Entry → ℕ
-room state end [] = end
-room state end (entry ∷ history) = room (after_entry state entry) (end_after state end entry) history
+-- the bytes that the records of a book with these rows need: one for each row, or for its count where it has none
+abbrev pub rows_need : List Row → ℕ
+rows_need [] = count_need
+rows_need (row ∷ rows) = sum_by put_need (row ∷ rows)
+
+-- the bytes of a learned file without records: its own gate, its mark, its generation, and the gate behind them
+abbrev pub least_end : ℕ
+least_end = gate_bytes + mark_bytes + generation_bytes + gate_bytes
+
+-- the end of a learned file that has just the records of a compaction of a state
+abbrev pub tight : State → ℕ
+tight state = least_end + sum_by (λ book. rows_need book.rows) state.books
 
 -- the state after calls, one after another
 abbrev pub after_calls : State → List Call → State
@@ -120,35 +136,34 @@ abbrev pub needs : State → List Call → ℕ
 needs state [] = 0
 needs state (call ∷ calls) = need state call + needs (after state call) calls
 
--- what is told of a learned file that is full: its end, what a call needs, and its limit
+-- what is told of a learned file that is full: its tight end, what a call needs, and its limit
 pub record FullFile : Type 0 where
   pub end : ℕ
   pub need : ℕ
   pub limit : ℕ
 
--- a learned file with this end has no room for what a call needs at a state, and what is told of it is so
-abbrev pub LacksRoom : Opening → State → ℕ → Call → FullFile → Type 0
-LacksRoom opening state end call told =
-    (told.end ≡ end) × (told.need ≡ need state call) × (told.limit ≡ opening.limit)
-    × (opening.limit < end + need state call)
+-- a learned file that holds a state has no room for what a call needs, also where it holds nothing else, and what is
+-- told of it is so
+abbrev pub LacksRoom : Opening → State → Call → FullFile → Type 0
+LacksRoom opening state call told =
+    (told.end ≡ tight state) × (told.need ≡ need state call) × (told.limit ≡ opening.limit)
+    × (opening.limit < tight state + need state call)
 
--- an answer is the dictionary's at this state and end, or a refusal with its cause: out of memory, a disk that failed a
--- change, or a learned file that was full for a change, as `Full` says of what is told
-abbrev pub IsLegalAnswer : (Opening → State → ℕ → Call → FullFile → Type 0) → Opening → State → ℕ → Call
-    → Answer → Type 0
-IsLegalAnswer Full opening state end call (Done reply) = reply ≡ answer opening.files state call
-IsLegalAnswer Full opening state end call (Refused refusals.Memory) = ⊤
-IsLegalAnswer Full opening state end call (Refused refusals.Disk) = moves state call ≡ true
-IsLegalAnswer Full opening state end call (Refused (refusals.JournalFull told_end told_need told_limit)) =
+-- an answer is the dictionary's at this state, or a refusal with its cause: out of memory, a disk that failed a change,
+-- or a learned file that was full for a change, as `Full` says of what is told
+abbrev pub IsLegalAnswer : (Opening → State → Call → FullFile → Type 0) → Opening → State → Call → Answer → Type 0
+IsLegalAnswer Full opening state call (Done reply) = reply ≡ answer opening.files state call
+IsLegalAnswer Full opening state call (Refused refusals.Memory) = ⊤
+IsLegalAnswer Full opening state call (Refused refusals.Disk) = moves state call ≡ true
+IsLegalAnswer Full opening state call (Refused (refusals.JournalFull told_end told_need told_limit)) =
     (moves state call ≡ true)
-    × Full opening state end call (record { end = told_end; need = told_need; limit = told_limit })
+    × Full opening state call (record { end = told_end; need = told_need; limit = told_limit })
 
 -- each answer of a history is legal at its place, where a learned file is full as `Full` says
-abbrev pub IsLegalWhere : (Opening → State → ℕ → Call → FullFile → Type 0) → Opening → List Entry → Type 0
+abbrev pub IsLegalWhere : (Opening → State → Call → FullFile → Type 0) → Opening → List Entry → Type 0
 IsLegalWhere Full opening history =
     (prefix : List Entry) (entry : Entry) (rest : List Entry) → history ≡ prefix ++ entry ∷ rest
-    → IsLegalAnswer Full opening (state_after opening.state prefix) (room opening.state opening.end prefix)
-    entry.call entry.answer
+    → IsLegalAnswer Full opening (state_after opening.state prefix) entry.call entry.answer
 
 -- each answer of a history is legal at its place
 abbrev pub IsLegal : Opening → List Entry → Type 0

@@ -8,7 +8,7 @@ use Rattle.skk_calls.specs.declared.chronicle.Noted.{Noted}
 use Rattle.skk_calls.specs.declared.entry.Entry.{Entry}
 use Rattle.skk_calls.specs.Chronicles.{noted_entry, history_of}
 use Rattle.skk_calls.specs.Histories.{Opening, FullFile, IsLegalAnswer, IsLegalWhere, after_entry, state_after}
-use Rattle.skk_calls.specs.Histories.{end_after, room, in_doubt, in_doubt_after, said_by, dialog}
+use Rattle.skk_calls.specs.Histories.{in_doubt, in_doubt_after, said_by, dialog}
 use Rattle.skk_calls.specs.States.{State}
 
 -- the state after one entry more
@@ -16,13 +16,6 @@ pub state-more : (state : State) (history : List Entry) (entry : Entry)
     → state_after state (history ++ entry ∷ []) ≡ after_entry (state_after state history) entry
 state-more state [] entry = refl
 state-more state (first ∷ history) entry = state-more (after_entry state first) history entry
-
--- the end of the learned file after one entry more
-pub room-more : (state : State) (end : ℕ) (history : List Entry) (entry : Entry)
-    → room state end (history ++ entry ∷ []) ≡ end_after (state_after state history) (room state end history) entry
-room-more state end [] entry = refl
-room-more state end (first ∷ history) entry =
-    room-more (after_entry state first) (end_after state end first) history entry
 
 -- the calls in doubt after one entry more
 pub doubt-more : (calls : List Call) (history : List Entry) (entry : Entry)
@@ -64,19 +57,17 @@ split-last (first ∷ history) entry (head ∷ prefix) one rest e =
     ]
 
 -- a legal history is legal with one entry more whose answer is legal behind it
-pub legal-more : (Full : Opening → State → ℕ → Call → FullFile → Type 0) (opening : Opening) (history : List Entry)
+pub legal-more : (Full : Opening → State → Call → FullFile → Type 0) (opening : Opening) (history : List Entry)
     (entry : Entry) → IsLegalWhere Full opening history
-    → IsLegalAnswer Full opening (state_after opening.state history) (room opening.state opening.end history)
-    entry.call entry.answer
+    → IsLegalAnswer Full opening (state_after opening.state history) entry.call entry.answer
     → IsLegalWhere Full opening (history ++ entry ∷ [])
 legal-more Full opening history entry legal last prefix one rest e =
     elim (split-last history entry prefix one rest e) [
       | inl within ↦ legal prefix one within.0 within.1
       | inr end ↦
-          subst (λ (h : List Entry). IsLegalAnswer Full opening (state_after opening.state h)
-          (room opening.state opening.end h) one.call one.answer) end.0
-          (subst (λ (x : Entry). IsLegalAnswer Full opening (state_after opening.state history)
-          (room opening.state opening.end history) x.call x.answer) end.1 last)
+          subst (λ (h : List Entry). IsLegalAnswer Full opening (state_after opening.state h) one.call one.answer) end.0
+          (subst (λ (x : Entry). IsLegalAnswer Full opening (state_after opening.state history) x.call x.answer)
+          end.1 last)
     ]
 
 -- the history of a chronicle with one note more

@@ -32,7 +32,8 @@ pub enum Refusal {
     Memory,
     /// The disk failed.
     Disk,
-    /// The learned file ends at a byte, and the change needs more than its limit leaves.
+    /// No learned file has room for the change within the limit: with the rows that stand and nothing else it would end
+    /// at a byte, and the change needs more than the limit leaves there. All are bytes.
     JournalFull { end: u64, need: u64, limit: u64 },
 }
 

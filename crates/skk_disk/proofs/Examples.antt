@@ -6,7 +6,7 @@ use Rattle.skk_disk.specs.declared.made_call.MadeCall.{MadeCall}
 use Rattle.skk_disk.specs.declared.made_call.MadeCall.TheVariants.{Write, TornWrite, Cut, TornCut, Sync}
 use Rattle.skk_outside.specs.Memory.{no_call_yet, after_failure}
 use Rattle.skk_disk.specs.Image.{Image, part, other, with_part}
-use Rattle.skk_disk.specs.Steps.{placed, SameByte, IsOutside}
+use Rattle.skk_disk.specs.Steps.{placed, SameByte, IsOutside, InFile, Makes}
 use Rattle.skk_disk.specs.FileStates.{MayLeave, IsUntouched, empty_file}
 use Rattle.skk_disk.specs.MadeCalls.{MemDiskState, HasFailed, made_by, seen_after}
 
@@ -41,6 +41,21 @@ outside = (
   inr (lit≤ tt),
   λ is. elim is [ inl front ↦ omega (arith, front) | inr behind ↦ omega (arith, behind) ],
   λ is. elim is [ inl front ↦ omega (arith, front) | inr behind ↦ omega (arith, behind) ],
+)
+
+-- a step in the second file leaves the first one: where that was empty it has a byte now
+abbrev filled : List ℕ → List ℕ → Type 0
+filled = Makes (λ old. old ≡ []) (λ new. new ≡ 5 ∷ [])
+
+step : InFile B filled (record { a = 1 ∷ []; b = [] }) (record { a = 1 ∷ []; b = 5 ∷ [] })
+    × (¬ InFile B filled (record { a = 1 ∷ []; b = [] }) (record { a = 2 ∷ []; b = 5 ∷ [] }))
+    × (¬ InFile B filled (record { a = 1 ∷ []; b = [] }) (record { a = 1 ∷ []; b = 6 ∷ [] }))
+    × InFile B filled (record { a = []; b = 9 ∷ [] }) (record { a = []; b = 6 ∷ [] })
+step = (
+  record { this = λ is. refl; that = refl },
+  λ is. let same = is.that in cc,
+  λ is. let made = is.this refl in cc,
+  record { this = λ is. absurd (cc); that = refl },
 )
 
 -- a file was written and synced, written at its second byte, and written behind its end by a call that failed

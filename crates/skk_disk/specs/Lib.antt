@@ -5,4 +5,6 @@ pub mod MadeCallLaws
 pub mod MadeCalls
 pub mod MomentLaws
 pub mod Moments
+pub mod StepLaws
 pub mod Steps
+pub mod SyncLaws

@@ -42,6 +42,10 @@ pub record InFile (file : Which) (step : List ℕ → List ℕ → Type 0) (old 
   pub this : step (part file old) (part file new)
   pub that : part (other file) new ≡ part (other file) old
 
+-- where a file was so, it is so now
+abbrev pub Makes : (List ℕ → Type 0) → (List ℕ → Type 0) → List ℕ → List ℕ → Type 0
+Makes P Q old new = P old → Q new
+
 -- each of the images now is one from before, after a step
 abbrev pub ComeFrom : (Image → Image → Type 0) → (Image → Type 0) → (Image → Type 0) → Type 0
 ComeFrom step before now = (new : Image) → now new → (old : Image) × before old × step old new

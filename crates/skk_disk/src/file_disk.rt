@@ -11,10 +11,11 @@ use skk_text::Text;
 use std::fs::{File, Files};
 use std::io;
 
-/// A disk of two files of the system, each opened at the first call on it, and made then where it is absent. It tells
-/// nothing of what they hold: that the system keeps what was synced is trusted. One disk has a first file at a time: it
-/// is locked when it is opened, before anything is read of it, and up to the disk's end; each call on it fails where
-/// another disk has it, in this program or in another.
+/// A disk of two files of the system, each opened at the first call on it. Where it is absent the first one is made
+/// then, and the second one by the first write on it: until then it is empty. It tells nothing of what they hold: that
+/// the system keeps what was synced is trusted. One disk has a first file at a time: it is locked when it is opened,
+/// before anything is read of it, and up to the disk's end; each call on it fails where another disk has it, in this
+/// program or in another.
 #[derive(Drop)]
 pub struct FileDisk<R: Files<File = File>> {
     files: R,

@@ -6,7 +6,8 @@ use std::io::{self, ErrorKind};
 use std::os::unix::fs::FileExt;
 use std::path::Path;
 
-// A file of the system by its name, which is opened at the first call on it, and made then where it is absent.
+// A file of the system by its name, which is opened at the first call on it. One that is absent is made by the first
+// write, and by the first call where it is to be locked; until then it is empty.
 #[derive(Drop)]
 pub(crate) struct HostFile {
     name: Text,
@@ -40,7 +41,10 @@ impl HostFile {
     }
 
     pub(crate) fn len<R: Files<File = File>>(&mut self, files: &R) -> io::Result<u64> {
-        Ok(self.open(files)?.metadata()?.len())
+        match self.find(files)? {
+            Some(file) => Ok(file.metadata()?.len()),
+            None => Ok(0),
+        }
     }
 
     pub(crate) fn read_at<R: Files<File = File>>(
@@ -51,7 +55,10 @@ impl HostFile {
     ) -> io::Result<usize>
         ensures bound { ReadsAtMost result into.new }
     {
-        self.open(files)?.read_at(into, at)
+        match self.find(files)? {
+            Some(file) => file.read_at(into, at),
+            None => Ok(0),
+        }
     }
 
     // Bytes are written whole, or there is a fault.
@@ -71,21 +78,35 @@ impl HostFile {
 
     // The system would fill a shorter file up.
     pub(crate) fn cut<R: Files<File = File>>(&mut self, files: &R, len: u64) -> io::Result<()> {
-        let file = self.open(files)?;
-        if file.metadata()?.len() <= len {
-            return Ok(());
+        match self.find(files)? {
+            Some(file) if file.metadata()?.len() > len => file.set_len(len),
+            _ => Ok(()),
         }
-        file.set_len(len)
     }
 
     // The first sync is one of the folder too: the file may have been made now, or by a program that was stopped.
     pub(crate) fn sync<R: Files<File = File>>(&mut self, files: &R) -> io::Result<()> {
-        self.open(files)?.sync_data()?;
+        let Some(file) = self.find(files)? else {
+            return Ok(());
+        };
+        file.sync_data()?;
         if !self.is_named {
             sync_folder(files, self.name.as_str())?;
             self.is_named = true;
         }
         Ok(())
+    }
+
+    // The file, where there is one.
+    fn find<R: Files<File = File>>(&mut self, files: &R) -> io::Result<Option<&File>> {
+        if self.is_locked || self.file.is_some() {
+            return Ok(Some(self.open(files)?));
+        }
+        match open_present(files, self.name.as_str()) {
+            Ok(file) => Ok(Some(self.file.insert(file))),
+            Err(error) if error.kind() == ErrorKind::NotFound => Ok(None),
+            Err(error) => Err(error),
+        }
     }
 
     fn open<R: Files<File = File>>(&mut self, files: &R) -> io::Result<&File> {
@@ -103,6 +124,12 @@ impl HostFile {
         }
         Ok(file)
     }
+}
+
+fn open_present<R: Files<File = File>>(files: &R, name: &str) -> io::Result<File> {
+    let mut how = OpenOptions::new();
+    how.read(true).write(true);
+    how.open(files, name)
 }
 
 fn open_or_make<R: Files<File = File>>(files: &R, name: &str) -> io::Result<File> {

@@ -6,11 +6,12 @@
 //! allow, and in which chosen calls fail.
 //!
 //! `FileDisk` is two files of the system. It is trusted: no clause says what they hold. It makes these calls
-//! of the system, and no other: `open` of a file for reading and writing, which makes it where it is absent,
-//! at the first call on it, and for the first file `flock`, exclusive and without waiting; `fstat` for its
-//! length; `pread`, and `pwrite` until all bytes are written; `ftruncate` to a smaller length, and for an empty
-//! write behind the end to a greater one; `fdatasync` for a sync, and with a file's first one `open` and `fsync`
-//! of its folder, where the system lets it; and `close`.
+//! of the system, and no other: `open` of a file for reading and writing at the first call on it, which makes
+//! the first file where it is absent, and the second one where the call is a write, and for the first file
+//! `flock`, exclusive and without waiting; `fstat` for its length; `pread`, and `pwrite` until all bytes are
+//! written; `ftruncate` to a smaller length, and for an empty write behind the end to a greater one;
+//! `fdatasync` for a sync, and with a file's first one `open` and `fsync` of its folder, where the system lets
+//! it; and `close`.
 #![tactic(auto)]
 
 mod call_record;

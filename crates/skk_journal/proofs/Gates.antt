@@ -1,50 +1,51 @@
 -- What the two steps of adding records leave of a file.
 use Rattle.std.proofs.Common.{◌≡◌, ℕ, ◌+◌, List, [], ◌∷◌, ◌++◌, length, get_or, drop, sym, ◌∙◌, ap, subst, arith}
 use Rattle.std.proofs.Common.{append_assoc, length-append}
+use Rattle.std.specs.Int.{w64}
+use Rattle.exact_readers.specs.Numbers.{number_bytes}
+use Rattle.exact_readers.specs.NumberLaws.{told_64}
 use Rattle.skk_disk.specs.Steps.{PartlyWritten, placed, IsPlaced}
 use Rattle.skk_journal.specs.Records.{framed, front, behind_gate, IsAddition, end_of, HasRecords, HasAddition}
 use Rattle.skk_journal.proofs.Places.{torn_behind, torn_at, placed_behind, placed_at}
 
-length_front : (generation : List ℕ) (records : List (List ℕ)) → length generation ≡ 8
-    → length (front generation records) + 1 ≡ end_of records
-length_front generation records whole = omega (arith, length-append generation (framed records))
+length_front : (generation : ℕ) (records : List (List ℕ)) → length (front generation records) + 1 ≡ end_of records
+length_front generation records =
+    omega (arith, length-append (number_bytes w64 generation) (framed records), told_64.long generation)
 
-module _ (records : List (List ℕ)) where
+module _ (generation : ℕ) (records : List (List ℕ)) where
   -- a torn write behind the closed gate
-  pub stage_torn : (n end : ℕ) (old new : List ℕ) → end ≡ end_of records → HasRecords records old
-      → PartlyWritten (record { at = end; count = n }) old new → HasRecords records new
+  pub stage_torn : (n end : ℕ) (old new : List ℕ) → end ≡ end_of records → HasRecords generation records old
+      → PartlyWritten (record { at = end; count = n }) old new → HasRecords generation records new
   stage_torn n end old new is from torn =
-      let pre = front from.generation records in
+      let pre = front generation records in
       record {
-        generation = from.generation;
         gate = from.gate;
         rest = drop end new;
         is =
-            torn_behind end n pre from.gate from.rest new (is ∙ sym (length_front from.generation records from.whole))
+            torn_behind end n pre from.gate from.rest new (is ∙ sym (length_front generation records))
             (subst (λ (l : List ℕ). PartlyWritten (record { at = end; count = n }) l new) from.is torn);
-        whole = from.whole;
+        told = from.told;
         sized = from.sized;
         closed = from.closed;
       }
 
   -- a whole one
   pub stage_placed : (end : ℕ) (added : List (List ℕ)) (old new : List ℕ) → end ≡ end_of records → IsAddition added
-      → HasRecords records old → IsPlaced end (behind_gate added ++ 0 ∷ []) old new
-      → (gate : ℕ) × HasAddition records added gate new
+      → HasRecords generation records old → IsPlaced end (behind_gate added ++ 0 ∷ []) old new
+      → (gate : ℕ) × HasAddition generation records added gate new
   stage_placed end added old new is addition from whole =
-      let pre = front from.generation records in
+      let pre = front generation records in
       let bytes = behind_gate added ++ 0 ∷ [] in
       let tail = drop (length bytes) from.rest in (
         from.gate,
         record {
-          generation = from.generation;
           rest = tail;
           is =
               whole ∙ ap (placed end bytes) from.is
               ∙ placed_behind end bytes pre from.gate from.rest
-              (is ∙ sym (length_front from.generation records from.whole))
+              (is ∙ sym (length_front generation records))
               ∙ ap (λ (l : List ℕ). pre ++ from.gate ∷ l) (append_assoc (behind_gate added) (0 ∷ []) tail);
-          whole = from.whole;
+          told = from.told;
           sized = from.sized;
           addition = addition;
         },
@@ -52,19 +53,19 @@ module _ (records : List (List ℕ)) where
 
   -- a torn write of the gate
   pub gate_torn : (at : ℕ) (added : List (List ℕ)) (old new : List ℕ) → at + 1 ≡ end_of records
-      → (gate : ℕ) × HasAddition records added gate old → PartlyWritten (record { at = at; count = 1 }) old new
-      → (gate : ℕ) × HasAddition records added gate new
+      → (gate : ℕ) × HasAddition generation records added gate old → PartlyWritten
+      (record { at = at; count = 1 }) old new
+      → (gate : ℕ) × HasAddition generation records added gate new
   gate_torn at added old new is from torn =
-      let pre = front from.1.generation records in (
+      let pre = front generation records in (
         get_or new at 0,
         record {
-          generation = from.1.generation;
           rest = from.1.rest;
           is =
               torn_at at pre from.0 (behind_gate added ++ 0 ∷ from.1.rest) new
-              (omega (arith, is, length_front from.1.generation records from.1.whole))
+              (omega (arith, is, length_front generation records))
               (subst (λ (l : List ℕ). PartlyWritten (record { at = at; count = 1 }) l new) from.1.is torn);
-          whole = from.1.whole;
+          told = from.1.told;
           sized = from.1.sized;
           addition = from.1.addition;
         },
@@ -72,18 +73,17 @@ module _ (records : List (List ℕ)) where
 
   -- a whole one
   pub gate_placed : (at gate : ℕ) (added : List (List ℕ)) (old new : List ℕ) → at + 1 ≡ end_of records
-      → (before : ℕ) × HasAddition records added before old → IsPlaced at (gate ∷ []) old new
-      → HasAddition records added gate new
+      → (before : ℕ) × HasAddition generation records added before old → IsPlaced at (gate ∷ []) old new
+      → HasAddition generation records added gate new
   gate_placed at gate added old new is from whole =
-      let pre = front from.1.generation records in
+      let pre = front generation records in
       record {
-        generation = from.1.generation;
         rest = from.1.rest;
         is =
             whole ∙ ap (placed at (gate ∷ [])) from.1.is
             ∙ placed_at at gate pre from.0 (behind_gate added ++ 0 ∷ from.1.rest)
-            (omega (arith, is, length_front from.1.generation records from.1.whole));
-        whole = from.1.whole;
+            (omega (arith, is, length_front generation records));
+        told = from.1.told;
         sized = from.1.sized;
         addition = from.1.addition;
       }

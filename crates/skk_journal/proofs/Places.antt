@@ -60,7 +60,7 @@ torn_at at pre gate rest new is torn =
     ∙ ap (λ (l : List ℕ). pre ++ l) (drop_more new at 0 (omega (arith, torn.at_least, whole))
     ∙ ap (λ (l : List ℕ). get_or new at 0 ∷ l) tail)
 
-no_gap : (at : ℕ) (file : List ℕ) → at ≤ length file → replicate {A = ℕ} (at - length file) 0 ≡ []
+pub no_gap : (at : ℕ) (file : List ℕ) → at ≤ length file → replicate {A = ℕ} (at - length file) 0 ≡ []
 no_gap at file within =
     let none : at - length file ≡ 0 = omega arith in ap (λ (n : ℕ). replicate {A = ℕ} n 0) none
 

@@ -1,5 +1,8 @@
 -- Why a learned file is not opened, and why a record is not added.
-use Rattle.std.specs.Prelude.{◌≡◌, ⊤, ℕ, ◌+◌, ◌<◌, ◌≤◌, List}
+use Rattle.std.specs.Prelude.{◌≡◌, ⊤, ℕ, ◌+◌, ◌<◌, ◌≤◌}
+use Rattle.skk_disk.specs.Image.{Image}
+use Rattle.skk_disk.specs.declared.which.Which.{Which}
+use Rattle.skk_disk.specs.declared.which.Which.TheVariants.{A, B}
 use Rattle.skk_journal.specs.declared.fault.OpenFault.{OpenFault}
 use Rattle.skk_journal.specs.declared.fault.OpenFault.TheVariants as opening
 use Rattle.skk_journal.specs.declared.fault.AppendFault.{AppendFault}
@@ -9,12 +12,19 @@ use Rattle.skk_journal.specs.Opening.{not_journal, bad_record, IsOpened}
 use Rattle.skk_journal.specs.Found.{payloads, found_from}
 use Rattle.skk_journal.specs.Journal.{OpenJournal}
 
--- a file that is refused is opened so, and the records that are given stand at their places
-abbrev pub IsRefused : List ℕ → OpenFault → Type 0
-IsRefused file (opening.NotJournal first) = IsOpened file (not_journal first)
-IsRefused file (opening.BadRecord at before) =
-    IsOpened file (bad_record at (payloads before)) × (before ≡ found_from first_place (payloads before))
-IsRefused file fault = ⊤
+-- the number by which a file is told
+abbrev pub file_number : Which → ℕ
+file_number A = 0
+file_number B = 1
+
+-- an image that is refused is opened so, and the records that are given stand at their places
+abbrev pub IsRefused : Image → OpenFault → Type 0
+IsRefused image (opening.NotJournal number first) =
+    (file : Which) × (number ≡ file_number file) × IsOpened image (not_journal file first)
+IsRefused image (opening.BadRecord number at before) =
+    (file : Which) × (number ≡ file_number file) × IsOpened image (bad_record file at (payloads before))
+    × (before ≡ found_from first_place (payloads before))
+IsRefused image fault = ⊤
 
 -- a fact holds unless a disk failed
 abbrev pub UnlessDisk : OpenFault → Type 0 → Type 0

@@ -76,7 +76,7 @@ sized_payload-exact = record {
               })
         ]
 
--- so is a record
+-- a record behind an open gate is one too
 pub open_record-exact : IsExact open_record
 open_record-exact = behind-exact sized_payload sized_payload-exact (1 ∷ [])
 
@@ -92,7 +92,7 @@ framed_spelled (payload ∷ records) sized = (
   refl,
 )
 
--- and bytes that spell records are those, framed
+-- bytes that spell records are those records, framed
 pub spelled_framed : (records : List (List ℕ)) (bytes : List ℕ) → SpellsMany open_record.Spells records bytes
     → All IsSized records × (bytes ≡ framed records)
 spelled_framed [] bytes spelled = (All-nil IsSized, spelled)
@@ -102,7 +102,7 @@ spelled_framed (payload ∷ records) bytes (front, back, (inner, (sized, inner_i
       is ∙ ap (λ ys. front ++ ys) later.1 ∙ ap (λ ys. ys ++ framed records) (front_is ∙ ap (λ ys. 1 ∷ ys) inner_is),
     )
 
--- what is read is the payload of a record
+-- where a payload is read, its record stands in front of the rest
 record_spelled : (tail payload rest : List ℕ) → open_record.step tail ≡ Some (payload, rest)
     → IsSized payload × (tail ≡ record_bytes payload ++ rest)
 record_spelled tail payload rest e =
@@ -110,7 +110,7 @@ record_spelled tail payload rest e =
     let (inner, (sized, inner_is), piece_is) = is.spelled in
     (sized, is.tokens_are ∙ ap (λ ys. ys ++ rest) (piece_is ∙ ap (λ ys. 1 ∷ ys) inner_is))
 
--- so is what is read with some rest
+-- where a payload is read, its record stands in front of some rest
 pub record_read : (tail payload : List ℕ) → option_map (λ read. read.0) (open_record.step tail) ≡ Some payload
     → (rest : List ℕ) × IsSized payload × (tail ≡ record_bytes payload ++ rest)
 record_read tail payload e =
@@ -132,7 +132,7 @@ none_read tail (inl (gate, rest, is, shut)) = ap open_record.step is ∙ grind (
 none_read [] (inr bad) = refl
 none_read (gate ∷ bytes) (inr bad) = grind (arith, bad)
 
--- and they stop where none is read
+-- records stop where none is read
 pub stops_at : (tail : List ℕ) → open_record.step tail ≡ None → Stops tail
 stops_at [] none = inr refl
 stops_at (gate ∷ bytes) none = elim (cases_eq gate 1) [
@@ -140,7 +140,7 @@ stops_at (gate ∷ bytes) none = elim (cases_eq gate 1) [
   | inl is_open ↦ inr (grind (arith, none, is_open))
 ]
 
--- so from the place of a gate on they stop, or one stands whole
+-- from the place of a gate on records stop, or one stands whole
 pub at_gate : (tail : List ℕ)
     → Stops tail ⊎ ((payload rest : List ℕ) × IsSized payload × (tail ≡ record_bytes payload ++ rest))
 at_gate tail = by (open_record.step tail) refl
@@ -159,7 +159,7 @@ read_again records tail sized stops =
     taken-complete open_record open_record-exact records (framed records) tail (framed_spelled records sized)
     (none_read tail stops)
 
--- so bytes are one list of records and one tail where they stop
+-- bytes are one list of records and one tail where they stop
 pub one_list : (xs ys : List (List ℕ)) (s t : List ℕ) → All IsSized xs → All IsSized ys → Stops s → Stops t
     → framed xs ++ s ≡ framed ys ++ t → (xs ≡ ys) × (s ≡ t)
 one_list xs ys s t sized_xs sized_ys stop_s stop_t same =

@@ -1,33 +1,26 @@
--- What each image of a disk is opened as.
-use Rattle.std.specs.Prelude.{◌≡◌, ◌⊎◌, ℕ, List, ◌++◌}
-use Rattle.skk_disk.specs.Image.{Image}
-use Rattle.skk_journal.specs.Records.{HasRecords, HasAddition}
+-- What each image of a disk is opened as, and what its files have: one fact on a file, and one on the other.
+use Rattle.std.specs.Prelude.{⊤, ◌⊎◌, List, ℕ}
+use Rattle.skk_disk.specs.Image.{Image, part, other}
+use Rattle.skk_disk.specs.declared.which.Which.{Which}
 use Rattle.skk_journal.specs.Opening.{IsOpened, with_records}
 
 -- this holds of each of these images
 abbrev pub Each : (Image → Type 0) → (Image → Type 0) → Type 0
 Each images P = (image : Image) → images image → P image
 
--- an image has just these records
-abbrev pub Holds : List (List ℕ) → Image → Type 0
-Holds records image = HasRecords records image.a
+-- this file of an image is so, and the other one so
+pub record Sides (file : Which) (P Q : List ℕ → Type 0) (image : Image) : Type 0 where
+  pub this : P (part file image)
+  pub that : Q (part (other file) image)
 
--- an image is opened with these records: it has them, or it is made anew and there are none
+-- an image is opened with these records
 abbrev pub Opens : List (List ℕ) → Image → Type 0
-Opens records image = IsOpened image.a (with_records records)
+Opens records image = IsOpened image (with_records records)
 
--- an image has the added records whole behind these ones and this gate
-abbrev pub HoldsGated : List (List ℕ) → List (List ℕ) → ℕ → Image → Type 0
-HoldsGated records added gate image = HasAddition records added gate image.a
+-- an image is opened with these records, or with those
+abbrev pub OpensEither : List (List ℕ) → List (List ℕ) → Image → Type 0
+OpensEither records others image = Opens records image ⊎ Opens others image
 
--- an image has the added records whole behind these ones and some gate, which may be open or closed
-abbrev pub HoldsBehind : List (List ℕ) → List (List ℕ) → Image → Type 0
-HoldsBehind records added image = (gate : ℕ) × HoldsGated records added gate image
-
--- an image has just these records, or the added ones too
-abbrev pub HoldsEither : List (List ℕ) → List (List ℕ) → Image → Type 0
-HoldsEither records added image = Holds records image ⊎ Holds (records ++ added) image
-
--- the second file stays as it was
-abbrev pub SameOther : Image → Image → Type 0
-SameOther old new = new.b ≡ old.b
+-- a file goes on in any way
+abbrev pub Anyhow : List ℕ → List ℕ → Type 0
+Anyhow old new = ⊤

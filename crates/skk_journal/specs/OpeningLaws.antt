@@ -1,153 +1,217 @@
--- Each file is opened in one way only.
-use Rattle.std.specs.Prelude.{◌≡◌, ◌≢◌, ℕ, ◌≤◌, true, false, nat_lt, List, [], ◌∷◌, ◌++◌, length, drop}
-use Rattle.std.specs.Prelude.{All}
-use Rattle.std.proofs.Common.{inl, inr, refl, sym, ◌∙◌, ap, subst, arith, append_assoc, length-append}
+-- What an image whose files have these facts is opened as, and that each image is opened in one way only.
+use Rattle.std.specs.Prelude.{◌≡◌, ◌≢◌, ℕ, ◌^◌, ◌<◌, Bool, true, false, not, if◌then◌else◌}
+use Rattle.std.specs.Prelude.{None, Some, List, [], ◌∷◌, ◌++◌, drop, All}
+use Rattle.std.specs.Int.{w64}
+use Rattle.std.proofs.Common.{inl, inr, refl, sym, ◌∙◌, ap, subst, arith, append_assoc}
 use Rattle.std.proofs.lemmas.Bool.{both_ways}
-use Rattle.std.proofs.lemmas.Bool.Decides.{nat_tests}
 use Rattle.std.proofs.lemmas.List.{drop_at}
-use Rattle.skk_journal.specs.Records.{IsSized, framed, mark, front, place_behind, HasRecords}
+use Rattle.exact_readers.specs.Numbers.{number, number_bytes}
+use Rattle.exact_readers.specs.NumberLaws.{told_64, number-exact}
+use Rattle.skk_disk.specs.Image.{Image, part, other}
+use Rattle.skk_disk.specs.declared.which.Which.{Which}
+use Rattle.skk_disk.specs.declared.which.Which.TheVariants.{A, B}
+use Rattle.skk_journal.specs.declared.live.Live.{Live}
+use Rattle.skk_journal.specs.declared.head.Head.{Head}
+use Rattle.skk_journal.specs.declared.head.Head.TheVariants.{Fresh, Foreign, Headed}
+use Rattle.skk_journal.specs.declared.choice.Choice.{Choice}
+use Rattle.skk_journal.specs.declared.choice.Choice.TheVariants.{NoneBy, CutShortIn, NoLive, LiveIn}
+use Rattle.skk_journal.specs.Records.{IsSized, mark, generation_place, framed, front, place_behind, HasRecords, Marked}
 use Rattle.skk_journal.specs.FrameLaws.{Stops, one_list}
-use Rattle.skk_journal.specs.Opening.{is_fresh, is_foreign, is_cut_short, is_bad}
-use Rattle.skk_journal.specs.Opening.{BreaksOff, Opening, with_records, not_journal, bad_record, IsOpened}
+use Rattle.skk_journal.specs.Generations.{first_counts, file_counts}
+use Rattle.skk_journal.specs.Heads.{is_fresh, is_foreign, first_byte, headed_by, head_of}
+use Rattle.skk_journal.specs.Choice.{lives, choice_of, choice}
+use Rattle.skk_journal.specs.Idle.{IsIdle}
+use Rattle.skk_journal.specs.Opening.{is_bad, BreaksOff, Opening, with_records, not_journal, bad_record, HasChosen}
+use Rattle.skk_journal.specs.Opening.{BreaksOffIn, IsOpened}
+use Rattle.skk_journal.specs.Images.{Opens}
+
+-- a file with an open gate, the mark and a generation is headed
+pub marked_head : (generation : ℕ) (file : List ℕ) → Marked 1 generation file → head_of file ≡ Headed generation
+marked_head generation file marked =
+    let fits : generation < 256 ^ 8 = omega (arith, marked.told) in
+    subst (λ (l : List ℕ). head_of l ≡ Headed generation) (sym marked.is)
+    (ap headed_by
+    ((number-exact w64 told_64).complete (number_bytes w64 generation) generation marked.rest (fits, refl)))
+
+-- a file with records has an open gate, the mark and its generation
+pub has_marked : (generation : ℕ) (records : List (List ℕ)) (file : List ℕ) → HasRecords generation records file
+    → Marked 1 generation file
+has_marked generation records file has = record {
+  rest = framed records ++ has.gate ∷ has.rest;
+  is =
+      has.is
+      ∙ ap (λ (l : List ℕ). 1 ∷ (mark ++ l))
+      (append_assoc (number_bytes w64 generation) (framed records) (has.gate ∷ has.rest));
+  told = has.told;
+}
+
+fresh_head : (file : List ℕ) → is_fresh file ≡ true → head_of file ≡ Fresh
+fresh_head file is =
+    ap (λ (b : Bool). if b then Fresh else if is_foreign file then Foreign (first_byte file)
+    else headed_by ((number w64).step (drop generation_place file))) is
+
+-- the choice by heads that are known
+chosen : (image : Image) (first second : Head) → head_of image.a ≡ first → head_of image.b ≡ second
+    → choice image ≡ choice_of first second
+chosen image first second is also =
+    ap (λ (h : Head). choice_of h (head_of image.b)) is ∙ ap (choice_of first) also
+
+not_false : (b : Bool) → not b ≡ true → b ≡ false
+not_false true is = sym is
+not_false false is = refl
+
+-- the live file is chosen beside an idle one
+live_chosen : (live : Live) (image : Image) → Marked 1 live.generation (part live.file image)
+    → IsIdle (Some live) (part (other live.file) image) → choice image ≡ LiveIn live
+live_chosen live image marked idle = by live.file refl marked idle
+  where
+    named : (file : Which) → live.file ≡ file → lives file live.generation ≡ LiveIn live
+    named file at = ap (λ (f : Which). lives f live.generation) (sym at)
+
+    by : (file : Which) → live.file ≡ file → Marked 1 live.generation (part file image)
+        → IsIdle (Some live) (part (other file) image) → choice image ≡ LiveIn live
+    by A at marked (inl is_fresh) =
+        chosen image (Headed live.generation) Fresh (marked_head _ _ marked) (fresh_head image.b is_fresh)
+        ∙ named A at
+    by A at marked (inr (older, old, wins)) =
+        let which : first_counts live.generation older ≡ true =
+        ap (λ (f : Which). file_counts f live.generation older) (sym at) ∙ wins in
+        chosen image (Headed live.generation) (Headed older) (marked_head _ _ marked) (marked_head _ _ old)
+        ∙ ap (λ (b : Bool). if b then lives A live.generation else lives B older) which ∙ named A at
+    by B at marked (inl is_fresh) =
+        chosen image Fresh (Headed live.generation) (fresh_head image.a is_fresh) (marked_head _ _ marked)
+        ∙ named B at
+    by B at marked (inr (older, old, wins)) =
+        let won : not (first_counts older live.generation) ≡ true =
+        ap (λ (f : Which). file_counts f live.generation older) (sym at) ∙ wins in
+        chosen image (Headed older) (Headed live.generation) (marked_head _ _ old) (marked_head _ _ marked)
+        ∙ ap (λ (b : Bool). if b then lives A older else lives B live.generation)
+        (not_false (first_counts older live.generation) won)
+        ∙ named B at
+
+-- an image whose live file has records, and whose other file is idle, is opened with them
+pub sides_open : (live : Live) (records : List (List ℕ)) (image : Image)
+    → HasRecords live.generation records (part live.file image) → IsIdle (Some live) (part (other live.file) image)
+    → Opens records image
+sides_open live records image has idle =
+    subst (HasChosen image records)
+    (sym (live_chosen live image (has_marked live.generation records (part live.file image) has) idle)) has
+
+-- where the second file is fresh, and the first one is fresh or has no records, the image is opened with none
+pub none_open : (image : Image) → IsIdle None image.a → is_fresh image.b ≡ true → Opens [] image
+none_open image (inl is_fresh) also =
+    subst (HasChosen image []) (sym (chosen image Fresh Fresh (fresh_head image.a is_fresh) (fresh_head image.b also)))
+    refl
+none_open image (inr (generation, has)) also =
+    subst (HasChosen image [])
+    (sym (chosen image (Headed generation) Fresh (marked_head generation image.a (has_marked generation [] image.a has))
+    (fresh_head image.b also))) has
 
 -- a closed gate is not bad
 pub shut_is_good : (gate : ℕ) (rest tail : List ℕ) → tail ≡ gate ∷ rest → gate ≢ 1 → is_bad tail ≡ false
 shut_is_good gate rest tail is shut = grind (arith, is, shut)
 
--- a file has a whole head, these records, and this tail, where they stop
-record Reads (records : List (List ℕ)) (tail file : List ℕ) : Type 0 where
-  generation : List ℕ
+-- a file of a generation has these records, and this tail, where they stop
+record Reads (generation : ℕ) (records : List (List ℕ)) (tail file : List ℕ) : Type 0 where
   is : file ≡ front generation records ++ tail
-  whole : length generation ≡ 8
   sized : All IsSized records
   stops : Stops tail
 
-reads_of_has : (records : List (List ℕ)) (file : List ℕ) (has : HasRecords records file)
-    → Reads records (has.gate ∷ has.rest) file
-reads_of_has records file has = record {
-  generation = has.generation;
-  is = has.is;
-  whole = has.whole;
-  sized = has.sized;
-  stops = inl (has.gate, has.rest, refl, has.closed);
-}
+module _ (generation : ℕ) (file : List ℕ) where
+  reads_of_has : (records : List (List ℕ)) (has : HasRecords generation records file)
+      → Reads generation records (has.gate ∷ has.rest) file
+  reads_of_has records has =
+      record { is = has.is; sized = has.sized; stops = inl (has.gate, has.rest, refl, has.closed) }
 
-reads_of_bad : (records : List (List ℕ)) (at : ℕ) (file : List ℕ) (off : BreaksOff records at file)
-    → Reads records off.tail file
-reads_of_bad records at file off = record {
-  generation = off.generation;
-  is = off.is;
-  whole = off.whole;
-  sized = off.sized;
-  stops = inr off.bad;
-}
+  reads_of_bad : (records : List (List ℕ)) (at : ℕ) (off : BreaksOff generation records at file)
+      → Reads generation records off.tail file
+  reads_of_bad records at off = record { is = off.is; sized = off.sized; stops = inr off.bad }
 
-one_reading : (xs ys : List (List ℕ)) (s t file : List ℕ) → Reads xs s file → Reads ys t file → (xs ≡ ys) × (s ≡ t)
-one_reading xs ys s t file one two =
-    let same : one.generation ++ (framed xs ++ s) ≡ two.generation ++ (framed ys ++ t) =
-    sym (append_assoc one.generation (framed xs) s) ∙ ap (λ (l : List ℕ). drop 9 l) (sym one.is ∙ two.is)
-    ∙ append_assoc two.generation (framed ys) t in
-    one_list xs ys s t one.sized two.sized one.stops two.stops
-    (sym (drop_at one.generation (framed xs ++ s) 8 one.whole) ∙ ap (λ (l : List ℕ). drop 8 l) same
-    ∙ drop_at two.generation (framed ys ++ t) 8 two.whole)
+  one_reading : (xs ys : List (List ℕ)) (s t : List ℕ) → Reads generation xs s file → Reads generation ys t file
+      → (xs ≡ ys) × (s ≡ t)
+  one_reading xs ys s t one two =
+      let bytes = number_bytes w64 generation in
+      let same : bytes ++ (framed xs ++ s) ≡ bytes ++ (framed ys ++ t) =
+      sym (append_assoc bytes (framed xs) s) ∙ ap (λ (l : List ℕ). drop 9 l) (sym one.is ∙ two.is)
+      ∙ append_assoc bytes (framed ys) t in
+      one_list xs ys s t one.sized two.sized one.stops two.stops
+      (sym (drop_at bytes (framed xs ++ s) 8 (told_64.long generation)) ∙ ap (λ (l : List ℕ). drop 8 l) same
+      ∙ drop_at bytes (framed ys ++ t) 8 (told_64.long generation))
 
-module _ (records : List (List ℕ)) (tail file : List ℕ) (reads : Reads records tail file) where
-  not_fresh : is_fresh file ≡ false
-  not_fresh = subst (λ (l : List ℕ). is_fresh l ≡ false) (sym reads.is) refl
+  one_records : (xs ys : List (List ℕ)) → HasRecords generation xs file → HasRecords generation ys file → xs ≡ ys
+  one_records xs ys one two = (one_reading _ _ _ _ (reads_of_has xs one) (reads_of_has ys two)).0
 
-  not_foreign : is_foreign file ≡ false
-  not_foreign = subst (λ (l : List ℕ). is_foreign l ≡ false) (sym reads.is) refl
+  not_both : (xs ys : List (List ℕ)) (at : ℕ) → HasRecords generation xs file → BreaksOff generation ys at file → ⊥
+  not_both xs ys at has off =
+      let same = one_reading _ _ _ _ (reads_of_has xs has) (reads_of_bad ys at off) in
+      both_ways (is_bad off.tail) (shut_is_good has.gate has.rest off.tail (sym same.1) has.closed) off.bad
 
-  not_cut_short : is_cut_short file ≡ false
-  not_cut_short =
-      let behind = (reads.generation ++ framed records) ++ tail in
-      let long : 16 ≤ length (mark ++ behind) = omega (
-        arith,
-        reads.whole,
-        length-append (reads.generation ++ framed records) tail,
-        length-append reads.generation (framed records),
-      ) in
-      let no : nat_lt (length (mark ++ behind)) 16 ≡ false = grind (arith, nat_tests) in
-      subst (λ (l : List ℕ). is_cut_short l ≡ false) (sym reads.is) no
+  one_place : (xs ys : List (List ℕ)) (at place : ℕ) → BreaksOff generation xs at file
+      → BreaksOff generation ys place file → (at ≡ place) × (xs ≡ ys)
+  one_place xs ys at place one two =
+      let same = one_reading _ _ _ _ (reads_of_bad xs at one) (reads_of_bad ys place two) in
+      (one.place ∙ ap place_behind same.0 ∙ sym two.place, same.0)
 
--- a file with records is not made anew
-pub has_not_fresh : (records : List (List ℕ)) (file : List ℕ) → HasRecords records file → is_fresh file ≡ false
-has_not_fresh records file has = not_fresh records (has.gate ∷ has.rest) file (reads_of_has records file has)
+module _ (image : Image) where
+  -- by one choice an image is opened in one way
+  records_alone : (xs ys : List (List ℕ)) (c : Choice) → HasChosen image xs c → HasChosen image ys c → xs ≡ ys
+  records_alone xs ys (NoneBy file first) one two = absurd one
+  records_alone xs ys (CutShortIn file) one two = absurd one
+  records_alone xs ys NoLive one two = one ∙ sym two
+  records_alone xs ys (LiveIn live) one two =
+      one_records live.generation (part live.file image) xs ys one two
 
-fresh_not_foreign : (file : List ℕ) → is_fresh file ≡ true → is_foreign file ≡ true → ⊥
-fresh_not_foreign [] fresh foreign = cc
-fresh_not_foreign (first ∷ []) fresh foreign = cc
-fresh_not_foreign (first ∷ second ∷ rest) fresh foreign = grind arith
+  not_refused : (xs ys : List (List ℕ)) (file : Which) (at : ℕ) (c : Choice) → HasChosen image xs c
+      → BreaksOffIn image file at ys c → ⊥
+  not_refused xs ys file at (NoneBy other first) one two = one
+  not_refused xs ys file at (CutShortIn other) one two = one
+  not_refused xs ys file at NoLive one two = two
+  not_refused xs ys file at (LiveIn live) one two = not_both live.generation (part live.file image) xs ys at one two.1
 
-fresh_not_cut : (file : List ℕ) → is_fresh file ≡ true → is_cut_short file ≡ true → ⊥
-fresh_not_cut [] fresh cut = cc
-fresh_not_cut (first ∷ []) fresh cut = grind arith
-fresh_not_cut (first ∷ second ∷ rest) fresh cut = grind arith
+  refused_alone : (file which : Which) (at place : ℕ) (xs ys : List (List ℕ)) (c : Choice)
+      → BreaksOffIn image file at xs c → BreaksOffIn image which place ys c
+      → bad_record file at xs ≡ bad_record which place ys
+  refused_alone file which at place xs ys (NoneBy other first) one two = absurd one
+  refused_alone file which at place xs ys (CutShortIn cut) one two =
+      λ i. bad_record ((one.0 ∙ sym two.0) i) ((one.1 ∙ sym two.1) i) ((one.2 ∙ sym two.2) i)
+  refused_alone file which at place xs ys NoLive one two = absurd one
+  refused_alone file which at place xs ys (LiveIn live) one two =
+      let same = one_place live.generation (part live.file image) xs ys at place one.1 two.1 in
+      λ i. bad_record ((one.0 ∙ sym two.0) i) (same.0 i) (same.1 i)
 
-foreign_not_cut : (file : List ℕ) → is_foreign file ≡ true → is_cut_short file ≡ true → ⊥
-foreign_not_cut [] foreign cut = cc
-foreign_not_cut (first ∷ []) foreign cut = cc
-foreign_not_cut (first ∷ second ∷ rest) foreign cut = grind arith
+  none_with : (file : Which) (first : ℕ) (c : Choice) (xs : List (List ℕ)) → c ≡ NoneBy file first
+      → HasChosen image xs c → ⊥
+  none_with file first c xs is has = subst (HasChosen image xs) is has
 
-module _ (file : List ℕ) where
-  records_alone : (records : List (List ℕ)) (other : Opening) → HasRecords records file → IsOpened file other
-      → with_records records ≡ other
-  records_alone records (with_records others) has (inl also) =
-      ap with_records (one_reading _ _ _ _ file (reads_of_has records file has) (reads_of_has others file also)).0
-  records_alone records (with_records others) has (inr fresh) =
-      absurd (both_ways (is_fresh file) (has_not_fresh records file has) fresh.1)
-  records_alone records (not_journal first) has foreign =
-      absurd (both_ways (is_foreign file) (not_foreign _ _ file (reads_of_has records file has)) foreign.0)
-  records_alone records (bad_record at before) has (inl cut) =
-      absurd (both_ways (is_cut_short file) (not_cut_short _ _ file (reads_of_has records file has)) cut.0)
-  records_alone records (bad_record at before) has (inr off) =
-      let same = one_reading _ _ _ _ file (reads_of_has records file has) (reads_of_bad before at file off) in
-      absurd (both_ways (is_bad off.tail) (shut_is_good has.gate has.rest off.tail (sym same.1) has.closed) off.bad)
+  none_bad : (file which : Which) (first at : ℕ) (c : Choice) (xs : List (List ℕ)) → c ≡ NoneBy file first
+      → BreaksOffIn image which at xs c → ⊥
+  none_bad file which first at c xs is off = subst (BreaksOffIn image which at xs) is off
 
-  fresh_alone : (other : Opening) → is_fresh file ≡ true → IsOpened file other → with_records [] ≡ other
-  fresh_alone (with_records others) fresh (inl has) =
-      absurd (both_ways (is_fresh file) (has_not_fresh others file has) fresh)
-  fresh_alone (with_records others) fresh (inr also) = ap with_records (sym also.0)
-  fresh_alone (not_journal first) fresh foreign = absurd (fresh_not_foreign file fresh foreign.0)
-  fresh_alone (bad_record at before) fresh (inl cut) = absurd (fresh_not_cut file fresh cut.0)
-  fresh_alone (bad_record at before) fresh (inr off) =
-      absurd (both_ways (is_fresh file) (not_fresh _ _ file (reads_of_bad before at file off)) fresh)
+  abbrev first_of : Choice → ℕ
+  first_of (NoneBy file first) = first
+  first_of other = 0
 
-  foreign_alone : (first : ℕ) (other : Opening) → IsOpened file (not_journal first) → IsOpened file other
-      → not_journal first ≡ other
-  foreign_alone first (with_records records) foreign (inl has) =
-      sym (records_alone records (not_journal first) has foreign)
-  foreign_alone first (with_records records) foreign (inr fresh) = absurd (fresh_not_foreign file fresh.1 foreign.0)
-  foreign_alone first (not_journal second) foreign also = ap not_journal (foreign.1 ∙ sym also.1)
-  foreign_alone first (bad_record at before) foreign (inl cut) = absurd (foreign_not_cut file foreign.0 cut.0)
-  foreign_alone first (bad_record at before) foreign (inr off) =
-      absurd (both_ways (is_foreign file) (not_foreign _ _ file (reads_of_bad before at file off)) foreign.0)
+  abbrev file_of : Choice → Which
+  file_of (NoneBy file first) = file
+  file_of other = A
 
-  bad_alone : (at place : ℕ) (before others : List (List ℕ)) → IsOpened file (bad_record at before)
-      → IsOpened file (bad_record place others) → bad_record at before ≡ bad_record place others
-  bad_alone at place before others (inl cut) (inl also) =
-      λ i. bad_record ((cut.1 ∙ sym also.1) i) ((cut.2 ∙ sym also.2) i)
-  bad_alone at place before others (inl cut) (inr off) =
-      absurd (both_ways (is_cut_short file) (not_cut_short _ _ file (reads_of_bad others place file off)) cut.0)
-  bad_alone at place before others (inr off) (inl cut) =
-      absurd (both_ways (is_cut_short file) (not_cut_short _ _ file (reads_of_bad before at file off)) cut.0)
-  bad_alone at place before others (inr off) (inr also) =
-      let same = one_reading _ _ _ _ file (reads_of_bad before at file off) (reads_of_bad others place file also) in
-      let places : at ≡ place = off.place ∙ ap place_behind same.0 ∙ sym also.place in
-      λ i. bad_record (places i) (same.0 i)
-
-  alone : (one two : Opening) → IsOpened file one → IsOpened file two → one ≡ two
-  alone (with_records records) two (inl has) is = records_alone records two has is
-  alone (with_records records) two (inr fresh) is = ap with_records fresh.0 ∙ fresh_alone two fresh.1 is
-  alone (not_journal first) two foreign is = foreign_alone first two foreign is
-  alone (bad_record at before) (with_records records) bad (inl has) =
-      sym (records_alone records (bad_record at before) has bad)
-  alone (bad_record at before) (with_records records) bad (inr fresh) =
-      sym (ap with_records fresh.0 ∙ fresh_alone (bad_record at before) fresh.1 bad)
-  alone (bad_record at before) (not_journal first) bad foreign =
-      sym (foreign_alone first (bad_record at before) foreign bad)
-  alone (bad_record at before) (bad_record place others) bad also = bad_alone at place before others bad also
-
--- whatever a file is opened as, it is opened as that alone
-pub one_opening : (file : List ℕ) (one two : Opening) → IsOpened file one → IsOpened file two → one ≡ two
-one_opening file one two is also = alone file one two is also
+-- whatever an image is opened as, it is opened as that alone
+pub one_opening : (image : Image) (one two : Opening) → IsOpened image one → IsOpened image two → one ≡ two
+one_opening image (with_records xs) (with_records ys) is also =
+    ap with_records (records_alone image xs ys (choice image) is also)
+one_opening image (with_records xs) (not_journal file first) is also =
+    absurd (none_with image file first (choice image) xs also is)
+one_opening image (with_records xs) (bad_record file at ys) is also =
+    absurd (not_refused image xs ys file at (choice image) is also)
+one_opening image (not_journal file first) (with_records ys) is also =
+    absurd (none_with image file first (choice image) ys is also)
+one_opening image (not_journal file first) (not_journal which second) is also =
+    λ i. not_journal (ap (file_of image) (sym is ∙ also) i) (ap (first_of image) (sym is ∙ also) i)
+one_opening image (not_journal file first) (bad_record which at ys) is also =
+    absurd (none_bad image file which first at (choice image) ys is also)
+one_opening image (bad_record file at xs) (with_records ys) is also =
+    absurd (not_refused image ys xs file at (choice image) also is)
+one_opening image (bad_record file at xs) (not_journal which second) is also =
+    absurd (none_bad image which file second at (choice image) xs also is)
+one_opening image (bad_record file at xs) (bad_record which place ys) is also =
+    refused_alone image file which at place xs ys (choice image) is also

@@ -1,5 +1,6 @@
 -- Records that are read one after another, part by part.
 use Rattle.std.specs.Prelude.{◌≡◌, ⊤, ℕ, ◌≤◌, true, List, ◌++◌, length, drop, All}
+use Rattle.skk_disk.specs.declared.which.Which.{Which}
 use Rattle.skk_journal.specs.declared.found.Found.{Found}
 use Rattle.skk_journal.specs.declared.frames.Stop.{Stop}
 use Rattle.skk_journal.specs.declared.frames.Stop.TheVariants.{End, Else}
@@ -11,6 +12,7 @@ use Rattle.skk_journal.specs.Records.{IsSized, first_place, framed, place_behind
 use Rattle.skk_journal.specs.Opening.{is_bad}
 use Rattle.skk_journal.specs.Frames.{Ends}
 use Rattle.skk_journal.specs.Found.{payloads, found_from}
+use Rattle.skk_journal.specs.Causes.{file_number}
 
 -- some records were read and added to others: those before a byte of the tail that stands at a place, where it is told
 pub record Takes (tells : Type 0) (tail : List ℕ) (at from : ℕ) (old new : List Found) : Type 0 where
@@ -49,8 +51,8 @@ abbrev pub TellsNoPlace : RecordsFault → Type 0
 TellsNoPlace (reading.Bad at before) = ⊥
 TellsNoPlace fault = ⊤
 
--- why records were not read is why a file is not opened
-abbrev pub SameCause : RecordsFault → OpenFault → Type 0
-SameCause reading.Disk fault = fault ≡ opening.Disk
-SameCause reading.Memory fault = fault ≡ opening.Memory
-SameCause (reading.Bad at before) fault = fault ≡ opening.BadRecord at before
+-- why the records of a file were not read is why the files are not opened
+abbrev pub SameCause : Which → RecordsFault → OpenFault → Type 0
+SameCause file reading.Disk fault = fault ≡ opening.Disk
+SameCause file reading.Memory fault = fault ≡ opening.Memory
+SameCause file (reading.Bad at before) fault = fault ≡ opening.BadRecord (file_number file) at before

@@ -1,15 +1,14 @@
 -- Laws of the bytes of records, and of what the gate of an addition makes of a file.
-use Rattle.std.specs.Prelude.{◌≡◌, ◌≢◌, ℕ, ◌+◌, List, [], ◌∷◌, ◌++◌, length}
+use Rattle.std.specs.Prelude.{◌≡◌, ◌≢◌, ◌⊎◌, ℕ, ◌+◌, List, [], ◌∷◌, ◌++◌, length}
 use Rattle.std.proofs.Common.{inl, inr, refl, sym, ◌∙◌, ap, subst, arith, append_assoc, length-append}
 use Rattle.std.proofs.lemmas.Bool.{cases_eq}
 use Rattle.std.proofs.lemmas.List.Elements.{All-append}
-use Rattle.std.specs.Int.{w32}
+use Rattle.std.specs.Int.{w32, w64}
 use Rattle.exact_readers.specs.Numbers.{number_bytes}
 use Rattle.exact_readers.specs.NumberLaws.{told_32}
-use Rattle.skk_disk.specs.Image.{Image}
 use Rattle.skk_journal.specs.Records.{record_bytes, need, framed, behind_gate, mark, front}
 use Rattle.skk_journal.specs.Records.{IsSized, end_of, HasRecords, HasAddition}
-use Rattle.skk_journal.specs.Images.{HoldsGated, HoldsBehind, HoldsEither}
+use Rattle.skk_journal.specs.Gating.{IsStaged}
 
 -- a record has five bytes more than its payload
 pub length-record_bytes : (payload : List ℕ) → length (record_bytes payload) ≡ 5 + length payload
@@ -42,49 +41,49 @@ end_of-push records payload =
     )
 
 -- the front of a file with more records
-pub front-append : (generation : List ℕ) (records added : List (List ℕ)) (rest : List ℕ)
+pub front-append : (generation : ℕ) (records added : List (List ℕ)) (rest : List ℕ)
     → front generation records ++ (framed added ++ rest) ≡ front generation (records ++ added) ++ rest
 front-append generation records added rest =
-    let inner : (generation ++ framed records) ++ (framed added ++ rest)
-    ≡ (generation ++ framed (records ++ added)) ++ rest =
-    append_assoc generation (framed records) (framed added ++ rest)
-    ∙ ap (λ (l : List ℕ). generation ++ l) (sym (append_assoc (framed records) (framed added) rest)
+    let bytes = number_bytes w64 generation in
+    let inner : (bytes ++ framed records) ++ (framed added ++ rest) ≡ (bytes ++ framed (records ++ added)) ++ rest =
+    append_assoc bytes (framed records) (framed added ++ rest)
+    ∙ ap (λ (l : List ℕ). bytes ++ l) (sym (append_assoc (framed records) (framed added) rest)
     ∙ ap (λ (l : List ℕ). l ++ rest) (sym (framed-append records added)))
-    ∙ sym (append_assoc generation (framed (records ++ added)) rest) in
+    ∙ sym (append_assoc bytes (framed (records ++ added)) rest) in
     ap (λ (l : List ℕ). 1 ∷ (mark ++ l)) inner
 
--- with a closed gate the added records do not count
-pub gated_shut : (records added : List (List ℕ)) (gate : ℕ) (file : List ℕ) → gate ≢ 1
-    → HasAddition records added gate file → HasRecords records file
-gated_shut records added gate file shut gated = record {
-  generation = gated.generation;
-  gate = gate;
-  rest = behind_gate added ++ 0 ∷ gated.rest;
-  is = gated.is;
-  whole = gated.whole;
-  sized = gated.sized;
-  closed = shut;
-}
+module _ (generation : ℕ) (records : List (List ℕ)) where
+  -- with a closed gate the added records do not count
+  pub gated_shut : (added : List (List ℕ)) (gate : ℕ) (file : List ℕ) → gate ≢ 1
+      → HasAddition generation records added gate file → HasRecords generation records file
+  gated_shut added gate file shut gated = record {
+    gate = gate;
+    rest = behind_gate added ++ 0 ∷ gated.rest;
+    is = gated.is;
+    told = gated.told;
+    sized = gated.sized;
+    closed = shut;
+  }
 
--- with an open gate the added records count
-pub gated_open : (records added : List (List ℕ)) (file : List ℕ) → HasAddition records added 1 file
-    → HasRecords (records ++ added) file
-gated_open records [] file gated = absurd (omega (arith, gated.addition.some))
-gated_open records (first ∷ others) file gated = record {
-  generation = gated.generation;
-  gate = 0;
-  rest = gated.rest;
-  is = gated.is ∙ front-append gated.generation records (first ∷ others) (0 ∷ gated.rest);
-  whole = gated.whole;
-  sized = All-append IsSized records (first ∷ others) gated.sized gated.addition.sized;
-  closed = λ same. omega (arith, same);
-}
+  -- with an open gate the added records count
+  pub gated_open : (added : List (List ℕ)) (file : List ℕ) → HasAddition generation records added 1 file
+      → HasRecords generation (records ++ added) file
+  gated_open [] file gated = absurd (omega (arith, gated.addition.some))
+  gated_open (first ∷ others) file gated = record {
+    gate = 0;
+    rest = gated.rest;
+    is = gated.is ∙ front-append generation records (first ∷ others) (0 ∷ gated.rest);
+    told = gated.told;
+    sized = All-append IsSized records (first ∷ others) gated.sized gated.addition.sized;
+    closed = λ same. omega (arith, same);
+  }
 
--- records in doubt count or they do not
-pub behind_either : (records added : List (List ℕ)) (image : Image) → HoldsBehind records added image
-    → HoldsEither records added image
-behind_either records added image from = elim (cases_eq from.0 1) [
-  | inl is_open ↦
-      inr (gated_open records added image.a (subst (λ (gate : ℕ). HoldsGated records added gate image) is_open from.1))
-  | inr shut ↦ inl (gated_shut records added from.0 image.a shut from.1)
-]
+  -- records in doubt count or they do not
+  pub staged_either : (added : List (List ℕ)) (file : List ℕ) → IsStaged generation records added file
+      → HasRecords generation records file ⊎ HasRecords generation (records ++ added) file
+  staged_either added file from = elim (cases_eq from.0 1) [
+    | inl is_open ↦
+        inr (gated_open added file
+        (subst (λ (gate : ℕ). HasAddition generation records added gate file) is_open from.1))
+    | inr shut ↦ inl (gated_shut added from.0 file shut from.1)
+  ]

@@ -1,21 +1,21 @@
 use crate::found::Records;
-use crate::records::RecordsFault;
 use skk_outside::Failed;
 use thiserror::Error;
 
-/// Why a learned file was not opened. But for `Disk` nothing of it was changed.
+/// Why a learned dictionary was not opened. But for `Disk` nothing of its files was changed. `file` is the number of
+/// the file that is refused: 0 is the first one, 1 the second one.
 #[derive(Debug, Drop, Error)]
 pub enum OpenFault {
     /// A call of the disk failed.
     #[error("the disk failed")]
     Disk,
     /// It is no learned file; `first` is its first byte.
-    #[error("the first byte is {first}")]
-    NotJournal { first: u8 },
-    /// At this place, the least such one, there is neither a good record nor a closed gate. The records before it are
-    /// given.
-    #[error("no record at {at}")]
-    BadRecord { at: u64, before: Records },
+    #[error("the first byte of file {file} is {first}")]
+    NotJournal { file: u8, first: u8 },
+    /// At this place, the least such one, there is neither a good record nor a closed gate; or, at 9, no whole
+    /// generation. The records before it are given.
+    #[error("no record at {at} of file {file}")]
+    BadRecord { file: u8, at: u64, before: Records },
     /// Out of memory.
     #[error("out of memory")]
     Memory,
@@ -29,20 +29,6 @@ impl From<Failed> for OpenFault {
 
     fn from(_failed: Failed) -> OpenFault {
         OpenFault::Disk
-    }
-}
-
-impl From<RecordsFault> for OpenFault {
-    ghost use Rattle.skk_journal.specs.Reading.{SameCause};
-
-    ghost from_gives = { SameCause };
-
-    fn from(fault: RecordsFault) -> OpenFault {
-        match fault {
-            RecordsFault::Disk => OpenFault::Disk,
-            RecordsFault::Memory => OpenFault::Memory,
-            RecordsFault::Bad { at, before } => OpenFault::BadRecord { at, before },
-        }
     }
 }
 

@@ -1,19 +1,28 @@
-ghost use Rattle.std.specs.Prelude.{◌≡◌, ◌⊎◌, ◌+◌, ◌≤◌, ◌++◌, ◌∷◌, [], List, ℕ, true, false, length};
+ghost use Rattle.std.specs.Prelude.{◌≡◌, ◌≢◌, ◌⊎◌, ◌+◌, ◌≤◌, ◌++◌, ◌∷◌, [], List, ℕ, true, false, length, All};
 ghost use Rattle.std.specs.Prelude.{IfOk, IfErr, OnOk, OnErr, IsOk, IsErrOf, MatchResult};
 ghost use Rattle.skk_outside.specs.Faults.{Rose};
+ghost use Rattle.skk_disk.specs.Image.{Image};
+ghost use Rattle.skk_disk.specs.declared.which.Which.TheVariants.{A};
 ghost use Rattle.skk_disk.specs.Moments.{Passes};
-ghost use Rattle.skk_disk.specs.Steps.{ComeFrom};
-ghost use Rattle.skk_journal.specs.Records.{IsSized, need, first_place};
+ghost use Rattle.skk_disk.specs.Steps.{InFile, ComeFrom};
+ghost use Rattle.skk_journal.specs.declared.choice.Choice.TheVariants.{NoLive, LiveIn};
+ghost use Rattle.skk_journal.specs.Records.{IsSized, need, framed, first_place};
 ghost use Rattle.skk_journal.specs.Found.{payloads, found_from};
-ghost use Rattle.skk_journal.specs.Opening.{IsOpened, with_records, OpensAtOnce, is_fresh};
-ghost use Rattle.skk_journal.specs.Images.{Each, Opens, HoldsEither, SameOther};
-ghost use Rattle.skk_journal.specs.Making.{IsNew};
-ghost use Rattle.skk_journal.specs.Journal.{Rests, Doubts};
-ghost use Rattle.skk_journal.specs.Causes.{IsRefused, UnlessDisk, IsNotAdded};
+ghost use Rattle.skk_journal.specs.Generations.{live_after};
+ghost use Rattle.skk_journal.specs.Choice.{choice};
+ghost use Rattle.skk_journal.specs.Opening.{IsOpened, with_records};
+ghost use Rattle.skk_journal.specs.Images.{Each, Opens, OpensEither, Anyhow};
+ghost use Rattle.skk_journal.specs.Filling.{IsNew};
+ghost use Rattle.skk_journal.specs.Journal.{is_in_doubt, Rests, Doubts};
+ghost use Rattle.skk_journal.specs.Causes.{file_number, IsRefused, UnlessDisk, IsNotAdded};
 
 use crate::fault::{AppendFault, OpenFault};
+use crate::filling::write_first;
 use crate::found::Records;
-use crate::opening::open_file;
+use crate::live::{Doubt, Idle, Live, generation_beside, other_file};
+use crate::opening::{number, open_files};
+use crate::ready::make_ready;
+use crate::records::FIRST_PLACE;
 use crate::steps::{CLOSED, OPEN, stage_record, write_gate};
 use skk_disk::Disk;
 use skk_outside::Failed;
@@ -23,15 +32,18 @@ use std::marker::Model;
 /// The most bytes that a record's payload has.
 pub const PAYLOAD_LIMIT: usize = 131_072;
 
-// The most bytes that are written at once: the length of a payload, the payload, and a closed gate.
+// The most bytes of a record that are written at once: the length of a payload, the payload, and a closed gate.
 pub(crate) const PIECE_ROOM: usize = 131_077;
 
-/// The learned file of a disk, open: records can be added behind those that it has.
+/// The learned dictionary of a disk, open: records can be added behind those that its live file has, and it can go over
+/// to the other file with other ones.
 #[derive(Drop)]
 pub struct Journal<D> {
     disk: D,
+    live: Live,
     end: u64,
-    in_doubt: bool,
+    idle: Idle,
+    doubt: Doubt,
     buffer: Vec<u8>,
 }
 
@@ -42,12 +54,12 @@ impl<D> Model for Journal<D> {
 
     ghost Value = { OpenJournal D };
 
-    ghost view = { λ j. record { disk = j.disk; end = j.end; in_doubt = j.in_doubt } };
+    ghost view = { λ j. record { disk = j.disk; live = j.live; end = j.end; idle = j.idle; doubt = j.doubt } };
 
     ghost invariant = { λ j. (1 ≤ j.end) × (length j.buffer.items ≡ PIECE_ROOM) };
 }
 
-/// A disk whose learned file was not opened, and why.
+/// A disk whose learned dictionary was not opened, and why.
 #[derive(Debug, Drop)]
 pub struct Unopened<D> {
     pub disk: D,
@@ -62,18 +74,29 @@ fn empty_buffer(alloc: Global) -> Result<Vec<u8>, AllocError>
 }
 
 impl<D> Journal<D> {
-    /// Whether the last record that was to be added may have been added or not. Takes no memory.
+    /// Whether a gate may stand open that is to be closed: that of the last record that was to be added, or that of the
+    /// other file. Takes no memory.
     pub fn in_doubt(&self) -> bool
-        ensures { result ≡ self.now.in_doubt }
+        ensures { result ≡ is_in_doubt self.now.doubt }
     {
-        self.in_doubt
+        match self.doubt {
+            Doubt::Calm => false,
+            Doubt::Record | Doubt::Idle => true,
+        }
     }
 
-    /// One more than the place of the closed gate behind the records. Takes no memory.
+    /// One more than the place of the closed gate behind the records of the live file. Takes no memory.
     pub fn end(&self) -> u64
         ensures { result ≡ self.now.end }
     {
         self.end
+    }
+
+    /// The number of the live file: 0 is the first one, 1 the second one. Takes no memory.
+    pub fn file(&self) -> u8
+        ensures { result ≡ file_number self.now.live.file }
+    {
+        number(self.live.file)
     }
 
     /// Gives the disk back as it is. Takes no memory.
@@ -85,38 +108,41 @@ impl<D> Journal<D> {
 }
 
 impl<D: Disk> Journal<D> {
-    /// Opens the learned file of a disk, after a sync of it, and gives its records in order. A file that is to be made
-    /// anew is made anew. It takes the memory of the records, and a buffer that each later record is written from.
+    /// Opens the learned dictionary of a disk, after a sync of both files, and gives the records of its live file in
+    /// order. Where no file is live the first one is filled with no records. It takes the memory of the records, and a
+    /// buffer that each later record is written from.
     pub fn open(alloc: Global, mut disk: D) -> Result<(Journal<D>, Records), Unopened<D>>
-        // What a read gives at the start decides.
+        // What a read gives of both files at the start decides.
         ensures opened { D.tells → IfOk result (λ opened.
-            IsOpened (D.seen disk).a (with_records (payloads opened.1))) }
-        ensures refused { D.tells → IfErr result (λ unopened. IsRefused (D.seen disk).a unopened.why) }
+            IsOpened (D.seen disk) (with_records (payloads opened.1))) }
+        ensures refused { D.tells → IfErr result (λ unopened. IsRefused (D.seen disk) unopened.why) }
+        ensures live { D.tells → choice (D.seen disk) ≢ NoLive → IfOk result (λ opened.
+            choice (D.seen disk) ≡ LiveIn opened.0.live) }
         ensures places { IfOk result (λ opened. opened.1 ≡ found_from first_place (payloads opened.1)) }
 
-        // What each image has afterwards, also where the file was made anew.
+        // What each image has afterwards, also where a file was filled.
         ensures rests { IfOk result (λ opened. Rests D.time D.left_since opened.0 (payloads opened.1)) }
-        ensures anew { D.tells → is_fresh (D.seen disk).a ≡ true → IfOk result (λ opened.
+        ensures anew { D.tells → choice (D.seen disk) ≡ NoLive → IfOk result (λ opened.
             Each (D.left_since opened.0.disk (D.time opened.0.disk)) IsNew) }
 
-        // Where each image had one and the same file, it is opened so at each moment.
-        ensures images { (records : List (List ℕ)) (file : List ℕ) →
-            Each (D.left_since disk (D.time disk)) (λ image. image.a ≡ file) → OpensAtOnce records file →
+        // Where there was one image, each one of each moment is opened as it was.
+        ensures images { (records : List (List ℕ)) (start : Image) →
+            Each (D.left_since disk (D.time disk)) (λ image. image ≡ start) → Opens records start →
             MatchResult result
             (λ opened. Each (D.left_since opened.0.disk (D.time disk)) (Opens records))
             (λ unopened. Each (D.left_since unopened.disk (D.time disk)) (Opens records)) }
 
-        // A file that is not made anew is only synced and read, and the second file is not touched.
-        ensures kept { D.tells → is_fresh (D.seen disk).a ≡ false → MatchResult result
+        // But where no file is live both are only synced and read, and the second one is in any case.
+        ensures kept { D.tells → choice (D.seen disk) ≢ NoLive → MatchResult result
             (λ opened. Each (D.left_since opened.0.disk (D.time disk)) (D.left_since disk (D.time disk)))
             (λ unopened. Each (D.left_since unopened.disk (D.time disk)) (D.left_since disk (D.time disk))) }
-        ensures seen { D.tells → is_fresh (D.seen disk).a ≡ false → MatchResult result
+        ensures seen { D.tells → choice (D.seen disk) ≢ NoLive → MatchResult result
             (λ opened. D.seen opened.0.disk ≡ D.seen disk)
             (λ unopened. UnlessDisk unopened.why (D.seen unopened.disk ≡ D.seen disk)) }
-        ensures other { MatchResult result
-            (λ opened. ComeFrom SameOther
+        ensures first_alone { MatchResult result
+            (λ opened. ComeFrom (InFile A Anyhow)
             (D.left_since disk (D.time disk)) (D.left_since opened.0.disk (D.time disk)))
-            (λ unopened. ComeFrom SameOther
+            (λ unopened. ComeFrom (InFile A Anyhow)
             (D.left_since disk (D.time disk)) (D.left_since unopened.disk (D.time disk))) }
 
         ensures past { MatchResult result
@@ -134,25 +160,27 @@ impl<D: Disk> Journal<D> {
             let why = OpenFault::Memory;
             return Err(Unopened { disk, why });
         };
-        match open_file(alloc, &mut disk, &mut buffer) {
-            Ok(read) => {
+        match open_files(alloc, &mut disk, &mut buffer) {
+            Ok(opened) => {
                 let journal = Journal {
                     disk,
-                    end: read.end,
-                    in_doubt: false,
+                    live: opened.live,
+                    end: opened.end,
+                    idle: opened.idle,
+                    doubt: Doubt::Calm,
                     buffer,
                 };
-                Ok((journal, read.records))
+                Ok((journal, opened.records))
             }
             Err(why) => Err(Unopened { disk, why }),
         }
     }
 
-    /// Adds a record behind the others: a write and a sync of it behind the closed gate, and a write and a sync of the
-    /// gate. Where one of the last two fails the record is in doubt. Takes no memory.
+    /// Adds a record behind the others of the live file: a write and a sync of it behind the closed gate, and a write
+    /// and a sync of the gate. Where one of the last two fails the record is in doubt. Takes no memory.
     #[tactic(auto, using(crate::specs::RecordLaws::need_is))]
     pub fn append(&mut self, limit: u64, payload: &[u8]) -> Result<(), AppendFault>
-        requires calm { self.old.in_doubt ≡ false }
+        requires calm { is_in_doubt self.old.doubt ≡ false }
         requires sized { IsSized payload.now }
 
         // It is added exactly where it ends within the limit and the disk does not fail.
@@ -160,20 +188,20 @@ impl<D: Disk> Journal<D> {
         ensures cause { IfErr result (IsNotAdded (need payload.now) limit self.old self.new) }
         ensures failed { IsErrOf result AppendFault.Disk → Rose (D.faults self.old.disk) (D.faults self.new.disk) }
 
-        ensures settled { OnOk result (self.new.in_doubt ≡ false) }
+        ensures settled { OnOk result (is_in_doubt self.new.doubt ≡ false) }
         ensures end { OnOk result (self.new.end ≡ self.old.end + need payload.now) }
         ensures end_stays { OnErr result (self.new.end ≡ self.old.end) }
+        ensures live { self.new.live ≡ self.old.live }
 
         // What each image has afterwards, and at each moment.
         ensures ok { OnOk result ((records : List (List ℕ)) → Rests D.time D.left_since self.old records →
             Rests D.time D.left_since self.new (records ++ payload.now ∷ [])) }
         ensures err { OnErr result ((records : List (List ℕ)) → Rests D.time D.left_since self.old records →
             Rests D.time D.left_since self.new records
-            ⊎ Doubts D.time D.left_since self.new records (payload.now ∷ [])) }
+            ⊎ Doubts D.time D.left_since self.new records (records ++ payload.now ∷ [])) }
         ensures images { (records : List (List ℕ)) → Rests D.time D.left_since self.old records →
-            Each (D.left_since self.new.disk (D.time self.old.disk)) (HoldsEither records (payload.now ∷ [])) }
-        ensures other { ComeFrom SameOther (D.left_since self.old.disk (D.time self.old.disk))
-            (D.left_since self.new.disk (D.time self.old.disk)) }
+            Each (D.left_since self.new.disk (D.time self.old.disk))
+            (OpensEither records (records ++ payload.now ∷ [])) }
 
         ensures past { Passes (D.time self.old.disk) (D.time self.new.disk)
             (D.left_since self.old.disk) (D.left_since self.new.disk) }
@@ -184,44 +212,97 @@ impl<D: Disk> Journal<D> {
         if need > limit.saturating_sub(end) {
             return Err(AppendFault::Full { end, need, limit });
         }
-        stage_record(&mut self.disk, &mut self.buffer, end, payload)?;
+        let file = self.live.file;
+        stage_record(&mut self.disk, file, &mut self.buffer, end, payload)?;
         // From here on the gate may be open.
-        self.in_doubt = true;
-        write_gate(&mut self.disk, end - 1, OPEN)?;
-        self.in_doubt = false;
+        self.doubt = Doubt::Record;
+        write_gate(&mut self.disk, file, end - 1, OPEN)?;
+        self.doubt = Doubt::Calm;
         self.end = end + need;
         Ok(())
     }
 
-    /// Closes the gate of a record in doubt: a write and a sync, or no call where nothing is in doubt. After `Failed`
-    /// the doubt stands. Takes no memory.
-    pub fn repair(&mut self) -> Result<(), Failed>
-        ensures calm { self.old.in_doubt ≡ false → IsOk result × (self.new ≡ self.old) }
+    /// Fills the other file with the bytes of these records, which is live after `Ok` with them alone: at most eleven
+    /// calls. After `Failed` the live file is the same, and the gate of the other one is in doubt where its opening was
+    /// begun. Takes no memory.
+    pub fn compact(&mut self, records: &[u8]) -> Result<(), Failed>
+        requires { is_in_doubt self.old.doubt ≡ false }
         ensures failed { OnErr result (Rose (D.faults self.old.disk) (D.faults self.new.disk)) }
 
-        ensures settled { OnOk result (self.new.in_doubt ≡ false) }
-        ensures stands { OnErr result (self.new.in_doubt ≡ true) }
-        ensures end { self.new.end ≡ self.old.end }
+        ensures settled { OnOk result (is_in_doubt self.new.doubt ≡ false) }
+        ensures end { OnOk result (self.new.end ≡ first_place + 1 + length records.now) }
+        ensures end_stays { OnErr result (self.new.end ≡ self.old.end) }
+        ensures live { OnOk result (self.new.live ≡ live_after self.old.live) }
+        ensures live_stays { OnErr result (self.new.live ≡ self.old.live) }
 
         // What each image has afterwards, and at each moment.
-        ensures ok { OnOk result ((records added : List (List ℕ)) →
-            Doubts D.time D.left_since self.old records added → Rests D.time D.left_since self.new records) }
-        ensures err { OnErr result ((records added : List (List ℕ)) →
-            Doubts D.time D.left_since self.old records added →
-            Doubts D.time D.left_since self.new records added) }
-        ensures images { (records added : List (List ℕ)) → Doubts D.time D.left_since self.old records added →
-            Each (D.left_since self.new.disk (D.time self.old.disk)) (HoldsEither records added) }
-        ensures other { ComeFrom SameOther (D.left_since self.old.disk (D.time self.old.disk))
-            (D.left_since self.new.disk (D.time self.old.disk)) }
+        ensures ok { OnOk result ((before compacted : List (List ℕ)) → All IsSized compacted →
+            records.now ≡ framed compacted → Rests D.time D.left_since self.old before →
+            Rests D.time D.left_since self.new compacted) }
+        ensures err { OnErr result ((before compacted : List (List ℕ)) → All IsSized compacted →
+            records.now ≡ framed compacted → Rests D.time D.left_since self.old before →
+            Rests D.time D.left_since self.new before ⊎ Doubts D.time D.left_since self.new before compacted) }
+        ensures images { (before compacted : List (List ℕ)) → All IsSized compacted →
+            records.now ≡ framed compacted → Rests D.time D.left_since self.old before →
+            Each (D.left_since self.new.disk (D.time self.old.disk)) (OpensEither before compacted) }
 
         ensures past { Passes (D.time self.old.disk) (D.time self.new.disk)
             (D.left_since self.old.disk) (D.left_since self.new.disk) }
         ensures counted { D.faults self.old.disk ≤ D.faults self.new.disk }
     {
-        if self.in_doubt {
-            write_gate(&mut self.disk, self.end - 1, CLOSED)?;
-            self.in_doubt = false;
-        }
+        let beside = Some(self.live);
+        let file = other_file(self.live.file);
+        let generation = generation_beside(beside);
+        make_ready(&mut self.disk, file, beside, &mut self.idle, records)?;
+        // From here on the gate may be open.
+        self.doubt = Doubt::Idle;
+        write_first(&mut self.disk, file, OPEN)?;
+        self.doubt = Doubt::Calm;
+        self.live = Live { file, generation };
+        self.idle = Idle::Loose;
+        self.end = FIRST_PLACE + 1 + records.len() as u64;
         Ok(())
+    }
+
+    /// Closes the gate in doubt: a write and a sync, or no call where nothing is in doubt. After `Failed` the doubt
+    /// stands. Takes no memory.
+    pub fn repair(&mut self) -> Result<(), Failed>
+        ensures calm { is_in_doubt self.old.doubt ≡ false → IsOk result × (self.new ≡ self.old) }
+        ensures failed { OnErr result (Rose (D.faults self.old.disk) (D.faults self.new.disk)) }
+
+        ensures settled { OnOk result (is_in_doubt self.new.doubt ≡ false) }
+        ensures stands { OnErr result (is_in_doubt self.new.doubt ≡ true) }
+        ensures end { self.new.end ≡ self.old.end }
+        ensures live { self.new.live ≡ self.old.live }
+
+        // What each image has afterwards, and at each moment.
+        ensures ok { OnOk result ((records others : List (List ℕ)) →
+            Doubts D.time D.left_since self.old records others → Rests D.time D.left_since self.new records) }
+        ensures err { OnErr result ((records others : List (List ℕ)) →
+            Doubts D.time D.left_since self.old records others →
+            Doubts D.time D.left_since self.new records others) }
+        ensures images { (records others : List (List ℕ)) → Doubts D.time D.left_since self.old records others →
+            Each (D.left_since self.new.disk (D.time self.old.disk)) (OpensEither records others) }
+        ensures rests { (records : List (List ℕ)) → Rests D.time D.left_since self.old records →
+            Each (D.left_since self.new.disk (D.time self.old.disk)) (Opens records) }
+
+        ensures past { Passes (D.time self.old.disk) (D.time self.new.disk)
+            (D.left_since self.old.disk) (D.left_since self.new.disk) }
+        ensures counted { D.faults self.old.disk ≤ D.faults self.new.disk }
+    {
+        match self.doubt {
+            Doubt::Calm => Ok(()),
+            Doubt::Record => {
+                write_gate(&mut self.disk, self.live.file, self.end - 1, CLOSED)?;
+                self.doubt = Doubt::Calm;
+                Ok(())
+            }
+            Doubt::Idle => {
+                write_first(&mut self.disk, other_file(self.live.file), CLOSED)?;
+                self.idle = Idle::Blank;
+                self.doubt = Doubt::Calm;
+                Ok(())
+            }
+        }
     }
 }

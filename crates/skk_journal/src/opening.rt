@@ -1,119 +1,221 @@
-ghost use Rattle.std.specs.Prelude.{◌≡◌, ◌≤◌, List, ℕ, true, false, length, IfOk, IfErr, IsErrOf, MatchResult};
+ghost use Rattle.std.specs.Prelude.{◌≡◌, ◌≢◌, ◌≤◌, List, ℕ, length, IfOk, IfErr, IsErrOf, MatchResult, OnOk, OnErr};
 ghost use Rattle.skk_outside.specs.Faults.{Rose};
+ghost use Rattle.skk_disk.specs.Image.{Image, part, other};
+ghost use Rattle.skk_disk.specs.declared.which.Which.TheVariants.{A};
 ghost use Rattle.skk_disk.specs.Moments.{Passes, SameImages};
-ghost use Rattle.skk_disk.specs.Steps.{ComeFrom};
-ghost use Rattle.skk_journal.specs.declared.head.Head.TheVariants.{Whole};
+ghost use Rattle.skk_disk.specs.Steps.{InFile, ComeFrom};
+ghost use Rattle.skk_journal.specs.declared.choice.Choice.TheVariants.{NoLive, LiveIn};
 ghost use Rattle.skk_journal.specs.declared.journal.TheConstants.{PIECE_ROOM};
-ghost use Rattle.skk_journal.specs.Records.{first_place, end_of, HasRecords};
+ghost use Rattle.skk_journal.specs.Records.{first_place, end_of};
 ghost use Rattle.skk_journal.specs.Found.{payloads, found_from};
-ghost use Rattle.skk_journal.specs.Opening.{IsOpened, with_records, OpensAtOnce, is_fresh};
-ghost use Rattle.skk_journal.specs.Images.{Each, Holds, Opens, SameOther};
-ghost use Rattle.skk_journal.specs.Making.{IsNew};
-ghost use Rattle.skk_journal.specs.Heads.{head_of};
-ghost use Rattle.skk_journal.specs.Causes.{IsRefused, UnlessDisk};
+ghost use Rattle.skk_journal.specs.Choice.{choice, idle_beside};
+ghost use Rattle.skk_journal.specs.Idle.{idle_of};
+ghost use Rattle.skk_journal.specs.Opening.{IsOpened, with_records};
+ghost use Rattle.skk_journal.specs.Images.{Each, Opens, Anyhow};
+ghost use Rattle.skk_journal.specs.Filling.{IsNew};
+ghost use Rattle.skk_journal.specs.Journal.{Holds};
+ghost use Rattle.skk_journal.specs.Reading.{SameCause};
+ghost use Rattle.skk_journal.specs.Causes.{file_number, IsRefused, UnlessDisk};
 
+use crate::choice::{Choice, Chosen, read_choice};
 use crate::fault::OpenFault;
+use crate::first::fill_first;
 use crate::found::Records;
-use crate::head::{Head, read_head};
+use crate::head::GENERATION_PLACE;
 use crate::journal::PIECE_ROOM;
-use crate::making::make_anew;
-use crate::records::{FILE_LIMIT, FIRST_PLACE, Read, read_records};
+use crate::live::{Idle, Live};
+use crate::records::{FILE_LIMIT, FIRST_PLACE, RecordsFault, read_records};
 use skk_disk::{Disk, Which};
+use skk_outside::Failed;
 use std::alloc::Global;
 
-// Syncs the learned file and opens it.
-pub(crate) fn open_file<D: Disk>(
+// Both files, open: the live one, what is known of the other one, the records, and one more than the place of the gate
+// behind them.
+#[derive(Debug, Drop)]
+pub(crate) struct Opened {
+    pub(crate) live: Live,
+    pub(crate) idle: Idle,
+    pub(crate) records: Records,
+    pub(crate) end: u64,
+}
+
+// Syncs both files and opens them.
+pub(crate) fn open_files<D: Disk>(
     alloc: Global,
     disk: &mut D,
     buffer: &mut [u8],
-) -> Result<Read, OpenFault>
+) -> Result<Opened, OpenFault>
     requires { length buffer.old ≡ PIECE_ROOM }
-    ensures opened { D.tells → IfOk result (λ read.
-        IsOpened (D.seen disk.old).a (with_records (payloads read.records))) }
-    ensures refused { D.tells → IfErr result (IsRefused (D.seen disk.old).a) }
-    ensures places { IfOk result (λ read. read.records ≡ found_from first_place (payloads read.records)) }
-    ensures end { IfOk result (λ read. read.end ≡ end_of (payloads read.records)) }
-    ensures now { IfOk result (λ read.
-        Each (D.left_since disk.new (D.time disk.new)) (Holds (payloads read.records))) }
-    ensures anew { D.tells → is_fresh (D.seen disk.old).a ≡ true → IfOk result (λ read.
+    ensures opened { D.tells → IfOk result (λ opened.
+        IsOpened (D.seen disk.old) (with_records (payloads opened.records))) }
+    ensures refused { D.tells → IfErr result (IsRefused (D.seen disk.old)) }
+    ensures places { IfOk result (λ opened. opened.records ≡ found_from first_place (payloads opened.records)) }
+    ensures end { IfOk result (λ opened. opened.end ≡ end_of (payloads opened.records)) }
+    ensures now { IfOk result (λ opened. Each (D.left_since disk.new (D.time disk.new))
+        (Holds opened.live opened.idle (payloads opened.records))) }
+    ensures live { D.tells → choice (D.seen disk.old) ≢ NoLive → IfOk result (λ opened.
+        choice (D.seen disk.old) ≡ LiveIn opened.live) }
+    ensures anew { D.tells → choice (D.seen disk.old) ≡ NoLive → IfOk result (λ opened.
         Each (D.left_since disk.new (D.time disk.new)) IsNew) }
-    ensures images { (records : List (List ℕ)) (file : List ℕ) →
-        Each (D.left_since disk.old (D.time disk.old)) (λ image. image.a ≡ file) → OpensAtOnce records file →
+    ensures images { (records : List (List ℕ)) (start : Image) →
+        Each (D.left_since disk.old (D.time disk.old)) (λ image. image ≡ start) → Opens records start →
         Each (D.left_since disk.new (D.time disk.old)) (Opens records) }
-    ensures kept { D.tells → is_fresh (D.seen disk.old).a ≡ false →
+    ensures kept { D.tells → choice (D.seen disk.old) ≢ NoLive →
         Each (D.left_since disk.new (D.time disk.old)) (D.left_since disk.old (D.time disk.old)) }
-    ensures seen { D.tells → is_fresh (D.seen disk.old).a ≡ false → MatchResult result
-        (λ read. D.seen disk.new ≡ D.seen disk.old)
+    ensures seen { D.tells → choice (D.seen disk.old) ≢ NoLive → MatchResult result
+        (λ opened. D.seen disk.new ≡ D.seen disk.old)
         (λ why. UnlessDisk why (D.seen disk.new ≡ D.seen disk.old)) }
-    ensures other { ComeFrom SameOther
+    ensures first_alone { ComeFrom (InFile A Anyhow)
         (D.left_since disk.old (D.time disk.old)) (D.left_since disk.new (D.time disk.old)) }
     ensures past { Passes (D.time disk.old) (D.time disk.new) (D.left_since disk.old) (D.left_since disk.new) }
     ensures failed { IsErrOf result OpenFault.Disk → Rose (D.faults disk.old) (D.faults disk.new) }
     ensures counted { D.faults disk.old ≤ D.faults disk.new }
 {
-    disk.sync(Which::A)?;
+    sync_both(disk)?;
     open_synced(alloc, disk, buffer)
 }
 
-// Opens the learned file, which was synced.
-fn open_synced<D: Disk>(alloc: Global, disk: &mut D, buffer: &mut [u8]) -> Result<Read, OpenFault>
+// Syncs both files: two calls.
+fn sync_both<D: Disk>(disk: &mut D) -> Result<(), Failed>
+    ensures durable { OnOk result (Each (D.left_since disk.new (D.time disk.new)) (λ image. image ≡ D.seen disk.new)) }
+    ensures seen { OnOk result (D.seen disk.new ≡ D.seen disk.old) }
+    ensures images { Each (D.left_since disk.new (D.time disk.old)) (D.left_since disk.old (D.time disk.old)) }
+    ensures past { Passes (D.time disk.old) (D.time disk.new) (D.left_since disk.old) (D.left_since disk.new) }
+    ensures failed { OnErr result (Rose (D.faults disk.old) (D.faults disk.new)) }
+    ensures counted { D.faults disk.old ≤ D.faults disk.new }
+{
+    disk.sync(Which::A)?;
+    disk.sync(Which::B)
+}
+
+// Opens both files, which were synced.
+fn open_synced<D: Disk>(alloc: Global, disk: &mut D, buffer: &mut [u8]) -> Result<Opened, OpenFault>
     requires { length buffer.old ≡ PIECE_ROOM }
-    ensures opened { D.tells → IfOk result (λ read.
-        IsOpened (D.seen disk.old).a (with_records (payloads read.records))) }
-    ensures refused { D.tells → IfErr result (IsRefused (D.seen disk.old).a) }
-    ensures places { IfOk result (λ read. read.records ≡ found_from first_place (payloads read.records)) }
-    ensures end { IfOk result (λ read. read.end ≡ end_of (payloads read.records)) }
-    ensures now { IfOk result (λ read.
-        Each (D.left_since disk.old (D.time disk.old)) (λ image. image.a ≡ (D.seen disk.old).a) →
-        Each (D.left_since disk.new (D.time disk.new)) (Holds (payloads read.records))) }
-    ensures anew { D.tells → is_fresh (D.seen disk.old).a ≡ true → IfOk result (λ read.
+    ensures opened { D.tells → IfOk result (λ opened.
+        IsOpened (D.seen disk.old) (with_records (payloads opened.records))) }
+    ensures refused { D.tells → IfErr result (IsRefused (D.seen disk.old)) }
+    ensures places { IfOk result (λ opened. opened.records ≡ found_from first_place (payloads opened.records)) }
+    ensures end { IfOk result (λ opened. opened.end ≡ end_of (payloads opened.records)) }
+    ensures now { IfOk result (λ opened.
+        Each (D.left_since disk.old (D.time disk.old)) (λ image. image ≡ D.seen disk.old) →
+        Each (D.left_since disk.new (D.time disk.new)) (Holds opened.live opened.idle (payloads opened.records))) }
+    ensures live { D.tells → choice (D.seen disk.old) ≢ NoLive → IfOk result (λ opened.
+        choice (D.seen disk.old) ≡ LiveIn opened.live) }
+    ensures anew { D.tells → choice (D.seen disk.old) ≡ NoLive → IfOk result (λ opened.
+        Each (D.left_since disk.old (D.time disk.old)) (λ image. image ≡ D.seen disk.old) →
         Each (D.left_since disk.new (D.time disk.new)) IsNew) }
-    ensures images { (records : List (List ℕ)) (file : List ℕ) →
-        Each (D.left_since disk.old (D.time disk.old)) (λ image. image.a ≡ file) → OpensAtOnce records file →
-        Each (D.left_since disk.new (D.time disk.old)) (Opens records) }
-    ensures kept { D.tells → is_fresh (D.seen disk.old).a ≡ false →
+    ensures images { (records : List (List ℕ)) →
+        Each (D.left_since disk.old (D.time disk.old)) (λ image. image ≡ D.seen disk.old) →
+        Opens records (D.seen disk.old) → Each (D.left_since disk.new (D.time disk.old)) (Opens records) }
+    ensures kept { D.tells → choice (D.seen disk.old) ≢ NoLive →
         SameImages (D.left_since disk.old) (D.left_since disk.new) }
-    ensures seen { D.tells → is_fresh (D.seen disk.old).a ≡ false → D.seen disk.new ≡ D.seen disk.old }
-    ensures other { ComeFrom SameOther
+    ensures seen { D.tells → choice (D.seen disk.old) ≢ NoLive → D.seen disk.new ≡ D.seen disk.old }
+    ensures first_alone { ComeFrom (InFile A Anyhow)
         (D.left_since disk.old (D.time disk.old)) (D.left_since disk.new (D.time disk.old)) }
     ensures past { Passes (D.time disk.old) (D.time disk.new) (D.left_since disk.old) (D.left_since disk.new) }
     ensures failed { IsErrOf result OpenFault.Disk → Rose (D.faults disk.old) (D.faults disk.new) }
     ensures counted { D.faults disk.old ≤ D.faults disk.new }
 {
-    match read_head(disk, buffer)? {
-        Head::Fresh => {
-            make_anew(disk)?;
-            Ok(Read {
+    let chosen = read_choice(disk, buffer)?;
+    match chosen.choice {
+        Choice::NoneBy(file, first) => Err(OpenFault::NotJournal {
+            file: number(file),
+            first,
+        }),
+        Choice::CutShortIn(file) => Err(OpenFault::BadRecord {
+            file: number(file),
+            at: GENERATION_PLACE,
+            before: Records::new(alloc),
+        }),
+        Choice::NoLive => {
+            fill_first(disk, chosen.first, chosen.second)?;
+            Ok(Opened {
+                live: Live {
+                    file: Which::A,
+                    generation: 1,
+                },
+                idle: chosen.second,
                 records: Records::new(alloc),
                 end: FIRST_PLACE + 1,
             })
         }
-        Head::Foreign(first) => Err(OpenFault::NotJournal { first }),
-        Head::CutShort => Err(OpenFault::BadRecord {
-            at: 9,
-            before: Records::new(alloc),
-        }),
-        Head::Whole => read_whole(alloc, disk, buffer),
+        Choice::LiveIn(live) => {
+            let idle = beside(live.file, &chosen);
+            open_live(alloc, disk, live, idle, buffer)
+        }
     }
 }
 
-// Reads the records of a file whose head is whole.
-fn read_whole<D: Disk>(alloc: Global, disk: &mut D, buffer: &mut [u8]) -> Result<Read, OpenFault>
-    requires room { length buffer.old ≡ PIECE_ROOM }
-    requires head { D.tells → Whole ≡ head_of (D.seen disk.old).a }
-    ensures opened { D.tells → IfOk result (λ read. HasRecords (payloads read.records) (D.seen disk.old).a) }
-    ensures refused { D.tells → IfErr result (IsRefused (D.seen disk.old).a) }
-    ensures places { IfOk result (λ read. read.records ≡ found_from first_place (payloads read.records)) }
-    ensures end { IfOk result (λ read. read.end ≡ end_of (payloads read.records)) }
+// Reads the records of the live file, beside which this is known of the other one.
+fn open_live<D: Disk>(
+    alloc: Global,
+    disk: &mut D,
+    live: Live,
+    idle: Idle,
+    buffer: &mut [u8],
+) -> Result<Opened, OpenFault>
+    requires { length buffer.old ≡ PIECE_ROOM }
+    ensures opened { D.tells → choice (D.seen disk.old) ≡ LiveIn live → IfOk result (λ opened.
+        IsOpened (D.seen disk.old) (with_records (payloads opened.records))) }
+    ensures holds { D.tells → choice (D.seen disk.old) ≡ LiveIn live →
+        idle ≡ idle_of (part (other live.file) (D.seen disk.old)) → IfOk result (λ opened.
+        Holds opened.live opened.idle (payloads opened.records) (D.seen disk.old)) }
+    ensures refused { D.tells → choice (D.seen disk.old) ≡ LiveIn live → IfErr result (IsRefused (D.seen disk.old)) }
+    ensures places { IfOk result (λ opened. opened.records ≡ found_from first_place (payloads opened.records)) }
+    ensures live { IfOk result (λ opened. opened.live ≡ live) }
+    ensures end { IfOk result (λ opened. opened.end ≡ end_of (payloads opened.records)) }
     ensures seen { D.seen disk.new ≡ D.seen disk.old }
     ensures time { D.time disk.new ≡ D.time disk.old }
     ensures images { SameImages (D.left_since disk.old) (D.left_since disk.new) }
     ensures failed { IsErrOf result OpenFault.Disk → Rose (D.faults disk.old) (D.faults disk.new) }
     ensures counted { D.faults disk.old ≤ D.faults disk.new }
 {
-    let len = disk.len(Which::A)?;
+    let len = disk.len(live.file)?;
     if len > FILE_LIMIT {
         return Err(OpenFault::Memory);
     }
-    Ok(read_records(alloc, disk, len, buffer)?)
+    match read_records(alloc, disk, live.file, len, buffer) {
+        Ok(read) => Ok(Opened {
+            live,
+            idle,
+            records: read.records,
+            end: read.end,
+        }),
+        Err(fault) => Err(refusal(live.file, fault)),
+    }
+}
+
+// Why the files are not opened where the records of one of them were not read.
+fn refusal(file: Which, fault: RecordsFault) -> OpenFault
+    ensures { SameCause file fault result }
+{
+    match fault {
+        RecordsFault::Disk => OpenFault::Disk,
+        RecordsFault::Memory => OpenFault::Memory,
+        RecordsFault::Bad { at, before } => OpenFault::BadRecord {
+            file: number(file),
+            at,
+            before,
+        },
+    }
+}
+
+// The number by which a file is told.
+pub(crate) fn number(file: Which) -> u8
+    ensures { result ≡ file_number file }
+{
+    match file {
+        Which::A => 0,
+        Which::B => 1,
+    }
+}
+
+// What is known of the file that is not this one.
+fn beside(file: Which, chosen: &Chosen) -> Idle
+    ensures { result ≡ idle_beside file chosen.now }
+{
+    match file {
+        Which::A => chosen.second,
+        Which::B => chosen.first,
+    }
 }

@@ -1,5 +1,6 @@
 ghost use Rattle.std.specs.Prelude.{◌≡◌, ◌≤◌, ◌<◌, ◌+◌, ◌^◌, length, drop, IfOk, IfErr, IsErrOf};
 ghost use Rattle.skk_outside.specs.Faults.{Rose};
+ghost use Rattle.skk_disk.specs.Image.{part};
 ghost use Rattle.skk_disk.specs.Moments.{SameImages};
 ghost use Rattle.skk_journal.specs.declared.journal.TheConstants.{PIECE_ROOM};
 ghost use Rattle.skk_journal.specs.Records.{first_place, end_of};
@@ -62,16 +63,18 @@ pub(crate) struct Read {
 pub(crate) fn read_records<D: Disk>(
     alloc: Global,
     disk: &mut D,
+    file: Which,
     len: u64,
     buffer: &mut [u8],
 ) -> Result<Read, RecordsFault>
     requires len { len ≤ 2 ^ 62 }
-    requires told { D.tells → len ≡ length (D.seen disk.old).a }
+    requires told { D.tells → len ≡ length (part file (D.seen disk.old)) }
     requires room { length buffer.old ≡ PIECE_ROOM }
-    ensures records { D.tells → IfOk result (λ read. AreRead (drop first_place (D.seen disk.old).a) read.records) }
+    ensures records { D.tells → IfOk result (λ read.
+        AreRead (drop first_place (part file (D.seen disk.old))) read.records) }
     ensures end { IfOk result (λ read. read.end ≡ end_of (payloads read.records)) }
     ensures places { IfOk result (λ read. read.records ≡ found_from first_place (payloads read.records)) }
-    ensures bad { D.tells → IfErr result (BreakOff (drop first_place (D.seen disk.old).a)) }
+    ensures bad { D.tells → IfErr result (BreakOff (drop first_place (part file (D.seen disk.old)))) }
     ensures seen { D.seen disk.new ≡ D.seen disk.old }
     ensures time { D.time disk.new ≡ D.time disk.old }
     ensures images { SameImages (D.left_since disk.old) (D.left_since disk.new) }
@@ -81,7 +84,7 @@ pub(crate) fn read_records<D: Disk>(
     let mut records = Records::new(alloc);
     let mut at = FIRST_PLACE;
     while at < len {
-        match read_part(alloc, disk, at, buffer, &mut records)? {
+        match read_part(alloc, disk, file, at, buffer, &mut records)? {
             Stop::End(from) => {
                 let end = at + from as u64 + 1;
                 return Ok(Read { records, end });
@@ -107,13 +110,14 @@ pub(crate) fn read_records<D: Disk>(
 fn read_part<D: Disk>(
     alloc: Global,
     disk: &mut D,
+    file: Which,
     at: u64,
     buffer: &mut [u8],
     records: &mut Records,
 ) -> Result<Stop, RecordsFault>
     requires place { at < 2 ^ 63 }
     requires room { length buffer.old ≡ PIECE_ROOM }
-    ensures next { IfOk result (StopsAt D.tells (drop at (D.seen disk.old).a) at records.old records.new) }
+    ensures next { IfOk result (StopsAt D.tells (drop at (part file (D.seen disk.old))) at records.old records.new) }
     ensures within { IfOk result (StopsWithin PIECE_ROOM) }
     ensures no_place { IfErr result TellsNoPlace }
     ensures seen { D.seen disk.new ≡ D.seen disk.old }
@@ -122,7 +126,7 @@ fn read_part<D: Disk>(
     ensures failed { IsErrOf result RecordsFault.Disk → Rose (D.faults disk.old) (D.faults disk.new) }
     ensures counted { D.faults disk.old ≤ D.faults disk.new }
 {
-    let n = read_full(disk, Which::A, at, buffer)?;
+    let n = read_full(disk, file, at, buffer)?;
     let stop = read_frames(alloc, &buffer[..n], at, records)?;
     Ok(stop)
 }

@@ -1,10 +1,10 @@
 ghost use Rattle.std.specs.Prelude.{◌≡◌, ◌+◌, ◌≤◌, ◌++◌, ◌∷◌, [], List, ℕ, length, OnOk, OnErr};
 ghost use Rattle.skk_outside.specs.Faults.{Rose};
 ghost use Rattle.skk_disk.specs.Moments.{Passes};
-ghost use Rattle.skk_disk.specs.Steps.{ComeFrom};
-ghost use Rattle.skk_journal.specs.Records.{IsSized, behind_gate, IsAddition, end_of};
+ghost use Rattle.skk_disk.specs.Steps.{InFile, ComeFrom};
+ghost use Rattle.skk_journal.specs.Records.{IsSized, behind_gate, IsAddition};
 ghost use Rattle.skk_journal.specs.declared.journal.TheConstants.{PIECE_ROOM};
-ghost use Rattle.skk_journal.specs.Images.{Each, Holds, HoldsBehind, HoldsGated, SameOther};
+ghost use Rattle.skk_journal.specs.Gating.{KeepsRecords, Stages, KeepsStaged, Gates};
 
 use crate::journal::PIECE_ROOM;
 use crate::piece::put_together;
@@ -19,61 +19,55 @@ pub(crate) const OPEN: u8 = 1;
 pub(crate) const CLOSED: u8 = 0;
 
 // Writes what stands behind the gate of the first of the added records, and a closed gate behind them: two calls.
-fn write_behind<D: Disk>(disk: &mut D, end: u64, piece: &[u8]) -> Result<(), Failed>
-    ensures images { (records : List (List ℕ)) → end ≡ end_of records →
-        Each (D.left_since disk.old (D.time disk.old)) (Holds records) →
-        Each (D.left_since disk.new (D.time disk.old)) (Holds records) }
-    ensures ok { OnOk result ((records added : List (List ℕ)) → end ≡ end_of records →
-        IsAddition added → piece.now ≡ behind_gate added ++ 0 ∷ [] →
-        Each (D.left_since disk.old (D.time disk.old)) (Holds records) →
-        Each (D.left_since disk.new (D.time disk.new)) (HoldsBehind records added)) }
-    ensures other { ComeFrom SameOther
+fn write_behind<D: Disk>(disk: &mut D, file: Which, end: u64, piece: &[u8]) -> Result<(), Failed>
+    ensures images { ComeFrom (InFile file (KeepsRecords end))
         (D.left_since disk.old (D.time disk.old)) (D.left_since disk.new (D.time disk.old)) }
+    ensures ok { OnOk result ((added : List (List ℕ)) → IsAddition added → piece.now ≡ behind_gate added ++ 0 ∷ [] →
+        ComeFrom (InFile file (Stages end added))
+        (D.left_since disk.old (D.time disk.old)) (D.left_since disk.new (D.time disk.new))) }
     ensures past { Passes (D.time disk.old) (D.time disk.new) (D.left_since disk.old) (D.left_since disk.new) }
     ensures failed { OnErr result (Rose (D.faults disk.old) (D.faults disk.new)) }
     ensures counted { D.faults disk.old ≤ D.faults disk.new }
 {
-    write_through(disk, Which::A, end, piece)
+    write_through(disk, file, end, piece)
 }
 
 // Puts a record together in the front of the buffer, and writes it behind the closed gate: two calls.
 pub(crate) fn stage_record<D: Disk>(
     disk: &mut D,
+    file: Which,
     buffer: &mut [u8],
     end: u64,
     payload: &[u8],
 ) -> Result<(), Failed>
     requires sized { IsSized payload.now }
     requires room { length buffer.old ≡ PIECE_ROOM }
-    ensures images { (records : List (List ℕ)) → end ≡ end_of records →
-        Each (D.left_since disk.old (D.time disk.old)) (Holds records) →
-        Each (D.left_since disk.new (D.time disk.old)) (Holds records) }
-    ensures ok { OnOk result ((records : List (List ℕ)) → end ≡ end_of records →
-        Each (D.left_since disk.old (D.time disk.old)) (Holds records) →
-        Each (D.left_since disk.new (D.time disk.new)) (HoldsBehind records (payload.now ∷ []))) }
-    ensures other { ComeFrom SameOther
+    ensures images { ComeFrom (InFile file (KeepsRecords end))
         (D.left_since disk.old (D.time disk.old)) (D.left_since disk.new (D.time disk.old)) }
+    ensures ok { OnOk result (ComeFrom (InFile file (Stages end (payload.now ∷ [])))
+        (D.left_since disk.old (D.time disk.old)) (D.left_since disk.new (D.time disk.new))) }
     ensures past { Passes (D.time disk.old) (D.time disk.new) (D.left_since disk.old) (D.left_since disk.new) }
     ensures failed { OnErr result (Rose (D.faults disk.old) (D.faults disk.new)) }
     ensures counted { D.faults disk.old ≤ D.faults disk.new }
 {
     put_together(buffer, payload);
-    write_behind(disk, end, &buffer[..payload.len() + 5])
+    write_behind(disk, file, end, &buffer[..payload.len() + 5])
 }
 
 // Writes the gate behind the records: two calls.
-pub(crate) fn write_gate<D: Disk>(disk: &mut D, at: u64, gate: u8) -> Result<(), Failed>
-    ensures images { (records added : List (List ℕ)) → at + 1 ≡ end_of records →
-        Each (D.left_since disk.old (D.time disk.old)) (HoldsBehind records added) →
-        Each (D.left_since disk.new (D.time disk.old)) (HoldsBehind records added) }
-    ensures ok { OnOk result ((records added : List (List ℕ)) → at + 1 ≡ end_of records →
-        Each (D.left_since disk.old (D.time disk.old)) (HoldsBehind records added) →
-        Each (D.left_since disk.new (D.time disk.new)) (HoldsGated records added gate)) }
-    ensures other { ComeFrom SameOther
+pub(crate) fn write_gate<D: Disk>(
+    disk: &mut D,
+    file: Which,
+    at: u64,
+    gate: u8,
+) -> Result<(), Failed>
+    ensures images { ComeFrom (InFile file (KeepsStaged at))
         (D.left_since disk.old (D.time disk.old)) (D.left_since disk.new (D.time disk.old)) }
+    ensures ok { OnOk result (ComeFrom (InFile file (Gates at gate))
+        (D.left_since disk.old (D.time disk.old)) (D.left_since disk.new (D.time disk.new))) }
     ensures past { Passes (D.time disk.old) (D.time disk.new) (D.left_since disk.old) (D.left_since disk.new) }
     ensures failed { OnErr result (Rose (D.faults disk.old) (D.faults disk.new)) }
     ensures counted { D.faults disk.old ≤ D.faults disk.new }
 {
-    write_through(disk, Which::A, at, &[gate])
+    write_through(disk, file, at, &[gate])
 }

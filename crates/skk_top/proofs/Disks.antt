@@ -1,7 +1,6 @@
 -- What runs leave of the disk, of what their parts leave.
-use Rattle.std.proofs.Common.{◌≡◌, inl, inr, sym, ◌∙◌, ap, subst, refl, arith, ℕ, ◌<◌, ◌≤◌, true, false, List, [], ◌∷◌}
-use Rattle.std.proofs.Common.{length}
-use Rattle.std.proofs.lemmas.Bool.{cases_Bool}
+use Rattle.std.proofs.Common.{◌≡◌, ◌≢◌, inl, inr, sym, ap, subst, refl, arith, ℕ, ◌<◌, ◌≤◌, List}
+use Rattle.std.proofs.Common.{[], ◌∷◌}
 use Rattle.std.proofs.lemmas.List.Elements.{All-nil}
 use Rattle.skk_calls.specs.declared.chronicle.Noted.{Noted}
 use Rattle.skk_calls.specs.Chronicles.{history_of}
@@ -11,38 +10,25 @@ use Rattle.skk_calls.specs.States.{State, empty_state}
 use Rattle.skk_disk.specs.Image.{Image}
 use Rattle.skk_disk.specs.Moments.{Passes, SameImages, Earlier}
 use Rattle.skk_disk.specs.MomentLaws.{passes_nothing}
-use Rattle.skk_disk.specs.Steps.{ComeFrom}
-use Rattle.skk_journal.specs.Images.{Each, SameOther}
-use Rattle.skk_journal.specs.Opening.{is_fresh, IsOpened, with_records, OpensAtOnce}
+use Rattle.skk_journal.specs.Images.{Each}
+use Rattle.skk_journal.specs.Choice.{choice}
+use Rattle.skk_journal.specs.Opening.{HasChosen}
+use Rattle.skk_journal.specs.declared.choice.Choice.TheVariants.{NoLive}
 use Rattle.skk_journal.specs.declared.fault.OpenFault.{OpenFault}
 use Rattle.skk_journal.specs.declared.fault.OpenFault.TheVariants as opening
 use Rattle.skk_outside.specs.Faults.{Rose}
 use Rattle.skk_journal.specs.Causes.{UnlessDisk}
 use Rattle.learned_store.specs.Recovered.{Recovery, with_state, foreign, refused, IsRecovered, IsRefused}
-use Rattle.learned_store.specs.Recovered.{IsOpenedWith, RecoversAtOnce}
+use Rattle.learned_store.specs.Recovered.{IsOpenedWith}
 use Rattle.learned_store.specs.Stores.{OpenStore, opening_now, Recovers}
 use Rattle.learned_store.specs.Stands.{time_of, faults_of, left_behind, RecoversBy, StandsOver, RecoverAmong, GoOn}
 use Rattle.learned_store.specs.Stands.{Stands}
 use Rattle.skk_top.specs.Disks.{DiskNow, MovedDisk, moved_disk, disk_now, RefusesLearned, IsOpening, KeepsDisk}
-use Rattle.skk_top.specs.Disks.{RunsOver, StandsSince, IsAsItWas}
+use Rattle.skk_top.specs.Disks.{RunsOver, StandsSince}
 use Rattle.run_endings.specs.Status.{Ended, fault_of_opening}
 use Rattle.run_endings.specs.Finishes.{finish_of}
 use Rattle.run_endings.specs.declared.finish.Finish.{Finish}
 use Rattle.run_endings.specs.declared.finish.Run.{Run}
-
--- a file of one byte at most is made anew
-short-fresh : (file : List ℕ) → length file ≤ 1 → is_fresh file ≡ true
-short-fresh [] short = refl
-short-fresh (first ∷ []) short = refl
-short-fresh (first ∷ second ∷ rest) short = absurd (omega (arith, short))
-
-opened-at-once : (records : List (List ℕ)) (file : List ℕ) → OpensAtOnce records file
-    → IsOpened file (with_records records)
-opened-at-once records file (inl has) = inl has
-opened-at-once records file (inr short) = inr (short.0, short-fresh file short.1)
-
-recovered-at-once : (file : List ℕ) (state : State) → RecoversAtOnce file state → IsRecovered file (with_state state)
-recovered-at-once file state is = (is.0, opened-at-once is.0 file is.1, is.2)
 
 -- a state that an image is opened as stands behind no notes
 behind-nothing : (state : State) (time : ℕ) (image : Image) → Recovers state image → RecoversBy state [] time image
@@ -54,28 +40,26 @@ behind-nothing state time image is = record {
   recovers = (state, (0, omega arith, refl), is);
 }
 
--- what is left of a disk to which nothing was done, or whose learned file was not opened
+-- what is left of a disk to which nothing was done, or whose learned dictionary was not opened
 pub stands-unopened : (disk : MovedDisk) → Earlier disk.after.left_since
-    → ((state : State) (file : List ℕ) → Each (disk.before.left_since disk.before.time) (λ image. image.a ≡ file)
-    → RecoversAtOnce file state → Each (disk.after.left_since disk.before.time) (Recovers state))
+    → ((state : State) (start : Image) → Each (disk.before.left_since disk.before.time) (λ image. image ≡ start)
+    → Recovers state start → Each (disk.after.left_since disk.before.time) (Recovers state))
     → StandsSince [] disk
-stands-unopened disk earlier opens state file same at_once time image from to left =
+stands-unopened disk earlier opens state start same recovers time image from to left =
     behind-nothing state time image
-    (opens state file same at_once image (earlier disk.before.time time image from left))
+    (opens state start same recovers image (earlier disk.before.time time image from left))
 
 pub stands-untouched : (disk : MovedDisk) → Earlier disk.before.left_since
     → SameImages disk.before.left_since disk.after.left_since → StandsSince [] disk
-stands-untouched disk earlier same state file all at_once time image from to left =
+stands-untouched disk earlier same state start all recovers time image from to left =
     let there = same.no_more time image left in
     behind-nothing state time image
-    (subst (λ (bytes : List ℕ). IsRecovered bytes (with_state state))
-    (sym (all image (earlier disk.before.time time image from there))) (recovered-at-once file state at_once))
+    (subst (Recovers state) (sym (all image (earlier disk.before.time time image from there))) recovers)
 
 -- a disk to which nothing was done goes on so
 pub runs-nothing : (opened : State) (disk : DiskNow) → RunsOver opened [] disk disk
 runs-nothing opened disk = record {
   since = λ start begun so time image from to left. behind-nothing opened time image (so time image from to left);
-  other = λ image left. (image, left, refl);
   passes = passes_nothing disk.time disk.left_since;
   counted = omega arith;
 }
@@ -84,41 +68,27 @@ module _ {D : Type 0} (tells : Type 0) (seen : D → Image) (time faults : D →
     (earlier : (disk : D) → Earlier (left_since disk))
     (reads_image : (disk : D) → tells → left_since disk (time disk) (seen disk))
     (tells_images : (disk : D) (t : ℕ) (image : Image) → left_since disk t image → tells)
-    (one_way : (file : List ℕ) (one two : Recovery) → IsRecovered file one → IsRecovered file two → one ≡ two)
+    (one_way : (image : Image) (one two : Recovery) → IsRecovered image one → IsRecovered image two → one ≡ two)
     (old mid new : D) (opened : State) (chronicle : List Noted) where
-  -- the learned file was opened, and a run went on
-  pub stands-opened : {end : ℕ} → IsOpenedWith tells (seen old).a opened end
+  -- the learned dictionary was opened, and a run went on
+  pub stands-opened : {end : ℕ} → IsOpenedWith tells (seen old) opened end
       → Passes (time old) (time mid) (left_since old) (left_since mid)
-      → ((state : State) (file : List ℕ) → Each (left_since old (time old)) (λ image. image.a ≡ file)
-      → RecoversAtOnce file state → Each (left_since mid (time old)) (Recovers state))
+      → ((state : State) (start : Image) → Each (left_since old (time old)) (λ image. image ≡ start)
+      → Recovers state start → Each (left_since mid (time old)) (Recovers state))
       → RunsOver opened chronicle (disk_now time faults left_since mid) (disk_now time faults left_since new)
       → StandsSince chronicle (moved_disk tells seen time faults left_since old new)
-  stands-opened {end} is passes opens runs state file same at_once moment image from to left =
+  stands-opened {end} is passes opens runs state start same recovers moment image from to left =
       let told = tells_images new moment image left in
-      let here : (seen old).a ≡ file = same (seen old) (reads_image old told) in
+      let here : seen old ≡ start = same (seen old) (reads_image old told) in
       let one : with_state opened ≡ with_state state =
-      one_way file (with_state opened) (with_state state)
-      (subst (λ (bytes : List ℕ). IsRecovered bytes (with_state opened)) here (is.records, is.told told, is.leave))
-      (recovered-at-once file state at_once) in
+      one_way start (with_state opened) (with_state state)
+      (subst (λ (i : Image). Recovers opened i) here (is.records, is.told told, is.leave)) recovers in
       let equal : opened ≡ state = cc one in
       subst (λ (s : State). RecoversBy s chronicle moment image) equal
       (runs.since (time old) passes.later
-      (λ t i start end there. subst (λ (s : State). Recovers s i) (sym equal)
-      (opens state file same at_once i (earlier mid (time old) t i start there)))
+      (λ t i start_at end there. subst (λ (s : State). Recovers s i) (sym equal)
+      (opens state start same recovers i (earlier mid (time old) t i start_at there)))
       moment image from to left)
-
-  pub other-opened : Passes (time old) (time mid) (left_since old) (left_since mid)
-      → ComeFrom SameOther (left_since old (time old)) (left_since mid (time old))
-      → RunsOver opened chronicle (disk_now time faults left_since mid) (disk_now time faults left_since new)
-      → ComeFrom SameOther (left_since old (time old)) (left_since new (time old))
-  other-opened passes first runs image left =
-      elim (runs.passes.goes_on (time old) image passes.later left) [
-        | inl there ↦ first image there
-        | inr here ↦
-            let one = runs.other image here in
-            let two = first one.0 (earlier mid (time old) (time mid) one.0 passes.later one.1) in
-            (two.0, two.1, one.2 ∙ two.2)
-      ]
 
 -- what a caller leaves of the disk, which is closed then
 pub keeps-closed : {D : Type 0} (time faults : D → ℕ) (left_since : D → ℕ → Image → Type 0) (opening : Opening)
@@ -150,41 +120,31 @@ keeps-desk {D} time faults left_since opening past notes left store is stands no
   fits = stands.fits;
 }
 
-module _ (one_way : (file : List ℕ) (one two : Recovery) → IsRecovered file one → IsRecovered file two → one ≡ two)
+module _ (one_way : (image : Image) (one two : Recovery) → IsRecovered image one → IsRecovered image two → one ≡ two)
   where
-    -- a file that is refused is not made anew
-    foreign-kept : (file : List ℕ) (first : ℕ) → IsRecovered file (foreign first) → is_fresh file ≡ false
-    foreign-kept file first is = elim (cases_Bool (is_fresh file)) [
-      | inl fresh ↦
-          let same : with_state empty_state ≡ foreign first =
-          one_way file (with_state empty_state) (foreign first) ([], inr (refl, fresh), refl) is in
-          absurd (cc same)
-      | inr kept ↦ kept
-    ]
+    -- an image that is not opened as a state has a live file, or is refused before that is looked for
+    kept : (image : Image) (recovery : Recovery) → IsRecovered image recovery
+        → ((state : State) → ¬ (with_state state ≡ recovery)) → choice image ≢ NoLive
+    kept image recovery is none anew =
+        none empty_state
+        (one_way image (with_state empty_state) recovery ([], subst (HasChosen image []) (sym anew) refl, refl) is)
 
-    refused-kept : (file : List ℕ) (at : ℕ) → IsRecovered file (refused at) → is_fresh file ≡ false
-    refused-kept file at is = elim (cases_Bool (is_fresh file)) [
-      | inl fresh ↦
-          let same : with_state empty_state ≡ refused at =
-          one_way file (with_state empty_state) (refused at) ([], inr (refl, fresh), refl) is in
-          absurd (cc same)
-      | inr kept ↦ kept
-    ]
-
-    -- why a learned file is not had, by why it was not opened
-    pub refuses-learned : (disk : MovedDisk) (why : OpenFault) → (disk.tells → IsRefused disk.seen.a why)
+    -- why a learned dictionary is not had, by why it was not opened
+    pub refuses-learned : (disk : MovedDisk) (why : OpenFault) → (disk.tells → IsRefused disk.seen why)
         → (why ≡ opening.Disk → Rose disk.before.faults disk.after.faults)
-        → (disk.tells → is_fresh disk.seen.a ≡ false
+        → (disk.tells → choice disk.seen ≢ NoLive
         → Each (disk.after.left_since disk.before.time) (disk.before.left_since disk.before.time))
-        → (disk.tells → is_fresh disk.seen.a ≡ false → UnlessDisk why (disk.seen' ≡ disk.seen))
+        → (disk.tells → choice disk.seen ≢ NoLive → UnlessDisk why (disk.seen' ≡ disk.seen))
         → RefusesLearned disk (fault_of_opening why)
     refuses-learned disk opening.Disk is failed images seen = failed refl
-    refuses-learned disk (opening.NotJournal first) is failed images seen = λ told.
-        let kept = foreign-kept disk.seen.a first (is told) in
-        (is told, record { seen = seen told kept; images = images told kept })
-    refuses-learned disk (opening.BadRecord at before) is failed images seen = λ told.
-        let kept = refused-kept disk.seen.a at (is told).0 in
-        (((is told).0, refl), record { seen = seen told kept; images = images told kept })
+    refuses-learned disk (opening.NotJournal number first) is failed images seen = λ told.
+        let why = is told in
+        let live = kept disk.seen (foreign why.0 first) why.2 (λ state same. cc same) in
+        (why, record { seen = seen told live; images = images told live })
+    refuses-learned disk (opening.BadRecord number at before) is failed images seen = λ told.
+        let why = is told in
+        let live = kept disk.seen (refused why.0 at) why.2 (λ state same. cc same) in
+        ((why.0, why.1, why.2, refl), record { seen = seen told live; images = images told live })
     refuses-learned disk opening.Memory is failed images seen = tt
 
 pub counted-on : (time faults : ℕ) (notes : List Noted) (last_time last_faults : ℕ)
@@ -208,8 +168,8 @@ module _ {D : Type 0} (tells : Type 0) (seen : D → Image) (time faults : D →
   -- and one whose learned file was not opened
   pub stands-refused : (old new : D) → Earlier (left_since new) → (ended : Ended) (run : Run D)
       → run ≡ record { ended = ended; chronicle = []; disk = new }
-      → ((state : State) (file : List ℕ) → Each (left_since old (time old)) (λ image. image.a ≡ file)
-      → RecoversAtOnce file state → Each (left_since new (time old)) (Recovers state))
+      → ((state : State) (start : Image) → Each (left_since old (time old)) (λ image. image ≡ start)
+      → Recovers state start → Each (left_since new (time old)) (Recovers state))
       → StandsSince run.chronicle (moved_disk tells seen time faults left_since old run.disk)
   stands-refused old new earlier ended run is opens =
       subst (λ (r : Run D). StandsSince r.chronicle (moved_disk tells seen time faults left_since old r.disk)) (sym is)
@@ -232,7 +192,7 @@ module _ {D : Type 0} (tells : Type 0) (seen : D → Image) (time faults : D →
 
   -- a learned file was opened so
   pub opened-so : (old new : D) (store : OpenStore D) (books : List (List Row)) (most : ℕ) → store.files ≡ books
-      → store.limit ≡ most → IsOpenedWith tells (seen old).a store.state store.journal.end
+      → store.limit ≡ most → IsOpenedWith tells (seen old) store.state store.journal.end
       → Passes (time old) (time store.journal.disk) (left_since old) (left_since store.journal.disk)
       → faults old ≤ faults store.journal.disk
       → IsOpening (moved_disk tells seen time faults left_since old new) books most (opening_now time faults store)
@@ -266,9 +226,6 @@ module _ {D : Type 0} (tells : Type 0) (seen : D → Image) (time faults : D →
             (since start (λ moment image from to there.
             subst (λ (s : State). Recovers s image) (sym state)
             (so moment image from (omega (arith, to, at)) (same.no_fewer moment image there))));
-        other = λ image left.
-            let one = stands.other image (subst (λ (t : ℕ). left_since store.journal.disk t image) (sym at) left) in
-            (one.0, same.no_fewer (time before.journal.disk) one.0 (subst (λ (t : ℕ). past t one.0) at one.1), one.2);
         passes = record {
           later = omega (arith, stands.passes.later, at);
           goes_on = λ t image le left. elim (stands.passes.goes_on t image (omega (arith, le, at)) left) [

@@ -1,11 +1,10 @@
 -- The definitions at small examples, each worked out by hand.
-use Rattle.std.proofs.Common.{◌≡◌, ℕ, Bool, None, Some, Ok, Err, true, false, List, [], ◌∷◌, ◌++◌, refl, map}
+use Rattle.std.proofs.Common.{◌≡◌, ℕ, None, Some, List, [], ◌∷◌, ◌++◌, refl, map}
 use Rattle.std.proofs.Common.{codes}
 use Rattle.std.proofs.Common.{encode_utf8_all}
 use lib.Utf8.{encode}
 use Prim.Native.String.{String}
 use Rattle.std.specs.Fmt.{digits}
-use Rattle.skk_outside.specs.declared.source.ReadFault.TheVariants as reading
 use Rattle.skk_text.specs.declared.text_file.TextFault.TheVariants as texts
 use Rattle.skk_text.specs.declared.key.Key.{Key}
 use Rattle.skk_text.specs.declared.key.Key.TheVariants.{Char, Ret, Undo}
@@ -23,24 +22,17 @@ use Rattle.skk_calls.specs.Openings.{fresh_opening}
 use Rattle.skk_calls.specs.Interactions.{printed, asked, end_of, printed_alone}
 use Rattle.skk_calls.specs.Rows.{RowKey, Cand, Row}
 use Rattle.skk_calls.specs.States.{empty_state}
-use Rattle.skk_calls.specs.Tallies.{Tally, empty_tally}
-use Rattle.skk_journal.specs.declared.fault.OpenFault.TheVariants as opening
 use Rattle.session_machine.specs.Session.{Session, new_session}
 use Rattle.script_typing.specs.Printing.{output_line, closing_line}
 use Rattle.script_typing.specs.Sessions.{session_at, session_or_new, with_session}
 use Rattle.skk_top.specs.RunRules.{fault_of_rules}
-use Rattle.run_endings.specs.Status.{message_of, status_of, fault_words, run_status, run_message, ended_by}
-use Rattle.run_endings.specs.Status.{fault_of_opening}
-use Rattle.run_endings.specs.Status.{fault_of_read, fault_of_text, fault_of_script}
 use Rattle.script_typing.specs.Typed.{typing, typed_alone}
-use Rattle.run_endings.specs.declared.fault.RunFault.TheVariants.{Words, Refused, NotJournal, BadRecord}
-use Rattle.run_endings.specs.declared.fault.RunFault.TheVariants.{Outside, Memory}
-use Rattle.run_endings.specs.declared.fault.RunFault.TheVariants.{JournalFull}
+use Rattle.run_endings.specs.declared.fault.RunFault.TheVariants.{Refused}
+use Rattle.run_endings.specs.declared.fault.RunFault.TheVariants.{Memory}
 use Rattle.run_endings.specs.declared.run_file.Flaw.TheVariants.{TooLong, Byte, Line}
-use Rattle.run_endings.specs.declared.run_file.RunFile.TheVariants.{Script, Rules, Dictionary}
+use Rattle.run_endings.specs.declared.run_file.RunFile.TheVariants.{Rules}
 use Rattle.key_scripts.specs.declared.line.Line as lines
 use Rattle.key_scripts.specs.declared.line.Line.TheVariants.{Keys, Opening}
-use Rattle.key_scripts.specs.declared.script.ScriptFault.TheVariants as scripts
 
 -- a few rules
 abbrev table : List Rule

@@ -1,14 +1,10 @@
 -- What the printing of a checked file leaves, by how it ends.
-use Rattle.std.proofs.Common.{◌≡◌, ◌≤◌, ◌<◌, ◌+◌, ◌++◌, ◌∙◌, [], ap, sym, subst, ℕ, Option, Some, None, List}
-use Rattle.std.proofs.Common.{append_assoc, length, drop, get_or, Ok, Err, IsErrAnd, rules, arith}
+use Rattle.std.proofs.Common.{◌≡◌, ◌≤◌, ◌<◌, ◌+◌, ◌++◌, ◌∙◌, [], ap, sym, ℕ, Option, List, append_assoc, length, drop}
+use Rattle.std.proofs.Common.{get_or, arith}
 use Rattle.std.proofs.lemmas.List.{append-nil, at_drop_more}
-use Rattle.std.specs.Io.KnownBytes.{Appends, Keeps}
-use Rattle.skk_outside.specs.Moved.{MovedSink}
-use Rattle.skk_outside.specs.Written.{AppendsPrefix}
 use Rattle.dict_format.specs.declared.file.BadLine.{BadLine}
 use Rattle.skk_top.specs.CheckedFiles.{bad_line, bad_lines}
-use Rattle.run_endings.specs.Page.{Printed, LeavesPrinted, StopsPrinting}
-use Rattle.run_endings.specs.Status.{Ended}
+use Rattle.run_endings.specs.Page.{Printed, StopsPrinting}
 use Rattle.run_endings.specs.declared.fault.RunFault.{RunFault}
 use Rattle.run_endings.specs.declared.fault.RunFault.TheVariants.{Outside, Memory}
 use Rattle.run_endings.specs.PageLaws.{Printed-more, Printed-rest}

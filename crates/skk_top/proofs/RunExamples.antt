@@ -187,7 +187,7 @@ as_it_was = (
   λ is. not_empty (is.images other (inr (refl, refl))),
 )
 
--- a learned file that is refused is as it was
-refused_kept : (¬ RefusesLearned (moved other (λ time image. image ≡ empty)) (NotJournal 80))
-    × (¬ RefusesLearned (moved other (λ time image. image ≡ empty)) (BadRecord 9))
+-- a learned dictionary that is refused is as it was
+refused_kept : (¬ RefusesLearned (moved other (λ time image. image ≡ empty)) (NotJournal 0 80))
+    × (¬ RefusesLearned (moved other (λ time image. image ≡ empty)) (BadRecord 1 9))
 refused_kept = (λ is. not_empty (is tt).1.seen, λ is. not_empty (is tt).1.seen)

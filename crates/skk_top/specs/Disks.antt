@@ -9,10 +9,9 @@ use Rattle.skk_calls.specs.States.{State}
 use Rattle.skk_disk.specs.Image.{Image}
 use Rattle.skk_journal.specs.declared.fault.OpenFault.TheVariants as opening
 use Rattle.skk_disk.specs.Moments.{Passes}
-use Rattle.skk_disk.specs.Steps.{ComeFrom}
-use Rattle.skk_journal.specs.Images.{Each, SameOther}
+use Rattle.skk_journal.specs.Images.{Each}
 use Rattle.learned_store.specs.Limits.{AllHadRoom}
-use Rattle.learned_store.specs.Recovered.{IsOpenedWith, IsRefused, RecoversAtOnce}
+use Rattle.learned_store.specs.Recovered.{IsOpenedWith, IsRefused}
 use Rattle.learned_store.specs.Stores.{Recovers}
 use Rattle.learned_store.specs.Stands.{RecoverAmong, left_behind, StandsOver, GoOn}
 use Rattle.run_endings.specs.declared.fault.RunFault.{RunFault}
@@ -57,22 +56,23 @@ pub record IsAsItWas (disk : MovedDisk) : Type 0 where
   pub seen : disk.seen' ≡ disk.seen
   pub images : Each (disk.after.left_since disk.before.time) (disk.before.left_since disk.before.time)
 
--- why a learned file is not had: it is refused, by its first byte or its least bad place, and is as it was, where the
--- disk tells that, or a call on the disk failed, or memory is out
+-- why a learned dictionary is not had: a file of it is refused, by its first byte or its least bad place, and both are
+-- as they were, where the disk tells that, or a call on the disk failed, or memory is out
 abbrev pub RefusesLearned : MovedDisk → RunFault → Type 0
-RefusesLearned disk (NotJournal first) =
-    disk.tells → IsRefused disk.seen.a (opening.NotJournal first) × IsAsItWas disk
-RefusesLearned disk (BadRecord at) = disk.tells → IsRefused disk.seen.a (opening.BadRecord at []) × IsAsItWas disk
+RefusesLearned disk (NotJournal file first) =
+    disk.tells → IsRefused disk.seen (opening.NotJournal file first) × IsAsItWas disk
+RefusesLearned disk (BadRecord file at) =
+    disk.tells → IsRefused disk.seen (opening.BadRecord file at []) × IsAsItWas disk
 RefusesLearned disk Outside = Rose disk.before.faults disk.after.faults
 RefusesLearned disk Memory = ⊤
 RefusesLearned disk fault = ⊥
 
--- a dictionary over these files, whose learned file may have so many bytes, was opened so on a disk: where the disk
--- tells, the records that the file has leave the state and end so
+-- a dictionary over these system files, each of whose learned files may have so many bytes, was opened so on a disk:
+-- where the disk tells, the records that both files are opened with leave the state and end so
 pub record IsOpening (disk : MovedDisk) (books : List (List Row)) (most : ℕ) (opening : Opening) : Type 0 where
   pub files : opening.files ≡ books
   pub limit : opening.limit ≡ most
-  pub opened : IsOpenedWith disk.tells disk.seen.a opening.state opening.end
+  pub opened : IsOpenedWith disk.tells disk.seen opening.state opening.end
   pub later : disk.before.time ≤ opening.time
   pub counted : disk.before.faults ≤ opening.faults
 
@@ -94,14 +94,13 @@ pub record RunsOver (opened : State) (chronicle : List Noted) (old new : DiskNow
       → ((time : ℕ) (image : Image) → start ≤ time → time ≤ old.time → old.left_since time image
       → Recovers opened image)
       → StandsOver opened chronicle start new.time new.left_since
-  pub other : ComeFrom SameOther (old.left_since old.time) (new.left_since old.time)
   pub passes : Passes old.time new.time old.left_since new.left_since
   pub counted : old.faults ≤ new.faults
 
 -- what a stop might have left at a moment since the start of a run is opened as a state that a part of the chronicle
--- may leave, where at the start each image had one and the same file, which is opened as a state at once
+-- may leave, where at the start each image was one and the same, which is opened as a state
 abbrev pub StandsSince : List Noted → MovedDisk → Type 0
 StandsSince chronicle disk =
-    (state : State) (file : List ℕ) → Each (disk.before.left_since disk.before.time) (λ image. image.a ≡ file)
-    → RecoversAtOnce file state
+    (state : State) (start : Image) → Each (disk.before.left_since disk.before.time) (λ image. image ≡ start)
+    → Recovers state start
     → StandsOver state chronicle disk.before.time disk.after.time disk.after.left_since

@@ -1,8 +1,6 @@
 ghost use Rattle.std.specs.Prelude.{◌≡◌, ◌≤◌, [], None, encode_utf8_all, IfSome, IsSome};
 ghost use Rattle.dict_format.specs.PrintedFiles.{printed_file};
 ghost use Rattle.skk_calls.specs.States.{rows_of};
-ghost use Rattle.skk_disk.specs.Steps.{ComeFrom};
-ghost use Rattle.skk_journal.specs.Images.{SameOther};
 ghost use Rattle.skk_outside.specs.Moved.{moved_sink};
 ghost use Rattle.command_line.specs.Command.{book_to_dump};
 ghost use Rattle.skk_top.specs.Disks.{moved_disk, StandsSince};
@@ -28,7 +26,6 @@ pub fn run_dump<D: Disk, O: Sink>(alloc: Global, words: &[Text], disk: D, out: &
     ensures uncalled { result.chronicle ≡ [] }
     ensures stands { StandsSince result.chronicle
         (moved_disk D.tells D.seen D.time D.faults D.left_since disk result.disk) }
-    ensures other { ComeFrom SameOther (D.left_since disk (D.time disk)) (D.left_since result.disk (D.time disk)) }
     ensures disk_counted { D.faults disk ≤ D.faults result.disk }
     ensures out_counted { O.faults out.old ≤ O.faults out.new }
 {
@@ -49,7 +46,6 @@ fn dump_book<D: Disk, O: Sink>(alloc: Global, options: &DumpOptions, disk: D, ou
     ensures uncalled { result.chronicle ≡ [] }
     ensures stands { StandsSince result.chronicle
         (moved_disk D.tells D.seen D.time D.faults D.left_since disk result.disk) }
-    ensures other { ComeFrom SameOther (D.left_since disk (D.time disk)) (D.left_since result.disk (D.time disk)) }
     ensures disk_counted { D.faults disk ≤ D.faults result.disk }
     ensures out_counted { O.faults out.old ≤ O.faults out.new }
 {

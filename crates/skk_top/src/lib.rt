@@ -6,7 +6,7 @@
 //! was not done, and answers the status, the chronicle of its calls and the disk. Each command has a module of its own
 //! and one relation that says what a run of it leaves. In one thread, the calls are those of one caller, which notes
 //! them; in threads, each session or connection has a caller of its own, and the calls of all are one history. At each
-//! moment of a run a stop leaves a learned file that is opened as a state that a part of these calls may leave.
+//! moment of a run a stop leaves a learned dictionary that is opened as a state that a part of these calls may leave.
 #![tactic(auto)]
 
 mod alone;

@@ -3,8 +3,6 @@ ghost use Rattle.std.specs.Prelude.{encode_utf8_all};
 ghost use Rattle.std.specs.Io.KnownBytes.{Keeps as keeps_bytes};
 ghost use Rattle.skk_calls.specs.Openings.{said_in};
 ghost use Rattle.skk_disk.specs.Moments.{SameImages};
-ghost use Rattle.skk_disk.specs.Steps.{ComeFrom};
-ghost use Rattle.skk_journal.specs.Images.{SameOther};
 ghost use Rattle.skk_outside.specs.Moved.{moved_sink};
 ghost use Rattle.romaji_rules.specs.Standard.{standard};
 ghost use Rattle.learned_store.specs.Stores.{opening_now, Keeps};
@@ -55,7 +53,6 @@ pub fn run_load_by_one<D: Disk, O: Sink>(
         (moved_disk D.tells D.seen D.time D.faults D.left_since disk result.disk)) }
     ensures stands { StandsSince result.chronicle
         (moved_disk D.tells D.seen D.time D.faults D.left_since disk result.disk) }
-    ensures other { ComeFrom SameOther (D.left_since disk (D.time disk)) (D.left_since result.disk (D.time disk)) }
     ensures disk_counted { D.faults disk ≤ D.faults result.disk }
     ensures out_counted { O.faults out.old ≤ O.faults out.new }
 {

@@ -5,8 +5,6 @@ ghost use Rattle.std.specs.List.{list_all};
 ghost use Rattle.std.specs.Map.{values_of};
 ghost use Rattle.key_scripts.specs.Script.{opens_well};
 ghost use Rattle.romaji_rules.specs.Standard.{standard};
-ghost use Rattle.skk_disk.specs.Steps.{ComeFrom};
-ghost use Rattle.skk_journal.specs.Images.{SameOther};
 ghost use Rattle.skk_outside.specs.Moved.{moved_sink};
 ghost use Rattle.learned_store.specs.Stores.{opening_now, Keeps};
 ghost use Rattle.script_typing.specs.MapLaws.{Ascend};
@@ -62,7 +60,6 @@ pub fn run_load_by_each<
         (moved_disk D.tells D.seen D.time D.faults D.left_since disk result.disk)) }
     ensures stands { StandsSince result.chronicle
         (moved_disk D.tells D.seen D.time D.faults D.left_since disk result.disk) }
-    ensures other { ComeFrom SameOther (D.left_since disk (D.time disk)) (D.left_since result.disk (D.time disk)) }
     ensures disk_counted { D.faults disk ≤ D.faults result.disk }
     ensures out_counted { O.faults out.old ≤ O.faults out.new }
 {

@@ -1,7 +1,5 @@
 ghost use Rattle.std.specs.Prelude.{◌≡◌, ◌≤◌, None, Some, IfOk, IfErr, IsSome};
 ghost use Rattle.std.specs.Io.KnownBytes.{Keeps as keeps_bytes};
-ghost use Rattle.skk_disk.specs.Steps.{ComeFrom};
-ghost use Rattle.skk_journal.specs.Images.{SameOther};
 ghost use Rattle.skk_outside.specs.Moved.{MovedSink};
 ghost use Rattle.learned_store.specs.Stores.{opening_now, Keeps};
 ghost use Rattle.command_line.specs.Command.{load_asked};
@@ -39,13 +37,8 @@ pub fn open_load<D: Disk>(alloc: Global, disk: D) -> Result<Store<D>, Run<D>>
     ensures stands { IfOk result (λ store. (run : run_value _) → RunsOver store.state run.chronicle
         (disk_now D.time D.faults D.left_since store.journal.disk) (disk_now D.time D.faults D.left_since run.disk)
         → StandsSince run.chronicle (moved_disk D.tells D.seen D.time D.faults D.left_since disk run.disk)) }
-    ensures other { IfOk result (λ store. (run : run_value _) → RunsOver store.state run.chronicle
-        (disk_now D.time D.faults D.left_since store.journal.disk) (disk_now D.time D.faults D.left_since run.disk)
-        → ComeFrom SameOther (D.left_since disk (D.time disk)) (D.left_since run.disk (D.time disk))) }
     ensures ended_stands { IfErr result (λ run. StandsSince run.chronicle
         (moved_disk D.tells D.seen D.time D.faults D.left_since disk run.disk)) }
-    ensures ended_other { IfErr result (λ run.
-        ComeFrom SameOther (D.left_since disk (D.time disk)) (D.left_since run.disk (D.time disk))) }
     ensures calm { IfOk result (λ store. Keeps D.time D.left_since store.journal store.state None) }
     ensures counted { IfOk result (λ store. D.faults disk ≤ D.faults store.journal.disk) }
     ensures ended_counted { IfErr result (λ run. D.faults disk ≤ D.faults run.disk) }

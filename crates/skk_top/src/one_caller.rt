@@ -2,8 +2,6 @@ ghost use Rattle.std.specs.Prelude.{◌≡◌, ◌≤◌, ◌+◌, [], None};
 ghost use Rattle.skk_calls.specs.Openings.{said_in};
 ghost use Rattle.skk_disk.specs.Moments.{SameImages};
 ghost use Rattle.skk_outside.specs.Moved.{moved_shelf, moved_sink, moved_source};
-ghost use Rattle.skk_disk.specs.Steps.{ComeFrom};
-ghost use Rattle.skk_journal.specs.Images.{SameOther};
 ghost use Rattle.skk_outside.specs.Taken.{TakesAtMost};
 ghost use Rattle.skk_outside.specs.declared.source.TheConstants.{PIECE};
 ghost use Rattle.key_scripts.specs.Script.{script_limit};
@@ -45,7 +43,6 @@ pub fn run_by_one<H: Shelf, D: Disk, I: Source, O: Sink>(
         (moved_disk D.tells D.seen D.time D.faults D.left_since disk result.disk) }
     ensures stands { StandsSince result.chronicle
         (moved_disk D.tells D.seen D.time D.faults D.left_since disk result.disk) }
-    ensures other { ComeFrom SameOther (D.left_since disk (D.time disk)) (D.left_since result.disk (D.time disk)) }
     ensures taken { TakesAtMost (I.left input.old) (I.left input.new) (script_limit + PIECE) }
     ensures shelf_counted { H.faults shelf.old ≤ H.faults shelf.new }
     ensures disk_counted { D.faults disk ≤ D.faults result.disk }

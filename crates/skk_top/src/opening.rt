@@ -1,6 +1,4 @@
 ghost use Rattle.std.specs.Prelude.{◌≡◌, ◌≤◌, [], None, Err, IfOk, IfErr, IsErrAnd};
-ghost use Rattle.skk_disk.specs.Steps.{ComeFrom};
-ghost use Rattle.skk_journal.specs.Images.{SameOther};
 ghost use Rattle.skk_outside.specs.Moved.{moved_shelf};
 ghost use Rattle.learned_store.specs.Stores.{opening_now, Keeps};
 ghost use Rattle.skk_top.specs.Dictionaries.{AreRowsOf};
@@ -57,7 +55,6 @@ pub fn end_unopened<D: Disk>(fault: RunFault, disk: D) -> Run<D>
     ensures run { result ≡ record { ended = Err fault; chronicle = []; disk = disk } }
     ensures stands { StandsSince result.chronicle
         (moved_disk D.tells D.seen D.time D.faults D.left_since disk result.disk) }
-    ensures other { ComeFrom SameOther (D.left_since disk (D.time disk)) (D.left_since result.disk (D.time disk)) }
 {
     Run::without_calls(Err(fault), disk)
 }
@@ -77,10 +74,6 @@ pub fn open_learned<D: Disk>(
         (disk_now D.time D.faults D.left_since store.journal.disk)
         (disk_now D.time D.faults D.left_since run.disk)
         → StandsSince run.chronicle (moved_disk D.tells D.seen D.time D.faults D.left_since disk run.disk)) }
-    ensures other { IfOk result (λ store. (run : run_value _) → RunsOver store.state run.chronicle
-        (disk_now D.time D.faults D.left_since store.journal.disk)
-        (disk_now D.time D.faults D.left_since run.disk)
-        → ComeFrom SameOther (D.left_since disk (D.time disk)) (D.left_since run.disk (D.time disk))) }
     ensures calm { IfOk result (λ store. Keeps D.time D.left_since store.journal store.state None) }
     ensures counted { IfOk result (λ store. D.faults disk ≤ D.faults store.journal.disk) }
     ensures refused { IfErr result (λ run. IsErrAnd run.ended
@@ -88,8 +81,6 @@ pub fn open_learned<D: Disk>(
     ensures uncalled { IfErr result (λ run. run.chronicle ≡ []) }
     ensures ended_stands { IfErr result (λ run. StandsSince run.chronicle
         (moved_disk D.tells D.seen D.time D.faults D.left_since disk run.disk)) }
-    ensures ended_other { IfErr result (λ run.
-        ComeFrom SameOther (D.left_since disk (D.time disk)) (D.left_since run.disk (D.time disk))) }
     ensures ended_counted { IfErr result (λ run. D.faults disk ≤ D.faults run.disk) }
 {
     files_are_recovered_in_one_way();

@@ -3,8 +3,6 @@ ghost use Rattle.learned_store.specs.Stands.{Stands, StandsOver};
 ghost use Rattle.learned_store.specs.Stores.{OpenStore, opening_now, Keeps, Recovers};
 ghost use Rattle.skk_disk.specs.Image.{Image};
 ghost use Rattle.skk_disk.specs.Moments.{SameImages};
-ghost use Rattle.skk_disk.specs.Steps.{ComeFrom};
-ghost use Rattle.skk_journal.specs.Images.{SameOther};
 ghost use Rattle.skk_outside.specs.Moved.{moved_shelf, moved_sink};
 ghost use Rattle.skk_server.specs.Services.{seen_listener};
 ghost use Rattle.skk_server.specs.Visits.{seen_link};
@@ -57,7 +55,6 @@ pub fn run_serve<
         (moved_disk D.tells D.seen D.time D.faults D.left_since disk result.disk) }
     ensures stands { StandsSince result.chronicle
         (moved_disk D.tells D.seen D.time D.faults D.left_since disk result.disk) }
-    ensures other { ComeFrom SameOther (D.left_since disk (D.time disk)) (D.left_since result.disk (D.time disk)) }
     ensures shelf_counted { H.faults shelf.old ≤ H.faults shelf.new }
     ensures disk_counted { D.faults disk ≤ D.faults result.disk }
     ensures out_counted { O.faults out.old ≤ O.faults out.new }
@@ -114,7 +111,6 @@ fn serve_learned<
         (moved_disk D.tells D.seen D.time D.faults D.left_since disk result.disk) }
     ensures stands { StandsSince result.chronicle
         (moved_disk D.tells D.seen D.time D.faults D.left_since disk result.disk) }
-    ensures other { ComeFrom SameOther (D.left_since disk (D.time disk)) (D.left_since result.disk (D.time disk)) }
     ensures disk_counted { D.faults disk ≤ D.faults result.disk }
     ensures out_counted { O.faults out.old ≤ O.faults out.new }
     ensures net_counted { P.faults net.old ≤ P.faults net.new }

@@ -1,7 +1,5 @@
 ghost use Rattle.std.specs.Prelude.{◌≡◌, ◌≤◌, ◌+◌, None, IfOk, IfErr, IfSome, OnOk};
 ghost use Rattle.std.specs.Io.KnownBytes.{IsAtEnd, Keeps as keeps_bytes};
-ghost use Rattle.skk_disk.specs.Steps.{ComeFrom};
-ghost use Rattle.skk_journal.specs.Images.{SameOther};
 ghost use Rattle.skk_outside.specs.Moved.{MovedSink, moved_shelf, moved_source};
 ghost use Rattle.skk_outside.specs.Taken.{TakesAtMost};
 ghost use Rattle.skk_outside.specs.declared.source.TheConstants.{PIECE};
@@ -61,14 +59,8 @@ pub fn begin<M: Manner<D>, H: Shelf, D: Disk, I: Source>(
         (disk_now D.time D.faults D.left_since begun.store.journal.disk)
         (disk_now D.time D.faults D.left_since run.disk)
         → StandsSince run.chronicle (moved_disk D.tells D.seen D.time D.faults D.left_since disk run.disk)) }
-    ensures other { IfOk result (λ begun. (run : run_value _) → RunsOver begun.store.state run.chronicle
-        (disk_now D.time D.faults D.left_since begun.store.journal.disk)
-        (disk_now D.time D.faults D.left_since run.disk)
-        → ComeFrom SameOther (D.left_since disk (D.time disk)) (D.left_since run.disk (D.time disk))) }
     ensures ended_stands { IfErr result (λ run. StandsSince run.chronicle
         (moved_disk D.tells D.seen D.time D.faults D.left_since disk run.disk)) }
-    ensures ended_other { IfErr result (λ run.
-        ComeFrom SameOther (D.left_since disk (D.time disk)) (D.left_since run.disk (D.time disk))) }
     ensures calm { IfOk result (λ begun. Keeps D.time D.left_since begun.store.journal begun.store.state None) }
     ensures taken { TakesAtMost (I.left input.old) (I.left input.new) (script_limit + PIECE) }
     ensures shelf_counted { H.faults shelf.old ≤ H.faults shelf.new }
@@ -104,14 +96,8 @@ fn begin_learned<M: Manner<D>, D: Disk, I: Source>(
         (disk_now D.time D.faults D.left_since begun.store.journal.disk)
         (disk_now D.time D.faults D.left_since run.disk)
         → StandsSince run.chronicle (moved_disk D.tells D.seen D.time D.faults D.left_since disk run.disk)) }
-    ensures other { IfOk result (λ begun. (run : run_value _) → RunsOver begun.store.state run.chronicle
-        (disk_now D.time D.faults D.left_since begun.store.journal.disk)
-        (disk_now D.time D.faults D.left_since run.disk)
-        → ComeFrom SameOther (D.left_since disk (D.time disk)) (D.left_since run.disk (D.time disk))) }
     ensures ended_stands { IfErr result (λ run. StandsSince run.chronicle
         (moved_disk D.tells D.seen D.time D.faults D.left_since disk run.disk)) }
-    ensures ended_other { IfErr result (λ run.
-        ComeFrom SameOther (D.left_since disk (D.time disk)) (D.left_since run.disk (D.time disk))) }
     ensures calm { IfOk result (λ begun. Keeps D.time D.left_since begun.store.journal begun.store.state None) }
     ensures taken { TakesAtMost (I.left input.old) (I.left input.new) (script_limit + PIECE) }
     ensures disk_counted { IfOk result (λ begun. D.faults disk ≤ D.faults begun.store.journal.disk) }

@@ -1,7 +1,5 @@
 ghost use Rattle.std.specs.Prelude.{◌≡◌, ◌⊎◌, ◌≤◌, ◌+◌, None, IfSome, IsErrOf, true};
 ghost use Rattle.std.specs.Io.KnownBytes.{Keeps};
-ghost use Rattle.skk_disk.specs.Steps.{ComeFrom};
-ghost use Rattle.skk_journal.specs.Images.{SameOther};
 ghost use Rattle.skk_outside.specs.Faults.{Rose};
 ghost use Rattle.skk_outside.specs.Moved.{moved_shelf, moved_source, moved_sink};
 ghost use Rattle.skk_outside.specs.Taken.{TakesAtMost};
@@ -106,10 +104,9 @@ pub fn run<
         (moved_sink O.written O.faults out.old out.new)
         (moved_disk D.tells D.seen D.time D.faults D.left_since disk result.disk)) }
 
-    // What a stop at any moment of the run leaves of the disk; and the second file is as it was.
+    // What a stop at any moment of the run leaves of the disk.
     ensures stands { StandsSince result.chronicle
         (moved_disk D.tells D.seen D.time D.faults D.left_since disk result.disk) }
-    ensures other { ComeFrom SameOther (D.left_since disk (D.time disk)) (D.left_since result.disk (D.time disk)) }
 {
     let Some(command) = read_command(words) else {
         return end_uncalled(RunFault::Words, disk, err);

@@ -10,8 +10,8 @@ use Rattle.learned_store.specs.Written.{IsRecordOf}
 use Rattle.learned_store.proofs.Serving.{quiet, unchanged, unrecorded}
 use Rattle.learned_store.proofs.changing.change.Goals as goal
 
-pub returns-in_default : goal.returns-in_default
-returns-in_default g c files =
+pub returns-in_default-clause-serves : goal.returns-in_default-clause-serves
+returns-in_default-clause-serves g c files =
     let D = g.D in
     let store : OpenStore _ = record {
       journal = c.args.journal.now;
@@ -23,8 +23,8 @@ returns-in_default g c files =
     c.args.call.now (Refused Memory)) (sym c.plan.ensures.state)
     (quiet D.Disk.time D.Outside.faults D.Disk.left_since store c.args.call.now (Refused Memory) tt refl tt)
 
-pub returns-in_default-planned_record : goal.returns-in_default-planned_record
-returns-in_default-planned_record g c files =
+pub returns-in_default-planned_record-clause-serves : goal.returns-in_default-planned_record-clause-serves
+returns-in_default-planned_record-clause-serves g c files =
     let D = g.D in
     let store : OpenStore _ = record {
       journal = c.args.journal.now;
@@ -36,8 +36,8 @@ returns-in_default-planned_record g c files =
     c.args.call.now (Refused Memory)) (sym c.plan.ensures.state)
     (quiet D.Disk.time D.Outside.faults D.Disk.left_since store c.args.call.now (Refused Memory) tt refl tt)
 
-pub returns-in-None : goal.returns-in-None
-returns-in-None g c files =
+pub returns-in-None-clause-serves : goal.returns-in-None-clause-serves
+returns-in-None-clause-serves g c files =
     let D = g.D in
     let call = c.args.call.now in
     let state = c.args.index.now.state in
@@ -51,8 +51,8 @@ returns-in-None g c files =
     ∙ ap (λ (s : State). answer files s call) c.plan.ensures.state)
     (c.apply.ensures.state call c.in-Ok.ensures.valid made ∙ ap (λ (s : State). after s call) c.plan.ensures.state)
 
-pub returns-in-Some : goal.returns-in-Some
-returns-in-Some g c files =
+pub returns-in-Some-clause-serves : goal.returns-in-Some-clause-serves
+returns-in-Some-clause-serves g c files =
     let D = g.D in
     let call = c.args.call.now in
     let plan = c.in-Ok.plan in
@@ -65,4 +65,4 @@ returns-in-Some g c files =
       files = files;
       limit = c.args.limit;
     }) call c.write_and_apply.result) c.plan.ensures.state
-    (c.write_and_apply.ensures files call c.requires.change c.in-Ok.ensures.valid c.requires.fit made)
+    (c.write_and_apply.ensures.serves files call c.requires.change c.in-Ok.ensures.valid c.requires.fit made)

@@ -1,7 +1,36 @@
-use Rattle.skk_journal.specs.MomentLaws.{other_on}
+use Rattle.std.proofs.Common.{[], ◌∷◌, ◌++◌}
+use Rattle.std.proofs.lemmas.Result.{on_ok_weaker, on_err_weaker}
+use Rattle.skk_disk.specs.MomentLaws.{each_within}
+use Rattle.learned_store.specs.Stores.{RecoversOneOf, with_doubt}
+use Rattle.learned_store.proofs.DoubtedStates.{on_err, doubt_more, either_more, doubt_stays, doubt_is_after}
 use Rattle.learned_store.proofs.committing.commit.Goals as goal
 
-pub returns-clause-other : goal.returns-clause-other
-returns-clause-other g c =
-    other_on _ _ _ _ _ _ c.in_ok-settle.ensures.past c.append.ensures.past
-    (g.met.D.Disk.earlier c.settle.new.journal.disk) c.in_ok-settle.ensures.other c.append.ensures.other
+pub returns-in_err-settle-clause-err : goal.returns-in_err-settle-clause-err
+returns-in_err-settle-clause-err g c = on_err c.from_residual.result (λ state after doubt adds keeps.
+    doubt_stays g.D.Disk.time g.D.Disk.left_since c.settle.new.journal state after doubt
+    (c.in_err-settle.ensures.keeps state doubt keeps))
+
+pub returns-in_err-settle-clause-images : goal.returns-in_err-settle-clause-images
+returns-in_err-settle-clause-images g c state after doubt adds keeps image left =
+    doubt_more state after doubt image (c.settle.ensures.images state doubt keeps image left)
+
+pub returns-clause-ok : goal.returns-clause-ok
+returns-clause-ok g c = on_ok_weaker c.add.result
+    (λ keeps_on. λ state after doubt adds keeps.
+    keeps_on state after adds (c.in_ok-settle.ensures.keeps state doubt keeps))
+    c.add.ensures.ok
+
+pub returns-clause-err : goal.returns-clause-err
+returns-clause-err g c = on_err_weaker c.add.result
+    (λ keeps_on. λ state after doubt adds keeps.
+    doubt_is_after g.D.Disk.time g.D.Disk.left_since c.add.new.journal state after doubt
+    (keeps_on state after adds (c.in_ok-settle.ensures.keeps state doubt keeps)))
+    c.add.ensures.err
+
+pub returns-clause-images : goal.returns-clause-images
+returns-clause-images g c state after doubt adds keeps =
+    each_within _ _ _ _ _ _ c.in_ok-settle.ensures.past c.add.ensures.past
+    (RecoversOneOf (with_doubt state doubt ++ after ∷ []))
+    (λ image left. doubt_more state after doubt image (c.in_ok-settle.ensures.images state doubt keeps image left))
+    (λ image left. either_more state after doubt image
+    (c.add.ensures.images state after adds (c.in_ok-settle.ensures.keeps state doubt keeps) image left))

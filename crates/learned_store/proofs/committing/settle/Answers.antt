@@ -1,22 +1,29 @@
+use Rattle.std.proofs.Common.{⊎_elim, [], ◌∷◌}
+use Rattle.std.proofs.Common.{sym, subst}
+use Rattle.std.specs.Prelude.{None, Some}
 use Rattle.std.proofs.lemmas.Result.{on_ok_weaker, on_err_weaker}
-use Rattle.learned_store.proofs.Settled.{failed_doubted, settled, settling, still_doubted}
+use Rattle.skk_journal.specs.Journal.{OpenJournal, Rests}
+use Rattle.learned_store.proofs.DoubtedStates.{match_of, on_ok, never_err, first_is, second_is}
 use Rattle.learned_store.proofs.committing.settle.Goals as goal
 
-pub returns-clause-doubted : goal.returns-clause-doubted
-returns-clause-doubted g c =
-    failed_doubted c.repair.result c.args.journal.now.in_doubt (λ calm. (c.repair.ensures.calm calm).0)
-
-pub returns-clause-ok : goal.returns-clause-ok
-returns-clause-ok g c =
-    on_ok_weaker c.repair.result (settled g.D.Disk.time g.D.Disk.left_since c.args.journal.now c.repair.new.self
-    (λ calm. (c.repair.ensures.calm calm).1)) c.repair.ensures.ok
-
-pub returns-clause-err : goal.returns-clause-err
-returns-clause-err g c =
-    on_err_weaker c.repair.result (still_doubted g.D.Disk.time g.D.Disk.left_since c.args.journal.now c.repair.new.self
-    (λ calm. (c.repair.ensures.calm calm).1)) c.repair.ensures.err
+pub returns-clause-keeps : goal.returns-clause-keeps
+returns-clause-keeps g c state None (records, left, rests) =
+    let D = g.D.Disk in
+    let calm = c.repair.ensures.calm rests.calm in
+    match_of _ _ c.repair.result
+    (on_ok c.repair.result
+    (records, left, subst (λ (j : OpenJournal _). Rests D.time D.left_since j records) (sym calm.1) rests))
+    (never_err _ c.repair.result calm.0)
+returns-clause-keeps g c state (Some doubted) (records, others, left, leave, in_doubt) =
+    match_of _ _ c.repair.result
+    (on_ok_weaker c.repair.result (λ rests. (records, left, rests records others in_doubt)) c.repair.ensures.ok)
+    (on_err_weaker c.repair.result (λ doubts. (records, others, left, leave, doubts records others in_doubt))
+    c.repair.ensures.err)
 
 pub returns-clause-images : goal.returns-clause-images
-returns-clause-images g c =
-    settling g.D.Disk.time g.D.Disk.left_since c.args.journal.now c.repair.new.self
-    (λ calm. (c.repair.ensures.calm calm).1) c.repair.ensures.images
+returns-clause-images g c state None (records, left, rests) image is =
+    (state, first_is state [], (records, c.repair.ensures.rests records rests image is, left))
+returns-clause-images g c state (Some doubted) (records, others, left, leave, in_doubt) image is = ⊎_elim
+    (λ opens. (state, first_is state (doubted ∷ []), (records, opens, left)))
+    (λ opens. (doubted, second_is state doubted [], (others, opens, leave)))
+    (c.repair.ensures.images records others in_doubt image is)

@@ -17,6 +17,6 @@ returns-clause-whole c records at state whole one =
     whole_or_break (lines_are_read c.good_rows_are_read_again.ensures c.lines_spell_one_row.ensures.read) records at
     state whole one
 
-pub returns-clause-file : goal.returns-clause-file
-returns-clause-file c =
+pub returns-clause-image : goal.returns-clause-image
+returns-clause-image c =
     recovered_once (lines_are_read c.good_rows_are_read_again.ensures c.lines_spell_one_row.ensures.read)

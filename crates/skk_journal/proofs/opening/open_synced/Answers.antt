@@ -1,52 +1,182 @@
-use Rattle.std.proofs.Common.{◌≡◌, ℕ, List, sym, ◌∙◌, subst, IfOk}
-use Rattle.skk_disk.specs.Image.{Image}
+use Rattle.std.proofs.Common.{◌≡◌, List, IfOk, IfErr, sym, ◌∙◌, subst}
+use Rattle.skk_disk.specs.Image.{Image, part, other}
+use Rattle.skk_journal.specs.declared.choice.Choice.TheVariants.{LiveIn}
 use Rattle.skk_journal.specs.declared.found.Found.{Found}
-use Rattle.skk_journal.specs.Records.{HasRecords}
-use Rattle.skk_journal.specs.Images.{Each}
 use Rattle.skk_journal.specs.Found.{payloads}
-use Rattle.skk_journal.proofs.MakingAnew.{new_has, fresh_moments}
-use Rattle.skk_journal.proofs.ReadWhole.{read_now}
+use Rattle.skk_journal.specs.Choice.{choice}
+use Rattle.skk_journal.specs.Generations.{first_live}
+use Rattle.skk_journal.specs.Idle.{idle_of}
+use Rattle.skk_journal.specs.Journal.{Holds}
+use Rattle.skk_journal.specs.Opening.{with_records, IsOpened}
+use Rattle.skk_journal.specs.Causes.{IsRefused}
+use Rattle.skk_journal.proofs.Opened.{none_refused, cut_refused, none_opened, beside_is, none_each, none_fills}
+use Rattle.skk_journal.proofs.Opened.{no_live, each_now, read_opens, read_alone, read_step, reads_on, read_holds}
 use Rattle.skk_journal.proofs.opening.open_synced.Goals as goal
 
-pub returns-in_err-make_anew-in-Fresh-clause-images : goal.returns-in_err-make_anew-in-Fresh-clause-images
-returns-in_err-make_anew-in-Fresh-clause-images g c =
+pub returns-in-NoneBy-clause-refused : goal.returns-in-NoneBy-clause-refused
+returns-in-NoneBy-clause-refused g c tells =
+    none_refused (g.D.Disk.seen c.args.disk.now) c.in_ok-chosen.chosen.choice c.in-NoneBy.file _ _
+    (c.in_ok-chosen.ensures.choice tells) c.in-NoneBy.is c.number.ensures
+
+pub returns-in-CutShortIn-clause-refused : goal.returns-in-CutShortIn-clause-refused
+returns-in-CutShortIn-clause-refused g c tells =
+    cut_refused (g.D.Disk.seen c.args.disk.now) c.in_ok-chosen.chosen.choice c.in-CutShortIn.file _ _
+    (c.in_ok-chosen.ensures.choice tells) c.in-CutShortIn.is c.number-in-CutShortIn.ensures c.new.ensures
+
+pub returns-in_err-chosen-clause-images : goal.returns-in_err-chosen-clause-images
+returns-in_err-chosen-clause-images g c records same opens =
+    read_opens g.D.Disk.time g.D.Disk.left_since c.args.disk.now c.read_choice.new.disk c.read_choice.ensures.images _
+    records same opens
+
+pub returns-in_err-chosen-clause-first_alone : goal.returns-in_err-chosen-clause-first_alone
+returns-in_err-chosen-clause-first_alone g c =
+    read_alone g.D.Disk.time g.D.Disk.left_since c.args.disk.now c.read_choice.new.disk c.read_choice.ensures.images
+
+pub returns-in-NoneBy-clause-images : goal.returns-in-NoneBy-clause-images
+returns-in-NoneBy-clause-images g c records same opens =
+    read_opens g.D.Disk.time g.D.Disk.left_since c.args.disk.now c.read_choice.new.disk c.read_choice.ensures.images _
+    records same opens
+
+pub returns-in-NoneBy-clause-first_alone : goal.returns-in-NoneBy-clause-first_alone
+returns-in-NoneBy-clause-first_alone g c =
+    read_alone g.D.Disk.time g.D.Disk.left_since c.args.disk.now c.read_choice.new.disk c.read_choice.ensures.images
+
+pub returns-in-CutShortIn-clause-images : goal.returns-in-CutShortIn-clause-images
+returns-in-CutShortIn-clause-images g c records same opens =
+    read_opens g.D.Disk.time g.D.Disk.left_since c.args.disk.now c.read_choice.new.disk c.read_choice.ensures.images _
+    records same opens
+
+pub returns-in-CutShortIn-clause-first_alone : goal.returns-in-CutShortIn-clause-first_alone
+returns-in-CutShortIn-clause-first_alone g c =
+    read_alone g.D.Disk.time g.D.Disk.left_since c.args.disk.now c.read_choice.new.disk c.read_choice.ensures.images
+
+pub returns-in_err-fill_first-in-NoLive-clause-images : goal.returns-in_err-fill_first-in-NoLive-clause-images
+returns-in_err-fill_first-in-NoLive-clause-images g c records same opens image left =
     let D = g.D.Disk in
     let start = c.args.disk.now in
-    let new = c.make_anew.new.disk in
-    fresh_moments D.tells D.time D.seen D.left_since start c.read_head.new.disk new c.in_ok-read_head.field-0
-    (g.met.D.Disk.reads_image start) (λ image. g.met.D.Disk.tells_images new (D.time start) image)
-    c.read_head.ensures.images c.read_head.ensures.time c.in_ok-read_head.ensures.head c.in-Fresh.is
-    c.make_anew.ensures.images
+    let told = g.met.D.Disk.tells_images c.fill_first.new.disk (D.time start) image left in
+    let read = c.in_ok-chosen.ensures in
+    none_fills D.time D.left_since start c.read_choice.new.disk read.images (D.seen start) same read.time
+    c.in_ok-chosen.chosen (sym (read.choice told) ∙ c.in-NoLive.is) (read.first told) (read.second told)
+    (D.left_since c.fill_first.new.disk) records c.fill_first.ensures.images opens image left
 
-pub returns-in_ok-make_anew-in-Fresh-clause-images : goal.returns-in_ok-make_anew-in-Fresh-clause-images
-returns-in_ok-make_anew-in-Fresh-clause-images g c =
+pub returns-in_err-fill_first-in-NoLive-clause-first_alone : goal.returns-in_err-fill_first-in-NoLive-clause-first_alone
+returns-in_err-fill_first-in-NoLive-clause-first_alone g c =
+    let D = g.D.Disk in
+    read_step D.time D.left_since c.args.disk.now c.read_choice.new.disk c.read_choice.ensures.images
+    (D.left_since c.fill_first.new.disk) c.read_choice.ensures.time c.fill_first.ensures.first_alone
+
+pub returns-in_err-fill_first-in-NoLive-clause-kept : goal.returns-in_err-fill_first-in-NoLive-clause-kept
+returns-in_err-fill_first-in-NoLive-clause-kept g c tells some =
+    absurd (some (sym (c.in_ok-chosen.ensures.choice tells) ∙ c.in-NoLive.is))
+
+pub returns-in_err-fill_first-in-NoLive-clause-seen : goal.returns-in_err-fill_first-in-NoLive-clause-seen
+returns-in_err-fill_first-in-NoLive-clause-seen g c tells some =
+    absurd (some (sym (c.in_ok-chosen.ensures.choice tells) ∙ c.in-NoLive.is))
+
+pub returns-in_ok-fill_first-in-NoLive-clause-images : goal.returns-in_ok-fill_first-in-NoLive-clause-images
+returns-in_ok-fill_first-in-NoLive-clause-images g c records same opens image left =
     let D = g.D.Disk in
     let start = c.args.disk.now in
-    let new = c.make_anew.new.disk in
-    fresh_moments D.tells D.time D.seen D.left_since start c.read_head.new.disk new c.in_ok-read_head.field-0
-    (g.met.D.Disk.reads_image start) (λ image. g.met.D.Disk.tells_images new (D.time start) image)
-    c.read_head.ensures.images c.read_head.ensures.time c.in_ok-read_head.ensures.head c.in-Fresh.is
-    c.make_anew.ensures.images
+    let told = g.met.D.Disk.tells_images c.fill_first.new.disk (D.time start) image left in
+    let read = c.in_ok-chosen.ensures in
+    none_fills D.time D.left_since start c.read_choice.new.disk read.images (D.seen start) same read.time
+    c.in_ok-chosen.chosen (sym (read.choice told) ∙ c.in-NoLive.is) (read.first told) (read.second told)
+    (D.left_since c.fill_first.new.disk) records c.fill_first.ensures.images opens image left
 
-pub returns-in_ok-make_anew-in-Fresh-clause-now : goal.returns-in_ok-make_anew-in-Fresh-clause-now
-returns-in_ok-make_anew-in-Fresh-clause-now g c same image left =
-    subst (λ (l : List Found). HasRecords (payloads l) image.a) (sym c.new.ensures)
-    (new_has image (c.in_ok-make_anew-in-Fresh.ensures.ok image left))
+pub returns-in_ok-fill_first-in-NoLive-clause-first_alone : goal.returns-in_ok-fill_first-in-NoLive-clause-first_alone
+returns-in_ok-fill_first-in-NoLive-clause-first_alone g c =
+    let D = g.D.Disk in
+    read_step D.time D.left_since c.args.disk.now c.read_choice.new.disk c.read_choice.ensures.images
+    (D.left_since c.fill_first.new.disk) c.read_choice.ensures.time c.fill_first.ensures.first_alone
 
-pub returns-in-Whole-clause-now : goal.returns-in-Whole-clause-now
-returns-in-Whole-clause-now g c =
+pub returns-in_ok-fill_first-in-NoLive-clause-kept : goal.returns-in_ok-fill_first-in-NoLive-clause-kept
+returns-in_ok-fill_first-in-NoLive-clause-kept g c tells some =
+    absurd (some (sym (c.in_ok-chosen.ensures.choice tells) ∙ c.in-NoLive.is))
+
+pub returns-in_ok-fill_first-in-NoLive-clause-seen : goal.returns-in_ok-fill_first-in-NoLive-clause-seen
+returns-in_ok-fill_first-in-NoLive-clause-seen g c tells some =
+    absurd (some (sym (c.in_ok-chosen.ensures.choice tells) ∙ c.in-NoLive.is))
+
+pub returns-in_ok-fill_first-in-NoLive-clause-live : goal.returns-in_ok-fill_first-in-NoLive-clause-live
+returns-in_ok-fill_first-in-NoLive-clause-live g c tells some =
+    absurd (some (sym (c.in_ok-chosen.ensures.choice tells) ∙ c.in-NoLive.is))
+
+pub returns-in_ok-fill_first-in-NoLive-clause-opened : goal.returns-in_ok-fill_first-in-NoLive-clause-opened
+returns-in_ok-fill_first-in-NoLive-clause-opened g c tells =
+    let is = sym (c.in_ok-chosen.ensures.choice tells) ∙ c.in-NoLive.is in
+    none_opened (g.D.Disk.seen c.args.disk.now) _ is c.new-in-NoLive.ensures
+
+pub returns-in_ok-fill_first-in-NoLive-clause-now : goal.returns-in_ok-fill_first-in-NoLive-clause-now
+returns-in_ok-fill_first-in-NoLive-clause-now g c same image left =
     let D = g.D.Disk in
     let start = c.args.disk.now in
-    let file = (D.seen start).a in
-    let end = c.read_whole.new.disk in
-    read_now (λ read. payloads read.records) c.read_whole.result D.tells
-    (Each (D.left_since start (D.time start)) (λ image. image.a ≡ file)) (D.left_since end (D.time end)) file
-    (λ tells. subst (λ (s : Image). IfOk c.read_whole.result (λ read. HasRecords (payloads read.records) s.a))
-    c.read_head.ensures.seen (c.read_whole.ensures.opened tells))
-    (λ same image left.
-    let then : D.time end ≡ D.time start = c.read_whole.ensures.time ∙ c.read_head.ensures.time in
-    let was = c.read_head.ensures.images.no_more (D.time end) image
-    (c.read_whole.ensures.images.no_more (D.time end) image left) in (
+    let end = c.fill_first.new.disk in
+    let told = g.met.D.Disk.tells_images end (D.time end) image left in
+    let read = c.in_ok-chosen.ensures in
+    let chosen = c.in_ok-chosen.chosen in
+    let sides = none_each D.time D.left_since start c.read_choice.new.disk read.images (D.seen start) same read.time
+    chosen (sym (read.choice told) ∙ c.in-NoLive.is) (read.first told) (read.second told) in
+    subst (λ (l : List Found). Holds first_live chosen.second (payloads l) image) (sym c.new-in-NoLive.ensures)
+    (c.in_ok-fill_first-in-NoLive.ensures.ok sides image left)
+
+pub returns-in_ok-fill_first-in-NoLive-clause-anew : goal.returns-in_ok-fill_first-in-NoLive-clause-anew
+returns-in_ok-fill_first-in-NoLive-clause-anew g c told none same =
+    let D = g.D.Disk in
+    let start = c.args.disk.now in
+    let read = c.in_ok-chosen.ensures in
+    c.in_ok-fill_first-in-NoLive.ensures.anew
+    (none_each D.time D.left_since start c.read_choice.new.disk read.images (D.seen start) same read.time
+    c.in_ok-chosen.chosen (sym (read.choice told) ∙ c.in-NoLive.is) (read.first told) (read.second told))
+
+pub returns-in-LiveIn-clause-images : goal.returns-in-LiveIn-clause-images
+returns-in-LiveIn-clause-images g c records same opens =
+    read_opens g.D.Disk.time g.D.Disk.left_since c.args.disk.now c.open_live.new.disk
+    (reads_on _ _ _ c.read_choice.ensures.images c.open_live.ensures.images) _ records same opens
+
+pub returns-in-LiveIn-clause-first_alone : goal.returns-in-LiveIn-clause-first_alone
+returns-in-LiveIn-clause-first_alone g c =
+    read_alone g.D.Disk.time g.D.Disk.left_since c.args.disk.now c.open_live.new.disk
+    (reads_on _ _ _ c.read_choice.ensures.images c.open_live.ensures.images)
+
+pub returns-in-LiveIn-clause-opened : goal.returns-in-LiveIn-clause-opened
+returns-in-LiveIn-clause-opened g c tells =
+    let is = sym (c.in_ok-chosen.ensures.choice tells) ∙ c.in-LiveIn.is in
+    let here = subst (λ (s : Image). choice s ≡ LiveIn c.in-LiveIn.live) (sym c.read_choice.ensures.seen) is in
+    subst (λ (s : Image). IfOk c.open_live.result (λ opened. IsOpened s (with_records (payloads opened.records))))
+    c.read_choice.ensures.seen (c.open_live.ensures.opened tells here)
+
+pub returns-in-LiveIn-clause-refused : goal.returns-in-LiveIn-clause-refused
+returns-in-LiveIn-clause-refused g c tells =
+    let is = sym (c.in_ok-chosen.ensures.choice tells) ∙ c.in-LiveIn.is in
+    let here = subst (λ (s : Image). choice s ≡ LiveIn c.in-LiveIn.live) (sym c.read_choice.ensures.seen) is in
+    subst (λ (s : Image). IfErr c.open_live.result (IsRefused s)) c.read_choice.ensures.seen
+    (c.open_live.ensures.refused tells here)
+
+pub returns-in-LiveIn-clause-anew : goal.returns-in-LiveIn-clause-anew
+returns-in-LiveIn-clause-anew g c tells none =
+    let is = sym none ∙ sym (c.in_ok-chosen.ensures.choice tells) ∙ c.in-LiveIn.is in absurd (no_live _ is)
+
+pub returns-in-LiveIn-clause-now : goal.returns-in-LiveIn-clause-now
+returns-in-LiveIn-clause-now g c =
+    let D = g.D.Disk in
+    let start = c.args.disk.now in
+    let end = c.open_live.new.disk in
+    let live = c.in-LiveIn.live in
+    let chosen = c.in_ok-chosen.chosen in
+    let reads = reads_on _ _ _ c.read_choice.ensures.images c.open_live.ensures.images in
+    let time = c.open_live.ensures.time ∙ c.read_choice.ensures.time in
+    read_holds c.open_live.result D.tells _ (D.left_since end (D.time end)) (D.seen start)
+    (λ tells.
+    let is = sym (c.in_ok-chosen.ensures.choice tells) ∙ c.in-LiveIn.is in
+    let known = c.beside-idle.ensures ∙ beside_is (D.seen start) live.file chosen
+    (c.in_ok-chosen.ensures.first tells) (c.in_ok-chosen.ensures.second tells) in
+    let seen = sym c.read_choice.ensures.seen in
+    subst (λ (s : Image). IfOk c.open_live.result (λ opened.
+    Holds opened.live opened.idle (payloads opened.records) s)) c.read_choice.ensures.seen
+    (c.open_live.ensures.holds tells (subst (λ (s : Image). choice s ≡ LiveIn live) seen is)
+    (subst (λ (s : Image). c.beside-idle.result ≡ idle_of (part (other live.file) s)) seen known)))
+    (λ same image left. (
       g.met.D.Disk.tells_images end (D.time end) image left,
-      same image (subst (λ (t : ℕ). D.left_since start t image) then was),
+      each_now D.time D.left_since start end reads (λ now. now ≡ D.seen start) time same image left,
     ))

@@ -1,4 +1,5 @@
 use Rattle.std.proofs.Common.{◌≡◌, ◌≤◌, ◌+◌, ◌-◌, ◌^◌, [], length, drop}
+use Rattle.skk_disk.specs.Image.{part}
 use Rattle.skk_disk.specs.Moments.{SameImages}
 use Rattle.skk_journal.specs.declared.journal.TheConstants.{PIECE_ROOM}
 use Rattle.skk_journal.specs.Records.{first_place}
@@ -12,7 +13,8 @@ invariant-loop-at g l = record {
   low : l.at ≤ 2 ^ 62 + PIECE_ROOM;
   room : length l.buffer ≡ PIECE_ROOM;
   taken :
-      Takes g.D.Disk.tells (drop first_place (g.D.Disk.seen l.fn.disk).a) first_place (l.at - first_place) [] l.records;
+      Takes g.D.Disk.tells (drop first_place (part l.fn.file (g.D.Disk.seen l.fn.disk))) first_place
+      (l.at - first_place) [] l.records;
   seen : g.D.Disk.seen l.disk ≡ g.D.Disk.seen l.fn.disk;
   time : g.D.Disk.time l.disk ≡ g.D.Disk.time l.fn.disk;
   images : SameImages (g.D.Disk.left_since l.fn.disk) (g.D.Disk.left_since l.disk);

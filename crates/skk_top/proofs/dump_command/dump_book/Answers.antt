@@ -45,7 +45,7 @@ returns-in-Ok-open-clause-stands g c =
     ∙ ap (λ (d : g.row.D.Denot). record { ended = c.print_book-ended.result; chronicle = []; disk = d })
     c.close.ensures))
     (stands-opened D.tells D.seen D.time g.D.Outside.faults D.left_since laws.earlier laws.reads_image
-    laws.tells_images c.files_are_recovered_in_one_way.ensures.file c.args.disk store.journal.disk store.journal.disk
+    laws.tells_images c.files_are_recovered_in_one_way.ensures.image c.args.disk store.journal.disk store.journal.disk
     store.state [] c.in-Ok-open.ensures.opened c.in-Ok-open.ensures.past c.in-Ok-open.ensures.images
     (runs-nothing store.state (disk_now D.time g.D.Outside.faults D.left_since store.journal.disk)))
 
@@ -59,7 +59,7 @@ returns-in-Err-clause-leaves g c =
     (inl (record {
       cause = subst (RefusesLearned (moved_disk D.tells D.seen D.time g.D.Outside.faults D.left_since c.args.disk
           c.in-Err.unopened.disk)) (sym c.from.ensures)
-          (refuses-learned c.files_are_recovered_in_one_way.ensures.file
+          (refuses-learned c.files_are_recovered_in_one_way.ensures.image
           (moved_disk D.tells D.seen D.time g.D.Outside.faults D.left_since c.args.disk c.in-Err.unopened.disk)
           c.in-Err.unopened.why c.in-Err.ensures.refused c.in-Err.ensures.failed c.in-Err.ensures.kept
           c.in-Err.ensures.seen);

@@ -54,10 +54,6 @@ pub returns-in-Ok-open_load-clause-stands : goal.returns-in-Ok-open_load-clause-
 returns-in-Ok-open_load-clause-stands g c =
     c.in-Ok-open_load.ensures.stands c.load_by_each.result c.load_by_each.ensures.runs
 
-pub returns-in-Ok-open_load-clause-other : goal.returns-in-Ok-open_load-clause-other
-returns-in-Ok-open_load-clause-other g c =
-    c.in-Ok-open_load.ensures.other c.load_by_each.result c.load_by_each.ensures.runs
-
 -- a learned file that was refused
 pub returns-in-Err-clause-leaves : goal.returns-in-Err-clause-leaves
 returns-in-Err-clause-leaves g c =

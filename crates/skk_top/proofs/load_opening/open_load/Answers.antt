@@ -3,7 +3,7 @@ use Rattle.skk_top.specs.Disks.{moved_disk, RefusesLearned}
 use Rattle.run_endings.specs.Finishes.{EndsUnbegun}
 use Rattle.skk_top.specs.LoadCommand.{load_files}
 use Rattle.run_endings.specs.declared.finish.Run.{Run}
-use Rattle.skk_top.proofs.Disks.{stands-quiet, stands-refused, stands-opened, other-opened, opened-so, refuses-learned}
+use Rattle.skk_top.proofs.Disks.{stands-quiet, stands-refused, stands-opened, opened-so, refuses-learned}
 use Rattle.skk_top.proofs.load_opening.open_load.Goals as goal
 
 -- there was no memory for the dictionary
@@ -35,18 +35,9 @@ returns-in-Ok-open-clause-stands g c run runs =
     let laws = g.met.D.Disk in
     let store = c.in-Ok-open.store in
     stands-opened D.tells D.seen D.time g.D.Outside.faults D.left_since laws.earlier laws.reads_image
-    laws.tells_images c.files_are_recovered_in_one_way.ensures.file c.args.disk store.journal.disk
+    laws.tells_images c.files_are_recovered_in_one_way.ensures.image c.args.disk store.journal.disk
     run.disk store.state run.chronicle c.in-Ok-open.ensures.opened c.in-Ok-open.ensures.past
     c.in-Ok-open.ensures.images runs
-
-pub returns-in-Ok-open-clause-other : goal.returns-in-Ok-open-clause-other
-returns-in-Ok-open-clause-other g c run runs =
-    let D = g.D.Disk in
-    let laws = g.met.D.Disk in
-    let store = c.in-Ok-open.store in
-    other-opened D.tells D.seen D.time g.D.Outside.faults D.left_since laws.earlier laws.reads_image
-    laws.tells_images c.files_are_recovered_in_one_way.ensures.file c.args.disk store.journal.disk
-    run.disk store.state run.chronicle c.in-Ok-open.ensures.past c.in-Ok-open.ensures.other runs
 
 -- it was refused
 pub returns-in-Err-clause-ends : goal.returns-in-Err-clause-ends
@@ -57,7 +48,7 @@ returns-in-Err-clause-ends g c out keeps =
     D.left_since c.args.disk r.disk)) r out) (sym c.without_calls-in-Err.ensures)
     (record {
       cause = subst (RefusesLearned disk) (sym c.from.ensures)
-          (refuses-learned c.files_are_recovered_in_one_way.ensures.file disk c.in-Err.unopened.why
+          (refuses-learned c.files_are_recovered_in_one_way.ensures.image disk c.in-Err.unopened.why
           c.in-Err.ensures.refused c.in-Err.ensures.failed c.in-Err.ensures.kept c.in-Err.ensures.seen);
       uncalled = refl;
       unwritten = keeps;

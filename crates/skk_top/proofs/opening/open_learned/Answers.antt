@@ -1,7 +1,7 @@
 use Rattle.std.proofs.Common.{sym, subst, IsErrAnd}
 use Rattle.skk_top.specs.Disks.{moved_disk, RefusesLearned}
 use Rattle.run_endings.specs.declared.finish.Run.{Run}
-use Rattle.skk_top.proofs.Disks.{stands-refused, stands-opened, other-opened, opened-so, refuses-learned}
+use Rattle.skk_top.proofs.Disks.{stands-refused, stands-opened, opened-so, refuses-learned}
 use Rattle.skk_top.proofs.opening.open_learned.Goals as goal
 
 -- the learned file was opened
@@ -18,17 +18,8 @@ returns-in-Ok-clause-stands g c run runs =
     let laws = g.met.D.Disk in
     let store = c.in-Ok.store in
     stands-opened D.tells D.seen D.time g.D.Outside.faults D.left_since laws.earlier laws.reads_image
-    laws.tells_images c.files_are_recovered_in_one_way.ensures.file c.args.disk store.journal.disk
+    laws.tells_images c.files_are_recovered_in_one_way.ensures.image c.args.disk store.journal.disk
     run.disk store.state run.chronicle c.in-Ok.ensures.opened c.in-Ok.ensures.past c.in-Ok.ensures.images runs
-
-pub returns-in-Ok-clause-other : goal.returns-in-Ok-clause-other
-returns-in-Ok-clause-other g c run runs =
-    let D = g.D.Disk in
-    let laws = g.met.D.Disk in
-    let store = c.in-Ok.store in
-    other-opened D.tells D.seen D.time g.D.Outside.faults D.left_since laws.earlier laws.reads_image
-    laws.tells_images c.files_are_recovered_in_one_way.ensures.file c.args.disk store.journal.disk
-    run.disk store.state run.chronicle c.in-Ok.ensures.past c.in-Ok.ensures.other runs
 
 -- the learned file was refused
 pub returns-in-Err-clause-refused : goal.returns-in-Err-clause-refused
@@ -39,7 +30,7 @@ returns-in-Err-clause-refused g c =
     (RefusesLearned (moved_disk D.tells D.seen D.time g.D.Outside.faults D.left_since c.args.disk r.disk)))
     (sym c.without_calls.ensures)
     (subst (RefusesLearned disk) (sym c.from.ensures)
-    (refuses-learned c.files_are_recovered_in_one_way.ensures.file disk c.in-Err.unopened.why c.in-Err.ensures.refused
+    (refuses-learned c.files_are_recovered_in_one_way.ensures.image disk c.in-Err.unopened.why c.in-Err.ensures.refused
     c.in-Err.ensures.failed c.in-Err.ensures.kept c.in-Err.ensures.seen))
 
 pub returns-in-Err-clause-ended_stands : goal.returns-in-Err-clause-ended_stands

@@ -13,6 +13,3 @@ returns-in-Ok-clause-leaves g c =
 
 pub returns-in-Ok-clause-stands : goal.returns-in-Ok-clause-stands
 returns-in-Ok-clause-stands g c = c.in-Ok.ensures.stands c.serve_store.result c.serve_store.ensures.runs
-
-pub returns-in-Ok-clause-other : goal.returns-in-Ok-clause-other
-returns-in-Ok-clause-other g c = c.in-Ok.ensures.other c.serve_store.result c.serve_store.ensures.runs

@@ -23,18 +23,9 @@ returns-in-Ok-clause-stands g c =
     if_ok c.begin_script.result c.begin_script.ensures.store
     (λ begun same run runs. c.in-Ok.ensures.stands run (rw same at runs))
 
-pub returns-in-Ok-clause-other : goal.returns-in-Ok-clause-other
-returns-in-Ok-clause-other g c =
-    if_ok c.begin_script.result c.begin_script.ensures.store
-    (λ begun same run runs. c.in-Ok.ensures.other run (rw same at runs))
-
 pub returns-in-Ok-clause-ended_stands : goal.returns-in-Ok-clause-ended_stands
 returns-in-Ok-clause-ended_stands g c =
     if_err c.begin_script.result c.begin_script.ensures.runs (λ run runs. c.in-Ok.ensures.stands run runs)
-
-pub returns-in-Ok-clause-ended_other : goal.returns-in-Ok-clause-ended_other
-returns-in-Ok-clause-ended_other g c =
-    if_err c.begin_script.result c.begin_script.ensures.runs (λ run runs. c.in-Ok.ensures.other run runs)
 
 -- it was, and no script was had
 pub returns-in-Ok-clause-ends : goal.returns-in-Ok-clause-ends

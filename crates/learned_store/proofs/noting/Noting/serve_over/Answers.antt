@@ -15,8 +15,7 @@ invariant_of-self g c =
     let given = c.serve_over-answer.result in
     let stands =
     stands_more g.D.Disk.time g.D.Outside.faults g.D.Disk.left_since opening g.N.LearnedName.past c.self.inside.trace
-    old new number call given c.self.invariant.0 (g.met.D.Disk.earlier old.journal.disk)
-    (g.met.D.Disk.earlier new.journal.disk) does in
+    old new number call given c.self.invariant.0 (g.met.D.Disk.earlier new.journal.disk) does in
     let counts =
     counts_more opening c.self.inside.trace number (g.D.Disk.time new.journal.disk)
     (g.D.Outside.faults new.journal.disk) call given c.self.inside.tally c.count.new.self
@@ -40,7 +39,6 @@ returns g c =
       may = does.may;
       fits = does.fits;
       room = does.room;
-      other = does.other;
       past = does.past;
       counted = does.counted;
     } in

@@ -13,4 +13,4 @@ returns g c =
       limit = c.self.inside.limit;
     } in
     subst (λ (s : OpenStore _). Serves D.Disk.time D.Outside.faults D.Disk.left_since s now c.args.call.now
-    c.change.result) c.self.view_is (c.change.ensures c.self.inside.system)
+    c.change.result) c.self.view_is (c.change.ensures.serves c.self.inside.system)

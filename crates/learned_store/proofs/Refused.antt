@@ -1,0 +1,57 @@
+-- Why both files of a disk are refused, of whose live file no state was recovered.
+use Rattle.std.proofs.Common.{◌≡◌, ◌≢◌, ℕ, List, [], ◌∷◌, ◌++◌, inl, refl, sym, ◌∙◌, subst}
+use Rattle.skk_disk.specs.Image.{Image}
+use Rattle.skk_journal.specs.declared.choice.Choice.TheVariants.{NoLive, LiveIn}
+use Rattle.skk_journal.specs.declared.fault.OpenFault.{OpenFault}
+use Rattle.skk_journal.specs.declared.fault.OpenFault.TheVariants.{Disk, NotJournal, BadRecord, Memory}
+use Rattle.skk_journal.specs.declared.live.Live.{Live}
+use Rattle.skk_journal.specs.Causes.{file_number, UnlessDisk}
+use Rattle.skk_journal.specs.Choice.{choice}
+use Rattle.skk_journal.specs.Opening.{with_records, HasChosen, IsOpened}
+use Rattle.learned_store.specs.declared.recovery.RecoverFault.{RecoverFault}
+use Rattle.learned_store.specs.declared.recovery.RecoverFault.TheVariants as recovering
+use Rattle.learned_store.specs.Recovered.{BreakAt, BreaksIn, IsRefused}
+use Rattle.learned_store.specs.Recovering.{IsBreak, refusal_of}
+
+some_item : {X : Type 0} (before : List X) (x : X) (behind : List X) → ¬ ([] ≡ before ++ x ∷ behind)
+some_item [] x behind is = cc is
+some_item (first ∷ before) x behind is = cc is
+
+-- records that say nothing from a place on are those of a live file, since beside no live file there are none
+breaks_live : (image : Image) (live : Live) (records : List (List ℕ)) (at : ℕ)
+    → (choice image ≢ NoLive → choice image ≡ LiveIn live) → IsOpened image (with_records records)
+    → BreakAt records at → choice image ≡ LiveIn live
+breaks_live image live records at chosen opened breaks = chosen (λ anew.
+    let none : records ≡ [] = subst (HasChosen image records) anew opened in
+    some_item breaks.before breaks.payload breaks.behind (sym none ∙ breaks.is))
+
+-- so the live file is refused
+pub refused_live : (image : Image) (live : Live) (records : List (List ℕ)) (fault : RecoverFault)
+    → (choice image ≢ NoLive → choice image ≡ LiveIn live) → IsOpened image (with_records records)
+    → IsBreak records fault → IsRefused image (refusal_of (file_number live.file) fault)
+refused_live image live records (recovering.Break at) chosen opened breaks =
+    let why : BreaksIn image live.file at = record {
+      live = live;
+      chosen = breaks_live image live records at chosen opened breaks;
+      of_live = refl;
+      records = records;
+      opened = opened;
+      breaks = breaks;
+    } in
+    (live.file, refl, inl why, refl)
+refused_live image live records recovering.Memory chosen opened breaks = tt
+
+-- what holds unless a disk failed, by another telling of why that tells of a disk wherever the first one does
+
+holds : (P : Type 0) (why : OpenFault) → (why ≢ Disk) → UnlessDisk why P → P
+holds P Disk sound unless = absurd (sound refl)
+holds P (NotJournal file first) sound unless = unless
+holds P (BadRecord file at before) sound unless = unless
+holds P Memory sound unless = unless
+
+pub unless_disk : (P : Type 0) (why told : OpenFault) → (why ≡ Disk → told ≡ Disk) → UnlessDisk why P
+    → UnlessDisk told P
+unless_disk P why Disk same unless = tt
+unless_disk P why (NotJournal file first) same unless = holds P why (λ is. cc (same is)) unless
+unless_disk P why (BadRecord file at before) same unless = holds P why (λ is. cc (same is)) unless
+unless_disk P why Memory same unless = holds P why (λ is. cc (same is)) unless

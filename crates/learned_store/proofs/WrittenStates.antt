@@ -1,0 +1,145 @@
+-- What records leave may be written again.
+use Rattle.std.proofs.Common.{◌≡◌, ℕ, ◌≤◌, Bool, true, false, cond, not, ◌==◌, nat_lt, Option, None, Some, List, []}
+use Rattle.std.proofs.Common.{◌∷◌, All, map, refl, sym, ◌∙◌, subst, arith}
+use Rattle.std.specs.List.{flat_map, list_all}
+use Rattle.std.proofs.lemmas.Bool.{and_from, and_parts}
+use Rattle.std.proofs.lemmas.List.Elements.{All-nil, All-cons}
+use Rattle.std.proofs.lemmas.List.Folds.{list_all-append}
+use Rattle.skk_text.specs.FilterLaws.{list_all_found}
+use Rattle.skk_text.specs.PairsLaws.{list_all-filter, list_all-weaker}
+use Rattle.ordered_lists.specs.OrderLaws.{list_all-insert_by}
+use Rattle.skk_calls.specs.declared.book.NumberedBook.{NumberedBook}
+use Rattle.skk_calls.specs.Orders.{key_less}
+use Rattle.skk_calls.specs.Rows.{RowKey, Row, same_key}
+use Rattle.skk_calls.specs.States.{State, empty_state, book_at, book_rows, book_count, rows_of, count_of, with_row}
+use Rattle.skk_calls.specs.States.{without_row, without_book, with_book, state_with, is_valid}
+use Rattle.skk_journal.specs.Records.{IsSized}
+use Rattle.learn_index.specs.Records.{state_counted, state_without}
+use Rattle.learned_store.specs.declared.form.Form.{Form}
+use Rattle.learned_store.specs.declared.form.Form.TheVariants.{Put, Drop, SetCount}
+use Rattle.learned_store.specs.Payloads.{are_held, is_sound, book_of, new_count, payload_of, state_told}
+use Rattle.learned_store.specs.Reading.{is_written_row}
+use Rattle.learned_store.specs.Recovered.{Leads, Leave}
+use Rattle.learned_store.specs.Compacted.{row_forms, book_forms, compacted, is_written_book, is_written}
+use Rattle.learned_store.proofs.Sized.{sound_sized}
+use Rattle.learned_store.proofs.ToldStates.{fits_later, valid_told}
+
+-- a row that may be written in a book may be written in it later
+written_later : (count later : ℕ) → count ≤ later → (row : Row) → is_written_row count row ≡ true
+    → is_written_row later row ≡ true
+written_later count later most row written = grind (arith, fits_later count later most row)
+
+module _ (state : State) (written : is_written state ≡ true) (number count : ℕ) (later : count_of state number ≤ count)
+    (held : are_held number count ≡ true) where
+  -- the rows of a book may be written in it later
+  rows_written : list_all (is_written_row count) (rows_of state number) ≡ true
+  rows_written =
+      list_all-weaker (is_written_row (count_of state number)) (is_written_row count)
+      (written_later (count_of state number) count later) (rows_of state number) (by (book_at state number) refl)
+    where
+      by : (found : Option NumberedBook) → book_at state number ≡ found
+          → list_all (is_written_row (book_count found)) (book_rows found) ≡ true
+      by None is = refl
+      by (Some book) is =
+          (and_parts (are_held book.number book.count) (list_all (is_written_row book.count) book.rows)
+          (list_all_found is_written_book (λ (b : NumberedBook). b.number == number) state.books book written is)).1
+
+  -- a state may be written with a book that may be
+  with_written : (rows : List Row) → list_all (is_written_row count) rows ≡ true
+      → is_written (record {
+        books = with_book (record { number = number; count = count; rows = rows }) state.books;
+      }) ≡ true
+  with_written rows all =
+      let book : NumberedBook = record { number = number; count = count; rows = rows } in
+      list_all-insert_by (λ (b other : NumberedBook). nat_lt b.number other.number) is_written_book book
+      (without_book number state.books)
+      (and_from (are_held number count) (list_all (is_written_row count) rows) held all)
+      (list_all-filter is_written_book (λ (b : NumberedBook). not (b.number == number)) state.books written)
+
+  -- so it may where a row was put, dropped or left
+  put_written : (row : Row) → is_written_row count row ≡ true
+      → is_written (state_with state number count row.key (Some row)) ≡ true
+  put_written row own =
+      with_written (with_row row.key (Some row) (rows_of state number))
+      (list_all-insert_by (λ (r other : Row). key_less r.key other.key) (is_written_row count) row
+      (without_row row.key (rows_of state number)) own
+      (list_all-filter (is_written_row count) (λ (r : Row). not (same_key r.key row.key)) (rows_of state number)
+      rows_written))
+
+  drop_written : (key : RowKey) → is_written (state_without state number count key) ≡ true
+  drop_written key = by (count == 0)
+    where
+      by : (b : Bool) → is_written (cond b state (state_with state number count key None)) ≡ true
+      by true = written
+      by false =
+          with_written (without_row key (rows_of state number))
+          (list_all-filter (is_written_row count) (λ (r : Row). not (same_key r.key key)) (rows_of state number)
+          rows_written)
+
+  count_written : is_written (state_counted state number count) ≡ true
+  count_written = by (count == 0)
+    where
+      by : (b : Bool) → is_written (cond b state (record {
+        books = with_book (record { number = number; count = count; rows = rows_of state number }) state.books;
+      })) ≡ true
+      by true = written
+      by false = with_written (rows_of state number) rows_written
+
+told_written : (state : State) (form : Form) → is_written state ≡ true → is_sound form ≡ true
+    → count_of state (book_of form) ≤ new_count form → is_written (state_told state form) ≡ true
+told_written state (Put book count row) written sound later =
+    put_written state written book count later (grind (arith, sound)) row (grind (arith, sound))
+told_written state (Drop book count key) written sound later =
+    drop_written state written book count later (grind (arith, sound)) key
+told_written state (SetCount book count) written sound later = count_written state written book count later sound
+
+-- records leave a state that is valid and may be written
+led_valid : (start after : State) (records : List (List ℕ)) → Leads start records after → is_valid start ≡ true
+    → is_valid after ≡ true
+led_valid start after [] is valid = subst (λ (s : State). is_valid s ≡ true) (sym is) valid
+led_valid start after (payload ∷ records) (form, says, leads) valid =
+    led_valid (state_told start form) after records leads (valid_told start valid form says.sound says.counted)
+
+led_written : (start after : State) (records : List (List ℕ)) → Leads start records after → is_written start ≡ true
+    → is_written after ≡ true
+led_written start after [] is written = subst (λ (s : State). is_written s ≡ true) (sym is) written
+led_written start after (payload ∷ records) (form, says, leads) written =
+    led_written (state_told start form) after records leads (told_written start form written says.sound says.counted)
+
+pub left_valid : (records : List (List ℕ)) (state : State) → Leave records state → is_valid state ≡ true
+left_valid records state leave = led_valid empty_state state records leave refl
+
+pub left_written : (records : List (List ℕ)) (state : State) → Leave records state → is_written state ≡ true
+left_written records state leave = led_written empty_state state records leave refl
+
+-- each record of a compaction may be written
+rows_sound : (number count : ℕ) (rows : List Row) → are_held number count ≡ true
+    → list_all (is_written_row count) rows ≡ true → list_all is_sound (map (Put number count) rows) ≡ true
+rows_sound number count [] held all = refl
+rows_sound number count (row ∷ rows) held all = grind (arith, rows_sound number count rows)
+
+book_sound : (number count : ℕ) (rows : List Row) → are_held number count ≡ true
+    → list_all (is_written_row count) rows ≡ true → list_all is_sound (row_forms number count rows) ≡ true
+book_sound number count [] held all = and_from (are_held number count) true held refl
+book_sound number count (row ∷ rows) held all = rows_sound number count (row ∷ rows) held all
+
+books_sound : (books : List NumberedBook) → list_all is_written_book books ≡ true
+    → list_all is_sound (flat_map book_forms books) ≡ true
+books_sound [] all = refl
+books_sound (book ∷ books) all =
+    let own = and_parts (is_written_book book) (list_all is_written_book books) all in
+    let may = and_parts (are_held book.number book.count) (list_all (is_written_row book.count) book.rows) own.0 in
+    list_all-append is_sound (book_forms book) (flat_map book_forms books)
+    ∙ and_from (list_all is_sound (book_forms book)) (list_all is_sound (flat_map book_forms books))
+    (book_sound book.number book.count book.rows may.0 may.1) (books_sound books own.1)
+
+pub compacted_sound : (state : State) → is_written state ≡ true → list_all is_sound (compacted state) ≡ true
+compacted_sound state written = books_sound state.books written
+
+-- so each fits a record
+pub sound_all_sized : (forms : List Form) → list_all is_sound forms ≡ true → All IsSized (map payload_of forms)
+sound_all_sized [] sound = All-nil IsSized
+sound_all_sized (form ∷ forms) sound =
+    let parts = and_parts (is_sound form) (list_all is_sound forms) sound in
+    All-cons IsSized (payload_of form) (map payload_of forms) (sound_sized form parts.0)
+    (sound_all_sized forms parts.1)

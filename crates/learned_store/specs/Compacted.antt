@@ -1,0 +1,31 @@
+-- The records that a compaction writes of a state.
+use Rattle.std.specs.Prelude.{ℕ, Bool, ◌&&◌, List, [], ◌∷◌, map}
+use Rattle.std.specs.List.{flat_map, list_all}
+use Rattle.skk_calls.specs.declared.book.NumberedBook.{NumberedBook}
+use Rattle.skk_calls.specs.Rows.{Row}
+use Rattle.skk_calls.specs.States.{State}
+use Rattle.learned_store.specs.declared.form.Form.{Form}
+use Rattle.learned_store.specs.declared.form.Form.TheVariants.{Put, SetCount}
+use Rattle.learned_store.specs.Payloads.{are_held}
+use Rattle.learned_store.specs.Reading.{is_written_row}
+
+-- the records of a book of a number and a count with these rows: each row is put, or the count set where there is none
+abbrev pub row_forms : ℕ → ℕ → List Row → List Form
+row_forms number count [] = SetCount number count ∷ []
+row_forms number count (row ∷ rows) = map (Put number count) (row ∷ rows)
+
+-- the records of a book
+abbrev pub book_forms : NumberedBook → List Form
+book_forms book = row_forms book.number book.count book.rows
+
+-- the records that a compaction writes of a state: those of each book, one behind another
+abbrev pub compacted : State → List Form
+compacted state = flat_map book_forms state.books
+
+-- the number and the count of a book are held, and each of its rows may be written
+abbrev pub is_written_book : NumberedBook → Bool
+is_written_book book = are_held book.number book.count && list_all (is_written_row book.count) book.rows
+
+-- each book of a state may be written
+abbrev pub is_written : State → Bool
+is_written state = list_all is_written_book state.books

@@ -1,0 +1,55 @@
+ghost use Rattle.std.specs.Prelude.{◌≡◌, ◌+◌, ◌≤◌, nat_le, IfOk};
+ghost use Rattle.skk_calls.specs.Histories.{tight};
+ghost use Rattle.skk_journal.specs.Records.{need};
+ghost use Rattle.learned_store.specs.Rooms.{IsRoom};
+
+use crate::compacting::compacted_records;
+use crate::sizes::{record_need, tight_end};
+use learn_index::Index;
+use skk_journal::Journal;
+use skk_text::{Bytes, Memory};
+use std::alloc::Global;
+
+// Where the record of a change goes.
+pub(crate) enum Room {
+    // Behind the records of the live file.
+    Behind,
+    // Into the other file, behind these records, which are those of the state.
+    Compacted(Bytes),
+    // Nowhere: a file that has just the records of the state ends here.
+    Full(u64),
+}
+
+// Finds room for the record of a payload. Where it doesn't fit behind the records of the live file this takes time in
+// what the rows hold, and memory for their records.
+pub(crate) fn room_for<D>(
+    alloc: Global,
+    index: &Index,
+    journal: &Journal<D>,
+    limit: u64,
+    payload: &[u8],
+) -> Result<Room, Memory>
+    requires tight { tight index.now.state ≤ journal.now.end }
+    ensures { IfOk result (IsRoom index.now.state journal.now.end limit (need payload.now)) }
+{
+    let need = record_need(payload);
+    if fits(journal.end(), limit, need) {
+        return Ok(Room::Behind);
+    }
+    let least = tight_end(index);
+    if fits(least, limit, need) {
+        Ok(Room::Compacted(compacted_records(alloc, index)?))
+    } else {
+        Ok(Room::Full(least))
+    }
+}
+
+// Whether so many bytes behind an end are within a limit.
+fn fits(end: u64, limit: u64, need: u64) -> bool
+    ensures { result ≡ nat_le (end + need) limit }
+{
+    match end.checked_add(need) {
+        Some(last) => last <= limit,
+        None => false,
+    }
+}

@@ -1,0 +1,82 @@
+ghost use Rattle.std.specs.Prelude.{◌≡◌, sum_by};
+ghost use Rattle.skk_calls.specs.Histories.{put_need, rows_need, tight};
+ghost use Rattle.skk_journal.specs.Records.{need};
+ghost use Rattle.learn_index.specs.Kept.{changed, kept, numbered};
+ghost use Rattle.learned_store.specs.Compacting.{book_need, capped};
+
+use dict_rows::line_length;
+use learn_index::{Index, KeptRow, LearnedBook};
+
+// The end of a learned file without records: its own gate, its mark, its generation, and the gate behind them.
+const LEAST_END: u64 = 18;
+
+// The bytes that the record of a row needs beside its line.
+const PUT_NEED: u64 = 25;
+
+// The bytes that the record of a book's count needs.
+const COUNT_NEED: u64 = 16;
+
+// The bytes that a record needs beside its payload: those of its gate and of the payload's length.
+const FRAME_NEED: u64 = 5;
+
+// The bytes that the record of a payload needs.
+#[tactic(auto, using(skk_journal::specs::RecordLaws::need_is))]
+pub(crate) fn record_need(payload: &[u8]) -> u64
+    ensures { result ≡ need payload.now }
+{
+    FRAME_NEED + payload.len() as u64
+}
+
+// The end of a learned file that has just the records of a compaction of an index, or 2^64 - 1 where that is more.
+// Takes no memory, and time in what the rows hold.
+pub(crate) fn tight_end(index: &Index) -> u64
+    ensures { result ≡ capped (tight index.now.state) }
+{
+    books_end(index.books())
+}
+
+// The end of a learned file that has just the records of a compaction of these books.
+pub(crate) fn books_end(books: &[LearnedBook]) -> u64
+    ensures { result ≡ capped (tight (changed (kept books.now))) }
+{
+    let mut end = LEAST_END;
+    for book in books {
+        end = end.saturating_add(book_need(book));
+    }
+    end
+}
+
+// The bytes that the records of a book need, none where it has not changed.
+fn book_need(book: &LearnedBook) -> u64
+    ensures { result ≡ capped (book_need (numbered book.now)) }
+{
+    if book.count == 0 {
+        0
+    } else {
+        rows_need(&book.rows)
+    }
+}
+
+// The bytes that the records of a book with these rows need.
+fn rows_need(rows: &[KeptRow]) -> u64
+    ensures { result ≡ capped (rows_need rows.now) }
+{
+    if rows.is_empty() {
+        COUNT_NEED
+    } else {
+        puts_need(rows)
+    }
+}
+
+// The bytes that the records of rows need.
+fn puts_need(rows: &[KeptRow]) -> u64
+    ensures { result ≡ capped (sum_by put_need rows.now) }
+{
+    let mut bytes = 0u64;
+    for row in rows {
+        bytes = bytes
+            .saturating_add(PUT_NEED)
+            .saturating_add(line_length(row.row()));
+    }
+    bytes
+}

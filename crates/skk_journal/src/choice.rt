@@ -1,0 +1,113 @@
+ghost use Rattle.std.specs.Prelude.{◌≡◌, ◌≤◌, length, IfOk, OnErr};
+ghost use Rattle.skk_outside.specs.Faults.{Rose};
+ghost use Rattle.skk_disk.specs.Moments.{SameImages};
+ghost use Rattle.skk_journal.specs.declared.head.Head.TheVariants.{Headed};
+ghost use Rattle.skk_journal.specs.declared.journal.TheConstants.{PIECE_ROOM};
+ghost use Rattle.skk_journal.specs.Generations.{first_counts};
+ghost use Rattle.skk_journal.specs.Choice.{lives, choice_of, choice};
+ghost use Rattle.skk_journal.specs.Idle.{idle_of};
+
+use crate::head::{Head, read_front};
+use crate::journal::PIECE_ROOM;
+use crate::live::{Idle, Live, one_more};
+use skk_disk::{Disk, Which};
+use skk_outside::Failed;
+
+/// What decides how both files are opened.
+#[derive(Clone, Copy, Debug)]
+pub enum Choice {
+    /// This file is no learned one, by its first byte.
+    NoneBy(Which, u8),
+    /// The generation of this file is not whole.
+    CutShortIn(Which),
+    /// No file is live.
+    NoLive,
+    /// This file is live.
+    LiveIn(Live),
+}
+
+// The choice between both files, and what is known of each if it is not live.
+#[derive(Clone, Copy, Debug)]
+pub(crate) struct Chosen {
+    pub(crate) choice: Choice,
+    pub(crate) first: Idle,
+    pub(crate) second: Idle,
+}
+
+// Whether the first of two files with these generations counts.
+fn counts_first(first: u64, second: u64) -> bool
+    ensures { result ≡ first_counts first second }
+{
+    if second == one_more(first) {
+        false
+    } else if first == one_more(second) {
+        true
+    } else {
+        first >= second
+    }
+}
+
+// A file that is live, with its generation.
+fn live_in(file: Which, generation: u64) -> Choice
+    ensures { result ≡ lives file generation }
+{
+    Choice::LiveIn(Live { file, generation })
+}
+
+// Chooses between two headed files by their generations.
+fn newer(first: u64, second: u64) -> Choice
+    ensures { result ≡ choice_of (Headed first) (Headed second) }
+{
+    if counts_first(first, second) {
+        live_in(Which::A, first)
+    } else {
+        live_in(Which::B, second)
+    }
+}
+
+// Chooses between two files by their heads.
+fn choose(first: Head, second: Head) -> Choice
+    ensures { result ≡ choice_of first second }
+{
+    match first {
+        Head::Foreign(byte) => Choice::NoneBy(Which::A, byte),
+        Head::CutShort => match second {
+            Head::Foreign(byte) => Choice::NoneBy(Which::B, byte),
+            _ => Choice::CutShortIn(Which::A),
+        },
+        Head::Fresh => match second {
+            Head::Foreign(byte) => Choice::NoneBy(Which::B, byte),
+            Head::CutShort => Choice::CutShortIn(Which::B),
+            Head::Fresh => Choice::NoLive,
+            Head::Headed(generation) => live_in(Which::B, generation),
+        },
+        Head::Headed(own) => match second {
+            Head::Foreign(byte) => Choice::NoneBy(Which::B, byte),
+            Head::CutShort => Choice::CutShortIn(Which::B),
+            Head::Fresh => live_in(Which::A, own),
+            Head::Headed(generation) => newer(own, generation),
+        },
+    }
+}
+
+// Reads the heads of both files, and chooses between them.
+pub(crate) fn read_choice<D: Disk>(disk: &mut D, buffer: &mut [u8]) -> Result<Chosen, Failed>
+    requires { length buffer.old ≡ PIECE_ROOM }
+    ensures choice { D.tells → IfOk result (λ chosen. chosen.choice ≡ choice (D.seen disk.old)) }
+    ensures first { D.tells → IfOk result (λ chosen. chosen.first ≡ idle_of (D.seen disk.old).a) }
+    ensures second { D.tells → IfOk result (λ chosen. chosen.second ≡ idle_of (D.seen disk.old).b) }
+    ensures room { length buffer.new ≡ PIECE_ROOM }
+    ensures seen { D.seen disk.new ≡ D.seen disk.old }
+    ensures time { D.time disk.new ≡ D.time disk.old }
+    ensures images { SameImages (D.left_since disk.old) (D.left_since disk.new) }
+    ensures failed { OnErr result (Rose (D.faults disk.old) (D.faults disk.new)) }
+    ensures counted { D.faults disk.old ≤ D.faults disk.new }
+{
+    let first = read_front(disk, Which::A, buffer)?;
+    let second = read_front(disk, Which::B, buffer)?;
+    Ok(Chosen {
+        choice: choose(first.head, second.head),
+        first: first.idle,
+        second: second.idle,
+    })
+}

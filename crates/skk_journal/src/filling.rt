@@ -1,0 +1,104 @@
+ghost use Rattle.std.specs.Prelude.{◌≡◌, ◌≤◌, ◌++◌, ◌∷◌, [], OnOk, OnErr};
+ghost use Rattle.skk_outside.specs.Faults.{Rose};
+ghost use Rattle.skk_disk.specs.Moments.{Passes};
+ghost use Rattle.skk_disk.specs.Steps.{InFile, ComeFrom, Makes};
+ghost use Rattle.skk_journal.specs.declared.live.Idle.TheVariants as idles;
+ghost use Rattle.skk_journal.specs.Filling.{IsAged};
+ghost use Rattle.skk_journal.specs.Idle.{IsStray, IsIdle, IsKnown, OtherFirst, FirstIs};
+ghost use Rattle.skk_journal.specs.Nearer.{nearer};
+ghost use Rattle.exact_readers.specs.Numbers.{number_bytes};
+ghost use Rattle.std.specs.Int.{w64};
+
+use crate::head::GENERATION_PLACE;
+use crate::live::{Idle, Live, aged_generation};
+use crate::steps::CLOSED;
+use crate::through::write_through;
+use skk_disk::{Disk, Which};
+use skk_outside::Failed;
+
+// Writes another first byte: two calls.
+pub(crate) fn write_first<D: Disk>(disk: &mut D, file: Which, first: u8) -> Result<(), Failed>
+    ensures images { ComeFrom (InFile file OtherFirst)
+        (D.left_since disk.old (D.time disk.old)) (D.left_since disk.new (D.time disk.old)) }
+    ensures ok { OnOk result (ComeFrom (InFile file (FirstIs first))
+        (D.left_since disk.old (D.time disk.old)) (D.left_since disk.new (D.time disk.new))) }
+    ensures past { Passes (D.time disk.old) (D.time disk.new) (D.left_since disk.old) (D.left_since disk.new) }
+    ensures failed { OnErr result (Rose (D.faults disk.old) (D.faults disk.new)) }
+    ensures counted { D.faults disk.old ≤ D.faults disk.new }
+{
+    write_through(disk, file, 0, &[first])
+}
+
+// Writes this generation and a closed gate behind it into a stray file: two calls.
+fn age<D: Disk>(disk: &mut D, file: Which, generation: u64) -> Result<(), Failed>
+    ensures images { ComeFrom (InFile file (Makes IsStray IsStray))
+        (D.left_since disk.old (D.time disk.old)) (D.left_since disk.new (D.time disk.old)) }
+    ensures ok { OnOk result (ComeFrom (InFile file (Makes IsStray (IsAged generation)))
+        (D.left_since disk.old (D.time disk.old)) (D.left_since disk.new (D.time disk.new))) }
+    ensures past { Passes (D.time disk.old) (D.time disk.new) (D.left_since disk.old) (D.left_since disk.new) }
+    ensures failed { OnErr result (Rose (D.faults disk.old) (D.faults disk.new)) }
+    ensures counted { D.faults disk.old ≤ D.faults disk.new }
+{
+    let piece = aged_piece(generation);
+    write_through(disk, file, GENERATION_PLACE, &piece)
+}
+
+// Brings the idle file one step nearer to the first byte 0, or leaves it where that is there: two calls at most.
+fn bring_nearer<D: Disk>(
+    disk: &mut D,
+    file: Which,
+    beside: Option<Live>,
+    idle: &mut Idle,
+) -> Result<(), Failed>
+    ensures images { ComeFrom (InFile file (Makes (IsKnown beside idle.old) (IsIdle beside)))
+        (D.left_since disk.old (D.time disk.old)) (D.left_since disk.new (D.time disk.old)) }
+    ensures known { ComeFrom (InFile file (Makes (IsKnown beside idle.old) (IsKnown beside idle.new)))
+        (D.left_since disk.old (D.time disk.old)) (D.left_since disk.new (D.time disk.new)) }
+    ensures ok { OnOk result (idle.new ≡ nearer idle.old) }
+    ensures past { Passes (D.time disk.old) (D.time disk.new) (D.left_since disk.old) (D.left_since disk.new) }
+    ensures failed { OnErr result (Rose (D.faults disk.old) (D.faults disk.new)) }
+    ensures counted { D.faults disk.old ≤ D.faults disk.new }
+{
+    match *idle {
+        Idle::Blank => Ok(()),
+        Idle::Loose => {
+            write_first(disk, file, CLOSED)?;
+            *idle = Idle::Blank;
+            Ok(())
+        }
+        Idle::Stray => {
+            age(disk, file, aged_generation(beside))?;
+            *idle = Idle::Loose;
+            Ok(())
+        }
+    }
+}
+
+// Makes the first byte of the idle file 0, so that both files are opened as before at each moment: at most four calls.
+pub(crate) fn blank<D: Disk>(
+    disk: &mut D,
+    file: Which,
+    beside: Option<Live>,
+    idle: &mut Idle,
+) -> Result<(), Failed>
+    ensures images { ComeFrom (InFile file (Makes (IsKnown beside idle.old) (IsIdle beside)))
+        (D.left_since disk.old (D.time disk.old)) (D.left_since disk.new (D.time disk.old)) }
+    ensures known { ComeFrom (InFile file (Makes (IsKnown beside idle.old) (IsKnown beside idle.new)))
+        (D.left_since disk.old (D.time disk.old)) (D.left_since disk.new (D.time disk.new)) }
+    ensures ok { OnOk result (idle.new ≡ idles.Blank) }
+    ensures past { Passes (D.time disk.old) (D.time disk.new) (D.left_since disk.old) (D.left_since disk.new) }
+    ensures failed { OnErr result (Rose (D.faults disk.old) (D.faults disk.new)) }
+    ensures counted { D.faults disk.old ≤ D.faults disk.new }
+{
+    bring_nearer(disk, file, beside, idle)?;
+    bring_nearer(disk, file, beside, idle)
+}
+
+// The bytes of a generation, and a closed gate.
+#[tactic(auto, unfolding(exact_readers::specs::Numbers::number_bytes))]
+fn aged_piece(generation: u64) -> [u8; 9]
+    ensures { result ≡ number_bytes w64 generation ++ 0 ∷ [] }
+{
+    let [a, b, c, d, e, f, g, h] = generation.to_le_bytes();
+    [a, b, c, d, e, f, g, h, CLOSED]
+}

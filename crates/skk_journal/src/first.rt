@@ -1,0 +1,37 @@
+ghost use Rattle.std.specs.Prelude.{◌≤◌, [], OnOk, OnErr};
+ghost use Rattle.skk_disk.specs.declared.which.Which.TheVariants.{A};
+ghost use Rattle.skk_outside.specs.Faults.{Rose};
+ghost use Rattle.skk_disk.specs.Moments.{Passes};
+ghost use Rattle.skk_disk.specs.Steps.{InFile, ComeFrom};
+ghost use Rattle.skk_journal.specs.Filling.{IsNew};
+ghost use Rattle.skk_journal.specs.Generations.{first_live};
+ghost use Rattle.skk_journal.specs.Idle.{IsFreshAs};
+ghost use Rattle.skk_journal.specs.Images.{Each, Sides, Opens, Anyhow};
+ghost use Rattle.skk_journal.specs.Journal.{Holds};
+
+use crate::filling::write_first;
+use crate::live::Idle;
+use crate::ready::make_ready;
+use crate::steps::OPEN;
+use skk_disk::{Disk, Which};
+use skk_outside::Failed;
+
+// Fills the first file with no records, where both are fresh: at most eleven calls.
+pub(crate) fn fill_first<D: Disk>(disk: &mut D, mut first: Idle, second: Idle) -> Result<(), Failed>
+    ensures images { Each (D.left_since disk.old (D.time disk.old)) (Sides A (IsFreshAs first) (IsFreshAs second)) →
+        Each (D.left_since disk.new (D.time disk.old)) (Opens []) }
+    ensures ok { OnOk result (
+        Each (D.left_since disk.old (D.time disk.old)) (Sides A (IsFreshAs first) (IsFreshAs second)) →
+        Each (D.left_since disk.new (D.time disk.new)) (Holds first_live second [])) }
+    ensures anew { OnOk result (
+        Each (D.left_since disk.old (D.time disk.old)) (Sides A (IsFreshAs first) (IsFreshAs second)) →
+        Each (D.left_since disk.new (D.time disk.new)) IsNew) }
+    ensures first_alone { ComeFrom (InFile A Anyhow)
+        (D.left_since disk.old (D.time disk.old)) (D.left_since disk.new (D.time disk.old)) }
+    ensures past { Passes (D.time disk.old) (D.time disk.new) (D.left_since disk.old) (D.left_since disk.new) }
+    ensures failed { OnErr result (Rose (D.faults disk.old) (D.faults disk.new)) }
+    ensures counted { D.faults disk.old ≤ D.faults disk.new }
+{
+    make_ready(disk, Which::A, None, &mut first, &[])?;
+    write_first(disk, Which::A, OPEN)
+}
