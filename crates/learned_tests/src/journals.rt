@@ -12,7 +12,7 @@ const LEARNING: &[u8] = b"\x01\x01\0\x01\0\0\0\0\0\0\0\x01\0\0\0\0\0\0\0\0\
     \xe3\x81\x8b\xe3\x82\x93\xe3\x81\x98 /\xe6\xbc\xa2\xe5\xad\x97/";
 
 // A new file, and the file with that record.
-const NEW_FILE: &[u8] = b"\x01SKKDESK\x01\x01\0\0\0\0\0\0\0\0";
+pub(crate) const NEW_FILE: &[u8] = b"\x01SKKDESK\x01\x01\0\0\0\0\0\0\0\0";
 
 pub(crate) const LEARNT_FILE: &[u8] = b"\x01SKKDESK\x01\x01\0\0\0\0\0\0\0\x01\x26\0\0\0\
     \x01\x01\0\x01\0\0\0\0\0\0\0\x01\0\0\0\0\0\0\0\0\
@@ -20,28 +20,46 @@ pub(crate) const LEARNT_FILE: &[u8] = b"\x01SKKDESK\x01\x01\0\0\0\0\0\0\0\x01\x2
 
 // A disk whose first file has these bytes: two calls, where there are any.
 pub(crate) fn disk_of<R: Abort>(rt: &R, alloc: Global, bytes: &[u8], fails: &[u64]) -> MemDisk {
+    disk_of_both(rt, alloc, bytes, b"", fails)
+}
+
+// A disk whose files have these bytes: two calls for each that has any.
+pub(crate) fn disk_of_both<R: Abort>(
+    rt: &R,
+    alloc: Global,
+    a: &[u8],
+    b: &[u8],
+    fails: &[u64],
+) -> MemDisk {
     let mut disk = MemDisk::new(alloc, fails.to_vec(alloc).expect(rt, "memory"));
-    if !bytes.is_empty() {
-        write(rt, &mut disk, 0, bytes);
-        sync(rt, &mut disk);
-    }
+    fill(rt, &mut disk, Which::A, a);
+    fill(rt, &mut disk, Which::B, b);
     disk
 }
 
-// Writes bytes at a place of the first file of a disk.
-fn write<R: Abort, D: Disk>(rt: &R, disk: &mut D, at: u64, bytes: &[u8]) {
-    same(disk.write_at(Which::A, at, bytes), Ok(())).expect(rt, "as wanted");
+// Writes bytes into an empty file of a disk and syncs it, where there are any.
+fn fill<R: Abort, D: Disk>(rt: &R, disk: &mut D, file: Which, bytes: &[u8]) {
+    if !bytes.is_empty() {
+        write(rt, disk, file, 0, bytes);
+        same(disk.sync(file), Ok(())).expect(rt, "as wanted");
+    }
 }
 
-// Syncs the first file of a disk.
-fn sync<R: Abort, D: Disk>(rt: &R, disk: &mut D) {
-    same(disk.sync(Which::A), Ok(())).expect(rt, "as wanted");
+// Writes bytes at a place of a file of a disk.
+pub(crate) fn write<R: Abort, D: Disk>(rt: &R, disk: &mut D, file: Which, at: u64, bytes: &[u8]) {
+    same(disk.write_at(file, at, bytes), Ok(())).expect(rt, "as wanted");
 }
 
-// Tells that the first file of a disk has these bytes.
-pub(crate) fn expect_file<R: Abort, D: Disk>(rt: &R, alloc: Global, disk: &mut D, bytes: &[u8]) {
+// Tells that a file of a disk has these bytes.
+pub(crate) fn expect_file<R: Abort, D: Disk>(
+    rt: &R,
+    alloc: Global,
+    disk: &mut D,
+    file: Which,
+    bytes: &[u8],
+) {
     let mut into = vec![in alloc; 0; bytes.len() + 1].expect(rt, "memory");
-    same(disk.read_at(Which::A, 0, &mut into), Ok(bytes.len())).expect(rt, "as wanted");
+    same(disk.read_at(file, 0, &mut into), Ok(bytes.len())).expect(rt, "as wanted");
     same(&into[..bytes.len()], bytes).expect(rt, "as wanted");
 }
 
@@ -54,12 +72,14 @@ fn expect_records<R: Abort>(rt: &R, records: &Records, expected: &[(u64, &[u8])]
     }
 }
 
-// What is asked of a journal, and its answer: to add a record within a limit, to repair what is in doubt, where its
-// records end, and whether one is in doubt.
+// What is asked of a journal, and its answer: to add a record within a limit, to fill the other file with records, to
+// repair what is in doubt, which file is live, where its records end, and whether a gate is in doubt.
 #[derive(Clone, Copy, Debug)]
 enum Step<'a> {
     Append(u64, &'a [u8], Result<(), AppendFault>),
+    Compact(&'a [u8], Result<(), Failed>),
     Repair(Result<(), Failed>),
+    File(u8),
     End(u64),
     InDoubt(bool),
 }
@@ -77,6 +97,10 @@ fn expect_step<R: Abort, D: Disk>(rt: &R, journal: &mut Journal<D>, step: Step) 
         Step::Append(limit, payload, answer) => {
             same_at(append(rt, journal, limit, payload), answer, step).expect(rt, "as wanted");
         }
+        Step::Compact(records, answer) => {
+            same_at(compact(rt, journal, records), answer, step).expect(rt, "as wanted");
+        }
+        Step::File(file) => same_at(journal.file(), file, step).expect(rt, "as wanted"),
         Step::Repair(answer) => same_at(journal.repair(), answer, step).expect(rt, "as wanted"),
         Step::End(end) => same_at(journal.end(), end, step).expect(rt, "as wanted"),
         Step::InDoubt(doubt) => same_at(journal.in_doubt(), doubt, step).expect(rt, "as wanted"),
@@ -94,6 +118,16 @@ fn append<R: Abort, D: Disk>(
     assert!(rt; !payload.is_empty());
     assert!(rt; payload.len() <= PAYLOAD_LIMIT);
     journal.append(limit, payload)
+}
+
+// Fills the other file, where nothing is in doubt.
+fn compact<R: Abort, D: Disk>(
+    rt: &R,
+    journal: &mut Journal<D>,
+    records: &[u8],
+) -> Result<(), Failed> {
+    assert!(rt; !journal.in_doubt());
+    journal.compact(records)
 }
 
 // Opens the learned file of a disk, which has these records, asks steps of it, and gives the disk back.
@@ -146,8 +180,8 @@ fn an_empty_file_is_made_anew_and_a_record_is_its_bytes(rt: HostRuntime) {
     ];
     let disk = disk_of(&rt, alloc, b"", &[]);
     let mut disk = expect_journal(&rt, alloc, disk, &[], &steps);
-    same(disk.made().len(), 12).expect(&rt, "as wanted");
-    expect_file(&rt, alloc, &mut disk, LEARNT_FILE);
+    same(disk.made().len(), 14).expect(&rt, "as wanted");
+    expect_file(&rt, alloc, &mut disk, Which::A, LEARNT_FILE);
     let steps = [Step::End(61), Step::InDoubt(false)];
     expect_journal(&rt, alloc, disk, &[(17, LEARNING)], &steps);
 }
@@ -170,7 +204,7 @@ fn expect_row<R: Abort>(rt: &R, alloc: Global, bytes: &[u8], row: Row) {
     };
     let disk = disk_of(rt, alloc, bytes, &[]);
     let mut disk = opened_as(rt, alloc, disk, row);
-    expect_file(rt, alloc, &mut disk, left);
+    expect_file(rt, alloc, &mut disk, Which::A, left);
 }
 
 // The disk of a learned file that is opened as a row has it.
@@ -197,12 +231,11 @@ fn expect_opened<R: Abort>(rt: &R, records: &Records, row: Row) {
 
 fn expect_fault<R: Abort>(rt: &R, why: &OpenFault, row: Row) {
     match (why, row) {
-        (OpenFault::NotJournal { first }, Row::NotJournal(byte)) => same(*first, byte).expect(
-            rt,
-            "as wanted",
-        ),
-        (OpenFault::BadRecord { at, before }, Row::BadRecord(place, expected)) => {
-            same(*at, place).expect(rt, "as wanted");
+        (OpenFault::NotJournal { file, first }, Row::NotJournal(byte)) => {
+            same((*file, *first), (0, byte)).expect(rt, "as wanted");
+        }
+        (OpenFault::BadRecord { file, at, before }, Row::BadRecord(place, expected)) => {
+            same((*file, *at), (0, place)).expect(rt, "as wanted");
             expect_records(rt, before, expected);
         }
         _ => assert!(rt; false, "{row:?} is refused: {why}"),
@@ -311,15 +344,15 @@ fn a_record_may_not_be_one_byte_too_long(rt: HostRuntime) {
     let alloc = rt.alloc();
     let longest = vec![in alloc; b'a'; 131_072].expect(&rt, "memory");
     let mut disk = disk_of(&rt, alloc, &NEW_FILE[..17], &[]);
-    write(&rt, &mut disk, 17, b"\x01\x01\0\x02\0");
-    write(&rt, &mut disk, 22, &longest);
-    write(&rt, &mut disk, 22 + 131_072, b"a\0");
+    write(&rt, &mut disk, Which::A, 17, b"\x01\x01\0\x02\0");
+    write(&rt, &mut disk, Which::A, 22, &longest);
+    write(&rt, &mut disk, Which::A, 22 + 131_072, b"a\0");
     let unopened = unopened(alloc, disk).expect(&rt, "a record that is too long is opened");
     expect_fault(&rt, &unopened.why, Row::BadRecord(17, &[]));
 }
 
 // A disk whose file has one record, the calls of which with these numbers fail: the first one behind its opening is
-// the eighth.
+// the tenth.
 fn failing_disk<R: Abort>(rt: &R, alloc: Global, fails: &[u64]) -> MemDisk {
     disk_of(rt, alloc, LEARNT_FILE, fails)
 }
@@ -350,13 +383,51 @@ fn expect_kinds<R: Abort>(rt: &R, alloc: Global, disk: &MemDisk, wanted: &str) {
     same(kinds.as_str(), wanted).expect(rt, "as wanted");
 }
 
+// Two new files, of which each is filled once. The seventh call of the second filling is to fail, which is the
+// thirty-sixth in all: the opening has twelve, each record four, and the first filling nine.
+static FILLED: &[Step<'static>] = &[
+    Step::File(0),
+    Step::Append(1000, b"x", Ok(())),
+    Step::Compact(b"\x01\x02\0\0\0yz", Ok(())),
+    Step::File(1),
+    Step::End(25),
+    Step::Append(1000, b"w", Ok(())),
+    Step::Compact(b"", Err(Failed)),
+    Step::InDoubt(true),
+    Step::File(1),
+    Step::End(31),
+    Step::Repair(Ok(())),
+    Step::Compact(b"", Ok(())),
+    Step::File(0),
+    Step::End(18),
+    Step::InDoubt(false),
+];
+
+#[test]
+fn records_go_over_to_the_other_file(rt: HostRuntime) {
+    let alloc = rt.alloc();
+    let disk = disk_of(&rt, alloc, b"", &[36]);
+    let mut disk = expect_journal(&rt, alloc, disk, &[], FILLED);
+    expect_kinds(
+        &rt,
+        alloc,
+        &disk,
+        "sswscwwswswswswscwwwswswswswscwwsWwscwwsws",
+    );
+    let a = b"\x01SKKDESK\x01\x03\0\0\0\0\0\0\0\0";
+    expect_file(&rt, alloc, &mut disk, Which::A, a);
+    let b = b"\x01SKKDESK\x01\x02\0\0\0\0\0\0\0\x01\x02\0\0\0yz\x01\x01\0\0\0w\0";
+    expect_file(&rt, alloc, &mut disk, Which::B, b);
+    expect_journal(&rt, alloc, disk, &[], &[]);
+}
+
 #[test]
 fn a_record_whose_calls_fail_is_in_doubt_from_the_third_on(rt: HostRuntime) {
     for (call, doubt, made) in [
-        (8, false, "wssWwsws"),
-        (9, false, "wsswwsws"),
-        (10, true, "wsswsWwswsws"),
-        (11, true, "wsswswwswsws"),
+        (10, false, "wsssWwsws"),
+        (11, false, "wssswwsws"),
+        (12, true, "wssswsWwswsws"),
+        (13, true, "wssswswwswsws"),
     ] {
         expect_doubt(&rt, rt.alloc(), call, doubt, made);
     }
@@ -387,9 +458,9 @@ fn a_doubt_stands_until_it_is_repaired(rt: HostRuntime) {
         Step::Repair(Ok(())),
         Step::InDoubt(false),
     ];
-    let disk = failing_disk(&rt, alloc, &[11, 12, 14]);
+    let disk = failing_disk(&rt, alloc, &[13, 14, 16]);
     let disk = expect_journal(&rt, alloc, disk, &[(17, LEARNING)], &steps);
-    expect_kinds(&rt, alloc, &disk, "wsswswWwws");
+    expect_kinds(&rt, alloc, &disk, "wssswswWwws");
     expect_journal(&rt, alloc, disk, &[(17, LEARNING)], &[]);
 }
 
@@ -412,11 +483,11 @@ fn expect_given_back<R: Abort>(
 #[test]
 fn an_opening_whose_calls_fail_gives_the_disk_back(rt: HostRuntime) {
     let alloc = rt.alloc();
-    for call in 1..=9 {
+    for call in 1..=12 {
         let mut disk = expect_given_back(&rt, alloc, b"", call, &[]);
-        expect_file(&rt, alloc, &mut disk, NEW_FILE);
+        expect_file(&rt, alloc, &mut disk, Which::A, NEW_FILE);
     }
-    for call in 3..=7 {
+    for call in 3..=9 {
         expect_given_back(&rt, alloc, LEARNT_FILE, call, &[(17, LEARNING)]);
     }
 }
@@ -443,6 +514,6 @@ fn a_file_of_the_system_is_a_journal(rt: HostRuntime) {
 fn expect_learnt_file<R: Abort, D: Disk + Drop>(rt: &R, alloc: Global, disk: D) {
     let steps = [Step::Append(1000, LEARNING, Ok(()))];
     let mut disk = expect_journal(rt, alloc, disk, &[], &steps);
-    expect_file(rt, alloc, &mut disk, LEARNT_FILE);
+    expect_file(rt, alloc, &mut disk, Which::A, LEARNT_FILE);
     expect_journal(rt, alloc, disk, &[(17, LEARNING)], &[]);
 }

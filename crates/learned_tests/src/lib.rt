@@ -7,6 +7,14 @@
 #[cfg(test)]
 mod disks;
 #[cfg(test)]
+mod files;
+#[cfg(test)]
+mod images;
+#[cfg(test)]
 mod journals;
+#[cfg(test)]
+mod pairs;
+#[cfg(test)]
+mod stops;
 #[cfg(test)]
 mod stores;

@@ -2,12 +2,16 @@ ghost use Rattle.std.specs.Prelude.{◌≡◌, true};
 ghost use Rattle.skk_calls.specs.Dictionary.{is_fit};
 ghost use Rattle.skk_calls.specs.Rows.{is_word};
 
+use crate::files::{
+    COUNTED, Content, IN_ORDER, ONCE, TAKEN_BACK, THREE_AND_FOUR, TWICE, TWO_AND_THREE, TWO_WORDS,
+    bytes_of,
+};
 use crate::journals::{LEARNT_FILE, disk_of, expect_file, kinds, text};
 use dict_layers::System;
 use expectations::same_at;
 use learned_store::Store;
 use skk_calls::{Answer, Books, Call, Cand, Cands, Learned, Part, Reply, RowKey};
-use skk_disk::{Disk, MemDisk};
+use skk_disk::{Disk, MemDisk, Which};
 use skk_journal::Unopened;
 use skk_text::{Copies, Text, Texts};
 use std::alloc::Global;
@@ -21,7 +25,7 @@ const FAR: u64 = 1_000_000;
 
 // What is asked of a store. Words are learnt and purged in book 1.
 #[derive(Clone, Copy)]
-enum Step<'a> {
+pub(crate) enum Step<'a> {
     // Learns a word for a reading.
     Learn(&'a str, &'a str),
     // Learns for the reading a the word that has a letter so many times.
@@ -36,9 +40,9 @@ enum Step<'a> {
     Complete(&'a str),
 }
 
-// The calls of the disk that fail, by their numbers: that of the first change begins with the tenth. A limit. What is
-// asked of a new file. What the answers tell, and then the lines of book 1 when the file is opened again. The calls
-// of the disk up to then.
+// The calls of the disk that fail, by their numbers: the first change begins with the thirteenth. A limit. What is
+// asked of new files. What the answers tell, and then the lines of book 1 when they are opened again. The calls of the
+// disk up to then.
 type Case<'a> = (&'a [u64], u64, &'a [Step<'a>], &'a str, &'a str);
 
 // A change of the row of かさ whose calls fail, behind what was learnt before it, and then another one.
@@ -87,40 +91,88 @@ const NOT_REMOVED: &str = "Learned 1\nDisk\nLearned 2\n傘 \nかさ /傘/\nき /
 const LEARNS_LAST: &[Step<'static>] = &[Step::Learn("かさ", "傘"), Step::Find("かさ")];
 
 static FAILINGS: &[Case<'static>] = &[
-    (&[10], FAR, LEARNS, NOT_LEARNT, "swcswswsWwswswsws"),
-    (&[11], FAR, LEARNS, NOT_LEARNT, "swcswswswwswswsws"),
-    (&[12], FAR, LEARNS, NOT_LEARNT, "swcswswswsWwswswswsws"),
-    (&[13], FAR, LEARNS, NOT_LEARNT, "swcswswswswwswswswsws"),
-    (&[12, 13], FAR, LEARNS, NEITHER_LEARNT, "swcswswswsWWwswsws"),
-    (&[12, 14], FAR, LEARNS, NEITHER_LEARNT, "swcswswswsWwwswsws"),
-    (&[13, 14], FAR, LEARNS, NEITHER_LEARNT, "swcswswswswWwswsws"),
-    (&[13, 15], FAR, LEARNS, NEITHER_LEARNT, "swcswswswswwwswsws"),
-    (&[18], FAR, PURGES, NOT_PURGED, "swcswswswswswswsWwsws"),
-    (&[19], FAR, PURGES, NOT_PURGED, "swcswswswswswswswwsws"),
-    (&[20], FAR, PURGES, NOT_PURGED, "swcswswswswswswswsWwswsws"),
-    (&[21], FAR, PURGES, NOT_PURGED, "swcswswswswswswswswwswsws"),
-    (&[18], FAR, RESTORES, NOT_RESTORED, "swcswswswswswswsWwsws"),
-    (&[19], FAR, RESTORES, NOT_RESTORED, "swcswswswswswswswwsws"),
+    (&[13], FAR, LEARNS, NOT_LEARNT, "sswscwwswsWwswswsws"),
+    (&[14], FAR, LEARNS, NOT_LEARNT, "sswscwwswswwswswsws"),
+    (&[15], FAR, LEARNS, NOT_LEARNT, "sswscwwswswsWwswswswsws"),
+    (&[16], FAR, LEARNS, NOT_LEARNT, "sswscwwswswswwswswswsws"),
     (
-        &[20],
+        &[15, 16],
         FAR,
-        RESTORES,
-        NOT_RESTORED,
-        "swcswswswswswswswsWwswsws",
+        LEARNS,
+        NEITHER_LEARNT,
+        "sswscwwswswsWWwswsws",
+    ),
+    (
+        &[15, 17],
+        FAR,
+        LEARNS,
+        NEITHER_LEARNT,
+        "sswscwwswswsWwwswsws",
+    ),
+    (
+        &[16, 17],
+        FAR,
+        LEARNS,
+        NEITHER_LEARNT,
+        "sswscwwswswswWwswsws",
+    ),
+    (
+        &[16, 18],
+        FAR,
+        LEARNS,
+        NEITHER_LEARNT,
+        "sswscwwswswswwwswsws",
+    ),
+    (&[21], FAR, PURGES, NOT_PURGED, "sswscwwswswswswswsWwsws"),
+    (&[22], FAR, PURGES, NOT_PURGED, "sswscwwswswswswswswwsws"),
+    (
+        &[23],
+        FAR,
+        PURGES,
+        NOT_PURGED,
+        "sswscwwswswswswswswsWwswsws",
+    ),
+    (
+        &[24],
+        FAR,
+        PURGES,
+        NOT_PURGED,
+        "sswscwwswswswswswswswwswsws",
     ),
     (
         &[21],
         FAR,
         RESTORES,
         NOT_RESTORED,
-        "swcswswswswswswswswwswsws",
+        "sswscwwswswswswswsWwsws",
     ),
-    (&[14], FAR, REMOVES, NOT_REMOVED, "swcswswswswsWwsws"),
-    (&[15], FAR, REMOVES, NOT_REMOVED, "swcswswswswswwsws"),
-    (&[16], FAR, REMOVES, NOT_REMOVED, "swcswswswswswsWwswsws"),
-    (&[17], FAR, REMOVES, NOT_REMOVED, "swcswswswswswswwswsws"),
-    (&[12], FAR, LEARNS_LAST, "Disk\n\n", "swcswswswsW"),
-    (&[13], FAR, LEARNS_LAST, "Disk\n\nかさ /傘/\n", "swcswswswsw"),
+    (
+        &[22],
+        FAR,
+        RESTORES,
+        NOT_RESTORED,
+        "sswscwwswswswswswswwsws",
+    ),
+    (
+        &[23],
+        FAR,
+        RESTORES,
+        NOT_RESTORED,
+        "sswscwwswswswswswswsWwswsws",
+    ),
+    (
+        &[24],
+        FAR,
+        RESTORES,
+        NOT_RESTORED,
+        "sswscwwswswswswswswswwswsws",
+    ),
+    (&[17], FAR, REMOVES, NOT_REMOVED, "sswscwwswswswsWwsws"),
+    (&[18], FAR, REMOVES, NOT_REMOVED, "sswscwwswswswswwsws"),
+    (&[19], FAR, REMOVES, NOT_REMOVED, "sswscwwswswswswsWwswsws"),
+    (&[20], FAR, REMOVES, NOT_REMOVED, "sswscwwswswswswswwswsws"),
+    (&[15], FAR, LEARNS_LAST, "Disk\n\n", "sswscwwswswsW"),
+    (&[16], FAR, LEARNS_LAST, "Disk\n\nかさ /傘/\n", "sswscwwswswsw"),
 ];
 
 #[test]
@@ -131,7 +183,7 @@ fn a_change_whose_calls_fail_is_not_made(rt: HostRuntime) {
 // Look-ups, and changes that change nothing: after them the first call that fails is the next one.
 static LOOKED_UP: &[Case<'static>] = &[
     (
-        &[22],
+        &[25],
         FAR,
         &[
             Step::Learn("かさ", "傘"),
@@ -145,10 +197,10 @@ static LOOKED_UP: &[Case<'static>] = &[
         ],
         "Learned 1\nLearned 2\nPurged\n笠 \nかさ \nUnchanged\nOvertaken(3)\nDisk\n\
             かさ /笠/(skk-ignore-dic-word \"傘\")/\n",
-        "swcswswswswswswswswsW",
+        "sswscwwswswswswswswswsW",
     ),
     (
-        &[26],
+        &[29],
         FAR,
         &[
             Step::Learn("かさ", "傘"),
@@ -161,7 +213,7 @@ static LOOKED_UP: &[Case<'static>] = &[
             Step::Learn("き", "木"),
         ],
         "Learned 1\nLearned 2\nRestored\n傘 \nRestored\n\n\nDisk\n",
-        "swcswswswswswswswswswswsW",
+        "sswscwwswswswswswswswswswsW",
     ),
 ];
 
@@ -177,35 +229,49 @@ static LIMITS: &[Case<'static>] = &[
         64,
         &[Step::Learn("125", "東京都葛飾区"), Step::Learn("かんじ", "漢字")],
         "JournalFull { end: 18, need: 49, limit: 64 }\nLearned 1\nかんじ /漢字/\n",
-        "swcswswswsws",
+        "sswscwwswswsws",
+    ),
+    (
+        &[],
+        64,
+        &[Step::Learn("かんじ", "漢字"), Step::Learn("かんじ", "漢字")],
+        "Learned 1\nJournalFull { end: 61, need: 43, limit: 64 }\nかんじ /漢字/\n",
+        "sswscwwswswsws",
+    ),
+    (
+        &[],
+        103,
+        &[Step::Learn("かんじ", "漢字"), Step::Learn("かんじ", "漢字")],
+        "Learned 1\nJournalFull { end: 61, need: 43, limit: 103 }\nかんじ /漢字/\n",
+        "sswscwwswswsws",
     ),
     (
         &[],
         66,
         &[Step::Learn("125", "東京都葛飾区"), Step::Find("125")],
         "JournalFull { end: 18, need: 49, limit: 66 }\n\n",
-        "swcswsws",
+        "sswscwwsws",
     ),
     (
         &[],
         67,
         &[Step::Learn("125", "東京都葛飾区"), Step::Find("125")],
         "Learned 1\n東京都葛飾区 \n125 /東京都葛飾区/\n",
-        "swcswswswsws",
+        "sswscwwswswsws",
     ),
     (
-        &[13],
+        &[16],
         64,
         &[Step::Learn("かんじ", "漢字"), Step::Learn("125", "東京都葛飾区")],
         "Disk\nJournalFull { end: 18, need: 49, limit: 64 }\n",
-        "swcswswswswws",
+        "sswscwwswswswws",
     ),
     (
-        &[13, 15],
+        &[16, 18],
         64,
         &[Step::Learn("かんじ", "漢字"), Step::Learn("125", "東京都葛飾区")],
         "Disk\nDisk\n",
-        "swcswswswsww",
+        "sswscwwswswsww",
     ),
 ];
 
@@ -214,13 +280,110 @@ fn a_file_takes_what_its_limit_leaves(rt: HostRuntime) {
     expect_cases(&rt, rt.alloc(), LIMITS)
 }
 
+// A limit, what is asked of new files, what the answers tell, and what both files have then.
+type Kept<'a> = (u64, &'a [Step<'a>], &'a str, Content<'a>, Content<'a>);
+
+const ONE_LEARNING: &[Step<'static>] = &[Step::Learn("かんじ", "漢字")];
+
+const TWO_LEARNINGS: &[Step<'static>] = &[Step::Learn("かんじ", "漢字"), Step::Learn("かんじ", "漢字")];
+
+const THREE_LEARNINGS: &[Step<'static>] = &[
+    Step::Learn("かんじ", "漢字"),
+    Step::Learn("かんじ", "漢字"),
+    Step::Learn("かんじ", "漢字"),
+];
+
+const FOUR_LEARNINGS: &[Step<'static>] = &[
+    Step::Learn("かんじ", "漢字"),
+    Step::Learn("かんじ", "漢字"),
+    Step::Learn("かんじ", "漢字"),
+    Step::Learn("かんじ", "漢字"),
+];
+
+const NONE: Content<'static> = Content::Bytes(b"");
+
+static KEPT: &[Kept<'static>] = &[
+    (
+        64,
+        ONE_LEARNING,
+        "Learned 1\n",
+        Content::Headed(1, 1, ONCE),
+        NONE,
+    ),
+    // A file with the row that is live has 61 bytes, so that a second record of 43 has no room there either.
+    (
+        64,
+        TWO_LEARNINGS,
+        "Learned 1\nJournalFull { end: 61, need: 43, limit: 64 }\n",
+        Content::Headed(1, 1, ONCE),
+        NONE,
+    ),
+    (
+        110,
+        TWO_LEARNINGS,
+        "Learned 1\nLearned 2\n",
+        Content::Headed(1, 1, TWICE),
+        NONE,
+    ),
+    // The row goes over to the other file with its stamp, and back again.
+    (
+        110,
+        THREE_LEARNINGS,
+        "Learned 1\nLearned 2\nLearned 3\n",
+        Content::Headed(1, 1, TWICE),
+        Content::Headed(1, 2, TWO_AND_THREE),
+    ),
+    (
+        110,
+        FOUR_LEARNINGS,
+        "Learned 1\nLearned 2\nLearned 3\nLearned 4\n",
+        Content::Headed(1, 3, THREE_AND_FOUR),
+        Content::Headed(1, 2, TWO_AND_THREE),
+    ),
+    // A book without rows keeps its count.
+    (
+        100,
+        &[Step::Learn("かさ", "傘"), Step::Unlearn, Step::Learn("き", "木")],
+        "Learned 1\nRestored\nLearned 2\n",
+        Content::Headed(1, 1, TAKEN_BACK),
+        Content::Headed(1, 2, COUNTED),
+    ),
+    // Rows go over in the order of their readings, each with its own stamp and the count of the book.
+    (
+        130,
+        &[
+            Step::Learn("き", "木"),
+            Step::Learn("かさ", "傘"),
+            Step::Learn("かさ", "傘"),
+            Step::Learn("き", "木"),
+        ],
+        "Learned 1\nLearned 2\nLearned 3\nLearned 4\n",
+        Content::Headed(1, 1, TWO_WORDS),
+        Content::Headed(1, 2, IN_ORDER),
+    ),
+];
+
 #[test]
-fn a_learning_is_a_record(rt: HostRuntime) {
-    let alloc = rt.alloc();
-    let steps = [Step::Learn("かんじ", "漢字")];
+fn a_file_that_is_full_goes_over_to_the_other_one(rt: HostRuntime) {
+    expect_all_kept(&rt, rt.alloc())
+}
+
+fn expect_all_kept<R: Abort>(rt: &R, alloc: Global) {
+    for kept in KEPT {
+        expect_kept(rt, alloc, kept);
+    }
+}
+
+fn expect_kept<R: Abort>(rt: &R, alloc: Global, kept: &Kept) {
+    let (limit, steps, wanted, a, b) = *kept;
     let disk = MemDisk::new(alloc, Vec::new(alloc));
-    let mut disk = disk_after(&rt, alloc, disk, 64, &steps, &mut String::new(alloc));
-    expect_file(&rt, alloc, &mut disk, LEARNT_FILE);
+    let mut told = String::new(alloc);
+    let mut disk = disk_after(rt, alloc, disk, limit, steps, &mut told);
+    same_at(told.as_str(), wanted, limit).expect(rt, "as wanted");
+    let first = bytes_of(rt, alloc, a);
+    expect_file(rt, alloc, &mut disk, Which::A, &first);
+    let second = bytes_of(rt, alloc, b);
+    expect_file(rt, alloc, &mut disk, Which::B, &second);
 }
 
 fn expect_cases<R: Abort>(rt: &R, alloc: Global, cases: &[Case]) {
@@ -279,7 +442,8 @@ const LONG_TOLD: &str =
     Learned 8\nLearned 9\nLearned 10\nLearned 11\nLearned 12\nLearned 13\nLearned 14\nLearned 15\n\
     TooBig(65536)\nLearned 16\n";
 
-const LONG_MADE: &str = "swcswswswswswswswswswswswswswswswswswswswswswswswswswswswswswswswswswsws";
+const LONG_MADE: &str =
+    "sswscwwswswswswswswswswswswswswswswswswswswswswswswswswswswswswswswswswsws";
 
 #[test]
 fn a_row_may_be_long(rt: HostRuntime) {
@@ -320,7 +484,7 @@ fn add_long(rt: &impl Abort, line: &mut String, alloc: Global, letter: &str, cou
 static FILES: &[(usize, &[u8], &str)] = &[
     (0, b"", ""),
     (0, b"P", ""),
-    (0, b"P.", "the first byte is 80"),
+    (0, b"P.", "the first byte of file 0 is 80"),
     (17, b"\0", ""),
     (60, b"\0", "かんじ /漢字/\n"),
     // The row is taken out.
@@ -338,12 +502,12 @@ static FILES: &[(usize, &[u8], &str)] = &[
     (
         60,
         b"\x01\x0b\0\0\0\x03\x01\0\0\0\0\0\0\0\0\0\0",
-        "no record at 60",
+        "no record at 60 of file 0",
     ),
     // A record that says nothing, alone and before a bad frame, and a bad frame alone.
-    (17, b"\x01\x01\0\0\0x\0", "no record at 17"),
-    (17, b"\x01\x01\0\0\0x\x01", "no record at 17"),
-    (60, b"\x01", "no record at 60"),
+    (17, b"\x01\x01\0\0\0x\0", "no record at 17 of file 0"),
+    (17, b"\x01\x01\0\0\0x\x01", "no record at 17 of file 0"),
+    (60, b"\x01", "no record at 60 of file 0"),
 ];
 
 #[test]
@@ -363,7 +527,13 @@ fn a_line_in_a_file_may_be_long(rt: HostRuntime) {
     expect_opened(&rt, alloc, &LEARNT_FILE[..60], &tail, &wanted);
     let line = long_line(&rt, alloc, 4092);
     let tail = long_record(&rt, alloc, b"\x01\x14\0\x01\0", &line);
-    expect_opened(&rt, alloc, &LEARNT_FILE[..60], &tail, "no record at 60");
+    expect_opened(
+        &rt,
+        alloc,
+        &LEARNT_FILE[..60],
+        &tail,
+        "no record at 60 of file 0",
+    );
 }
 
 // An open gate and a payload's length, the payload that puts the first row into book 1, and a closed gate.
@@ -411,7 +581,7 @@ fn disk_after<D: Disk + Drop>(
 }
 
 // Asks for steps one after another, and adds what the answers tell.
-fn ask_each<D: Disk>(
+pub(crate) fn ask_each<D: Disk>(
     rt: &impl Abort,
     alloc: Global,
     store: &mut Store<D>,
@@ -461,7 +631,7 @@ fn answer_to<D: Disk>(alloc: Global, store: &mut Store<D>, call: &Call) -> Answe
 }
 
 // Opens the learned file of a disk over no system files.
-fn open_file<D: Disk + Drop>(
+pub(crate) fn open_file<D: Disk + Drop>(
     rt: &impl Abort,
     alloc: Global,
     disk: D,
@@ -482,7 +652,12 @@ fn open_over<D: Disk>(
 }
 
 // Opens the learned file of a disk, which is one.
-fn opened_file<D: Disk + Drop>(rt: &impl Abort, alloc: Global, disk: D, limit: u64) -> Store<D> {
+pub(crate) fn opened_file<D: Disk + Drop>(
+    rt: &impl Abort,
+    alloc: Global,
+    disk: D,
+    limit: u64,
+) -> Store<D> {
     match open_file(rt, alloc, disk, limit) {
         Ok(store) => store,
         Err(unopened) => panic!(rt; "{}", unopened.why),
@@ -497,7 +672,7 @@ fn add_lines<D: Disk + Drop>(rt: &impl Abort, told: &mut String, alloc: Global, 
 }
 
 // The lines of book 1, without the part lines.
-fn lines<D: Disk>(rt: &impl Abort, alloc: Global, store: &Store<D>) -> String {
+pub(crate) fn lines<D: Disk>(rt: &impl Abort, alloc: Global, store: &Store<D>) -> String {
     let dump = store.dump(alloc, 1).expect(rt, "memory");
     let lines = dump
         .as_str()
