@@ -33,14 +33,16 @@ each_file() {
     done
 }
 
-# Whether another run has a learned file: its lock is asked for without waiting, and let go at once.
+# Whether another run has a learned file: the lock on its first file, which covers both, is asked for without waiting,
+# and let go at once.
 is_locked() {
     [ -f "$1" ] || return 1
     (exec 8<"$1" && flock -s -n -E 75 8) 2>/dev/null
     [ $? -eq 75 ]
 }
 
-# Says why a file can't be read, where that shows, or why the learned file can't be made, read or written.
+# Says why a file can't be read, where that shows, or why the first file of the learned one can't be made, or either of
+# them can't be read or written. The second one is made by the program alone, when it is wanted.
 look_for() {
     file=$(shown "$2")
     case $1 in
@@ -57,6 +59,10 @@ look_for() {
                 tell_cause "$file can't be made: the folder $(shown "$folder") may not be written"
             elif [ -e "$2" ] && { [ ! -r "$2" ] || [ ! -w "$2" ]; }; then
                 tell_cause "$file may not be read or written"
+            elif [ -d "$2.2" ]; then
+                tell_cause "$(shown "$2.2") is a folder, and no file"
+            elif [ -e "$2.2" ] && { [ ! -r "$2.2" ] || [ ! -w "$2.2" ]; }; then
+                tell_cause "$(shown "$2.2") may not be read or written"
             elif is_locked "$2"; then
                 tell_cause "another run has the learned file $file"
             fi
@@ -170,7 +176,7 @@ hint() {
             # The port is asked for when all files are there.
             [ "$1" != serve ] || [ -n "$found" ] || tell 'another program may have the port: --port N takes another one'
             ;;
-        5) tell 'the learned file was left as it is: it is another file, or a record of it is damaged at that byte' ;;
+        5) tell 'FILE and FILE.2 are as they were: FILE ("file 2" is FILE.2) is no learned file, or has a bad record' ;;
         7) tell 'a change had no room within --limit: what was written is whole, but not all of it was learnt' ;;
     esac
 }
