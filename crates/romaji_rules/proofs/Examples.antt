@@ -1,9 +1,10 @@
 -- The definitions at a small rule set, each worked out by hand.
-use Rattle.std.proofs.Common.{◌≡◌, ℕ, true, false, None, Some, List, [], ◌∷◌, ◌++◌, refl, map, option_map, codes}
+use Rattle.std.proofs.Common.{◌≡◌, ℕ, true, false, Option, None, Some, List, [], ◌∷◌, ◌++◌, refl, map, codes}
 use Rattle.romaji_rules.specs.declared.rule.Rule.{Rule}
+use Rattle.romaji_rules.specs.declared.rule_trie.Child.{Child}
 use Rattle.romaji_rules.specs.Fitting.{is_input_char, is_input_text, is_next_text, inputs_differ, is_rule_set}
 use Rattle.romaji_rules.specs.Output.{nothing}
-use Rattle.romaji_rules.specs.RuleIndexes.{above_in, input, slot_of, slot_rules}
+use Rattle.romaji_rules.specs.RuleTries.{child, goes_on_at, goes_past, node_of, place_at, with_child}
 use Rattle.romaji_rules.specs.Standard.{rule, row, contracted, single, doubled}
 use Rattle.romaji_rules.specs.Typed.{Step, begins_input, goes_on, flushed, fed}
 
@@ -95,19 +96,50 @@ single_n : single "n" "ん" ++ doubled 0x6B ∷ []
     ∷ record { input = codes "kk"; next = codes "k"; out = record { hira = codes "っ"; kata = codes "ッ" } } ∷ []
 single_n = refl
 
--- slots: of no byte, of each byte alone, and of two bytes by both, whatever stands behind them
-slots : map slot_of ([] ∷ codes "a" ∷ codes "z" ∷ codes "ka" ∷ codes "kya" ∷ codes "kyu" ∷ codes "ak" ∷ [])
-    ≡ 0 ∷ 97 ∷ 122 ∷ 292 ∷ 316 ∷ 316 ∷ 468 ∷ []
-slots = refl
+-- the trie of n, nn, na, ka and kya: the children of each node, and the places of these inputs
+abbrev children : List (List Child)
+children =
+    (child 0x6E 1 ∷ child 0x6B 4 ∷ [])
+    ∷ (child 0x6E 2 ∷ child 0x61 3 ∷ []) ∷ [] ∷ []
+    ∷ (child 0x61 5 ∷ child 0x79 6 ∷ []) ∷ []
+    ∷ (child 0x61 7 ∷ []) ∷ [] ∷ []
 
--- the inputs of the rules of a slot
-rules_of_slots : map (λ slot. map input (slot_rules slot rules)) (0 ∷ 110 ∷ 107 ∷ 292 ∷ 302 ∷ 319 ∷ [])
-    ≡ [] ∷ (codes "n" ∷ []) ∷ [] ∷ (codes "ka" ∷ []) ∷ (codes "kk" ∷ []) ∷ (codes "na" ∷ []) ∷ []
-rules_of_slots = refl
+abbrev places : List (Option ℕ)
+places = None ∷ Some 0 ∷ Some 1 ∷ Some 2 ∷ None ∷ Some 3 ∷ None ∷ Some 4 ∷ []
 
--- the input behind a text in order, though the rules do not stand in it
-inputs_above : map (λ text. option_map input (above_in rules text))
-    ([] ∷ codes "k" ∷ codes "ka" ∷ codes "kb" ∷ codes "kk" ∷ codes "n" ∷ codes "na" ∷ codes "z" ∷ [])
-    ≡ Some (codes "ka") ∷ Some (codes "ka") ∷ Some (codes "kk") ∷ Some (codes "kk") ∷ Some (codes "n")
-    ∷ Some (codes "na") ∷ None ∷ None ∷ []
-inputs_above = refl
+-- texts that are inputs, that begin one, and that are neither
+abbrev walked : List (List ℕ)
+walked = [] ∷ codes "n" ∷ codes "nn" ∷ codes "na" ∷ codes "k" ∷ codes "ka" ∷ codes "ky" ∷ codes "kya" ∷ codes "x"
+    ∷ codes "nk" ∷ codes "kyo" ∷ codes "nna" ∷ codes "a" ∷ []
+
+nodes : map (node_of children) walked
+    ≡ Some 0 ∷ Some 1 ∷ Some 2 ∷ Some 3 ∷ Some 4 ∷ Some 5 ∷ Some 6 ∷ Some 7 ∷ None ∷ None ∷ None ∷ None ∷ None ∷ []
+nodes = refl
+
+-- n is an input and goes on, ky goes on alone
+going_on_at : map (λ text. goes_on_at children (node_of children text)) walked
+    ≡ true ∷ true ∷ false ∷ false ∷ true ∷ false ∷ true ∷ false ∷ false ∷ false ∷ false ∷ false ∷ false ∷ []
+going_on_at = refl
+
+noted : map (λ text. place_at places (node_of children text)) walked
+    ≡ None ∷ Some 0 ∷ Some 1 ∷ Some 2 ∷ None ∷ Some 3 ∷ None ∷ Some 4 ∷ None ∷ None ∷ None ∷ None ∷ None ∷ []
+noted = refl
+
+-- a trie of no rules
+no_rules : map (node_of ([] ∷ [])) ([] ∷ codes "n" ∷ []) ≡ Some 0 ∷ None ∷ []
+no_rules = refl
+
+not_going_on : goes_on_at ([] ∷ []) (Some 0) ≡ false
+not_going_on = refl
+
+-- one node more in it, and then another
+first_node : with_child ([] ∷ []) 0 0x6E ≡ (child 0x6E 1 ∷ []) ∷ [] ∷ []
+first_node = refl
+
+second_node : with_child ((child 0x6E 1 ∷ []) ∷ [] ∷ []) 1 0x61 ≡ (child 0x6E 1 ∷ []) ∷ (child 0x61 2 ∷ []) ∷ [] ∷ []
+second_node = refl
+
+-- what goes past a text: not the text itself, and nothing that it does not begin
+going_past : map (λ text. goes_past text (codes "nya")) ([] ∷ codes "n" ∷ codes "ny" ∷ codes "nya" ∷ codes "na" ∷ [])
+    ≡ true ∷ true ∷ true ∷ false ∷ false ∷ []
+going_past = refl

@@ -1,12 +1,12 @@
 pub mod Begins
 pub mod CutLines
+pub mod Differing
 mod Examples
 mod FileExamples
 pub mod FileRules
 pub mod Fits
 pub mod Found
-pub mod InOrder
 pub mod ReadLines
 pub mod Rows
-pub mod Slots
 pub mod Step
+pub mod Tries

@@ -3,7 +3,7 @@ pub mod Fitting
 pub mod Output
 pub mod Pieces
 pub mod RuleFiles
-pub mod RuleIndexes
+pub mod RuleTries
 pub mod RuleLines
 pub mod Standard
 pub mod Standing

@@ -47,7 +47,7 @@ fn read_lines(alloc: Global, text: &str) -> Result<NumberedRules, RuleFault>
     ensures err { IfErr result (λ fault. (fault ≡ RuleFault.Memory)
         ⊎ (first_own_fault (entries_of text.now) ≡ Some fault)) }
 {
-    let mut lines = NumberedRules::new(alloc);
+    let mut lines = NumberedRules::new(alloc)?;
     let mut number: usize = 0;
     let mut rest = text;
     while let Some((line, behind)) = next_line(rest) {
@@ -60,14 +60,13 @@ fn read_lines(alloc: Global, text: &str) -> Result<NumberedRules, RuleFault>
 
 impl NumberedRules {
     // None.
-    fn new(alloc: Global) -> NumberedRules
-        ensures rules { result.rules ≡ [] }
-        ensures numbers { result.numbers.items ≡ [] }
+    fn new(alloc: Global) -> Result<NumberedRules, Memory>
+        ensures { IfOk result (λ lines. (lines.rules ≡ []) × (lines.numbers.items ≡ [])) }
     {
-        NumberedRules {
-            rules: RuleList::new(alloc),
+        Ok(NumberedRules {
+            rules: RuleList::new(alloc)?,
             numbers: Vec::new(alloc),
-        }
+        })
     }
 
     // These and the rule of one line more, where it says one.

@@ -7,51 +7,50 @@ ghost use Rattle.romaji_rules.specs.Standing.{IsStanding};
 ghost use Rattle.romaji_rules.specs.Typed.{rule_of, begins_input};
 
 use crate::rule::Rule;
-use crate::rule_index::RuleIndex;
+use crate::rule_trie::RuleTrie;
 use crate::standing::Standing;
 use skk_text::Memory;
 use std::alloc::Global;
 use std::marker::Model;
 
-/// Rules in the order in which they came, of which no two have one input. Beside them stands an index, so that a text
-/// is looked for by halves among few of them.
+/// Rules in the order in which they came, of which no two have one input. Beside them stands a trie that holds just
+/// these, so that a text is looked for letter by letter.
 #[derive(Debug, Drop)]
 pub struct RuleList {
     rules: Vec<Rule>,
-    index: RuleIndex,
+    trie: RuleTrie,
 }
 
 impl Model for RuleList {
     ghost use Rattle.std.specs.Prelude.{List};
     ghost use Rattle.romaji_rules.specs.declared.rule.Rule.{Rule};
-    ghost use Rattle.romaji_rules.specs.RuleIndexes.{IsRuleIndex};
+    ghost use Rattle.romaji_rules.specs.RuleTries.{IsRuleTrie};
 
     ghost Value = { List Rule };
 
     ghost view = { λ l. l.rules.items };
 
-    ghost invariant = { λ l. IsRuleIndex l.rules.items l.index };
+    ghost invariant = { λ l. IsRuleTrie l.rules.items l.trie };
 }
 
 impl RuleList {
-    /// No rules. Takes no memory.
-    pub fn new(alloc: Global) -> RuleList
-        ensures { result ≡ [] }
+    /// No rules.
+    pub fn new(alloc: Global) -> Result<RuleList, Memory>
+        ensures { IfOk result (λ list. list ≡ []) }
     {
-        RuleList {
+        Ok(RuleList {
             rules: Vec::new(alloc),
-            index: RuleIndex::new(alloc),
-        }
+            trie: RuleTrie::new(alloc)?,
+        })
     }
 
-    /// These rules. Takes time in their number with one logarithm in it, and for each the move of the places behind its
-    /// own in its slot.
+    /// These rules. Takes time in the letters of their inputs.
     pub fn of(alloc: Global, rules: Vec<Rule>) -> Result<RuleList, Memory>
         requires { inputs_differ rules.items ≡ true }
         ensures { IfOk result (λ list. list ≡ rules.items) }
     {
-        let index = RuleIndex::of(alloc, &rules)?;
-        Ok(RuleList { rules, index })
+        let trie = RuleTrie::of(alloc, &rules)?;
+        Ok(RuleList { rules, trie })
     }
 
     /// The rules and one more behind them.
@@ -61,32 +60,32 @@ impl RuleList {
     {
         let RuleList {
             mut rules,
-            mut index,
+            mut trie,
         } = self;
-        index.add(&rules, &rule)?;
+        trie.add(&rules, &rule)?;
         rules.push(rule)?;
-        Ok(RuleList { rules, index })
+        Ok(RuleList { rules, trie })
     }
 
-    /// The rule whose input is the text. Takes time with a logarithm in the number of rules.
+    /// The rule whose input is the text. Takes time in its letters.
     pub fn rule_of(&self, text: &[u8]) -> Option<&Rule>
         ensures { option_copied result ≡ rule_of self.now text.now }
     {
-        self.index.look_up(&self.rules, text).0
+        self.trie.look_up(&self.rules, text).0
     }
 
-    /// Whether some input begins with the text and goes on. Takes time with a logarithm in the number of rules.
+    /// Whether some input begins with the text and goes on. Takes time in its letters.
     pub fn begins_input(&self, text: &[u8]) -> bool
         ensures { result ≡ begins_input self.now text.now }
     {
-        self.index.look_up(&self.rules, text).1
+        self.trie.look_up(&self.rules, text).1
     }
 
-    /// What the text is among the inputs. Takes time with a logarithm in the number of rules.
+    /// What the text is among the inputs. Takes time in its letters.
     pub fn standing(&self, text: &[u8]) -> Standing<'_>
         ensures { IsStanding self.now text.now result }
     {
-        match self.index.look_up(&self.rules, text) {
+        match self.trie.look_up(&self.rules, text) {
             (_, true) => Standing::Begins,
             (Some(rule), false) => Standing::Input(rule),
             (None, false) => Standing::Neither,
@@ -100,8 +99,7 @@ impl RuleList {
         self.rules.len()
     }
 
-    /// The place of the first rule whose next text is bad among all. Takes time in the number of rules, and with one
-    /// logarithm in it.
+    /// The place of the first rule whose next text is bad among all. Takes time in the letters of all.
     pub fn bad_next(&self) -> Option<usize>
         ensures differ { inputs_differ self.now ≡ true }
         ensures place { result ≡ position (has_bad_next self.now) self.now }

@@ -53,8 +53,7 @@ impl Rules {
         })
     }
 
-    /// Reads a rule file: the rules of its lines, in their order. Takes time in its bytes, and for its rules with one
-    /// logarithm in their number.
+    /// Reads a rule file: the rules of its lines, in their order. Takes time in its bytes.
     pub fn read(alloc: Global, bytes: &[u8]) -> Result<Rules, RuleFault>
         ensures ok { IfOk result (λ rules. rules_in bytes.now ≡ Ok rules) }
         ensures may { IfOk result (λ rules. MayBeRules bytes.now) }
@@ -80,8 +79,7 @@ impl Rules {
         }
     }
 
-    /// Whether what is pending, followed by `c`, is an input or begins one. Takes time with a logarithm in the
-    /// number of rules.
+    /// Whether what is pending, followed by `c`, is an input or begins one. Takes time in the number of the letters.
     pub fn goes_on(&self, pending: &Pending, c: u8) -> bool
         ensures exact { IsTrue result ↔ GoesOn self.now (pending.now ++ c ∷ []) }
         ensures computed { result ≡ goes_on self.now (pending.now ++ c ∷ []) }
@@ -92,8 +90,8 @@ impl Rules {
         }
     }
 
-    /// Reads a character: what is pending changes, and the output comes out. Takes no memory, and time with a logarithm
-    /// in the number of rules.
+    /// Reads a character: what is pending changes, and the output comes out. Takes no memory, and time in the number of
+    /// the letters that are pending.
     pub fn feed(&self, pending: &mut Pending, c: u8) -> OutRef<'_>
         ensures exact { Fed self.now pending.old c pending.new result }
         ensures computed { fed self.now pending.old c ≡ record { pending = pending.new; out = result } }
@@ -106,8 +104,8 @@ impl Rules {
     }
 
     /// Reads a character as `feed` does, where something is pending and it goes on with that. Where it does not,
-    /// there is no output, and then the same is pending as before. Takes no memory, and time with a logarithm in the
-    /// number of rules.
+    /// there is no output, and then the same is pending as before. Takes no memory, and time in the number of the
+    /// letters that are pending.
     pub fn extend(&self, pending: &mut Pending, c: u8) -> Option<OutRef<'_>>
         ensures exact { is_some result ≡ extends_pending self.now pending.old c }
         ensures computed { IfSome result (λ o. fed self.now pending.old c
@@ -124,8 +122,8 @@ impl Rules {
         }
     }
 
-    /// Reads a character as `feed` does, where `extend` gave no output for it. Takes no memory, and time with a
-    /// logarithm in the number of rules.
+    /// Reads a character as `feed` does, where `extend` gave no output for it. Takes no memory, and time in the number
+    /// of the letters that are pending.
     pub fn feed_anew(&self, pending: &mut Pending, c: u8) -> OutRef<'_>
         requires { extends_pending self.now pending.old c ≡ false }
         ensures computed { fed self.now pending.old c ≡ record { pending = pending.new; out = result } }
@@ -178,7 +176,7 @@ impl Rules {
     }
 
     /// Gives out what is pending: its output where it is an input, else nothing. Nothing is pending then. Takes no
-    /// memory, and time with a logarithm in the number of rules.
+    /// memory, and time in the number of the letters.
     pub fn flush(&self, pending: &mut Pending) -> OutRef<'_>
         ensures exact { Flushed self.now pending.old result }
         ensures computed { result ≡ flushed self.now pending.old }

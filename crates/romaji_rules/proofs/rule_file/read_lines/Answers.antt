@@ -7,5 +7,5 @@ loop-line-preserved c = (
   search rules,
   line_read c.args.text.now c.loop-line.rest.now c.in-Some.line.now c.in-Some.behind.now c.loop-line.number
       c.loop-line.lines c.in-Some.ensures.0
-      c.loop-line.invariant.1 c.in_ok-lines.lines c.in-Some.ensures.1 c.in_ok-lines.ensures.ok,
+      c.loop-line.invariant.1 c.in_ok-lines-2.lines c.in-Some.ensures.1 c.in_ok-lines-2.ensures.ok,
 )

@@ -3,8 +3,8 @@ use Rattle.std.specs.Str.{bytes_eq}
 use Rattle.std.proofs.lemmas.List.{take_more}
 use Rattle.skk_text.specs.PairsLaws.{all_pairs-take}
 use Rattle.romaji_rules.specs.Fitting.{inputs_differ}
-use Rattle.romaji_rules.proofs.Slots.{none_before}
-use Rattle.romaji_rules.proofs.rule_index.RuleIndex.of.Goals as goal
+use Rattle.romaji_rules.proofs.Differing.{none_before}
+use Rattle.romaji_rules.proofs.rule_trie.RuleTrie.of.Goals as goal
 
 -- the rules before this one have other inputs
 pub add-requires-clause-new : goal.add-requires-clause-new
