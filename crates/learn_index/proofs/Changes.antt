@@ -4,7 +4,6 @@ use Rattle.std.proofs.Common.{Option, None, Some, List, [], ◌∷◌, length, g
 use Rattle.std.proofs.Common.{ap, ◌∙◌, subst, arith}
 use Rattle.std.specs.List.{filter, insert, sum_by}
 use Rattle.std.specs.Option.{is_some, option_and_then, option_map}
-use Rattle.std.specs.Vec.{vec_len, vec_capacity}
 use Rattle.std.proofs.lemmas.Bool.{and_from, eq-eqb, lt-ltb, or_right}
 use Rattle.std.proofs.lemmas.Bool.Decides.{nat_tests}
 use Rattle.std.proofs.lemmas.List.{get_or-map, length-map, map-set}
@@ -22,7 +21,7 @@ use Rattle.skk_calls.specs.States.{State, book_rows, rows_of, with_book, with_ro
 use Rattle.skk_calls.specs.Tallies.{count_rows}
 use Rattle.learn_index.specs.declared.book.LearnedBook.{LearnedBook}
 use Rattle.learn_index.specs.Index.{Index, Spare, changes_of, spare_of}
-use Rattle.learn_index.specs.Kept.{numbered, kept, has_changed, changed, spare, keeps_book, IsKept}
+use Rattle.learn_index.specs.Kept.{numbered, kept, has_changed, changed, room_of, spare, keeps_book, IsKept}
 use Rattle.learn_index.specs.Records.{state_counted}
 use Rattle.learn_index.proofs.Books.{book_changed, kept_with, rows_changed}
 
@@ -37,7 +36,8 @@ place_within p [] i e = cc
 place_within p (x ∷ xs) zero e = omega arith
 place_within p (x ∷ xs) (suc i) e = let rest = place_within p xs i e in omega (arith, rest)
 
-read_at : {X : Type 0} (p : X → Bool) (xs : List X) (i : ℕ) (x : X) → passes p (slice_get xs i) ≡ true
+-- and the item that is read there is the one that does
+pub read_at : {X : Type 0} (p : X → Bool) (xs : List X) (i : ℕ) (x : X) → passes p (slice_get xs i) ≡ true
     → x ≡ get_or xs i x → (slice_get xs i ≡ Some x) × (p x ≡ true)
 read_at p [] i x e read = cc
 read_at p (y ∷ ys) zero x e read = (ap (λ z. Some z) (sym read), ap p read ∙ e)
@@ -175,7 +175,7 @@ module _ (items : List LearnedBook) (number place : ℕ) (ascend : books_ascend 
 
     -- and its room
     pub room_here : (state : State) → 0 < spare_of (record { state = state; spare = map spare items }) number
-        → vec_len book.rows < vec_capacity book.rows
+        → 0 < room_of book
     room_here state room =
         let same = ap changes_of (find-map spare (λ s. s.number == number) items ∙ ap (option_map spare) found_here) in
         omega (arith, room, same)
@@ -203,7 +203,7 @@ module _ (items : List LearnedBook) (number place : ℕ) (ascend : books_ascend 
           set_same (x ∷ xs) (suc i) e = ap (λ bs. numbered x ∷ bs) (set_same xs i e)
 
       -- and the room that it has
-      pub room_grown : (state : State) → vec_len after.rows < vec_capacity after.rows
+      pub room_grown : (state : State) → 0 < room_of after
           → 0 < spare_of (record { state = state; spare = map spare (set items place after) }) number
       room_grown state room =
           let within = place_within (λ (b : LearnedBook). b.number == number) items place

@@ -2,14 +2,14 @@
 use Rattle.std.proofs.Common.{◌≡◌, ◌==◌, ℕ, ◌+◌, ◌^◌, ◌<◌, ◌≤◌, true, Option, List, length, get_or, set}
 use Rattle.std.proofs.Common.{map, sym, ap, ◌∙◌, subst, arith}
 use Rattle.std.proofs.lemmas.Bool.{eqb-true, lt-ltb}
-use Rattle.std.specs.Vec.{vec_len, vec_capacity}
+use Rattle.std.specs.Vec.{vec_len}
 use Rattle.ordered_lists.specs.KeyOrders.{number_keys}
 use Rattle.ordered_lists.specs.Orders.{IsPlace}
 use Rattle.skk_calls.specs.Rows.{RowKey, Row}
 use Rattle.skk_calls.specs.States.{State, with_row, state_with, rows_ascend, is_valid}
 use Rattle.learn_index.specs.declared.book.LearnedBook.{LearnedBook}
 use Rattle.learn_index.specs.Index.{Index, spare_of}
-use Rattle.learn_index.specs.Kept.{kept, changed, spare, keeps_book, IsKept}
+use Rattle.learn_index.specs.Kept.{kept, changed, room_of, spare, keeps_book, IsKept}
 use Rattle.learn_index.specs.Records.{state_counted}
 use Rattle.learn_index.proofs.Books.{rows_in_order}
 use Rattle.learn_index.proofs.Changes.{IsAt, kept_after, kept_grown, place_within, room_grown, room_here, rows_below}
@@ -67,7 +67,7 @@ module _ {items : List LearnedBook} {rows : ℕ} {index : Index} {number place :
   )
 
   -- it has the room that the index has for it
-  pub room_seen : 0 < spare_of index number → vec_len book.rows < vec_capacity book.rows
+  pub room_seen : 0 < spare_of index number → 0 < room_of book
   room_seen room =
       room_here items number place has.found.keeps.ascend has.found.point book has.at (changed (kept items))
       (subst (λ (i : Index). 0 < spare_of i number) (sym has.found.seen) room)
@@ -117,7 +117,7 @@ module _ {items : List LearnedBook} {rows : ℕ} {index : Index} {number place :
     state_same = ap changed books_same ∙ state_seen
 
     -- and there is room
-    pub room_more : (state : State) → vec_len after.rows < vec_capacity after.rows
+    pub room_more : (state : State) → 0 < room_of after
         → 0 < spare_of (record { state = state; spare = map spare (set items place after) }) number
     room_more =
         room_grown items number place has.found.keeps.ascend has.found.point book has.at after number_same

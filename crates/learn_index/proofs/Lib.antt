@@ -1,8 +1,13 @@
 mod Books
+mod ByStamp
 mod Changes
 mod Completions
 mod Examples
 mod FoundBook
+mod FoundPlaces
 mod LastRows
 mod NewestFirst
 mod Planned
+mod Rooms
+mod TurnedOrders
+mod Walks

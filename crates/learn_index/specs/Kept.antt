@@ -1,5 +1,6 @@
 -- The books that an index keeps, and the state that they stand for.
-use Rattle.std.specs.Prelude.{◌≡◌, ◌-◌, ◌^◌, ◌==◌, ◌||◌, ◌&&◌, ℕ, Bool, true, nat_lt, List, length, map, find}
+use Rattle.std.specs.Prelude.{◌≡◌, ◌-◌, ◌^◌, ◌==◌, ◌||◌, ◌&&◌, ℕ, Bool, true, min, nat_lt, Option, None, Some, List}
+use Rattle.std.specs.Prelude.{length, map, find, Vec}
 use Rattle.std.specs.List.{filter, list_all}
 use Rattle.std.specs.Option.{is_some}
 use Rattle.std.specs.Vec.{vec_len, vec_capacity}
@@ -25,9 +26,18 @@ has_changed book = nat_lt 0 book.count
 abbrev pub changed : State → State
 changed state = record { books = filter has_changed state.books }
 
--- for how many changes a book has room
+-- for how many more items a vector has room, and another one where there is one
+abbrev pub room_in : {X Y A : Type 0} → Vec X A → Option (Vec Y A) → ℕ
+room_in rows None = vec_capacity rows - vec_len rows
+room_in rows (Some stamps) = min (vec_capacity rows - vec_len rows) (vec_capacity stamps - vec_len stamps)
+
+-- for how many changes a book has room, in its rows and in their order by stamp
+abbrev pub room_of : LearnedBook → ℕ
+room_of book = room_in book.rows book.by_stamp
+
+-- the room that a book has, by its number
 abbrev pub spare : LearnedBook → Spare
-spare book = record { number = book.number; changes = vec_capacity book.rows - vec_len book.rows }
+spare book = record { number = book.number; changes = room_of book }
 
 -- the book of a number is in memory
 abbrev pub keeps_book : Index → ℕ → Bool

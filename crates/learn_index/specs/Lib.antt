@@ -1,3 +1,4 @@
+pub mod Ages
 pub mod FileRows
 pub mod Index
 pub mod Kept

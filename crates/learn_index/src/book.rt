@@ -1,27 +1,44 @@
-ghost use Rattle.std.specs.Prelude.{◌≡◌, ◌≤◌, ◌<◌, true, length, [], Some};
-ghost use Rattle.std.specs.Vec.{vec_len, vec_capacity};
-ghost use Rattle.ordered_lists.specs.Orders.{IsPlace};
-ghost use Rattle.skk_calls.specs.OrderLaws.{row_keys};
-ghost use Rattle.skk_calls.specs.States.{with_row, without_row, rows_ascend};
+ghost use Rattle.std.specs.Prelude.{◌≡◌};
+ghost use Rattle.std.specs.Option.{ForSome};
+ghost use Rattle.learn_index.specs.Ages.{oldest_first};
 
+use crate::aged_row::AgedRow;
+use crate::by_stamp::{exchanged, rows_by_stamp, without_aged};
 use crate::kept_row::KeptRow;
-use ordered_lists::{Keyed, has_key_at, place_of};
+use crate::kept_rows::{put_row, take_row};
+use ordered_lists::Keyed;
 use skk_calls::RowKey;
+use skk_text::Memory;
 use std::alloc::Global;
 use std::cmp::Ordering;
 
+/// In which orders a book has its rows.
+#[derive(Clone, Copy)]
+pub(crate) enum RowOrders {
+    ByKey,
+    ByKeyAndStamp,
+}
+
 /// A book in memory: its number, its count of changes, and its rows ascending by their keys. One whose count is 0 has
-/// no rows: it only keeps room for its first change.
+/// no rows: it only keeps room for its first change. Beside its rows it may have them in order by their stamps, the
+/// newest last.
 #[derive(Drop)]
 pub struct LearnedBook {
     pub number: u16,
     pub count: u64,
     pub rows: Vec<KeptRow>,
+    by_stamp: Option<Vec<AgedRow>>,
+    ghost in_order: { ForSome by_stamp (λ stamps. stamps.items ≡ oldest_first rows.items) },
 }
 
 impl LearnedBook {
+    ghost use Rattle.std.specs.Prelude.{◌<◌, true, [], Some, OnOk};
+    ghost use Rattle.std.specs.Vec.{vec_len, vec_capacity};
+    ghost use Rattle.skk_calls.specs.States.{with_row, without_row, rows_ascend};
+    ghost use Rattle.learn_index.specs.Kept.{room_of};
+
     /// The book of a number before its first change. Takes no memory.
-    pub fn new(alloc: Global, number: u16) -> LearnedBook
+    pub(crate) fn new(alloc: Global, number: u16) -> LearnedBook
         ensures number { result.number ≡ number }
         ensures count { result.count ≡ 0 }
         ensures rows { result.rows.items ≡ [] }
@@ -30,51 +47,106 @@ impl LearnedBook {
             number,
             count: 0,
             rows: Vec::new(alloc),
+            by_stamp: Some(Vec::new(alloc)),
         }
     }
 
-    /// Gives the key of a row this row. Takes a logarithm in the number of rows to find its place, or constant time
-    /// where that is behind them all, moves the rows behind it where the key had none, and takes no memory.
-    pub fn set_row(&mut self, row: KeptRow)
-        requires ascend { rows_ascend self.old.rows.items ≡ true }
-        requires room { vec_len self.old.rows < vec_capacity self.old.rows }
-        ensures rows { self.new.rows.items ≡ with_row row.key (Some row) self.old.rows.items }
+    /// The rows in order by their stamps, the oldest first, where they are so.
+    pub(crate) fn by_stamp(&self) -> Option<&[AgedRow]>
+        ensures { ForSome result (λ stamps. stamps.now ≡ oldest_first self.now.rows.items) }
+    {
+        match &self.by_stamp {
+            Some(stamps) => Some(stamps),
+            None => None,
+        }
+    }
+
+    /// Makes room for one row more in these orders, and keeps no other. Takes time in the number of rows where the
+    /// room grows, with one logarithm in it where they are to be in order by their stamps and are not.
+    pub(crate) fn make_room(&mut self, alloc: Global, orders: RowOrders) -> Result<(), Memory>
+        requires { rows_ascend self.old.rows.items ≡ true }
+        ensures rows { self.new.rows.items ≡ self.old.rows.items }
+        ensures number { self.new.number ≡ self.old.number }
+        ensures count { self.new.count ≡ self.old.count }
+        ensures room { OnOk result (0 < room_of self.new) }
+    {
+        self.rows.reserve(1)?;
+        match orders {
+            RowOrders::ByKey => self.by_stamp = None,
+            RowOrders::ByKeyAndStamp => {
+                self.order_by_stamp(alloc)?;
+                self.reserve_stamp()?;
+            }
+        }
+        Ok(())
+    }
+
+    // Puts the rows in order by their stamps, where they are not yet.
+    fn order_by_stamp(&mut self, alloc: Global) -> Result<(), Memory>
+        requires { rows_ascend self.old.rows.items ≡ true }
+        ensures rows { self.new.rows ≡ self.old.rows }
         ensures number { self.new.number ≡ self.old.number }
         ensures count { self.new.count ≡ self.old.count }
     {
-        let key = row.row().key();
-        let place = place_among(&self.rows, key);
-        if has_key_at(&self.rows, place, key) {
-            self.rows[place] = row;
-        } else {
-            let _fits = self.rows.insert(place, row);
+        if self.by_stamp.is_none() {
+            self.by_stamp = rows_by_stamp(alloc, &self.rows)?;
+        }
+        Ok(())
+    }
+
+    // Makes room for one row more in the order by stamp, where the rows are in it.
+    fn reserve_stamp(&mut self) -> Result<(), Memory>
+        ensures rows { self.new.rows ≡ self.old.rows }
+        ensures number { self.new.number ≡ self.old.number }
+        ensures count { self.new.count ≡ self.old.count }
+        ensures room { OnOk result (ForSome self.new.by_stamp (λ stamps. vec_len stamps < vec_capacity stamps)) }
+    {
+        let Some(mut stamps) = self.by_stamp.take() else {
+            return Ok(());
+        };
+        let reserved = stamps.reserve(1);
+        self.by_stamp = Some(stamps);
+        Ok(reserved?)
+    }
+
+    /// Gives the key of a row this row, and the book this count. Takes a logarithm in the number of rows to find its
+    /// places, or constant time where these are behind them all, moves the rows behind them, and takes no memory.
+    pub(crate) fn set_row(&mut self, count: u64, row: KeptRow)
+        requires ascend { rows_ascend self.old.rows.items ≡ true }
+        requires room { 0 < room_of self.old }
+        ensures rows { self.new.rows.items ≡ with_row row.key (Some row) self.old.rows.items }
+        ensures number { self.new.number ≡ self.old.number }
+        ensures count { self.new.count ≡ count }
+    {
+        self.count = count;
+        let shared = row.share();
+        let before = put_row(&mut self.rows, row);
+        if let Some(stamps) = self.by_stamp.take() {
+            self.by_stamp = exchanged(stamps, before, shared);
         }
     }
 
-    /// Takes the row of a key out, and moves the rows behind it.
-    pub fn remove_row(&mut self, key: &RowKey)
+    /// Takes the row of a key out, moves the rows behind it, and gives the book this count.
+    pub(crate) fn remove_row(&mut self, count: u64, key: &RowKey)
         requires { rows_ascend self.old.rows.items ≡ true }
         ensures rows { self.new.rows.items ≡ without_row key.now self.old.rows.items }
         ensures number { self.new.number ≡ self.old.number }
-        ensures count { self.new.count ≡ self.old.count }
+        ensures count { self.new.count ≡ count }
     {
-        let place = place_of(&self.rows, key);
-        if has_key_at(&self.rows, place, key) {
-            let _row = self.rows.remove(place);
+        self.count = count;
+        let before = take_row(&mut self.rows, key);
+        if let Some(stamps) = self.by_stamp.take() {
+            self.by_stamp = Some(without_aged(stamps, before));
         }
     }
-}
 
-// The place of a key among rows that ascend. The last row is looked at first, since rows that come in order all stand
-// behind it.
-fn place_among(rows: &[KeptRow], key: &RowKey) -> usize
-    requires { rows_ascend rows.now ≡ true }
-    ensures bound { result ≤ length rows.now }
-    ensures place { IsPlace (λ row. row.key) row_keys key.now rows.now result }
-{
-    match rows.last() {
-        Some(last) if last.compare(key).is_lt() => rows.len(),
-        _ => place_of(rows, key),
+    /// Gives the book this count.
+    pub(crate) fn set_count(&mut self, count: u64)
+        ensures rows { self.new.rows.items ≡ self.old.rows.items }
+        ensures number { self.new.number ≡ self.old.number }
+        ensures count { self.new.count ≡ count }
+    {
+        self.count = count;
     }
 }
 

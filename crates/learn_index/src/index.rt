@@ -1,5 +1,5 @@
 ghost use Rattle.std.specs.Prelude.{◌≡◌, ◌<◌, ◌≤◌, true, false, min, Some, None, List, IfOk, OnOk, OnErr};
-ghost use Rattle.std.specs.Option.{option_copied};
+ghost use Rattle.std.specs.Option.{option_copied, ForSome};
 ghost use Rattle.skk_text.specs.Counts.{last_count};
 ghost use Rattle.skk_calls.specs.declared.call.Call.{Call};
 ghost use Rattle.skk_calls.specs.Dictionary.{answer, after, is_call, is_fit, may_reply};
@@ -7,13 +7,15 @@ ghost use Rattle.skk_calls.specs.Rows.{Row as row_value};
 ghost use Rattle.skk_calls.specs.States.{empty_state, row_at, rows_ascend, rows_of, count_of, state_with};
 ghost use Rattle.skk_calls.specs.States.{is_valid, fits_count};
 ghost use Rattle.skk_calls.specs.Tallies.{count_rows};
+ghost use Rattle.learn_index.specs.Ages.{oldest_first};
 ghost use Rattle.learn_index.specs.FileRows.{AreFileRows};
 ghost use Rattle.learn_index.specs.Index.{spare_of};
 ghost use Rattle.learn_index.specs.Kept.{changed, keeps_book, kept};
 ghost use Rattle.learn_index.specs.Plans.{is_question, IsPlanned, IsMade, HasRoom};
 ghost use Rattle.learn_index.specs.Records.{state_counted, state_without};
 
-use crate::book::LearnedBook;
+use crate::aged_row::AgedRow;
+use crate::book::{LearnedBook, RowOrders};
 use crate::completing::completions;
 use crate::kept_books::{book_of, place_of};
 use crate::kept_row::{KeptRow, copied_rows};
@@ -166,7 +168,7 @@ impl Index {
     }
 
     /// Gives a key this row in a book, which gets this count. Finds its place at once where that is behind all rows of
-    /// the book.
+    /// the book, whose order by stamp it leaves to `order_by_stamp`, or to the next `plan`.
     pub fn put(&mut self, alloc: Global, book: u16, count: u64, row: KeptRow) -> Result<(), Memory>
         requires count { count_of self.old.state book ≤ count }
         requires row { fits_count count row ≡ true }
@@ -175,7 +177,7 @@ impl Index {
     {
         // A field that is read tells that the state is valid.
         let _valid = self.rows;
-        self.make_room(alloc, book)?;
+        self.make_room(alloc, book, RowOrders::ByKey)?;
         self.set_row(book, count, row);
         Ok(())
     }
@@ -258,6 +260,32 @@ impl Index {
         &self.books
     }
 
+    /// Puts the rows of each book in order by their stamps, where they are not yet. The state stays as it was. Takes
+    /// time in the number of these rows, with one logarithm in it.
+    pub fn order_by_stamp(&mut self, alloc: Global) -> Result<(), Memory>
+        ensures { self.new.state ≡ self.old.state }
+    {
+        for place in 0..self.books.len() {
+            let Some(book) = self.books.get(place) else {
+                break;
+            };
+            let number = book.number;
+            self.make_room(alloc, number, RowOrders::ByKeyAndStamp)?;
+        }
+        Ok(())
+    }
+
+    // The rows of a book in order by their stamps, the oldest first, where they are so. Takes a logarithm in the number
+    // of books, and no memory.
+    pub(crate) fn rows_by_stamp(&self, number: u16) -> Option<&[AgedRow]>
+        ensures { ForSome result (λ stamps. stamps.now ≡ oldest_first (rows_of self.now.state number)) }
+    {
+        match book_of(&self.books, number) {
+            Some(book) => book.by_stamp(),
+            None => None,
+        }
+    }
+
     // The rows of a book, ascending by their keys. Takes a logarithm in the number of books, and no memory.
     pub(crate) fn rows_of(&self, number: u16) -> &[KeptRow]
         ensures rows { result.now ≡ rows_of self.now.state number }
@@ -270,14 +298,20 @@ impl Index {
         }
     }
 
-    // Makes room for one change of a book. The state stays as it was. Takes a logarithm in the number of books, and
-    // time in the book's rows where its room grows.
-    pub(crate) fn make_room(&mut self, alloc: Global, number: u16) -> Result<(), Memory>
+    // Makes room for one change of a book in these orders of its rows, and keeps no other. The state stays as it was.
+    // Takes a logarithm in the number of books, time in the book's rows where its room grows, and with one logarithm in
+    // their number where they are to be in order by their stamps and are not.
+    pub(crate) fn make_room(
+        &mut self,
+        alloc: Global,
+        number: u16,
+        orders: RowOrders,
+    ) -> Result<(), Memory>
         ensures state { self.new.state ≡ self.old.state }
         ensures room { OnOk result (0 < spare_of self.new number) }
     {
         self.make_book(alloc, number)?;
-        self.grow(number)
+        self.grow(alloc, number, orders)
     }
 
     // Keeps a book of a number, where there is none yet.
@@ -293,14 +327,13 @@ impl Index {
     }
 
     // Makes room for one change of a book that is kept.
-    fn grow(&mut self, number: u16) -> Result<(), Memory>
+    fn grow(&mut self, alloc: Global, number: u16, orders: RowOrders) -> Result<(), Memory>
         requires { keeps_book self.old number ≡ true }
         ensures state { self.new.state ≡ self.old.state }
         ensures room { OnOk result (0 < spare_of self.new number) }
     {
         let place = place_of(&self.books, number);
-        self.books[place].rows.reserve(1)?;
-        Ok(())
+        self.books[place].make_room(alloc, orders)
     }
 
     // Gives the key of a row this row in a book that has room, and the book this count.
@@ -313,8 +346,7 @@ impl Index {
         let place = place_of(&self.books, number);
         let book = &mut self.books[place];
         self.rows -= book.rows.len() as u128;
-        book.set_row(row);
-        book.count = count;
+        book.set_row(count, row);
         self.rows += book.rows.len() as u128;
     }
 
@@ -328,8 +360,7 @@ impl Index {
         let place = place_of(&self.books, number);
         let book = &mut self.books[place];
         self.rows -= book.rows.len() as u128;
-        book.remove_row(key);
-        book.count = count;
+        book.remove_row(count, key);
         self.rows += book.rows.len() as u128;
     }
 
@@ -341,6 +372,6 @@ impl Index {
         ensures { self.new.state ≡ state_counted self.old.state number count }
     {
         let place = place_of(&self.books, number);
-        self.books[place].count = count;
+        self.books[place].set_count(count);
     }
 }

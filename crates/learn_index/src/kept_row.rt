@@ -6,11 +6,13 @@ use skk_text::{Copies, Memory, Text};
 use std::alloc::Global;
 use std::cmp::Ordering;
 use std::marker::Model;
+use std::sync::Arc;
 
-/// A row behind a pointer, so that a book that is in order moves few bytes where a row comes between others.
+/// A row behind a pointer, so that a book that is in order moves few bytes where a row comes between others. The
+/// pointer is shared, so that the book can have its rows in a second order without a copy of any.
 #[derive(Debug, Drop)]
 pub struct KeptRow {
-    row: Box<Row>,
+    row: Arc<Row>,
 }
 
 impl Model for KeptRow {
@@ -22,15 +24,23 @@ impl Model for KeptRow {
 }
 
 impl KeptRow {
-    ghost use Rattle.std.specs.Prelude.{◌≡◌, true, IfOk};
+    ghost use Rattle.std.specs.Prelude.{◌≡◌, true, IfOk, IfSome};
     ghost use Rattle.skk_calls.specs.Rows.{is_row};
 
     /// Keeps a row.
     pub fn new(alloc: Global, row: Row) -> Result<KeptRow, Memory>
         ensures { IfOk result (λ kept. kept ≡ row) }
     {
-        let row = Box::new(alloc, row)?;
+        let row = Arc::new(alloc, row)?;
         Ok(KeptRow { row })
+    }
+
+    /// The same row once more, unless the count of those who have it is at its end. Takes no memory.
+    pub fn share(&self) -> Option<KeptRow>
+        ensures { IfSome result (λ kept. kept ≡ self.now) }
+    {
+        let row = Arc::try_clone(&self.row).ok()?;
+        Some(KeptRow { row })
     }
 
     /// The row.

@@ -8,11 +8,14 @@
 //! disk `serve` does both. `put`, `drop_row` and `set_count` rebuild a state from what was written.
 #![tactic(auto)]
 
+mod aged_row;
 mod book;
+mod by_stamp;
 mod completing;
 mod index;
 mod kept_books;
 mod kept_row;
+mod kept_rows;
 mod layering;
 mod plan;
 mod planning;

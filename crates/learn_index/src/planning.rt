@@ -10,6 +10,7 @@ ghost use Rattle.learn_index.specs.declared.plan.Plan.TheVariants.{Still, Move};
 ghost use Rattle.learn_index.specs.Index.{spare_of};
 ghost use Rattle.learn_index.specs.Plans.{IsPlanned, HasRoom};
 
+use crate::book::RowOrders;
 use crate::index::Index;
 use crate::kept_row::KeptRow;
 use crate::plan::Plan;
@@ -146,7 +147,7 @@ fn make_move(
     ensures plan { IfOk result (λ plan. plan ≡ Move book count key.now row reply) }
     ensures room { OnOk result (0 < spare_of index.new book) }
 {
-    index.make_room(alloc, book)?;
+    index.make_room(alloc, book, RowOrders::ByKeyAndStamp)?;
     let row = keep(alloc, row)?;
     let key = key.copy(alloc)?;
     Ok(Plan::Move {

@@ -147,6 +147,7 @@ impl Gathered {
         let rows = in_order(alloc, rows)?;
         let mut index = index_of(alloc, &counts, rows)?;
         give_counts(&mut index, alloc, counts)?;
+        index.order_by_stamp(alloc)?;
         Ok(index)
     }
 }

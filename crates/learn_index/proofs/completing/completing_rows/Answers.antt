@@ -11,7 +11,7 @@ use Rattle.learn_index.proofs.completing.completing_rows.Goals.{then-loop-kept-t
 pub returns : goal.returns
 returns c =
     let prefix = c.args.prefix.now in
-    let rows = c.rows_from-kept-items.result.now in
+    let rows = c.args.rows.now in
     let at = c.loop-kept.kept-index in
     let so_far = map (λ (row : Bor Row). row.now) c.loop-kept.completing.items in
     let ends : filter (completes prefix) (drop at rows) ≡ [] =
@@ -19,10 +19,9 @@ returns c =
       | else-loop-kept-test w ↦
           ap (filter (completes prefix)) (drop_all at rows (omega (arith, w.loop-kept-test.false)))
       | then-loop-kept-test+then-not-begins w ↦
-          run_ends prefix rows at w.kept-item.result c.rows_from-kept-items.ensures.ascend
-          c.rows_from-kept-items.ensures.high (omega (arith, w.loop-kept-test.true)) (sym w.kept-item.is)
+          run_ends prefix rows at w.kept-item.result c.requires.ascend
+          c.requires.high (omega (arith, w.loop-kept-test.true)) (sym w.kept-item.is)
           (ap (begins prefix) (sym w.row-row.ensures.value) ∙ sym w.begins.ensures ∙ w.if-not-begins.true)
     ]
     in
     sym (append-nil so_far) ∙ ap (λ rest. so_far ++ rest) (sym ends) ∙ c.loop-kept.invariant
-    ∙ c.rows_from-kept-items.ensures.completing

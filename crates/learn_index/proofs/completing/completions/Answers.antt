@@ -1,9 +1,10 @@
-use Rattle.std.proofs.Common.{◌≡◌, ◌∙◌, ap, map, take}
+use Rattle.std.proofs.Common.{◌≡◌, ◌∙◌, ap, map, sym, take}
 use Rattle.std.specs.List.{list_all}
 use Rattle.std.proofs.lemmas.Result.{IfOk-weaker}
 use Rattle.skk_calls.specs.Completions.{completion_limit, completions, newest_readings}
 use Rattle.skk_calls.specs.Dictionary.{is_plain_reading}
 use Rattle.skk_calls.specs.States.{rows_of}
+use Rattle.learn_index.specs.Ages.{oldest_first}
 use Rattle.dict_files.specs.Walked.{walked_readings}
 use Rattle.dict_complete.specs.Joined.{completions_among}
 use Rattle.learn_index.proofs.Completions.{completions_plain, joined}
@@ -25,6 +26,10 @@ same c =
     c.in_ok-shared.ensures
     ∙ joined c.args.system.now c.args.index.now.state c.args.who prefix c.rows_of.ensures.valid
     c.file_count-files.ensures.valid (c.walks_go_over_completions.ensures.completions prefix)
+
+pub newest_readings-requires-clause-stamps : goal.newest_readings-requires-clause-stamps
+newest_readings-requires-clause-stamps c stamps is =
+    c.rows_by_stamp.ensures stamps is ∙ ap oldest_first (sym c.rows_of.ensures.rows)
 
 pub returns-clause-value : goal.returns-clause-value
 returns-clause-value c =

@@ -1,11 +1,14 @@
-use Rattle.std.proofs.Common.{◌∙◌, ap}
-use Rattle.skk_text.specs.Pairs.{all_pairs}
-use Rattle.ordered_lists.specs.OrderLaws.{apart}
-use Rattle.skk_calls.specs.Orders.{is_newer}
-use Rattle.learn_index.proofs.NewestFirst.{completing_apart}
+use Rattle.std.proofs.Common.{◌∙◌, Bor, List, ap, map, take}
+use Rattle.std.proofs.lemmas.Result.{IfOk-weaker}
+use Rattle.skk_calls.specs.Completions.{completion_limit, reading_of}
+use Rattle.skk_calls.specs.Rows.{Row}
 use Rattle.learn_index.proofs.completing.newest_readings.Goals as goal
 
-pub sort_newest-requires : goal.sort_newest-requires
-sort_newest-requires c =
-    ap (all_pairs (apart is_newer)) c.in_ok-completing.ensures
-    ∙ completing_apart c.args.prefix.now c.args.rows.now c.requires
+pub returns : goal.returns
+returns c =
+    IfOk-weaker c.first_readings.result _ _
+    (λ readings is. is
+    ∙ ap (λ (rows : List (Bor Row)). take completion_limit (map reading_of (map (λ (row : Bor Row). row.now) rows)))
+    c.deref.ensures.value
+    ∙ c.in_ok-newest.ensures)
+    c.first_readings.ensures

@@ -1,26 +1,38 @@
 use Rattle.std.proofs.Common.{◌≡◌, ◌∙◌, ap, sym}
-use Rattle.ordered_lists.specs.PlaceLaws.{put_insert, put_set}
-use Rattle.skk_calls.specs.OrderLaws.{row_keys}
-use Rattle.skk_calls.specs.Rows.{Row}
+use Rattle.learn_index.specs.Ages.{oldest_first}
+use Rattle.learn_index.proofs.ByStamp.{exchanged_in_order, oldest_ascend, shared_new}
+use Rattle.learn_index.proofs.Rooms.{room_first, room_second}
 use Rattle.learn_index.proofs.book.LearnedBook.set_row.Goals as goal
+use Rattle.learn_index.proofs.book.LearnedBook.set_row.Goals.{In-Some}
 
-pub returns-then-has_key_at-clause-rows : goal.returns-then-has_key_at-clause-rows
-returns-then-has_key_at-clause-rows c =
-    let row = c.args.row in
-    let own : c.key-key.result.now ≡ row.key = c.key-key.ensures.value ∙ ap (λ (r : Row). r.key) c.row.ensures.value in
-    let point = rw (c.deref.ensures.value, own) at c.place_among-place.ensures.place in
-    let there = rw (c.deref-2.ensures.value, own) at (sym c.has_key_at.ensures ∙ c.if-has_key_at.true) in
-    sym (put_set (λ (r : Row). r.key) row_keys row c.args.self.now.rows.items c.place_among-place.result
-    c.requires.ascend point there)
+-- the rows by their stamps are those of the book
+sorted : (c : In-Some) → c.in-Some.stamps.items ≡ oldest_first c.args.self.now.rows.items
+sorted c = c.args.self.now.in_order c.in-Some.stamps (sym c.take.ensures.value ∙ c.in-Some.is)
 
-pub returns-else-has_key_at-clause-rows : goal.returns-else-has_key_at-clause-rows
-returns-else-has_key_at-clause-rows c =
-    let row = c.args.row in
-    let own : c.key-key.result.now ≡ row.key = c.key-key.ensures.value ∙ ap (λ (r : Row). r.key) c.row.ensures.value in
-    let bound = rw c.deref.ensures.value at c.place_among-place.ensures.bound in
-    let point = rw (c.deref.ensures.value, own) at c.place_among-place.ensures.place in
-    let missing = rw (c.deref-2.ensures.value, own) at (sym c.has_key_at.ensures ∙ c.if-has_key_at.false) in
-    let fits = c.insert-fits.ensures.succeeds c.requires.room in
-    rw (c.insert-fits.ensures.items, fits)
-    (sym (put_insert (λ (r : Row). r.key) row_keys row c.args.self.now.rows.items c.place_among-place.result bound
-    c.requires.ascend point missing))
+pub put_row-before-requires-clause-room : goal.put_row-before-requires-clause-room
+put_row-before-requires-clause-room c = room_first c.args.self.now.rows c.args.self.now.by_stamp c.requires.room
+
+pub exchanged-requires-clause-ascend : goal.exchanged-requires-clause-ascend
+exchanged-requires-clause-ascend c =
+    oldest_ascend c.args.self.now.rows.items c.in-Some.stamps.items c.requires.ascend
+    (sorted (goal.at.exchanged-requires-clause-ascend c).In-Some)
+
+pub exchanged-requires-clause-room : goal.exchanged-requires-clause-room
+exchanged-requires-clause-room c =
+    room_second c.args.self.now.rows c.args.self.now.by_stamp c.requires.room c.in-Some.stamps
+    (sym c.take.ensures.value ∙ c.in-Some.is)
+
+pub exchanged-requires-clause-new : goal.exchanged-requires-clause-new
+exchanged-requires-clause-new c =
+    shared_new c.args.self.now.rows.items c.in-Some.stamps.items c.args.row c.put_row-before.result
+    c.share-shared.result c.requires.ascend (sorted (goal.at.exchanged-requires-clause-new c).In-Some)
+    c.put_row-before.ensures.before c.share-shared.ensures
+
+pub invariant_of-self : goal.invariant_of-self
+invariant_of-self c = record {
+  in_order = λ after is.
+      exchanged_in_order c.args.self.now.rows.items c.in-Some.stamps.items c.args.row c.put_row-before.result
+      c.share-shared.result c.requires.ascend (sorted (goal.at.invariant_of-self c).In-Some)
+      c.put_row-before.ensures.before c.share-shared.ensures after.items (c.exchanged.ensures after is)
+      ∙ ap oldest_first (sym c.put_row-before.ensures.rows);
+}

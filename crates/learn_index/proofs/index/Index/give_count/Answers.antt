@@ -1,5 +1,6 @@
-use Rattle.std.proofs.Common.{◌∙◌, refl, ap, arith}
+use Rattle.std.proofs.Common.{◌∙◌, length, ap, arith}
 use Rattle.skk_calls.specs.States.{is_valid}
+use Rattle.learn_index.specs.Records.{state_counted}
 use Rattle.learn_index.proofs.FoundBook.{HasBook, HasPlace, book_read, count_changed, kept_changed, place_inside}
 use Rattle.learn_index.proofs.index.Index.give_count.Goals as goal
 use Rattle.learn_index.proofs.index.Index.give_count.Goals.{After-place_of-place, After-index_mut}
@@ -25,12 +26,19 @@ index_mut-requires c =
 
 pub returns : goal.returns
 returns c =
-    count_changed (has (goal.at.returns c).After-index_mut)
-    (record { number = c.index_mut.result.now.number; count = c.args.count; rows = c.index_mut.result.now.rows }) refl
-    c.requires.count refl
+    count_changed (has (goal.at.returns c).After-index_mut) c.set_count.new.self c.set_count.ensures.number
+    (omega (arith, c.set_count.ensures.count, c.requires.count))
+    c.set_count.ensures.rows
+    ∙ ap (state_counted c.args.self.now.state c.args.number) c.set_count.ensures.count
 
 pub invariant_of-self : goal.invariant_of-self
 invariant_of-self c =
-    kept_changed (has (goal.at.invariant_of-self c).After-index_mut)
-    (record { number = c.index_mut.result.now.number; count = c.args.count; rows = c.index_mut.result.now.rows }) refl
-    c.requires.count c.ranges.number.fits refl (ap is_valid (returns c) ∙ c.requires.valid)
+    kept_changed (has (goal.at.invariant_of-self c).After-index_mut) c.set_count.new.self c.set_count.ensures.number
+    (omega (arith, c.set_count.ensures.count, c.requires.count)) c.ranges.number.fits
+    (omega (
+      arith,
+      ap length c.set_count.ensures.rows,
+      c.set_count.new.self.rows.ok,
+      c.index_mut.result.now.rows.ok,
+    ))
+    (ap is_valid (returns c) ∙ c.requires.valid)

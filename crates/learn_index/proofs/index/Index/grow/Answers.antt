@@ -1,9 +1,10 @@
-use Rattle.std.proofs.Common.{refl, set, arith}
-use Rattle.learn_index.specs.declared.book.LearnedBook.{LearnedBook}
+use Rattle.std.proofs.Common.{set, arith}
+use Rattle.std.proofs.lemmas.Result.{on_ok_weaker}
 use Rattle.learn_index.specs.Kept.{changed, kept}
-use Rattle.learn_index.proofs.FoundBook.{HasBook, HasPlace, book_read, kept_same, place_inside, room_more, state_same}
+use Rattle.learn_index.proofs.FoundBook.{HasBook, HasPlace, book_read, kept_same, place_inside, room_more}
+use Rattle.learn_index.proofs.FoundBook.{rows_ascend_there, state_same}
 use Rattle.learn_index.proofs.index.Index.grow.Goals as goal
-use Rattle.learn_index.proofs.index.Index.grow.Goals.{After-place_of-place, After-index_mut, After-reserve}
+use Rattle.learn_index.proofs.index.Index.grow.Goals.{After-place_of-place, After-index_mut}
 
 -- the book of the number is there
 found : (c : After-place_of-place)
@@ -24,34 +25,23 @@ pub index_mut-requires : goal.index_mut-requires
 index_mut-requires c =
     omega (arith, place_inside (found (goal.at.index_mut-requires c).After-place_of-place), c.self.inside.books.ok)
 
--- the book with its room
-abbrev grown : After-reserve → LearnedBook
-grown c =
-    record { number = c.index_mut.result.now.number; count = c.index_mut.result.now.count; rows = c.reserve.new.self }
+pub make_room-requires : goal.make_room-requires
+make_room-requires c = rows_ascend_there (has (goal.at.make_room-requires c).After-index_mut)
 
 pub invariant_of-self : goal.invariant_of-self
 invariant_of-self c =
-    kept_same (has (goal.at.invariant_of-self c).After-index_mut) (grown (goal.at.invariant_of-self c).After-reserve)
-    refl refl c.reserve.ensures.items
-
-pub returns-in_err-reserve-clause-state : goal.returns-in_err-reserve-clause-state
-returns-in_err-reserve-clause-state c =
-    state_same (has (goal.at.returns-in_err-reserve-clause-state c).After-index_mut)
-    (grown (goal.at.returns-in_err-reserve-clause-state c).After-reserve) refl refl c.reserve.ensures.items
-
-pub invariant_of-self-2 : goal.invariant_of-self-2
-invariant_of-self-2 c =
-    kept_same (has (goal.at.invariant_of-self-2 c).After-index_mut)
-    (grown (goal.at.invariant_of-self-2 c).After-reserve) refl refl c.reserve.ensures.items
+    kept_same (has (goal.at.invariant_of-self c).After-index_mut) c.make_room.new.self c.make_room.ensures.number
+    c.make_room.ensures.count c.make_room.ensures.rows
 
 pub returns-clause-state : goal.returns-clause-state
 returns-clause-state c =
-    state_same (has (goal.at.returns-clause-state c).After-index_mut)
-    (grown (goal.at.returns-clause-state c).After-reserve) refl refl c.reserve.ensures.items
+    state_same (has (goal.at.returns-clause-state c).After-index_mut) c.make_room.new.self c.make_room.ensures.number
+    c.make_room.ensures.count c.make_room.ensures.rows
 
 pub returns-clause-room : goal.returns-clause-room
 returns-clause-room c =
-    let after = grown (goal.at.returns-clause-room c).After-reserve in
-    room_more (has (goal.at.returns-clause-room c).After-index_mut) after refl refl c.reserve.ensures.items
-    (changed (kept (set c.self.inside.books.items c.place_of-place.result after)))
-    (omega (arith, c.reserve.ensures.len, c.in_ok-reserve.ensures.ok))
+    on_ok_weaker c.make_room.result
+    (room_more (has (goal.at.returns-clause-room c).After-index_mut) c.make_room.new.self
+    c.make_room.ensures.number c.make_room.ensures.count c.make_room.ensures.rows
+    (changed (kept (set c.self.inside.books.items c.place_of-place.result c.make_room.new.self))))
+    c.make_room.ensures.room

@@ -1,5 +1,5 @@
 use Rattle.std.proofs.Common.{◌∙◌, Some, ap, arith}
-use Rattle.skk_calls.specs.States.{is_valid}
+use Rattle.skk_calls.specs.States.{is_valid, state_with}
 use Rattle.learn_index.specs.Kept.{kept}
 use Rattle.learn_index.proofs.Books.{rows_counted}
 use Rattle.learn_index.proofs.Changes.{room_there}
@@ -44,15 +44,15 @@ overflow_add-self c =
 
 pub returns : goal.returns
 returns c =
-    row_changed (has (goal.at.returns c).After-index_mut-book)
-    (record { number = c.set_row.new.self.number; count = c.args.count; rows = c.set_row.new.self.rows })
-    c.set_row.ensures.number c.requires.count c.args.row.key (Some c.args.row) c.set_row.ensures.rows
+    row_changed (has (goal.at.returns c).After-index_mut-book) c.set_row.new.self c.set_row.ensures.number
+    (omega (arith, c.set_row.ensures.count, c.requires.count)) c.args.row.key (Some c.args.row) c.set_row.ensures.rows
+    ∙ ap (λ n. state_with c.args.self.now.state c.args.number n c.args.row.key (Some c.args.row))
+    c.set_row.ensures.count
 
 pub invariant_of-self : goal.invariant_of-self
 invariant_of-self c =
-    kept_changed (has (goal.at.invariant_of-self c).After-index_mut-book)
-    (record { number = c.set_row.new.self.number; count = c.args.count; rows = c.set_row.new.self.rows })
-    c.set_row.ensures.number c.requires.count
-    c.ranges.number.fits
+    kept_changed (has (goal.at.invariant_of-self c).After-index_mut-book) c.set_row.new.self
+    c.set_row.ensures.number
+    (omega (arith, c.set_row.ensures.count, c.requires.count)) c.ranges.number.fits
     (omega (arith, rows_among (has (goal.at.invariant_of-self c).After-index_mut-book), c.len.ensures, c.len-2.ensures))
     (ap is_valid (returns c) ∙ c.requires.valid)

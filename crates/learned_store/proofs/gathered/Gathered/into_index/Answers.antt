@@ -12,6 +12,7 @@ returns c state gathers =
       row = λ number key. c.in_ok-rows.ensures.rows (place_at number key) ∙ gathers.row number key;
     } in
     let has = c.in_ok-index.ensures state are in
-    same_state c.give_counts.new.index.state state c.in_ok-give_counts.ensures.valid gathers.valid
+    c.order_by_stamp.ensures
+    ∙ same_state c.give_counts.new.index.state state c.in_ok-give_counts.ensures.valid gathers.valid
     (λ number. c.in_ok-give_counts.ensures.counts number ∙ gathers.count number)
     (λ number key. c.in_ok-give_counts.ensures.rows number key ∙ has.rows number key)
