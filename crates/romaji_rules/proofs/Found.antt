@@ -1,7 +1,7 @@
 -- The first element that a test finds, and what a test says of each element.
 use Rattle.std.proofs.Common.{◌≡◌, ℕ, ◌<◌, Bool, true, false, None, Some, List, [], ◌∷◌, refl, ◌∙◌, ap}
 use Rattle.std.proofs.Common.{inl, inr, ◌⊎◌, length, arith, find, zero, suc, slice_index_or}
-use Rattle.std.specs.List.{filter, list_any, list_all, Contains}
+use Rattle.std.specs.List.{list_any, list_all, Contains}
 use Rattle.std.proofs.lemmas.List.Elements.{Contains-append_right, Contains-get_or}
 use Rattle.std.proofs.lemmas.List.Folds.{list_any_at, list_all_at}
 
@@ -37,9 +37,3 @@ module _ {X : Type 0} (p : X → Bool) where
   pub find-None : (xs : List X) → find p xs ≡ None → list_any p xs ≡ false
   find-None [] e = refl
   find-None (y ∷ ys) e = grind (arith, find-None ys)
-
-  -- what is found among those that a filter keeps is what is found among all, where it keeps each that passes
-  pub find-filter : (keeps : X → Bool) → ((x : X) → keeps x ≡ false → p x ≡ false) → (xs : List X)
-      → find p (filter keeps xs) ≡ find p xs
-  find-filter keeps so [] = refl
-  find-filter keeps so (x ∷ xs) = grind (arith, so x, find-filter keeps so xs)

@@ -1,8 +1,7 @@
 -- A trie with one node more, and with the place of one rule more.
 use Rattle.std.proofs.Common.{◌≡◌, ◌≢◌, ◌⊎◌, ◌<◌, ◌≤◌, ◌+◌, ◌==◌, ◌&&◌, ◌||◌, ℕ, zero, suc, Bool, false, cond, not}
 use Rattle.std.proofs.Common.{Option, None, Some, List, [], ◌∷◌, ◌++◌, length, get_or, set, map, slice_get, inl, inr}
-use Rattle.std.proofs.Common.{refl}
-use Rattle.std.proofs.Common.{sym, ap, ◌∙◌, subst, arith, length-append, append_assoc, find, IfSome}
+use Rattle.std.proofs.Common.{refl, sym, ap, ◌∙◌, subst, arith, length-append, append_assoc, find, IfSome}
 use Rattle.std.specs.List.{position, position_or_len}
 use Rattle.std.specs.Option.{option_and_then, option_or}
 use Rattle.std.specs.Str.{bytes_eq}
@@ -19,8 +18,8 @@ use Rattle.romaji_rules.specs.declared.rule_trie.Child.{Child}
 use Rattle.romaji_rules.specs.declared.rule_trie.Node.{Node}
 use Rattle.romaji_rules.specs.declared.rule_trie.RuleTrie.{RuleTrie}
 use Rattle.romaji_rules.specs.RuleTries.{child, child_by, next_node, node_of, goes_on_at, place_at, children_of}
-use Rattle.romaji_rules.specs.RuleTries.{places_of, is_beginning, with_child, goes_past, IsTrie, IsRuleTrie}
-use Rattle.romaji_rules.specs.RuleTries.{MakesChild, HasNode}
+use Rattle.romaji_rules.specs.RuleTries.{places_of, is_beginning, with_child, goes_past, IsTrie, IsRuleTrie, MakesChild}
+use Rattle.romaji_rules.specs.RuleTries.{HasNode}
 use Rattle.romaji_rules.specs.Typed.{begins_input, rule_of}
 use Rattle.romaji_rules.proofs.Differing.{differ_with}
 
@@ -133,8 +132,7 @@ module _ (children : List (List Child)) (text : List ℕ) (node letter : ℕ)
       ))
 
   pub more_reached : node_of more (text ++ letter ∷ []) ≡ Some (length children)
-  more_reached =
-      grind (arith, fold_push (next_node more) (Some 0) text letter, stands text, at, made)
+  more_reached = grind (arith, fold_push (next_node more) (Some 0) text letter, stands text, at, made)
 
   pub more_within : (other : List ℕ) (n : ℕ) → node_of more other ≡ Some n → n < length more
   more_within other n e = grind (arith, stands other, within other n, size)
@@ -197,9 +195,12 @@ pub placed_children : (nodes : List Node) (node : ℕ) (there noted : Node) → 
     → there ≡ get_or nodes node there → kids noted ≡ kids there
     → map kids (set nodes node noted) ≡ map kids nodes
 placed_children nodes node there noted lt e stay =
-    map-set kids nodes node noted
-    ∙ ap (set (map kids nodes) node) (stay ∙ sym (node_children nodes node there lt e))
-    ∙ set-get_or (map kids nodes) node []
+    grind (
+      arith,
+      map-set kids nodes node noted,
+      node_children nodes node there,
+      set-get_or (map kids nodes) node [],
+    )
 
 -- a node is added behind a letter of another
 module _ (before nodes : List Node) (node letter : ℕ) (new there changed : Node) (pushed : nodes ≡ before ++ new ∷ [])
@@ -406,9 +407,6 @@ module _ (rules : List Rule) (trie : RuleTrie) (text : List ℕ) (is : IsRuleTri
   no_rule_told at =
       sym (none_there (λ (r : Rule). bytes_eq r.input text) rules
       (ap (place_at (places_of trie)) at ∙ is.places text))
-
-  pub no_beginning_told : None ≡ node_of (children_of trie) text → false ≡ begins_input rules text
-  no_beginning_told at = ap (goes_on_at (children_of trie)) at ∙ is.begins text
 
 -- the rule at a place that is that of a text is the text's rule
 pub rule_there : (rules : List Rule) (text : List ℕ) (place : Option ℕ)

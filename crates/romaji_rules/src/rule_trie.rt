@@ -1,5 +1,5 @@
-ghost use Rattle.std.specs.Prelude.{◌≡◌, ◌<◌, ◌==◌, ◌&&◌, ◌∷◌, ◌++◌, [], ℕ, true, None, Some, length, get_or};
-ghost use Rattle.std.specs.Prelude.{slice_get, if◌then◌else◌, not, IfOk, OnOk, IfSome};
+ghost use Rattle.std.specs.Prelude.{◌≡◌, ◌<◌, ◌==◌, ◌&&◌, ◌∷◌, ◌++◌, [], ℕ, true, None, Some, if◌then◌else◌, not};
+ghost use Rattle.std.specs.Prelude.{length, get_or, slice_get, IfOk, OnOk, IfSome};
 ghost use Rattle.std.specs.Option.{option_and_then, option_copied};
 ghost use Rattle.skk_text.specs.Lists.{is_empty};
 ghost use Rattle.romaji_rules.specs.Fitting.{inputs_differ};
