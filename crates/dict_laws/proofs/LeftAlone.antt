@@ -1,11 +1,12 @@
 -- A call leaves the rows alone that it does not speak of.
-use Rattle.std.proofs.Common.{◌≡◌, ℕ, ◌+◌, Bool, true, false, ◌&&◌, ◌==◌, Some, Option, refl, sym, ◌∙◌, ap}
+use Rattle.std.proofs.Common.{◌≡◌, ℕ, ◌+◌, Bool, true, false, ◌&&◌, ◌==◌, Some, Option, List, refl, sym, ◌∙◌, ap}
 use Rattle.std.proofs.lemmas.Bool.{and_parts, eqb-true}
 use Rattle.skk_calls.specs.KeyLaws.{same_key_itself}
 use Rattle.skk_calls.specs.declared.book.NumberedBook.{NumberedBook}
 use Rattle.skk_calls.specs.declared.call.Call.{Call}
 use Rattle.skk_calls.specs.declared.call.Call.TheVariants.{Lookup, Complete, Learn, Purge, Unlearn}
 use Rattle.skk_calls.specs.Dictionary.{after, moves, state_moved, is_call, is_row_or_none, speaks_of}
+use Rattle.skk_calls.specs.Found.{found}
 use Rattle.skk_calls.specs.Learning.{learnt, purged, unlearnt, is_valid_learned}
 use Rattle.skk_calls.specs.Rows.{RowKey, Row, same_key, is_row_key}
 use Rattle.skk_calls.specs.States.{State, row_in, book_rows, book_count, row_at, count_of, state_with}
@@ -76,6 +77,13 @@ leaves_alone state call book other typed e = by (moves state call) refl
     by true f =
         ap (λ (s : State). row_at s book other) (after_moved state call f) ∙ moved_leaves state call book other typed e
     by false f = ap (λ (s : State). row_at s book other) (after_unmoved state call f)
+
+-- and what is found of a key of which it speaks no row
+pub leaves_found : (files : List (List Row)) (state : State) (call : Call) (who : ℕ) (key : RowKey)
+    (okuri : Option (List ℕ)) → is_call call ≡ true → ((book : ℕ) → speaks_of call book key ≡ false)
+    → found files (after state call) who key okuri ≡ found files state who key okuri
+leaves_found files state call who key okuri typed silent =
+    rw (leaves_alone state call who key typed (silent who), leaves_alone state call 0 key typed (silent 0)) refl
 
 -- a call that is made leaves the count of a book of which it speaks no row
 moved_counts : (state : State) (call : Call) (book : ℕ) → ((key : RowKey) → speaks_of call book key ≡ false)

@@ -34,6 +34,13 @@ pub fn changes_leave_other_rows()
         row_at (after state call) book key ≡ row_at state book key }
 {}
 
+/// What is found of a key stays as it was after a call that speaks of no row of it.
+pub fn changes_leave_what_is_found_of_other_keys()
+    ensures { (files : List (List Row)) (state : State) (call : Call) (who : ℕ) (key : RowKey) (okuri : Option (List ℕ))
+        → is_call call ≡ true → ((book : ℕ) → speaks_of call book key ≡ false) →
+        found files (after state call) who key okuri ≡ found files state who key okuri }
+{}
+
 /// What was learnt is restored when it is taken back in any state in which the row still has the stamp of the learning,
 /// as it has at once. The row, its blocks and its stamp are then as before the learning, and the book's count stays.
 pub fn unlearning_gives_the_row_back()
