@@ -76,8 +76,9 @@ impl Index {
 
     /// What a look-up or a completion is answered over these system files, of which these rows were found for it. A
     /// look-up takes a logarithm in the rows of a book, and time in the candidates that it gives; a completion takes
-    /// this logarithm and one in the rows of a file, time in the rows of a book with a reading that begins with the
-    /// prefix, with one logarithm in their number, and a step of a walk for each reading that it goes over in a file.
+    /// this logarithm and one in the rows of a file, at most time in the rows of a book with a reading that begins with
+    /// the prefix, with one logarithm in their number, less where its newest rows have as many as are given, and a step
+    /// of a walk for each reading that it goes over in a file.
     pub fn answer_over(
         &self,
         alloc: Global,
@@ -137,7 +138,8 @@ impl Index {
     }
 
     /// Does what was planned, on the state that it was planned on. Takes no memory, a logarithm in the rows of the
-    /// book, and where a row is new or goes, the time to move a pointer for each row behind it.
+    /// book, where a row is new or goes, the time to move a pointer for each row behind it, and where it had or gets an
+    /// older stamp, to move 16 bytes for each newer row.
     pub fn apply(&mut self, plan: Plan) -> Reply
         requires made { IsMade self.old.state plan }
         requires room { HasRoom self.old plan }

@@ -5,7 +5,8 @@
 //! and the system files; what the files have for a look-up, which no change of a book changes, may be found before, by
 //! `file_rows`. A change is planned first, which takes all memory that the change needs and changes nothing, and then
 //! applied, which takes none and can't fail: a layer above writes the change to a disk in between; where there is no
-//! disk `serve` does both. `put`, `drop_row` and `set_count` rebuild a state from what was written.
+//! disk `serve` does both. `put`, `drop_row` and `set_count` rebuild a state from what was written; `order_by_stamp`
+//! then puts the rows of each book in order by their stamps, in which changes keep them and completions go over them.
 #![tactic(auto)]
 
 mod aged_row;

@@ -3,7 +3,7 @@
 use Rattle.std.proofs.Common.{◌≡◌, ℕ, Option, None, Some, List, [], ◌∷◌, ◌++◌, map, All, Contains, ap, sym, subst, refl}
 use Rattle.std.proofs.Common.{arith, inl, inr, lit≤, lit<}
 use Rattle.std.proofs.lemmas.List.Elements.{All-nil, All-cons, Contains-append_cases, Contains-push_cases}
-use Rattle.exact_readers.specs.Numbers.{number_bytes}
+use Rattle.exact_readers.specs.Numbers.{number_bytes, number_of, number_step}
 use Rattle.skk_calls.specs.declared.answer.Answer.{Answer}
 use Rattle.skk_calls.specs.declared.answer.Answer.TheVariants.{Done, Refused}
 use Rattle.skk_calls.specs.declared.answer.Refusal.TheVariants.{Memory, Disk, JournalFull}
@@ -22,6 +22,8 @@ use Rattle.skk_journal.specs.Records.{IsSized, front, framed}
 use Rattle.learned_store.specs.declared.form.Form.TheVariants.{Put}
 use Rattle.learned_store.specs.Payloads.{Says}
 use Rattle.learned_store.specs.Recovered.{Leave}
+use Rattle.learned_store.specs.Stands.{KeepsAmong, RecoverAmong}
+use Rattle.learned_store.specs.Stores.{RecoversOneOf}
 use Rattle.learned_store.specs.Stores.{Keeps, KeepsOneOf, Adds, IsCompaction, with_doubt, states_within, DoubtAfter}
 use Rattle.learned_store.proofs.SmallFiles.{row_a, row_c, first, second, state, pair, file, has, learn}
 use Rattle.learned_store.proofs.SmallFiles.{first_leaves, two_leave, sized_one, sized_two}
@@ -153,6 +155,29 @@ keeps_one = (
   (None, (1, lit< tt, refl), keeps.0),
   (Some (state 2 (row_a ∷ row_c ∷ [])), (0, lit< tt, refl), keeps.1),
   λ is. omega (arith, is.1.1),
+)
+
+-- what is in doubt is one of these states, or nothing is
+among : KeepsAmong time left_since staged (state 1 (row_a ∷ [])) (empty_state ∷ state 2 (row_a ∷ row_c ∷ []) ∷ [])
+    × KeepsAmong time left_since calm (state 1 (row_a ∷ [])) []
+among = ((Some (state 2 (row_a ∷ row_c ∷ [])), (1, lit< tt, refl), keeps.1), (None, tt, keeps.0))
+
+none_among : (kept : State) → ¬ KeepsAmong time left_since staged kept []
+none_among kept (None, here, keeps) = cc keeps.2.calm
+none_among kept (Some other, here, keeps) = omega (arith, here.1)
+
+-- images that are opened as a state, or as one in doubt beside it
+recover_among : RecoverAmong empty_state [] (left_since (pair [] []) 0)
+    × RecoverAmong empty_state (state 1 (row_a ∷ []) ∷ []) (left_since calm.disk 0)
+unfolding number_bytes number_of number_step
+recover_among = (
+  (None, tt, alone (RecoversOneOf (empty_state ∷ [])) (pair [] []) (empty_state, (0, lit< tt, refl), ([], refl, refl))),
+  (
+    Some (state 1 (row_a ∷ [])),
+    (0, lit< tt, refl),
+    alone (RecoversOneOf (empty_state ∷ state 1 (row_a ∷ []) ∷ [])) calm.disk
+        (state 1 (row_a ∷ []), (1, lit< tt, refl), (first ∷ [], has 1 (first ∷ []) (lit≤ tt) sized_one, first_leaves)),
+  ),
 )
 
 -- the bytes of records that leave a state, and those that leave another

@@ -9,7 +9,9 @@ mod DoubtedStates
 mod Examples
 mod Gathering
 mod Kept
+mod KeptAnswers
 mod KeptExamples
+mod KeptReadings
 mod Limits
 mod Moments
 mod Needs

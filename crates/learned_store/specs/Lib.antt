@@ -1,6 +1,7 @@
 pub mod Compacted
 pub mod Compacting
 pub mod Gathering
+pub mod KeptLookUps
 pub mod Limits
 pub mod Payloads
 pub mod Reading

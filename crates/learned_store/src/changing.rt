@@ -1,4 +1,4 @@
-ghost use Rattle.std.specs.Prelude.{◌≡◌, ◌+◌, ◌≤◌, true, false, List, IsOk, IsErrOf, MatchResult};
+ghost use Rattle.std.specs.Prelude.{◌≡◌, ◌⊎◌, ◌+◌, ◌≤◌, true, false, List, IsOk, IsErrOf, MatchResult};
 ghost use Rattle.skk_calls.specs.declared.answer.Answer.TheVariants.{Done, Refused};
 ghost use Rattle.skk_calls.specs.declared.answer.Refusal.TheVariants as refusals;
 ghost use Rattle.skk_calls.specs.declared.call.Call.{Call as call_value};
@@ -38,6 +38,7 @@ pub(crate) fn change<D: Disk>(
         (record { journal = journal.old; state = index.old.state; files = files; limit = limit })
         (record { journal = journal.new; state = index.new.state; files = files; limit = limit }) call.now result }
     ensures tight { tight index.new.state ≤ journal.new.end }
+    ensures typed { (index.new.state ≡ index.old.state) ⊎ (is_call call.now ≡ true) }
 {
     let Ok(plan) = index.plan(alloc, call) else {
         return Answer::Refused(Refusal::Memory);

@@ -10,9 +10,10 @@
 //!
 //! A `Store` answers calls as the dictionary of one thread. It takes the memory of a change and of its record first,
 //! then closes a record in doubt, adds the record, and only then changes the index, so that a stop at any moment
-//! leaves the state before the call, the one after it, or one that was in doubt. `Noting` keeps the history of a
-//! store: what a stop at a moment might have left is opened as a state that a part of the history may leave, which
-//! has each entry that was made by then. `Alone` is the one caller of a store, with no lock.
+//! leaves the state before the call, the one after it, or one that was in doubt. It keeps what look-ups of the readings
+//! that were used last found, up to the next change of theirs. `Noting` keeps the history of a store: what a stop at a
+//! moment might have left is opened as a state that a part of the history may leave, which has each entry that was made
+//! by then. `Alone` is the one caller of a store, with no lock.
 //!
 //! Laws say that a file is opened in one way at most, that the record of a change may be written and leaves the state
 //! that the change leaves, that it needs what the change needs, that the records of a compaction leave their state and
@@ -26,6 +27,8 @@ mod committing;
 mod compacting;
 mod form;
 mod gathered;
+mod kept_answer;
+mod kept_answers;
 mod laws;
 mod learned_name;
 mod noting;

@@ -12,6 +12,7 @@ ghost use Rattle.learned_store.specs.Recovered.{IsOpenedWith, IsRefused};
 ghost use Rattle.learned_store.specs.Recovering.{refusal_of};
 ghost use Rattle.learned_store.specs.Stores.{Keeps, Recovers};
 
+use crate::kept_answers::KeptAnswers;
 use crate::recovery::{RecoverFault, recover};
 use crate::store::Store;
 use dict_layers::System;
@@ -62,6 +63,12 @@ impl<D: Disk> Store<D> {
             (λ store. D.faults disk ≤ D.faults store.journal.disk)
             (λ unopened. D.faults disk ≤ D.faults unopened.disk) }
     {
+        let Ok(kept) = KeptAnswers::new(alloc) else {
+            return Err(Unopened {
+                disk,
+                why: OpenFault::Memory,
+            });
+        };
         match Journal::open(alloc, disk) {
             Ok((journal, records)) => match recover(alloc, records) {
                 Ok(index) => Ok(Store {
@@ -69,6 +76,7 @@ impl<D: Disk> Store<D> {
                     index,
                     system,
                     limit,
+                    kept,
                 }),
                 Err(fault) => {
                     let file = journal.file();

@@ -1,9 +1,10 @@
-ghost use Rattle.std.specs.Prelude.{◌≡◌, ◌⊎◌, ◌≤◌, ◌+◌, if◌then◌else◌, min, true, false, Option, IfOk};
+ghost use Rattle.std.specs.Prelude.{◌≡◌, ◌⊎◌, ◌≤◌, ◌+◌, ℕ, if◌then◌else◌, min, true, false, Option, IfOk};
 ghost use Rattle.skk_text.specs.Counts.{last_count};
 ghost use Rattle.skk_outside.specs.Faults.{Rose};
 ghost use Rattle.skk_disk.specs.Moments.{Passes};
-ghost use Rattle.skk_calls.specs.Dictionary.{is_fit, may_answer, moves};
+ghost use Rattle.skk_calls.specs.Dictionary.{answer, is_fit, may_answer, may_reply, moves, speaks_of};
 ghost use Rattle.skk_calls.specs.Histories.{after_answer, need, tells_change, tight, IsLegalAnswer, LacksRoom};
+ghost use Rattle.skk_calls.specs.Rows.{RowKey as key_value, same_key};
 ghost use Rattle.skk_calls.specs.States.{State, rows_of};
 ghost use Rattle.skk_calls.specs.Tallies.{count_rows};
 ghost use Rattle.dict_format.specs.PrintedFiles.{printed_file};
@@ -11,14 +12,17 @@ ghost use Rattle.learn_index.specs.FileRows.{AreFileRows};
 ghost use Rattle.learn_index.specs.Plans.{is_question};
 ghost use Rattle.skk_journal.specs.Journal.{is_in_doubt};
 ghost use Rattle.skk_journal.specs.Images.{Each};
+ghost use Rattle.learned_store.specs.KeptLookUps.{is_look_up};
 ghost use Rattle.learned_store.specs.Served.{Serves, end_added};
 ghost use Rattle.learned_store.specs.Stores.{opening_now, Keeps, RecoversOneOf, states_within, DoubtAfter};
 
 use crate::changing::change;
+use crate::kept_answers::KeptAnswers;
 use dict_format::print_file;
+use dict_laws::changes_leave_what_is_found_of_other_keys;
 use dict_layers::System;
 use learn_index::{FileRows, Index, file_rows};
-use skk_calls::{Answer, Call, Refusal};
+use skk_calls::{Answer, Call, Refusal, Reply, RowKey};
 use skk_disk::Disk;
 use skk_journal::Journal;
 use skk_text::{Memory, Text};
@@ -32,19 +36,21 @@ pub struct Store<D> {
     pub(crate) index: Index,
     pub(crate) system: System,
     pub(crate) limit: u64,
+    pub(crate) kept: KeptAnswers,
 }
 
 impl<D> Model for Store<D> {
     ghost use Rattle.std.specs.Prelude.{◌≤◌};
     ghost use Rattle.skk_calls.specs.Histories.{tight};
+    ghost use Rattle.learned_store.specs.KeptLookUps.{AreAnswers};
     ghost use Rattle.learned_store.specs.Stores.{OpenStore};
 
     ghost Value = { OpenStore D };
 
     ghost view = { λ s. record { journal = s.journal; state = s.index.state; files = s.system; limit = s.limit } };
 
-    // The live file holds at least what the state needs.
-    ghost invariant = { λ s. tight s.index.state ≤ s.journal.end };
+    // The live file holds at least what the state needs, and what is kept of look-ups is what they find.
+    ghost invariant = { λ s. (tight s.index.state ≤ s.journal.end) × AreAnswers s.system s.index.state s.kept };
 }
 
 impl<D> Store<D> {
@@ -69,6 +75,13 @@ impl<D> Store<D> {
     {
         let book = self.index.book(alloc, number)?;
         print_file(alloc, &book)
+    }
+
+    /// Whether a call is a look-up whose answer is kept, so that `serve` need not find it again. Takes no memory.
+    pub fn kept(&self, call: &Call) -> bool
+        ensures { is_look_up call.now ≡ false → result ≡ false }
+    {
+        self.kept.has(call)
     }
 
     /// Gives the disk back as it is. Takes no memory.
@@ -135,30 +148,52 @@ impl<D: Disk> Store<D> {
     {
         match call {
             Call::Lookup { .. } | Call::Complete { .. } => self.answer(alloc, found, call),
-            Call::Learn { .. } | Call::Purge { .. } | Call::Unlearn { .. } => {
-                self.change(alloc, call)
-            }
+            Call::Learn { key, .. } => self.change(alloc, key, call),
+            Call::Purge { key, .. } => self.change(alloc, key, call),
+            Call::Unlearn { learned } => self.change(alloc, learned.key(), call),
         }
     }
 
-    // Answers a change.
-    fn change(&mut self, alloc: Global, call: &Call) -> Answer
+    // Answers a change, which speaks of the row of a key: what is kept of its reading goes first.
+    fn change(&mut self, alloc: Global, key: &RowKey, call: &Call) -> Answer
         requires change { is_question call.now ≡ false }
         requires fit { is_fit call.now ≡ true }
+        requires key { (book : ℕ) (other : key_value) → speaks_of call.now book other ≡ true
+            → same_key key.now other ≡ true }
         ensures { Serves D.time D.faults D.left_since self.old self.new call.now result }
     {
+        changes_leave_what_is_found_of_other_keys();
+        self.kept.forget(key);
         change(alloc, &mut self.journal, &mut self.index, self.limit, call)
     }
 
     // Answers a look-up or a completion.
-    fn answer(&self, alloc: Global, found: FileRows, call: &Call) -> Answer
+    fn answer(&mut self, alloc: Global, found: FileRows, call: &Call) -> Answer
         requires question { is_question call.now ≡ true }
-        requires found { AreFileRows self.now.files call.now found }
-        ensures { Serves D.time D.faults D.left_since self.now self.now call.now result }
+        requires found { AreFileRows self.old.files call.now found }
+        ensures { Serves D.time D.faults D.left_since self.old self.new call.now result }
     {
-        match self.index.answer_over(alloc, &self.system, found, call) {
+        match self.reply(alloc, found, call) {
             Ok(reply) => Answer::Done(reply),
             Err(Memory) => Answer::Refused(Refusal::Memory),
         }
+    }
+
+    // The reply to a look-up or a completion: what is kept of it, or else what is found, which is kept then.
+    fn reply(&mut self, alloc: Global, found: FileRows, call: &Call) -> Result<Reply, Memory>
+        requires question { is_question call.now ≡ true }
+        requires found { AreFileRows self.old.files call.now found }
+        ensures value { IfOk result (λ reply. reply ≡ answer self.old.files self.old.state call.now) }
+        ensures may { IfOk result (λ reply. may_reply call.now reply ≡ true) }
+        ensures same { self.new ≡ self.old }
+    {
+        if let Some(cands) = self.kept.answer(alloc, call)? {
+            return Ok(Reply::Found(cands));
+        }
+        let reply = self.index.answer_over(alloc, &self.system, found, call)?;
+        if let Reply::Found(cands) = &reply {
+            self.kept.keep(alloc, call, cands);
+        }
+        Ok(reply)
     }
 }

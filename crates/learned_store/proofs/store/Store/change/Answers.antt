@@ -1,7 +1,21 @@
 use Rattle.std.proofs.Common.{subst}
 use Rattle.learned_store.specs.Served.{Serves}
 use Rattle.learned_store.specs.Stores.{OpenStore}
+use Rattle.learned_store.proofs.KeptAnswers.{kept_elsewhere}
 use Rattle.learned_store.proofs.store.Store.change.Goals as goal
+
+pub invariant_of-self : goal.invariant_of-self
+invariant_of-self g c =
+    let files = c.self.inside.system in
+    let state = c.self.inside.index.state in
+    let call = c.args.call.now in (
+      c.change.ensures.tight,
+      kept_elsewhere files state c.change.new.index.state c.self.inside.kept c.forget.new.self c.args.key.now call
+          c.requires.key
+          (λ who other okuri. c.changes_leave_what_is_found_of_other_keys.ensures files state call who other okuri)
+          c.change.result (c.change.ensures.serves files).state c.change.ensures.typed c.self.invariant.1
+          c.forget.ensures,
+    )
 
 pub returns : goal.returns
 returns g c =

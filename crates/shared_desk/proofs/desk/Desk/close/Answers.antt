@@ -4,7 +4,7 @@ use Rattle.skk_calls.specs.Chronicles.{history_of}
 use Rattle.skk_calls.specs.Histories.{state_after}
 use Rattle.skk_calls.specs.States.{State}
 use Rattle.desk_history.specs.Seats.{PenState}
-use Rattle.learned_store.specs.Stands.{Stands, RecoverAmong, left_behind}
+use Rattle.learned_store.specs.Stands.{Stands, StandsOver, RecoverAmong, left_behind}
 use Rattle.shared_desk.specs.Told.{Stood}
 use Rattle.shared_desk.proofs.desk.Desk.close.Goals as goal
 
@@ -37,3 +37,13 @@ returns-clause-now g c =
     (sym c.close.ensures.disk)
     (subst (λ (n : List Noted). RecoverAmong (state_after opened (history_of n)) (left_behind opened n)
     (g.D.Disk.left_since disk (g.D.Disk.time disk))) (sym c.close.ensures.chronicle) at_state)
+
+pub returns-clause-since : goal.returns-clause-since
+returns-clause-since g c start past =
+    let D = g.D.Disk in
+    let opened = g.N.OpeningName.opening.state in
+    let disk = c.noting.inside.noting.store.journal.disk in
+    subst (λ (d : g.row.D.Denot). StandsOver opened c.close.result.chronicle start (D.time d) (D.left_since d))
+    (sym c.close.ensures.disk)
+    (subst (λ (n : List Noted). StandsOver opened n start (D.time disk) (D.left_since disk))
+    (sym c.close.ensures.chronicle) (c.close.ensures.since start past))
