@@ -9,9 +9,13 @@ mod disks;
 #[cfg(test)]
 mod files;
 #[cfg(test)]
+mod going_over;
+#[cfg(test)]
 mod images;
 #[cfg(test)]
 mod journals;
+#[cfg(test)]
+mod look_ups;
 #[cfg(test)]
 mod pairs;
 #[cfg(test)]

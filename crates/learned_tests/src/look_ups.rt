@@ -1,0 +1,140 @@
+ghost use Rattle.std.specs.Prelude.{◌≡◌, true};
+ghost use Rattle.skk_calls.specs.Dictionary.{is_fit};
+ghost use Rattle.skk_calls.specs.Rows.{is_word};
+
+use crate::journals::text;
+use dict_format::read_file;
+use dict_layers::System;
+use expectations::same_at;
+use learned_store::Store;
+use skk_calls::{Answer, Books, Call, Cand, Cands, Part, Reply, RowKey};
+use skk_disk::{Disk, MemDisk};
+use skk_text::{Copies, Text};
+use std::alloc::Global;
+use std::process::Abort;
+
+const DICTIONARY: &str = ";; okuri-ari entries.\n;; okuri-nasi entries.\nかんじ /漢字/幹事;宴会の/感じ/\n";
+
+// What is asked of a store, all for かんじ.
+#[derive(Clone, Copy, Debug)]
+enum Step<'a> {
+    // Finds the words for a typist.
+    Find(u16),
+    // Purges a word in a book.
+    Purge(u16, &'a str),
+    // Learns a word in a book.
+    Learn(u16, &'a str),
+}
+
+// A step, what the answer tells, and whether what typist 1 finds is kept then.
+static STEPS: &[(Step<'static>, &str, bool)] = &[
+    (Step::Find(2), "漢字 幹事;宴会の 感じ ", false),
+    (Step::Find(1), "漢字 幹事;宴会の 感じ ", true),
+    (Step::Purge(1, "漢字"), "Purged", false),
+    (Step::Find(1), "幹事;宴会の 感じ ", true),
+    (Step::Find(1), "幹事;宴会の 感じ ", true),
+    // The shared book is another one than the typist's.
+    (Step::Learn(0, "監事"), "Learned", false),
+    (Step::Find(1), "監事 幹事;宴会の 感じ ", true),
+];
+
+#[test]
+fn what_a_look_up_found_is_kept_until_a_row_of_its_reading_changes(rt: HostRuntime) {
+    expect_steps(&rt, rt.alloc())
+}
+
+fn expect_steps<R: Abort>(rt: &R, alloc: Global) {
+    let mut store = opened(rt, alloc);
+    let look_up = call_of(rt, alloc, Step::Find(1));
+    same_at(store.kept(&look_up), false, "at first").expect(rt, "as wanted");
+    for (step, told, kept) in STEPS {
+        let answer = answer(alloc, &mut store, call_of(rt, alloc, *step));
+        let found = told_of(rt, alloc, &answer);
+        same_at(found.as_str(), *told, *step).expect(rt, "as wanted");
+        same_at(store.kept(&look_up), *kept, *step).expect(rt, "as wanted");
+    }
+}
+
+// Opens the learned files of a new disk over the dictionary.
+fn opened<R: Abort>(rt: &R, alloc: Global) -> Store<MemDisk> {
+    let mut books = Books::new(alloc);
+    let listed = read_file(alloc, DICTIONARY.as_bytes()).expect(rt, "a file");
+    books.push(listed.book).expect(rt, "memory");
+    let system = System::of_books(alloc, books).expect(rt, "memory");
+    let disk = MemDisk::new(alloc, Vec::new(alloc));
+    match Store::open(alloc, disk, system, 1_000_000) {
+        Ok(store) => store,
+        Err(unopened) => panic!(rt; "{}", unopened.why),
+    }
+}
+
+// The answer to a call. Calls are let go here alone.
+fn answer<D: Disk>(alloc: Global, store: &mut Store<D>, call: Call) -> Answer
+    requires { is_fit call ≡ true }
+{
+    store.serve(alloc, &call)
+}
+
+// The call of a step.
+fn call_of<R: Abort>(rt: &R, alloc: Global, step: Step) -> Call
+    ensures { is_fit result ≡ true }
+{
+    let key = RowKey::new(Part::Nasi, text(rt, alloc, "かんじ")).expect(rt, "a key");
+    match step {
+        Step::Find(who) => Call::Lookup {
+            who,
+            key,
+            okuri: None,
+        },
+        Step::Purge(book, word) => Call::Purge {
+            book,
+            key,
+            word: word_of(rt, alloc, word),
+        },
+        Step::Learn(book, word) => Call::Learn {
+            book,
+            key,
+            okuri: None,
+            cand: cand(rt, alloc, word),
+        },
+    }
+}
+
+fn cand<R: Abort>(rt: &R, alloc: Global, word: &str) -> Cand {
+    Cand::new(text(rt, alloc, word), Text::new(alloc)).expect(rt, "a candidate")
+}
+
+fn word_of<R: Abort>(rt: &R, alloc: Global, word: &str) -> Text
+    ensures { is_word result ≡ true }
+{
+    let cand = cand(rt, alloc, word);
+    cand.word().copy(alloc).expect(rt, "memory")
+}
+
+// What an answer tells: what was found, each candidate with a space behind it, or what was done.
+fn told_of<R: Abort>(rt: &R, alloc: Global, answer: &Answer) -> String {
+    match answer {
+        Answer::Done(Reply::Found(found)) => cands_of(rt, alloc, found.cands()),
+        Answer::Done(Reply::Learned(_)) => String::from_str(alloc, "Learned").expect(rt, "memory"),
+        Answer::Done(Reply::Purged) => String::from_str(alloc, "Purged").expect(rt, "memory"),
+        answer => format!(in alloc; "{answer:?}").expect(rt, "memory"),
+    }
+}
+
+fn cands_of<R: Abort>(rt: &R, alloc: Global, cands: &Cands) -> String {
+    let mut told = String::new(alloc);
+    for cand in cands.as_slice() {
+        add_cand(rt, &mut told, cand);
+    }
+    told
+}
+
+// Adds a candidate, with its note where it has one.
+fn add_cand<R: Abort>(rt: &R, told: &mut String, cand: &Cand) {
+    told.push_str(cand.word().as_str()).expect(rt, "memory");
+    if !cand.note().is_empty() {
+        told.push(';').expect(rt, "memory");
+        told.push_str(cand.note().as_str()).expect(rt, "memory");
+    }
+    told.push(' ').expect(rt, "memory");
+}
