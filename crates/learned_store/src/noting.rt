@@ -1,4 +1,4 @@
-ghost use Rattle.std.specs.Prelude.{◌≡◌, ◌⊎◌, ◌≤◌, ◌+◌, ◌∷◌, [], ◌++◌, ℕ, None, true, IfOk, IfErr};
+ghost use Rattle.std.specs.Prelude.{◌≡◌, ◌⊎◌, ◌≤◌, ◌+◌, ◌∷◌, [], ◌++◌, ℕ, None, true, IfOk, IfErr, IfSome};
 ghost use Rattle.skk_disk.specs.Image.{Image};
 ghost use Rattle.skk_disk.specs.Moments.{Passes, SameImages};
 ghost use Rattle.skk_calls.specs.declared.answer.Refusal.TheVariants as refusals;
@@ -16,7 +16,7 @@ use crate::closed::Closed;
 use crate::learned_name::LearnedName;
 use crate::store::Store;
 use dict_laws::counting_comes_to_the_tally;
-use learn_index::{FileRows, file_rows};
+use learn_index::FileRows;
 use skk_calls::{Answer, Call, Chronicle, Noted, Tally};
 use skk_disk::Disk;
 use skk_trace::{Shows, Trace};
@@ -89,14 +89,19 @@ impl<D: Disk, N: LearnedName> Noting<D, N> {
             (D.left_since self.old.store.journal.disk) (D.left_since self.new.store.journal.disk) }
         ensures counted { D.faults self.old.store.journal.disk ≤ D.faults self.new.store.journal.disk }
     {
-        let found = file_rows(alloc, self.store.system(), call);
-        self.serve_over(alloc, number, found, call)
+        self.serve_over(alloc, number, None, call)
     }
 
-    /// Answers a call of a caller as `serve` does, where the files' rows for it were found before.
-    pub fn serve_over(&mut self, alloc: Global, number: u32, found: FileRows, call: &Call) -> Answer
+    /// Answers a call of a caller as `serve` does, also where the files' rows for it were found before.
+    pub fn serve_over(
+        &mut self,
+        alloc: Global,
+        number: u32,
+        found: Option<FileRows>,
+        call: &Call,
+    ) -> Answer
         requires fit { is_fit call.now ≡ true }
-        requires found { AreFileRows N.opening.files call.now found }
+        requires found { IfSome found (AreFileRows N.opening.files call.now) }
         ensures { NotesCall D.time D.faults D.left_since self.old self.new number call.now result }
     {
         counting_comes_to_the_tally();

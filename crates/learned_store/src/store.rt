@@ -1,4 +1,4 @@
-ghost use Rattle.std.specs.Prelude.{◌≡◌, ◌⊎◌, ◌≤◌, ◌+◌, ℕ, if◌then◌else◌, min, true, false, Option, IfOk};
+ghost use Rattle.std.specs.Prelude.{◌≡◌, ◌⊎◌, ◌≤◌, ◌+◌, ℕ, if◌then◌else◌, min, true, false, Option, IfOk, IfSome};
 ghost use Rattle.skk_text.specs.Counts.{last_count};
 ghost use Rattle.skk_outside.specs.Faults.{Rose};
 ghost use Rattle.skk_disk.specs.Moments.{Passes};
@@ -136,14 +136,13 @@ impl<D: Disk> Store<D> {
             (D.left_since self.old.journal.disk) (D.left_since self.new.journal.disk) }
         ensures counted { D.faults self.old.journal.disk ≤ D.faults self.new.journal.disk }
     {
-        let found = file_rows(alloc, &self.system, call);
-        self.serve_over(alloc, found, call)
+        self.serve_over(alloc, None, call)
     }
 
-    /// Answers a call as `serve` does, where the files' rows for it were found before.
-    pub fn serve_over(&mut self, alloc: Global, found: FileRows, call: &Call) -> Answer
+    /// Answers a call as `serve` does, also where the files' rows for it were found before.
+    pub fn serve_over(&mut self, alloc: Global, found: Option<FileRows>, call: &Call) -> Answer
         requires fit { is_fit call.now ≡ true }
-        requires found { AreFileRows self.old.files call.now found }
+        requires found { IfSome found (AreFileRows self.old.files call.now) }
         ensures { Serves D.time D.faults D.left_since self.old self.new call.now result }
     {
         match call {
@@ -168,9 +167,9 @@ impl<D: Disk> Store<D> {
     }
 
     // Answers a look-up or a completion.
-    fn answer(&mut self, alloc: Global, found: FileRows, call: &Call) -> Answer
+    fn answer(&mut self, alloc: Global, found: Option<FileRows>, call: &Call) -> Answer
         requires question { is_question call.now ≡ true }
-        requires found { AreFileRows self.old.files call.now found }
+        requires found { IfSome found (AreFileRows self.old.files call.now) }
         ensures { Serves D.time D.faults D.left_since self.old self.new call.now result }
     {
         match self.reply(alloc, found, call) {
@@ -180,9 +179,14 @@ impl<D: Disk> Store<D> {
     }
 
     // The reply to a look-up or a completion: what is kept of it, or else what is found, which is kept then.
-    fn reply(&mut self, alloc: Global, found: FileRows, call: &Call) -> Result<Reply, Memory>
+    fn reply(
+        &mut self,
+        alloc: Global,
+        found: Option<FileRows>,
+        call: &Call,
+    ) -> Result<Reply, Memory>
         requires question { is_question call.now ≡ true }
-        requires found { AreFileRows self.old.files call.now found }
+        requires found { IfSome found (AreFileRows self.old.files call.now) }
         ensures value { IfOk result (λ reply. reply ≡ answer self.old.files self.old.state call.now) }
         ensures may { IfOk result (λ reply. may_reply call.now reply ≡ true) }
         ensures same { self.new ≡ self.old }
@@ -190,6 +194,10 @@ impl<D: Disk> Store<D> {
         if let Some(cands) = self.kept.answer(alloc, call)? {
             return Ok(Reply::Found(cands));
         }
+        let found = match found {
+            Some(found) => found,
+            None => file_rows(alloc, &self.system, call),
+        };
         let reply = self.index.answer_over(alloc, &self.system, found, call)?;
         if let Reply::Found(cands) = &reply {
             self.kept.keep(alloc, call, cands);

@@ -1,4 +1,4 @@
-ghost use Rattle.std.specs.Prelude.{◌≡◌, true};
+ghost use Rattle.std.specs.Prelude.{◌≡◌, true, IfSome};
 ghost use Rattle.skk_calls.specs.Dictionary.{is_fit, may_answer};
 ghost use Rattle.learn_index.specs.FileRows.{AreFileRows};
 ghost use Rattle.shared_desk.specs.Told.{Extends};
@@ -37,17 +37,23 @@ impl<D: Disk, N: DeskName + LearnedName> Model for Locked<D, N> {
 }
 
 impl<D: Disk, N: DeskName + LearnedName> Locked<D, N> {
+    // Whether a call is a look-up whose rows in the files are to be found before it is answered, since no answer to it
+    // is kept. Takes no memory.
+    pub(crate) fn needs_rows(&self, call: &Call) -> bool {
+        matches!(call, Call::Lookup { .. }) && !self.noting.store().kept(call)
+    }
+
     // Answers a caller's call as the store does, and enters it. Takes no more memory than the store.
     pub(crate) fn call(
         &mut self,
         alloc: Global,
         history: &History,
         seat: &mut CallerSeat,
-        found: FileRows,
+        found: Option<FileRows>,
         call: &Call,
     ) -> Answer
         requires fit { is_fit call.now ≡ true }
-        requires found { AreFileRows N.opening.files call.now found }
+        requires found { IfSome found (AreFileRows N.opening.files call.now) }
         requires history { history.now ≡ N.table }
         requires seat { seat.old.table ≡ N.table }
         ensures table { seat.new.table ≡ N.table }

@@ -40,8 +40,8 @@ impl<D: Disk, N: DeskName + LearnedName, R: Wait + Copy> Caller for Pass<'_, D, 
         self.seat.number()
     }
 
-    /// Waits for the desk's lock, at first without sleeping, and holds it for this call alone; what the system files
-    /// have for it was found before that. Takes no more memory than the store.
+    /// Waits for the desk's lock, at first without sleeping, and holds it for this call alone. Where no answer to a
+    /// look-up is kept, the lock is let go while the system files are searched. Takes no more memory than the store.
     fn call(&mut self, alloc: Global, call: &Call) -> Answer
         requires { is_fit call.now ≡ true }
         ensures said { self.new.mine ≡ self.old.mine ++ (call.now, result) ∷ [] }
@@ -49,9 +49,14 @@ impl<D: Disk, N: DeskName + LearnedName, R: Wait + Copy> Caller for Pass<'_, D, 
         ensures may { may_answer call.now result ≡ true }
         ensures told { Extends N.opening self.old call.now result self.new }
     {
+        let mut locked = self.desk.lock();
+        if !locked.needs_rows(call) {
+            return locked.call(alloc, &self.desk.history, &mut self.seat, None, call);
+        }
+        drop(locked);
         let found = file_rows(alloc, &self.desk.system, call);
         let mut locked = self.desk.lock();
-        locked.call(alloc, &self.desk.history, &mut self.seat, found, call)
+        locked.call(alloc, &self.desk.history, &mut self.seat, Some(found), call)
     }
 }
 
