@@ -72,6 +72,10 @@ T^1 1~Ka|かな\t\t~;Closed 1
 T1 2~a~^a~|0~;Closed 1
 ~T1 1~|0~;Closed 1
 2T1 1~|skk-desk-1.0 0~;Closed 2
+// a reading and a typist's first line that are too long, and a reading that is no text
+1{256 a}|0~;Closed 1
+T{4096 a}|0~;Closed 1
+1%FF |4%FF ~;Closed 1
 // two turns with a reply, of three calls each, and the read of the end
 2^3|;LinkFault 0|1
 2^3|;LinkFault 1|2
