@@ -13,7 +13,7 @@ use std::sync::Wait;
 use std::sync::atomic::{AtomicBool, AtomicU32, Ordering};
 use std::thread::Threads;
 
-static WORDS: &str = ";; okuri-nasi entries.\n125 /東京都葛飾区/\nかんじ /漢字/幹事;宴会の/感じ/\n";
+pub static WORDS: &str = ";; okuri-nasi entries.\n125 /東京都葛飾区/\nかんじ /漢字/幹事;宴会の/感じ/\n";
 
 // A link: what each read of it gives, and the number of its call that is to fail.
 type Given = (&'static [&'static str], u64);
@@ -170,21 +170,69 @@ fn connections_are_served(rt: HostRuntime) {
     }
 }
 
-static HELD: Serving = (
-    DICT,
-    &[(&["1ぬ 1ぬ "], 0), (&["1ぬ 1ぬ "], 0)],
-    (0, 0),
-    0,
-    "ready\nserved 2\n",
-    "",
-);
+// A client that asks twice at once.
+const TWICE: Given = (&["1ぬ 1ぬ "], 0);
 
-// Two connections are served at the same time: each waits for the other between its replies.
+const REPLIES: &str = "4ぬ \n4ぬ \n";
+
+// Two of them; and between them one whose first read fails, its write, what hands that on, or its second read.
+const ALONE: &[Given] = &[TWICE, TWICE];
+
+const NOT_READ: &[Given] = &[TWICE, (&["1ぬ ", "1ぬ "], 1), TWICE];
+
+const NOT_WRITTEN: &[Given] = &[TWICE, (&["1ぬ ", "1ぬ "], 2), TWICE];
+
+const NOT_HANDED_ON: &[Given] = &[TWICE, (&["1ぬ ", "1ぬ "], 3), TWICE];
+
+const NOT_READ_AGAIN: &[Given] = &[TWICE, (&["1ぬ ", "1ぬ "], 4), TWICE];
+
+const THREE_SERVED: &str = "ready\nserved 3\n";
+
+// Two connections are served at the same time: each waits for the other between its replies. Neither these nor the
+// status know of a link that fails beside them, and where a third one can't be accepted both are served to their end.
+static HELD: [(Serving, &[&str]); 6] = [
+    (
+        (DICT, ALONE, (0, 0), 0, "ready\nserved 2\n", ""),
+        &[REPLIES, REPLIES],
+    ),
+    (
+        (DICT, NOT_READ, (0, 0), 0, THREE_SERVED, ""),
+        &[REPLIES, "", REPLIES],
+    ),
+    (
+        (DICT, NOT_WRITTEN, (0, 0), 0, THREE_SERVED, ""),
+        &[REPLIES, "", REPLIES],
+    ),
+    (
+        (DICT, NOT_HANDED_ON, (0, 0), 0, THREE_SERVED, ""),
+        &[REPLIES, "4ぬ \n", REPLIES],
+    ),
+    (
+        (DICT, NOT_READ_AGAIN, (0, 0), 0, THREE_SERVED, ""),
+        &[REPLIES, "4ぬ \n", REPLIES],
+    ),
+    (
+        (DICT, ALONE, (4, 0), 4, "ready\n", OUTSIDE),
+        &[REPLIES, REPLIES],
+    ),
+];
+
 #[test]
 fn two_held(rt: HostRuntime) {
+    for (serving, links) in &HELD {
+        expect_held(rt, rt.alloc(), serving, links);
+    }
+}
+
+fn expect_held<R: Threads + Wait + Abort + Copy + Send + Sync>(
+    rt: R,
+    alloc: Global,
+    serving: &Serving,
+    links: &[&str],
+) {
     let meeting = Meeting::new();
-    let net = expect_serving(rt, rt.alloc(), &HELD, disk(rt.alloc()), &meeting);
-    expect_links(&rt, net.over(), &["4ぬ \n4ぬ \n", "4ぬ \n4ぬ \n"]);
+    let net = expect_serving(rt, alloc, serving, disk(alloc), &meeting);
+    expect_links(&rt, net.over(), links);
     same(meeting.count(), 2).expect(&rt, "as wanted");
     assert!(rt; !meeting.is_missed());
 }

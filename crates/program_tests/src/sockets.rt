@@ -1,8 +1,16 @@
-use expectations::same;
-use skk_outside::{Failed, HostListener, Link, Listener, Sink, Source, write_all};
-use std::io::{Read, Write};
-use std::net::{Ipv4Addr, Net, SocketAddr, SocketAddrV4, TcpStream};
+use crate::making::{disk, shelf_of, sink, source_of, words_of};
+use crate::runs::expect_written;
+use crate::served::WORDS;
+use crate::statuses::status_in_threads;
+use expectations::{same, same_at};
+use skk_outside::{Failed, HostListener, Link, Listener, Open, Sink, Source, write_all};
+use std::alloc::Global;
+use std::io::{self, Read, Write};
+use std::net::{Ipv4Addr, Net, OpenStream, Shutdown, SocketAddr, SocketAddrV4, TcpStream};
 use std::process::Abort;
+use std::sync::Wait;
+use std::thread::{self, Threads};
+use std::time::{Clock, Duration};
 
 // Opens the first port of some that no other program listens on, and gives its number.
 fn open_any<N: Listener>(rt: &impl Abort, net: &mut N) -> u16 {
@@ -14,10 +22,15 @@ fn open_any<N: Listener>(rt: &impl Abort, net: &mut N) -> u16 {
     panic!(rt; "no port is free")
 }
 
+// Connects a peer to a port of loopback.
+fn connect<R: Net>(rt: &R, port: u16) -> io::Result<R::Stream> {
+    let address = SocketAddr::V4(SocketAddrV4::new(Ipv4Addr::LOCALHOST, port));
+    TcpStream::connect(rt, address)
+}
+
 // A peer that is connected to a port of loopback.
 fn peer_at<R: Net + Abort>(rt: &R, port: u16) -> R::Stream {
-    let address = SocketAddr::V4(SocketAddrV4::new(Ipv4Addr::LOCALHOST, port));
-    TcpStream::connect(rt, address).expect(rt, "a connection")
+    connect(rt, port).expect(rt, "a connection")
 }
 
 // The link of the next peer.
@@ -66,4 +79,90 @@ fn a_port_has_one_listener(rt: HostRuntime) {
     same(other.open(port), Err(Failed)).expect(&rt, "as wanted");
     drop(net);
     same(other.open(port), Ok(())).expect(&rt, "as wanted");
+}
+
+// How often a peer tries to connect to a port that may not be open yet, and for how many milliseconds it waits between.
+const TRIES: u32 = 10_000;
+
+const TRY_WAIT: u64 = 1;
+
+// A peer that is connected to a port of loopback once that is open.
+fn peer_soon<R: Net + Clock + Abort>(rt: &R, port: u16) -> R::Stream {
+    for _ in 0..TRIES {
+        if let Ok(peer) = connect(rt, port) {
+            return peer;
+        }
+        thread::sleep(rt, Duration::from_millis(TRY_WAIT));
+    }
+    panic!(rt; "port {port} is not open")
+}
+
+// What a peer asks, and what it is sent.
+type Asked = (&'static str, &'static str);
+
+// A typist who learns a word in the shared book, and behind it a client who finds it.
+static ASKED: [Asked; 2] = [
+    ("T1 0\nKanji   <cj>\n", "かな\t\t\nかな\t感じ\t\n"),
+    ("21かんじ 0", "skk-desk-1.0 1/感じ/漢字/幹事;宴会の/\n"),
+];
+
+fn ask_all<R: Net + Clock + Abort>(rt: &R, alloc: Global, port: u16) {
+    for asked in &ASKED {
+        expect_asked(rt, alloc, port, asked);
+    }
+}
+
+fn expect_asked<R: Net + Clock + Abort>(rt: &R, alloc: Global, port: u16, asked: &Asked) {
+    let (sent, wanted) = *asked;
+    let mut peer = peer_soon(rt, port);
+    peer.write_all(sent.as_bytes()).expect(rt, "memory");
+    peer.shutdown(Shutdown::Write).expect(rt, "memory");
+    let mut told = Vec::new(alloc);
+    peer.read_to_end(&mut told).expect(rt, "memory");
+    same_at(told.as_slice(), wanted.as_bytes(), sent).expect(rt, "as wanted");
+}
+
+// Serves so many connections at a port, and tells what is printed.
+fn expect_served<N: Listener<Link: Send + Drop>, R: Threads + Wait + Abort + Copy + Send + Sync>(
+    rt: R,
+    alloc: Global,
+    port: u16,
+    net: &mut N,
+) {
+    let options = format!(in alloc;
+        "serve --learned=learned --dict=words --connections=2 --port={port}"
+    ).expect(&rt, "memory");
+    let words = words_of(&rt, alloc, options.as_str());
+    let mut shelf = shelf_of(&rt, alloc, WORDS.as_bytes(), 0);
+    let mut input = source_of(&rt, alloc, &[], 1);
+    let mut out = sink(&rt, alloc, 0);
+    let mut err = sink(&rt, alloc, 0);
+    let status = status_in_threads(
+        rt,
+        alloc,
+        words.as_slice(),
+        &mut shelf,
+        disk(alloc),
+        &mut input,
+        &mut out,
+        &mut err,
+        net,
+        &Open,
+    );
+    expect_written(&rt, &err, "");
+    same(status, 0).expect(&rt, "as wanted");
+    expect_written(&rt, &out, "ready\nserved 2\n");
+}
+
+// The program serves at a port of loopback, and clients in a thread of the same process ask it there.
+#[test]
+fn both_ends(rt: HostRuntime) {
+    let alloc = rt.alloc();
+    let port = open_any(&rt, &mut HostListener::new(&rt));
+    let mut net = HostListener::new(&rt);
+    thread::join(
+        &rt,
+        || ask_all(&rt, alloc, port),
+        || expect_served(rt, alloc, port, &mut net),
+    );
 }
