@@ -1,5 +1,6 @@
 pub mod AloneCommands
 pub mod Begun
+mod Causes
 mod CheckExamples
 pub mod Dictionaries
 mod Examples
@@ -22,4 +23,3 @@ pub mod Weaves
 pub mod Words
 mod Disks
 mod Served
-mod Outside

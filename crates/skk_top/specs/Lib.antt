@@ -1,3 +1,4 @@
+pub mod Causes
 pub mod CheckCommand
 pub mod CheckedFiles
 pub mod Dictionaries

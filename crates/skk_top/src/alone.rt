@@ -1,10 +1,11 @@
-ghost use Rattle.std.specs.Prelude.{◌≡◌, ◌≤◌, ◌↔◌, ◌+◌, [], None, IsSome, IfSome, IsErrOf, false};
+ghost use Rattle.std.specs.Prelude.{◌≡◌, ◌≤◌, ◌↔◌, ◌+◌, [], None, IsSome, IfSome, IfErr, IsErrOf, false};
 ghost use Rattle.std.specs.Io.KnownBytes.{Keeps};
 ghost use Rattle.skk_outside.specs.Moved.{moved_shelf, moved_source, moved_sink};
 ghost use Rattle.skk_outside.specs.Taken.{TakesAtMost};
 ghost use Rattle.skk_outside.specs.declared.source.TheConstants.{PIECE};
 ghost use Rattle.command_line.specs.Command.{command_of, script_to_type, file_to_check, book_to_dump, load_to_play};
 ghost use Rattle.command_line.specs.Command.{do_open, do_print, waits};
+ghost use Rattle.skk_top.specs.Causes.{HasRunCause, files_named};
 ghost use Rattle.skk_top.specs.CheckCommand.{LeavesChecked};
 ghost use Rattle.skk_top.specs.Disks.{moved_disk, StandsSince};
 ghost use Rattle.skk_top.specs.DumpCommand.{LeavesDumped};
@@ -59,6 +60,15 @@ pub fn run_alone<H: Shelf, D: Disk, I: Source, O: Sink, E: Sink>(
         (moved_shelf H.file H.faults shelf.old shelf.new) (moved_source I.left I.faults input.old input.new)
         (moved_sink O.written O.faults out.old out.new)
         (moved_disk D.tells D.seen D.time D.faults D.left_since disk result.disk) }
+
+    // Any fault that the run ended with had its cause: where no cause is there, the run is done or out of memory.
+    ensures caused { IfErr result.ended (HasRunCause words.now
+        (files_named (moved_shelf H.file H.faults shelf.old shelf.new)
+        (moved_source I.left I.faults input.old input.new) words.now)
+        (moved_disk D.tells D.seen D.time D.faults D.left_since disk result.disk)
+        (HasFailed (moved_shelf H.file H.faults shelf.old shelf.new)
+        (moved_source I.left I.faults input.old input.new) (moved_sink O.written O.faults out.old out.new)
+        (moved_disk D.tells D.seen D.time D.faults D.left_since disk result.disk)) result.chronicle) }
 
     // No count of faults falls.
     ensures shelf_counted { H.faults shelf.old ≤ H.faults shelf.new }

@@ -1,4 +1,4 @@
-ghost use Rattle.std.specs.Prelude.{◌≡◌, ◌⊎◌, ◌≤◌, ◌+◌, None, IfSome, IsErrOf, true};
+ghost use Rattle.std.specs.Prelude.{◌≡◌, ◌⊎◌, ◌≤◌, ◌+◌, None, IfSome, IfErr, IsErrOf, true};
 ghost use Rattle.std.specs.Io.KnownBytes.{Keeps};
 ghost use Rattle.skk_outside.specs.Faults.{Rose};
 ghost use Rattle.skk_outside.specs.Moved.{moved_shelf, moved_source, moved_sink};
@@ -8,6 +8,7 @@ ghost use Rattle.key_scripts.specs.Script.{script_limit};
 ghost use Rattle.skk_server.specs.Services.{seen_listener};
 ghost use Rattle.skk_server.specs.Visits.{seen_link};
 ghost use Rattle.command_line.specs.Command.{script_to_weave, port_to_serve, load_to_share, waits};
+ghost use Rattle.skk_top.specs.Causes.{HasRunCause, files_named};
 ghost use Rattle.skk_top.specs.Disks.{moved_disk, StandsSince};
 ghost use Rattle.run_endings.specs.Finishes.{run_of};
 ghost use Rattle.skk_top.specs.Failures.{HasFailed};
@@ -81,6 +82,16 @@ pub fn run<
         (moved_sink O.written O.faults out.old out.new)
         (moved_disk D.tells D.seen D.time D.faults D.left_since disk result.disk)
         ⊎ Rose (N.faults net.old) (N.faults net.new) }
+
+    // Any fault that the run ended with had its cause: where no cause is there, the run is done or out of memory.
+    ensures caused { IfErr result.ended (HasRunCause words.now
+        (files_named (moved_shelf H.file H.faults shelf.old shelf.new)
+        (moved_source I.left I.faults input.old input.new) words.now)
+        (moved_disk D.tells D.seen D.time D.faults D.left_since disk result.disk)
+        (HasFailed (moved_shelf H.file H.faults shelf.old shelf.new)
+        (moved_source I.left I.faults input.old input.new) (moved_sink O.written O.faults out.old out.new)
+        (moved_disk D.tells D.seen D.time D.faults D.left_since disk result.disk)
+        ⊎ Rose (N.faults net.old) (N.faults net.new)) result.chronicle) }
 
     // No count of faults falls.
     ensures shelf_counted { H.faults shelf.old ≤ H.faults shelf.new }

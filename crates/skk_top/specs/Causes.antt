@@ -1,0 +1,88 @@
+-- Why runs end: each fault that a run may end with, and its cause.
+use Rattle.std.specs.Prelude.{◌≡◌, ⊤, ◌+◌, ◌<◌, ℕ, true, Option, None, Some, IsSome, List, [], ◌∷◌, ◌++◌}
+use Rattle.std.specs.Option.{option_map_or}
+use Rattle.skk_outside.specs.Moved.{Told, MovedShelf, MovedSource}
+use Rattle.romaji_rules.specs.declared.rule.Rule.{Rule}
+use Rattle.skk_calls.specs.declared.chronicle.Noted.{Noted}
+use Rattle.skk_calls.specs.declared.entry.Entry.{Entry}
+use Rattle.skk_calls.specs.Chronicles.{opening_of, history_of}
+use Rattle.skk_calls.specs.Dictionary.{moves}
+use Rattle.skk_calls.specs.Histories.{Opening, state_after, tight, need}
+use Rattle.skk_journal.specs.declared.fault.OpenFault.TheVariants as opens
+use Rattle.learned_store.specs.Recovered.{IsRefused}
+use Rattle.command_line.specs.Command.{command_of, limit_of}
+use Rattle.command_line.specs.declared.command.Command.{Command}
+use Rattle.command_line.specs.declared.command.Command.TheVariants as commands
+use Rattle.run_endings.specs.declared.fault.RunFault.{RunFault}
+use Rattle.run_endings.specs.declared.fault.RunFault.TheVariants as faults
+use Rattle.run_endings.specs.declared.run_file.RunFile.TheVariants.{Script, Rules, Dictionary}
+use Rattle.skk_top.specs.Dictionaries.{HasDictionaryFlaw, IsFirst}
+use Rattle.skk_top.specs.Disks.{MovedDisk}
+use Rattle.skk_top.specs.NamedFiles.{rules_named, dictionaries_named}
+use Rattle.skk_top.specs.RunRules.{AreRules, HasRulesFlaw, IsNamed}
+use Rattle.skk_top.specs.TypeCommand.{HasScriptFlaw}
+
+-- the files of a command: the script, the rules and the dictionaries, as far as they are told, and the most bytes of a
+-- learned file, where the command opens one
+pub record CommandFiles : Type 0 where
+  pub script : Option Told
+  pub rules : Option Told
+  pub dictionaries : List Told
+  pub learned : Option ℕ
+
+-- no files but the learned one, where there is one
+abbrev pub learned_alone : Option ℕ → CommandFiles
+learned_alone learned = record { script = None; rules = None; dictionaries = []; learned = learned }
+
+-- the files of a command: the input is the script of `type`, and the file of `check` is its first dictionary
+abbrev pub files_of : MovedShelf → MovedSource → Command → CommandFiles
+files_of shelf input (commands.TypeScript options) = record {
+  script = Some input.left;
+  rules = rules_named options.rules shelf;
+  dictionaries = dictionaries_named options.dictionaries.items shelf;
+  learned = Some (limit_of options.limit);
+}
+files_of shelf input (commands.Serve options) = record {
+  script = None;
+  rules = rules_named options.rules shelf;
+  dictionaries = dictionaries_named options.dictionaries.items shelf;
+  learned = Some (limit_of options.limit);
+}
+files_of shelf input (commands.Check name) =
+    record { script = None; rules = None; dictionaries = shelf.file name ∷ []; learned = None }
+files_of shelf input (commands.Dump options) = learned_alone (Some (limit_of None))
+files_of shelf input (commands.Load options) = learned_alone (Some (limit_of None))
+
+-- the files of what words are, which are none where they are no command
+abbrev pub files_named : MovedShelf → MovedSource → List (List ℕ) → CommandFiles
+files_named shelf input words = option_map_or (files_of shelf input) (command_of words) (learned_alone None)
+
+-- some call of a chronicle was to change something, and at its place the learned file, which may have so many bytes,
+-- had no room for that, also where it held nothing but the state
+pub record LackedRoom (most : Option ℕ) (chronicle : List Noted) : Type 0 where
+  pub opening : Opening
+  pub opened : opening_of chronicle ≡ Some opening
+  pub limit : most ≡ Some opening.limit
+  pub before : List Entry
+  pub entry : Entry
+  pub behind : List Entry
+  pub parts : history_of chronicle ≡ before ++ entry ∷ behind
+  pub change : moves (state_after opening.state before) entry.call ≡ true
+  pub lacks : opening.limit
+      < tight (state_after opening.state before) + need (state_after opening.state before) entry.call
+
+-- the cause of a fault that a run of these words ended with, over these files and this disk, by whether a call on the
+-- outside failed, and by its chronicle; what is not told may have any flaw, and for want of memory no cause is asked
+abbrev pub HasRunCause : List (List ℕ) → CommandFiles → MovedDisk → Type 0 → List Noted → RunFault → Type 0
+HasRunCause words files disk Failed chronicle faults.Words = command_of words ≡ None
+HasRunCause words files disk Failed chronicle (faults.Refused Script flaw) = IsNamed files.script (HasScriptFlaw flaw)
+HasRunCause words files disk Failed chronicle (faults.Refused Rules flaw) = IsNamed files.rules (HasRulesFlaw flaw)
+HasRunCause words files disk Failed chronicle (faults.Refused (Dictionary number) flaw) =
+    ((rules : List Rule) × AreRules files.rules rules) × IsFirst (HasDictionaryFlaw flaw) number files.dictionaries
+HasRunCause words files disk Failed chronicle (faults.NotJournal file first) =
+    IsSome files.learned × (disk.tells → IsRefused disk.seen (opens.NotJournal file first))
+HasRunCause words files disk Failed chronicle (faults.BadRecord file at) =
+    IsSome files.learned × (disk.tells → IsRefused disk.seen (opens.BadRecord file at []))
+HasRunCause words files disk Failed chronicle faults.Outside = Failed
+HasRunCause words files disk Failed chronicle faults.Memory = ⊤
+HasRunCause words files disk Failed chronicle faults.JournalFull = LackedRoom files.learned chronicle
