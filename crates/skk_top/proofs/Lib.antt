@@ -1,5 +1,6 @@
 pub mod AloneCommands
 pub mod Begun
+mod CauseExamples
 mod Causes
 mod CheckExamples
 pub mod Dictionaries
