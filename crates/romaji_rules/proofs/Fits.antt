@@ -4,6 +4,7 @@ use Rattle.std.proofs.Common.{◌∙◌, ap, subst, inl, inr, ◌⊎◌, Contain
 use Rattle.std.proofs.Common.{lit<}
 use Rattle.std.specs.List.{list_all}
 use Rattle.std.proofs.lemmas.List.Folds.{list_all-append}
+use Rattle.std.proofs.Math.Seq.{get_or-append_seam}
 use Rattle.std.proofs.lemmas.Bool.{and_parts}
 use Rattle.romaji_rules.specs.declared.out.Out.{Out}
 use Rattle.romaji_rules.specs.declared.rule.Rule.{Rule}
@@ -47,13 +48,16 @@ module _ (rules : List Rule) (fits : is_rule_set rules ≡ true) where
   begins-short : (text : List ℕ) → BeginsInput rules text → length text < 8
   begins-short text h = grind (arith, rule_fits h.0, prefix-short text h.0.input)
 
-  -- a text that begins an input is ASCII, and short enough to be pending
-  pub begins-fits : (text other : List ℕ) → begins_input rules text ≡ true → other ≡ text
-      → IsAscii other × (length other ≤ 8)
-  begins-fits text other e same =
-      let begin : BeginsInput rules other = (begins_input-Decides rules other).0 (ap (begins_input rules) same ∙ e) in
-      let short : length other < 8 = begins-short other begin in
-      (begins-IsAscii other begin, omega (arith, short))
+  -- a letter behind a text fits there where both begin an input
+  pub begins-fits_behind : (text : List ℕ) (letter : ℕ) → begins_input rules (text ++ letter ∷ []) ≡ true
+      → (length text < 8) × (letter < 128)
+  begins-fits_behind text letter e =
+      let begin : BeginsInput rules (text ++ letter ∷ []) = (begins_input-Decides rules (text ++ letter ∷ [])).0 e in
+      let short : length (text ++ letter ∷ []) < 8 = begins-short (text ++ letter ∷ []) begin in (
+        omega (arith, short, length-append text (letter ∷ [])),
+        subst (λ b. b < 128) (get_or-append_seam text letter [] 0)
+            (begins-IsAscii (text ++ letter ∷ []) begin (length text)),
+      )
 
   -- a rule's next text is empty or begins an input
   pub next-waits : (rule : Rule) → Contains rules rule → (rule.next ≡ []) ⊎ BeginsInput rules rule.next

@@ -385,29 +385,6 @@ rule_noted rules rule before made after node is new has same_children same_place
           get_or-set_other (places_of made) node,
         )
 
--- what the node of a text tells, and what it tells where there is none
-module _ (rules : List Rule) (trie : RuleTrie) (text : List ℕ) (is : IsRuleTrie rules trie) where
-  pub node_there : (node : ℕ) → Some node ≡ node_of (children_of trie) text → node < length trie.nodes.items
-  node_there node at = omega (arith, is.is_trie.within text node (sym at), length-map trie.nodes.items kids)
-
-  pub rule_told : (node : ℕ) (there : Node) → Some node ≡ node_of (children_of trie) text
-      → there ≡ get_or trie.nodes.items node there
-      → there.place ≡ position (λ (r : Rule). bytes_eq r.input text) rules
-  rule_told node there at read =
-      sym (get_or-map place trie.nodes.items node there None (node_there node at) ∙ ap place (sym read))
-      ∙ ap (place_at (places_of trie)) at ∙ is.places text
-
-  pub beginning_told : (node : ℕ) (there : Node) → Some node ≡ node_of (children_of trie) text
-      → there ≡ get_or trie.nodes.items node there → not (is_empty there.children.items) ≡ begins_input rules text
-  beginning_told node there at read =
-      ap (λ cs. not (is_empty cs)) (sym (node_children trie.nodes.items node there (node_there node at) read))
-      ∙ ap (goes_on_at (children_of trie)) at ∙ is.begins text
-
-  pub no_rule_told : None ≡ node_of (children_of trie) text → None ≡ rule_of rules text
-  no_rule_told at =
-      sym (none_there (λ (r : Rule). bytes_eq r.input text) rules
-      (ap (place_at (places_of trie)) at ∙ is.places text))
-
 -- the rule at a place that is that of a text is the text's rule
 pub rule_there : (rules : List Rule) (text : List ℕ) (place : Option ℕ)
     → place ≡ position (λ (r : Rule). bytes_eq r.input text) rules
@@ -419,3 +396,29 @@ pub place_within : (rules : List Rule) (text : List ℕ) (place : Option ℕ)
     → place ≡ position (λ (r : Rule). bytes_eq r.input text) rules → IfSome place (λ p. p < length rules)
 place_within rules text None e = tt
 place_within rules text (Some place) e = (one_there (λ (r : Rule). bytes_eq r.input text) rules place e).0
+
+-- what is told of a text by its node
+module _ (rules : List Rule) (trie : RuleTrie) (text : List ℕ) (is : IsRuleTrie rules trie) where
+  pub node_within : (node : Option ℕ) → node ≡ node_of (children_of trie) text
+      → IfSome node (λ n. n < length (children_of trie))
+  node_within None at = tt
+  node_within (Some node) at = is.is_trie.within text node (sym at)
+
+  pub place_told : (node : Option ℕ) → node ≡ node_of (children_of trie) text
+      → IfSome (place_at (places_of trie) node) (λ p. p < length rules)
+  place_told node at =
+      place_within rules text (place_at (places_of trie) node) (ap (place_at (places_of trie)) at ∙ is.places text)
+
+  pub rule_told : (node : Option ℕ) → node ≡ node_of (children_of trie) text
+      → option_and_then (slice_get rules) (place_at (places_of trie) node) ≡ rule_of rules text
+  rule_told node at =
+      rule_there rules text (place_at (places_of trie) node) (ap (place_at (places_of trie)) at ∙ is.places text)
+
+  pub beginning_told : (node : Option ℕ) → node ≡ node_of (children_of trie) text
+      → goes_on_at (children_of trie) node ≡ begins_input rules text
+  beginning_told node at = ap (goes_on_at (children_of trie)) at ∙ is.begins text
+
+-- the place that is noted at a node that is there
+pub place_there : (nodes : List Node) (node : ℕ) (there : Node) → node < length nodes
+    → there ≡ get_or nodes node there → place_at (map place nodes) (Some node) ≡ place there
+place_there nodes node there lt read = get_or-map place nodes node there None lt ∙ ap place (sym read)

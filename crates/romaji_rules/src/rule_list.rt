@@ -81,11 +81,11 @@ impl RuleList {
         self.trie.look_up(&self.rules, text).1
     }
 
-    /// What the text is among the inputs. Takes time in its letters.
-    pub fn standing(&self, text: &[u8]) -> Standing<'_>
-        ensures { IsStanding self.now text.now result }
+    /// What the text with the letter behind it is among the inputs. Takes time in its letters.
+    pub fn standing(&self, text: &[u8], letter: u8) -> Standing<'_>
+        ensures { IsStanding self.now (text.now ++ letter ∷ []) result }
     {
-        match self.trie.look_up(&self.rules, text) {
+        match self.trie.look_up_behind(&self.rules, text, letter) {
             (_, true) => Standing::Begins,
             (Some(rule), false) => Standing::Input(rule),
             (None, false) => Standing::Neither,

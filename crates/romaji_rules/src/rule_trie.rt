@@ -3,8 +3,8 @@ ghost use Rattle.std.specs.Prelude.{length, get_or, slice_get, IfOk, OnOk, IfSom
 ghost use Rattle.std.specs.Option.{option_and_then, option_copied};
 ghost use Rattle.skk_text.specs.Lists.{is_empty};
 ghost use Rattle.romaji_rules.specs.Fitting.{inputs_differ};
-ghost use Rattle.romaji_rules.specs.RuleTries.{child_by, children_of, next_node, node_of, AddsChild, MakesChild};
-ghost use Rattle.romaji_rules.specs.RuleTries.{HasNode, IsTrie, IsRuleTrie};
+ghost use Rattle.romaji_rules.specs.RuleTries.{child_by, children_of, goes_on_at, next_node, node_of, place_at, places_of};
+ghost use Rattle.romaji_rules.specs.RuleTries.{AddsChild, HasNode, MakesChild, IsTrie, IsRuleTrie};
 ghost use Rattle.romaji_rules.specs.Typed.{rule_of, begins_input};
 
 use crate::rule::Rule;
@@ -120,7 +120,32 @@ impl RuleTrie {
         ensures rule { option_copied result.0 ≡ rule_of rules.now text.now }
         ensures begins { result.1 ≡ begins_input rules.now text.now }
     {
-        let Some(node) = self.node_of(text) else {
+        self.told(rules, self.node_of(text))
+    }
+
+    /// What `look_up` gives for the text with the letter behind it.
+    pub fn look_up_behind<'a>(
+        &self,
+        rules: &'a [Rule],
+        text: &[u8],
+        letter: u8,
+    ) -> (Option<&'a Rule>, bool)
+        requires { IsRuleTrie rules.now self.now }
+        ensures rule { option_copied result.0 ≡ rule_of rules.now (text.now ++ letter ∷ []) }
+        ensures begins { result.1 ≡ begins_input rules.now (text.now ++ letter ∷ []) }
+    {
+        self.told(rules, self.node_behind(text, letter))
+    }
+
+    // The rule whose place is noted at a node, and whether the node goes on.
+    fn told<'a>(&self, rules: &'a [Rule], node: Option<usize>) -> (Option<&'a Rule>, bool)
+        requires there { IfSome node (λ n. n < length (children_of self.now)) }
+        requires place { IfSome (place_at (places_of self.now) node) (λ p. p < length rules.now) }
+        ensures rule { option_copied result.0
+            ≡ option_and_then (slice_get rules.now) (place_at (places_of self.now) node) }
+        ensures begins { result.1 ≡ goes_on_at (children_of self.now) node }
+    {
+        let Some(node) = node else {
             return (None, false);
         };
         let Node { place, children } = &self.nodes[node];
@@ -137,6 +162,17 @@ impl RuleTrie {
             node = self.child(node, *letter)?;
         }
         Some(node)
+    }
+
+    // The node of a text with a letter behind it, where that is an input or begins one.
+    fn node_behind(&self, text: &[u8], letter: u8) -> Option<usize>
+        requires { IsTrie self.now }
+        ensures { result ≡ node_of (children_of self.now) (text.now ++ letter ∷ []) }
+    {
+        match self.node_of(text) {
+            Some(node) => self.child(node, letter),
+            None => None,
+        }
     }
 
     // The node behind a letter.

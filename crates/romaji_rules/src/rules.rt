@@ -19,7 +19,6 @@ use crate::rule_file::{RULE_FILE_LIMIT, read_rules};
 use crate::rule_list::RuleList;
 use crate::standard::standard_rules;
 use crate::standing::Standing;
-use arrayvec::ArrayVec;
 use skk_text::{Memory, text_within};
 use std::alloc::Global;
 use std::marker::Model;
@@ -84,7 +83,7 @@ impl Rules {
         ensures exact { IsTrue result ↔ GoesOn self.now (pending.now ++ c ∷ []) }
         ensures computed { result ≡ goes_on self.now (pending.now ++ c ∷ []) }
     {
-        match self.standing(text_with(pending, c).as_slice()) {
+        match self.standing(pending, c) {
             Standing::Begins | Standing::Input(_) => true,
             Standing::Neither => false,
         }
@@ -144,10 +143,9 @@ impl Rules {
         ensures waits { IsSome result → (pending.new ≡ []) ⊎ BeginsInput self.now pending.new }
         ensures none { IsNone result → pending.new ≡ pending.old }
     {
-        let text = text_with(pending, c);
-        match self.standing(text.as_slice()) {
+        match self.standing(pending, c) {
             Standing::Begins => {
-                *pending = Pending::of(text.as_slice());
+                pending.push(c);
                 Some(Piece::Nothing)
             }
             Standing::Input(rule) => {
@@ -209,21 +207,11 @@ impl Rules {
         }
     }
 
-    // What the text is among the inputs.
-    fn standing(&self, text: &[u8]) -> Standing<'_>
-        ensures standing { IsStanding self.now text.now result }
+    // What the letters that wait are among the inputs, with a character behind them.
+    fn standing(&self, pending: &Pending, c: u8) -> Standing<'_>
+        ensures standing { IsStanding self.now (pending.now ++ c ∷ []) result }
         ensures fits { is_rule_set self.now ≡ true }
     {
-        self.rules.standing(text)
+        self.rules.standing(pending.as_slice(), c)
     }
-}
-
-// What is pending, followed by the character.
-fn text_with(pending: &Pending, c: u8) -> ArrayVec<u8, 9>
-    ensures { result.items ≡ pending.now ++ c ∷ [] }
-{
-    let mut text = ArrayVec::new();
-    text.try_extend_from_slice(pending.as_slice()).unwrap();
-    text.push(c);
-    text
 }

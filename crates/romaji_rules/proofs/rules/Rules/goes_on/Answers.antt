@@ -1,11 +1,12 @@
-use Rattle.std.proofs.Common.{◌∙◌, ◌∷◌, [], ◌++◌, rules}
+use Rattle.std.proofs.Common.{◌∷◌, [], ◌++◌, refl, rules}
 use Rattle.romaji_rules.proofs.Begins.{goes_on-exact, standing-goes_on}
 use Rattle.romaji_rules.proofs.rules.Rules.goes_on.Goals as goal
 
 pub returns-in-Begins : goal.returns-in-Begins
 returns-in-Begins c =
-    let goes = standing-goes_on c.args.self.now c.as_slice.result.now (c.args.pending.now ++ c.args.c ∷ [])
-    c.standing.result c.standing.ensures.standing c.in-Begins.is (c.as_slice.ensures.value ∙ c.text_with.ensures) in
+    let text = c.args.pending.now ++ c.args.c ∷ [] in
+    let goes = standing-goes_on c.args.self.now text text c.standing.result c.standing.ensures.standing c.in-Begins.is
+    refl in
     record { exact = goes.0; computed = goes.1 }
 
 pub returns-in-Neither-clause-exact : goal.returns-in-Neither-clause-exact
