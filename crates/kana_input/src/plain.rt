@@ -107,7 +107,7 @@ impl Plain {
             ≡ record { plain = self.new; done = done }) }
         ensures err { OnErr result (self.new ≡ self.old) }
     {
-        let mut pending = Pending::of(self.pending.as_slice());
+        let mut pending = self.pending.copied();
         match rules.extend(&mut pending, c) {
             Some(out) => {
                 let done = insertion(alloc, self.mode, &out)?;
@@ -139,7 +139,7 @@ impl Plain {
                 self.flush(alloc, rules, mode, "", PlainThen::OpenReading(Some(letter)))
             }
             _ => {
-                let mut pending = Pending::of(self.pending.as_slice());
+                let mut pending = self.pending.copied();
                 let out = rules.feed_anew(&mut pending, c);
                 let done = insertion(alloc, mode, &out)?;
                 self.pending = pending;
@@ -161,7 +161,7 @@ impl Plain {
             ≡ record { plain = self.new; done = done }) }
         ensures err { OnErr result (self.new ≡ self.old) }
     {
-        let mut pending = Pending::of(self.pending.as_slice());
+        let mut pending = self.pending.copied();
         let mut insert = in_kana(alloc, self.mode, &rules.flush(&mut pending))?;
         insert.push_str(behind)?;
         self.mode = mode;

@@ -4,7 +4,6 @@ ghost use Rattle.std.specs.Option.{option_copied};
 use crate::frame::{Choice, Conversion, Frame, OuterFrame, State, Waiting};
 use crate::headword::Headword;
 use crate::session::Session;
-use romaji_rules::Pending;
 use skk_calls::{Answer, Call, DistinctCands, Learned, Reply};
 use skk_text::{Copies, Memory, copies_of, copy_of};
 use std::alloc::Global;
@@ -46,7 +45,7 @@ impl Copies for OuterFrame {
 impl Copies for State {
     fn copy(&self, alloc: Global) -> Result<State, Memory> {
         match self {
-            State::Plain(pending) => Ok(State::Plain(Pending::of(pending.as_slice()))),
+            State::Plain(pending) => Ok(State::Plain(pending.copied())),
             State::Reading(reading) => Ok(State::Reading(reading.copy(alloc)?)),
             State::Picking(conversion) => Ok(State::Picking(conversion.copy(alloc)?)),
         }

@@ -1,5 +1,4 @@
 use super::{Begun, Reading};
-use romaji_rules::Pending;
 use skk_text::{Copies, Memory, copy_of};
 use std::alloc::Global;
 
@@ -18,7 +17,7 @@ impl Copies for Reading {
             text: self.text.copy(alloc)?,
             is_abbrev: self.is_abbrev,
             okuri: copy_of(alloc, self.okuri.as_ref())?,
-            pending: Pending::of(self.pending.as_slice()),
+            pending: self.pending.copied(),
             completions: copy_of(alloc, self.completions.as_ref())?,
         })
     }

@@ -83,7 +83,7 @@ impl Reading {
     pub(super) fn pending_kana(&self, alloc: Global, rules: &Rules) -> Result<Text, Memory>
         ensures { IfOk result (λ text. text ≡ (flushed rules.now self.now.pending).hira) }
     {
-        let mut pending = Pending::of(self.pending.as_slice());
+        let mut pending = self.pending.copied();
         rules.flush(&mut pending).text(alloc, Kana::Hiragana)
     }
 
@@ -112,7 +112,7 @@ impl Reading {
             ≡ record { reading = self.new; notice = notice }) }
         ensures err { OnErr result (self.new ≡ self.old) }
     {
-        let mut pending = Pending::of(self.pending.as_slice());
+        let mut pending = self.pending.copied();
         let piece = rules.feed(&mut pending, c).text(alloc, Kana::Hiragana)?;
         self.put(alloc, piece, pending)
     }
@@ -130,7 +130,7 @@ impl Reading {
         ensures none { IfOk result (λ found. IsNone found → self.new ≡ self.old) }
         ensures err { OnErr result (self.new ≡ self.old) }
     {
-        let mut pending = Pending::of(self.pending.as_slice());
+        let mut pending = self.pending.copied();
         match rules.extend(&mut pending, c) {
             Some(out) => {
                 let piece = out.text(alloc, Kana::Hiragana)?;
@@ -152,7 +152,7 @@ impl Reading {
             ≡ record { reading = self.new; notice = notice }) }
         ensures err { OnErr result (self.new ≡ self.old) }
     {
-        let mut pending = Pending::of(self.pending.as_slice());
+        let mut pending = self.pending.copied();
         let piece = rules
             .feed_anew(&mut pending, c)
             .text(alloc, Kana::Hiragana)?;
@@ -166,7 +166,7 @@ impl Reading {
     {
         let mut piece = Text::new(alloc);
         piece.push(c as char)?;
-        let pending = Pending::of(self.pending.as_slice());
+        let pending = self.pending.copied();
         self.put(alloc, piece, pending)
     }
 }
