@@ -3,8 +3,8 @@ ghost use Rattle.std.specs.Prelude.{length, get_or, slice_get, IfOk, OnOk, IfSom
 ghost use Rattle.std.specs.Option.{option_and_then, option_copied};
 ghost use Rattle.skk_text.specs.Lists.{is_empty};
 ghost use Rattle.romaji_rules.specs.Fitting.{inputs_differ};
-ghost use Rattle.romaji_rules.specs.RuleTries.{child_by, children_of, goes_on_at, next_node, node_of, place_at, places_of};
-ghost use Rattle.romaji_rules.specs.RuleTries.{AddsChild, HasNode, MakesChild, IsTrie, IsRuleTrie};
+ghost use Rattle.romaji_rules.specs.RuleTries.{child_by, children_of, goes_on_at, next_node, node_of, place_at};
+ghost use Rattle.romaji_rules.specs.RuleTries.{places_of, AddsChild, HasNode, MakesChild, IsTrie, IsRuleTrie};
 ghost use Rattle.romaji_rules.specs.Typed.{rule_of, begins_input};
 
 use crate::rule::Rule;
