@@ -56,7 +56,7 @@ impl Session {
     ghost use Rattle.session_machine.specs.Display.{display, notice, line, text_printed};
     ghost use Rattle.session_machine.specs.NextAsked.{may_answer_all, next_asked};
     ghost use Rattle.session_machine.specs.Pressed.{pressed, all_pressed};
-    ghost use Rattle.session_machine.specs.Said.{Says, spoken};
+    ghost use Rattle.session_machine.specs.Said.{Says, after, spoken};
     ghost use Rattle.session_machine.specs.Session.{new_session, text_of};
 
     /// A new session of a typist, who learns in a book: hiragana mode, and an empty text. Takes no memory.
@@ -90,8 +90,26 @@ impl Session {
         Ok(session)
     }
 
+    /// Presses the keys in order where the session stands, and asks the caller what they ask. Where memory is out
+    /// nothing is said of the session, and what was asked is the first of what the keys ask.
+    pub fn press_keys<C: Caller>(
+        &mut self,
+        alloc: Global,
+        rules: &Rules,
+        keys: &[Key],
+        caller: &mut C,
+    ) -> Result<(), Memory>
+        ensures { Says (all_pressed rules.now self.old keys.now) (after result self.new)
+            (spoken C.number C.said caller.old) (spoken C.number C.said caller.new) }
+    {
+        for key in keys {
+            press_key(self, alloc, rules, *key, caller)?;
+        }
+        Ok(())
+    }
+
     /// Presses the keys in order. Where memory is out the session is gone, and
-    /// what was asked is the first of what the key asks.
+    /// what was asked is the first of what the keys ask.
     pub fn play<C: Caller>(
         self,
         alloc: Global,
@@ -103,9 +121,7 @@ impl Session {
             (spoken C.number C.said caller.old) (spoken C.number C.said caller.new) }
     {
         let mut session = self;
-        for key in keys {
-            press_key(&mut session, alloc, rules, *key, caller)?;
-        }
+        session.press_keys(alloc, rules, keys, caller)?;
         Ok(session)
     }
 
