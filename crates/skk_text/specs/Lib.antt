@@ -1,4 +1,5 @@
 pub mod Characters
+pub mod Contents
 pub mod Counts
 pub mod FilterLaws
 pub mod Kana

@@ -1,13 +1,14 @@
 //! The plain types that every crate above speaks of: texts, bytes, keys, modes and notices, lists of
 //! them, the copies that are made of them, and the fault `Memory`.
 //!
-//! Beside the standard library it stands on the toolchain's `itoa` and `thiserror` alone. A list is
-//! seen by contracts as the list of its items, a text as the list of its characters, and each call
-//! says exactly what it makes of them. What takes memory answers `Memory` where it is out of memory,
-//! and leaves the value as it was.
+//! Beside the standard library it stands on the toolchain's `arrayvec`, `itoa`, `simdutf8` and
+//! `thiserror` alone. A list is seen by contracts as the list of its items, a text as the list of its
+//! characters, and each call says exactly what it makes of them. What takes memory answers `Memory`
+//! where it is out of memory, and leaves the value as it was. A text of at most 24 bytes takes none.
 #![tactic(auto)]
 
 mod bytes;
+mod content;
 mod copies;
 mod kana;
 mod key;

@@ -5,6 +5,7 @@ ghost use Rattle.std.specs.Str.{chars};
 ghost use Rattle.skk_text.specs.Lists.{is_empty};
 ghost use Rattle.skk_text.specs.Text.{byte_len, last_chars, without_last};
 
+use crate::content::Content;
 use crate::copies::Copies;
 use crate::memory::Memory;
 use crate::sequence::Sequence;
@@ -12,19 +13,19 @@ use itoa::Buffer;
 use std::alloc::Global;
 use std::marker::Model;
 
-/// A text: contracts see the list of its characters.
+/// A text: contracts see the list of its characters. Up to 24 bytes lie in the text itself, more on the heap.
 #[derive(Debug, Drop)]
 pub struct Text {
-    text: String,
+    content: Content,
 }
 
 impl Model for Text {
-    ghost use Rattle.std.specs.Prelude.{List, ℕ, string_bytes};
+    ghost use Rattle.std.specs.Prelude.{List, ℕ};
     ghost use Rattle.std.specs.Str.{chars};
 
     ghost Value = { List ℕ };
 
-    ghost view = { λ t. chars (string_bytes t.text) };
+    ghost view = { λ t. chars t.content };
 }
 
 impl Text {
@@ -33,15 +34,25 @@ impl Text {
         ensures { result ≡ [] }
     {
         Text {
-            text: String::new(alloc),
+            content: Content::new(alloc),
         }
     }
 
-    /// The text of a string. Takes no memory.
+    /// The text of a string, which is moved. Takes no memory.
     pub fn of(text: String) -> Text
         ensures { result ≡ chars (string_bytes text) }
     {
-        Text { text }
+        Text {
+            content: Content::of(text),
+        }
+    }
+
+    /// The text of a string, copied. Takes memory only where it is long.
+    pub fn from_str(alloc: Global, text: &str) -> Result<Text, Memory>
+        ensures { IfOk result (λ copy. copy ≡ chars text.now) }
+    {
+        let content = Content::copied(alloc, text)?;
+        Ok(Text { content })
     }
 
     /// The text's content.
@@ -49,21 +60,21 @@ impl Text {
         ensures value { result.now ≡ encode_utf8_all self.now }
         ensures characters { chars result.now ≡ self.now }
     {
-        self.text.as_str()
+        self.content.as_str()
     }
 
-    /// The text as a string, moved. Takes no memory.
-    pub fn into_string(self) -> String
-        ensures { chars (string_bytes result) ≡ self }
+    /// The text as a string, copied.
+    pub fn to_string(&self, alloc: Global) -> Result<String, Memory>
+        ensures { IfOk result (λ copy. chars (string_bytes copy) ≡ self.now) }
     {
-        self.text
+        Ok(String::from_str(alloc, self.as_str())?)
     }
 
     /// How many bytes the text has in UTF-8. Takes constant time.
     pub fn byte_len(&self) -> usize
         ensures { result ≡ byte_len self.now }
     {
-        self.text.len()
+        self.as_str().len()
     }
 
     /// Whether the text has no character.
@@ -78,8 +89,8 @@ impl Text {
         ensures ok { OnOk result (self.new ≡ self.old ++ c ∷ []) }
         ensures err { OnErr result (self.new ≡ self.old) }
     {
-        self.text.push(c)?;
-        Ok(())
+        let mut buffer = [0; 4];
+        self.push_str(c.encode_utf8(&mut buffer))
     }
 
     /// Adds a string at the end.
@@ -87,8 +98,7 @@ impl Text {
         ensures ok { OnOk result (self.new ≡ self.old ++ chars added.now) }
         ensures err { OnErr result (self.new ≡ self.old) }
     {
-        self.text.push_str(added)?;
-        Ok(())
+        self.content.push_str(added)
     }
 
     /// Adds a number in decimal at the end.
@@ -103,7 +113,7 @@ impl Text {
     pub fn delete_last(&mut self)
         ensures { self.new ≡ without_last self.old }
     {
-        self.text.pop();
+        self.content.pop();
     }
 
     /// The last characters of the text, at most `count`. Takes time in `count`, not in the
@@ -112,14 +122,14 @@ impl Text {
         ensures value { result.now ≡ encode_utf8_all (last_chars count self.now) }
         ensures characters { chars result.now ≡ last_chars count self.now }
     {
-        last_of(self.text.as_str(), count)
+        last_of(self.as_str(), count)
     }
 }
 
 impl Copies for Text {
     fn copy(&self, alloc: Global) -> Result<Text, Memory> {
-        let text = String::from_str(alloc, self.text.as_str())?;
-        Ok(Text { text })
+        let content = self.content.copy(alloc)?;
+        Ok(Text { content })
     }
 }
 

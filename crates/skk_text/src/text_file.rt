@@ -2,7 +2,7 @@ ghost use Rattle.std.specs.Prelude.{◌≡◌, ◌↔◌, IfOk, IfErr, Err};
 ghost use Rattle.skk_text.specs.TextFiles.{IsTextWithin, IsTextFault};
 ghost use Rattle.skk_text.specs.declared.text_file.TextFault.{TextFault};
 
-use std::str;
+use simdutf8::compat::from_utf8;
 use thiserror::Error;
 
 /// Why the bytes of a file are no text.
@@ -27,7 +27,7 @@ pub fn text_within(bytes: &[u8], limit: usize) -> Result<&str, TextFault>
     if bytes.len() > limit {
         return Err(TextFault::TooLong { bytes: bytes.len() });
     }
-    match str::from_utf8(bytes) {
+    match from_utf8(bytes) {
         Ok(text) => Ok(text),
         Err(fault) => Err(TextFault::NotUtf8 {
             at: fault.valid_up_to(),

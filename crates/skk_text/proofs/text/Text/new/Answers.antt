@@ -4,4 +4,4 @@ use Rattle.std.proofs.lemmas.Str.{chars-nil}
 use Rattle.skk_text.proofs.text.Text.new.Goals as goal
 
 pub returns : goal.returns
-returns c = ap chars c.new.ensures.bytes ∙ chars-nil
+returns c = ap chars c.new.ensures ∙ chars-nil
