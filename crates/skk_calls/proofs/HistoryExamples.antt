@@ -14,7 +14,7 @@ use Rattle.skk_calls.specs.declared.entry.Entry.{Entry}
 use Rattle.skk_calls.specs.Chronicles.{is_chronicle, is_chronicle_or_none, noted, opening_of, history_of}
 use Rattle.skk_calls.specs.Dictionary.{answer}
 use Rattle.skk_calls.specs.Histories.{Opening, LacksRoom, IsLegalAnswer, IsLegal, after_entry, state_after}
-use Rattle.skk_calls.specs.Histories.{changes, after_calls, need, needs, tight, dialog, in_doubt}
+use Rattle.skk_calls.specs.Histories.{changes, after_calls, need, tight, dialog, in_doubt}
 use Rattle.skk_calls.specs.Histories.{states_left}
 use Rattle.skk_calls.specs.Openings.{fresh_opening, said_in, are_of_one, is_reply, are_served}
 use Rattle.skk_calls.specs.Rows.{Row, Learned}
@@ -137,11 +137,6 @@ states_of_calls : Gives (after_calls empty_state)
     (([], empty_state) ∷ (learn_kanji ∷ learn_katsushika ∷ [], second_state) ∷ [])
 unfolding lib.Utf8.encode
 states_of_calls = refl
-
-needs_together : Gives (needs empty_state)
-    (([], 0) ∷ (learn_kanji ∷ Learn 1 kanji_key None (plain a) ∷ [], 88) ∷ (learn_kanji ∷ Unlearn first ∷ [], 69) ∷ [])
-unfolding lib.Utf8.encode
-needs_together = refl
 
 -- what each caller called, and was answered
 dialogs : Gives (dialog history) (

@@ -131,11 +131,6 @@ abbrev pub after_calls : State → List Call → State
 after_calls state [] = state
 after_calls state (call ∷ calls) = after_calls (after state call) calls
 
--- the bytes that calls need, each at the state that those before it leave
-abbrev pub needs : State → List Call → ℕ
-needs state [] = 0
-needs state (call ∷ calls) = need state call + needs (after state call) calls
-
 -- what is told of a learned file that is full: its tight end, what a call needs, and its limit
 pub record FullFile : Type 0 where
   pub end : ℕ

@@ -15,6 +15,8 @@ pub mod Openings
 pub mod Orders
 pub mod RowLaws
 pub mod Rows
+pub mod RunLaws
+pub mod Runs
 pub mod States
 pub mod Tallies
 pub mod Walks
