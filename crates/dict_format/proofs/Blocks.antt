@@ -1,8 +1,7 @@
 -- Blocks are joined by their okurigana.
-use Rattle.std.proofs.Common.{◌≡◌, not, ℕ, Bool, true, false, ◌||◌, if◌then◌else◌, Some, None, String, List, []}
+use Rattle.std.proofs.Common.{◌≡◌, ℕ, Bool, true, false, if◌then◌else◌, Some, None, List, []}
 use Rattle.std.proofs.Common.{◌∷◌, ◌++◌, map, refl, sym, ap, ◌∙◌, arith, inl, inr}
-use Rattle.std.specs.declared.alloc.Global.{Global}
-use Rattle.std.specs.List.{list_any, filter}
+use Rattle.std.specs.List.{filter}
 use Rattle.std.specs.Map.{lookup, set_value}
 use Rattle.std.proofs.lemmas.Bool.{cases_Bool}
 use Rattle.std.proofs.lemmas.Option.{same_Some}
@@ -10,16 +9,14 @@ use Rattle.std.proofs.lemmas.List.{append-nil, map-append}
 use Rattle.std.proofs.lemmas.List.Elements.{filter-append}
 use Rattle.std.proofs.lemmas.Grind.{flat_map-append}
 use Rattle.std.proofs.lemmas.Simd.{map-map}
-use Rattle.skk_text.specs.Lists.{is_empty}
 use Rattle.skk_calls.specs.KeyLaws.{same_itself, same_other}
 use Rattle.skk_calls.specs.Found.{first_of_each}
 use Rattle.skk_calls.specs.Rows.{Block, same_text, has_text, is_okuri}
 use Rattle.word_sets.specs.FirstLaws.{first_of_each-differ, first_of_each-push, first_of_each-texts}
 use Rattle.word_sets.specs.Firsts.{with_new}
-use Rattle.word_sets.specs.Strings.{characters}
 use Rattle.word_sets.specs.ValueLaws.{found_value, same_values, set_there, valued}
 use Rattle.dict_format.specs.Building.{as_block, joined_words, valid_blocks}
-use Rattle.dict_format.specs.RowOfItems.{words_once, words_with, joined_blocks, has_word}
+use Rattle.dict_format.specs.RowOfItems.{words_once, words_with, joined_blocks}
 
 -- Words of blocks
 
@@ -114,14 +111,3 @@ joined-made blocks =
     ap (filter (λ b. is_okuri b.okuri))
     (map-map as_block (λ (first : Block). (first.okuri, words_once (words_with first.okuri blocks)))
     (first_of_each (λ b. b.okuri) [] blocks))
-
--- a block has a word where its strings have one
-pub has_word-is : (okuri : String Global) (words : List (String Global)) (result : Bool)
-    → result ≡ list_any (λ word. not (is_empty (characters word))) words
-    → has_word (record { okuri = characters okuri; words = map characters words }) ≡ result
-has_word-is okuri words result e = of words ∙ sym e
-  where
-    of : (strings : List (String Global)) → list_any (λ word. not (is_empty word)) (map characters strings)
-        ≡ list_any (λ word. not (is_empty (characters word))) strings
-    of [] = refl
-    of (string ∷ strings) = ap (λ b. not (is_empty (characters string)) || b) (of strings)

@@ -13,7 +13,6 @@ use Rattle.skk_calls.specs.Rows.{Row}
 use Rattle.dict_format.specs.RowOfItems.{item_fits}
 use Rattle.dict_format.specs.Views.{item_said}
 use Rattle.dict_format.specs.declared.items.Item.{Item as MadeItem}
-use Rattle.dict_format.proofs.Strings.{bytes_of_characters}
 
 -- the items that are kept so far, and what all so far pass, with one more
 pub ruleset one_more = (common_steps, filter_more, list_all_more)
@@ -32,8 +31,6 @@ pub ruleset marks = (common_steps, mark_some)
 pub ruleset bytes = (common_steps, encodes-chars)
 
 pub ruleset no_text = (common_steps, chars-nil)
-
-pub ruleset words_fit = (common_steps, bytes_of_characters, list_all-map)
 
 -- the line of a row behind a text
 pub line_is : (text : List ℕ) (row : Row) → text ++ canonical row

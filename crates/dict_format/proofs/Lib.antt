@@ -2,6 +2,7 @@ pub mod Blocks
 pub mod EntryRows
 pub mod Exactness
 pub mod Examples
+pub mod FewCands
 pub mod FileEntries
 pub mod FileExamples
 pub mod FileLineExamples

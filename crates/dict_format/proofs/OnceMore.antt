@@ -12,7 +12,6 @@ use Rattle.word_sets.specs.Strings.{as_cand}
 use Rattle.word_sets.specs.Firsts.{with_new}
 use Rattle.dict_format.specs.Building.{cands_once}
 use Rattle.dict_format.specs.RowOfItems.{words_once}
-use Rattle.dict_format.proofs.Strings.{empty_string}
 
 module _ {X : Type 0} (text_of : X → List ℕ) where
   -- the first of each text that is not empty
@@ -37,7 +36,7 @@ pub words_none : (words : List (List ℕ)) (word : List ℕ) → is_empty word �
     → words_once (words ++ word ∷ []) ≡ words_once words
 words_none words word e = once-none (λ text. text) words word e
 
-pub ruleset words_once_more = (common_steps, words_some, words_none, empty_string)
+pub ruleset words_once_more = (common_steps, words_some, words_none)
 
 -- candidates by what is inserted
 pub cands_some : (pairs : List (List ℕ × List ℕ)) (cands : List Cand) (word note : List ℕ) → is_empty word ≡ false
@@ -52,4 +51,4 @@ pub cands_none : (cands : List Cand) (word note : List ℕ) → is_empty word �
     → cands_once (cands ++ as_cand (word, note) ∷ []) ≡ cands_once cands
 cands_none cands word note e = once-none (λ (one : Cand). one.word) cands (as_cand (word, note)) e
 
-pub ruleset cands_once_more = (common_steps, cands_some, cands_none, empty_string)
+pub ruleset cands_once_more = (common_steps, cands_some, cands_none)

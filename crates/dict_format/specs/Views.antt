@@ -2,7 +2,6 @@
 use Rattle.std.specs.Borrow.{Bor}
 use Rattle.std.specs.Prelude.{◌≡◌, ℕ, Result, Ok, Err, List, map}
 use Rattle.std.specs.Str.{chars}
-use Rattle.word_sets.specs.Strings.{characters}
 use Rattle.dict_format.specs.declared.items.Item.{Item as MadeItem}
 use Rattle.dict_format.specs.declared.items.Item.TheVariants.{Candidate, Block, Mark}
 use Rattle.dict_format.specs.declared.reason.LineFault.{LineFault}
@@ -17,9 +16,9 @@ texts_seen texts = map (λ text. chars text.now) texts
 
 -- what an item of the code says
 abbrev pub item_said : MadeItem → Item
-item_said (Candidate word note) = candidate (characters word) (characters note)
-item_said (Block okuri words) = block (characters okuri) (map characters words.items)
-item_said (Mark words) = mark (map characters words.items)
+item_said (Candidate word note) = candidate word note
+item_said (Block okuri words) = block okuri words.items
+item_said (Mark words) = mark words.items
 
 -- a fault tells this reason, or out of memory
 abbrev pub TellsReason : {X : Type 0} → LineFault → Result X LineReason → Type 0

@@ -4,7 +4,6 @@ ghost use Rattle.std.specs.List.{filter, list_all};
 ghost use Rattle.std.specs.Option.{option_map};
 ghost use Rattle.std.specs.Str.{chars};
 ghost use Rattle.exact_readers.specs.Formats.{mapped, all};
-ghost use Rattle.word_sets.specs.Strings.{characters};
 ghost use Rattle.dict_format.specs.Items.{Item as said_item};
 ghost use Rattle.dict_format.specs.Items.Item.{block};
 ghost use Rattle.dict_format.specs.Items.{at_note, opens_block, closes_block, mark_or_candidate};
@@ -17,18 +16,18 @@ use crate::reason::{LineFault, LineReason};
 use crate::words::{characters_of, marked_by_form, plain, word_of};
 use exact_readers::{Reader, cut_at, past_char, read_many};
 use skk_calls::{Part, WORD_LIMIT};
-use skk_text::Memory;
+use skk_text::{Memory, Text};
 use std::alloc::Global;
 
 // An item of a line.
 #[derive(Debug, Drop)]
 pub enum Item {
     // A word and its note.
-    Candidate { word: String, note: String },
+    Candidate { word: Text, note: Text },
     // An okurigana, whatever that is, and its words.
-    Block { okuri: String, words: Vec<String> },
+    Block { okuri: Text, words: Vec<Text> },
     // Words that are hidden.
-    Mark { words: Vec<String> },
+    Mark { words: Vec<Text> },
 }
 
 // The items that texts spell, none of which is too long.
@@ -156,8 +155,8 @@ fn block_behind<'t, 'c>(
 fn closed_words<'t, 'c>(
     alloc: Global,
     texts: &'t [&'c str],
-) -> Result<Option<(Vec<String>, &'t [&'c str])>, Memory>
-    ensures { IfOk result (λ found. option_map (λ parts. (map characters parts.0.items, texts_seen parts.1.now)) found
+) -> Result<Option<(Vec<Text>, &'t [&'c str])>, Memory>
+    ensures { IfOk result (λ found. option_map (λ parts. (parts.0.items, texts_seen parts.1.now)) found
         ≡ block_words.step (texts_seen texts.now)) }
 {
     let (words, rest) = read_many(alloc, &WordInside, texts)?;
@@ -171,9 +170,9 @@ fn closed_words<'t, 'c>(
 struct WordInside;
 
 impl<'c> Reader<&'c str> for WordInside {
-    type Value = String;
+    type Value = Text;
 
-    type Many = Vec<String>;
+    type Many = Vec<Text>;
 
     ghost Token = { List ℕ };
 
@@ -181,9 +180,9 @@ impl<'c> Reader<&'c str> for WordInside {
 
     ghost tokens = { texts_seen };
 
-    ghost item = { characters };
+    ghost item = { λ word. word };
 
-    ghost items = { λ words. map characters words.items };
+    ghost items = { λ words. words.items };
 
     ghost format = { λ _. inside_block };
 
@@ -191,8 +190,8 @@ impl<'c> Reader<&'c str> for WordInside {
         &self,
         alloc: Global,
         texts: &'t [&'c str],
-    ) -> Result<Option<(String, &'t [&'c str])>, Memory>
-        ensures { IfOk result (λ found. option_map (λ parts. (characters parts.0, texts_seen parts.1.now)) found
+    ) -> Result<Option<(Text, &'t [&'c str])>, Memory>
+        ensures { IfOk result (λ found. option_map (λ parts. (parts.0, texts_seen parts.1.now)) found
             ≡ inside_block.step (texts_seen texts.now)) }
     {
         match texts {
@@ -203,15 +202,14 @@ impl<'c> Reader<&'c str> for WordInside {
         }
     }
 
-    fn none(alloc: Global) -> Vec<String>
-        ensures { map characters result.items ≡ [] }
+    fn none(alloc: Global) -> Vec<Text>
+        ensures { result.items ≡ [] }
     {
         Vec::new(alloc)
     }
 
-    fn push(words: &mut Vec<String>, word: String) -> Result<(), Memory>
-        ensures { OnOk result
-            (map characters words.new.items ≡ map characters words.old.items ++ characters word ∷ []) }
+    fn push(words: &mut Vec<Text>, word: Text) -> Result<(), Memory>
+        ensures { OnOk result (words.new.items ≡ words.old.items ++ word ∷ []) }
     {
         words.push(word)?;
         Ok(())
@@ -256,10 +254,10 @@ fn candidate(alloc: Global, text: &str) -> Result<Item, Memory>
     Ok(Item::Candidate { word, note })
 }
 
-// The string of a text without ends of lines.
+// A text without ends of lines.
 #[tactic(auto, using(skk_text::specs::FilterLaws::filter_all))]
-fn without_line_ends(alloc: Global, text: &str) -> Result<String, Memory>
-    ensures { IfOk result (λ note. characters note ≡ filter (λ c. not (c == 13 || c == 10)) (chars text.now)) }
+fn without_line_ends(alloc: Global, text: &str) -> Result<Text, Memory>
+    ensures { IfOk result (λ note. note ≡ filter (λ c. not (c == 13 || c == 10)) (chars text.now)) }
 {
     if lacks_line_ends(text) {
         let note = plain(alloc, text)?;
@@ -269,17 +267,17 @@ fn without_line_ends(alloc: Global, text: &str) -> Result<String, Memory>
     }
 }
 
-// The string of the characters that are no ends of lines.
+// The text of the characters that are no ends of lines.
 #[tactic(auto, using(crate::proofs::Strings::characters_encoded))]
-fn no_line_ends(alloc: Global, text: &[char]) -> Result<String, Memory>
-    ensures { IfOk result (λ note. characters note ≡ filter (λ c. not (c == 13 || c == 10)) text.now) }
+fn no_line_ends(alloc: Global, text: &[char]) -> Result<Text, Memory>
+    ensures { IfOk result (λ note. note ≡ filter (λ c. not (c == 13 || c == 10)) text.now) }
 {
-    Ok(
-        text.iter()
-            .copied()
-            .filter(|c| !(*c == '\r' || *c == '\n'))
-            .collect(alloc)?,
-    )
+    let kept: String = text
+        .iter()
+        .copied()
+        .filter(|c| !(*c == '\r' || *c == '\n'))
+        .collect(alloc)?;
+    Ok(Text::of(kept))
 }
 
 // Whether no character ends a line: no byte of another character is CR or LF.
@@ -305,28 +303,26 @@ fn are_fit(items: &[Item]) -> bool
 }
 
 // Whether no word of an item is too long.
-#[tactic(auto, using(crate::proofs::Hints::words_fit))]
 fn is_fit(item: &Item) -> bool
     ensures { result ≡ item_fits (item_said item.now) }
 {
     match item {
-        Item::Candidate { word, note } => word.len() + note.len() <= WORD_LIMIT,
+        Item::Candidate { word, note } => word.as_str().len() + note.as_str().len() <= WORD_LIMIT,
         Item::Block { words, .. } => words_fit(words),
         Item::Mark { words } => words_fit(words),
     }
 }
 
 // Whether no word is too long.
-fn words_fit(words: &[String]) -> bool
-    ensures { result ≡ list_all (λ word. fits (characters word)) words.now }
+fn words_fit(words: &[Text]) -> bool
+    ensures { result ≡ list_all fits words.now }
 {
     words.iter().all(word_fits)
 }
 
 // Whether a word is not too long.
-#[tactic(auto, using(crate::proofs::Strings::bytes_of_characters))]
-fn word_fits(word: &String) -> bool
-    ensures { result ≡ fits (characters word.now) }
+fn word_fits(word: &Text) -> bool
+    ensures { result ≡ fits word.now }
 {
-    word.len() <= WORD_LIMIT
+    word.byte_len() <= WORD_LIMIT
 }

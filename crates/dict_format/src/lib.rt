@@ -12,6 +12,7 @@
 #![tactic(auto)]
 
 mod characters;
+mod few_cands;
 mod file;
 mod file_lines;
 mod file_printing;

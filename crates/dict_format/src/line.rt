@@ -158,7 +158,7 @@ fn key_of(alloc: Global, part: Part, reading: &str) -> Result<RowKey, LineFault>
     if is_bad_reading(reading) {
         return Err(LineFault::Reason(LineReason::BadReading));
     }
-    let text = Text::of(plain(alloc, reading)?);
+    let text = plain(alloc, reading)?;
     if text.byte_len() > part.reading_limit() {
         return Err(LineFault::Reason(LineReason::LongReading));
     }
@@ -219,12 +219,15 @@ fn is_empty(text: &str) -> bool
     text.is_empty()
 }
 
+// How many texts there is room for at first, which few lines have more of.
+const TEXTS: usize = 16;
+
 // The texts that are ended by a slash, and what stands behind the last of them.
 fn all_texts(alloc: Global, text: &str) -> Result<(Vec<&str>, &str), Memory>
     ensures { IfOk result (λ parts. taken slashed_text.step (chars text.now)
         ≡ (texts_seen parts.0.items, chars parts.1.now)) }
 {
-    let mut texts = Vec::new(alloc);
+    let mut texts = Vec::with_capacity(alloc, TEXTS)?;
     let mut rest = text;
     while let Some((text, behind)) = cut_at(rest, '/') {
         texts.push(text)?;

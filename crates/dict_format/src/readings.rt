@@ -50,6 +50,5 @@ fn add_reading(alloc: Global, known: &mut WordSet, reading: &Text) -> Result<boo
     ensures is_new { IfOk result (λ is_new. is_new ≡ not (has_text known.old reading.now)) }
     ensures known { OnOk result (known.new ≡ with_new (λ text. text) known.old reading.now) }
 {
-    let copy = reading.copy(alloc)?;
-    known.insert(copy.into_string())
+    known.insert(reading.to_string(alloc)?)
 }

@@ -5,12 +5,13 @@ ghost use Rattle.skk_calls.specs.Rows.{Cand, Block, is_block, is_row};
 ghost use Rattle.word_sets.specs.Strings.{as_cand, characters};
 ghost use Rattle.dict_format.specs.Items.{Item as said_item};
 ghost use Rattle.dict_format.specs.RowOfItems.{row_of_items, words_once, has_word};
-ghost use Rattle.dict_format.specs.Building.{cands_once, joined_words, valid_blocks, SaysItems};
+ghost use Rattle.dict_format.specs.Building.{cands_once, is_candidate, joined_words, valid_blocks, SaysItems};
 ghost use Rattle.dict_format.specs.Views.{item_said};
 
+use crate::few_cands::{are_few_cands, cands_of};
 use crate::items::Item;
 use skk_calls::{Block, Blocks, Okuri, Row, RowKey};
-use skk_text::{Memory, Text};
+use skk_text::{Memory, Text, Texts};
 use std::alloc::Global;
 use word_sets::{WordMap, WordSet};
 
@@ -25,6 +26,30 @@ pub struct Parts {
 
 // The row that the items make of a key.
 pub fn row_of(alloc: Global, key: RowKey, items: Vec<Item>) -> Result<Row, Memory>
+    requires { is_row (row_of_items key (map item_said items.items)) ≡ true }
+    ensures { IfOk result (λ row. row ≡ row_of_items key (map item_said items.items)) }
+{
+    if are_few_cands(&items) {
+        row_of_cands(alloc, key, items)
+    } else {
+        row_of_parts(alloc, key, items)
+    }
+}
+
+// The row that candidates alone make of a key.
+fn row_of_cands(alloc: Global, key: RowKey, items: Vec<Item>) -> Result<Row, Memory>
+    requires row { is_row (row_of_items key (map item_said items.items)) ≡ true }
+    requires cands { list_all is_candidate (map item_said items.items) ≡ true }
+    ensures { IfOk result (λ row. row ≡ row_of_items key (map item_said items.items)) }
+{
+    let cands = cands_of(alloc, items)?;
+    let blocks = Blocks::new(alloc);
+    let hides = Texts::new(alloc);
+    Ok(Row::new(key, cands, blocks, hides, 0))
+}
+
+// The row that items of each kind make of a key.
+fn row_of_parts(alloc: Global, key: RowKey, items: Vec<Item>) -> Result<Row, Memory>
     requires { is_row (row_of_items key (map item_said items.items)) ≡ true }
     ensures { IfOk result (λ row. row ≡ row_of_items key (map item_said items.items)) }
 {
@@ -60,43 +85,43 @@ fn add_item(alloc: Global, parts: &mut Parts, item: Item) -> Result<(), Memory>
         → SaysItems parts.new (before ++ item_said item ∷ [])) }
 {
     match item {
-        Item::Candidate { word, note } => add_cand(&mut parts.cands, word, note),
+        Item::Candidate { word, note } => add_cand(alloc, &mut parts.cands, word, note),
         Item::Block { okuri, words } => add_block(alloc, &mut parts.blocks, okuri, words),
-        Item::Mark { words } => add_words(&mut parts.hides, words),
+        Item::Mark { words } => add_words(alloc, &mut parts.hides, words),
     }
 }
 
 // Adds a candidate, unless its word is empty or came before.
 #[tactic(auto, using(crate::proofs::OnceMore::cands_once_more))]
-fn add_cand(cands: &mut WordMap<Text>, word: String, note: String) -> Result<(), Memory>
+fn add_cand(alloc: Global, cands: &mut WordMap<Text>, word: Text, note: Text) -> Result<(), Memory>
     ensures { OnOk result ((before : List Cand) → map as_cand cands.old ≡ cands_once before
-        → map as_cand cands.new ≡ cands_once (before ++ as_cand (characters word, characters note) ∷ [])) }
+        → map as_cand cands.new ≡ cands_once (before ++ as_cand (word, note) ∷ [])) }
 {
     if !word.is_empty() {
-        cands.insert(word, Text::of(note))?;
+        cands.insert(string_of(alloc, &word)?, note)?;
     }
     Ok(())
 }
 
 // Adds words, but for those that are empty or came before.
-fn add_words(known: &mut WordSet, words: Vec<String>) -> Result<(), Memory>
+fn add_words(alloc: Global, known: &mut WordSet, words: Vec<Text>) -> Result<(), Memory>
     ensures { OnOk result ((before : List (List ℕ)) → known.old ≡ words_once before
-        → known.new ≡ words_once (before ++ map characters words.items)) }
+        → known.new ≡ words_once (before ++ words.items)) }
 {
     for word in words {
-        add_word(known, word)?;
+        add_word(alloc, known, word)?;
     }
     Ok(())
 }
 
 // Adds a word, unless it is empty or came before.
 #[tactic(auto, using(crate::proofs::OnceMore::words_once_more))]
-fn add_word(known: &mut WordSet, word: String) -> Result<(), Memory>
+fn add_word(alloc: Global, known: &mut WordSet, word: Text) -> Result<(), Memory>
     ensures { OnOk result ((before : List (List ℕ)) → known.old ≡ words_once before
-        → known.new ≡ words_once (before ++ characters word ∷ [])) }
+        → known.new ≡ words_once (before ++ word ∷ [])) }
 {
     if !word.is_empty() {
-        known.insert(word)?;
+        known.insert(string_of(alloc, &word)?)?;
     }
     Ok(())
 }
@@ -105,37 +130,43 @@ fn add_word(known: &mut WordSet, word: String) -> Result<(), Memory>
 fn add_block(
     alloc: Global,
     blocks: &mut WordMap<WordSet>,
-    okuri: String,
-    words: Vec<String>,
+    okuri: Text,
+    words: Vec<Text>,
 ) -> Result<(), Memory>
-    ensures { OnOk result ((before : List Block) → blocks.old ≡ joined_words before → blocks.new ≡ joined_words
-        (before ++ filter has_word (record { okuri = characters okuri; words = map characters words.items } ∷ []))) }
+    ensures { OnOk result ((before : List Block) → blocks.old ≡ joined_words before → blocks.new
+        ≡ joined_words (before ++ filter has_word (record { okuri = okuri; words = words.items } ∷ []))) }
 {
     if !has_word(&words) {
         return Ok(());
     }
     match blocks.value_mut(okuri.as_str()) {
         Some(known) => {
-            add_words(known, words)?;
+            add_words(alloc, known, words)?;
             Ok(())
         }
         None => {
             let mut first = WordSet::new(alloc);
-            add_words(&mut first, words)?;
-            blocks.insert(okuri, first)?;
+            add_words(alloc, &mut first, words)?;
+            blocks.insert(string_of(alloc, &okuri)?, first)?;
             Ok(())
         }
     }
 }
 
+// The string of a word, by which words are looked for.
+fn string_of(alloc: Global, word: &Text) -> Result<String, Memory>
+    ensures { IfOk result (λ string. characters string ≡ word.now) }
+{
+    word.to_string(alloc)
+}
+
 // Whether there is a word that is not empty.
-#[tactic(auto, using(crate::proofs::Strings::empty_string))]
-fn has_word(words: &[String]) -> bool
-    ensures { result ≡ list_any (λ word. not (is_empty (characters word))) words.now }
+fn has_word(words: &[Text]) -> bool
+    ensures { result ≡ list_any (λ word. not (is_empty word)) words.now }
 {
     words.iter().any(
         |word| -> bool
-            ensures { result ≡ not (is_empty (characters word.now)) }
+            ensures { result ≡ not (is_empty word.now) }
         { !word.is_empty() },
     )
 }

@@ -1,14 +1,13 @@
-ghost use Rattle.std.specs.Prelude.{◌≡◌, ◌∷◌, ◌++◌, [], ℕ, List, map, IfOk, OnOk};
+ghost use Rattle.std.specs.Prelude.{◌≡◌, [], ℕ, List, IfOk};
 ghost use Rattle.std.specs.Option.{option_map};
 ghost use Rattle.std.specs.Str.{chars};
 ghost use Rattle.exact_readers.specs.Formats.{whole};
-ghost use Rattle.word_sets.specs.Strings.{characters};
 ghost use Rattle.dict_format.specs.Words.{string_character, string_behind, quoted_word, marked_string, closed_strings};
 ghost use Rattle.dict_format.specs.Words.{marked_strings, marked_words, said};
 
 use crate::characters::string_character;
 use exact_readers::{Reader, past, past_char, read_many};
-use skk_text::Memory;
+use skk_text::{Memory, Text};
 use std::alloc::Global;
 
 // What stands before the string that a word is quoted by.
@@ -20,16 +19,16 @@ static MARKED: [char; 20] = [
     'd',
 ];
 
-// The string of a text.
-pub fn plain(alloc: Global, text: &str) -> Result<String, Memory>
-    ensures { IfOk result (λ string. characters string ≡ chars text.now) }
+// A text of its own.
+pub fn plain(alloc: Global, text: &str) -> Result<Text, Memory>
+    ensures { IfOk result (λ copy. copy ≡ chars text.now) }
 {
-    Ok(String::from_str(alloc, text)?)
+    Text::from_str(alloc, text)
 }
 
 // The word that a text says: the one that it quotes, or itself.
-pub fn word_of(alloc: Global, text: &str) -> Result<String, Memory>
-    ensures { IfOk result (λ word. characters word ≡ said (chars text.now)) }
+pub fn word_of(alloc: Global, text: &str) -> Result<Text, Memory>
+    ensures { IfOk result (λ word. word ≡ said (chars text.now)) }
 {
     match said_by_form(alloc, text)? {
         Some(word) => Ok(word),
@@ -39,8 +38,8 @@ pub fn word_of(alloc: Global, text: &str) -> Result<String, Memory>
 
 // The word that a whole text quotes, which is looked for where the text begins as a form does.
 #[tactic(auto, using(crate::proofs::Forms::past_none))]
-fn said_by_form(alloc: Global, text: &str) -> Result<Option<String>, Memory>
-    ensures { IfOk result (λ found. option_map characters found ≡ whole quoted_word (chars text.now)) }
+fn said_by_form(alloc: Global, text: &str) -> Result<Option<Text>, Memory>
+    ensures { IfOk result (λ found. found ≡ whole quoted_word (chars text.now)) }
 {
     match past_char(text, '(') {
         Some(_) => whole_quoted(alloc, &characters_of(alloc, text)?),
@@ -50,8 +49,8 @@ fn said_by_form(alloc: Global, text: &str) -> Result<Option<String>, Memory>
 
 // The words that a whole text marks, which are looked for where the text begins as a form does.
 #[tactic(auto, using(crate::proofs::Forms::past_none))]
-pub fn marked_by_form(alloc: Global, text: &str) -> Result<Option<Vec<String>>, Memory>
-    ensures { IfOk result (λ found. option_map (λ words. map characters words.items) found
+pub fn marked_by_form(alloc: Global, text: &str) -> Result<Option<Vec<Text>>, Memory>
+    ensures { IfOk result (λ found. option_map (λ words. words.items) found
         ≡ whole marked_words (chars text.now)) }
 {
     match past_char(text, '(') {
@@ -69,8 +68,8 @@ pub fn characters_of(alloc: Global, text: &str) -> Result<Vec<char>, Memory>
 }
 
 // The word that a whole text quotes.
-fn whole_quoted(alloc: Global, text: &[char]) -> Result<Option<String>, Memory>
-    ensures { IfOk result (λ found. option_map characters found ≡ whole quoted_word text.now) }
+fn whole_quoted(alloc: Global, text: &[char]) -> Result<Option<Text>, Memory>
+    ensures { IfOk result (λ found. found ≡ whole quoted_word text.now) }
 {
     match quoted_word(alloc, text)? {
         Some((word, [])) => Ok(Some(word)),
@@ -79,8 +78,8 @@ fn whole_quoted(alloc: Global, text: &[char]) -> Result<Option<String>, Memory>
 }
 
 // The word that is quoted at the front of a text, and what stands behind it.
-fn quoted_word(alloc: Global, text: &[char]) -> Result<Option<(String, &[char])>, Memory>
-    ensures { IfOk result (λ found. option_map (λ parts. (characters parts.0, parts.1.now)) found
+fn quoted_word(alloc: Global, text: &[char]) -> Result<Option<(Text, &[char])>, Memory>
+    ensures { IfOk result (λ found. option_map (λ parts. (parts.0, parts.1.now)) found
         ≡ quoted_word.step text.now) }
 {
     let Some(text) = past(text, &QUOTED) else {
@@ -93,8 +92,8 @@ fn quoted_word(alloc: Global, text: &[char]) -> Result<Option<(String, &[char])>
 }
 
 // The words that a whole text marks.
-fn whole_marked(alloc: Global, text: &[char]) -> Result<Option<Vec<String>>, Memory>
-    ensures { IfOk result (λ found. option_map (λ words. map characters words.items) found
+fn whole_marked(alloc: Global, text: &[char]) -> Result<Option<Vec<Text>>, Memory>
+    ensures { IfOk result (λ found. option_map (λ words. words.items) found
         ≡ whole marked_words text.now) }
 {
     match marked_words(alloc, text)? {
@@ -104,8 +103,8 @@ fn whole_marked(alloc: Global, text: &[char]) -> Result<Option<Vec<String>>, Mem
 }
 
 // The words that are marked at the front of a text, and what stands behind them.
-fn marked_words(alloc: Global, text: &[char]) -> Result<Option<(Vec<String>, &[char])>, Memory>
-    ensures { IfOk result (λ found. option_map (λ parts. (map characters parts.0.items, parts.1.now)) found
+fn marked_words(alloc: Global, text: &[char]) -> Result<Option<(Vec<Text>, &[char])>, Memory>
+    ensures { IfOk result (λ found. option_map (λ parts. (parts.0.items, parts.1.now)) found
         ≡ marked_words.step text.now) }
 {
     match past(text, &MARKED) {
@@ -115,8 +114,8 @@ fn marked_words(alloc: Global, text: &[char]) -> Result<Option<(Vec<String>, &[c
 }
 
 // The words of the strings of a mark, where there is one and a parenthesis closes it.
-fn some_strings(alloc: Global, text: &[char]) -> Result<Option<(Vec<String>, &[char])>, Memory>
-    ensures { IfOk result (λ found. option_map (λ parts. (map characters parts.0.items, parts.1.now)) found
+fn some_strings(alloc: Global, text: &[char]) -> Result<Option<(Vec<Text>, &[char])>, Memory>
+    ensures { IfOk result (λ found. option_map (λ parts. (parts.0.items, parts.1.now)) found
         ≡ marked_strings.step text.now) }
 {
     match closed_strings(alloc, text)? {
@@ -127,8 +126,8 @@ fn some_strings(alloc: Global, text: &[char]) -> Result<Option<(Vec<String>, &[c
 
 // The words of the strings of a mark up to the parenthesis that closes it.
 #[tactic(auto, using(crate::proofs::Exactness::marked_string_exact))]
-fn closed_strings(alloc: Global, text: &[char]) -> Result<Option<(Vec<String>, &[char])>, Memory>
-    ensures { IfOk result (λ found. option_map (λ parts. (map characters parts.0.items, parts.1.now)) found
+fn closed_strings(alloc: Global, text: &[char]) -> Result<Option<(Vec<Text>, &[char])>, Memory>
+    ensures { IfOk result (λ found. option_map (λ parts. (parts.0.items, parts.1.now)) found
         ≡ closed_strings.step text.now) }
 {
     let (words, rest) = read_many(alloc, &MarkedString, text)?;
@@ -142,9 +141,9 @@ fn closed_strings(alloc: Global, text: &[char]) -> Result<Option<(Vec<String>, &
 struct MarkedString;
 
 impl Reader<char> for MarkedString {
-    type Value = String;
+    type Value = Text;
 
-    type Many = Vec<String>;
+    type Many = Vec<Text>;
 
     ghost Token = { ℕ };
 
@@ -152,9 +151,9 @@ impl Reader<char> for MarkedString {
 
     ghost tokens = { λ text. text };
 
-    ghost item = { characters };
+    ghost item = { λ word. word };
 
-    ghost items = { λ words. map characters words.items };
+    ghost items = { λ words. words.items };
 
     ghost format = { λ _. marked_string };
 
@@ -162,18 +161,18 @@ impl Reader<char> for MarkedString {
         &self,
         alloc: Global,
         text: &'t [char],
-    ) -> Result<Option<(String, &'t [char])>, Memory> {
+    ) -> Result<Option<(Text, &'t [char])>, Memory> {
         match text {
             [' ', '"', rest @ ..] => string(alloc, rest),
             _ => Ok(None),
         }
     }
 
-    fn none(alloc: Global) -> Vec<String> {
+    fn none(alloc: Global) -> Vec<Text> {
         Vec::new(alloc)
     }
 
-    fn push(words: &mut Vec<String>, word: String) -> Result<(), Memory> {
+    fn push(words: &mut Vec<Text>, word: Text) -> Result<(), Memory> {
         words.push(word)?;
         Ok(())
     }
@@ -181,8 +180,8 @@ impl Reader<char> for MarkedString {
 
 // The word of a string up to its closing double quote, and what stands behind that, where there is one.
 #[tactic(auto, using(crate::proofs::Exactness::character_exact))]
-fn string(alloc: Global, text: &[char]) -> Result<Option<(String, &[char])>, Memory>
-    ensures { IfOk result (λ found. option_map (λ parts. (characters parts.0, parts.1.now)) found
+fn string(alloc: Global, text: &[char]) -> Result<Option<(Text, &[char])>, Memory>
+    ensures { IfOk result (λ found. option_map (λ parts. (parts.0, parts.1.now)) found
         ≡ string_behind.step text.now) }
 {
     let (word, rest) = read_many(alloc, &StringCharacter, text)?;
@@ -198,7 +197,7 @@ struct StringCharacter;
 impl Reader<char> for StringCharacter {
     type Value = char;
 
-    type Many = String;
+    type Many = Text;
 
     ghost Token = { ℕ };
 
@@ -208,7 +207,7 @@ impl Reader<char> for StringCharacter {
 
     ghost item = { λ c. c };
 
-    ghost items = { characters };
+    ghost items = { λ word. word };
 
     ghost format = { λ _. string_character };
 
@@ -220,28 +219,12 @@ impl Reader<char> for StringCharacter {
         Ok(string_character(text))
     }
 
-    fn none(alloc: Global) -> String {
-        new_string(alloc)
+    fn none(alloc: Global) -> Text {
+        Text::new(alloc)
     }
 
-    fn push(word: &mut String, c: char) -> Result<(), Memory> {
-        push(word, c)
+    fn push(word: &mut Text, c: char) -> Result<(), Memory> {
+        word.push(c)?;
+        Ok(())
     }
-}
-
-// A string of no characters.
-#[tactic(auto, using(crate::proofs::Strings::no_characters))]
-fn new_string(alloc: Global) -> String
-    ensures { characters result ≡ [] }
-{
-    String::new(alloc)
-}
-
-// Adds a character.
-#[tactic(auto, using(crate::proofs::Strings::another_character))]
-fn push(word: &mut String, c: char) -> Result<(), Memory>
-    ensures { OnOk result (characters word.new ≡ characters word.old ++ c ∷ []) }
-{
-    word.push(c)?;
-    Ok(())
 }

@@ -13,7 +13,7 @@ unfolding key_at
 returns-in-Err-clause-gives c =
     let part = c.args.part in
     let reading = chars c.args.reading.now in
-    let same : c.of-text.result ≡ reading = c.of-text.ensures ∙ c.in_ok-plain.ensures in
+    let same : c.in_ok-text.text ≡ reading = c.in_ok-text.ensures in
     let good : is_bad_reading reading ≡ false = sym c.is_bad_reading.ensures ∙ c.if-is_bad_reading.false in
     let bytes : c.byte_len.result ≡ byte_len reading = c.byte_len.ensures ∙ ap byte_len same in
     let short : nat_lt (reading_limit part) (byte_len reading) ≡ false =

@@ -1,10 +1,9 @@
-use Rattle.std.proofs.Common.{◌≡◌, ◌++◌, ℕ, List, map}
+use Rattle.std.proofs.Common.{◌≡◌, ◌++◌, ℕ, List}
 use Rattle.dict_format.specs.RowOfItems.{words_once}
-use Rattle.word_sets.specs.Strings.{characters}
 use Rattle.dict_format.proofs.row.add_words.Given as goal
 
 -- the words so far were added
 abbrev pub invariant-loop-word : goal.invariant-loop-word
 invariant-loop-word l =
     (before : List (List ℕ)) → l.fn.known ≡ words_once before
-    → l.known ≡ words_once (before ++ map characters l.yielded)
+    → l.known ≡ words_once (before ++ l.yielded)

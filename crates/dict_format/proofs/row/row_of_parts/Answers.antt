@@ -6,8 +6,8 @@ use Rattle.dict_format.specs.Building.{valid_blocks}
 use Rattle.dict_format.specs.RowOfItems.{row_of_items, has_word, block_in}
 use Rattle.dict_format.specs.Views.{item_said}
 use Rattle.dict_format.proofs.Blocks.{joined-made}
-use Rattle.dict_format.proofs.row.row_of.Goals as goal
-use Rattle.dict_format.proofs.row.row_of.Goals.{In_ok-hides}
+use Rattle.dict_format.proofs.row.row_of_parts.Goals as goal
+use Rattle.dict_format.proofs.row.row_of_parts.Goals.{In_ok-hides}
 
 pub into_cands-requires : goal.into_cands-requires
 into_cands-requires c =
