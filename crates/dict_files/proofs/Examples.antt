@@ -12,8 +12,9 @@ use Rattle.dict_format.specs.FileLines.{FileEntry}
 use Rattle.dict_format.specs.Reading.{texts_at, key_at, fit_items_at, some_row_of, row_reading, line_reading}
 use Rattle.dict_files.specs.declared.place.Place.{Place}
 use Rattle.dict_files.specs.FilePlaces.{piece_at, line_at, reading_at, first_row, has_reading, is_below, is_above}
-use Rattle.dict_files.specs.FilePlaces.{rise, rises}
+use Rattle.dict_files.specs.FilePlaces.{marks_of, rise, rises}
 use Rattle.dict_files.specs.Files.{is_file}
+use Rattle.dict_files.specs.Marks.{every_sixteenth, spaced}
 use Rattle.dict_files.specs.PlainLines.{begins_word, is_plain, plain_reading}
 use Rattle.dict_files.specs.Scanning.{rows_in}
 use Rattle.dict_files.specs.Walked.{is_walked, walked_reading, walked_readings}
@@ -59,6 +60,30 @@ all_rise : map (λ starts. rise (codes "abc") (map letter starts))
     ([] ∷ (2 ∷ []) ∷ (0 ∷ 1 ∷ 2 ∷ []) ∷ (0 ∷ 0 ∷ 1 ∷ []) ∷ (0 ∷ 2 ∷ 1 ∷ []) ∷ (1 ∷ 2 ∷ 0 ∷ []) ∷ [])
     ≡ true ∷ true ∷ true ∷ true ∷ false ∷ false ∷ []
 all_rise = refl
+
+-- Marks
+
+-- with none, one and two between them, from the first one on and from later ones
+spaced_letters : map (λ (from : ℕ × ℕ). spaced from.0 (codes "abcdef") from.1)
+    ((0, 0) ∷ (1, 0) ∷ (1, 1) ∷ (2, 0) ∷ (2, 2) ∷ (2, 5) ∷ (2, 6) ∷ (6, 0) ∷ [])
+    ≡ codes "abcdef" ∷ codes "ace" ∷ codes "bdf" ∷ codes "ad" ∷ codes "cf" ∷ codes "f" ∷ [] ∷ codes "a" ∷ []
+spaced_letters = refl
+
+-- of no letter, one, sixteen, seventeen, thirty-two and thirty-three
+sixteenths : map (λ text. every_sixteenth (codes text)) (
+    "" ∷ "a" ∷ "abcdefghijklmnop" ∷ "abcdefghijklmnopq" ∷ "abcdefghijklmnopqrstuvwxyz012345"
+    ∷ "abcdefghijklmnopqrstuvwxyz0123456"
+    ∷ [])
+    ≡ [] ∷ codes "a" ∷ codes "a" ∷ codes "aq" ∷ codes "aq" ∷ codes "aq6" ∷ []
+sixteenths = refl
+
+-- the readings of seventeen entries, of which the first and the last have marks
+marks : marks_of (codes "abc") (
+    letter 0 ∷ letter 1 ∷ letter 1 ∷ letter 1 ∷ letter 1 ∷ letter 1 ∷ letter 1 ∷ letter 1 ∷ letter 1 ∷ letter 1
+    ∷ letter 1 ∷ letter 1 ∷ letter 1 ∷ letter 1 ∷ letter 1 ∷ letter 1 ∷ letter 2
+    ∷ [])
+    ≡ codes "a" ∷ codes "c" ∷ []
+marks = refl
 
 -- Rows
 

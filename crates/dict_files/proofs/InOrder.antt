@@ -19,14 +19,19 @@ use Rattle.skk_calls.specs.States.{row_in}
 use Rattle.dict_format.specs.FileLines.{entries_of}
 use Rattle.dict_format.specs.ListedLaws.{row-listed}
 use Rattle.dict_files.specs.declared.place.Place.{Place}
-use Rattle.dict_files.specs.FilePlaces.{IsEntry, IsPart, IsValid, first_row, has_reading, is_above, is_below}
-use Rattle.dict_files.specs.FilePlaces.{reading_at, rise, rises, row_at}
+use Rattle.dict_files.specs.FilePlaces.{IsEntry, IsPart, IsReadable, IsValid, first_row, has_reading, is_above}
+use Rattle.dict_files.specs.FilePlaces.{is_below, is_passed, reading_at, rise, rises, row_at}
 use Rattle.dict_files.specs.Scanning.{ArePart}
 
 -- what is read of entries of a part is UTF-8
 pub entries_valid : (part : Part) (bytes : List ℕ) (places : List Place) → All (IsEntry part bytes) places
     → All (IsValid bytes) places
 entries_valid part bytes places are k d low = (are k d low).valid
+
+-- so are their readings
+pub entries_readable : (part : Part) (bytes : List ℕ) (places : List Place) → All (IsEntry part bytes) places
+    → All (IsReadable bytes) places
+entries_readable part bytes places are k d low = (are k d low).readable
 
 -- Rows
 
@@ -95,6 +100,12 @@ module _ (bytes : List ℕ) where
       → is_below bytes reading other ≡ true → is_below bytes reading place ≡ true
   below_closed reading place other up low =
       grind (arith, bytes_order.chain (reading_at bytes other) (reading_at bytes place) reading)
+
+  pub passed_closed : (equal : Bool) (reading : List ℕ) (place other : Place) → rises bytes place other ≡ true
+      → is_passed equal reading (reading_at bytes other) ≡ true
+      → is_passed equal reading (reading_at bytes place) ≡ true
+  passed_closed true reading place other up passed = low_closed reading place other up passed
+  passed_closed false reading place other up passed = below_closed reading place other up passed
 
   -- what has a reading is not less
   pub not_below : (reading : List ℕ) (place : Place) → has_reading bytes reading place ≡ true

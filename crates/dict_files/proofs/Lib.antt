@@ -1,6 +1,7 @@
 mod Examples
 pub mod FileWalk
 pub mod InOrder
+pub mod Marks
 pub mod Places
 pub mod PlainLines
 pub mod Scanned

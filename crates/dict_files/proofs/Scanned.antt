@@ -1,16 +1,17 @@
 -- The places of the entries of a file, one line after another.
 use Rattle.std.proofs.Common.{◌≡◌, ◌≤◌, ◌∙◌, ◌+◌, ℕ, Bool, true, false, Option, None, Some, List, [], ◌∷◌, ◌++◌, All}
 use Rattle.std.proofs.Common.{length, take, drop, refl, sym, ap, subst, arith, encode_utf8_all, if◌then◌else◌}
-use Rattle.std.proofs.Common.{length-append, append_assoc}
+use Rattle.std.proofs.Common.{get_or, length-append, append_assoc}
 use Rattle.std.proofs.Math.Seq.{drop-append_seam, take-append_seam}
 use Rattle.std.specs.List.{cons_option, filter, filter_map, position}
 use Rattle.std.specs.Option.{option_map}
 use Rattle.std.specs.Str.{IsUtf8, chars}
-use Rattle.std.proofs.lemmas.Bool.{le-leb}
+use Rattle.std.proofs.lemmas.Bool.{eqb-true, le-leb}
 use Rattle.std.proofs.lemmas.List.{length-take-le, take-append-drop}
 use Rattle.std.proofs.lemmas.List.Elements.{All-append, All-nil, All-push, filter_map-append}
+use Rattle.std.proofs.lemmas.List.Quantifiers.{position-Some}
 use Rattle.std.proofs.lemmas.Option.{some_pair_parts}
-use Rattle.std.proofs.lemmas.Str.{encodes-chars}
+use Rattle.std.proofs.lemmas.Str.{IsCharBoundary-before_ascii, IsUtf8-take, encodes-chars}
 use Rattle.exact_readers.specs.Cuts.{cut}
 use Rattle.exact_readers.specs.CutLaws.{cut-position}
 use Rattle.exact_readers.specs.LackLaws.{cut-bytes}
@@ -91,12 +92,19 @@ module _ (bytes line : List ℕ) (start : ℕ) (part : Part) (stands : StandsAt 
         (piece-is bytes (take at line) start
         (front, drop at line ++ behind, split ∙ ap (λ piece. front ++ piece) parts, long))
 
+    readable : IsUtf8 (take at line)
+    readable =
+        let (low, space, none) = position-Some is_space line at 0 found in
+        IsUtf8-take line at valid
+        (IsCharBoundary-before_ascii line at low (omega (arith, eqb-true (get_or line at 0) 0x20 space)))
+
     row-is : row_at part bytes here ≡ row_of_line part (chars line)
     row-is = ap (λ bs. row_of_line part (chars bs)) line-is
 
     is-entry : IsEntry part bytes here
     is-entry = record {
       valid = rw line-is valid;
+      readable = rw reading-is readable;
       keyed = λ row e.
           let spelled = sym row-is ∙ e in
           let (rest, cut_is) = cut-behind row spelled in

@@ -1,6 +1,6 @@
 -- A dictionary file as it lies: its bytes, and the places of the entries of each part.
 use Rattle.std.specs.Prelude.{◌≡◌, ◌+◌, ℕ, Bool, true, not, nat_le, if◌then◌else◌, Option, None, Some, List, [], ◌∷◌}
-use Rattle.std.specs.Prelude.{All, length, slice_range, encode_utf8_all}
+use Rattle.std.specs.Prelude.{All, length, map, slice_range, encode_utf8_all}
 use Rattle.std.specs.List.{filter}
 use Rattle.std.specs.Option.{option_or}
 use Rattle.std.specs.Str.{IsUtf8, bytes_eq, chars}
@@ -11,10 +11,11 @@ use Rattle.skk_calls.specs.Rows.{Row}
 use Rattle.skk_calls.specs.States.{row_in}
 use Rattle.dict_format.specs.EntryRows.{listed_rows, row_of_line}
 use Rattle.dict_format.specs.FileLines.{ListsRows, entries_of}
-use Rattle.dict_files.specs.declared.part_places.PartPlaces.{PartPlaces}
+use Rattle.dict_files.specs.declared.part_places.MarkedParts.{MarkedParts}
 use Rattle.dict_files.specs.declared.place.Place.{Place}
 use Rattle.dict_files.specs.Files.{is_file}
-use Rattle.dict_files.specs.PlacesOfParts.{places_in}
+use Rattle.dict_files.specs.Marks.{every_sixteenth}
+use Rattle.dict_files.specs.PlacesOfParts.{marked_in}
 
 -- so many bytes from one of them on, where they are there
 abbrev pub piece_at : List ℕ → ℕ → ℕ → List ℕ
@@ -49,6 +50,14 @@ is_below bytes reading place = bytes_less (reading_at bytes place) reading
 abbrev pub is_above : List ℕ → List ℕ → Place → Bool
 is_above bytes reading place = bytes_less reading (reading_at bytes place)
 
+-- a reading is passed on the way to another: it is less, or where equal ones are passed too not greater
+abbrev pub is_passed : Bool → List ℕ → List ℕ → Bool
+is_passed equal reading other = if equal then not (bytes_less reading other) else bytes_less other reading
+
+-- the reading of an entry is not passed on the way to this one
+abbrev pub is_behind : Bool → List ℕ → List ℕ → Place → Bool
+is_behind equal bytes reading place = if equal then is_above bytes reading place else not (is_below bytes reading place)
+
 -- the reading of an entry is not greater than that of another
 abbrev pub rises : List ℕ → Place → Place → Bool
 rises bytes place other = not (bytes_less (reading_at bytes other) (reading_at bytes place))
@@ -56,6 +65,14 @@ rises bytes place other = not (bytes_less (reading_at bytes other) (reading_at b
 -- the readings of entries do not fall
 abbrev pub rise : List ℕ → List Place → Bool
 rise bytes places = all_pairs (rises bytes) places
+
+-- the marks of entries: the readings of the first and of every sixteenth behind it
+abbrev pub marks_of : List ℕ → List Place → List (List ℕ)
+marks_of bytes places = map (reading_at bytes) (every_sixteenth places)
+
+-- texts are these marks
+abbrev pub AreMarks : List ℕ → List Place → List (List ℕ) → Type 0
+AreMarks bytes places marks = map encode_utf8_all marks ≡ marks_of bytes places
 
 -- the rows that the bytes of a file list
 abbrev pub file_rows : List ℕ → List Row
@@ -65,9 +82,14 @@ file_rows bytes = listed_rows (entries_of bytes)
 abbrev pub IsValid : List ℕ → Place → Type 0
 IsValid bytes place = IsUtf8 (line_at bytes place)
 
--- so it is for an entry of a part, and the row that it spells has that part and its reading
+-- its reading is UTF-8
+abbrev pub IsReadable : List ℕ → Place → Type 0
+IsReadable bytes place = IsUtf8 (reading_at bytes place)
+
+-- both are so for an entry of a part, and the row that it spells has that part and its reading
 pub record IsEntry (part : Part) (bytes : List ℕ) (place : Place) : Type 0 where
   pub valid : IsValid bytes place
+  pub readable : IsReadable bytes place
   pub keyed : (row : Row) → row_at part bytes place ≡ Some row
       → (row.key.part ≡ part) × (reading_at bytes place ≡ encode_utf8_all row.key.reading)
 
@@ -79,8 +101,9 @@ pub record IsPart (part : Part) (bytes : List ℕ) (places : List Place) : Type 
   pub rows : (reading : List ℕ) → first_row part bytes (filter (has_reading bytes (encode_utf8_all reading)) places)
       ≡ row_in (record { part = part; reading = reading }) (file_rows bytes)
 
--- the places of the entries of each part of a file
-pub record IsFile (bytes : List ℕ) (places : PartPlaces) : Type 0 where
+-- the places of the entries of each part of a file, with their marks
+pub record IsFile (bytes : List ℕ) (places : MarkedParts) : Type 0 where
   pub lists : ListsRows bytes (file_rows bytes)
   pub rows : is_file (file_rows bytes) ≡ true
-  pub parts : (part : Part) → IsPart part bytes (places_in places part)
+  pub parts : (part : Part) → IsPart part bytes (marked_in places part).places.items
+  pub marks : (part : Part) → AreMarks bytes (marked_in places part).places.items (marked_in places part).marks

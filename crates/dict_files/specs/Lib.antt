@@ -1,5 +1,6 @@
 pub mod FilePlaces
 pub mod Files
+pub mod Marks
 pub mod PlacesOfParts
 pub mod PlainLines
 pub mod Scanning

@@ -8,10 +8,10 @@ ghost use Rattle.dict_files.specs.FilePlaces.{IsFile, IsValid, first_row, has_re
 ghost use Rattle.dict_files.specs.Walked.{walked_reading};
 ghost use Rattle.dict_files.specs.declared.place.Place.{Place as PlaceValue};
 
-use crate::part_places::PartPlaces;
+use crate::part_places::MarkedParts;
 use crate::place::{Place, plain_at, reading_at};
 use crate::scanning::places_of;
-use crate::searching::{behind_equal, first_row, row_of};
+use crate::searching::{behind_equal, first_row, marked_behind_equal, row_of};
 use dict_format::{FILE_LIMIT, FileFault, files_list_one_thing};
 use skk_calls::{Part, Row, RowKey};
 use skk_text::{Bytes, Copies, Memory, Sequence, Text, text_within};
@@ -19,11 +19,12 @@ use std::alloc::Global;
 use std::marker::Model;
 
 /// A dictionary file as it lies. A line is read when its row is asked for: the first line of its part with a reading
-/// that spells a row is the one that counts. Takes the room of the file, and 12 bytes for each entry.
+/// that spells a row is the one that counts. Takes the room of the file, 12 bytes for each entry, and 2.5 bytes more
+/// for each, which are a copy of one reading in sixteen, by which a search begins.
 #[derive(Drop)]
 pub struct DictionaryFile {
     bytes: Bytes,
-    places: PartPlaces,
+    places: MarkedParts,
 }
 
 /// Dictionary files in order.
@@ -54,7 +55,7 @@ impl DictionaryFile {
     ghost use Rattle.dict_files.specs.Walked.{walked_readings};
 
     /// The file of these bytes, which are moved. Takes time in their number where the readings of each part ascend or
-    /// descend, else with one logarithm in the number of entries.
+    /// descend, else with one logarithm in the number of entries; of sixteen readings one is copied.
     pub fn open(alloc: Global, bytes: Bytes) -> Result<DictionaryFile, FileFault>
         ensures ok { IfOk result (ListsRows bytes) }
         ensures only { (rows : List RowValue) → ListsRows bytes rows
@@ -83,11 +84,13 @@ impl DictionaryFile {
         ensures { IfOk result (λ row. row ≡ row_in key.now self.now) }
     {
         let part = key.part();
+        let marked = self.places.of(part);
         row_of(
             alloc,
             part,
             self.bytes.as_slice(),
-            self.places.of(part),
+            &marked.places,
+            marked.marks.as_slice(),
             key.reading().as_str().as_bytes(),
         )
     }
@@ -99,7 +102,12 @@ impl DictionaryFile {
     {
         let bytes = self.bytes.as_slice();
         let nasi = self.places.of(Part::Nasi);
-        let mut places = behind_equal(bytes, nasi, low.as_str().as_bytes());
+        let mut places = marked_behind_equal(
+            bytes,
+            &nasi.places,
+            nasi.marks.as_slice(),
+            low.as_str().as_bytes(),
+        );
         while let Some((place, later)) = places.split_first() {
             if let Some(next) = walked_at(alloc, bytes, place, places)? {
                 return Ok(Some(next));
@@ -111,7 +119,7 @@ impl DictionaryFile {
 }
 
 // The places of the entries of a file.
-fn places_in(alloc: Global, bytes: &[u8]) -> Result<PartPlaces, FileFault>
+fn places_in(alloc: Global, bytes: &[u8]) -> Result<MarkedParts, FileFault>
     ensures ok { IfOk result (IsFile bytes.now) }
     ensures within { IfOk result (λ _. IsTextWithin file_limit bytes.now) }
     ensures no_text { (fault : TextFault)
@@ -141,7 +149,7 @@ fn walked_at(
         (first_row Nasi bytes.now (filter (has_reading bytes.now (reading_at bytes.now place.now)) places.now))) }
 {
     if let Some(reading) = plain_at(bytes, place) {
-        return Ok(Some(Text::of(String::from_str(alloc, reading)?)));
+        return Ok(Some(Text::from_str(alloc, reading)?));
     }
     let row = first_row(alloc, Part::Nasi, bytes, places, reading_at(bytes, place))?;
     walked_reading(alloc, row)

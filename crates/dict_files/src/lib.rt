@@ -2,14 +2,16 @@
 //! over.
 //!
 //! It stands on `skk_text`, `exact_readers`, `ordered_lists`, `skk_calls`, `word_sets` and `dict_format`. A
-//! `DictionaryFile` keeps a file as it lies, its bytes and the places of its entries in order by their readings, and
-//! reads a line when its row is asked for; a `RowFile` keeps rows that were given, with their places in order.
+//! `DictionaryFile` keeps a file as it lies, its bytes and the places of its entries in order by their readings, with a
+//! copy of one reading in sixteen, and reads a line when its row is asked for; a `RowFile` keeps rows that were given,
+//! with their places in order.
 //! Contracts see of both the rows of the file: those that its bytes list, or those that were given. A law says that a
 //! walk goes over the readings that complete prefixes.
 #![tactic(auto)]
 
 mod dictionary_file;
 mod laws;
+mod marked_places;
 mod part_places;
 mod place;
 mod plain_lines;

@@ -1,9 +1,10 @@
+use crate::marked_places::MarkedPlaces;
 use crate::place::Place;
 use skk_calls::Part;
 use skk_text::Memory;
 use std::alloc::Global;
 
-/// The places of the entries of each part.
+/// The places of the entries of each part, as they come.
 #[derive(Drop)]
 pub struct PartPlaces {
     pub nasi: Vec<Place>,
@@ -26,16 +27,6 @@ impl PartPlaces {
         }
     }
 
-    /// Those of a part.
-    pub fn of(&self, part: Part) -> &[Place]
-        ensures { result.now ≡ places_in self.now part }
-    {
-        match part {
-            Part::Nasi => &self.nasi,
-            Part::Ari => &self.ari,
-        }
-    }
-
     /// The places with one more of a part.
     pub fn with(self, part: Part, place: Place) -> Result<PartPlaces, Memory>
         ensures { IfOk result (λ after. (other : PartValue) → places_in after other
@@ -47,5 +38,27 @@ impl PartPlaces {
             Part::Ari => places.ari.push(place)?,
         }
         Ok(places)
+    }
+}
+
+/// The places of the entries of each part in order by their readings, with their marks.
+#[derive(Drop)]
+pub struct MarkedParts {
+    pub nasi: MarkedPlaces,
+    pub ari: MarkedPlaces,
+}
+
+impl MarkedParts {
+    ghost use Rattle.std.specs.Prelude.{◌≡◌};
+    ghost use Rattle.dict_files.specs.PlacesOfParts.{marked_in};
+
+    /// Those of a part.
+    pub fn of(&self, part: Part) -> &MarkedPlaces
+        ensures { result.now ≡ marked_in self.now part }
+    {
+        match part {
+            Part::Nasi => &self.nasi,
+            Part::Ari => &self.ari,
+        }
     }
 }

@@ -7,7 +7,8 @@ ghost use Rattle.dict_format.specs.Reading.{is_space};
 ghost use Rattle.dict_files.specs.FilePlaces.{IsFile};
 ghost use Rattle.dict_files.specs.Scanning.{AreOfFile};
 
-use crate::part_places::PartPlaces;
+use crate::marked_places::marked;
+use crate::part_places::{MarkedParts, PartPlaces};
 use crate::place::Place;
 use crate::sorting::sort_places;
 use dict_format::{FileLine, FileLines, LineKind, files_list_one_thing, lines_spell_one_row};
@@ -15,18 +16,22 @@ use skk_calls::Part;
 use skk_text::Memory;
 use std::alloc::Global;
 
-/// The places of the entries of a text, those of each part in order by their readings. Takes time in the length of the
-/// text where the readings of a part ascend or descend, else with one logarithm in the number of entries.
-pub fn places_of(alloc: Global, text: &str) -> Result<PartPlaces, Memory>
+/// The places of the entries of a text, those of each part in order by their readings, with their marks. Takes time in
+/// the length of the text where the readings of a part ascend or descend, else with one logarithm in the number of
+/// entries.
+pub fn places_of(alloc: Global, text: &str) -> Result<MarkedParts, Memory>
     requires { length text.now ≤ file_limit }
     ensures { IfOk result (IsFile text.now) }
 {
     lines_spell_one_row();
     files_list_one_thing();
     let PartPlaces { mut nasi, mut ari } = places_in_text(alloc, text)?;
-    sort_places(text.as_bytes(), &mut nasi)?;
-    sort_places(text.as_bytes(), &mut ari)?;
-    Ok(PartPlaces { nasi, ari })
+    let bytes = text.as_bytes();
+    sort_places(bytes, &mut nasi)?;
+    sort_places(bytes, &mut ari)?;
+    let nasi = marked(alloc, bytes, nasi)?;
+    let ari = marked(alloc, bytes, ari)?;
+    Ok(MarkedParts { nasi, ari })
 }
 
 // The places of the entries of a text, as they come.

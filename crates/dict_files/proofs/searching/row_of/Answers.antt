@@ -13,7 +13,7 @@ pub first_row-requires : goal.first_row-requires
 first_row-requires c =
     let bytes = c.args.bytes.now in
     let kept = λ (place : Place). not (is_below bytes c.args.reading.now place) in
-    rw c.behind_lesser.ensures (record {
+    rw c.behind.ensures (record {
       valid = All-filter kept (IsValid bytes) c.args.places.now c.requires.valid;
       rise = all_pairs-filter (rises bytes) kept c.args.places.now c.requires.rise;
       least = list_all_kept kept c.args.places.now;
@@ -27,4 +27,4 @@ returns c =
     (not_below bytes reading) c.args.places.now in
     IfOk-weaker c.first_row.result _ _
     (λ row is. is ∙ ap (first_row c.args.part bytes)
-    (ap (filter (has_reading bytes reading)) c.behind_lesser.ensures ∙ all)) c.first_row.ensures
+    (ap (filter (has_reading bytes reading)) c.behind.ensures ∙ all)) c.first_row.ensures
