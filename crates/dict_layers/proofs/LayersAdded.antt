@@ -1,18 +1,20 @@
 -- The candidates of layers, as they are added layer by layer, where words that were given or hidden are passed.
-use Rattle.std.proofs.Common.{◌≡◌, ℕ, Bool, true, not, ◌&&◌, ◌||◌, Option, List, [], ◌∷◌, ◌++◌, refl}
+use Rattle.std.proofs.Common.{◌≡◌, ℕ, Bool, true, false, not, ◌&&◌, ◌||◌, Option, None, Some, List, [], ◌∷◌, ◌++◌, refl}
 use Rattle.std.proofs.Common.{sym, ap, ◌∙◌, arith}
 use Rattle.std.specs.List.{filter, fold}
+use Rattle.std.specs.Option.{is_some}
 use Rattle.std.proofs.lemmas.List.{append-nil}
 use Rattle.std.proofs.lemmas.List.Folds.{list_any-append}
 use Rattle.std.proofs.lemmas.List.Sums.{fold-append}
 use Rattle.skk_text.specs.PairsLaws.{all_pairs-filter, all_pairs-map}
 use Rattle.skk_calls.specs.Found.{cands_of_layers, merged, ordered, without_hidden}
 use Rattle.skk_calls.specs.KeyLaws.{same_equal}
-use Rattle.skk_calls.specs.Rows.{Cand, Row, same_text, has_text, is_row, texts_differ, words_of}
+use Rattle.skk_calls.specs.Rows.{Block, Cand, Row, same_text, has_text, is_row, texts_differ, words_of}
 use Rattle.word_sets.specs.FirstLaws.{first_of_each-differ, first_of_each-fold, fold_new-apart, fold_new-texts}
 use Rattle.word_sets.specs.Firsts.{with_new}
 use Rattle.dict_layers.specs.Merging.{Merging}
-use Rattle.dict_layers.proofs.BlockFirst.{ordered_differ}
+use Rattle.dict_layers.specs.Blocks.{block_for}
+use Rattle.dict_layers.proofs.BlockFirst.{by_block, ordered_differ}
 
 abbrev word_of : Cand → List ℕ
 word_of cand = cand.word
@@ -110,3 +112,23 @@ merging_last all okuri cands new passed row before valid shown =
     layer_shown cands new before.hidden passed row okuri valid before.alike shown
     ∙ ap (fold (with_new word_of) cands) (sym (append-nil (without_hidden before.hidden (ordered row okuri))))
     ∙ before.comes
+
+-- One layer alone
+
+-- no candidate is hidden where nothing is
+none_hidden : (cands : List Cand) → without_hidden [] cands ≡ cands
+none_hidden [] = refl
+none_hidden (cand ∷ cands) = ap (λ others. cand ∷ others) (none_hidden cands)
+
+-- no block is found where none is there
+none_found : (block : Option Block) → is_some block ≡ false → None ≡ block
+none_found None none = refl
+none_found (Some block) none = cc
+
+-- a layer alone without a block of the okurigana gives its candidates as they are
+pub merged_alone : (row : Row) (okuri : Option (List ℕ)) → is_row row ≡ true
+    → is_some (block_for okuri row.blocks) ≡ false → row.cands ≡ merged (row ∷ []) okuri
+merged_alone row okuri valid none =
+    merging_last (row ∷ []) okuri [] row.cands [] row (merging_none (row ∷ []) okuri) valid
+    (by_block row okuri None (none_found (block_for okuri row.blocks) none)
+    ∙ sym (none_hidden (ordered row okuri)))

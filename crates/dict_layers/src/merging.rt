@@ -30,6 +30,7 @@ pub fn merge(
 
 /// What `merge` gives of these layers and of one more below them, which is moved. Takes time in the length of the
 /// layers. Candidates of the last layer are moved, unless it has a block of the okurigana; all others are copied once.
+/// Takes no memory where the last layer stands alone and has no such block.
 pub fn merge_onto(
     alloc: Global,
     upper: &RowList,
@@ -57,7 +58,7 @@ fn merged_cands(alloc: Global, layers: &[&Row], okuri: Option<&Okuri>) -> Result
     Ok(cands)
 }
 
-// The candidates of layers and of one more below them.
+// The candidates of layers and of one more below them, which stay where they lie if nothing comes before them.
 fn cands_onto(
     alloc: Global,
     upper: &[&Row],
@@ -67,6 +68,9 @@ fn cands_onto(
     ensures { IfOk result (λ cands. cands
         ≡ merged (map (λ row. row.now) upper.now ++ last ∷ []) (option_copied okuri.entry)) }
 {
+    if upper.is_empty() && block_for(&last, okuri).is_none() {
+        return Ok(last.into_cands());
+    }
     let mut cands = Cands::new(alloc);
     let mut passed = WordRefs::new(alloc);
     add_upper(alloc, &mut cands, &mut passed, upper, okuri)?;
