@@ -128,7 +128,7 @@ impl FirstTexts {
         ensures cands { OnOk result (self.new.cands ≡ with_new text_of self.old.cands cand) }
         ensures texts { OnOk result (has_texts self.new) }
     {
-        if self.texts.insert(cand.text.copy(alloc)?.into_string())? {
+        if self.texts.insert(cand.text.to_string(alloc)?)? {
             self.cands.push(cand)?;
         }
         Ok(())

@@ -66,8 +66,7 @@ impl<'a> Word<'a> {
     pub fn to_text(&self, alloc: Global) -> Result<Text, Memory>
         ensures { IfOk result (λ text. text ≡ self.now) }
     {
-        let copy = String::from_str(alloc, self.text)?;
-        Ok(Text::of(copy))
+        Text::from_str(alloc, self.text)
     }
 
     /// The word's content.

@@ -80,7 +80,7 @@ fn add_new(alloc: Global, readings: &mut WordSet, reading: &Text) -> Result<(), 
     ensures { OnOk result (readings.new ≡ with_new (λ text. text) readings.old reading.now) }
 {
     if !readings.contains(reading) {
-        readings.insert(reading.copy(alloc)?.into_string())?;
+        readings.insert(reading.to_string(alloc)?)?;
     }
     Ok(())
 }

@@ -276,7 +276,7 @@ fn text_of(alloc: Global, bytes: &[u8]) -> Result<Option<Text>, Memory>
     ensures { IfOk result (λ text. text ≡ text_of bytes.now) }
 {
     match str::from_utf8(bytes) {
-        Ok(text) => Ok(Some(Text::of(String::from_str(alloc, text)?))),
+        Ok(text) => Ok(Some(Text::from_str(alloc, text)?)),
         Err(_) => Ok(None),
     }
 }

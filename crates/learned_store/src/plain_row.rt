@@ -37,11 +37,11 @@ fn row_of_word(alloc: Global, part: Part, line: &str, stamp: u64) -> Result<Opti
     let Some((reading, word)) = plain_parts(line) else {
         return Ok(None);
     };
-    let word = Text::of(String::from_str(alloc, word)?);
+    let word = Text::from_str(alloc, word)?;
     if needs_quotes(&word) {
         return Ok(None);
     }
-    let reading = Text::of(String::from_str(alloc, reading)?);
+    let reading = Text::from_str(alloc, reading)?;
     match (
         RowKey::new(part, reading),
         Cand::new(word, Text::new(alloc)),

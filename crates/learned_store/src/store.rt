@@ -178,7 +178,8 @@ impl<D: Disk> Store<D> {
         }
     }
 
-    // The reply to a look-up or a completion: what is kept of it, or else what is found, which is kept then.
+    // The reply to a look-up or a completion: what is kept of it, unless the files' rows for it were found already, or
+    // else what is found, which is kept then.
     fn reply(
         &mut self,
         alloc: Global,
@@ -191,12 +192,12 @@ impl<D: Disk> Store<D> {
         ensures may { IfOk result (λ reply. may_reply call.now reply ≡ true) }
         ensures same { self.new ≡ self.old }
     {
-        if let Some(cands) = self.kept.answer(alloc, call)? {
-            return Ok(Reply::Found(cands));
-        }
         let found = match found {
             Some(found) => found,
-            None => file_rows(alloc, &self.system, call),
+            None => match self.kept.answer(alloc, call)? {
+                Some(cands) => return Ok(Reply::Found(cands)),
+                None => file_rows(alloc, &self.system, call),
+            },
         };
         let reply = self.index.answer_over(alloc, &self.system, found, call)?;
         if let Reply::Found(cands) = &reply {

@@ -1,6 +1,6 @@
 -- What an open reading keeps, and the steps that begin an okurigana or end a prefix.
 use Rattle.std.proofs.Common.{◌≡◌, ◌∙◌, ℕ, true, false, ◌&&◌, not, List, [], ◌∷◌, ◌++◌, Option, None, Some, Result, Ok}
-use Rattle.std.proofs.Common.{Err, sym, ap, refl, arith}
+use Rattle.std.proofs.Common.{Err, sym, ap, refl, arith, if◌then◌else◌}
 use Rattle.std.specs.Result.{IsOk, IsErr}
 use Rattle.skk_text.specs.Lists.{is_empty}
 use Rattle.skk_text.specs.Text.{without_last}
@@ -10,8 +10,9 @@ use Rattle.romaji_rules.specs.declared.out.Out.{Out}
 use Rattle.romaji_rules.specs.declared.rule.Rule.{Rule}
 use Rattle.romaji_rules.specs.Typed.{fed}
 use Rattle.reading_state.specs.Puts.{Begun, Reading, Put, may_read, may_end, fits_reading, later_notice, refusal}
-use Rattle.reading_state.specs.Puts.{unless_refused}
-use Rattle.reading_state.specs.Reading.{flush, begin_okuri, ends_prefix, prefix_step}
+use Rattle.reading_state.specs.Puts.{put, unless_refused}
+use Rattle.reading_state.specs.Reading.{flush, begin_okuri, ends_prefix, feed, prefix_step, put_after, with_okuri}
+use Rattle.reading_state.specs.Reading.{with_pending}
 use Rattle.reading_state.specs.declared.reading_do.ReadingThen.TheVariants.{Convert}
 use Rattle.reading_state.proofs.Texts.{may_end-without_last}
 
@@ -122,3 +123,40 @@ module _ (rules : List Rule) (reading seen : Reading) (view : seen ≡ reading) 
       ap (λ e. e ++ kana) (sym is_empty) ∙ is_kana ∙ ap (λ e. unless_refused second e piece) is_empty
       ∙ ap (unless_refused second []) is_piece in
       ap (λ f. begin_okuri rules f c) flushed_seen ∙ rw (some, alone, is_after, is_last, first, refused) refl
+
+-- an empty list joined of two is the first of them
+joined_none : {X : Type 0} (xs ys : List X) → is_empty (xs ++ ys) ≡ true → xs ++ ys ≡ xs
+joined_none [] [] none = refl
+joined_none [] (y ∷ ys) none = cc none
+joined_none (x ∷ xs) ys none = cc none
+
+-- behind a flush that leaves an empty reading the letter of an okurigana is read as a character
+pub letter_read : (rules : List Rule) (reading : Reading) (added : List ℕ) (notice : Notice)
+    → flush rules reading ≡ flushed_to reading added notice → reading.okuri ≡ None
+    → is_empty (reading.text ++ added) ≡ true
+    → (c : ℕ) (before pending piece : List ℕ) (out : Out) (after : Reading) (second last : Notice) → before ≡ []
+    → fed rules before c ≡ record { pending = pending; out = out } → piece ≡ out.hira
+    → put (with_pending reading pending) piece ≡ record { reading = after; notice = second }
+    → last ≡ later_notice notice second
+    → begin_okuri rules (flush rules reading) c ≡ record { reading = after; notice = last }
+letter_read rules reading added notice flushed none empty c before pending piece out after second last is_before
+    is_fed is_piece is_put is_last =
+    let alone : fed rules [] c ≡ record { pending = pending; out = out } =
+    ap (λ b. fed rules b c) (sym is_before) ∙ is_fed in
+    let seen : List ℕ → Option Begun → Reading = λ text okuri. record {
+      text = text;
+      is_abbrev = reading.is_abbrev;
+      okuri = okuri;
+      pending = pending;
+      completions = reading.completions;
+    } in
+    let same : seen (reading.text ++ added) None ≡ seen reading.text reading.okuri =
+    ap (λ t. seen t None) (joined_none reading.text added empty) ∙ ap (seen reading.text) (sym none) in
+    let read : put (seen (reading.text ++ added) None) out.hira ≡ record { reading = after; notice = second } =
+    ap (λ r. put r out.hira) same ∙ ap (put (seen reading.text reading.okuri)) (sym is_piece) ∙ is_put in
+    let left = flushed_to reading added notice in
+    ap (λ f. begin_okuri rules f c) flushed
+    ∙ ap (λ b. if b then put_after left (feed rules left.reading c)
+    else put_after left (feed rules (with_okuri left.reading c []) c)) empty
+    ∙ ap (λ f. put_after left (put (with_pending left.reading f.pending) f.out.hira)) alone
+    ∙ ap (put_after left) read ∙ ap (λ n. record { reading = after; notice = n }) (sym is_last)

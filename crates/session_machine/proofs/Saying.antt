@@ -184,15 +184,6 @@ says-out {S} interaction behind asked memory other start last told is =
       memory = begins-followed interaction told.dialog behind begins;
     }
 
--- the same of the result that hands it on
-pub says-cut : {S T : Type 0} (interaction : Interaction S) (behind : S → Interaction T) (asked : Result S Memory)
-    (result : Result T Memory) (memory : Memory) (start last : Spoken) (P : Memory → Type 0)
-    → Says interaction asked start last → asked ≡ Err memory → IsErrAnd result P
-    → Says (followed_by interaction behind) result start last
-says-cut interaction behind asked (Ok end) memory start last P told is lacks = absurd (search (rules, lacks))
-says-cut interaction behind asked (Err other) memory start last P told is lacks =
-    says-out interaction behind asked memory other start last told is
-
 -- the same of a call that changes a session where it stands
 pub says-stopped : {S : Type 0} (interaction : Interaction S) (behind : S → Meaning) (asked : Result S Memory)
     (memory : Memory) (result : Result (Unit {0}) Memory) (session : Session) (start last : Spoken)

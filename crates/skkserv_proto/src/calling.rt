@@ -65,7 +65,7 @@ fn text_of(alloc: Global, bytes: &Bytes) -> Result<Option<Text>, Memory>
     ensures { IfOk result (λ text. text ≡ (if is_utf8 bytes.now then Some (chars bytes.now) else None)) }
 {
     match str::from_utf8(bytes.as_slice()) {
-        Ok(text) => Ok(Some(Text::of(String::from_str(alloc, text)?))),
+        Ok(text) => Ok(Some(Text::from_str(alloc, text)?)),
         Err(_) => Ok(None),
     }
 }

@@ -8,7 +8,7 @@ pub returns-in_ok-from_str-in-Ok : goal.returns-in_ok-from_str-in-Ok
 returns-in_ok-from_str-in-Ok c =
     let read = c.in-Ok.ensures.cases in
     rw (is_utf8-from_IsUtf8 c.args.bytes.now (subst IsUtf8 c.as_slice.ensures read.1))
-    (ap Some (c.of.ensures ∙ ap chars (c.in_ok-from_str-in-Ok.ensures.ok ∙ read.0 ∙ c.as_slice.ensures)))
+    (ap Some (c.in_ok-from_str-in-Ok.ensures ∙ ap chars (read.0 ∙ c.as_slice.ensures)))
 
 pub returns-in-Err : goal.returns-in-Err
 returns-in-Err c =
