@@ -1,7 +1,5 @@
 pub mod Commands
 pub mod OptionCounts
-pub mod OptionFronts
-pub mod OptionNames
 pub mod OptionRows
 pub mod OptionWalk
 pub mod OptionsAsked

@@ -1,29 +1,29 @@
 -- What `clap` finds in the words of options: a row for each setting, in their order, and the defaults of those that are
 -- not given.
-use Rattle.std.proofs.Common.{◌≡◌, ◌∙◌, ◌||◌, sym, ap, refl, arith, inl, inr, cond}
-use Rattle.std.proofs.Common.{ℕ, Bool, true, false, if◌then◌else◌, Option, Some, None, List, [], ◌∷◌, ◌++◌, map, codes}
-use Rattle.std.proofs.Common.{fold}
+use Rattle.std.proofs.Common.{◌≡◌, ◌∙◌, ◌==◌, sym, ap, refl, arith, cond, Bool, true, false, Option, Some, None}
+use Rattle.std.proofs.Common.{List, [], ◌∷◌, ◌++◌, map, codes, fold, is_some}
 use lib.Utf8.{encodes}
 use Rattle.std.specs.Fmt.{decimal}
-use Rattle.std.specs.List.{find}
-use Rattle.std.specs.Option.{option_map}
+use Rattle.std.specs.List.{find, flat_map}
+use Rattle.std.specs.Option.{option_map, option_map_or, option_or}
 use Rattle.std.specs.Str.{bytes_eq}
-use Rattle.std.proofs.lemmas.Bool.{cases_Bool, cond-true, cond-false, eqb-true}
+use Rattle.std.proofs.lemmas.Bool.{cond_both, eqb-true}
+use Rattle.std.proofs.lemmas.Bool.Decides.{nat_tests}
 use Rattle.std.proofs.lemmas.List.{append-nil}
+use Rattle.std.proofs.lemmas.List.Folds.{find-append}
 use Rattle.std.proofs.lemmas.List.Sums.{sum_by-cons}
 use Rattle.std.proofs.lemmas.Slice.Eq.{bytes_eq-Decides}
-use Rattle.clap.specs.Walk.{Row, Rule, Text, at_row, default_rows, has_row, reading_by, used, with_default, with_values}
-use Rattle.clap.specs.Walk.{more_values, without}
+use Rattle.clap.specs.Walk.{Row, Rule, Text, at_row, default_rows, has_row, more_values, reading_by, with_default}
+use Rattle.clap.specs.Walk.{with_values, without}
+use Rattle.clap.specs.declared.builder.value_parser.Reading.{Reading}
 use Rattle.clap.specs.declared.builder.value_parser.Reading.TheVariants.{AsWritten}
 use Rattle.clap.specs.declared.parser.matches.ValueSource.TheVariants.{CommandLine, DefaultValue}
-use Rattle.command_line.specs.Arguments.{place, name_at}
-use Rattle.command_line.specs.Settings.{is_of, setting, times, value_given}
+use Rattle.command_line.specs.Arguments.{option_named, place, name_at}
+use Rattle.command_line.specs.Settings.{is_given, is_of, setting, value_given}
 use Rattle.command_line.specs.declared.argument.Argument.{Argument}
 use Rattle.command_line.specs.declared.setting.Setting.{Setting}
 use Rattle.command_line.specs.declared.setting.Value.{Value}
 use Rattle.command_line.specs.declared.setting.Value.TheVariants.{Nothing, Text as Name, Number}
-use Rattle.command_line.proofs.OptionNames.{names_tell}
-use Rattle.command_line.proofs.OptionWalk.{flag, valued}
 
 -- the text that stands for a value in a row
 abbrev pub shown : Value → Text
@@ -40,76 +40,37 @@ use_row name text =
 abbrev pub row_for : Setting → Row
 row_for given = use_row (name_at (place given.argument)) (shown given.value)
 
--- Uses
+-- the row of an id
+abbrev pub row_in : Text → List Row → Option Row
+row_in id rows = find (λ r. bytes_eq r.id id) rows
 
 absent : (id : Text) (change : Row → List Row) (missing rows : List Row) → has_row id rows ≡ false
     → at_row id change missing rows ≡ rows ++ missing
 absent id change missing [] none = refl
 absent id change missing (r ∷ rs) none = grind (arith, absent id change missing rs)
 
--- none of this id is taken out
-untouched : (id : Text) (rows : List Row) → has_row id rows ≡ false → without id rows ≡ rows
-untouched id rows none = absent id (λ _. []) [] rows none ∙ append-nil rows
-
 -- the first use of an option is a row more
-pub valued_used : (name text : Text) (required : Bool) (found : List Row) → has_row name found ≡ false
-    → used (valued name required) (text ∷ []) found ≡ found ++ use_row name text ∷ []
-valued_used name text required found new =
-    ap (with_values name AsWritten CommandLine (text ∷ [])) (untouched name found new)
-    ∙ absent name (more_values CommandLine (text ∷ [])) (use_row name text ∷ []) found new
+pub used_row : (id text shows : Text) (rows : List Row) → text ≡ shows → has_row id rows ≡ false
+    → with_values id AsWritten CommandLine (text ∷ []) (without id rows) ≡ rows ++ use_row id shows ∷ []
+used_row id text shows rows same new =
+    ap (with_values id AsWritten CommandLine (text ∷ [])) (absent id (λ _. []) [] rows new ∙ append-nil rows)
+    ∙ absent id (more_values CommandLine (text ∷ [])) (use_row id text ∷ []) rows new
+    ∙ ap (λ t. rows ++ use_row id t ∷ []) same
 
-pub flag_used : (name : Text) (required : Bool) (found : List Row) → has_row name found ≡ false
-    → used (flag name required) [] found ≡ found ++ use_row name (codes "true") ∷ []
-flag_used name required found new =
-    ap (with_values name AsWritten CommandLine (codes "true" ∷ [])) (untouched name found new)
-    ∙ absent name (more_values CommandLine (codes "true" ∷ [])) (use_row name (codes "true") ∷ []) found new
+-- two names are alike exactly where they are of one argument: the option that a name spells leads back
+spelled-back : (argument : Argument)
+    → option_map_or (λ row. place row.argument) (option_named (45 ∷ 45 ∷ name_at (place argument))) 0 ≡ place argument
+spelled-back argument = grind arith
 
--- an argument that is not given has no row
-pub not_yet : (argument : Argument) (settings : List Setting) → times argument settings ≡ 0
-    → has_row (name_at (place argument)) (map row_for settings) ≡ false
-not_yet argument [] none = refl
-not_yet argument (first ∷ settings) none =
-    let own = is_of argument first in
-    let counted = sum_by-cons (λ s. cond (is_of argument s) 1 0) first settings in
-    elim (cases_Bool own) [
-      | inl same ↦ absurd (omega (arith, none, counted, ap {B = ℕ} (λ (b : Bool). cond b 1 0) same))
-      | inr other ↦
-          ap (λ b. b || has_row (name_at (place argument)) (map row_for settings))
-          (names_tell first.argument argument ∙ other)
-          ∙ not_yet argument settings
-          (omega (arith, none, counted, ap {B = ℕ} (λ (b : Bool). cond b 1 0) other))
-    ]
-
--- Rows by their id
-
-abbrev pub row_in : Text → List Row → Option Row
-row_in id rows = find (λ r. bytes_eq r.id id) rows
-
-there-is : (id : Text) (rows : List Row) → has_row id rows ≡ true → (row : Row) × (row_in id rows ≡ Some row)
-there-is id [] some = cc
-there-is id (r ∷ rs) some =
-    elim (cases_Bool (bytes_eq r.id id)) [
-      | inl same ↦ (r, cond-true (bytes_eq r.id id) (Some r) (row_in id rs) same)
-      | inr other ↦
-          let more = there-is id rs (sym (ap (λ b. b || has_row id rs) other) ∙ some) in
-          (more.0, cond-false (bytes_eq r.id id) (Some r) (row_in id rs) other ∙ more.1)
-    ]
-
-there-is-none : (id : Text) (rows : List Row) → has_row id rows ≡ false → row_in id rows ≡ None
-there-is-none id [] none = refl
-there-is-none id (r ∷ rs) none = grind (arith, there-is-none id rs)
-
--- a row more of the id, where there was none
-pushed-own : (id : Text) (rows : List Row) (row : Row) → has_row id rows ≡ false → bytes_eq row.id id ≡ true
-    → row_in id (rows ++ row ∷ []) ≡ Some row
-pushed-own id [] row none same = grind arith
-pushed-own id (r ∷ rs) row none same = grind (arith, pushed-own id rs row)
-
--- and of another
-pushed-other : (id : Text) (rows : List Row) (row : Row) → bytes_eq row.id id ≡ false
-    → row_in id (rows ++ row ∷ []) ≡ row_in id rows
-pushed-other id [] row other = grind arith
-pushed-other id (r ∷ rs) row other = grind (arith, pushed-other id rs row)
+names_tell : (a b : Argument) → bytes_eq (name_at (place a)) (name_at (place b)) ≡ (place a == place b)
+names_tell a b =
+    grind (
+      arith,
+      (bytes_eq-Decides (name_at (place a)) (name_at (place b))).0,
+      (bytes_eq-Decides (name_at (place a)) (name_at (place b))).1,
+      spelled-back a,
+      spelled-back b,
+    )
 
 -- the row of an argument is that of its value
 pub row_given : (argument : Argument) (settings : List Setting)
@@ -117,84 +78,85 @@ pub row_given : (argument : Argument) (settings : List Setting)
     ≡ option_map (λ value. row_for (setting argument value)) (value_given argument settings)
 row_given argument [] = refl
 row_given argument (first ∷ settings) =
-    let own = is_of argument first in
-    let more = row_in (name_at (place argument)) (map row_for settings) in
-    let make = λ (value : Value). row_for (setting argument value) in
-    ap (λ b. cond b (Some (row_for first)) more) (names_tell first.argument argument)
-    ∙ elim (cases_Bool own) [
-      | inl same ↦
-          cond-true own (Some (row_for first)) more same
-          ∙ ap (λ number. Some (use_row (name_at number) (shown first.value)))
-          (eqb-true (place first.argument) (place argument) same)
-          ∙ sym (ap (option_map make) (cond-true own (Some first.value) (value_given argument settings) same))
-      | inr other ↦
-          cond-false own (Some (row_for first)) more other ∙ row_given argument settings
-          ∙ sym (ap (option_map make) (cond-false own (Some first.value) (value_given argument settings) other))
-    ]
+    ap (λ b. cond b (Some (row_for first)) (row_in (name_at (place argument)) (map row_for settings)))
+    (names_tell first.argument argument)
+    ∙ by (is_of argument first) (eqb-true (place first.argument) (place argument)) (row_given argument settings)
+  where
+    by : (own : Bool) → (own ≡ true → place first.argument ≡ place argument)
+        → row_in (name_at (place argument)) (map row_for settings)
+        ≡ option_map (λ value. row_for (setting argument value)) (value_given argument settings)
+        → cond own (Some (row_for first)) (row_in (name_at (place argument)) (map row_for settings))
+        ≡ option_map (λ value. row_for (setting argument value))
+        (cond own (Some first.value) (value_given argument settings))
+    by true same rest = ap (λ number. Some (use_row (name_at number) (shown first.value))) (same refl)
+    by false same rest = rest
 
--- Defaults
-
--- the row of an option's default values, where it has some
-abbrev default-row : Rule → List Text → Option Row
-default-row rule [] = None
-default-row rule (text ∷ texts) =
-    Some (record {
-      id = rule.id;
-      values = text ∷ texts;
-      count = None;
-      source = Some DefaultValue;
-      reading = reading_by rule;
-    })
-
-abbrev filled-in : Rule → Option Row → Option Row
-filled-in rule (Some row) = Some row
-filled-in rule None = default-row rule rule.defaults
-
--- the row of an id once the options' defaults stand in
-abbrev pub after : Text → List Rule → Option Row → Option Row
-after id [] row = row
-after id (rule ∷ rules) row = after id rules (if bytes_eq rule.id id then filled-in rule row else row)
-
--- a row that is there stays
-pub after_row : (id : Text) (rules : List Rule) (row : Row) → after id rules (Some row) ≡ Some row
-after_row id [] row = refl
-after_row id (rule ∷ rules) row = grind (arith, after_row id rules row)
-
--- the defaults of one option, of which there is no row yet
-new-default : (id : Text) (rule : Rule) (texts : List Text) (rows : List Row) → has_row rule.id rows ≡ false
-    → row_in id (default_rows rule.id (reading_by rule) texts rows)
-    ≡ (if bytes_eq rule.id id then default-row rule texts else row_in id rows)
-new-default id rule [] rows none = grind (arith, (bytes_eq-Decides rule.id id).0, there-is-none id rows)
-new-default id rule (text ∷ texts) rows none =
-    let row : Row = record {
-      id = rule.id;
-      values = text ∷ texts;
-      count = None;
-      source = Some DefaultValue;
-      reading = reading_by rule;
-    } in
+pub given-tells : (argument : Argument) (settings : List Setting)
+    → is_some (value_given argument settings) ≡ is_given argument settings
+given-tells argument [] = refl
+given-tells argument (first ∷ settings) =
     grind (
       arith,
-      absent rule.id (more_values DefaultValue (text ∷ texts)) (row ∷ []) rows none,
-      (bytes_eq-Decides rule.id id).0,
-      pushed-own id rows row,
-      pushed-other id rows row,
+      nat_tests,
+      sum_by-cons (λ (s : Setting). cond (is_of argument s) 1 0) first settings,
+      given-tells argument settings,
     )
 
-one-default : (id : Text) (rule : Rule) (rows : List Row)
-    → row_in id (with_default rows rule)
-    ≡ (if bytes_eq rule.id id then filled-in rule (row_in id rows) else row_in id rows)
-one-default id rule rows =
+has-is : (id : Text) (rows : List Row) → has_row id rows ≡ is_some (row_in id rows)
+has-is id [] = refl
+has-is id (r ∷ rs) = grind (arith, has-is id rs)
+
+some-map : {X Y : Type 0} (f : X → Y) (o : Option X) → is_some (option_map f o) ≡ is_some o
+some-map f None = refl
+some-map f (Some x) = refl
+
+-- there is one exactly where the argument is given
+pub has_given : (argument : Argument) (settings : List Setting)
+    → has_row (name_at (place argument)) (map row_for settings) ≡ is_given argument settings
+has_given argument settings =
+    has-is (name_at (place argument)) (map row_for settings) ∙ ap is_some (row_given argument settings)
+    ∙ some-map (λ value. row_for (setting argument value)) (value_given argument settings)
+    ∙ given-tells argument settings
+
+-- the row that an option's default values make
+abbrev default : Rule → List Row
+default rule = default_rows rule.id (reading_by rule) rule.defaults []
+
+-- those of options
+abbrev pub defaults_of : List Rule → List Row
+defaults_of rules = flat_map default rules
+
+or-none : (o : Option Row) → o ≡ option_or o None
+or-none None = refl
+or-none (Some r) = refl
+
+one-default : (id : Text) (how : Reading) (own : Text) (texts : List Text) (rows : List Row)
+    → row_in id (cond (has_row own rows) rows (default_rows own how texts rows))
+    ≡ option_or (row_in id rows) (row_in id (default_rows own how texts []))
+one-default id how own [] rows =
+    cond_both (has_row own rows) rows rows (λ l. row_in id l ≡ option_or (row_in id rows) None)
+    (λ _. or-none (row_in id rows)) (λ _. or-none (row_in id rows))
+one-default id how own (text ∷ texts) rows =
     grind (
       arith,
-      new-default id rule rule.defaults rows,
-      there-is id rows,
-      there-is-none id rows,
-      (bytes_eq-Decides rule.id id).0,
+      has-is own rows,
+      (bytes_eq-Decides own id).0,
+      absent own (more_values DefaultValue (text ∷ texts)) (default_rows own how (text ∷ texts) []) rows,
+      find-append (λ (r : Row). bytes_eq r.id id) rows (default_rows own how (text ∷ texts) []),
     )
 
+or-or : (a b c : Option Row) → option_or (option_or a b) c ≡ option_or a (option_or b c)
+or-or None b c = refl
+or-or (Some r) b c = refl
+
+-- the row of an id once the options' defaults stand in: a row that is there stays
 pub defaulted : (id : Text) (rules : List Rule) (rows : List Row)
-    → row_in id (fold with_default rows rules) ≡ after id rules (row_in id rows)
-defaulted id [] rows = refl
+    → row_in id (fold with_default rows rules) ≡ option_or (row_in id rows) (row_in id (defaults_of rules))
+defaulted id [] rows = or-none (row_in id rows)
 defaulted id (rule ∷ rules) rows =
-    defaulted id rules (with_default rows rule) ∙ ap (after id rules) (one-default id rule rows)
+    defaulted id rules (with_default rows rule)
+    ∙ ap (λ o. option_or o (row_in id (defaults_of rules)))
+    (one-default id (reading_by rule) rule.id rule.defaults rows)
+    ∙ or-or (row_in id rows) (row_in id (default rule)) (row_in id (defaults_of rules))
+    ∙ ap (option_or (row_in id rows))
+    (sym (find-append (λ (r : Row). bytes_eq r.id id) (default rule) (defaults_of rules)))

@@ -278,10 +278,10 @@ told : map {B = List ℕ × Option (List ℕ) × Bool} (λ rule. (rule.id, rule.
     ≡ (codes "learned", Some (codes "learned"), true) ∷ (codes "book", Some (codes "book"), false) ∷ []
 told = refl
 
--- the settings of the words of one command alone
+-- the settings that a command takes of the words behind the first, whatever that is
 asked : map (λ line. option_map length (settings_asked titles.Dump (words line)))
-    ("dump --learned a" ∷ "dump --learned a --book 1" ∷ "dump --book 1" ∷ "check a" ∷ "dump" ∷ [])
-    ≡ Some 1 ∷ Some 2 ∷ None ∷ None ∷ None ∷ []
+    ("dump --learned a" ∷ "dump --learned a --book 1" ∷ "dump --book 1" ∷ "check a" ∷ "dump" ∷ "load --learned a" ∷ [])
+    ≡ Some 1 ∷ Some 2 ∷ None ∷ None ∷ None ∷ Some 1 ∷ []
 unfolding digits
 asked = refl
 

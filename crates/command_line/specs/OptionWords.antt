@@ -3,8 +3,7 @@ use Rattle.std.specs.Prelude.{◌≡◌, ℕ, Bool, true, ◌&&◌, nat_le, if�
 use Rattle.std.specs.Prelude.{codes, encode_utf8_all}
 use Rattle.std.specs.Fmt.{decimal}
 use Rattle.std.specs.List.{AllByRecursion, list_all}
-use Rattle.std.specs.Option.{is_some, option_and_then, option_map}
-use Rattle.std.specs.Str.{bytes_eq}
+use Rattle.std.specs.Option.{IfSome, is_some, option_and_then, option_map}
 use Rattle.clap.specs.Simple.{new_shape}
 use Rattle.clap.specs.Words.{App, Rule, first_value, found_of, new_rule, one_text}
 use Rattle.clap.specs.declared.builder.action.ArgAction.{ArgAction}
@@ -12,6 +11,7 @@ use Rattle.clap.specs.declared.builder.action.ArgAction.TheVariants.{SetTrue}
 use Rattle.clap.specs.declared.parser.matches.ArgMatches.{ArgMatches}
 use Rattle.command_line.specs.Arguments.{place, row_at, takes_at, name_at}
 use Rattle.command_line.specs.Command.{title, takes}
+use Rattle.command_line.specs.Ranges.{LiesFrom}
 use Rattle.command_line.specs.Settings.{Row, fits, is_given, number_given, settings_of, text_given}
 use Rattle.command_line.specs.declared.argument.Argument.{Argument}
 use Rattle.command_line.specs.declared.argument.Takes.{Takes}
@@ -58,13 +58,13 @@ TakesOptions name = list_all is_single (takes name) ≡ true
 abbrev pub settings_with : CommandName → List Setting → Option (List Setting)
 settings_with name settings = if fits (takes name) settings then Some settings else None
 
--- the settings of words, where they are a command
+-- the settings of the words behind the first, where a command takes them
 abbrev pub settings_asked : CommandName → List (List ℕ) → Option (List Setting)
 settings_asked name [] = None
-settings_asked name (word ∷ words) =
-    if bytes_eq word (title name) then option_and_then (settings_with name) (settings_of words) else None
+settings_asked name (word ∷ words) = option_and_then (settings_with name) (settings_of words)
 
--- what is found for an option is what settings give it: its text, its number in decimal, or that it is given
+-- what is found for an option is what settings give it: its text, its number in decimal, which lies in its range, or
+-- that it is given
 abbrev pub GivesTaken : Takes → Argument → List Setting → ArgMatches → Type 0
 GivesTaken Nothing argument settings matches =
     one_text (found_of matches) (name_at (place argument))
@@ -73,7 +73,8 @@ GivesTaken Name argument settings matches =
     first_value (found_of matches) (name_at (place argument))
     ≡ option_map encode_utf8_all (text_given argument settings)
 GivesTaken (Number least most) argument settings matches =
-    first_value (found_of matches) (name_at (place argument)) ≡ option_map decimal (number_given argument settings)
+    (first_value (found_of matches) (name_at (place argument)) ≡ option_map decimal (number_given argument settings))
+    × IfSome (number_given argument settings) (LiesFrom least most)
 
 -- so it is with each option of a command
 abbrev pub GivesOptions : CommandName → List Setting → ArgMatches → Type 0

@@ -1,29 +1,25 @@
 -- The numbers of commands lie in their ranges.
-use Rattle.std.proofs.Common.{◌≡◌, ◌≢◌, ◌≤◌, ◌&&◌, sym, subst, refl, ℕ, true, false, cond}
+use Rattle.std.proofs.Common.{◌≡◌, ◌≢◌, ◌≤◌, sym, subst, refl, ℕ, true, false, cond}
 use Rattle.std.proofs.Common.{Option, Some, None, List, [], ◌∷◌, arith, nat_le}
-use Rattle.std.specs.Fmt.{decimal}
 use Rattle.std.specs.List.{AllByRecursion}
 use Rattle.std.specs.Option.{IfSome, option_and_then, unwrap_or}
-use Rattle.std.specs.Str.{bytes_eq}
-use Rattle.std.specs.Str.Parse.{digits_value}
 use Rattle.std.proofs.lemmas.Bool.{cond_both, and_parts, leb-true, eqb-true}
 use Rattle.std.proofs.lemmas.List.Sums.{sum_by-cons}
 use Rattle.std.proofs.lemmas.Option.{IfSome_then}
-use Rattle.command_line.specs.Arguments.{option_named, value_of, place, takes_at}
+use Rattle.command_line.specs.Arguments.{place, takes_at}
 use Rattle.command_line.specs.Command.{takes, required, command, command_with, command_named, command_of}
 use Rattle.command_line.specs.Command.{book_dumped, book_to_dump, load_of, load_asked, port_served}
 use Rattle.command_line.specs.Command.{port_to_serve}
-use Rattle.command_line.specs.OptionLaws.{IfSome-all, IfSome-map, IfSome-and_then, IfSome-if}
+use Rattle.command_line.specs.OptionLaws.{IfSome-all, IfSome-and_then, IfSome-if}
 use Rattle.command_line.specs.Ranges.{LiesFrom, HasNumbersInRange}
-use Rattle.command_line.specs.Settings.{setting, takes_value}
-use Rattle.command_line.specs.SettingLaws.{IsWritten, AreWritten, bare, alone, joined, apart, named, written}
+use Rattle.command_line.specs.Settings.{takes_value}
+use Rattle.command_line.specs.SettingLaws.{AreWritten, Writes, empty, bare, alone, joined, apart, taken_by}
+use Rattle.command_line.specs.SettingLaws.{written}
 use Rattle.command_line.specs.Settings.{settings_of, is_of, times, number_in, value_given}
 use Rattle.command_line.specs.Settings.{number_given, number_or, is_within, fits}
-use Rattle.command_line.specs.Words.{is_name, number_within}
 use Rattle.command_line.specs.declared.argument.Argument.{Argument}
 use Rattle.command_line.specs.declared.argument.Argument.TheVariants.{Limit, Port, Connections, Book, Seed}
 use Rattle.command_line.specs.declared.argument.Argument.TheVariants.{Sessions, Lines}
-use Rattle.command_line.specs.declared.argument.OptionRow.{OptionRow}
 use Rattle.command_line.specs.declared.argument.Takes.{Takes}
 use Rattle.command_line.specs.declared.argument.Takes.TheVariants.{Nothing, Name, Number}
 use Rattle.command_line.specs.declared.command.Command.{Command}
@@ -43,48 +39,32 @@ IsTaken Nothing value = value ≡ values.Nothing
 IsTaken Name value = (text : List ℕ) × (value ≡ values.Text text)
 IsTaken (Number least most) value = (number : ℕ) × (value ≡ values.Number number) × LiesFrom least most number
 
-value-taken : (taken : Takes) (word : List ℕ) → IfSome (value_of taken word) (IsTaken taken)
-value-taken Nothing word = tt
-value-taken Name word = IfSome-if (IsTaken Name) (is_name word) (values.Text word) (λ e. (word, refl))
-value-taken (Number least most) word =
-    let number = digits_value 10 word in
-    IfSome-map (IsTaken (Number least most)) values.Number (number_within least most word)
-    (IfSome-if (λ n. IsTaken (Number least most) (values.Number n))
-    (bytes_eq word (decimal number) && (nat_le least number && nat_le number most)) number (λ e.
-    let bounds = and_parts (nat_le least number) (nat_le number most)
-    (and_parts (bytes_eq word (decimal number)) (nat_le least number && nat_le number most) e).1 in
-    (number, refl, (leb-true least number bounds.0, leb-true number most bounds.1))))
+value-taken : (taken : Takes) (word : List ℕ) (value : Value) → Writes taken word value → IsTaken taken value
+value-taken Nothing word value writes = absurd writes
+value-taken Name word value writes = (word, writes.1)
+value-taken (Number least most) word value writes = (writes.0, writes.2, writes.3)
 
 -- so it is in a setting that is written
 abbrev pub IsGiven : Setting → Type 0
 IsGiven given = IsTaken (takes_at (place given.argument)) given.value
-
-taken-in : (spelling text : List ℕ) (row : OptionRow) (value : Value) → option_named spelling ≡ Some row
-    → value_of row.takes text ≡ Some value → IsGiven (setting row.argument value)
-taken-in spelling text row value spelled stands =
-    subst (λ t. IsTaken t value) (named spelling row spelled).0
-    (subst (λ o. IfSome o (IsTaken row.takes)) stands (value-taken row.takes text))
 
 none-taken : (taken : Takes) → takes_value taken ≡ false → IsTaken taken values.Nothing
 none-taken Nothing none = refl
 none-taken Name none = cc
 none-taken (Number least most) none = cc
 
-is-given : (front : List (List ℕ)) (first : Setting) → IsWritten front first → IsGiven first
-is-given front first (bare word) = (word, refl)
-is-given front first (alone word row spelled none) =
-    subst (λ t. IsTaken t values.Nothing) (named word row spelled).0 (none-taken row.takes none)
-is-given front first (joined spelling text row value spelled stands) =
-    taken-in spelling text row value spelled stands
-is-given front first (apart spelling text row value spelled stands) = taken-in spelling text row value spelled stands
-
 -- and so in all that words write
 abbrev pub AreGiven : List Setting → Type 0
 AreGiven settings = AllByRecursion IsGiven settings
 
-pub are-given : (words : List (List ℕ)) (settings : List Setting) → AreWritten words settings → AreGiven settings
-are-given words [] is = tt
-are-given words (first ∷ settings) is = (is-given is.0 first is.3, are-given is.1 settings is.4)
+pub are-given : {words : List (List ℕ)} {settings : List Setting} → AreWritten words settings → AreGiven settings
+are-given empty = tt
+are-given (bare word more) = ((word, refl), are-given more)
+are-given (alone argument free more) = (none-taken (taken_by argument) free, are-given more)
+are-given (joined argument text value writes more) =
+    (value-taken (taken_by argument) text value writes, are-given more)
+are-given (apart argument text value writes more) =
+    (value-taken (taken_by argument) text value writes, are-given more)
 
 -- the value of an argument
 pub value-given : (argument : Argument) (settings : List Setting) → AreGiven settings
@@ -173,7 +153,7 @@ words-in_range (word ∷ words) =
     IfSome-and_then HasNumbersInRange (command_with name) (settings_of words)
     (IfSome_then (settings_of words) (written words) (λ settings is.
     IfSome-if HasNumbersInRange (fits (takes name) settings) (command name settings)
-    (in_range name settings (are-given words settings is))))))
+    (in_range name settings (are-given is))))))
 
 -- each number of a command that words are lies in its range
 pub numbers_in_range : (words : List (List ℕ)) (read : Command) → command_of words ≡ Some read → HasNumbersInRange read

@@ -1,82 +1,95 @@
 -- How words write the settings that they give.
-use Rattle.std.proofs.Common.{◌≡◌, sym, subst, refl, ℕ, false, if◌then◌else◌, Option, Some, None, List, []}
-use Rattle.std.proofs.Common.{◌∷◌, ◌++◌, ◌==◌, ap}
+use Rattle.std.proofs.Common.{◌≡◌, ◌&&◌, sym, subst, refl, ℕ, true, false, if◌then◌else◌, Option, Some, None, List, []}
+use Rattle.std.proofs.Common.{◌∷◌, ◌++◌, ◌==◌, ap, nat_le}
+use Rattle.std.specs.Fmt.{decimal}
 use Rattle.std.specs.List.{AllByRecursion}
 use Rattle.std.specs.Map.{lookup}
 use Rattle.std.specs.Option.{IfSome, option_map, option_and_then}
 use Rattle.std.specs.Str.{bytes_eq}
-use Rattle.std.proofs.lemmas.Bool.{cond_both, eqb-true}
+use Rattle.std.specs.Str.Parse.{digits_value}
+use Rattle.std.proofs.lemmas.Bool.{and_parts, cond_both, eqb-true, leb-true}
 use Rattle.std.proofs.lemmas.Option.{IfSome_then}
 use Rattle.std.proofs.lemmas.Slice.Eq.{bytes_eq-Decides}
 use Rattle.command_line.specs.Arguments.{options, option_named, value_of, place, takes_at, name_at}
-use Rattle.command_line.specs.OptionLaws.{IfSome-is, IfSome-map, IfSome-and_then, IfSome-map_or, IfSome-if}
+use Rattle.command_line.specs.OptionLaws.{IfSome-map, IfSome-and_then, IfSome-map_or, IfSome-if}
+use Rattle.command_line.specs.Ranges.{LiesFrom}
 use Rattle.command_line.specs.Settings.{setting, takes_value, option_alone, option_with, option_cut, name_or_cut, whole}
 use Rattle.command_line.specs.Settings.{begun, with_setting, settings_of}
-use Rattle.command_line.specs.Words.{is_name, cut, with_character}
+use Rattle.command_line.specs.Words.{is_name, number_within, cut, with_character}
+use Rattle.command_line.specs.declared.argument.Argument.{Argument}
 use Rattle.command_line.specs.declared.argument.Argument.TheVariants.{File}
 use Rattle.command_line.specs.declared.argument.OptionRow.{OptionRow}
+use Rattle.command_line.specs.declared.argument.Takes.{Takes}
+use Rattle.command_line.specs.declared.argument.Takes.TheVariants as takes
 use Rattle.command_line.specs.declared.setting.Setting.{Setting}
 use Rattle.command_line.specs.declared.setting.Value.{Value}
-use Rattle.command_line.specs.declared.setting.Value.TheVariants.{Nothing, Text}
+use Rattle.command_line.specs.declared.setting.Value.TheVariants.{Nothing, Text, Number}
 
--- what holds of each row of the table holds of the row that a word spells
-pub in-table : (P : List ℕ → OptionRow → Type 0) → AllByRecursion (λ (row : List ℕ × OptionRow). P row.0 row.1) options
-    → (word : List ℕ) → IfSome (option_named word) (P word)
-in-table P all word = found options all
-  where
-    found : (rows : List (List ℕ × OptionRow)) → AllByRecursion (λ (row : List ℕ × OptionRow). P row.0 row.1) rows
-        → IfSome (lookup (bytes_eq word) rows) (P word)
-    found [] all = tt
-    found (row ∷ rows) all =
-        cond_both (bytes_eq word row.0) (Some row.1) (lookup (bytes_eq word) rows) (λ o. IfSome o (P word))
-        (λ same. subst (λ w. P w row.1) (sym ((bytes_eq-Decides word row.0).0 same)) all.0)
-        (λ _. found rows all.1)
+-- what the option of an argument takes, and how it is spelled: by its place, a name behind two hyphens
+abbrev pub taken_by : Argument → Takes
+taken_by argument = takes_at (place argument)
 
--- a row is what its argument's place says: what it takes, and how it is spelled behind two hyphens
-abbrev pub IsRowOf : List ℕ → OptionRow → Type 0
-IsRowOf word row = (row.takes ≡ takes_at (place row.argument)) × (word ≡ 45 ∷ 45 ∷ name_at (place row.argument))
+-- how it is spelled
+abbrev pub spelling : Argument → List ℕ
+spelling argument = 45 ∷ 45 ∷ name_at (place argument)
+
+-- a word and its row are what the row's argument says
+abbrev IsRowOf : List ℕ → OptionRow → Type 0
+IsRowOf word row = ◌≡◌ {A = Takes × List ℕ} (row.takes, word) (taken_by row.argument, spelling row.argument)
 
 -- the row that a word spells is such
-pub named : (word : List ℕ) (row : OptionRow) → option_named word ≡ Some row → IsRowOf word row
-named word row is = subst (λ o. IfSome o (IsRowOf word)) is (in-table IsRowOf each word)
+named : (word : List ℕ) → IfSome (option_named word) (IsRowOf word)
+named word =
+    found options (refl, (refl, (refl, (refl, (refl, (refl, (refl, (refl, (refl, (refl, (refl, tt)))))))))))
   where
-    each : AllByRecursion (λ (row : List ℕ × OptionRow). IsRowOf row.0 row.1) options
-    each = (
-      (refl, refl),
-      (
-        (refl, refl),
-        (
-          (refl, refl),
-          (
-            (refl, refl),
-            (
-              (refl, refl),
-              (
-                (refl, refl),
-                ((refl, refl), ((refl, refl), ((refl, refl), ((refl, refl), ((refl, refl), tt))))),
-              ),
-            ),
-          ),
-        ),
-      ),
-    )
+    found : (rows : List (List ℕ × OptionRow))
+        → AllByRecursion (λ (row : List ℕ × OptionRow). IsRowOf row.0 row.1) rows
+        → IfSome (lookup (bytes_eq word) rows) (IsRowOf word)
+    found [] all = tt
+    found (row ∷ rows) all =
+        cond_both (bytes_eq word row.0) (Some row.1) (lookup (bytes_eq word) rows) (λ o. IfSome o (IsRowOf word))
+        (λ same. subst (λ w. IsRowOf w row.1) (sym ((bytes_eq-Decides word row.0).0 same)) all.0)
+        (λ _. found rows all.1)
 
--- words write a setting: a file's name, an option by itself, or an option with its value behind `=` or in the next word
-pub data IsWritten : List (List ℕ) → Setting → Type 0 where
-  bare : (word : List ℕ) → IsWritten (word ∷ []) (setting File (Text word))
-  alone : (word : List ℕ) (row : OptionRow) → option_named word ≡ Some row → takes_value row.takes ≡ false
-      → IsWritten (word ∷ []) (setting row.argument Nothing)
-  joined : (spelling text : List ℕ) (row : OptionRow) (value : Value) → option_named spelling ≡ Some row
-      → value_of row.takes text ≡ Some value → IsWritten ((spelling ++ 61 ∷ text) ∷ []) (setting row.argument value)
-  apart : (spelling text : List ℕ) (row : OptionRow) (value : Value) → option_named spelling ≡ Some row
-      → value_of row.takes text ≡ Some value → IsWritten (spelling ∷ text ∷ []) (setting row.argument value)
+-- a word writes a value of what is taken: a name, or a number in its range
+abbrev pub Writes : Takes → List ℕ → Value → Type 0
+Writes takes.Nothing word value = ⊥
+Writes takes.Name word value = (is_name word ≡ true) × (value ≡ Text word)
+Writes (takes.Number least most) word value =
+    (number : ℕ) × (word ≡ decimal number) × (value ≡ Number number) × LiesFrom least most number
 
--- words write settings, each behind the one before
-abbrev pub AreWritten : List (List ℕ) → List Setting → Type 0
-AreWritten words [] = words ≡ []
-AreWritten words (first ∷ settings) =
-    (front : List (List ℕ)) × (behind : List (List ℕ)) × (words ≡ front ++ behind) × IsWritten front first
-    × AreWritten behind settings
+value-written : (taken : Takes) (word : List ℕ) → IfSome (value_of taken word) (Writes taken word)
+value-written takes.Nothing word = tt
+value-written takes.Name word = IfSome-if (Writes takes.Name word) (is_name word) (Text word) (λ e. (e, refl))
+value-written (takes.Number least most) word =
+    let number = digits_value 10 word in
+    let range = nat_le least number && nat_le number most in
+    IfSome-map (Writes (takes.Number least most) word) Number (number_within least most word)
+    (IfSome-if (λ n. Writes (takes.Number least most) word (Number n)) (bytes_eq word (decimal number) && range) number
+    (λ e.
+    let parts = and_parts (bytes_eq word (decimal number)) range e in
+    let bounds = and_parts (nat_le least number) (nat_le number most) parts.1 in (
+      number,
+      (bytes_eq-Decides word (decimal number)).0 parts.0,
+      refl,
+      (leb-true least number bounds.0, leb-true number most bounds.1),
+    )))
+
+-- words write settings, each of them a file's name, an option by itself, or an option with its value behind `=` or in
+-- the next word
+pub data AreWritten : List (List ℕ) → List Setting → Type 0 where
+  empty : AreWritten [] []
+  bare : (word : List ℕ) {words : List (List ℕ)} {settings : List Setting} → AreWritten words settings
+      → AreWritten (word ∷ words) (setting File (Text word) ∷ settings)
+  alone : (argument : Argument) {words : List (List ℕ)} {settings : List Setting}
+      → takes_value (taken_by argument) ≡ false → AreWritten words settings
+      → AreWritten (spelling argument ∷ words) (setting argument Nothing ∷ settings)
+  joined : (argument : Argument) (text : List ℕ) (value : Value) {words : List (List ℕ)} {settings : List Setting}
+      → Writes (taken_by argument) text value → AreWritten words settings
+      → AreWritten ((spelling argument ++ 61 ∷ text) ∷ words) (setting argument value ∷ settings)
+  apart : (argument : Argument) (text : List ℕ) (value : Value) {words : List (List ℕ)} {settings : List Setting}
+      → Writes (taken_by argument) text value → AreWritten words settings
+      → AreWritten (spelling argument ∷ text ∷ words) (setting argument value ∷ settings)
 
 -- the two parts of a word that is cut make it
 cut-joined : (word : List ℕ) → IfSome (cut word) (λ parts. word ≡ parts.0 ++ 61 ∷ parts.1)
@@ -88,57 +101,67 @@ cut-joined (c ∷ cs) =
     IfSome-map (λ parts. c ∷ cs ≡ parts.0 ++ 61 ∷ parts.1) (with_character c) (cut cs)
     (IfSome_then (cut cs) (cut-joined cs) (λ parts is. ap (λ l. c ∷ l) is)))
 
+-- an option writes its setting in some form of words, with a value where it does so with each that it takes
+option-written : (form : List ℕ → List (List ℕ)) (word text : List ℕ) (settings : List Setting) (row : OptionRow)
+    → IsRowOf word row → ((value : Value) → Writes (taken_by row.argument) text value
+    → AreWritten (form (spelling row.argument)) (setting row.argument value ∷ settings))
+    → IfSome (option_with row text) (λ s. AreWritten (form word) (s ∷ settings))
+option-written form word text settings row is by =
+    subst (λ (p : Takes × List ℕ). IfSome (option_map (setting row.argument) (value_of p.0 text))
+    (λ s. AreWritten (form p.1) (s ∷ settings))) (sym is)
+    (IfSome-map (λ s. AreWritten (form (spelling row.argument)) (s ∷ settings)) (setting row.argument)
+    (value_of (taken_by row.argument) text)
+    (IfSome_then (value_of (taken_by row.argument) text) (value-written (taken_by row.argument) text) by))
+
+alone-written : (word : List ℕ) (words : List (List ℕ)) (settings : List Setting) (row : OptionRow) → IsRowOf word row
+    → AreWritten words settings → IfSome (option_alone row) (λ s. AreWritten (word ∷ words) (s ∷ settings))
+alone-written word words settings row is more =
+    subst (λ (p : Takes × List ℕ). IfSome (if takes_value p.0 then None else Some (setting row.argument Nothing))
+    (λ s. AreWritten (p.1 ∷ words) (s ∷ settings))) (sym is)
+    (cond_both (takes_value (taken_by row.argument)) None (Some (setting row.argument Nothing))
+    (λ o. IfSome o (λ s. AreWritten (spelling row.argument ∷ words) (s ∷ settings))) (λ _. tt)
+    (λ free. alone row.argument free more))
+
 -- what a word writes by itself
-cut-written : (word : List ℕ) (parts : List ℕ × List ℕ) → word ≡ parts.0 ++ 61 ∷ parts.1
-    → IfSome (option_cut parts) (IsWritten (word ∷ []))
-cut-written word parts is =
-    let P = IsWritten ((parts.0 ++ 61 ∷ parts.1) ∷ []) in
-    subst (λ w. IfSome (option_cut parts) (IsWritten (w ∷ []))) (sym is)
-    (IfSome-and_then P (λ row. option_with row parts.1) (option_named parts.0)
-    (IfSome_then (option_named parts.0) (IfSome-is (option_named parts.0)) (λ row spelled.
-    IfSome-map P (setting row.argument) (value_of row.takes parts.1)
-    (IfSome_then (value_of row.takes parts.1) (IfSome-is (value_of row.takes parts.1))
-    (λ value stands. joined parts.0 parts.1 row value spelled stands)))))
-
-whole-written : (word : List ℕ) → IfSome (whole word) (IsWritten (word ∷ []))
-whole-written word =
-    let P = IsWritten (word ∷ []) in
+whole-written : (word : List ℕ) (words : List (List ℕ)) (settings : List Setting) → AreWritten words settings
+    → IfSome (whole word) (λ s. AreWritten (word ∷ words) (s ∷ settings))
+whole-written word words settings more =
+    let P = λ (s : Setting). AreWritten (word ∷ words) (s ∷ settings) in
     IfSome-map_or P option_alone (option_named word) (name_or_cut word)
-    (IfSome_then (option_named word) (IfSome-is (option_named word)) (λ row spelled.
-    cond_both (takes_value row.takes) None (Some (setting row.argument Nothing)) (λ o. IfSome o P) (λ _. tt)
-    (λ none. alone word row spelled none)))
+    (IfSome_then (option_named word) (named word) (λ row is. alone-written word words settings row is more))
     (cond_both (is_name word) (Some (setting File (Text word))) (option_and_then option_cut (cut word))
-    (λ o. IfSome o P) (λ _. bare word) (λ _.
-    IfSome-and_then P option_cut (cut word) (IfSome_then (cut word) (cut-joined word) (cut-written word))))
+    (λ o. IfSome o P) (λ _. bare word more) (λ _.
+    IfSome-and_then P option_cut (cut word) (IfSome_then (cut word) (cut-joined word) (λ parts is.
+    subst (λ w. IfSome (option_cut parts) (λ s. AreWritten (w ∷ words) (s ∷ settings))) (sym is)
+    (IfSome-and_then (λ s. AreWritten ((parts.0 ++ 61 ∷ parts.1) ∷ words) (s ∷ settings))
+    (λ row. option_with row parts.1) (option_named parts.0)
+    (IfSome_then (option_named parts.0) (named parts.0) (λ row of.
+    option-written (λ w. (w ++ 61 ∷ parts.1) ∷ words) parts.0 parts.1 settings row of
+    (λ value writes. joined row.argument parts.1 value writes more))))))))
 
--- what it writes with the next
-apart-written : (word next : List ℕ)
-    → IfSome (begun word) (λ row. IfSome (option_with row next) (IsWritten (word ∷ next ∷ [])))
-apart-written word next =
-    let P = IsWritten (word ∷ next ∷ []) in
-    let Q = λ (row : OptionRow). IfSome (option_with row next) P in
-    IfSome-and_then Q (λ row. if takes_value row.takes then Some row else None) (option_named word)
-    (IfSome_then (option_named word) (IfSome-is (option_named word)) (λ row spelled.
-    IfSome-if Q (takes_value row.takes) row (λ _.
-    IfSome-map P (setting row.argument) (value_of row.takes next)
-    (IfSome_then (value_of row.takes next) (IfSome-is (value_of row.takes next))
-    (λ value stands. apart word next row value spelled stands)))))
-
-one-more : (front behind : List (List ℕ)) (first : Option Setting) (others : Option (List Setting))
-    → IfSome first (IsWritten front) → IfSome others (AreWritten behind)
-    → IfSome (with_setting first others) (AreWritten (front ++ behind))
-one-more front behind None others is more = tt
-one-more front behind (Some first) None is more = tt
-one-more front behind (Some first) (Some others) is more = (front, behind, refl, is, more)
+one-more : (words : List (List ℕ)) (first : Option Setting) (others : Option (List Setting))
+    → IfSome others (λ settings. IfSome first (λ s. AreWritten words (s ∷ settings)))
+    → IfSome (with_setting first others) (AreWritten words)
+one-more words None others is = tt
+one-more words (Some first) None is = tt
+one-more words (Some first) (Some others) is = is
 
 -- words write the settings that they give
 pub written : (words : List (List ℕ)) → IfSome (settings_of words) (AreWritten words)
-written [] = refl
-written (word ∷ []) = one-more (word ∷ []) [] (whole word) (Some []) (whole-written word) refl
+written [] = empty
+written (word ∷ []) = one-more (word ∷ []) (whole word) (Some []) (whole-written word [] [] empty)
 written (word ∷ next ∷ words) =
-    IfSome-map_or (AreWritten (word ∷ next ∷ words)) (λ row. with_setting (option_with row next) (settings_of words))
-    (begun word) (with_setting (whole word) (settings_of (next ∷ words)))
-    (IfSome_then (begun word) (apart-written word next)
-    (λ row is. one-more (word ∷ next ∷ []) words (option_with row next) (settings_of words) is (written words)))
-    (one-more (word ∷ []) (next ∷ words) (whole word) (settings_of (next ∷ words)) (whole-written word)
-    (written (next ∷ words)))
+    let all = word ∷ next ∷ words in
+    IfSome-map_or (AreWritten all) (λ row. with_setting (option_with row next) (settings_of words)) (begun word)
+    (with_setting (whole word) (settings_of (next ∷ words)))
+    (IfSome-and_then (λ row. IfSome (with_setting (option_with row next) (settings_of words)) (AreWritten all))
+    (λ row. if takes_value row.takes then Some row else None) (option_named word)
+    (IfSome_then (option_named word) (named word) (λ row is.
+    IfSome-if (λ r. IfSome (with_setting (option_with r next) (settings_of words)) (AreWritten all))
+    (takes_value row.takes) row (λ _.
+    one-more all (option_with row next) (settings_of words)
+    (IfSome_then (settings_of words) (written words) (λ settings more.
+    option-written (λ w. w ∷ next ∷ words) word next settings row is
+    (λ value writes. apart row.argument next value writes more)))))))
+    (one-more all (whole word) (settings_of (next ∷ words))
+    (IfSome_then (settings_of (next ∷ words)) (written (next ∷ words)) (whole-written word (next ∷ words))))

@@ -1,22 +1,23 @@
-use Rattle.std.proofs.Common.{◌∙◌, sym, ap, ap₂, refl, arith, Some, List, ℕ}
-use Rattle.std.specs.Option.{option_map}
-use Rattle.command_line.specs.Command.{book_to_dump, dump_options}
+use Rattle.std.proofs.Common.{◌∙◌, sym, ap, ap₂, subst, arith, is_some, Some, List, ℕ}
+use Rattle.std.specs.Option.{IfSome}
+use Rattle.command_line.specs.OptionWords.{GivesOptions}
+use Rattle.command_line.specs.Settings.{number_given, text_given}
 use Rattle.command_line.specs.declared.argument.Argument.TheVariants.{Learned, Book}
 use Rattle.command_line.specs.declared.command_name.CommandName.TheVariants.{Dump}
-use Rattle.command_line.proofs.OptionsAsked.{dump_asked, same_number, same_text, settings_found, settings_there}
+use Rattle.command_line.proofs.OptionsAsked.{dump_asked, same_number, same_text}
 use Rattle.command_line.proofs.option_words.dump_options.Goals as goal
 
 pub matches_in-requires-clause-asked : goal.matches_in-requires-clause-asked
-matches_in-requires-clause-asked c =
-    let words = c.args.words.now in
-    settings_there Dump dump_options (book_to_dump words) words (dump_asked words) c.requires
+matches_in-requires-clause-asked c = ap is_some (dump_asked c.args.words.now c.requires).is
 
 pub returns : goal.returns
 returns c =
-    let words = c.args.words.now in
-    let some = settings_there Dump dump_options (book_to_dump words) words (dump_asked words) c.requires in
-    let found = settings_found Dump words c.in-Ok.matches some c.in-Ok.ensures.ok in
-    dump_asked words ∙ ap (option_map dump_options) found.1
+    let asked = dump_asked c.args.words.now c.requires in
+    let settings = asked.settings in
+    let gives =
+    subst (λ o. IfSome o (λ s. GivesOptions Dump s c.in-Ok.matches)) asked.is c.in-Ok.ensures.ok in
+    asked.made
     ∙ sym (ap₂ (λ (l : List ℕ) (b : ℕ). Some (record { learned = l; book = b }))
-    (same_text Learned found.0 c.text_of.result _ found.3.0 c.text_of.ensures)
-    (same_number Book 0 65535 found.0 c.number_of.result _ found.2 refl (omega arith) found.3.1.0 c.number_of.ensures))
+    (same_text (text_given Learned settings) _ c.text_of.result gives.0 c.text_of.ensures)
+    (same_number 0 65535 (number_given Book settings) _ c.number_of.result (omega arith) gives.1.0
+    c.number_of.ensures))
