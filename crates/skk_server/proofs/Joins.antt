@@ -1,5 +1,5 @@
 -- Workers that are joined, and works that stay under way.
-use Rattle.std.proofs.Common.{◌≡◌, ◌⊎◌, inl, inr, ℕ, zero, suc, ◌+◌, ◌≤◌, ◌<◌, List, [], ◌∷◌, ◌++◌}
+use Rattle.std.proofs.Common.{◌≡◌, ◌⊎◌, inl, inr, ℕ, zero, suc, ◌+◌, ◌≤◌, List, [], ◌∷◌}
 use Rattle.std.proofs.Common.{length, map, slice_set, slice_index_or, refl, sym, ap, ◌∙◌, subst, arith}
 use Rattle.std.proofs.lemmas.List.Sums.{sum-map}
 use Rattle.std.proofs.lemmas.List.{length-map}
@@ -12,7 +12,7 @@ use Rattle.skk_server.specs.declared.work.Work.{Work}
 use Rattle.skk_server.specs.declared.work.Work.TheVariants.{Running, Done, Refused}
 use Rattle.skk_server.specs.Stages.{JoinsSome}
 use Rattle.skk_server.specs.Visits.{SeenLink, SeenCaller, HasWorked}
-use Rattle.skk_server.specs.Works.{begun, passes_of, passes_under_way, running_of, running_in, BeganWith, IsPromised}
+use Rattle.skk_server.specs.Works.{begun, passes_of, passes_under_way, running_of, BeganWith, IsPromised}
 use Rattle.skk_server.specs.Works.{IsUnderWay, AreUnderWay, Joins, AreJoined}
 
 -- Counts of workers
@@ -184,19 +184,19 @@ module _ {L C : Type 0} (links : SeenLink L) (callers : SeenCaller C) where
 
 -- Halls
 
-module _ {L C S : Type 0} (links : SeenLink L) (callers : SeenCaller C) where
+module _ {L C S : Type 0} {links : SeenLink L} {callers : SeenCaller C} where
   -- none was joined
-  pub joins-none : (hall : Hall L C S) → JoinsSome links callers hall hall
-  joins-none hall = record {
+  pub joins-none : {hall : Hall L C S} → JoinsSome links callers hall hall
+  joins-none {hall = hall} = record {
     joined = none-joined links callers hall.works.items;
     passes_stay = refl;
     ends_stay = refl;
   }
 
   -- some were, and then some more
-  pub joins-then : (hall hall' hall'' : Hall L C S) → JoinsSome links callers hall hall'
+  pub joins-then : {hall hall' hall'' : Hall L C S} → JoinsSome links callers hall hall'
       → JoinsSome links callers hall' hall'' → JoinsSome links callers hall hall''
-  joins-then hall hall' hall'' first further = record {
+  joins-then {hall = hall} {hall' = hall'} {hall'' = hall''} first further = record {
     joined = joined-then links callers hall.works.items hall'.works.items hall''.works.items first.joined
         further.joined;
     passes_stay = further.passes_stay ∙ first.passes_stay;

@@ -18,7 +18,7 @@ use Rattle.skk_server.specs.declared.start.Start.{Start}
 use Rattle.skk_server.specs.declared.work.Work.{Work}
 use Rattle.skk_server.specs.Ends.{Serves, moved_link}
 use Rattle.skk_server.specs.Services.{SeenListener, EndsServing, ServesAll}
-use Rattle.skk_server.specs.Stages.{accepted_in, passes_in, CountsStay, Stage, TakesLink, TakesNone, GivesBack}
+use Rattle.skk_server.specs.Stages.{accepted_in, passes_in, CountsStay, Stage, TakesLink, GivesBack}
 use Rattle.skk_server.specs.Stages.{AddsWork, Opens, JoinsSome}
 use Rattle.skk_server.specs.Visits.{SeenLink, SeenCaller, Visit, ServesLink, IsServed, HasWorked, AreServed}
 use Rattle.skk_server.specs.Works.{begun, passes_of, passes_under_way, BeganWith, IsClosed, IsUnderWay, AreUnderWay}
@@ -83,29 +83,53 @@ closed-served rules links link link' closed =
       counted = omega (arith, closed.faults_is);
     }
 
-module _ {N L C S : Type 0} (nets : SeenListener N L) (links : SeenLink L) (callers : SeenCaller C)
-    (slips : SeenCaller S) (start : Start N) where
+-- Counts
+
+module _ {L C S : Type 0} {links : SeenLink L} {callers : SeenCaller C} {hall hall' : Hall L C S} where
+  -- those of a hall to which a work was added
+  pub counts-begin : {rules : List Rule} {drawn drawn' : ℕ} {link : L}
+      → AddsWork rules links callers drawn drawn' link hall hall'
+      → (accepted_in hall' ≡ accepted_in hall + 1) × (passes_in hall' + drawn ≡ passes_in hall + drawn')
+  counts-begin adds =
+      let works = ap length adds.works_are ∙ length-append hall.works.items (adds.work ∷ []) in
+      let passes = ap passes_under_way adds.works_are ∙ sum_by_push passes_of hall.works.items adds.work in
+      let ends = ap (λ ends. length ends.items) adds.ends_stay in
+      let left = ap (λ passes. length passes.items) adds.passes_stay in
+      (omega (arith, works, ends), omega (arith, passes, left, adds.drawn_is))
+
+  -- and of one of which workers were joined
+  pub counts-join : JoinsSome links callers hall hall' → CountsStay hall hall'
+  counts-join joins =
+      let works = length-all links callers hall.works.items hall'.works.items joins.joined in
+      let passes = passes-all links callers hall.works.items hall'.works.items joins.joined in
+      let ends = ap (λ ends. length ends.items) joins.ends_stay in
+      let left = ap (λ passes. length passes.items) joins.passes_stay in
+      (omega (arith, works, ends), omega (arith, passes, left))
+
+module _ {N L C S : Type 0} {nets : SeenListener N L} {links : SeenLink L} {callers : SeenCaller C}
+    {slips : SeenCaller S} {start : Start N} where
   -- One begins
 
   -- a hall that has given every connection a pass has done so for those that are over
-  level-over : (net : N) (hall : Hall L C S) (stage : Stage nets links callers slips start net hall)
+  level-over : {net : N} {hall : Hall L C S} (stage : Stage nets links callers slips start net hall)
       → passes_in hall ≡ accepted_in hall
       → (length hall.passes.items ≡ length stage.visits)
       × (passes_under_way hall.works.items ≡ length hall.works.items)
-  level-over net hall stage level =
+  level-over {hall = hall} stage level =
       let few = slips-few start.rules.value links slips start.first stage.visits hall.passes.items stage.served in
       let fewer = passes-few hall.works.items in
       let ends = ap length stage.ends_are ∙ length-map stage.visits (λ visit. visit.end) in
       (omega (arith, few, fewer, ends, level), omega (arith, few, fewer, ends, level))
 
   -- a link was accepted, and its connection is under way
-  pub stage-begins : (net net' : N) (hall hall' : Hall L C S) (drawn drawn' : ℕ) (link : L)
+  pub stage-begins : {net net' : N} {hall hall' : Hall L C S} {drawn drawn' : ℕ} {link : L}
       → Stage nets links callers slips start net hall → passes_in hall ≡ accepted_in hall
       → TakesLink nets net net' link → drawn ≡ start.first + passes_in hall
       → AddsWork start.rules.value links callers drawn drawn' link hall hall'
       → Stage nets links callers slips start net' hall'
-  stage-begins net net' hall hall' drawn drawn' link stage level takes drawn_is adds =
-      let both = level-over net hall stage level in
+  stage-begins {net = net} {net' = net'} {hall = hall} {hall' = hall'} {drawn = drawn} {link = link} stage level takes
+      drawn_is adds =
+      let both = level-over stage level in
       let works = hall.works.items in
       let ended = map (λ visit. visit.link) stage.visits in
       let known : (ended ++ map begun works) ++ link ∷ [] ≡ ended ++ map begun hall'.works.items =
@@ -145,43 +169,12 @@ module _ {N L C S : Type 0} (nets : SeenListener N L) (links : SeenLink L) (call
         level = λ some. ap (λ passes. length passes.items) adds.passes_stay ∙ both.0;
       }
 
-  -- the counts of a hall to which a work was added
-  pub counts-begin : (rules : List Rule) (hall hall' : Hall L C S) (drawn drawn' : ℕ) (link : L)
-      → AddsWork rules links callers drawn drawn' link hall hall'
-      → (accepted_in hall' ≡ accepted_in hall + 1) × (passes_in hall' + drawn ≡ passes_in hall + drawn')
-  counts-begin rules hall hall' drawn drawn' link adds =
-      let works = ap length adds.works_are ∙ length-append hall.works.items (adds.work ∷ []) in
-      let passes = ap passes_under_way adds.works_are ∙ sum_by_push passes_of hall.works.items adds.work in
-      let ends = ap (λ ends. length ends.items) adds.ends_stay in
-      let left = ap (λ passes. length passes.items) adds.passes_stay in
-      (omega (arith, works, ends), omega (arith, passes, left, adds.drawn_is))
-
-  -- no link was accepted
-  pub stage-stays : (net net' : N) (hall : Hall L C S) (end : ServedEnd)
-      → Stage nets links callers slips start net hall → TakesNone nets net net' end
-      → Stage nets links callers slips start net' hall
-  stage-stays net net' hall end stage none =
-      record {
-        visits = stage.visits;
-        served = stage.served;
-        under_way = stage.under_way;
-        comes = subst (λ coming. nets.coming start.net.value ≡ option_map (λ rest.
-            (map (λ visit. visit.link) stage.visits ++ map begun hall.works.items) ++ rest) coming)
-            (sym none.coming_is) stage.comes;
-        gives_back = none.over_is ∙ stage.gives_back;
-        out_is = none.out_is ∙ stage.out_is;
-        opened_is = none.opened_is ∙ stage.opened_is;
-        counted = omega (arith, stage.counted, none.counted);
-        ends_are = stage.ends_are;
-        level = stage.level;
-      }
-
   -- Workers end
 
   -- some were joined, and all else is as it was
-  pub stage-joins : (net : N) (hall hall' : Hall L C S) → JoinsSome links callers hall hall'
+  pub stage-joins : {net : N} {hall hall' : Hall L C S} → JoinsSome links callers hall hall'
       → Stage nets links callers slips start net hall → Stage nets links callers slips start net hall'
-  stage-joins net hall hall' joins stage =
+  stage-joins {net = net} {hall = hall} {hall' = hall'} joins stage =
       let works = hall.works.items in
       let works' = hall'.works.items in
       let length_is = length-all links callers works works' joins.joined in
@@ -205,19 +198,10 @@ module _ {N L C S : Type 0} (nets : SeenListener N L) (links : SeenLink L) (call
             ∙ stage.level (omega (arith, some, length_is));
       }
 
-  -- and as many connections and passes are counted
-  pub counts-join : (hall hall' : Hall L C S) → JoinsSome links callers hall hall' → CountsStay hall hall'
-  counts-join hall hall' joins =
-      let works = length-all links callers hall.works.items hall'.works.items joins.joined in
-      let passes = passes-all links callers hall.works.items hall'.works.items joins.joined in
-      let ends = ap (λ ends. length ends.items) joins.ends_stay in
-      let left = ap (λ passes. length passes.items) joins.passes_stay in
-      (omega (arith, works, ends), omega (arith, passes, left))
-
   -- The oldest ends
 
   -- a connection is over, and so much is left of its caller
-  stage-ends : (net net' : N) (hall hall' : Hall L C S) (work : Work L C) (works : List (Work L C)) (visit : Visit L)
+  stage-ends : {net net' : N} {hall hall' : Hall L C S} {work : Work L C} {works : List (Work L C)} (visit : Visit L)
       (left : List S)
       → (stage : Stage nets links callers slips start net hall) → hall.works.items ≡ work ∷ works
       → begun work ≡ visit.link → AreServed start.rules.value links slips start.first (stage.visits ++ visit ∷ []) left
@@ -226,8 +210,8 @@ module _ {N L C S : Type 0} (nets : SeenListener N L) (links : SeenLink L) (call
       → GivesBack nets net net' visit.link' → hall'.works.items ≡ works → hall'.passes.items ≡ left
       → hall'.ends.items ≡ hall.ends.items ++ visit.end ∷ []
       → Stage nets links callers slips start net' hall'
-  stage-ends net net' hall hall' work works visit left stage works_are begun_is served way level gives works_left
-      passes_are ends_are =
+  stage-ends {net = net} {net' = net'} {hall = hall} {hall' = hall'} {works = works} visit left stage works_are begun_is
+      served way level gives works_left passes_are ends_are =
       let ended = map (λ visit. visit.link) stage.visits in
       let visits = stage.visits ++ visit ∷ [] in
       let known : ended ++ map begun hall.works.items
@@ -262,7 +246,7 @@ module _ {N L C S : Type 0} (nets : SeenListener N L) (links : SeenLink L) (call
       }
 
   -- a worker has handed its link back, and its caller was rested
-  pub stage-worked : (net net' : N) (hall hall' : Hall L C S) (work : Work L C) (works : List (Work L C))
+  pub stage-worked : {net net' : N} {hall hall' : Hall L C S} {work : Work L C} {works : List (Work L C)}
       (promise : Promised L C) (link : L) (pass : C) (end : End) (slip : S)
       → Stage nets links callers slips start net hall → hall.works.items ≡ work ∷ works
       → begun work ≡ promise.link.value
@@ -272,7 +256,7 @@ module _ {N L C S : Type 0} (nets : SeenListener N L) (links : SeenLink L) (call
       → GivesBack nets net net' link → hall'.works.items ≡ works
       → hall'.passes.items ≡ hall.passes.items ++ slip ∷ [] → hall'.ends.items ≡ hall.ends.items ++ end ∷ []
       → Stage nets links callers slips start net' hall'
-  stage-worked net net' hall hall' work works promise link pass end slip stage works_are begun_is began worked number
+  stage-worked {hall = hall} {works = works} promise link pass end slip stage works_are begun_is began worked number
       said gives works_left passes_are ends_are =
       let visit : Visit L =
       record { link = promise.link.value; link' = link; said = slips.said slip; end = end } in
@@ -288,25 +272,25 @@ module _ {N L C S : Type 0} (nets : SeenListener N L) (links : SeenLink L) (call
       let way = subst (λ items. AreUnderWay start.rules.value links callers
       (start.first + length hall.passes.items) items) works_are stage.under_way in
       let len = length-append hall.passes.items (slip ∷ []) in
-      stage-ends net net' hall hall' work works visit (hall.passes.items ++ slip ∷ []) stage works_are begun_is
+      stage-ends visit (hall.passes.items ++ slip ∷ []) stage works_are begun_is
       (served-more start.rules.value links slips start.first stage.visits hall.passes.items visit slip stage.served
       level one (number ∙ (worked.1 ∙ began.1)) refl)
       (subst (λ n. AreUnderWay start.rules.value links callers n works) (omega (arith, len)) way.1)
       (λ some. omega (arith, len, level)) gives works_left passes_are ends_are
 
   -- a link that had no caller was given back
-  pub stage-refused : (net net' : N) (hall hall' : Hall L C S) (works : List (Work L C)) (work : Work L C)
-      (was link : L)
+  pub stage-refused : {net net' : N} {hall hall' : Hall L C S} {works : List (Work L C)} {work : Work L C}
+      {was link : L}
       → Stage nets links callers slips start net hall → hall.works.items ≡ work ∷ works → begun work ≡ was
       → IsClosed links was link → works ≡ [] → GivesBack nets net net' link → hall'.works.items ≡ works
       → hall'.passes ≡ hall.passes → hall'.ends.items ≡ hall.ends.items ++ Memory ∷ []
       → Stage nets links callers slips start net' hall'
-  stage-refused net net' hall hall' works work was link stage works_are begun_is closed none gives works_left
+  stage-refused {hall = hall} {was = was} {link = link} stage works_are begun_is closed none gives works_left
       passes_stay ends_are =
       let visit : Visit L = record { link = was; link' = link; said = []; end = Memory } in
       let level : length hall.passes.items ≡ length stage.visits =
       stage.level (omega (arith, ap length works_are)) in
-      stage-ends net net' hall hall' work works visit hall.passes.items stage works_are begun_is
+      stage-ends visit hall.passes.items stage works_are begun_is
       (served-last start.rules.value links slips start.first stage.visits hall.passes.items visit stage.served level
       (closed-served start.rules.value links was link closed) (refl, refl))
       (subst (λ items. AreUnderWay start.rules.value links callers (start.first + length hall.passes.items) items)
@@ -317,10 +301,10 @@ module _ {N L C S : Type 0} (nets : SeenListener N L) (links : SeenLink L) (call
   -- The beginning and the end
 
   -- nothing was accepted yet
-  pub stage-new : (rules : List Rule) (net : N) (drawn : ℕ) (hall : Hall L C S)
+  pub stage-new : {rules : List Rule} {net : N} {drawn : ℕ} {hall : Hall L C S}
       → Opens {N = N} {L = L} {C = C} {S = S} rules net drawn start hall
       → Stage nets links callers slips start net hall
-  stage-new rules net drawn hall opens =
+  stage-new {net = net} {hall = hall} opens =
       record {
         visits = [];
         served = subst (λ items. AreServed start.rules.value links slips start.first [] items) (sym opens.no_passes) tt;
@@ -339,13 +323,14 @@ module _ {N L C S : Type 0} (nets : SeenListener N L) (links : SeenLink L) (call
       }
 
   -- all are over
-  pub stage-over : (net : N) (hall : Hall L C S) (asked drawn' : ℕ) (answered : Served S)
+  stage-over : {net : N} {hall : Hall L C S} {asked drawn' : ℕ} {answered : Served S}
       → Stage nets links callers slips start net hall → length hall.works.items ≡ 0
       → accepted_in hall ≤ asked → drawn' ≡ start.first + passes_in hall
       → EndsServing nets start.net.value net asked (accepted_in hall) (passes_in hall) answered.end
       → answered.passes ≡ hall.passes → answered.ends ≡ hall.ends → answered.count ≡ length hall.ends.items
       → ServesAll start.rules.value nets links slips asked start.net.value net start.first drawn' answered
-  stage-over net hall asked drawn' answered stage over few drawn_is ends_so passes_are ends_are count_is =
+  stage-over {net = net} {hall = hall} {asked = asked} {answered = answered} stage over few drawn_is ends_so passes_are
+      ends_are count_is =
       let none = empty hall.works.items over in
       let ends = ap length stage.ends_are ∙ length-map stage.visits (λ visit. visit.end) in
       let accepted : accepted_in hall ≡ length stage.visits = omega (arith, ends, over) in
@@ -373,20 +358,19 @@ module _ {N L C S : Type 0} (nets : SeenListener N L) (links : SeenLink L) (call
       }
 
   -- the same, by what the serving began with
-  pub stage-served : (rules : List Rule) (first net : N) (hall : Hall L C S) (asked drawn drawn' : ℕ)
-      (answered : Served S)
-      → start.rules.value ≡ rules → start.net.value ≡ first → start.first ≡ drawn
+  pub stage-served : {rules : List Rule} {first net : N} {hall hall' : Hall L C S} {asked drawn drawn' : ℕ}
+      {answered : Served S} → Opens rules first drawn start hall'
       → Stage nets links callers slips start net hall → length hall.works.items ≡ 0
       → accepted_in hall ≤ asked → drawn' ≡ start.first + passes_in hall
       → EndsServing nets start.net.value net asked (accepted_in hall) (passes_in hall) answered.end
       → answered.passes ≡ hall.passes → answered.ends ≡ hall.ends → answered.count ≡ length hall.ends.items
       → ServesAll rules nets links slips asked first net drawn drawn' answered
-  stage-served rules first net hall asked drawn drawn' answered rules_are first_is number_is stage over few drawn_is
-      ends_so passes_are ends_are count_is =
-      subst (λ r. ServesAll r nets links slips asked first net drawn drawn' answered) rules_are
-      (subst (λ n. ServesAll start.rules.value nets links slips asked n net drawn drawn' answered) first_is
-      (subst (λ n. ServesAll start.rules.value nets links slips asked start.net.value net n drawn' answered) number_is
-      (stage-over net hall asked drawn' answered stage over few drawn_is ends_so passes_are ends_are count_is)))
+  stage-served {first = first} {net = net} {asked = asked} {drawn = drawn} {drawn' = drawn'} {answered = answered} opens
+      stage over few drawn_is ends_so passes_are ends_are count_is =
+      subst (λ r. ServesAll r nets links slips asked first net drawn drawn' answered) opens.rules_are
+      (subst (λ n. ServesAll start.rules.value nets links slips asked n net drawn drawn' answered) opens.net_is
+      (subst (λ n. ServesAll start.rules.value nets links slips asked start.net.value net n drawn' answered)
+      opens.number_is (stage-over stage over few drawn_is ends_so passes_are ends_are count_is)))
 
 -- an end stays where no link came, no call failed, and as many were counted
 ends-by : {N L : Type 0} (nets : SeenListener N L) (first net net' : N) (asked accepted passes : ℕ) (end : ServedEnd)
@@ -416,11 +400,12 @@ ends-none nets net (suc asked) end done wanting =
     subst (λ e. EndsServing nets net net (suc asked) 0 0 e) (sym (wanting (omega arith))) (omega arith)
 
 -- nothing was accepted, since there is no memory for the first connection
-pub none-serves : {N L S : Type 0} (rules : List Rule) (nets : SeenListener N L) (links : SeenLink L)
-    (slips : SeenCaller S) (asked : ℕ) (net : N) (drawn : ℕ) (answered : Served S) → answered.count ≡ 0
+pub none-serves : {N L S : Type 0} {rules : List Rule} {nets : SeenListener N L} {links : SeenLink L}
+    {slips : SeenCaller S} {asked : ℕ} {net : N} {drawn : ℕ} {answered : Served S} → answered.count ≡ 0
     → answered.passes.items ≡ [] → answered.ends.items ≡ [] → (asked ≡ 0 → answered.end ≡ ended.Done)
     → (0 < asked → answered.end ≡ ended.Memory) → ServesAll rules nets links slips asked net net drawn drawn answered
-none-serves rules nets links slips asked net drawn answered count_is no_passes no_ends done wanting =
+none-serves {rules = rules} {nets = nets} {links = links} {slips = slips} {asked = asked} {net = net} {drawn = drawn}
+    {answered = answered} count_is no_passes no_ends done wanting =
     record {
       visits = [];
       served = subst (λ items. AreServed rules links slips drawn [] items) (sym no_passes) tt;

@@ -16,8 +16,8 @@ use Rattle.skk_server.specs.declared.talk.Talk.{Talk}
 use Rattle.skk_server.specs.declared.talk.Talk.TheVariants.{New, Client, Typist as TypistTalk}
 use Rattle.skk_server.specs.Connections.{more, Stand, is_typist, client, Means, MeansOf}
 use Rattle.skk_server.specs.Ends.{AnswersAll, AnswersSome}
-use Rattle.skk_server.specs.Turns.{StandsAt, Begins, Answers, Breaks, AnswersOf, BreaksOf}
-use Rattle.skk_server.specs.Turns.{AnswersBytes, BreaksBytes, ClientStands, TypistStands}
+use Rattle.skk_server.specs.Turns.{Standing, Follows, StandsAt, Begins, AnswersOf, BreaksOf, AnswersBytes, BreaksBytes}
+use Rattle.skk_server.specs.Turns.{ClientStands, TypistStands}
 use Rattle.skk_server.proofs.Fronts.{FrontsFirst, answers-some}
 use Rattle.skk_server.proofs.Requests.{nothing-asked, client-all, client-by, client-new}
 use Rattle.skk_server.proofs.Typists.{LeadsThere, typist-all, first_of, typing-new}
@@ -119,9 +119,9 @@ pub begins-client : (piece : List ℕ) (feeder : Feeding) → Fed [] feeder → 
 begins-client [] feeder fed other some rules bytes dialog sent at = absurd (omega (arith, some))
 begins-client (byte ∷ behind) feeder fed other some rules bytes dialog sent (suits, (no_byte, no_call, none)) = (
   (byte, behind, ap (λ b. b ++ byte ∷ behind) no_byte, other),
-  subst (λ (b : List ℕ). ClientStands b dialog sent feeder) (sym no_byte)
-      (subst (λ (d : Dialog). ClientStands [] d sent feeder) (sym no_call)
-      (subst (λ (s : List ℕ). ClientStands [] [] s feeder) (sym none) (client-new feeder fed))),
+  subst (λ (b : List ℕ). ClientStands feeder b dialog sent) (sym no_byte)
+      (subst (λ (d : Dialog). ClientStands feeder [] d sent) (sym no_call)
+      (subst (λ (s : List ℕ). ClientStands feeder [] [] s) (sym none) (client-new feeder fed))),
 )
 
 pub begins-typist : (piece : List ℕ) (typing : TypingView) → is_typist piece ≡ true
@@ -129,33 +129,24 @@ pub begins-typist : (piece : List ℕ) (typing : TypingView) → is_typist piece
 begins-typist [] typing is new rules bytes dialog sent at = absurd (false≢true is)
 begins-typist (byte ∷ behind) typing is new rules bytes dialog sent (suits, (no_byte, no_call, none)) = (
   (behind, ap (λ b. b ++ byte ∷ behind) no_byte ∙ ap (λ b. b ∷ behind) (eqb-true byte (code "T") is)),
-  subst (λ (b : List ℕ). TypistStands rules b dialog sent typing) (sym no_byte)
-      (subst (λ (d : Dialog). TypistStands rules [] d sent typing) (sym no_call)
-      (subst (λ (t : TypingView). TypistStands rules [] [] sent t) (sym new)
+  subst (λ (b : List ℕ). TypistStands rules typing b dialog sent) (sym no_byte)
+      (subst (λ (d : Dialog). TypistStands rules typing [] d sent) (sym no_call)
+      (subst (λ (t : TypingView). TypistStands rules t [] [] sent) (sym new)
       ([], stands.New, refl, refl, (typing-new, (refl, lit≤ tt), refl), none))),
 )
 
 -- Answers behind what is known of whose it is
 
-pub answers-behind : (rules : List Rule) (piece : List ℕ) (talk middle talk' : Talk) (before after : Heard)
-    (going : Going) → Begins piece talk middle → AnswersOf rules piece middle talk' before after going
-    → Answers rules piece talk talk' before after going
-answers-behind rules piece talk middle talk' before after going begins (dialog, sent, adds, goes) = (
+-- the next bytes carry it on from whatever it stood as
+pub follows-from : (Stood Stood' Stands : Standing) (piece : List ℕ) (before after : Heard)
+    → ((bytes : List ℕ) (known : Dialog) (known_sent : List ℕ) → Stood bytes known known_sent
+    → Stood' bytes known known_sent)
+    → Follows Stood' Stands piece before after → Follows Stood Stands piece before after
+follows-from Stood Stood' Stands piece before after from (dialog, sent, adds, carries) = (
   dialog,
   sent,
   adds,
-  λ bytes known known_sent at.
-      let begun = begins rules bytes known known_sent at in goes bytes known known_sent begun.0 begun.1,
-)
-
-pub breaks-behind : (rules : List Rule) (piece : List ℕ) (talk middle : Talk) (before after : Heard)
-    → Begins piece talk middle → BreaksOf rules piece middle before after → Breaks rules piece talk before after
-breaks-behind rules piece talk middle before after begins (dialog, sent, adds, breaks) = (
-  dialog,
-  sent,
-  adds,
-  λ bytes known known_sent at.
-      let begun = begins rules bytes known known_sent at in breaks bytes known known_sent begun.0 begun.1,
+  λ bytes known known_sent at. carries bytes known known_sent (from bytes known known_sent at),
 )
 
 -- nobody's connection goes on as it is
@@ -165,8 +156,8 @@ answers-nobody rules piece heard = (
   [],
   [],
   (sym (append-nil heard.said), sym (append-nil heard.out)),
-  λ bytes known known_sent suits goes.
-      (suits, (suits, append-nil known ∙ goes.1, append-nil known_sent ∙ goes.2)),
+  λ bytes known known_sent begun.
+      let (suits, goes) = begun in (suits, (suits, append-nil known ∙ goes.1, append-nil known_sent ∙ goes.2)),
 )
 
 -- a client's
@@ -174,16 +165,18 @@ pub answers-client : (rules : List Rule) (piece : List ℕ) (feeder feeder' : Fe
     (going : Going) → AnswersBytes piece feeder feeder' before after going
     → AnswersOf rules piece (Client feeder) (Client feeder') before after going
 answers-client rules piece feeder feeder' before after More (dialog, sent, adds, goes) =
-    (dialog, sent, adds, λ bytes known known_sent suits at. (suits, goes bytes known known_sent at))
+    (dialog, sent, adds, λ bytes known known_sent begun. (begun.0, goes bytes known known_sent begun.1))
 answers-client rules piece feeder feeder' before after Over (dialog, sent, adds, goes) = (
   dialog,
   sent,
   adds,
-  λ bytes known known_sent suits at later. (
-    client ((bytes ++ piece) ++ later),
-    means-client rules ((bytes ++ piece) ++ later) (suits.1 ++ later) suits.0 (ap (λ b. b ++ later) suits.2) suits.3,
-    goes bytes known known_sent at later,
-  ),
+  λ bytes known known_sent begun later.
+      let (suits, at) = begun in (
+        client ((bytes ++ piece) ++ later),
+        means-client rules ((bytes ++ piece) ++ later) (suits.1 ++ later) suits.0 (ap (λ b. b ++ later) suits.2)
+            suits.3,
+        goes bytes known known_sent at later,
+      ),
 )
 
 pub breaks-client : (rules : List Rule) (piece : List ℕ) (feeder : Feeding) (before after : Heard) → FrontsFirst
@@ -192,7 +185,8 @@ breaks-client rules piece feeder before after fronts (dialog, sent, adds, breaks
   dialog,
   sent,
   adds,
-  λ bytes known known_sent suits at.
+  λ bytes known known_sent begun.
+      let (suits, at) = begun in
       let (front, rest, e, to, led) = breaks bytes known known_sent at in
       answers-some rules (bytes ++ piece) front rest (known ++ dialog) (known_sent ++ sent) (known_sent ++ sent)
       (client front) to fronts e (means-front-client rules front rest suits.1 suits.0 (sym e ∙ suits.2) suits.3) led

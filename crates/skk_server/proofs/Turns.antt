@@ -1,5 +1,5 @@
 -- How a connection is served, turn by turn.
-use Rattle.std.proofs.Common.{◌≡◌, ◌<◌, ◌≤◌, ℕ, ◌+◌, List, [], ◌++◌, length, refl, sym, ap, ◌∙◌, subst, arith}
+use Rattle.std.proofs.Common.{◌≡◌, ◌≤◌, ℕ, ◌+◌, List, [], ◌++◌, length, refl, sym, ap, ◌∙◌, subst, arith}
 use Rattle.std.proofs.Common.{append-nil, append_assoc, length-append, ◌⊎◌, inl, inr}
 use Rattle.std.proofs.KnownBytes.{Appends-nil, Appends-trans, Consumes-nil, Consumes-trans}
 use Rattle.std.specs.Io.KnownBytes.{Appends, Consumes}
@@ -17,8 +17,9 @@ use Rattle.skk_server.specs.declared.talk.Talk.TheVariants.{New}
 use Rattle.skk_server.specs.Connections.{more, over}
 use Rattle.skk_server.specs.Ends.{MovedLink, AnswersAll, AnswersSome, AnswersFront, EndsBy, Serves, longest_piece}
 use Rattle.skk_server.specs.Ends.{most_bytes, moved_link}
-use Rattle.skk_server.specs.Turns.{StandsAt, Goes, Answers, Breaks, StopsReading, TakesTurn, EndsTurn, ServesSoFar}
-use Rattle.skk_server.specs.Turns.{IsSent, EndsIn, AnswersPart, EndsPart, AnswersRead, EndsRead}
+use Rattle.skk_server.specs.Turns.{Standing, Carries, StandsAt, Goes, Answers, Breaks, GoesOn, IsSent, EndsIn, EndsWith}
+use Rattle.skk_server.specs.Turns.{AnswersPart, EndsPart, AnswersRead, EndsRead, StopsReading, TakesTurn, EndsTurn}
+use Rattle.skk_server.specs.Turns.{ServesSoFar}
 use Rattle.skk_server.proofs.Fronts.{FrontsFirst}
 use Rattle.skk_server.proofs.Standing.{answers-all, all-some, some-less, some-wider, prefix-behind, nothing-means}
 use Rattle.skk_server.proofs.Typists.{LeadsThere}
@@ -95,7 +96,7 @@ ends-unread rules link said talk taken end there fronts stops kept few =
 
 -- what goes on or is over was answered, also where more bytes stand behind
 goes-some : (rules : List Rule) (talk : Talk) (bytes later : List ℕ) (dialog : Dialog) (sent less : List ℕ)
-    (going : Going) → LeadsThere → FrontsFirst → Goes rules talk bytes dialog sent going → IsPrefix less sent
+    (going : Going) → LeadsThere → FrontsFirst → Goes rules talk going bytes dialog sent → IsPrefix less sent
     → AnswersSome rules (bytes ++ later) dialog less
 goes-some rules talk bytes later dialog sent less More there fronts goes begun =
     some-wider rules bytes later dialog less fronts
@@ -219,6 +220,19 @@ kept-on written middle written' sent kept kept' replies writes (inr (further, no
       ∙ ap (λ k. (sent ++ (kept ++ replies)) ++ k) (sym none)),
 )
 
+-- a connection is carried on, and then further
+carries-on : (Stood Middle Stands : Standing) (front part : List ℕ) (dialog dialog' : Dialog) (sent sent' : List ℕ)
+    → Carries Stood Middle front dialog sent → Carries Middle Stands part dialog' sent'
+    → Carries Stood Stands (front ++ part) (dialog ++ dialog') (sent ++ sent')
+carries-on Stood Middle Stands front part dialog dialog' sent sent' first then bytes known known_sent at =
+    subst (λ (b : List ℕ). Stands b (known ++ (dialog ++ dialog')) (known_sent ++ (sent ++ sent')))
+    (append_assoc bytes front part)
+    (subst (λ (d : Dialog). Stands ((bytes ++ front) ++ part) d (known_sent ++ (sent ++ sent')))
+    (append_assoc known dialog dialog')
+    (subst (λ (s : List ℕ). Stands ((bytes ++ front) ++ part) ((known ++ dialog) ++ dialog') s)
+    (append_assoc known_sent sent sent')
+    (then (bytes ++ front) (known ++ dialog) (known_sent ++ sent) (first bytes known known_sent at))))
+
 -- a part more
 pub read-on : (rules : List Rule) (written middle written' : Told) (said said' said'' : Dialog)
     (talk talk' talk'' : Talk) (kept kept' front part : List ℕ)
@@ -232,35 +246,26 @@ read-on rules written middle written' said said' said'' talk talk' talk'' kept k
       sent = sent.0;
       says = more'.says ∙ ap (λ d. d ++ more'.dialog) read.says ∙ append_assoc said read.dialog more'.dialog;
       writes = sent.1;
-      stands = λ bytes known known_sent at.
-          subst (λ (b : List ℕ). StandsAt rules talk'' b (known ++ (read.dialog ++ more'.dialog))
-          (known_sent ++ (sent.0 ++ kept'))) (append_assoc bytes front part)
-          (subst (λ (d : Dialog). StandsAt rules talk'' ((bytes ++ front) ++ part) d (known_sent ++ (sent.0 ++ kept')))
-          (append_assoc known read.dialog more'.dialog)
-          (subst (λ (s : List ℕ). StandsAt rules talk'' ((bytes ++ front) ++ part)
-          ((known ++ read.dialog) ++ more'.dialog) s)
-          (append_assoc known_sent (read.sent ++ kept) more'.replies ∙ ap (λ s. known_sent ++ s) sent.2)
-          (more'.stands (bytes ++ front) (known ++ read.dialog) (known_sent ++ (read.sent ++ kept))
-          (read.stands bytes known known_sent at))));
+      stands = subst (GoesOn rules talk talk'' (front ++ part) (read.dialog ++ more'.dialog)) sent.2
+          (carries-on (StandsAt rules talk) (StandsAt rules talk') (StandsAt rules talk'') front part read.dialog
+          more'.dialog (read.sent ++ kept) more'.replies read.stands more'.stands);
     }
 
-first-behind : (known sent kept replies less : List ℕ) → IsPrefix less (kept ++ replies)
-    → IsPrefix (known ++ (sent ++ less)) ((known ++ (sent ++ kept)) ++ replies)
-first-behind known sent kept replies less begun =
-    subst (IsPrefix (known ++ (sent ++ less)))
-    (ap (λ l. known ++ l) (sym (append_assoc sent kept replies)) ∙ sym (append_assoc known (sent ++ kept) replies))
-    (prefix-behind known (sent ++ (kept ++ replies)) (sent ++ less)
-    (prefix-behind sent (kept ++ replies) less begun))
+-- so much more was sent where it was sent behind other replies
+sent-more : (known less replies : List ℕ) (end : End) → IsSent less replies end
+    → IsSent (known ++ less) (known ++ replies) end
+sent-more known less replies Closed is = ap (λ l. known ++ l) is
+sent-more known less replies LinkFault is = prefix-behind known replies less is
+sent-more known less replies Limit is = prefix-behind known replies less is
+sent-more known less replies Memory is = prefix-behind known replies less is
 
 -- so much of all replies was sent, where so much of those of a part and those before it was
 sent-behind : (known sent kept replies less : List ℕ) (end : End) → IsSent less (kept ++ replies) end
-    → IsSent (known ++ (sent ++ less)) ((known ++ (sent ++ kept)) ++ replies) end
-sent-behind known sent kept replies less Closed is =
-    ap (λ l. known ++ (sent ++ l)) is
-    ∙ (ap (λ l. known ++ l) (sym (append_assoc sent kept replies)) ∙ sym (append_assoc known (sent ++ kept) replies))
-sent-behind known sent kept replies less LinkFault is = first-behind known sent kept replies less is
-sent-behind known sent kept replies less Limit is = first-behind known sent kept replies less is
-sent-behind known sent kept replies less Memory is = first-behind known sent kept replies less is
+    → IsSent (known ++ (sent ++ less)) (known ++ ((sent ++ kept) ++ replies)) end
+sent-behind known sent kept replies less end is =
+    subst (λ all. IsSent (known ++ (sent ++ less)) (known ++ all) end) (sym (append_assoc sent kept replies))
+    (sent-more known (sent ++ less) (sent ++ (kept ++ replies)) end
+    (sent-more sent less (kept ++ replies) end is))
 
 -- the connection ends with a part, behind which other bytes may have been read
 pub read-ends : {L : Type 0} (rules : List Rule) (left written : L → Told) (faults : L → ℕ) (first middle last : L)
@@ -280,15 +285,13 @@ read-ends rules left written faults first middle last said said' said'' talk tal
           ends'.writes;
       rose = λ same. rose-before (faults first) (faults middle) (faults last) few (ends'.rose same);
       ends_so = λ bytes known known_sent at.
-          subst (λ (b : List ℕ). EndsIn rules b (known ++ (read.dialog ++ ends'.dialog))
-          (known_sent ++ (read.sent ++ ends'.sent)) end)
-          (append_assoc (bytes ++ front) part later ∙ append_assoc bytes front (part ++ later)
-          ∙ ap (λ b. bytes ++ b) is)
-          (subst (λ (d : Dialog). EndsIn rules (((bytes ++ front) ++ part) ++ later) d
-          (known_sent ++ (read.sent ++ ends'.sent)) end) (append_assoc known read.dialog ends'.dialog)
-          (ends'.ends_so (bytes ++ front) (known ++ read.dialog) (known_sent ++ (read.sent ++ kept))
-          (read.stands bytes known known_sent at) later (known_sent ++ (read.sent ++ ends'.sent))
-          (sent-behind known_sent read.sent kept ends'.replies ends'.sent end ends'.sent_so)));
+          subst (λ (b : List ℕ). EndsIn rules end b (known ++ (read.dialog ++ ends'.dialog))
+          (known_sent ++ (read.sent ++ ends'.sent)))
+          (append_assoc bytes (front ++ part) later ∙ ap (λ b. bytes ++ b) (append_assoc front part later ∙ is))
+          (carries-on (StandsAt rules talk) (StandsAt rules talk') (EndsWith rules end) front part read.dialog
+          ends'.dialog (read.sent ++ kept) ends'.replies read.stands ends'.ends_so bytes known known_sent at later
+          (known_sent ++ (read.sent ++ ends'.sent))
+          (sent-behind known_sent read.sent kept ends'.replies ends'.sent end ends'.sent_so));
     }
 
 -- what was kept was sent
@@ -355,7 +358,7 @@ turn-ends rules left written faults first middle last said said' talk taken piec
   where
     ends-by : (end' : End) (bytes : List ℕ) (known : Dialog) (known_sent : List ℕ)
         → StandsAt rules talk bytes known known_sent → (end' ≡ LinkFault → Rose (faults first) (faults last))
-        → EndsIn rules (bytes ++ piece) (known ++ ends'.dialog) (known_sent ++ ends'.sent) end'
+        → EndsIn rules end' (bytes ++ piece) (known ++ ends'.dialog) (known_sent ++ ends'.sent)
         → EndsBy rules (moved_link left written faults first last) (bytes ++ piece) (known ++ ends'.dialog)
         (known_sent ++ ends'.sent) end'
     ends-by Closed bytes known known_sent at rose ends_in = inl ends_in

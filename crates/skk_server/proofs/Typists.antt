@@ -74,7 +74,7 @@ OverStays =
 
 -- a typist's connection that goes on has answered all
 pub typist-all : (rules : List Rule) (bytes behind : List ℕ) (dialog : Dialog) (sent : List ℕ) (typing : TypingView)
-    → LeadsThere → bytes ≡ code "T" ∷ behind → TypistStands rules bytes dialog sent typing
+    → LeadsThere → bytes ≡ code "T" ∷ behind → TypistStands rules typing bytes dialog sent
     → AnswersAll rules bytes dialog sent more
 typist-all rules bytes behind dialog sent typing there e (text, typist, is, goes, stands', sent_is) =
     let talk : Talk = record { dialog = dialog; text = text } in
@@ -115,13 +115,13 @@ typist-on rules piece typing typing' before after typist stay types is = (
   types.talk.dialog,
   encode_utf8_all types.talk.text,
   types.grows,
-  λ bytes known known_sent suits earlier. by bytes known known_sent suits earlier (is_over typist) refl,
+  λ bytes known known_sent begun. by bytes known known_sent begun.0 begun.1 (is_over typist) refl,
 )
   where
     by : (bytes : List ℕ) (known : Dialog) (known_sent : List ℕ) → Suits (TypistTalk typing) (bytes ++ piece)
-        → TypistStands rules bytes known known_sent typing → (b : Bool) → is_over typist ≡ b
-        → Goes rules (TypistTalk typing') (bytes ++ piece) (known ++ types.talk.dialog)
-        (known_sent ++ encode_utf8_all types.talk.text) (if b then Over else More)
+        → TypistStands rules typing bytes known known_sent → (b : Bool) → is_over typist ≡ b
+        → Goes rules (TypistTalk typing') (if b then Over else More) (bytes ++ piece) (known ++ types.talk.dialog)
+        (known_sent ++ encode_utf8_all types.talk.text)
     by bytes known known_sent suits (text, typist', is', goes, stands', sent_is) false e = (
       suits,
       (
@@ -148,11 +148,11 @@ typist-broken rules piece typing before after fronts stops = (
   stops.talk.dialog,
   encode_utf8_all stops.talk.text,
   stops.grows,
-  λ bytes known known_sent suits earlier. by bytes known known_sent suits earlier,
+  λ bytes known known_sent begun. by bytes known known_sent begun.0 begun.1,
 )
   where
     by : (bytes : List ℕ) (known : Dialog) (known_sent : List ℕ) → Suits (TypistTalk typing) (bytes ++ piece)
-        → TypistStands rules bytes known known_sent typing
+        → TypistStands rules typing bytes known known_sent
         → AnswersSome rules (bytes ++ piece) (known ++ stops.talk.dialog)
         (known_sent ++ encode_utf8_all stops.talk.text)
     by bytes known known_sent suits (text, typist, is, goes, stands', sent_is) =

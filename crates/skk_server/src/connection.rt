@@ -8,7 +8,7 @@ ghost use Rattle.skk_server.specs.declared.talk.Talk.TheVariants.{New};
 use crate::end::End;
 use crate::laws::exchange_of_a_front;
 use crate::responder::Responder;
-use romaji_rules::Rules;
+use crate::service::Service;
 use skk_calls::Caller;
 use skk_outside::{Failed, Gate, Link};
 use skk_text::Memory;
@@ -46,20 +46,19 @@ impl Connection {
     /// Reads bytes, answers them, and writes the replies. An end is told as an error.
     pub(crate) fn take_turn<K: Link, C: Caller, G: Gate>(
         &mut self,
-        alloc: Global,
+        service: &Service<'_, G>,
         link: &mut K,
-        rules: &Rules,
         caller: &mut C,
-        gate: &G,
     ) -> Result<(), End>
         requires ready { IsReady self.old }
         requires left { self.old.taken < most_bytes }
         ensures ready { IsReady self.new }
-        ensures ok { OnOk result (TakesTurn rules.now (moved_link K.left K.written K.faults link.old link.new)
-            (C.said caller.old) (C.said caller.new) self.old.responder.talk self.new.responder.talk
-            self.old.taken self.new.taken) }
-        ensures err { IfErr result (EndsTurn rules.now (moved_link K.left K.written K.faults link.old link.new)
-            (C.said caller.old) (C.said caller.new) self.old.responder.talk self.old.taken) }
+        ensures ok { OnOk result (TakesTurn service.now.rules.now
+            (moved_link K.left K.written K.faults link.old link.new) (C.said caller.old) (C.said caller.new)
+            self.old.responder.talk self.new.responder.talk self.old.taken self.new.taken) }
+        ensures err { IfErr result (EndsTurn service.now.rules.now
+            (moved_link K.left K.written K.faults link.old link.new) (C.said caller.old) (C.said caller.new)
+            self.old.responder.talk self.old.taken) }
         ensures number { C.number caller.new ≡ C.number caller.old }
         ensures counted { K.faults link.old ≤ K.faults link.new }
     {
@@ -70,7 +69,7 @@ impl Connection {
             Err(end) => return Err(end),
         };
         self.responder
-            .answer(alloc, &self.room[..count], link, rules, caller, gate)
+            .answer(service, &self.room[..count], link, caller)
     }
 
     // Reads the next bytes into the room, and answers how many: one at least.

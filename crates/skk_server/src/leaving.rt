@@ -8,6 +8,7 @@ ghost use Rattle.skk_server.specs.Visits.{seen_link, seen_caller};
 use crate::end::End;
 use crate::hall::Hall;
 use crate::promised::Worked;
+use crate::server::Server;
 use crate::start::Start;
 use crate::work::Work;
 use skk_calls::{Caller, Kept, Office};
@@ -16,11 +17,10 @@ use std::thread::Threads;
 
 impl<L: Link, C: Caller, S: Kept> Hall<L, C, S> {
     /// Waits until every connection under way has ended, and gives their links back.
-    pub(crate) fn see_all_off<R: Threads, N: Listener<Link = L>, W: Office<Pass = C, Slip = S>>(
+    pub(crate) fn see_all_off<R: Threads, N: Listener<Link = L>, W: Office<Pass = C, Slip = S>, G>(
         &mut self,
-        rt: &R,
+        server: &Server<'_, R, W, G>,
         net: &mut N,
-        office: &W,
         start: &Start<N>,
     )
         requires places { HasPlaces self.old }
@@ -36,18 +36,17 @@ impl<L: Link, C: Caller, S: Kept> Hall<L, C, S> {
             start.now net.new self.new }
     {
         for _ in 0..self.works.len() {
-            self.see_oldest_off(rt, net, office, start);
+            self.see_oldest_off(server, net, start);
         }
     }
 
     /// Gives the links of the oldest connections back, up to the first that a worker serves.
-    pub(crate) fn see_ended_off<R: Threads, N: Listener<Link = L>, W: Office<Pass = C, Slip = S>>(
-        &mut self,
-        rt: &R,
-        net: &mut N,
-        office: &W,
-        start: &Start<N>,
-    )
+    pub(crate) fn see_ended_off<
+        R: Threads,
+        N: Listener<Link = L>,
+        W: Office<Pass = C, Slip = S>,
+        G,
+    >(&mut self, server: &Server<'_, R, W, G>, net: &mut N, start: &Start<N>)
         requires places { HasPlaces self.old }
         requires stage { Stage (seen_listener N.coming N.over N.out N.opened N.faults)
             (seen_link L.left L.written L.faults L.closed) (seen_caller C.number C.said) (seen_caller S.number S.said)
@@ -63,20 +62,19 @@ impl<L: Link, C: Caller, S: Kept> Hall<L, C, S> {
     {
         for _ in 0..self.works.len() {
             match self.works.front() {
-                Some(work) if work.running() == 0 => self.see_oldest_off(rt, net, office, start),
+                Some(work) if work.running() == 0 => self.see_oldest_off(server, net, start),
                 _ => return,
             }
         }
     }
 
     /// Waits until the oldest connection under way has ended, and gives its link back.
-    pub(crate) fn see_oldest_off<R: Threads, N: Listener<Link = L>, W: Office<Pass = C, Slip = S>>(
-        &mut self,
-        rt: &R,
-        net: &mut N,
-        office: &W,
-        start: &Start<N>,
-    )
+    pub(crate) fn see_oldest_off<
+        R: Threads,
+        N: Listener<Link = L>,
+        W: Office<Pass = C, Slip = S>,
+        G,
+    >(&mut self, server: &Server<'_, R, W, G>, net: &mut N, start: &Start<N>)
         requires some { 0 < deque_len self.old.works }
         requires places { HasPlaces self.old }
         requires stage { Stage (seen_listener N.coming N.over N.out N.opened N.faults)
@@ -97,8 +95,12 @@ impl<L: Link, C: Caller, S: Kept> Hall<L, C, S> {
         };
         self.running -= work.running();
         match work {
-            Work::Running(handle, _was) => self.part_from(net, office, handle.join(rt)),
-            Work::Done(worked, _was) => self.part_from(net, office, worked),
+            Work::Running(handle, _was) => self.part_from(
+                net,
+                server.office,
+                handle.join(server.rt),
+            ),
+            Work::Done(worked, _was) => self.part_from(net, server.office, worked),
             Work::Refused(link, _was) => self.give_back(net, link, End::Memory),
         }
     }

@@ -21,6 +21,8 @@ mod promised;
 mod responder;
 mod served;
 mod served_end;
+mod server;
+mod service;
 mod serving;
 mod serving_all;
 mod start;

@@ -8,8 +8,8 @@ ghost use Rattle.skk_server.specs.Turns.{AnswersPart, AnswersRead, EndsPart, End
 use crate::end::End;
 use crate::laws::exchange_of_a_front;
 use crate::page::Page;
+use crate::service::Service;
 use crate::talk::Talk;
-use romaji_rules::Rules;
 use skk_calls::Caller;
 use skk_outside::{Failed, Gate, Link, write_all};
 use skk_text::Memory;
@@ -43,44 +43,42 @@ impl Responder {
     /// Answers bytes that were read, and writes the replies, many together. An end is told as an error.
     pub(crate) fn answer<K: Link, C: Caller, G: Gate>(
         &mut self,
-        alloc: Global,
+        service: &Service<'_, G>,
         bytes: &[u8],
         link: &mut K,
-        rules: &Rules,
         caller: &mut C,
-        gate: &G,
     ) -> Result<(), End>
         requires quiet { self.old.page.bytes.items ≡ [] }
         ensures quiet { self.new.page.bytes.items ≡ [] }
-        ensures ok { OnOk result (AnswersRead rules.now (K.written link.old) (K.written link.new)
+        ensures ok { OnOk result (AnswersRead service.now.rules.now (K.written link.old) (K.written link.new)
             (C.said caller.old) (C.said caller.new) self.old.talk self.new.talk [] bytes.now) }
-        ensures err { IfErr result (EndsRead rules.now (moved_link K.left K.written K.faults link.old link.new)
-            (C.said caller.old) (C.said caller.new) self.old.talk bytes.now) }
+        ensures err { IfErr result (EndsRead service.now.rules.now
+            (moved_link K.left K.written K.faults link.old link.new) (C.said caller.old) (C.said caller.new)
+            self.old.talk bytes.now) }
         ensures left { K.left link.new ≡ K.left link.old }
         ensures number { C.number caller.new ≡ C.number caller.old }
         ensures counted { K.faults link.old ≤ K.faults link.new }
     {
         bytes_lead_a_typist();
         exchange_of_a_front();
-        self.answer_parts(alloc, bytes, link, rules, caller, gate)?;
-        Ok(self.send(link, caller.number(), gate)?)
+        self.answer_parts(service, bytes, link, caller)?;
+        Ok(self.send(link, caller.number(), service.gate)?)
     }
 
     // Answers bytes that were read, part by part.
     fn answer_parts<K: Link, C: Caller, G: Gate>(
         &mut self,
-        alloc: Global,
+        service: &Service<'_, G>,
         bytes: &[u8],
         link: &mut K,
-        rules: &Rules,
         caller: &mut C,
-        gate: &G,
     ) -> Result<(), End>
         requires quiet { self.old.page.bytes.items ≡ [] }
-        ensures ok { OnOk result (AnswersRead rules.now (K.written link.old) (K.written link.new)
+        ensures ok { OnOk result (AnswersRead service.now.rules.now (K.written link.old) (K.written link.new)
             (C.said caller.old) (C.said caller.new) self.old.talk self.new.talk self.new.page.bytes.items bytes.now) }
-        ensures err { IfErr result (EndsRead rules.now (moved_link K.left K.written K.faults link.old link.new)
-            (C.said caller.old) (C.said caller.new) self.old.talk bytes.now) }
+        ensures err { IfErr result (EndsRead service.now.rules.now
+            (moved_link K.left K.written K.faults link.old link.new) (C.said caller.old) (C.said caller.new)
+            self.old.talk bytes.now) }
         ensures quiet { OnErr result (self.new.page.bytes.items ≡ []) }
         ensures left { K.left link.new ≡ K.left link.old }
         ensures number { C.number caller.new ≡ C.number caller.old }
@@ -89,7 +87,7 @@ impl Responder {
         let mut rest = bytes;
         while !rest.is_empty() {
             let (part, behind) = rest.split_at(part_len(rest));
-            self.answer_part(alloc, part, link, rules, caller, gate)?;
+            self.answer_part(service, part, link, caller)?;
             rest = behind;
         }
         Ok(())
@@ -98,18 +96,17 @@ impl Responder {
     // Answers a part, and writes the replies where they are many, or no more come.
     fn answer_part<K: Link, C: Caller, G: Gate>(
         &mut self,
-        alloc: Global,
+        service: &Service<'_, G>,
         part: &[u8],
         link: &mut K,
-        rules: &Rules,
         caller: &mut C,
-        gate: &G,
     ) -> Result<(), End>
-        ensures ok { OnOk result (AnswersPart rules.now (K.written link.old) (K.written link.new)
+        ensures ok { OnOk result (AnswersPart service.now.rules.now (K.written link.old) (K.written link.new)
             (C.said caller.old) (C.said caller.new) self.old.talk self.new.talk
             self.old.page.bytes.items self.new.page.bytes.items part.now) }
-        ensures err { IfErr result (EndsPart rules.now (moved_link K.left K.written K.faults link.old link.new)
-            (C.said caller.old) (C.said caller.new) self.old.talk self.old.page.bytes.items part.now) }
+        ensures err { IfErr result (EndsPart service.now.rules.now
+            (moved_link K.left K.written K.faults link.old link.new) (C.said caller.old) (C.said caller.new)
+            self.old.talk self.old.page.bytes.items part.now) }
         ensures quiet { OnErr result (self.new.page.bytes.items ≡ []) }
         ensures left { K.left link.new ≡ K.left link.old }
         ensures number { C.number caller.new ≡ C.number caller.old }
@@ -117,15 +114,18 @@ impl Responder {
     {
         bytes_lead_a_typist();
         exchange_of_a_front();
-        match self.talk.answer(alloc, part, rules, caller, &mut self.page) {
+        match self
+            .talk
+            .answer(service.alloc, part, service.rules, caller, &mut self.page)
+        {
             Ok(Going::More) if self.page.bytes.len() <= PAGE => Ok(()),
-            Ok(Going::More) => Ok(self.send(link, caller.number(), gate)?),
+            Ok(Going::More) => Ok(self.send(link, caller.number(), service.gate)?),
             Ok(Going::Over) => {
-                self.send(link, caller.number(), gate)?;
+                self.send(link, caller.number(), service.gate)?;
                 Err(End::Closed)
             }
             Err(Memory) => {
-                let _sent = self.send(link, caller.number(), gate);
+                let _sent = self.send(link, caller.number(), service.gate);
                 Err(End::Memory)
             }
         }

@@ -3,6 +3,7 @@ ghost use Rattle.skk_server.specs.Ends.{Serves, moved_link};
 
 use crate::connection::{Connection, MOST_BYTES};
 use crate::end::End;
+use crate::service::Service;
 use romaji_rules::Rules;
 use skk_calls::Caller;
 use skk_outside::{Gate, Link};
@@ -26,30 +27,29 @@ pub fn serve_connection<K: Link, C: Caller, G: Gate>(
     ensures number { C.number caller.new ≡ C.number caller.old }
     ensures counted { K.faults link.old ≤ K.faults link.new }
 {
-    let end = serve_turns(alloc, link, rules, caller, gate);
+    let service = Service { alloc, rules, gate };
+    let end = serve_turns(&service, link, caller);
     link.close();
     end
 }
 
 // Serves a connection up to its end.
 fn serve_turns<K: Link, C: Caller, G: Gate>(
-    alloc: Global,
+    service: &Service<'_, G>,
     link: &mut K,
-    rules: &Rules,
     caller: &mut C,
-    gate: &G,
 ) -> End
-    ensures serves { Serves rules.now (moved_link K.left K.written K.faults link.old link.new)
+    ensures serves { Serves service.now.rules.now (moved_link K.left K.written K.faults link.old link.new)
         (C.said caller.old) (C.said caller.new) result }
     ensures number { C.number caller.new ≡ C.number caller.old }
     ensures counted { K.faults link.old ≤ K.faults link.new }
 {
     bytes_lead_a_typist();
-    let Ok(mut connection) = Connection::new(alloc) else {
+    let Ok(mut connection) = Connection::new(service.alloc) else {
         return End::Memory;
     };
     while connection.taken < MOST_BYTES {
-        if let Err(end) = connection.take_turn(alloc, link, rules, caller, gate) {
+        if let Err(end) = connection.take_turn(service, link, caller) {
             return end;
         }
     }

@@ -7,6 +7,8 @@ use crate::ended::Ended;
 use crate::hall::Hall;
 use crate::served::Served;
 use crate::served_end::ServedEnd;
+use crate::server::Server;
+use crate::service::Service;
 use crate::start::Start;
 use romaji_rules::Rules;
 use skk_calls::{Caller, Kept, Office};
@@ -52,20 +54,16 @@ pub fn serve_all<
     let Ok(ended) = Ended::new(alloc) else {
         return none_served(alloc, connections);
     };
+    let service = Service { alloc, rules, gate };
+    let server = Server {
+        rt,
+        service: &service,
+        office,
+        ended: &ended,
+        connections,
+    };
     match Hall::new(alloc) {
-        Ok(hall) => serve_from(
-            rt,
-            alloc,
-            &ended,
-            net,
-            connections,
-            rules,
-            office,
-            roll,
-            gate,
-            start,
-            hall,
-        ),
+        Ok(hall) => serve_from(&server, net, roll, start, hall),
         Err(Memory) => none_served(alloc, connections),
     }
 }
@@ -80,54 +78,37 @@ fn serve_from<
     W: Office<Pass = C, Slip = S>,
     G: Gate + Sync,
 >(
-    rt: &R,
-    alloc: Global,
-    ended: &Ended,
+    server: &Server<'_, R, W, G>,
     net: &mut N,
-    connections: u32,
-    rules: &Rules,
-    office: &W,
     roll: &mut W::Roll,
-    gate: &G,
     start: Start<N>,
     hall: Hall<L, C, S>,
 ) -> Served<S>
-    requires owns { W.owns office.now roll.old }
-    requires few { W.drawn roll.old + connections ≤ 4294967295 }
-    requires opens { Opens rules.now net.old (W.drawn roll.old) start hall }
-    ensures serves { ServesAll rules.now (seen_listener N.coming N.over N.out N.opened N.faults)
-        (seen_link L.left L.written L.faults L.closed) (seen_caller S.number S.said) connections net.old net.new
-        (W.drawn roll.old) (W.drawn roll.new) result }
-    ensures owned { W.owns office.now roll.new }
+    requires owns { W.owns server.now.office.now roll.old }
+    requires few { W.drawn roll.old + server.now.connections ≤ 4294967295 }
+    requires opens { Opens server.now.service.now.rules.now net.old (W.drawn roll.old) start hall }
+    ensures serves { ServesAll server.now.service.now.rules.now
+        (seen_listener N.coming N.over N.out N.opened N.faults) (seen_link L.left L.written L.faults L.closed)
+        (seen_caller S.number S.said) server.now.connections net.old net.new (W.drawn roll.old) (W.drawn roll.new)
+        result }
+    ensures owned { W.owns server.now.office.now roll.new }
 {
     let (net, roll, served) = scope(
         scope_env(),
-        rt,
+        server.rt,
         move |scope| -> (&mut N, &mut W::Roll, Served<S>)
-            requires owns { W.owns office.now roll.now }
-            requires few { W.drawn roll.now + connections ≤ 4294967295 }
-            requires opens { Opens rules.now net.now (W.drawn roll.now) start hall }
+            requires owns { W.owns server.now.office.now roll.now }
+            requires few { W.drawn roll.now + server.now.connections ≤ 4294967295 }
+            requires opens { Opens server.now.service.now.rules.now net.now (W.drawn roll.now) start hall }
             ensures same { (result.0.ghost_name ≡ net.entry.ghost_name)
                 × (result.1.ghost_name ≡ roll.entry.ghost_name) }
-            ensures serves { ServesAll rules.entry.now (seen_listener N.coming N.over N.out N.opened N.faults)
-                (seen_link L.left L.written L.faults L.closed) (seen_caller S.number S.said) connections
-                net.entry.now result.0.now (W.drawn roll.entry.now) (W.drawn result.1.now) result.2 }
-            ensures owned { W.owns office.entry.now result.1.now }
+            ensures serves { ServesAll server.entry.now.service.now.rules.now
+                (seen_listener N.coming N.over N.out N.opened N.faults) (seen_link L.left L.written L.faults L.closed)
+                (seen_caller S.number S.said) server.entry.now.connections net.entry.now result.0.now
+                (W.drawn roll.entry.now) (W.drawn result.1.now) result.2 }
+            ensures owned { W.owns server.entry.now.office.now result.1.now }
         {
-            let served = serve_in(
-                scope,
-                rt,
-                alloc,
-                ended,
-                net,
-                connections,
-                rules,
-                office,
-                roll,
-                gate,
-                start,
-                hall,
-            );
+            let served = serve_in(scope, server, net, roll, start, hall);
             (net, roll, served)
         },
     );
@@ -172,40 +153,23 @@ fn serve_in<
     G: Gate + Sync,
 >(
     scope: &'s Scope<'s, E>,
-    rt: &'s R,
-    alloc: Global,
-    ended: &'s Ended,
+    server: &Server<'s, R, W, G>,
     net: &mut N,
-    connections: u32,
-    rules: &'s Rules,
-    office: &W,
     roll: &mut W::Roll,
-    gate: &'s G,
     start: Start<N>,
     mut hall: Hall<L, C, S>,
 ) -> Served<S>
-    requires owns { W.owns office.now roll.old }
-    requires few { W.drawn roll.old + connections ≤ 4294967295 }
-    requires opens { Opens rules.now net.old (W.drawn roll.old) start hall }
-    ensures serves { ServesAll rules.now (seen_listener N.coming N.over N.out N.opened N.faults)
-        (seen_link L.left L.written L.faults L.closed) (seen_caller S.number S.said) connections net.old net.new
-        (W.drawn roll.old) (W.drawn roll.new) result }
-    ensures owned { W.owns office.now roll.new }
+    requires owns { W.owns server.now.office.now roll.old }
+    requires few { W.drawn roll.old + server.now.connections ≤ 4294967295 }
+    requires opens { Opens server.now.service.now.rules.now net.old (W.drawn roll.old) start hall }
+    ensures serves { ServesAll server.now.service.now.rules.now
+        (seen_listener N.coming N.over N.out N.opened N.faults) (seen_link L.left L.written L.faults L.closed)
+        (seen_caller S.number S.said) server.now.connections net.old net.new (W.drawn roll.old) (W.drawn roll.new)
+        result }
+    ensures owned { W.owns server.now.office.now roll.new }
 {
-    let end = hall.take_all(
-        scope,
-        rt,
-        alloc,
-        ended,
-        net,
-        connections,
-        rules,
-        office,
-        roll,
-        gate,
-        &start,
-    );
-    hall.see_all_off(rt, net, office, &start);
+    let end = hall.take_all(scope, server, net, roll, &start);
+    hall.see_all_off(server, net, &start);
     let Hall {
         works: _,
         running: _,

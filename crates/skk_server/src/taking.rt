@@ -4,16 +4,14 @@ ghost use Rattle.skk_server.specs.Stages.{accepted_in, passes_in, HasPlaces, Has
 ghost use Rattle.skk_server.specs.Stages.{TakesLink, TakesNone, EndsTaking};
 ghost use Rattle.skk_server.specs.Visits.{seen_link, seen_caller};
 
-use crate::ended::Ended;
 use crate::hall::Hall;
 use crate::served_end::ServedEnd;
+use crate::server::Server;
 use crate::start::Start;
 use crate::work::{begin, refuse};
-use romaji_rules::Rules;
 use skk_calls::{Caller, Kept, Office};
 use skk_outside::{Failed, Gate, Link, Listener};
 use skk_text::Memory;
-use std::alloc::Global;
 use std::sync::Wait;
 use std::thread::{Scope, Threads};
 
@@ -28,40 +26,32 @@ impl<'s, L: Link + Send + Drop + 's, C: Caller + Send + Drop + 's, S: Kept> Hall
     >(
         &mut self,
         scope: &'s Scope<'s, E>,
-        rt: &'s R,
-        alloc: Global,
-        ended: &'s Ended,
+        server: &Server<'s, R, W, G>,
         net: &mut N,
-        connections: u32,
-        rules: &'s Rules,
-        office: &W,
         roll: &mut W::Roll,
-        gate: &'s G,
         start: &Start<N>,
     ) -> ServedEnd
-        requires owns { W.owns office.now roll.old }
-        requires few { W.drawn roll.old + connections ≤ 4294967295 }
-        requires rules { start.now.rules.value ≡ rules.now }
+        requires owns { W.owns server.now.office.now roll.old }
+        requires few { W.drawn roll.old + server.now.connections ≤ 4294967295 }
+        requires rules { start.now.rules.value ≡ server.now.service.now.rules.now }
         requires drawn { W.drawn roll.old ≡ start.now.first + passes_in self.old }
         requires none { (accepted_in self.old ≡ 0) × (passes_in self.old ≡ 0) }
         requires places { HasPlaces self.old }
         requires stage { Stage (seen_listener N.coming N.over N.out N.opened N.faults)
             (seen_link L.left L.written L.faults L.closed) (seen_caller C.number C.said) (seen_caller S.number S.said)
             start.now net.old self.old }
-        ensures owned { W.owns office.now roll.new }
+        ensures owned { W.owns server.now.office.now roll.new }
         ensures drawn { W.drawn roll.new ≡ start.now.first + passes_in self.new }
-        ensures few { accepted_in self.new ≤ connections }
+        ensures few { accepted_in self.new ≤ server.now.connections }
         ensures ends { EndsServing (seen_listener N.coming N.over N.out N.opened N.faults) start.now.net.value net.new
-            connections (accepted_in self.new) (passes_in self.new) result }
+            server.now.connections (accepted_in self.new) (passes_in self.new) result }
         ensures places { HasPlaces self.new }
         ensures stage { Stage (seen_listener N.coming N.over N.out N.opened N.faults)
             (seen_link L.left L.written L.faults L.closed) (seen_caller C.number C.said) (seen_caller S.number S.said)
             start.now net.new self.new }
     {
-        for _ in 0..connections {
-            if let Err(end) = self.take_one(
-                scope, rt, alloc, ended, net, rules, office, roll, gate, start,
-            ) {
+        for _ in 0..server.connections {
+            if let Err(end) = self.take_one(scope, server, net, roll, start) {
                 return end;
             }
         }
@@ -79,26 +69,21 @@ impl<'s, L: Link + Send + Drop + 's, C: Caller + Send + Drop + 's, S: Kept> Hall
     >(
         &mut self,
         scope: &'s Scope<'s, E>,
-        rt: &'s R,
-        alloc: Global,
-        ended: &'s Ended,
+        server: &Server<'s, R, W, G>,
         net: &mut N,
-        rules: &'s Rules,
-        office: &W,
         roll: &mut W::Roll,
-        gate: &'s G,
         start: &Start<N>,
     ) -> Result<(), ServedEnd>
-        requires owns { W.owns office.now roll.old }
+        requires owns { W.owns server.now.office.now roll.old }
         requires room { W.drawn roll.old < 4294967295 }
-        requires rules { start.now.rules.value ≡ rules.now }
+        requires rules { start.now.rules.value ≡ server.now.service.now.rules.now }
         requires drawn { W.drawn roll.old ≡ start.now.first + passes_in self.old }
         requires level { passes_in self.old ≡ accepted_in self.old }
         requires places { HasPlaces self.old }
         requires stage { Stage (seen_listener N.coming N.over N.out N.opened N.faults)
             (seen_link L.left L.written L.faults L.closed) (seen_caller C.number C.said) (seen_caller S.number S.said)
             start.now net.old self.old }
-        ensures owned { W.owns office.now roll.new }
+        ensures owned { W.owns server.now.office.now roll.new }
         ensures drawn { W.drawn roll.new ≡ start.now.first + passes_in self.new }
         ensures one_more { accepted_in self.new ≤ accepted_in self.old + 1 }
         ensures ok { OnOk result ((accepted_in self.new ≡ accepted_in self.old + 1)
@@ -110,22 +95,20 @@ impl<'s, L: Link + Send + Drop + 's, C: Caller + Send + Drop + 's, S: Kept> Hall
             (seen_link L.left L.written L.faults L.closed) (seen_caller C.number C.said) (seen_caller S.number S.said)
             start.now net.new self.new }
     {
-        if let Err(Memory) = self.make_place(rt, ended, net, office, start) {
+        if let Err(Memory) = self.make_place(server, net, start) {
             return Err(ServedEnd::Memory);
         }
         match accept(net) {
-            Ok(link) => self.welcome(scope, rt, alloc, ended, rules, office, roll, gate, link),
+            Ok(link) => self.welcome(scope, server, roll, link),
             Err(end) => Err(end),
         }
     }
 
     // Makes room for one connection more, and for what it leaves.
-    fn make_place<R: Threads + Wait, N: Listener<Link = L>, W: Office<Pass = C, Slip = S>>(
+    fn make_place<R: Threads + Wait, N: Listener<Link = L>, W: Office<Pass = C, Slip = S>, G>(
         &mut self,
-        rt: &R,
-        ended: &Ended,
+        server: &Server<'_, R, W, G>,
         net: &mut N,
-        office: &W,
         start: &Start<N>,
     ) -> Result<(), Memory>
         requires places { HasPlaces self.old }
@@ -141,8 +124,8 @@ impl<'s, L: Link + Send + Drop + 's, C: Caller + Send + Drop + 's, S: Kept> Hall
             (seen_link L.left L.written L.faults L.closed) (seen_caller C.number C.said) (seen_caller S.number S.said)
             start.now net.new self.new }
     {
-        self.join_ended(rt, ended);
-        self.see_ended_off(rt, net, office, start);
+        self.join_ended(server.rt, server.ended);
+        self.see_ended_off(server, net, start);
         self.works.reserve(1)?;
         self.passes.reserve(self.works.len() + 1)?;
         self.ends.reserve(self.works.len() + 1)?;
@@ -154,29 +137,25 @@ impl<'s, L: Link + Send + Drop + 's, C: Caller + Send + Drop + 's, S: Kept> Hall
     fn welcome<E, R: Wait + Sync, W: Office<Pass = C, Slip = S>, G: Gate + Sync>(
         &mut self,
         scope: &'s Scope<'s, E>,
-        rt: &'s R,
-        alloc: Global,
-        ended: &'s Ended,
-        rules: &'s Rules,
-        office: &W,
+        server: &Server<'s, R, W, G>,
         roll: &mut W::Roll,
-        gate: &'s G,
         link: L,
     ) -> Result<(), ServedEnd>
-        requires owns { W.owns office.now roll.old }
+        requires owns { W.owns server.now.office.now roll.old }
         requires room { W.drawn roll.old < 4294967295 }
         requires place { HasPlace self.old }
-        ensures owned { W.owns office.now roll.new }
-        ensures adds { AddsWork rules.now (seen_link L.left L.written L.faults L.closed) (seen_caller C.number C.said)
+        ensures owned { W.owns server.now.office.now roll.new }
+        ensures adds { AddsWork server.now.service.now.rules.now
+            (seen_link L.left L.written L.faults L.closed) (seen_caller C.number C.said)
             (W.drawn roll.old) (W.drawn roll.new) link self.old self.new }
         ensures ok { OnOk result (W.drawn roll.new ≡ W.drawn roll.old + 1) }
         ensures err { IfErr result (λ end. (end ≡ ServedEnd.Memory) × (W.drawn roll.new ≡ W.drawn roll.old)) }
         ensures places { HasPlaces self.new }
     {
-        match office.admit(alloc, roll) {
+        match server.office.admit(server.service.alloc, roll) {
             Ok(pass) => {
                 let number = self.ends.len() + self.works.len();
-                let work = begin(scope, rt, alloc, ended, number, rules, gate, link, pass);
+                let work = begin(scope, server, number, link, pass);
                 self.running += work.running();
                 self.works.push_back_reserved(work);
                 Ok(())

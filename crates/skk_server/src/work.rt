@@ -4,12 +4,13 @@ ghost use Rattle.skk_server.specs.Works.{begun, passes_of, running_of, IsUnderWa
 
 use crate::ended::Ended;
 use crate::promised::{Promised, Worked};
+use crate::server::Server;
+use crate::service::Service;
 use crate::serving::serve_connection;
 use core::mem::replace_with;
 use romaji_rules::Rules;
 use skk_calls::Caller;
 use skk_outside::{Gate, Link};
-use std::alloc::Global;
 use std::snapshot::Snapshot;
 use std::sync::Wait;
 use std::thread::{PromisedHandle, Scope, Threads};
@@ -63,27 +64,25 @@ pub(crate) fn begin<
     R: Wait + Sync,
     L: Link + Send + Drop + 's,
     C: Caller + Send + Drop + 's,
+    W,
     G: Gate + Sync,
 >(
     scope: &'s Scope<'s, E>,
-    rt: &'s R,
-    alloc: Global,
-    ended: &'s Ended,
+    server: &Server<'s, R, W, G>,
     number: usize,
-    rules: &'s Rules,
-    gate: &'s G,
     link: L,
     pass: C,
 ) -> Work<L, C>
     requires new { C.said pass ≡ [] }
-    ensures under_way { IsUnderWay rules.now (seen_link L.left L.written L.faults L.closed)
-        (seen_caller C.number C.said) (C.number pass) result [] }
+    ensures under_way { IsUnderWay server.now.service.now.rules.now
+        (seen_link L.left L.written L.faults L.closed) (seen_caller C.number C.said) (C.number pass) result [] }
     ensures begun { begun result ≡ link }
     ensures one { passes_of result ≡ 1 }
 {
-    let promise = promised(rules, &link, &pass);
-    let was = promised(rules, &link, &pass);
-    let work = move || serve(rt, alloc, ended, number, rules, gate, link, pass);
+    let (rt, service, ended) = (server.rt, server.service, server.ended);
+    let promise = promised(service.rules, &link, &pass);
+    let was = promised(service.rules, &link, &pass);
+    let work = move || serve(rt, service, ended, number, link, pass);
     match scope.spawn_with(promise, work) {
         Ok(handle) => Work::Running(handle, was),
         Err(refused) => Work::Done((refused.value)(), was),
@@ -119,18 +118,22 @@ fn promised<L: Link, C: Caller>(rules: &Rules, link: &L, pass: &C) -> Promised<L
 // Serves a connection up to its end, and closes it. That it ends is told last.
 fn serve<R: Wait, L: Link, C: Caller, G: Gate>(
     rt: &R,
-    alloc: Global,
+    service: &Service<'_, G>,
     ended: &Ended,
     number: usize,
-    rules: &Rules,
-    gate: &G,
     mut link: L,
     mut pass: C,
 ) -> Worked<L, C>
-    ensures { HasWorked (seen_link L.left L.written L.faults L.closed) (seen_caller C.number C.said) rules.now
-        link pass result.link result.pass result.end }
+    ensures { HasWorked (seen_link L.left L.written L.faults L.closed) (seen_caller C.number C.said)
+        service.now.rules.now link pass result.link result.pass result.end }
 {
-    let end = serve_connection(alloc, &mut link, rules, &mut pass, gate);
+    let end = serve_connection(
+        service.alloc,
+        &mut link,
+        service.rules,
+        &mut pass,
+        service.gate,
+    );
     ended.tell(rt, number);
     Worked { link, pass, end }
 }

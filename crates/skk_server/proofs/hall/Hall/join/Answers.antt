@@ -6,14 +6,10 @@ use Rattle.skk_server.proofs.hall.Hall.join.Goals as goal
 use Rattle.skk_server.proofs.Joins.{joins-none, joined-at, running-joined}
 
 pub returns-in_default-clause-joins : goal.returns-in_default-clause-joins
-returns-in_default-clause-joins g c =
-    joins-none (seen_link g.L.Outside.left g.L.Outside.written g.L.Outside.faults g.L.Link.closed)
-    (seen_caller g.C.Caller.number g.C.Caller.said) c.args.self.now
+returns-in_default-clause-joins g c = joins-none
 
 pub returns-in_default-get_mut-clause-joins : goal.returns-in_default-get_mut-clause-joins
-returns-in_default-get_mut-clause-joins g c =
-    joins-none (seen_link g.L.Outside.left g.L.Outside.written g.L.Outside.faults g.L.Link.closed)
-    (seen_caller g.C.Caller.number g.C.Caller.said) c.args.self.now
+returns-in_default-get_mut-clause-joins g c = joins-none
 
 pub overflow_sub-self : goal.overflow_sub-self
 overflow_sub-self g c =

@@ -1,25 +1,14 @@
 use Rattle.std.proofs.Common.{ap, arith, length}
-use Rattle.skk_server.specs.Services.{seen_listener}
-use Rattle.skk_server.specs.Visits.{seen_link, seen_caller}
 use Rattle.skk_server.specs.Works.{passes_under_way}
 use Rattle.skk_server.proofs.hall.Hall.make_place.Goals as goal
 use Rattle.skk_server.proofs.Stages.{stage-joins, counts-join}
 
 pub see_ended_off-requires-clause-stage : goal.see_ended_off-requires-clause-stage
-see_ended_off-requires-clause-stage g c =
-    stage-joins (seen_listener g.N.Listener.coming g.N.Listener.over g.N.Listener.out g.N.Listener.opened
-    g.N.Outside.faults)
-    (seen_link g.L.Outside.left g.L.Outside.written g.L.Outside.faults g.L.Link.closed)
-    (seen_caller g.C.Caller.number g.C.Caller.said) (seen_caller g.S.Kept.number g.S.Kept.said)
-    c.args.start.now c.args.net.now c.args.self.now c.join_ended.new.self c.join_ended.ensures.joins c.requires.stage
+see_ended_off-requires-clause-stage g c = stage-joins c.join_ended.ensures.joins c.requires.stage
 
 pub returns-in_err-reserve-clause-counts : goal.returns-in_err-reserve-clause-counts
 returns-in_err-reserve-clause-counts g c =
-    let joined = counts-join (seen_listener g.N.Listener.coming g.N.Listener.over g.N.Listener.out g.N.Listener.opened
-    g.N.Outside.faults)
-    (seen_link g.L.Outside.left g.L.Outside.written g.L.Outside.faults g.L.Link.closed)
-    (seen_caller g.C.Caller.number g.C.Caller.said) (seen_caller g.S.Kept.number g.S.Kept.said)
-    c.args.start.now c.args.self.now c.join_ended.new.self c.join_ended.ensures.joins in
+    let joined = counts-join c.join_ended.ensures.joins in
     let off = c.see_ended_off.ensures.counts in (
       omega (arith, joined.0, off.0, ap length c.reserve.ensures.items),
       omega (arith, joined.1, off.1, ap passes_under_way c.reserve.ensures.items),
@@ -27,11 +16,7 @@ returns-in_err-reserve-clause-counts g c =
 
 pub returns-in_err-reserve-2-clause-counts : goal.returns-in_err-reserve-2-clause-counts
 returns-in_err-reserve-2-clause-counts g c =
-    let joined = counts-join (seen_listener g.N.Listener.coming g.N.Listener.over g.N.Listener.out g.N.Listener.opened
-    g.N.Outside.faults)
-    (seen_link g.L.Outside.left g.L.Outside.written g.L.Outside.faults g.L.Link.closed)
-    (seen_caller g.C.Caller.number g.C.Caller.said) (seen_caller g.S.Kept.number g.S.Kept.said)
-    c.args.start.now c.args.self.now c.join_ended.new.self c.join_ended.ensures.joins in
+    let joined = counts-join c.join_ended.ensures.joins in
     let off = c.see_ended_off.ensures.counts in (
       omega (arith, joined.0, off.0, ap length c.reserve.ensures.items),
       omega (arith, joined.1, off.1, ap passes_under_way c.reserve.ensures.items, ap length c.reserve-2.ensures.items),
@@ -39,11 +24,7 @@ returns-in_err-reserve-2-clause-counts g c =
 
 pub returns-in_err-reserve-3-clause-counts : goal.returns-in_err-reserve-3-clause-counts
 returns-in_err-reserve-3-clause-counts g c =
-    let joined = counts-join (seen_listener g.N.Listener.coming g.N.Listener.over g.N.Listener.out g.N.Listener.opened
-    g.N.Outside.faults)
-    (seen_link g.L.Outside.left g.L.Outside.written g.L.Outside.faults g.L.Link.closed)
-    (seen_caller g.C.Caller.number g.C.Caller.said) (seen_caller g.S.Kept.number g.S.Kept.said)
-    c.args.start.now c.args.self.now c.join_ended.new.self c.join_ended.ensures.joins in
+    let joined = counts-join c.join_ended.ensures.joins in
     let off = c.see_ended_off.ensures.counts in (
       omega (arith, joined.0, off.0, ap length c.reserve.ensures.items, ap length c.reserve-3.ensures.items),
       omega (arith, joined.1, off.1, ap passes_under_way c.reserve.ensures.items, ap length c.reserve-2.ensures.items),
@@ -51,11 +32,7 @@ returns-in_err-reserve-3-clause-counts g c =
 
 pub returns-clause-counts : goal.returns-clause-counts
 returns-clause-counts g c =
-    let joined = counts-join (seen_listener g.N.Listener.coming g.N.Listener.over g.N.Listener.out g.N.Listener.opened
-    g.N.Outside.faults)
-    (seen_link g.L.Outside.left g.L.Outside.written g.L.Outside.faults g.L.Link.closed)
-    (seen_caller g.C.Caller.number g.C.Caller.said) (seen_caller g.S.Kept.number g.S.Kept.said)
-    c.args.start.now c.args.self.now c.join_ended.new.self c.join_ended.ensures.joins in
+    let joined = counts-join c.join_ended.ensures.joins in
     let off = c.see_ended_off.ensures.counts in (
       omega (arith, joined.0, off.0, ap length c.reserve.ensures.items, ap length c.reserve-3.ensures.items),
       omega (arith, joined.1, off.1, ap passes_under_way c.reserve.ensures.items, ap length c.reserve-2.ensures.items),

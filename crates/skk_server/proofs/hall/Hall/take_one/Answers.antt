@@ -8,32 +8,16 @@ use Rattle.skk_server.proofs.Stages.{counts-begin, stage-begins}
 
 pub returns-in-Ok-clause-drawn : goal.returns-in-Ok-clause-drawn
 returns-in-Ok-clause-drawn g c =
-    let counts = counts-begin (seen_listener g.N.Listener.coming g.N.Listener.over g.N.Listener.out
-    g.N.Listener.opened g.N.Outside.faults)
-    (seen_link g.L.Outside.left g.L.Outside.written g.L.Outside.faults g.L.Link.closed)
-    (seen_caller g.C.Caller.number g.C.Caller.said) (seen_caller g.S.Kept.number g.S.Kept.said) c.args.start.now
-    c.args.rules.now c.make_place.new.self c.welcome.new.self (g.W.Office.drawn c.args.roll.now)
-    (g.W.Office.drawn c.welcome.new.roll) c.in-Ok.link c.welcome.ensures.adds in
+    let counts = counts-begin c.welcome.ensures.adds in
     omega (arith, counts.1, c.requires.drawn, c.make_place.ensures.counts.1)
 
 pub returns-in-Ok-clause-one_more : goal.returns-in-Ok-clause-one_more
 returns-in-Ok-clause-one_more g c =
-    let counts = counts-begin (seen_listener g.N.Listener.coming g.N.Listener.over g.N.Listener.out
-    g.N.Listener.opened g.N.Outside.faults)
-    (seen_link g.L.Outside.left g.L.Outside.written g.L.Outside.faults g.L.Link.closed)
-    (seen_caller g.C.Caller.number g.C.Caller.said) (seen_caller g.S.Kept.number g.S.Kept.said) c.args.start.now
-    c.args.rules.now c.make_place.new.self c.welcome.new.self (g.W.Office.drawn c.args.roll.now)
-    (g.W.Office.drawn c.welcome.new.roll) c.in-Ok.link c.welcome.ensures.adds in
-    omega (arith, counts.0, c.make_place.ensures.counts.0)
+    let counts = counts-begin c.welcome.ensures.adds in omega (arith, counts.0, c.make_place.ensures.counts.0)
 
 pub returns-in-Ok-clause-ok : goal.returns-in-Ok-clause-ok
 returns-in-Ok-clause-ok g c =
-    let counts = counts-begin (seen_listener g.N.Listener.coming g.N.Listener.over g.N.Listener.out
-    g.N.Listener.opened g.N.Outside.faults)
-    (seen_link g.L.Outside.left g.L.Outside.written g.L.Outside.faults g.L.Link.closed)
-    (seen_caller g.C.Caller.number g.C.Caller.said) (seen_caller g.S.Kept.number g.S.Kept.said) c.args.start.now
-    c.args.rules.now c.make_place.new.self c.welcome.new.self (g.W.Office.drawn c.args.roll.now)
-    (g.W.Office.drawn c.welcome.new.roll) c.in-Ok.link c.welcome.ensures.adds in
+    let counts = counts-begin c.welcome.ensures.adds in
     on_ok_weaker c.welcome.result
     (λ one. (
       omega (arith, counts.0, c.make_place.ensures.counts.0),
@@ -45,11 +29,7 @@ pub returns-in-Ok-clause-err : goal.returns-in-Ok-clause-err
 returns-in-Ok-clause-err g c =
     let nets = seen_listener g.N.Listener.coming g.N.Listener.over g.N.Listener.out g.N.Listener.opened
     g.N.Outside.faults in
-    let counts = counts-begin nets
-    (seen_link g.L.Outside.left g.L.Outside.written g.L.Outside.faults g.L.Link.closed)
-    (seen_caller g.C.Caller.number g.C.Caller.said) (seen_caller g.S.Kept.number g.S.Kept.said) c.args.start.now
-    c.args.rules.now c.make_place.new.self c.welcome.new.self (g.W.Office.drawn c.args.roll.now)
-    (g.W.Office.drawn c.welcome.new.roll) c.in-Ok.link c.welcome.ensures.adds in
+    let counts = counts-begin c.welcome.ensures.adds in
     MatchResult-weaker c.welcome.result c.welcome.ensures.err (λ done nothing. nothing)
     (λ end told. subst (EndsTaking nets c.args.net.now c.accept.new.net c.args.self.now c.welcome.new.self)
     (sym told.0) (omega (arith, told.1, counts.1, c.make_place.ensures.counts.1)))
@@ -59,12 +39,8 @@ returns-in-Ok-clause-stage g c =
     let links = seen_link g.L.Outside.left g.L.Outside.written g.L.Outside.faults g.L.Link.closed in
     let callers = seen_caller g.C.Caller.number g.C.Caller.said in
     let drawn = g.W.Office.drawn in
-    let hall = c.make_place.new.self in
-    stage-begins (seen_listener g.N.Listener.coming g.N.Listener.over g.N.Listener.out g.N.Listener.opened
-    g.N.Outside.faults) links callers
-    (seen_caller g.S.Kept.number g.S.Kept.said) c.args.start.now c.make_place.new.net c.accept.new.net hall
-    c.welcome.new.self (drawn c.args.roll.now) (drawn c.welcome.new.roll) c.in-Ok.link c.make_place.ensures.stage
+    stage-begins c.make_place.ensures.stage
     (omega (arith, c.requires.level, c.make_place.ensures.counts.0, c.make_place.ensures.counts.1)) c.in-Ok.ensures.ok
     (omega (arith, c.requires.drawn, c.make_place.ensures.counts.1))
-    (subst (λ rules. AddsWork rules links callers (drawn c.args.roll.now) (drawn c.welcome.new.roll) c.in-Ok.link hall
-    c.welcome.new.self) (sym c.requires.rules) c.welcome.ensures.adds)
+    (subst (λ rules. AddsWork rules links callers (drawn c.args.roll.now) (drawn c.welcome.new.roll) c.in-Ok.link
+    c.make_place.new.self c.welcome.new.self) (sym c.requires.rules) c.welcome.ensures.adds)

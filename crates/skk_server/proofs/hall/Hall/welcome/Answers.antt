@@ -10,7 +10,7 @@ returns-in-Ok-clause-adds g c = record {
   work = c.begin-work.result;
   works_are = c.push_back_reserved.ensures.items;
   begun_is = c.begin-work.ensures.begun;
-  under_way = subst (λ n. IsUnderWay c.args.rules.now
+  under_way = subst (λ n. IsUnderWay c.args.server.now.service.now.rules.now
       (seen_link g.L.Outside.left g.L.Outside.written g.L.Outside.faults g.L.Link.closed)
       (seen_caller g.C.Caller.number g.C.Caller.said) n c.begin-work.result []) c.in-Ok.ensures.number
       c.begin-work.ensures.under_way;
@@ -24,7 +24,7 @@ returns-in-Err-clause-adds g c = record {
   work = c.refuse.result;
   works_are = c.push_back_reserved-in-Err.ensures.items;
   begun_is = c.refuse.ensures.begun;
-  under_way = c.refuse.ensures.under_way c.args.rules.now (g.W.Office.drawn c.args.roll.now);
+  under_way = c.refuse.ensures.under_way c.args.server.now.service.now.rules.now (g.W.Office.drawn c.args.roll.now);
   drawn_is = omega (arith, c.in-Err.ensures.err, c.refuse.ensures.none);
   passes_stay = refl;
   ends_stay = refl;

@@ -10,7 +10,7 @@ loop-rest-init g c = record {
   front = (
     [],
     refl,
-    read-none c.args.rules.now (g.K.Outside.written c.args.link.now) (g.C.Caller.said c.args.caller.now)
+    read-none c.args.service.now.rules.now (g.K.Outside.written c.args.link.now) (g.C.Caller.said c.args.caller.now)
         c.args.self.now.talk c.args.self.now.page.bytes.items c.requires.quiet,
   );
   left = refl;
@@ -20,6 +20,7 @@ loop-rest-init g c = record {
 
 pub returns-in_err-answer_part-clause-err : goal.returns-in_err-answer_part-clause-err
 returns-in_err-answer_part-clause-err g c =
+    let rules = c.args.service.now.rules.now in
     let said = g.C.Caller.said in
     let left = g.K.Outside.left in
     let written = g.K.Outside.written in
@@ -27,10 +28,10 @@ returns-in_err-answer_part-clause-err g c =
     let (front, whole, read) = c.loop-rest.invariant.front in
     let part = c.split_at.result.0.now in
     let later = c.split_at.result.1.now in
-    if_err (EndsRead c.args.rules.now (moved_link left written faults c.args.link.now c.answer_part.new.link)
+    if_err (EndsRead rules (moved_link left written faults c.args.link.now c.answer_part.new.link)
     (said c.args.caller.now) (said c.answer_part.new.caller) c.args.self.now.talk c.args.bytes.now)
     c.from_residual.result c.in_err-answer_part.field-0.0 c.from_residual.ensures.1
-    (read-ends c.args.rules.now left written faults c.args.link.now c.loop-rest.link c.answer_part.new.link
+    (read-ends rules left written faults c.args.link.now c.loop-rest.link c.answer_part.new.link
     (said c.args.caller.now) (said c.loop-rest.caller) (said c.answer_part.new.caller) c.args.self.now.talk
     c.loop-rest.self.talk c.loop-rest.self.page.bytes.items front part later c.args.bytes.now
     c.in_err-answer_part.field-0.0 read c.loop-rest.invariant.counted c.in_err-answer_part.ensures.err
@@ -38,6 +39,7 @@ returns-in_err-answer_part-clause-err g c =
 
 pub loop-rest-preserved : goal.loop-rest-preserved
 loop-rest-preserved g c =
+    let rules = c.args.service.now.rules.now in
     let said = g.C.Caller.said in
     let written = g.K.Outside.written in
     let (front, whole, read) = c.loop-rest.invariant.front in
@@ -47,7 +49,7 @@ loop-rest-preserved g c =
       front = (
         front ++ part,
         append_assoc front part later ∙ (ap (λ rest. front ++ rest) (sym c.split_at.ensures.by_index.0) ∙ whole),
-        read-on c.args.rules.now (written c.args.link.now) (written c.loop-rest.link) (written c.answer_part.new.link)
+        read-on rules (written c.args.link.now) (written c.loop-rest.link) (written c.answer_part.new.link)
             (said c.args.caller.now) (said c.loop-rest.caller) (said c.answer_part.new.caller) c.args.self.now.talk
             c.loop-rest.self.talk c.answer_part.new.self.talk c.loop-rest.self.page.bytes.items
             c.answer_part.new.self.page.bytes.items front part read c.in_ok-answer_part.ensures.ok,

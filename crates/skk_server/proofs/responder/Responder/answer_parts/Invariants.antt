@@ -6,8 +6,8 @@ use Rattle.skk_server.proofs.responder.Responder.answer_parts.Given as goal
 abbrev pub invariant-loop-rest : goal.invariant-loop-rest
 invariant-loop-rest g l = record {
   front : (front : List ℕ) × (front ++ l.rest ≡ l.bytes)
-      × AnswersRead l.rules (g.K.Outside.written l.fn.link) (g.K.Outside.written l.link) (g.C.Caller.said l.fn.caller)
-      (g.C.Caller.said l.caller) l.fn.self.talk l.self.talk l.self.page.bytes.items front;
+      × AnswersRead l.service.rules.now (g.K.Outside.written l.fn.link) (g.K.Outside.written l.link)
+      (g.C.Caller.said l.fn.caller) (g.C.Caller.said l.caller) l.fn.self.talk l.self.talk l.self.page.bytes.items front;
   left : g.K.Outside.left l.link ≡ g.K.Outside.left l.fn.link;
   number : g.C.Caller.number l.caller ≡ g.C.Caller.number l.fn.caller;
   counted : g.K.Outside.faults l.fn.link ≤ g.K.Outside.faults l.link;
