@@ -95,11 +95,10 @@ impl<C: Caller> Worker<C> {
         ensures leaves { LeavesOwnLine C.said rules.now (Line.Keys self.old.number keys.now) result
             self.old self.new }
     {
-        let session = mem::replace(&mut self.session, new_session(alloc, self.number));
-        let session = session.play(alloc, rules, keys.as_slice(), &mut self.caller)?;
+        self.session
+            .press_keys(alloc, rules, keys.as_slice(), &mut self.caller)?;
         let mut page = Text::new(alloc);
-        push_output_line(alloc, &mut page, self.number, &session)?;
-        self.session = session;
+        push_output_line(alloc, &mut page, self.number, &self.session)?;
         self.pages.push(page)?;
         Ok(())
     }

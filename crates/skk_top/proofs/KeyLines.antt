@@ -1,5 +1,7 @@
 -- What the typing of a line comes to, of what its session comes to.
-use Rattle.std.proofs.Common.{◌≡◌, ◌∙◌, sym, subst, rules, ℕ, Result, Ok, Err, IsErrAnd, List, [], ◌∷◌, ◌++◌}
+use Rattle.std.proofs.Common.{◌≡◌, ◌∙◌, ap, sym, subst, rules, ℕ, Option, None, Some, Result, Ok, Err, IsErrAnd, List}
+use Rattle.std.proofs.Common.{[], ◌∷◌, ◌++◌, unwrap_or, OnOk}
+use Rattle.std.specs.Bool.{⊤}
 use Rattle.std.proofs.lemmas.List.{append-nil}
 use Rattle.skk_outside.specs.Moved.{MovedSink}
 use Rattle.romaji_rules.specs.declared.rule.Rule.{Rule}
@@ -11,7 +13,7 @@ use Rattle.session_machine.specs.Pressed.{all_pressed}
 use Rattle.session_machine.specs.Said.{Says, Spoken}
 use Rattle.session_machine.specs.Session.{Session, new_session}
 use Rattle.script_typing.specs.Printing.{output_line}
-use Rattle.script_typing.specs.Sessions.{SessionMap, session_or_new, with_session}
+use Rattle.script_typing.specs.Sessions.{SessionMap, session_at, session_or_new, with_session}
 use Rattle.script_typing.specs.Typed.{Asking, typing}
 use Rattle.skk_top.specs.Typing.{Stand, stand, TypesLine, Reaches, Breaks}
 use Rattle.key_scripts.specs.declared.line.Line.{Line}
@@ -45,6 +47,17 @@ types-opening table number typist book sessions sessions' page said put = record
   );
   memory = search rules;
 }
+
+-- the session of a number that is there
+pub session-there : (sessions : SessionMap) (number : ℕ) (session : Session)
+    → Some session ≡ session_at sessions number → session ≡ session_or_new sessions number
+session-there sessions number session is = ap (λ (o : Option Session). unwrap_or o (new_session number number)) is
+
+-- of a number that is not there it is a new one
+pub session-new : (sessions : SessionMap) (number : ℕ) (session : Session) → None ≡ session_at sessions number
+    → session ≡ new_session number number → session ≡ session_or_new sessions number
+session-new sessions number session none is =
+    is ∙ ap (λ (o : Option Session). unwrap_or o (new_session number number)) none
 
 module _ (table : List Rule) (number : ℕ) (keys : List Key) (sessions : SessionMap) where
   -- what comes behind the keys, by the session that they come to
@@ -104,6 +117,16 @@ module _ (table : List Rule) (number : ℕ) (keys : List Key) (sessions : Sessio
         λ lines. begins-followed (all_pressed table (session_or_new sessions number) keys) says.dialog (behind lines)
         (comes-begins (all_pressed table (session_or_new sessions number) keys) says.dialog next says.ok);
   }
+
+  -- keys that came to a session, whose output line was printed unless memory was out then
+  pub types-printed : (next : Session) (ended : Result (Unit {0}) Memory) (sessions' : SessionMap) (page page' : List ℕ)
+      (before after : Spoken) → Says (all_pressed table (session_or_new sessions number) keys) (Ok next) before after
+      → OnOk ended (page' ≡ page ++ output_line number next) → sessions' ≡ with_session sessions number next
+      → TypesLine table (Keys number keys) ended (stand sessions page before.said) (stand sessions' page' after.said)
+  types-printed next (Ok done) sessions' page page' before after says pushed put =
+      types-keys next sessions' page page' before after says pushed put
+  types-printed next (Err memory) sessions' page page' before after says pushed put =
+      types-lost next (Err memory) (λ other. ⊤) sessions' page page' before after tt says
 
 module _ (table : List Rule) (line : Line) (lines : List Line) (before after : Stand) {from : Asking} {said : Dialog}
     {out : MovedSink}

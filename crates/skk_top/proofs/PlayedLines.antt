@@ -1,6 +1,7 @@
 -- What the playing of lines comes to, of what their sessions come to.
 use Rattle.std.proofs.Common.{◌≡◌, ◌∙◌, ◌<◌, ◌+◌, ap, sym, subst, rules, ℕ, Result, Ok, Err, IsErrAnd, List, []}
 use Rattle.std.proofs.Common.{◌∷◌, ◌++◌, append_assoc, length, drop, get_or}
+use Rattle.std.specs.Bool.{⊤}
 use Rattle.std.proofs.lemmas.List.{append-nil}
 use Rattle.romaji_rules.specs.declared.rule.Rule.{Rule}
 use Rattle.skk_text.specs.declared.key.Key.{Key}
@@ -9,7 +10,7 @@ use Rattle.skk_calls.specs.InteractionLaws.{begins-followed, begins-leads, comes
 use Rattle.skk_calls.specs.InteractionLaws.{led-asked}
 use Rattle.skk_calls.specs.Interactions.{Interaction, Dialog, Leads, here}
 use Rattle.session_machine.specs.Pressed.{all_pressed}
-use Rattle.session_machine.specs.Said.{Says, Spoken}
+use Rattle.session_machine.specs.Said.{Says, Spoken, after}
 use Rattle.session_machine.specs.Session.{Session, new_session}
 use Rattle.script_typing.specs.Playing.{playing}
 use Rattle.script_typing.specs.Sessions.{SessionMap, session_or_new, with_session}
@@ -93,6 +94,16 @@ module _ (table : List Rule) (number : ℕ) (keys : List Key) (sessions : Sessio
         λ lines. begins-followed (all_pressed table (session_or_new sessions number) keys) says.dialog (behind lines)
         (comes-begins (all_pressed table (session_or_new sessions number) keys) says.dialog next says.ok);
   }
+
+  -- keys that were pressed in a session where it stands, unless memory was out
+  pub plays-pressed : (next : Session) (ended : Result (Unit {0}) Memory) (sessions' : SessionMap)
+      (before now : Spoken)
+      → Says (all_pressed table (session_or_new sessions number) keys) (after ended next) before now
+      → sessions' ≡ with_session sessions number next
+      → PlaysLine table (Keys number keys) ended (played sessions before.said) (played sessions' now.said)
+  plays-pressed next (Ok done) sessions' before now says put = plays-keys next sessions' before now says put
+  plays-pressed next (Err memory) sessions' before now says put =
+      plays-cut memory (Err memory) (λ other. ⊤) sessions' before now tt says
 
 -- at the start nothing was said
 pub leads-start : {S : Type 0} (from : Interaction S) (said : Dialog) → LeadsTo from from said said

@@ -3,7 +3,7 @@ ghost use Rattle.std.specs.List.{list_all};
 ghost use Rattle.key_scripts.specs.Script.{opens_well};
 ghost use Rattle.skk_top.specs.Playing.{played, PlaysLine, PlaysLines};
 
-use crate::typing::{put_session, take_session};
+use crate::typing::{new_session, put_session};
 use key_scripts::Line;
 use romaji_rules::Rules;
 use session_machine::Session;
@@ -68,8 +68,13 @@ fn play_keys<C: Caller>(
     ensures { PlaysLine rules.now (Line.Keys number keys.now) result
         (played sessions.old.entries (C.said caller.old)) (played sessions.new.entries (C.said caller.new)) }
 {
-    let session = take_session(alloc, number, sessions)?;
-    let next = session.play(alloc, rules, keys.as_slice(), caller)?;
-    put_session(number, next, sessions)?;
-    Ok(())
+    match sessions.get_mut(&number) {
+        Some(session) => session.press_keys(alloc, rules, keys.as_slice(), caller),
+        None => {
+            let mut session = new_session(alloc, number);
+            session.press_keys(alloc, rules, keys.as_slice(), caller)?;
+            put_session(number, session, sessions)?;
+            Ok(())
+        }
+    }
 }

@@ -5,7 +5,7 @@ ghost use Rattle.skk_outside.specs.Written.{AppendsPrefix};
 ghost use Rattle.session_machine.specs.Session.{Session, new_session};
 ghost use Rattle.run_endings.specs.Page.{Printed, StopsPrinting};
 ghost use Rattle.key_scripts.specs.Script.{opens_well};
-ghost use Rattle.script_typing.specs.Sessions.{session_at, session_or_new, with_session};
+ghost use Rattle.script_typing.specs.Sessions.{session_at, with_session};
 ghost use Rattle.script_typing.specs.Typed.{typing, closing_lines};
 ghost use Rattle.skk_top.specs.Typing.{stand, TypesLine, Reaches, Breaks, LeavesLines};
 
@@ -112,30 +112,23 @@ fn type_keys<C: Caller>(
         (stand sessions.old.entries page.old (C.said caller.old))
         (stand sessions.new.entries page.new (C.said caller.new)) }
 {
-    let session = take_session(alloc, number, sessions)?;
-    let next = session.play(alloc, rules, keys.as_slice(), caller)?;
-    push_output_line(alloc, page, number, &next)?;
-    put_session(number, next, sessions)?;
-    Ok(())
+    match sessions.get_mut(&number) {
+        Some(session) => {
+            session.press_keys(alloc, rules, keys.as_slice(), caller)?;
+            push_output_line(alloc, page, number, session)
+        }
+        None => {
+            let mut session = new_session(alloc, number);
+            session.press_keys(alloc, rules, keys.as_slice(), caller)?;
+            push_output_line(alloc, page, number, &session)?;
+            put_session(number, session, sessions)?;
+            Ok(())
+        }
+    }
 }
 
-/// Takes a session out, to be put back: it is new where it was not there, and a new one stands for it meanwhile.
-#[tactic(auto, using(script_typing::specs::MapLaws::put_again))]
-pub fn take_session(
-    alloc: Global,
-    number: u8,
-    sessions: &mut BTreeMap<u8, Session>,
-) -> Result<Session, Memory>
-    ensures session { IfOk result (λ session. session ≡ session_or_new sessions.old.entries number) }
-    ensures others { OnOk result ((session : Session)
-        → with_session sessions.new.entries number session ≡ with_session sessions.old.entries number session) }
-{
-    let before = put_session(number, new_session(alloc, number), sessions)?;
-    Ok(before.unwrap_or(new_session(alloc, number)))
-}
-
-// A new session of a number, which is its typist and its book.
-fn new_session(alloc: Global, number: u8) -> Session
+/// A new session of a number, which is its typist and its book.
+pub fn new_session(alloc: Global, number: u8) -> Session
     ensures { result ≡ new_session number number }
 {
     Session::new(alloc, u16::from(number), u16::from(number))

@@ -1,27 +1,46 @@
-use Rattle.std.proofs.Common.{◌∙◌, refl}
-use Rattle.key_scripts.specs.declared.line.Line.TheVariants.{Keys}
-use Rattle.skk_top.proofs.PlayedLines.{plays-cut, plays-keys, plays-lost, plays-nothing}
+use Rattle.std.proofs.Common.{◌∙◌, ap, sym, ℕ}
+use Rattle.std.specs.BTreeMap.{BTreeMap}
+use Rattle.session_machine.specs.Session.{Session}
+use Rattle.script_typing.specs.MapLaws.{set_put}
+use Rattle.script_typing.specs.Sessions.{with_session}
+use Rattle.skk_top.proofs.KeyLines.{session-new, session-there}
+use Rattle.skk_top.proofs.PlayedLines.{plays-cut, plays-keys, plays-lost, plays-pressed}
 use Rattle.skk_top.proofs.playing.play_keys.Goals as goal
 
-pub returns-in_err-session : goal.returns-in_err-session
-returns-in_err-session g c =
-    plays-nothing c.args.rules.now (Keys c.args.number c.args.keys.now) c.from_residual.result _ _ _
-    c.from_residual.ensures.1 refl
+pub returns-in-Some : goal.returns-in-Some
+returns-in-Some g c =
+    let there = session-there c.args.sessions.now.entries c.args.number c.in-Some.session.now
+    c.in-Some.ensures.value in
+    plays-pressed c.args.rules.now c.args.number c.args.keys.now c.args.sessions.now.entries c.press_keys.new.self
+    c.press_keys.result _ _ _ (rw (there, c.as_slice.ensures) at c.press_keys.ensures)
+    ((c.get_mut.follows.holds c.press_keys.new.self).0
+    ∙ set_put c.args.sessions.now.entries c.args.number c.in-Some.session.now c.press_keys.new.self
+    c.get_mut.ensures.ordered (sym c.in-Some.ensures.value))
 
-pub returns-in_err-next : goal.returns-in_err-next
-returns-in_err-next g c =
-    plays-cut c.args.rules.now c.args.number c.args.keys.now c.args.sessions.now.entries _
-    c.from_residual-in_err-next.result _ _ _ _ c.from_residual-in_err-next.ensures.1
-    (rw (c.in_ok-session.ensures.session, c.as_slice.ensures) at c.in_err-next.ensures)
+pub returns-in_err-press_keys-in-None : goal.returns-in_err-press_keys-in-None
+returns-in_err-press_keys-in-None g c =
+    let new = session-new c.args.sessions.now.entries c.args.number c.new_session-session.result
+    c.in-None.ensures.value c.new_session-session.ensures in
+    plays-cut c.args.rules.now c.args.number c.args.keys.now c.args.sessions.now.entries _ c.from_residual.result
+    _ _ _ _ c.from_residual.ensures.1
+    (rw (new, c.as_slice-in-None.ensures) at c.in_err-press_keys-in-None.ensures)
 
-pub returns-in_err-put_session : goal.returns-in_err-put_session
-returns-in_err-put_session g c =
-    plays-lost c.args.rules.now c.args.number c.args.keys.now c.args.sessions.now.entries c.in_ok-next.next
-    c.from_residual-in_err-put_session.result _ _ _ _ c.from_residual-in_err-put_session.ensures.1
-    (rw (c.in_ok-session.ensures.session, c.as_slice.ensures) at c.in_ok-next.ensures)
+pub returns-in_err-put_session-in-None : goal.returns-in_err-put_session-in-None
+returns-in_err-put_session-in-None g c =
+    let new = session-new c.args.sessions.now.entries c.args.number c.new_session-session.result
+    c.in-None.ensures.value c.new_session-session.ensures in
+    plays-lost c.args.rules.now c.args.number c.args.keys.now c.args.sessions.now.entries
+    c.press_keys-in-None.new.self c.from_residual-in_err-put_session-in-None.result _ _ _ _
+    c.from_residual-in_err-put_session-in-None.ensures.1
+    (rw (new, c.as_slice-in-None.ensures) at c.in_ok-press_keys-in-None.ensures)
 
-pub returns : goal.returns
-returns g c =
-    plays-keys c.args.rules.now c.args.number c.args.keys.now c.args.sessions.now.entries c.in_ok-next.next _ _ _
-    (rw (c.in_ok-session.ensures.session, c.as_slice.ensures) at c.in_ok-next.ensures)
-    (c.in_ok-put_session.ensures.put ∙ c.in_ok-session.ensures.others c.in_ok-next.next)
+pub returns-in_ok-put_session-in-None : goal.returns-in_ok-put_session-in-None
+returns-in_ok-put_session-in-None g c =
+    let new = session-new c.args.sessions.now.entries c.args.number c.new_session-session.result
+    c.in-None.ensures.value c.new_session-session.ensures in
+    plays-keys c.args.rules.now c.args.number c.args.keys.now c.args.sessions.now.entries
+    c.press_keys-in-None.new.self _ _ _
+    (rw (new, c.as_slice-in-None.ensures) at c.in_ok-press_keys-in-None.ensures)
+    (c.in_ok-put_session-in-None.ensures.put
+    ∙ ap (λ (map : BTreeMap ℕ Session). with_session map.entries c.args.number c.press_keys-in-None.new.self)
+    c.get_mut.follows.holds-at-none)
