@@ -44,7 +44,7 @@ fn cand<R: Abort>(rt: &R, alloc: Global, word: &str) -> Cand {
 }
 
 fn text<R: Abort>(rt: &R, alloc: Global, content: &str) -> Text {
-    Text::of(String::from_str(alloc, content).expect(rt, "memory"))
+    Text::from_str(alloc, content).expect(rt, "memory")
 }
 
 // The answer to a caller's call, which is let go.

@@ -13,7 +13,7 @@ use std::process::Abort;
 pub fn text(rt: &impl Abort, alloc: Global, content: &str) -> Text
     ensures { result ≡ chars content.now }
 {
-    Text::of(String::from_str(alloc, content).expect(rt, "memory"))
+    Text::from_str(alloc, content).expect(rt, "memory")
 }
 
 // A text that is `start`, `unit` so many times, and then `end`.

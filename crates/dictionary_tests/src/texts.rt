@@ -39,14 +39,14 @@ fn expect_copies(rt: &impl Abort, alloc: Global, line: Text, wanted: &str) {
     let mut lines = Texts::new(alloc);
     lines.push(line).expect(rt, "memory");
     let copies = lines.copy(alloc).expect(rt, "memory");
-    expect_each(rt, lines, wanted);
-    expect_each(rt, copies, wanted);
+    expect_each(rt, alloc, lines, wanted);
+    expect_each(rt, alloc, copies, wanted);
 }
 
-fn expect_each(rt: &impl Abort, texts: Texts, wanted: &str) {
+fn expect_each(rt: &impl Abort, alloc: Global, texts: Texts, wanted: &str) {
     for text in texts.into_vec() {
         same(text.as_str(), wanted).expect(rt, "as wanted");
-        same(text.into_string().as_str(), wanted).expect(rt, "as wanted");
+        same(text.to_string(alloc).expect(rt, "memory").as_str(), wanted).expect(rt, "as wanted");
     }
 }
 

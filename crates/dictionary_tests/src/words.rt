@@ -17,7 +17,7 @@ fn expect_insert(
     (word, is_new): (&str, bool),
 ) {
     let inserted = words
-        .insert(text(rt, alloc, word).into_string())
+        .insert(String::from_str(alloc, word).expect(rt, "memory"))
         .expect(rt, "memory");
     same_at(inserted, is_new, word).expect(rt, "as wanted");
 }
@@ -52,7 +52,7 @@ fn expect_noted(
 ) {
     let note = text(rt, alloc, note);
     let inserted = notes
-        .insert(text(rt, alloc, word).into_string(), note)
+        .insert(String::from_str(alloc, word).expect(rt, "memory"), note)
         .expect(rt, "memory");
     same_at(inserted, is_new, word).expect(rt, "as wanted");
 }

@@ -495,7 +495,7 @@ fn an_opening_whose_calls_fail_gives_the_disk_back(rt: HostRuntime) {
 const FOLDER: &str = "learned_tests_journal";
 
 pub(crate) fn text(rt: &impl Abort, alloc: Global, name: &str) -> Text {
-    Text::of(String::from_str(alloc, name).expect(rt, "memory"))
+    Text::from_str(alloc, name).expect(rt, "memory")
 }
 
 #[test]

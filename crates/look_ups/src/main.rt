@@ -167,5 +167,5 @@ fn count_walked(alloc: Global, system: &System, from: Text) -> Option<u64> {
 
 // The text of a string.
 fn text(alloc: Global, content: &str) -> Option<Text> {
-    Some(Text::of(String::from_str(alloc, content).ok()?))
+    Text::from_str(alloc, content).ok()
 }

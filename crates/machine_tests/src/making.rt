@@ -1,5 +1,6 @@
-ghost use Rattle.std.specs.Prelude.{◌≡◌, true};
+ghost use Rattle.std.specs.Prelude.{◌≡◌, true, string_bytes};
 ghost use Rattle.std.specs.List.{list_all};
+ghost use Rattle.std.specs.Str.{chars};
 ghost use Rattle.skk_calls.specs.Dictionary.{is_plain_reading};
 
 use skk_calls::{Cand, Cands, DistinctCands, Part, RowKey};
@@ -11,7 +12,7 @@ use word_sets::WordMap;
 
 // The text of a string.
 pub fn text(rt: &impl Abort, alloc: Global, content: &str) -> Text {
-    Text::of(String::from_str(alloc, content).expect(rt, "memory"))
+    Text::from_str(alloc, content).expect(rt, "memory")
 }
 
 // The name of a value.
@@ -24,9 +25,18 @@ pub fn distinct_cands(rt: &impl Abort, alloc: Global, list: &str, count: usize) 
     let mut first = WordMap::new(alloc);
     for cand in listed_cands(rt, alloc, list, count).into_vec() {
         let (word, note) = cand.into_parts();
-        first.insert(word.into_string(), note).expect(rt, "memory");
+        first
+            .insert(string(rt, alloc, &word), note)
+            .expect(rt, "memory");
     }
     DistinctCands::new(first.into_cands(alloc).expect(rt, "memory"))
+}
+
+// The string of a text.
+fn string(rt: &impl Abort, alloc: Global, word: &Text) -> String
+    ensures { chars (string_bytes result) ≡ word.now }
+{
+    word.to_string(alloc).expect(rt, "memory")
 }
 
 // The first so many candidates of a list, which commas stand between, each with its note behind a `;`.

@@ -6,7 +6,7 @@ use std::process::Abort;
 
 // The text of a string.
 pub fn text(rt: &impl Abort, alloc: Global, content: &str) -> Text {
-    Text::of(String::from_str(alloc, content).expect(rt, "memory"))
+    Text::from_str(alloc, content).expect(rt, "memory")
 }
 
 // These bytes.
