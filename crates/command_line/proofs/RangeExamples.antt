@@ -1,31 +1,33 @@
 -- Numbers on both sides of the ends of their ranges.
-use Rattle.std.proofs.Common.{◌^◌, ◌-◌, ℕ, false, Some, None, [], codes, arith}
+use Rattle.std.proofs.Common.{◌≡◌, ◌^◌, ◌-◌, ℕ, Some, None, [], codes, refl, arith}
 use Rattle.command_line.specs.Ranges.{HasNumbersInRange}
 use Rattle.command_line.specs.declared.command.Command.{Command}
-use Rattle.command_line.specs.declared.command.Command.TheVariants.{TypeScript, Serve, Dump, Load}
+use Rattle.command_line.specs.declared.command.Command.TheVariants.{Alone, Waiting}
+use Rattle.command_line.specs.declared.command.AloneCommand.TheVariants as alone
+use Rattle.command_line.specs.declared.command.WaitingCommand.TheVariants as waiting
 
 -- commands with these numbers, and nothing else given
 abbrev typing : ℕ → Command
 typing limit =
-    TypeScript
-    (record { dictionaries = record { items = [] }; rules = None; learned = None; limit = Some limit; threads = false })
+    Alone (alone.TypeScript
+    (record { dictionaries = record { items = [] }; rules = None; learned = None; limit = Some limit }))
 
 abbrev serving : ℕ → ℕ → ℕ → Command
 serving limit port connections =
-    Serve (record {
+    Waiting (waiting.Serve (record {
       learned = codes "L";
       dictionaries = record { items = [] };
       rules = None;
       limit = Some limit;
       port = port;
       connections = connections;
-    })
+    }))
 
 abbrev dumping : ℕ → Command
-dumping book = Dump (record { learned = codes "L"; book = book })
+dumping book = Alone (alone.Dump (record { learned = codes "L"; book = book }))
 
 abbrev loading : ℕ → ℕ → ℕ → Command
-loading seed sessions lines = Load (record { seed = seed; sessions = sessions; lines = lines; threads = false })
+loading seed sessions lines = Alone (alone.Load (record { seed = seed; sessions = sessions; lines = lines }))
 
 -- the least and the greatest lie within
 within :
@@ -74,3 +76,11 @@ loading_outside = (
   λ h. omega (arith, h.2.0),
   λ h. omega (arith, h.2.1),
 )
+
+-- with threads, the ranges are the same
+in_threads : (limit seed sessions lines : ℕ)
+    → (HasNumbersInRange (typing limit) ≡ HasNumbersInRange (Waiting (waiting.TypeScript
+    (record { dictionaries = record { items = [] }; rules = None; learned = None; limit = Some limit }))))
+    × (HasNumbersInRange (loading seed sessions lines)
+    ≡ HasNumbersInRange (Waiting (waiting.Load (record { seed = seed; sessions = sessions; lines = lines }))))
+in_threads limit seed sessions lines = (refl, refl)

@@ -4,18 +4,19 @@ use Rattle.std.proofs.Common.{◌∷◌, refl, map, codes, length, replicate}
 use Prim.Native.String.{String}
 use Rattle.std.specs.Fmt.{digits}
 use Rattle.std.specs.List.{filter}
-use Rattle.std.specs.Option.{option_map}
+use Rattle.std.specs.Option.{option_and_then, option_map}
 use Rattle.command_line.specs.Arguments.{name_at, place}
-use Rattle.command_line.specs.Command.{command_of, limit_of, script_to_type, file_to_check, book_to_dump, do_open}
-use Rattle.command_line.specs.Command.{load_asked, load_to_play, load_to_share, do_print, learned_named, port_to_serve}
+use Rattle.command_line.specs.Command.{command_of, learned_of, limit_of}
 use Rattle.command_line.specs.OptionWords.{option_app, settings_asked}
 use Rattle.skk_text.specs.Lines.{with_first}
 use Rattle.command_line.specs.Words.{is_name, number_within, cut}
 use Rattle.command_line.specs.declared.argument.Argument.TheVariants.{File, Dictionary, Limit, Seed, Threads}
+use Rattle.command_line.specs.declared.command.AloneCommand.TheVariants as alone
 use Rattle.command_line.specs.declared.command.Command.{Command}
-use Rattle.command_line.specs.declared.command.Command.TheVariants.{TypeScript, Serve, Check, Dump, Load}
-use Rattle.command_line.specs.declared.command.ServeOptions.{ServeOptions}
+use Rattle.command_line.specs.declared.command.Command.TheVariants.{Alone, Waiting}
+use Rattle.command_line.specs.declared.command.LoadOptions.{LoadOptions}
 use Rattle.command_line.specs.declared.command.TypeOptions.{TypeOptions}
+use Rattle.command_line.specs.declared.command.WaitingCommand.TheVariants as waiting
 use Rattle.command_line.specs.declared.command_name.CommandName.TheVariants as titles
 
 -- the words of a line, between single spaces
@@ -32,28 +33,29 @@ read line = command_of (words line)
 -- commands with their options
 abbrev type_with : List (List ℕ) → Option (List ℕ) → Option (List ℕ) → Option ℕ → Bool → Option Command
 type_with dictionaries rules learned limit threads =
-    Some (TypeScript (record {
+    let options : TypeOptions = record {
       dictionaries = record { items = dictionaries };
       rules = rules;
       learned = learned;
       limit = limit;
-      threads = threads;
-    }))
+    } in
+    Some (if threads then Waiting (waiting.TypeScript options) else Alone (alone.TypeScript options))
 
 abbrev serve_with : String → List (List ℕ) → Option (List ℕ) → Option ℕ → ℕ → ℕ → Option Command
 serve_with learned dictionaries rules limit port connections =
-    Some (Serve (record {
+    Some (Waiting (waiting.Serve (record {
       learned = codes learned;
       dictionaries = record { items = dictionaries };
       rules = rules;
       limit = limit;
       port = port;
       connections = connections;
-    }))
+    })))
 
 abbrev load_with : ℕ → ℕ → ℕ → Bool → Option Command
 load_with seed sessions lines threads =
-    Some (Load (record { seed = seed; sessions = sessions; lines = lines; threads = threads }))
+    let options : LoadOptions = record { seed = seed; sessions = sessions; lines = lines } in
+    Some (if threads then Waiting (waiting.Load options) else Alone (alone.Load options))
 
 -- the lines of these that are a command
 abbrev taken : List String → List String
@@ -76,13 +78,15 @@ serve_words : map read ("serve --learned a" ∷ "serve --dict d --port 1 --learn
 unfolding digits
 serve_words = refl
 
+abbrev check_with : String → Option Command
+check_with name = Some (Alone (alone.Check (codes name)))
+
 check_words : map read ("check a" ∷ "check type" ∷ "check a=-b" ∷ "check =" ∷ "check 辞書-" ∷ [])
-    ≡ Some (Check (codes "a")) ∷ Some (Check (codes "type")) ∷ Some (Check (codes "a=-b")) ∷ Some (Check (codes "="))
-    ∷ Some (Check (codes "辞書-")) ∷ []
+    ≡ check_with "a" ∷ check_with "type" ∷ check_with "a=-b" ∷ check_with "=" ∷ check_with "辞書-" ∷ []
 check_words = refl
 
 abbrev dump_with : List ℕ → ℕ → Option Command
-dump_with learned book = Some (Dump (record { learned = learned; book = book }))
+dump_with learned book = Some (Alone (alone.Dump (record { learned = learned; book = book })))
 
 dump_words : map read ("dump --learned a" ∷ "dump --book 0 --learned=a" ∷ "dump --learned a --book=65535" ∷ [])
     ≡ dump_with (codes "a") 0 ∷ dump_with (codes "a") 0 ∷ dump_with (codes "a") 65535 ∷ []
@@ -98,7 +102,7 @@ load_words = refl
 -- a value may hold a space, a `=` and a `-`, and be the name of a command
 values : map command_of ((codes "check" ∷ codes "a b" ∷ []) ∷ (codes "dump" ∷ codes "--learned= a" ∷ [])
     ∷ words "dump --learned==" ∷ words "dump --learned a--book" ∷ words "dump --learned dump" ∷ [])
-    ≡ Some (Check (codes "a b")) ∷ dump_with (codes " a") 0 ∷ dump_with (codes "=") 0
+    ≡ check_with "a b" ∷ dump_with (codes " a") 0 ∷ dump_with (codes "=") 0
     ∷ dump_with (codes "a--book") 0 ∷ dump_with (codes "dump") 0 ∷ []
 values = refl
 
@@ -197,77 +201,6 @@ cuts : map (λ text. cut (codes text)) ("" ∷ "a" ∷ "=" ∷ "a=" ∷ "=b" ∷
     ∷ Some (codes "a", codes "b=c") ∷ Some (codes "ab", codes "=") ∷ []
 cuts = refl
 
--- what prints and does not wait: `type` and `load` without threads, `check` and `dump`
-abbrev some_lines : List String
-some_lines =
-    "type" ∷ "type --limit 268435456" ∷ "type --limit 64" ∷ "type --dict a" ∷ "type --rules a" ∷ "type --learned a"
-    ∷ "type --threads" ∷ "type --dict a --dict=b" ∷ "type --dict a --threads" ∷ "type --rules a --dict b"
-    ∷ "type --rules a --limit 64"
-    ∷ "serve --learned a --dict b" ∷ "check a" ∷ "check" ∷ "check a b" ∷ "dump --learned a"
-    ∷ "load --seed 1 --sessions 1 --lines 1" ∷ "typ" ∷ "dump --book 7 --learned=b" ∷ []
-
-printing : map (λ line. do_print (words line)) some_lines
-    ≡ true ∷ true ∷ true ∷ true ∷ true ∷ true ∷ false ∷ true ∷ false ∷ true ∷ true ∷ false ∷ true ∷ false ∷ false
-    ∷ true ∷ true ∷ false ∷ true ∷ []
-unfolding digits
-printing = refl
-
-ports_to_serve : map (λ line. option_map {U = ℕ × ℕ} (λ (options : ServeOptions). (options.port, options.connections))
-    (port_to_serve (words line)))
-    ("serve --learned a" ∷ "serve --learned a --port 65535 --connections=7" ∷ "type --threads" ∷ [])
-    ≡ Some (1178, 1000000) ∷ Some (65535, 7) ∷ None ∷ []
-unfolding digits
-ports_to_serve = refl
-
--- of the former all but `check` open the learned file
-opening : map (λ line. do_open (words line)) some_lines
-    ≡ true ∷ true ∷ true ∷ true ∷ true ∷ true ∷ false ∷ true ∷ false ∷ true ∷ true ∷ false ∷ false ∷ false ∷ false
-    ∷ true ∷ true ∷ false ∷ true ∷ []
-unfolding digits
-opening = refl
-
-typed_with : map (λ line. option_map {U = Option (List ℕ) × List (List ℕ) × Option (List ℕ) × ℕ}
-    (λ (options : TypeOptions).
-    (options.rules, options.dictionaries.items, options.learned, limit_of options.limit)) (script_to_type (words line)))
-    some_lines
-    ≡ Some (None, [], None, 268435456) ∷ Some (None, [], None, 268435456) ∷ Some (None, [], None, 64)
-    ∷ Some (None, codes "a" ∷ [], None, 268435456) ∷ Some (Some (codes "a"), [], None, 268435456)
-    ∷ Some (None, [], Some (codes "a"), 268435456) ∷ None
-    ∷ Some (None, codes "a" ∷ codes "b" ∷ [], None, 268435456) ∷ None
-    ∷ Some (Some (codes "a"), codes "b" ∷ [], None, 268435456) ∷ Some (Some (codes "a"), [], None, 64)
-    ∷ None ∷ None ∷ None ∷ None ∷ None ∷ None ∷ None ∷ None ∷ []
-unfolding digits
-typed_with = refl
-
-files_to_check : map (λ line. file_to_check (words line)) some_lines
-    ≡ None ∷ None ∷ None ∷ None ∷ None ∷ None ∷ None ∷ None ∷ None ∷ None ∷ None ∷ None ∷ Some (codes "a") ∷ None ∷ None
-    ∷ None ∷ None ∷ None ∷ None ∷ []
-unfolding digits
-files_to_check = refl
-
-books_to_dump : map (λ line. book_to_dump (words line)) some_lines
-    ≡ None ∷ None ∷ None ∷ None ∷ None ∷ None ∷ None ∷ None ∷ None ∷ None ∷ None ∷ None ∷ None ∷ None ∷ None
-    ∷ Some (record { learned = codes "a"; book = 0 }) ∷ None ∷ None
-    ∷ Some (record { learned = codes "b"; book = 7 }) ∷ []
-unfolding digits
-books_to_dump = refl
-
-loads_asked : map (λ line. load_asked (words line))
-    ("load --seed 5 --sessions 6 --lines 7" ∷ "load --threads --lines=8 --sessions=7 --seed 6"
-    ∷ "load --seed 5 --sessions 6" ∷ "type --threads" ∷ "dump --learned a" ∷ [])
-    ≡ Some (record { seed = 5; sessions = 6; lines = 7; threads = false })
-    ∷ Some (record { seed = 6; sessions = 7; lines = 8; threads = true }) ∷ None ∷ None ∷ None ∷ []
-unfolding digits
-loads_asked = refl
-
--- a load is played by one caller, or by a caller for each session
-loads_shared : map {B = Bool × Bool}
-    (λ line. (is_some (load_to_play (words line)), is_some (load_to_share (words line))))
-    ("load --seed 5 --sessions 6 --lines 7" ∷ "load --threads --lines=8 --sessions=7 --seed 6" ∷ "type" ∷ [])
-    ≡ (true, false) ∷ (false, true) ∷ (false, false) ∷ []
-unfolding digits
-loads_shared = refl
-
 -- the names of options are their spellings behind two hyphens, and `clap` is told those of a command
 option_names : map (λ argument. name_at (place argument)) (Dictionary ∷ Limit ∷ Seed ∷ Threads ∷ File ∷ [])
     ≡ codes "dict" ∷ codes "limit" ∷ codes "seed" ∷ codes "threads" ∷ [] ∷ []
@@ -285,8 +218,15 @@ asked : map (λ line. option_map length (settings_asked titles.Dump (words line)
 unfolding digits
 asked = refl
 
-learned_files : map (λ line. learned_named (words line)) some_lines
-    ≡ None ∷ None ∷ None ∷ None ∷ None ∷ Some (codes "a") ∷ None ∷ None ∷ None ∷ None ∷ None ∷ Some (codes "a") ∷ None
-    ∷ None ∷ None ∷ Some (codes "a") ∷ None ∷ None ∷ Some (codes "b") ∷ []
+-- the learned file of a command, where it has one
+learned_files : map (λ line. option_and_then learned_of (read line))
+    ("type" ∷ "type --learned a" ∷ "type --threads --learned=b" ∷ "serve --learned a --dict b" ∷ "check a"
+    ∷ "dump --learned a" ∷ "load --seed 1 --sessions 1 --lines 1" ∷ "load --seed 1 --sessions 1 --lines 1 --threads"
+    ∷ "typ" ∷ "dump --book 7 --learned=b" ∷ [])
+    ≡ None ∷ Some (codes "a") ∷ Some (codes "b") ∷ Some (codes "a") ∷ None ∷ Some (codes "a") ∷ None ∷ None ∷ None
+    ∷ Some (codes "b") ∷ []
 unfolding digits
 learned_files = refl
+
+limits : map limit_of (None ∷ Some 64 ∷ Some 268435456 ∷ []) ≡ 268435456 ∷ 64 ∷ 268435456 ∷ []
+limits = refl

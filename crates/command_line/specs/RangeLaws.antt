@@ -8,25 +8,20 @@ use Rattle.std.proofs.lemmas.List.Sums.{sum_by-cons}
 use Rattle.std.proofs.lemmas.Option.{IfSome_then}
 use Rattle.command_line.specs.Arguments.{place, takes_at}
 use Rattle.command_line.specs.Command.{takes, required, command, command_with, command_named, command_of}
-use Rattle.command_line.specs.Command.{book_dumped, book_to_dump, load_of, load_asked, port_served}
-use Rattle.command_line.specs.Command.{port_to_serve}
+use Rattle.command_line.specs.Command.{load_options}
 use Rattle.command_line.specs.OptionLaws.{IfSome-all, IfSome-and_then, IfSome-if}
-use Rattle.command_line.specs.Ranges.{LiesFrom, HasNumbersInRange}
+use Rattle.command_line.specs.Ranges.{LiesFrom, IsLoadInRange, HasNumbersInRange}
 use Rattle.command_line.specs.Settings.{takes_value}
 use Rattle.command_line.specs.SettingLaws.{AreWritten, Writes, empty, bare, alone, joined, apart, taken_by}
 use Rattle.command_line.specs.SettingLaws.{written}
 use Rattle.command_line.specs.Settings.{settings_of, is_of, times, number_in, value_given}
-use Rattle.command_line.specs.Settings.{number_given, number_or, is_within, fits}
+use Rattle.command_line.specs.Settings.{number_given, number_or, is_given, is_within, fits}
 use Rattle.command_line.specs.declared.argument.Argument.{Argument}
 use Rattle.command_line.specs.declared.argument.Argument.TheVariants.{Limit, Port, Connections, Book, Seed}
-use Rattle.command_line.specs.declared.argument.Argument.TheVariants.{Sessions, Lines}
+use Rattle.command_line.specs.declared.argument.Argument.TheVariants.{Sessions, Lines, Threads}
 use Rattle.command_line.specs.declared.argument.Takes.{Takes}
 use Rattle.command_line.specs.declared.argument.Takes.TheVariants.{Nothing, Name, Number}
 use Rattle.command_line.specs.declared.command.Command.{Command}
-use Rattle.command_line.specs.declared.command.Command.TheVariants as commands
-use Rattle.command_line.specs.declared.command.DumpOptions.{DumpOptions}
-use Rattle.command_line.specs.declared.command.LoadOptions.{LoadOptions}
-use Rattle.command_line.specs.declared.command.ServeOptions.{ServeOptions}
 use Rattle.command_line.specs.declared.command_name.CommandName.{CommandName}
 use Rattle.command_line.specs.declared.command_name.CommandName.TheVariants.{TypeScript, Serve, Check, Dump, Load}
 use Rattle.command_line.specs.declared.setting.Setting.{Setting}
@@ -124,10 +119,23 @@ needed argument settings within =
     there argument settings (leb-true 1 (times argument settings)
     (and_parts (nat_le 1 (times argument settings)) (nat_le (times argument settings) 1) within).0)
 
+-- the numbers of a load
+load-in_range : (settings : List Setting) → AreGiven settings → fits (takes Load) settings ≡ true
+    → IsLoadInRange (load_options settings)
+load-in_range settings given fit =
+    let seed : LiesFrom 0 18446744073709551615 (number_or 0 Seed settings) =
+    lies-in Seed 0 18446744073709551615 0 settings given refl (λ e. (omega arith, omega arith)) in (
+      omega (arith, seed.1),
+      lies-in Sessions 1 64 0 settings given refl (λ e. absurd (needed Sessions settings (grind arith) e)),
+      lies-in Lines 1 20000 0 settings given refl (λ e. absurd (needed Lines settings (grind arith) e)),
+    )
+
 -- a command with the settings that it takes
 in_range : (name : CommandName) (settings : List Setting) → AreGiven settings → fits (takes name) settings ≡ true
     → HasNumbersInRange (command name settings)
-in_range TypeScript settings given fit = given-lies Limit 64 268435456 settings given refl
+in_range TypeScript settings given fit =
+    let limit = given-lies Limit 64 268435456 settings given refl in
+    cond_both (is_given Threads settings) _ _ HasNumbersInRange (λ e. limit) (λ e. limit)
 in_range Serve settings given fit = (
   given-lies Limit 64 268435456 settings given refl,
   lies-in Port 1 65535 1178 settings given refl (λ e. (omega arith, omega arith)),
@@ -136,12 +144,8 @@ in_range Serve settings given fit = (
 in_range Check settings given fit = tt
 in_range Dump settings given fit = (lies-in Book 0 65535 0 settings given refl (λ e. (omega arith, omega arith))).1
 in_range Load settings given fit =
-    let seed : LiesFrom 0 18446744073709551615 (number_or 0 Seed settings) =
-    lies-in Seed 0 18446744073709551615 0 settings given refl (λ e. (omega arith, omega arith)) in (
-      omega (arith, seed.1),
-      lies-in Sessions 1 64 0 settings given refl (λ e. absurd (needed Sessions settings (grind arith) e)),
-      lies-in Lines 1 20000 0 settings given refl (λ e. absurd (needed Lines settings (grind arith) e)),
-    )
+    let numbers = load-in_range settings given fit in
+    cond_both (is_given Threads settings) _ _ HasNumbersInRange (λ e. numbers) (λ e. numbers)
 
 -- so it is with words that are a command
 words-in_range : (words : List (List ℕ)) → IfSome (command_of words) HasNumbersInRange
@@ -155,53 +159,7 @@ words-in_range (word ∷ words) =
     IfSome-if HasNumbersInRange (fits (takes name) settings) (command name settings)
     (in_range name settings (are-given is))))))
 
--- each number of a command that words are lies in its range
-pub numbers_in_range : (words : List (List ℕ)) (read : Command) → command_of words ≡ Some read → HasNumbersInRange read
-numbers_in_range words read is = subst (λ o. IfSome o HasNumbersInRange) is (words-in_range words)
-
-dumped-in-range : (command : Command) → HasNumbersInRange command → IfSome (book_dumped command) (λ o. o.book ≤ 65535)
-dumped-in-range (commands.TypeScript given) range = tt
-dumped-in-range (commands.Serve given) range = tt
-dumped-in-range (commands.Check file) range = tt
-dumped-in-range (commands.Dump given) range = range
-dumped-in-range (commands.Load given) range = tt
-
--- the number of a book lies in its range
-pub books-in-range : (words : List (List ℕ)) → IfSome (book_to_dump words) (λ o. o.book ≤ 65535)
-books-in-range words =
-    IfSome-and_then (λ (o : DumpOptions). o.book ≤ 65535) book_dumped (command_of words)
-    (IfSome_then (command_of words) (words-in_range words) dumped-in-range)
-
--- a port and the number of the connections to it lie in their ranges
-abbrev pub IsService : ServeOptions → Type 0
-IsService options = LiesFrom 1 65535 options.port × LiesFrom 1 1000000 options.connections
-
-served-in-range : (command : Command) → HasNumbersInRange command → IfSome (port_served command) IsService
-served-in-range (commands.TypeScript given) range = tt
-served-in-range (commands.Serve given) range = (range.1, range.2)
-served-in-range (commands.Check file) range = tt
-served-in-range (commands.Dump given) range = tt
-served-in-range (commands.Load given) range = tt
-
--- the sessions and the lines of a load are not too many
-abbrev pub IsLoad : LoadOptions → Type 0
-IsLoad options = (options.sessions ≤ 64) × (options.lines ≤ 20000)
-
-loaded-in-range : (command : Command) → HasNumbersInRange command → IfSome (load_of command) IsLoad
-loaded-in-range (commands.TypeScript given) range = tt
-loaded-in-range (commands.Serve given) range = tt
-loaded-in-range (commands.Check file) range = tt
-loaded-in-range (commands.Dump given) range = tt
-loaded-in-range (commands.Load given) range = (range.1.1, range.2.1)
-
--- nor are those of words that are `load`
-pub loads-in-range : (words : List (List ℕ)) → IfSome (load_asked words) IsLoad
-loads-in-range words =
-    IfSome-and_then IsLoad load_of (command_of words)
-    (IfSome_then (command_of words) (words-in_range words) loaded-in-range)
-
--- and the numbers of `serve` lie in their ranges
-pub ports-in-range : (words : List (List ℕ)) → IfSome (port_to_serve words) IsService
-ports-in-range words =
-    IfSome-and_then IsService port_served (command_of words)
-    (IfSome_then (command_of words) (words-in_range words) served-in-range)
+-- whatever is read as the command that words are
+pub numbers_in_range : (words : List (List ℕ)) (read : Option Command) → read ≡ command_of words
+    → IfSome read HasNumbersInRange
+numbers_in_range words read is = subst (λ o. IfSome o HasNumbersInRange) (sym is) (words-in_range words)

@@ -1,6 +1,6 @@
 -- Settings: arguments with their values, as words give them.
 use Rattle.std.specs.Prelude.{⊤, ◌<◌, ℕ, Bool, true, false, ◌&&◌, ◌==◌, nat_eq, nat_le, if◌then◌else◌, Option, Some}
-use Rattle.std.specs.Prelude.{None, List, [], ◌∷◌, length, unwrap_or, count_by}
+use Rattle.std.specs.Prelude.{None, List, [], ◌∷◌, ◌++◌, length, unwrap_or, count_by}
 use Rattle.std.specs.List.{filter_map, list_all, sum_by}
 use Rattle.std.specs.Option.{option_map, option_map_or, option_and_then}
 use Rattle.command_line.specs.Arguments.{option_named, value_of, place}
@@ -61,6 +61,10 @@ settings_of (word ∷ []) = with_setting (whole word) (Some [])
 settings_of (word ∷ next ∷ words) =
     option_map_or (λ row. with_setting (option_with row next) (settings_of words)) (begun word)
     (with_setting (whole word) (settings_of (next ∷ words)))
+
+-- settings, and others behind them, where there are any
+abbrev pub joined : List Setting → Option (List Setting) → Option (List Setting)
+joined settings others = option_map (λ more. settings ++ more) others
 
 -- words give no settings, or more than 32, which no command takes
 abbrev pub AreNoneOrMany : Option (List Setting) → Type 0

@@ -1,9 +1,8 @@
 ghost use Rattle.std.specs.Prelude.{◌≡◌, ◌≤◌, length};
-ghost use Rattle.command_line.specs.Command.{command_named, command_with, takes, title};
+ghost use Rattle.command_line.specs.Command.{command_named, takes, title};
 
 use crate::argument::Argument;
-use crate::command::{Command, DumpOptions, LoadOptions, ServeOptions, TypeOptions};
-use crate::settings::{DICTIONARIES, Settings};
+use crate::settings::DICTIONARIES;
 use crate::word::Word;
 
 /// A command by its name.
@@ -63,22 +62,6 @@ pub fn command_named(word: &Word) -> Option<CommandName>
 }
 
 impl CommandName {
-    /// The command with settings, where it takes them.
-    pub fn with<'a>(self, settings: &Settings<'a>) -> Option<Command<'a>>
-        ensures { result ≡ command_with self settings.now }
-    {
-        if !settings.fits(self.takes()) {
-            return None;
-        }
-        match self {
-            CommandName::TypeScript => Some(Command::TypeScript(TypeOptions::of(settings)?)),
-            CommandName::Serve => Some(Command::Serve(ServeOptions::of(settings)?)),
-            CommandName::Check => Some(Command::Check(settings.text(Argument::File))),
-            CommandName::Dump => Some(Command::Dump(DumpOptions::of(settings))),
-            CommandName::Load => Some(Command::Load(LoadOptions::of(settings))),
-        }
-    }
-
     /// The word that names the command.
     pub fn title<'a>(self) -> &'a str
         ensures { result.now ≡ title self }

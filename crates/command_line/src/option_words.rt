@@ -1,9 +1,9 @@
 ghost use Rattle.std.specs.Prelude.{◌≡◌, [], false, Some, IfOk, IfErr, IfSome, IsSome, unwrap_or, option_and_then};
-ghost use Rattle.std.specs.Prelude.{encode_utf8_all};
+ghost use Rattle.std.specs.Prelude.{option_map, encode_utf8_all};
 ghost use Rattle.std.specs.Str.{chars};
 ghost use Rattle.clap.specs.Words.{app_of, first_value, found_of, kind_of, rule_of};
 ghost use Rattle.command_line.specs.Arguments.{name_at, place};
-ghost use Rattle.command_line.specs.Command.{book_to_dump, load_asked};
+ghost use Rattle.command_line.specs.Command.{dump_options, load_options};
 ghost use Rattle.command_line.specs.OptionWords.{option_app, option_rule, settings_asked, GivesOptions, TakesOptions};
 ghost use Rattle.command_line.specs.Words.{number_within};
 
@@ -27,8 +27,9 @@ pub fn words_of<'a>(alloc: Global, words: &'a [Text]) -> Result<Vec<Word<'a>>, M
 /// The options of `dump`, of which `clap` takes the texts out of the words. Which words are `dump`, and what they mean,
 /// the grammar has decided before.
 pub fn dump_options<'a>(alloc: Global, words: &'a [Word<'a>]) -> Result<DumpOptions<'a>, Memory>
-    requires { IsSome (book_to_dump words.now) }
-    ensures { IfOk result (λ options. book_to_dump words.entry.now ≡ Some options) }
+    requires { IsSome (settings_asked CommandName.Dump words.now) }
+    ensures { IfOk result (λ options. option_map dump_options (settings_asked CommandName.Dump words.entry.now)
+        ≡ Some options) }
 {
     let Ok(matches) = matches_in(alloc, CommandName::Dump, words) else {
         return Err(Memory);
@@ -42,8 +43,9 @@ pub fn dump_options<'a>(alloc: Global, words: &'a [Word<'a>]) -> Result<DumpOpti
 /// The options of `load`, of which `clap` takes the texts out of the words. Which words are `load`, and what they mean,
 /// the grammar has decided before.
 pub fn load_options<'a>(alloc: Global, words: &'a [Word<'a>]) -> Result<LoadOptions, Memory>
-    requires { IsSome (load_asked words.now) }
-    ensures { IfOk result (λ options. load_asked words.entry.now ≡ Some options) }
+    requires { IsSome (settings_asked CommandName.Load words.now) }
+    ensures { IfOk result (λ options. option_map load_options (settings_asked CommandName.Load words.entry.now)
+        ≡ Some options) }
 {
     let Ok(matches) = matches_in(alloc, CommandName::Load, words) else {
         return Err(Memory);
@@ -52,7 +54,6 @@ pub fn load_options<'a>(alloc: Global, words: &'a [Word<'a>]) -> Result<LoadOpti
         seed: number_of(&matches, Argument::Seed),
         sessions: number_of(&matches, Argument::Sessions),
         lines: number_of(&matches, Argument::Lines),
-        threads: matches.get_flag(Argument::Threads.name()),
     })
 }
 

@@ -1,42 +1,50 @@
 ghost use Rattle.std.specs.Prelude.{◌≡◌, ◌<◌, ◌+◌, ◌∷◌, Some, None, length, MatchOption};
-ghost use Rattle.command_line.specs.Settings.{settings_of, with_setting, name_or_cut, AreNoneOrMany};
+ghost use Rattle.command_line.specs.Settings.{settings_of, with_setting, joined, name_or_cut, AreNoneOrMany};
 
 use crate::argument::{Argument, option_named};
 use crate::setting::{Setting, Value};
 use crate::settings::Settings;
 use crate::word::Word;
-use skk_text::Text;
 
 /// The settings that words give. Nothing where a word is part of none, or there are more than any command takes.
-pub fn read_settings(words: &[Text]) -> Option<Settings>
+pub fn read_settings<'a>(words: &'a [Word<'a>]) -> Option<Settings<'a>>
     ensures { MatchOption result (AreNoneOrMany (settings_of words.now)) (λ settings. settings_of words.now
         ≡ Some settings) }
 {
-    let mut settings = Settings::new();
-    let mut left = words;
-    while let Some((first, rest)) = left.split_first() {
-        let (setting, behind) = next_setting(first, rest)?;
-        settings.push(setting)?;
-        left = behind;
-    }
-    Some(settings)
+    read_behind(Settings::new(), words)
+}
+
+// Settings, and behind them those that words give.
+fn read_behind<'a>(settings: Settings<'a>, words: &'a [Word<'a>]) -> Option<Settings<'a>>
+    ensures { MatchOption result (AreNoneOrMany (joined settings.entry (settings_of words.now)))
+        (λ all. joined settings.entry (settings_of words.now) ≡ Some all) }
+{
+    let Some((first, rest)) = words.split_first() else {
+        return Some(settings);
+    };
+    let (setting, behind) = next_setting(first, rest)?;
+    let mut settings = settings;
+    settings.push(setting)?;
+    read_behind(settings, behind)
 }
 
 // The setting that words begin with, and those behind it.
-fn next_setting<'a>(first: &'a Text, rest: &'a [Text]) -> Option<(Setting<'a>, &'a [Text])>
+fn next_setting<'a>(
+    first: &'a Word<'a>,
+    rest: &'a [Word<'a>],
+) -> Option<(Setting<'a>, &'a [Word<'a>])>
     ensures { MatchOption result (settings_of (first.now ∷ rest.now) ≡ None)
         (λ next. (settings_of (first.now ∷ rest.now) ≡ with_setting (Some next.0) (settings_of next.1.now))
         × (length next.1.now < length rest.now + 1)) }
 {
-    let word = Word::of(first);
-    let Some(row) = option_named(&word) else {
-        return Some((name_or_cut(&word)?, rest));
+    let Some(row) = option_named(first) else {
+        return Some((name_or_cut(first)?, rest));
     };
     if !row.takes_value() {
         return Some((row.alone(), rest));
     }
     let (second, behind) = rest.split_first()?;
-    Some((row.with(&Word::of(second))?, behind))
+    Some((row.with(second)?, behind))
 }
 
 // What a word gives that spells no option.

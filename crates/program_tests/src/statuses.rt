@@ -1,7 +1,8 @@
+use command_line::{Command, read_command, words_of};
 use skk_disk::Disk;
 use skk_outside::{Gate, Listener, Shelf, Sink, Source};
-use skk_text::Text;
-use skk_top::{run, run_alone, waits};
+use skk_text::{Memory, Text};
+use skk_top::{RunFault, run, run_alone, tell_end};
 use std::alloc::Global;
 use std::sync::Wait;
 use std::thread::Threads;
@@ -9,24 +10,31 @@ use std::thread::Threads;
 // The status that no run ends with, for words that are for the other of the two.
 const OTHER: u8 = 255;
 
-/// The status of a run of words that may not wait. What is promised of a run is long: it is met here alone, and callers
-/// know nothing of it.
+/// The status of a run of words that are a command which waits for nobody, or are none. What is promised of a run is
+/// long: it is met here alone, and callers know nothing of it.
 pub fn status_of<H: Shelf, D: Disk + Drop, I: Source, O: Sink, E: Sink>(
     alloc: Global,
-    words: &[Text],
+    texts: &[Text],
     shelf: &mut H,
     disk: D,
     input: &mut I,
     out: &mut O,
     err: &mut E,
 ) -> u8 {
-    if waits(words) {
-        return OTHER;
+    let Ok(words) = words_of(alloc, texts) else {
+        return tell_end(Err(RunFault::Memory), err);
+    };
+    match read_command(alloc, &words) {
+        Ok(Some(Command::Alone(command))) => {
+            run_alone(alloc, &command, shelf, disk, input, out, err).status
+        }
+        Ok(Some(Command::Waiting(_))) => OTHER,
+        Ok(None) => tell_end(Err(RunFault::Words), err),
+        Err(Memory) => tell_end(Err(RunFault::Memory), err),
     }
-    run_alone(alloc, words, shelf, disk, input, out, err).status
 }
 
-/// The status of a run of words that may wait.
+/// The status of a run of words that are a command which may wait, or are none.
 pub fn status_in_threads<
     H: Shelf,
     D: Disk + Drop + Send,
@@ -39,7 +47,7 @@ pub fn status_in_threads<
 >(
     rt: R,
     alloc: Global,
-    words: &[Text],
+    texts: &[Text],
     shelf: &mut H,
     disk: D,
     input: &mut I,
@@ -48,8 +56,15 @@ pub fn status_in_threads<
     net: &mut N,
     gate: &G,
 ) -> u8 {
-    if !waits(words) {
-        return OTHER;
+    let Ok(words) = words_of(alloc, texts) else {
+        return tell_end(Err(RunFault::Memory), err);
+    };
+    match read_command(alloc, &words) {
+        Ok(Some(Command::Waiting(command))) => {
+            run(rt, alloc, &command, shelf, disk, input, out, err, net, gate).status
+        }
+        Ok(Some(Command::Alone(_))) => OTHER,
+        Ok(None) => tell_end(Err(RunFault::Words), err),
+        Err(Memory) => tell_end(Err(RunFault::Memory), err),
     }
-    run(rt, alloc, words, shelf, disk, input, out, err, net, gate).status
 }

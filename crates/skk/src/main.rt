@@ -1,10 +1,13 @@
 //! The program `skk`: it makes the real things and calls the top call.
 #![tactic(auto)]
 
+ghost use Rattle.command_line.specs.Ranges.{HasNumbersInRange};
+
+use command_line::{Command, read_command, words_of};
 use skk_disk::{Disk, FileDisk, MemDisk};
 use skk_outside::{HostListener, HostShelf, Open, ReaderSource, WriterSink};
 use skk_text::{Memory, Text};
-use skk_top::{RunFault, learned_name, run, run_alone, tell_end, waits};
+use skk_top::{RunFault, run, run_alone, tell_end};
 use std::io::ErrorKind;
 use std::process::ExitCode;
 use std::sync::Wait;
@@ -12,11 +15,11 @@ use std::thread::Threads;
 use std::{env, io};
 
 fn main(rt: HostRuntime) -> ExitCode {
-    match words(&rt) {
-        Ok(words) => run_words(&rt, rt, &words),
+    match texts(&rt) {
+        Ok(texts) => run_texts(&rt, rt, &texts),
         Err(fault) if fault.kind() == ErrorKind::OutOfMemory => end(&rt, RunFault::Memory),
-        // A word that is not UTF-8 is in no command, and so is no word at all.
-        Err(_) => run_words(&rt, rt, &[]),
+        // A word that is not UTF-8 is in no command.
+        Err(_) => end(&rt, RunFault::Words),
     }
 }
 
@@ -27,29 +30,48 @@ fn end(rt: &HostRuntime, fault: RunFault) -> ExitCode {
 }
 
 // The words behind the program's name.
-fn words(rt: &HostRuntime) -> io::Result<Vec<Text>> {
-    let mut words = Vec::new(rt.alloc());
+fn texts(rt: &HostRuntime) -> io::Result<Vec<Text>> {
+    let mut texts = Vec::new(rt.alloc());
     for word in env::args(rt)?.skip(1) {
-        words.push(Text::of(word))?;
+        texts.push(Text::of(word))?;
     }
-    Ok(words)
+    Ok(texts)
 }
 
-// Runs the words over the learned file that they name, or over none.
-fn run_words<R: Threads + Wait + Copy + Send + Sync>(
+// Runs the command that the words are.
+fn run_texts<R: Threads + Wait + Copy + Send + Sync>(
     host: &HostRuntime,
     rt: R,
-    words: &[Text],
+    texts: &[Text],
 ) -> ExitCode {
     let alloc = host.alloc();
-    let Ok(name) = learned_name(alloc, words) else {
+    let Ok(words) = words_of(alloc, texts) else {
         return end(host, RunFault::Memory);
     };
-    let Some(name) = name else {
-        return run_over(host, rt, words, MemDisk::new(alloc, Vec::new(alloc)));
+    match read_command(alloc, &words) {
+        Ok(Some(command)) => run_command(host, rt, &command),
+        Ok(None) => end(host, RunFault::Words),
+        Err(Memory) => end(host, RunFault::Memory),
+    }
+}
+
+// Runs a command over the learned file that it names, or over none.
+fn run_command<R: Threads + Wait + Copy + Send + Sync>(
+    host: &HostRuntime,
+    rt: R,
+    command: &Command,
+) -> ExitCode
+    requires { HasNumbersInRange command.now }
+{
+    let alloc = host.alloc();
+    let Some(word) = command.learned() else {
+        return run_over(host, rt, command, MemDisk::new(alloc, Vec::new(alloc)));
+    };
+    let Ok(name) = word.to_text(alloc) else {
+        return end(host, RunFault::Memory);
     };
     match second_name(host, &name) {
-        Ok(second) => run_over(host, rt, words, FileDisk::new(host, name, second)),
+        Ok(second) => run_over(host, rt, command, FileDisk::new(host, name, second)),
         Err(Memory) => end(host, RunFault::Memory),
     }
 }
@@ -62,27 +84,35 @@ fn second_name(rt: &HostRuntime, name: &Text) -> Result<Text, Memory> {
     Ok(second)
 }
 
-// Runs the words over a disk, the system's files and the standard streams.
+// Runs a command over a disk, the system's files and the standard streams.
 fn run_over<D: Disk + Drop + Send, R: Threads + Wait + Copy + Send + Sync>(
     host: &HostRuntime,
     rt: R,
-    words: &[Text],
+    command: &Command,
     disk: D,
-) -> ExitCode {
+) -> ExitCode
+    requires { HasNumbersInRange command.now }
+{
     let alloc = host.alloc();
     let mut shelf = HostShelf::new(alloc, host);
     let mut input = ReaderSource::new(host.stdin());
     let mut out = WriterSink::new(host.stdout());
     let mut err = WriterSink::new(host.stderr());
-    if waits(words) {
-        let mut net = HostListener::new(host);
-        let finish = run(
-            rt, alloc, words, &mut shelf, disk, &mut input, &mut out, &mut err, &mut net, &Open,
-        );
-        return ExitCode::from(finish.status);
-    }
-    let finish = run_alone(
-        alloc, words, &mut shelf, disk, &mut input, &mut out, &mut err,
-    );
-    ExitCode::from(finish.status)
+    let status = match command {
+        Command::Alone(command) => {
+            run_alone(
+                alloc, command, &mut shelf, disk, &mut input, &mut out, &mut err,
+            )
+            .status
+        }
+        Command::Waiting(command) => {
+            let mut net = HostListener::new(host);
+            run(
+                rt, alloc, command, &mut shelf, disk, &mut input, &mut out, &mut err, &mut net,
+                &Open,
+            )
+            .status
+        }
+    };
+    ExitCode::from(status)
 }

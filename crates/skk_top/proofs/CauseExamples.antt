@@ -1,6 +1,6 @@
 -- The causes of faults at small examples, each worked out by hand: of each fault one cause, and beside it what is none.
 use Rattle.std.proofs.Common.{◌≡◌, ◌<◌, ℕ, ◌+◌, true, Option, None, Some, List, [], ◌∷◌, ◌++◌, codes, inl, inr, refl}
-use Rattle.std.proofs.Common.{ap, sym, subst, length, arith, lit≤, IfSome}
+use Rattle.std.proofs.Common.{ap, sym, subst, length, map, replicate, arith, lit≤, IfSome}
 use Rattle.std.specs.Prelude.{unwrap_or}
 use lib.Utf8.{encode}
 use Rattle.std.proofs.lemmas.Bool.{false≢true}
@@ -32,12 +32,16 @@ use Rattle.skk_text.specs.Lines.{lines_of}
 use Rattle.key_scripts.specs.Script.{Spells, IsFirstBad}
 use Rattle.key_scripts.specs.declared.line.Line as script_line
 use Rattle.key_scripts.specs.declared.line.Line.TheVariants as lines
-use Rattle.command_line.specs.declared.command.Command.TheVariants as commands
+use Rattle.command_line.specs.declared.command.AloneCommand.TheVariants as alone
+use Rattle.command_line.specs.declared.command.Command.TheVariants.{Alone, Waiting}
+use Rattle.command_line.specs.declared.command.LoadOptions.{LoadOptions}
+use Rattle.command_line.specs.declared.command.TypeOptions.{TypeOptions}
+use Rattle.command_line.specs.declared.command.WaitingCommand.TheVariants as waiting
 use Rattle.run_endings.specs.declared.fault.RunFault.{RunFault}
 use Rattle.run_endings.specs.declared.fault.RunFault.TheVariants as faults
 use Rattle.run_endings.specs.declared.run_file.Flaw.TheVariants.{TooLong, Byte, Line}
 use Rattle.run_endings.specs.declared.run_file.RunFile.TheVariants.{Script, Rules, Dictionary}
-use Rattle.skk_top.specs.Causes.{CommandFiles, learned_alone, files_of, files_named, LackedRoom, HasRunCause}
+use Rattle.skk_top.specs.Causes.{CommandFiles, files_of, LackedRoom, HasRunCause}
 use Rattle.skk_top.specs.Disks.{MovedDisk}
 use Rattle.skk_top.proofs.Dictionaries.{are_dictionaries}
 
@@ -53,28 +57,32 @@ input = record { left = Some (codes "input"); left' = Some []; faults = 3; fault
 abbrev two_names : List (List ℕ)
 two_names = codes "first" ∷ codes "second" ∷ []
 
-typed : files_of shelf input (commands.TypeScript (record {
+-- the files of a script are the same in threads, and so are those of a load
+abbrev typing : TypeOptions
+typing = record {
   dictionaries = record { items = two_names };
   rules = Some (codes "rules");
   learned = Some (codes "learned");
   limit = Some 64;
-  threads = true;
-})) ≡ record {
-  script = Some (Some (codes "input"));
-  rules = Some (Some (codes "rules"));
-  dictionaries = Some (codes "first") ∷ Some (codes "second") ∷ [];
-  learned = Some 64;
 }
+
+typed : map (files_of shelf input) (Alone (alone.TypeScript typing) ∷ Waiting (waiting.TypeScript typing) ∷ [])
+    ≡ replicate 2 (record {
+      script = Some (Some (codes "input"));
+      rules = Some (Some (codes "rules"));
+      dictionaries = Some (codes "first") ∷ Some (codes "second") ∷ [];
+      learned = Some 64;
+    })
 typed = refl
 
-served : files_of shelf input (commands.Serve (record {
+served : files_of shelf input (Waiting (waiting.Serve (record {
   learned = codes "learned";
   dictionaries = record { items = two_names };
   rules = None;
   limit = None;
   port = 1178;
   connections = 1;
-})) ≡ record {
+}))) ≡ record {
   script = None;
   rules = None;
   dictionaries = Some (codes "first") ∷ Some (codes "second") ∷ [];
@@ -82,21 +90,18 @@ served : files_of shelf input (commands.Serve (record {
 }
 served = refl
 
-checked : files_named shelf input (codes "check" ∷ codes "first" ∷ [])
+checked : files_of shelf input (Alone (alone.Check (codes "first")))
     ≡ record { script = None; rules = None; dictionaries = Some (codes "first") ∷ []; learned = None }
 checked = refl
 
-dumped : files_of shelf input (commands.Dump (record { learned = codes "learned"; book = 0 }))
-    ≡ record { script = None; rules = None; dictionaries = []; learned = Some 268435456 }
-dumped = refl
+abbrev drawn : LoadOptions
+drawn = record { seed = 1; sessions = 2; lines = 3 }
 
-loaded : files_of shelf input (commands.Load (record { seed = 1; sessions = 2; lines = 3; threads = true }))
-    ≡ record { script = None; rules = None; dictionaries = []; learned = Some 268435456 }
-loaded = refl
-
-not_called : files_named shelf input (codes "check" ∷ [])
-    ≡ record { script = None; rules = None; dictionaries = []; learned = None }
-not_called = refl
+dumped_and_loaded : map (files_of shelf input)
+    (Alone (alone.Dump (record { learned = codes "learned"; book = 0 })) ∷ Alone (alone.Load drawn)
+    ∷ Waiting (waiting.Load drawn) ∷ [])
+    ≡ replicate 3 (record { script = None; rules = None; dictionaries = []; learned = Some 268435456 })
+dumped_and_loaded = refl
 
 -- Files that are refused
 
@@ -116,12 +121,15 @@ no_learned = record { a = []; b = [] }
 
 -- the causes of a run over these files in which no call failed
 abbrev Causes : CommandFiles → RunFault → Type 0
-Causes files = HasRunCause (codes "type" ∷ []) files (disk no_learned) ⊥ []
+Causes files = HasRunCause files (disk no_learned) ⊥ []
 
--- words that are no command, and some that are
-words : HasRunCause (codes "check" ∷ []) (learned_alone None) (disk no_learned) ⊥ [] faults.Words
-    × (¬ HasRunCause (codes "check" ∷ codes "first" ∷ []) (learned_alone None) (disk no_learned) ⊥ [] faults.Words)
-words = (refl, λ none. cc (none))
+-- no files but a learned one of so many bytes, where there is one
+abbrev only_learned : Option ℕ → CommandFiles
+only_learned most = record { script = None; rules = None; dictionaries = []; learned = most }
+
+-- a run of a command doesn't end since its words are none
+words : ¬ Causes (only_learned None) faults.Words
+words none = none
 
 -- an item of a list of one
 not_behind : {X : Type 0} (before : List X) (item : X) (behind : List X) → ¬ ([] ≡ before ++ item ∷ behind)
@@ -154,7 +162,7 @@ says_nothing (Some (lines.Opening session typist book)) (own, typists, books, is
 bad_lines : Causes (script (codes "x")) (faults.Refused Script (Line 1))
     × (¬ Causes (script (codes "x")) (faults.Refused Script (Line 2)))
     × (¬ Causes (script (codes "#")) (faults.Refused Script (Line 1)))
-    × (¬ Causes (learned_alone None) (faults.Refused Script (Line 1)))
+    × (¬ Causes (only_learned None) (faults.Refused Script (Line 1)))
 bad_lines = (
   (
     lit≤ tt,
@@ -250,7 +258,7 @@ bad_dictionaries = (
 
 -- the causes of a run over learned files that a command opens, or does not
 abbrev CausesOf : Option ℕ → Image → RunFault → Type 0
-CausesOf most files = HasRunCause (codes "type" ∷ []) (learned_alone most) (disk files) ⊥ []
+CausesOf most files = HasRunCause (only_learned most) (disk files) ⊥ []
 
 -- a file of two bytes, neither of them 0
 abbrev foreign : Image
@@ -281,11 +289,11 @@ bad_records files refused = ((refl, λ tells. refused), λ is. cc (is.0), λ is.
 
 -- Calls that failed, and memory
 
-outside : HasRunCause (codes "type" ∷ []) (learned_alone None) (disk no_learned) (Unit {0}) [] faults.Outside
-    × (¬ Causes (learned_alone None) faults.Outside)
+outside : HasRunCause (only_learned None) (disk no_learned) (Unit {0}) [] faults.Outside
+    × (¬ Causes (only_learned None) faults.Outside)
 outside = (tt, λ none. none)
 
-memory : Causes (learned_alone None) faults.Memory
+memory : Causes (only_learned None) faults.Memory
 memory = tt
 
 -- Room
@@ -360,5 +368,5 @@ no_change : ¬ LackedRoom (Some 17) (asked (Lookup 1 key None) 17)
 no_change is = false≢true (lacked-only (Some 17) (Lookup 1 key None) 17 is).1.0
 
 -- and of no call is the learned file full
-not_called_at_all : ¬ Causes (learned_alone (Some 17)) faults.JournalFull
+not_called_at_all : ¬ Causes (only_learned (Some 17)) faults.JournalFull
 not_called_at_all is = cc (is.opened)

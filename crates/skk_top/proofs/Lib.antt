@@ -1,4 +1,3 @@
-pub mod AloneCommands
 pub mod Begun
 mod CauseExamples
 mod Causes
@@ -8,7 +7,6 @@ mod Examples
 pub mod KeyLines
 mod LoadExamples
 pub mod LoadInput
-pub mod LoadWords
 pub mod Loads
 pub mod PlayedLines
 pub mod PrintedChecks

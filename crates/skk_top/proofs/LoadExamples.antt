@@ -36,7 +36,7 @@ abbrev tally : Tally
 tally = record { learned = 7; restored = 2; rows = 5; memory = false; disk = true; full = false }
 
 abbrev options : LoadOptions
-options = record { seed = 9; sessions = 3; lines = 4; threads = true }
+options = record { seed = 9; sessions = 3; lines = 4 }
 
 all_summed : summed options tally ((1, with_text (codes "か")) ∷ [])
     ≡ codes "lines 12" ++ 10 ∷ codes "learned 7" ++ 10 ∷ codes "restored 2" ++ 10 ∷ codes "rows 5" ++ 10

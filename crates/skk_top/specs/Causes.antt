@@ -1,6 +1,5 @@
 -- Why runs end: each fault that a run may end with, and its cause.
 use Rattle.std.specs.Prelude.{◌≡◌, ⊤, ◌+◌, ◌<◌, ℕ, true, Option, None, Some, IsSome, List, [], ◌∷◌, ◌++◌}
-use Rattle.std.specs.Option.{option_map_or}
 use Rattle.skk_outside.specs.Moved.{Told, MovedShelf, MovedSource}
 use Rattle.romaji_rules.specs.declared.rule.Rule.{Rule}
 use Rattle.skk_calls.specs.declared.chronicle.Noted.{Noted}
@@ -10,9 +9,13 @@ use Rattle.skk_calls.specs.Dictionary.{moves}
 use Rattle.skk_calls.specs.Histories.{Opening, state_after, tight, need}
 use Rattle.skk_journal.specs.declared.fault.OpenFault.TheVariants as opens
 use Rattle.learned_store.specs.Recovered.{IsRefused}
-use Rattle.command_line.specs.Command.{command_of, limit_of}
+use Rattle.command_line.specs.Command.{limit_of}
+use Rattle.command_line.specs.declared.command.AloneCommand.TheVariants as alone
 use Rattle.command_line.specs.declared.command.Command.{Command}
-use Rattle.command_line.specs.declared.command.Command.TheVariants as commands
+use Rattle.command_line.specs.declared.command.Command.TheVariants.{Alone, Waiting}
+use Rattle.command_line.specs.declared.command.ServeOptions.{ServeOptions}
+use Rattle.command_line.specs.declared.command.TypeOptions.{TypeOptions}
+use Rattle.command_line.specs.declared.command.WaitingCommand.TheVariants as waiting
 use Rattle.run_endings.specs.declared.fault.RunFault.{RunFault}
 use Rattle.run_endings.specs.declared.fault.RunFault.TheVariants as faults
 use Rattle.run_endings.specs.declared.run_file.RunFile.TheVariants.{Script, Rules, Dictionary}
@@ -30,32 +33,41 @@ pub record CommandFiles : Type 0 where
   pub dictionaries : List Told
   pub learned : Option ℕ
 
--- no files but the learned one, where there is one
-abbrev pub learned_alone : Option ℕ → CommandFiles
-learned_alone learned = record { script = None; rules = None; dictionaries = []; learned = learned }
-
--- the files of a command: the input is the script of `type`, and the file of `check` is its first dictionary
-abbrev pub files_of : MovedShelf → MovedSource → Command → CommandFiles
-files_of shelf input (commands.TypeScript options) = record {
+-- the files of a script that is typed by some options: the input is the script
+abbrev pub typed_files : MovedShelf → MovedSource → TypeOptions → CommandFiles
+typed_files shelf input options = record {
   script = Some input.left;
   rules = rules_named options.rules shelf;
   dictionaries = dictionaries_named options.dictionaries.items shelf;
   learned = Some (limit_of options.limit);
 }
-files_of shelf input (commands.Serve options) = record {
+
+-- the files of a port that is served by some options
+abbrev pub served_files : MovedShelf → ServeOptions → CommandFiles
+served_files shelf options = record {
   script = None;
   rules = rules_named options.rules shelf;
   dictionaries = dictionaries_named options.dictionaries.items shelf;
   learned = Some (limit_of options.limit);
 }
-files_of shelf input (commands.Check name) =
-    record { script = None; rules = None; dictionaries = shelf.file name ∷ []; learned = None }
-files_of shelf input (commands.Dump options) = learned_alone (Some (limit_of None))
-files_of shelf input (commands.Load options) = learned_alone (Some (limit_of None))
 
--- the files of what words are, which are none where they are no command
-abbrev pub files_named : MovedShelf → MovedSource → List (List ℕ) → CommandFiles
-files_named shelf input words = option_map_or (files_of shelf input) (command_of words) (learned_alone None)
+-- no file but the one that is checked, which is the first dictionary
+abbrev pub checked_file : MovedShelf → List ℕ → CommandFiles
+checked_file shelf name = record { script = None; rules = None; dictionaries = shelf.file name ∷ []; learned = None }
+
+-- no file but the learned one, of the greatest limit
+abbrev pub learned_alone : CommandFiles
+learned_alone = record { script = None; rules = None; dictionaries = []; learned = Some (limit_of None) }
+
+-- the files of a command
+abbrev pub files_of : MovedShelf → MovedSource → Command → CommandFiles
+files_of shelf input (Alone (alone.TypeScript options)) = typed_files shelf input options
+files_of shelf input (Alone (alone.Check name)) = checked_file shelf name
+files_of shelf input (Alone (alone.Dump options)) = learned_alone
+files_of shelf input (Alone (alone.Load options)) = learned_alone
+files_of shelf input (Waiting (waiting.TypeScript options)) = typed_files shelf input options
+files_of shelf input (Waiting (waiting.Serve options)) = served_files shelf options
+files_of shelf input (Waiting (waiting.Load options)) = learned_alone
 
 -- some call of a chronicle was to change something, and at its place the learned file, which may have so many bytes,
 -- had no room for that, also where it held nothing but the state
@@ -71,18 +83,18 @@ pub record LackedRoom (most : Option ℕ) (chronicle : List Noted) : Type 0 wher
   pub lacks : opening.limit
       < tight (state_after opening.state before) + need (state_after opening.state before) entry.call
 
--- the cause of a fault that a run of these words ended with, over these files and this disk, by whether a call on the
+-- the cause of a fault that a run of a command ended with, over these files and this disk, by whether a call on the
 -- outside failed, and by its chronicle; what is not told may have any flaw, and for want of memory no cause is asked
-abbrev pub HasRunCause : List (List ℕ) → CommandFiles → MovedDisk → Type 0 → List Noted → RunFault → Type 0
-HasRunCause words files disk Failed chronicle faults.Words = command_of words ≡ None
-HasRunCause words files disk Failed chronicle (faults.Refused Script flaw) = IsNamed files.script (HasScriptFlaw flaw)
-HasRunCause words files disk Failed chronicle (faults.Refused Rules flaw) = IsNamed files.rules (HasRulesFlaw flaw)
-HasRunCause words files disk Failed chronicle (faults.Refused (Dictionary number) flaw) =
+abbrev pub HasRunCause : CommandFiles → MovedDisk → Type 0 → List Noted → RunFault → Type 0
+HasRunCause files disk Failed chronicle faults.Words = ⊥
+HasRunCause files disk Failed chronicle (faults.Refused Script flaw) = IsNamed files.script (HasScriptFlaw flaw)
+HasRunCause files disk Failed chronicle (faults.Refused Rules flaw) = IsNamed files.rules (HasRulesFlaw flaw)
+HasRunCause files disk Failed chronicle (faults.Refused (Dictionary number) flaw) =
     ((rules : List Rule) × AreRules files.rules rules) × IsFirst (HasDictionaryFlaw flaw) number files.dictionaries
-HasRunCause words files disk Failed chronicle (faults.NotJournal file first) =
+HasRunCause files disk Failed chronicle (faults.NotJournal file first) =
     IsSome files.learned × (disk.tells → IsRefused disk.seen (opens.NotJournal file first))
-HasRunCause words files disk Failed chronicle (faults.BadRecord file at) =
+HasRunCause files disk Failed chronicle (faults.BadRecord file at) =
     IsSome files.learned × (disk.tells → IsRefused disk.seen (opens.BadRecord file at []))
-HasRunCause words files disk Failed chronicle faults.Outside = Failed
-HasRunCause words files disk Failed chronicle faults.Memory = ⊤
-HasRunCause words files disk Failed chronicle faults.JournalFull = LackedRoom files.learned chronicle
+HasRunCause files disk Failed chronicle faults.Outside = Failed
+HasRunCause files disk Failed chronicle faults.Memory = ⊤
+HasRunCause files disk Failed chronicle faults.JournalFull = LackedRoom files.learned chronicle

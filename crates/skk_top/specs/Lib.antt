@@ -1,6 +1,7 @@
 pub mod Causes
 pub mod CheckCommand
 pub mod CheckedFiles
+pub mod Commands
 pub mod Dictionaries
 pub mod Disks
 pub mod DumpCommand

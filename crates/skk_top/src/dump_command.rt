@@ -1,45 +1,27 @@
-ghost use Rattle.std.specs.Prelude.{◌≡◌, ◌≤◌, [], None, encode_utf8_all, IfSome, IsSome};
+ghost use Rattle.std.specs.Prelude.{◌≡◌, ◌≤◌, [], encode_utf8_all};
 ghost use Rattle.dict_format.specs.PrintedFiles.{printed_file};
 ghost use Rattle.skk_calls.specs.States.{rows_of};
 ghost use Rattle.skk_outside.specs.Moved.{moved_sink};
-ghost use Rattle.command_line.specs.Command.{book_to_dump};
 ghost use Rattle.skk_top.specs.Disks.{moved_disk, StandsSince};
 ghost use Rattle.skk_top.specs.DumpCommand.{LeavesDumped};
 ghost use Rattle.run_endings.specs.Page.{LeavesPrinted};
 
-use command_line::{DumpOptions, LIMIT, dump_options, words_of};
+use command_line::{DumpOptions, LIMIT};
 use dict_files::DictionaryFiles;
 use dict_layers::System;
 use learned_store::{Store, files_are_recovered_in_one_way};
 use run_endings::{Run, RunFault, print_text};
 use skk_disk::Disk;
 use skk_outside::Sink;
-use skk_text::Text;
 use std::alloc::Global;
 
-/// The command `dump`, of its words: `clap` takes the texts of its options out of them, and the book is printed.
-pub fn run_dump<D: Disk, O: Sink>(alloc: Global, words: &[Text], disk: D, out: &mut O) -> Run<D>
-    requires { IsSome (book_to_dump words.now) }
-    ensures leaves { IfSome (book_to_dump words.now) (λ options. LeavesDumped options result
-        (moved_sink O.written O.faults out.old out.new)
-        (moved_disk D.tells D.seen D.time D.faults D.left_since disk result.disk)) }
-    ensures uncalled { result.chronicle ≡ [] }
-    ensures stands { StandsSince result.chronicle
-        (moved_disk D.tells D.seen D.time D.faults D.left_since disk result.disk) }
-    ensures disk_counted { D.faults disk ≤ D.faults result.disk }
-    ensures out_counted { O.faults out.old ≤ O.faults out.new }
-{
-    let Ok(listed) = words_of(alloc, words) else {
-        return Run::without_calls(Err(RunFault::Memory), disk);
-    };
-    let Ok(options) = dump_options(alloc, &listed) else {
-        return Run::without_calls(Err(RunFault::Memory), disk);
-    };
-    dump_book(alloc, &options, disk, out)
-}
-
-// Opens the learned file, and prints a book of it as a dictionary file.
-fn dump_book<D: Disk, O: Sink>(alloc: Global, options: &DumpOptions, disk: D, out: &mut O) -> Run<D>
+/// The command `dump`: opens the learned file, and prints a book of it as a dictionary file.
+pub fn run_dump<D: Disk, O: Sink>(
+    alloc: Global,
+    options: &DumpOptions,
+    disk: D,
+    out: &mut O,
+) -> Run<D>
     requires { options.now.book ≤ 65535 }
     ensures leaves { LeavesDumped options.now result (moved_sink O.written O.faults out.old out.new)
         (moved_disk D.tells D.seen D.time D.faults D.left_since disk result.disk) }

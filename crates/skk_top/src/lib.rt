@@ -1,12 +1,12 @@
 //! The top calls: all that the program does, over what it is handed of the outside.
 //!
-//! It stands on the crates below that a command is made of; `command_line` reads the words to a command. `waits` tells
-//! whether what the words ask for may wait, and so which of the two top calls serves it: `run_alone` runs in one
-//! thread, and `run` starts threads and waits for them. Either one runs the command, tells on standard error why a run
-//! was not done, and answers the status, the chronicle of its calls and the disk. Each command has a module of its own
-//! and one relation that says what a run of it leaves. In one thread, the calls are those of one caller, which notes
-//! them; in threads, each session or connection has a caller of its own, and the calls of all are one history. At each
-//! moment of a run a stop leaves a learned dictionary that is opened as a state that a part of these calls may leave.
+//! It stands on the crates below that a command is made of; `command_line` reads the words to a command. A command
+//! waits for nobody, or it may wait, and so one of two top calls runs it: `run_alone` runs in one thread, and `run`
+//! starts threads and waits for them. Either one runs the command, tells on standard error why a run was not done, and
+//! answers the status, the chronicle of its calls and the disk. Each command has a module of its own and one relation
+//! that says what a run of it leaves. In one thread, the calls are those of one caller, which notes them; in threads,
+//! each session or connection has a caller of its own, and the calls of all are one history. At each moment of a run a
+//! stop leaves a learned dictionary that is opened as a state that a part of these calls may leave.
 #![tactic(auto)]
 
 mod alone;
@@ -15,7 +15,6 @@ mod check_command;
 mod checking;
 mod dictionary;
 mod dump_command;
-mod learned_file;
 mod load_command;
 mod load_each;
 mod load_opening;
@@ -31,11 +30,9 @@ mod summary;
 mod type_command;
 mod typed_tasks;
 mod typing;
-mod uncalled;
 mod waiting;
 mod weaving;
 
 pub use alone::run_alone;
-pub use learned_file::learned_name;
 pub use run_endings::{Finish, Flaw, Run, RunFault, RunFile, end_run, tell_end};
-pub use waiting::{run, waits};
+pub use waiting::run;

@@ -1,4 +1,4 @@
-ghost use Rattle.std.specs.Prelude.{◌≡◌, ◌≤◌, ◌⊎◌, [], None, Err, IfOk, IfSome, IsSome, OnErr, OnOk};
+ghost use Rattle.std.specs.Prelude.{◌≡◌, ◌≤◌, ◌⊎◌, [], None, Err, IfOk, OnErr, OnOk};
 ghost use Rattle.std.specs.Prelude.{encode_utf8_all};
 ghost use Rattle.std.specs.Io.KnownBytes.{Keeps as keeps_bytes};
 ghost use Rattle.skk_calls.specs.Openings.{said_in};
@@ -6,14 +6,13 @@ ghost use Rattle.skk_disk.specs.Moments.{SameImages};
 ghost use Rattle.skk_outside.specs.Moved.{moved_sink};
 ghost use Rattle.romaji_rules.specs.Standard.{standard};
 ghost use Rattle.learned_store.specs.Stores.{opening_now, Keeps};
-ghost use Rattle.command_line.specs.Command.{load_to_play};
+ghost use Rattle.command_line.specs.Ranges.{IsLoadInRange};
 ghost use Rattle.skk_top.specs.Disks.{disk_now, moved_disk, RunsOver, StandsSince};
 ghost use Rattle.run_endings.specs.Finishes.{EndsUnbegun};
 ghost use Rattle.skk_top.specs.LoadCommand.{load_lines, summed, LeavesLoaded, LoadsLines};
 ghost use Rattle.run_endings.specs.Page.{LeavesPrinted};
 
-use crate::load_opening::{open_load, options_of};
-use crate::opening::end_unopened;
+use crate::load_opening::open_load;
 use crate::playing::play_lines;
 use crate::summary::print_summary;
 use command_line::LoadOptions;
@@ -26,7 +25,7 @@ use session_machine::Session;
 use skk_calls::Tally;
 use skk_disk::Disk;
 use skk_outside::Sink;
-use skk_text::{Memory, Sequence, Text};
+use skk_text::{Memory, Sequence};
 use std::alloc::Global;
 use std::collections::BTreeMap;
 use std::marker::Brand;
@@ -39,26 +38,22 @@ pub struct Load {
     pub lines: Sequence<Line>,
 }
 
-/// The command `load` where one caller makes all calls, of its words: opens the learned file, draws the lines, plays
-/// them, and prints a summary.
+/// The command `load` where one caller makes all calls: opens the learned file, draws the lines, plays them, and prints
+/// a summary.
 pub fn run_load_by_one<D: Disk, O: Sink>(
     alloc: Global,
-    words: &[Text],
+    options: LoadOptions,
     disk: D,
     out: &mut O,
 ) -> Run<D>
-    requires { IsSome (load_to_play words.now) }
-    ensures leaves { IfSome (load_to_play words.now) (λ options. LeavesLoaded (LoadsLines options) result
-        (moved_sink O.written O.faults out.old out.new)
-        (moved_disk D.tells D.seen D.time D.faults D.left_since disk result.disk)) }
+    requires { IsLoadInRange options }
+    ensures leaves { LeavesLoaded (LoadsLines options) result (moved_sink O.written O.faults out.old out.new)
+        (moved_disk D.tells D.seen D.time D.faults D.left_since disk result.disk) }
     ensures stands { StandsSince result.chronicle
         (moved_disk D.tells D.seen D.time D.faults D.left_since disk result.disk) }
     ensures disk_counted { D.faults disk ≤ D.faults result.disk }
     ensures out_counted { O.faults out.old ≤ O.faults out.new }
 {
-    let Ok(options) = options_of(alloc, words) else {
-        return end_unopened(RunFault::Memory, disk);
-    };
     match open_load(alloc, disk) {
         Ok(store) => load_by_one(alloc, options, store, out),
         Err(run) => run,

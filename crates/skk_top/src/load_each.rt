@@ -1,4 +1,4 @@
-ghost use Rattle.std.specs.Prelude.{◌≡◌, ◌≤◌, ◌⊎◌, None, Err, All, IfOk, IfSome, IsSome, OnErr, true, false};
+ghost use Rattle.std.specs.Prelude.{◌≡◌, ◌≤◌, ◌⊎◌, None, Err, All, IfOk, OnErr, true, false};
 ghost use Rattle.std.specs.Prelude.{encode_utf8_all, length};
 ghost use Rattle.std.specs.Io.KnownBytes.{Keeps as keeps_bytes};
 ghost use Rattle.std.specs.List.{list_all};
@@ -9,15 +9,14 @@ ghost use Rattle.skk_outside.specs.Moved.{moved_sink};
 ghost use Rattle.learned_store.specs.Stores.{opening_now, Keeps};
 ghost use Rattle.script_typing.specs.MapLaws.{Ascend};
 ghost use Rattle.script_typing.specs.Woven.{tasks_of};
-ghost use Rattle.command_line.specs.Command.{load_to_share};
+ghost use Rattle.command_line.specs.Ranges.{IsLoadInRange};
 ghost use Rattle.skk_top.specs.Disks.{disk_now, moved_disk, RunsOver, StandsSince};
 ghost use Rattle.run_endings.specs.Finishes.{EndsUnbegun};
 ghost use Rattle.skk_top.specs.LoadCommand.{load_lines, summed, LeavesLoaded, LoadsTasks};
 ghost use Rattle.run_endings.specs.Page.{LeavesPrinted};
 
 use crate::load_command::{Load, draw_load};
-use crate::load_opening::{open_load, options_of};
-use crate::opening::end_unopened;
+use crate::load_opening::open_load;
 use crate::summary::print_summary;
 use crate::typed_tasks::type_by_callers;
 use command_line::LoadOptions;
@@ -32,7 +31,7 @@ use script_typing::{
 use skk_calls::Tally;
 use skk_disk::Disk;
 use skk_outside::{Gate, Sink};
-use skk_text::{Memory, Sequence, Text};
+use skk_text::{Memory, Sequence};
 use std::alloc::Global;
 use std::collections::BTreeMap;
 use std::sync::Wait;
@@ -46,26 +45,22 @@ struct Shared {
     tasks: BTreeMap<u8, Sequence<Line>>,
 }
 
-/// The command `load` where each session has a caller of its own, of its words: opens the learned file, draws the
-/// lines, plays them, and prints a summary.
+/// The command `load` where each session has a caller of its own: opens the learned file, draws the lines, plays them,
+/// and prints a summary.
 pub fn run_load_by_each<
     D: Disk + Drop + Send,
     O: Sink,
     R: Threads + Wait + Copy + Send + Sync,
     G: Gate + Sync,
->(rt: R, alloc: Global, words: &[Text], disk: D, out: &mut O, gate: &G) -> Run<D>
-    requires shared { IsSome (load_to_share words.now) }
-    ensures leaves { IfSome (load_to_share words.now) (λ options. LeavesLoaded (LoadsTasks options) result
-        (moved_sink O.written O.faults out.old out.new)
-        (moved_disk D.tells D.seen D.time D.faults D.left_since disk result.disk)) }
+>(rt: R, alloc: Global, options: LoadOptions, disk: D, out: &mut O, gate: &G) -> Run<D>
+    requires range { IsLoadInRange options }
+    ensures leaves { LeavesLoaded (LoadsTasks options) result (moved_sink O.written O.faults out.old out.new)
+        (moved_disk D.tells D.seen D.time D.faults D.left_since disk result.disk) }
     ensures stands { StandsSince result.chronicle
         (moved_disk D.tells D.seen D.time D.faults D.left_since disk result.disk) }
     ensures disk_counted { D.faults disk ≤ D.faults result.disk }
     ensures out_counted { O.faults out.old ≤ O.faults out.new }
 {
-    let Ok(options) = options_of(alloc, words) else {
-        return end_unopened(RunFault::Memory, disk);
-    };
     match open_load(alloc, disk) {
         Ok(store) => load_by_each(rt, alloc, options, store, gate, out),
         Err(run) => run,

@@ -1,31 +1,21 @@
-ghost use Rattle.std.specs.Prelude.{◌≡◌, ◌≤◌, None, Some, IfOk, IfErr, IsSome};
+ghost use Rattle.std.specs.Prelude.{◌≡◌, ◌≤◌, None, IfOk, IfErr};
 ghost use Rattle.std.specs.Io.KnownBytes.{Keeps as keeps_bytes};
 ghost use Rattle.skk_outside.specs.Moved.{MovedSink};
 ghost use Rattle.learned_store.specs.Stores.{opening_now, Keeps};
-ghost use Rattle.command_line.specs.Command.{load_asked};
 ghost use Rattle.skk_top.specs.Disks.{disk_now, moved_disk, IsOpening, RefusesLearned, RunsOver, StandsSince};
 ghost use Rattle.run_endings.specs.Finishes.{EndsUnbegun};
 ghost use Rattle.skk_top.specs.LoadCommand.{load_files};
 ghost use Rattle.run_endings.specs.declared.finish.Run.{Run as run_value};
 
-use command_line::{LIMIT, LoadOptions, load_options, words_of};
+use command_line::LIMIT;
 use dict_layers::System;
 use learned_store::{Store, files_are_recovered_in_one_way};
 use load_input::load_dictionary;
 use run_endings::{Run, RunFault};
 use skk_calls::Books;
 use skk_disk::Disk;
-use skk_text::{Memory, Text};
+use skk_text::Memory;
 use std::alloc::Global;
-
-/// The options of words that are `load`: `clap` takes their texts out of the words.
-pub fn options_of(alloc: Global, words: &[Text]) -> Result<LoadOptions, Memory>
-    requires { IsSome (load_asked words.now) }
-    ensures { IfOk result (λ options. load_asked words.now ≡ Some options) }
-{
-    let listed = words_of(alloc, words)?;
-    load_options(alloc, &listed)
-}
 
 /// Opens the learned file of a load over its dictionary, with the greatest limit.
 pub fn open_load<D: Disk>(alloc: Global, disk: D) -> Result<Store<D>, Run<D>>

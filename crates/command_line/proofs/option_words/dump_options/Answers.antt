@@ -1,18 +1,16 @@
-use Rattle.std.proofs.Common.{◌∙◌, sym, ap, ap₂, subst, arith, is_some, Some, List, ℕ}
+use Rattle.std.proofs.Common.{◌∙◌, sym, ap₂, subst, arith, Some, List, ℕ}
 use Rattle.std.specs.Option.{IfSome}
-use Rattle.command_line.specs.OptionWords.{GivesOptions}
+use Rattle.command_line.specs.Command.{dump_options}
+use Rattle.command_line.specs.OptionWords.{settings_asked, GivesOptions}
 use Rattle.command_line.specs.Settings.{number_given, text_given}
 use Rattle.command_line.specs.declared.argument.Argument.TheVariants.{Learned, Book}
 use Rattle.command_line.specs.declared.command_name.CommandName.TheVariants.{Dump}
-use Rattle.command_line.proofs.OptionsAsked.{dump_asked, same_number, same_text}
+use Rattle.command_line.proofs.OptionsAsked.{are_made, same_number, same_text}
 use Rattle.command_line.proofs.option_words.dump_options.Goals as goal
-
-pub matches_in-requires-clause-asked : goal.matches_in-requires-clause-asked
-matches_in-requires-clause-asked c = ap is_some (dump_asked c.args.words.now c.requires).is
 
 pub returns : goal.returns
 returns c =
-    let asked = dump_asked c.args.words.now c.requires in
+    let asked = are_made dump_options (settings_asked Dump c.args.words.now) c.requires in
     let settings = asked.settings in
     let gives =
     subst (λ o. IfSome o (λ s. GivesOptions Dump s c.in-Ok.matches)) asked.is c.in-Ok.ensures.ok in

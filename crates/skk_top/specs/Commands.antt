@@ -1,0 +1,40 @@
+-- What a run of each command leaves.
+use Rattle.std.specs.Prelude.{◌≡◌, []}
+use Rattle.std.specs.Io.KnownBytes.{Keeps}
+use Rattle.skk_outside.specs.Moved.{MovedShelf, MovedSource, MovedSink}
+use Rattle.command_line.specs.declared.command.AloneCommand.{AloneCommand}
+use Rattle.command_line.specs.declared.command.AloneCommand.TheVariants as alone
+use Rattle.command_line.specs.declared.command.WaitingCommand.{WaitingCommand}
+use Rattle.command_line.specs.declared.command.WaitingCommand.TheVariants as waiting
+use Rattle.run_endings.specs.declared.finish.Run.{Run}
+use Rattle.skk_top.specs.CheckCommand.{LeavesChecked}
+use Rattle.skk_top.specs.Disks.{MovedDisk}
+use Rattle.skk_top.specs.DumpCommand.{LeavesDumped}
+use Rattle.skk_top.specs.LoadCommand.{LeavesLoaded, LoadsLines, LoadsTasks}
+use Rattle.skk_top.specs.ServeCommand.{LeavesServed, MovedListener}
+use Rattle.skk_top.specs.TypeCommand.{LeavesTyped, TypesLines}
+use Rattle.skk_top.specs.WeaveCommand.{WeavesLines}
+
+-- what a run of a command that waits for nobody leaves: the input is read by `type` alone, calls are made by `type` and
+-- by `load`, and the disk is not touched by `check`
+abbrev pub LeavesAlone : {D : Type 0} → AloneCommand → Run D → MovedShelf → MovedSource → MovedSink → MovedDisk
+    → Type 0
+LeavesAlone (alone.TypeScript options) run shelf input out disk =
+    LeavesTyped TypesLines options run shelf input out disk
+LeavesAlone (alone.Check name) run shelf input out disk =
+    LeavesChecked name run shelf out × Keeps input.left input.left' × (run.chronicle ≡ []) × disk.is_untouched
+LeavesAlone (alone.Dump options) run shelf input out disk =
+    LeavesDumped options run out disk × Keeps input.left input.left' × (run.chronicle ≡ [])
+LeavesAlone (alone.Load options) run shelf input out disk =
+    LeavesLoaded (LoadsLines options) run out disk × Keeps input.left input.left'
+
+-- what a run of a command that may wait leaves: the input is read by `type` alone, and the listener is asked by `serve`
+-- alone
+abbrev pub LeavesWaiting : {D L : Type 0} → WaitingCommand → Run D → MovedShelf → MovedSource → MovedSink
+    → MovedListener L → MovedDisk → Type 0
+LeavesWaiting (waiting.TypeScript options) run shelf input out net disk =
+    LeavesTyped WeavesLines options run shelf input out disk × net.is_untouched
+LeavesWaiting (waiting.Serve options) run shelf input out net disk =
+    LeavesServed options run shelf out net disk × Keeps input.left input.left'
+LeavesWaiting (waiting.Load options) run shelf input out net disk =
+    LeavesLoaded (LoadsTasks options) run out disk × Keeps input.left input.left' × net.is_untouched
