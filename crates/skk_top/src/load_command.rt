@@ -1,7 +1,6 @@
 ghost use Rattle.std.specs.Prelude.{◌≡◌, ◌≤◌, ◌⊎◌, [], None, Err, IfOk, OnErr, OnOk};
 ghost use Rattle.std.specs.Prelude.{encode_utf8_all};
 ghost use Rattle.std.specs.Io.KnownBytes.{Keeps as keeps_bytes};
-ghost use Rattle.skk_calls.specs.Openings.{said_in};
 ghost use Rattle.skk_disk.specs.Moments.{SameImages};
 ghost use Rattle.skk_outside.specs.Moved.{moved_sink};
 ghost use Rattle.romaji_rules.specs.Standard.{standard};
@@ -123,47 +122,24 @@ fn load_over<N: LearnedName, D: Disk, O: Sink>(
         (disk_now D.time D.faults D.left_since store.journal.disk) (disk_now D.time D.faults D.left_since result.disk) }
 {
     match Alone::<D, N>::new(alloc, store) {
-        Ok(caller) => load_with(alloc, load, caller, out),
+        Ok(mut caller) => {
+            let mut sessions = BTreeMap::new(alloc);
+            let played = play_lines(
+                alloc,
+                &load.rules,
+                load.lines.as_slice(),
+                &mut sessions,
+                &mut caller,
+            );
+            let closed = caller.close();
+            let ended = sum_up(alloc, &load.options, played, &closed.tally, &sessions, out);
+            Run {
+                ended: end_by(ended, &closed.tally),
+                chronicle: closed.chronicle,
+                disk: closed.disk,
+            }
+        }
         Err(none) => Run::without_calls(Err(RunFault::Memory), none.store.close()),
-    }
-}
-
-// Plays a load with a caller that has made no call.
-fn load_with<N: LearnedName, D: Disk, O: Sink>(
-    alloc: Global,
-    load: &Load,
-    caller: Alone<D, N>,
-    out: &mut O,
-) -> Run<D>
-    requires sessions { load.now.options.sessions ≤ 64 }
-    requires many { load.now.options.lines ≤ 20000 }
-    requires rules { load.now.rules ≡ standard }
-    requires lines { load.now.lines ≡ load_lines load.now.options }
-    requires silent { said_in caller.notes 0 ≡ [] }
-    requires named { N.opening ≡ opening_now D.time D.faults caller.store }
-    requires past { SameImages N.past (D.left_since caller.store.journal.disk) }
-    ensures leaves { LoadsLines load.now.options N.opening result (moved_sink O.written O.faults out.old out.new)
-        (disk_now D.time D.faults D.left_since result.disk) }
-    ensures counted { O.faults out.old ≤ O.faults out.new }
-    ensures runs { RunsOver caller.store.state result.chronicle
-        (disk_now D.time D.faults D.left_since caller.store.journal.disk)
-        (disk_now D.time D.faults D.left_since result.disk) }
-{
-    let mut caller = caller;
-    let mut sessions = BTreeMap::new(alloc);
-    let played = play_lines(
-        alloc,
-        &load.rules,
-        load.lines.as_slice(),
-        &mut sessions,
-        &mut caller,
-    );
-    let closed = caller.close();
-    let ended = sum_up(alloc, &load.options, played, &closed.tally, &sessions, out);
-    Run {
-        ended: end_by(ended, &closed.tally),
-        chronicle: closed.chronicle,
-        disk: closed.disk,
     }
 }
 

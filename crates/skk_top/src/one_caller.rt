@@ -1,5 +1,4 @@
-ghost use Rattle.std.specs.Prelude.{◌≡◌, ◌≤◌, ◌+◌, [], None};
-ghost use Rattle.skk_calls.specs.Openings.{said_in};
+ghost use Rattle.std.specs.Prelude.{◌≡◌, ◌≤◌, ◌+◌, None};
 ghost use Rattle.skk_disk.specs.Moments.{SameImages};
 ghost use Rattle.skk_outside.specs.Moved.{moved_shelf, moved_sink, moved_source};
 ghost use Rattle.skk_outside.specs.Taken.{TakesAtMost};
@@ -91,35 +90,15 @@ fn type_over<N: LearnedName, D: Disk, O: Sink>(
         (disk_now D.time D.faults D.left_since store.journal.disk) (disk_now D.time D.faults D.left_since result.disk) }
 {
     match Alone::<D, N>::new(alloc, store) {
-        Ok(caller) => type_with(alloc, rules, script, caller, out),
+        Ok(mut caller) => {
+            let ended = type_script(alloc, rules, script.lines(), &mut caller, out);
+            let closed = caller.close();
+            Run {
+                ended: end_by(ended, &closed.tally),
+                chronicle: closed.chronicle,
+                disk: closed.disk,
+            }
+        }
         Err(none) => Run::without_calls(Err(RunFault::Memory), none.store.close()),
-    }
-}
-
-// Types a script with a caller that has made no call.
-fn type_with<N: LearnedName, D: Disk, O: Sink>(
-    alloc: Global,
-    rules: &Rules,
-    script: &Script,
-    caller: Alone<D, N>,
-    out: &mut O,
-) -> Run<D>
-    requires silent { said_in caller.notes 0 ≡ [] }
-    requires named { N.opening ≡ opening_now D.time D.faults caller.store }
-    requires past { SameImages N.past (D.left_since caller.store.journal.disk) }
-    ensures leaves { TypesLines N.opening rules.now script.now result (moved_sink O.written O.faults out.old out.new)
-        (disk_now D.time D.faults D.left_since result.disk) }
-    ensures counted { O.faults out.old ≤ O.faults out.new }
-    ensures runs { RunsOver caller.store.state result.chronicle
-        (disk_now D.time D.faults D.left_since caller.store.journal.disk)
-        (disk_now D.time D.faults D.left_since result.disk) }
-{
-    let mut caller = caller;
-    let ended = type_script(alloc, rules, script.lines(), &mut caller, out);
-    let closed = caller.close();
-    Run {
-        ended: end_by(ended, &closed.tally),
-        chronicle: closed.chronicle,
-        disk: closed.disk,
     }
 }

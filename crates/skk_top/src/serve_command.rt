@@ -1,7 +1,5 @@
-ghost use Rattle.std.specs.Prelude.{◌≡◌, ◌⊎◌, ◌≤◌, ◌+◌, ℕ, [], None};
-ghost use Rattle.learned_store.specs.Stands.{Stands, StandsOver};
-ghost use Rattle.learned_store.specs.Stores.{OpenStore, opening_now, Keeps, Recovers};
-ghost use Rattle.skk_disk.specs.Image.{Image};
+ghost use Rattle.std.specs.Prelude.{◌≡◌, ◌⊎◌, ◌≤◌, [], None};
+ghost use Rattle.learned_store.specs.Stores.{opening_now, Keeps};
 ghost use Rattle.skk_disk.specs.Moments.{SameImages};
 ghost use Rattle.skk_outside.specs.Moved.{moved_shelf, moved_sink};
 ghost use Rattle.skk_server.specs.Services.{seen_listener};
@@ -18,7 +16,7 @@ use desk_history::{DeskName, History, Pen, RollSeat};
 use learned_store::{LearnedName, Store};
 use romaji_rules::Rules;
 use run_endings::{Run, RunFault, end_wanting};
-use shared_desk::{Desk, Roll, Slips};
+use shared_desk::{Desk, Slips};
 use skk_disk::Disk;
 use skk_outside::{Gate, Listener, Shelf, Sink};
 use skk_text::Memory;
@@ -165,7 +163,8 @@ fn serve_store<
 }
 
 // Serves the port over a store that was just opened, by callers for whom `N` names the history and the opening to the
-// proof.
+// proof. A run of which a call was refused, or a connection ended for want of memory, ends so where nothing else ended
+// it before.
 fn serve_over<
     N: DeskName + LearnedName + Send + Sync,
     D: Disk + Drop + Send,
@@ -208,62 +207,24 @@ fn serve_over<
 {
     let (history, pen, roll) = made;
     match Desk::<D, N, R>::open(rt, alloc, store, history, pen, roll) {
-        Ok((desk, roll)) => serve_at(rt, alloc, service, rules, desk, roll, out, net, gate),
+        Ok((desk, mut roll)) => {
+            let office = &desk;
+            let outcome = serve_port(
+                &rt, alloc, service, rules, &office, &mut roll, out, net, gate,
+            );
+            let wanted = outcome.wants_memory();
+            let Outcome {
+                ended,
+                slips,
+                ends: _,
+            } = outcome;
+            let closed = desk.close(roll, Slips::of(slips));
+            Run {
+                ended: end_wanting(ended, &closed.tally, wanted),
+                chronicle: closed.chronicle,
+                disk: closed.disk,
+            }
+        }
         Err(none) => Run::without_calls(Err(RunFault::Memory), none.store.close()),
-    }
-}
-
-// Serves the port at a desk that has admitted nobody. A run of which a call was refused, or a connection ended for want
-// of memory, ends so where nothing else ended it before.
-fn serve_at<
-    N: DeskName + LearnedName + Send + Sync,
-    D: Disk + Drop + Send,
-    O: Sink,
-    P: Listener<Link: Send + Drop>,
-    R: Threads + Wait + Copy + Send + Sync,
-    G: Gate + Sync,
->(
-    rt: R,
-    alloc: Global,
-    service: Service,
-    rules: &Rules,
-    desk: Desk<D, N, R>,
-    roll: Roll<N>,
-    out: &mut O,
-    net: &mut P,
-    gate: &G,
-) -> Run<D>
-    requires connections { LiesFrom 1 1000000 service.connections }
-    requires nobody { roll ≡ 0 }
-    ensures leaves { ServesConnections service N.opening rules.now result
-        (moved_sink O.written O.faults out.old out.new)
-        (moved_listener (seen_listener P.coming P.over P.out P.opened P.faults)
-        (seen_link P.Link.left P.Link.written P.Link.faults P.Link.closed) net.old net.new)
-        (disk_now D.time D.faults D.left_since result.disk) }
-    ensures stands { (store : OpenStore _) × (result.disk ≡ store.journal.disk)
-        × Stands D.time D.faults D.left_since N.opening N.past result.chronicle store }
-    ensures since { (start : ℕ) →
-        ((time : ℕ) (image : Image) → start ≤ time → time ≤ N.opening.time → N.past time image
-        → Recovers N.opening.state image) →
-        StandsOver N.opening.state result.chronicle start (D.time result.disk) (D.left_since result.disk) }
-    ensures out_counted { O.faults out.old ≤ O.faults out.new }
-    ensures net_counted { P.faults net.old ≤ P.faults net.new }
-{
-    let mut roll = roll;
-    let office = &desk;
-    let outcome = serve_port(
-        &rt, alloc, service, rules, &office, &mut roll, out, net, gate,
-    );
-    let wanted = outcome.wants_memory();
-    let Outcome {
-        ended,
-        slips,
-        ends: _,
-    } = outcome;
-    let closed = desk.close(roll, Slips::of(slips));
-    Run {
-        ended: end_wanting(ended, &closed.tally, wanted),
-        chronicle: closed.chronicle,
-        disk: closed.disk,
     }
 }

@@ -1,11 +1,9 @@
-ghost use Rattle.std.specs.Prelude.{◌≡◌, ◌≤◌, ◌+◌, ℕ, [], None, true, All, IfOk, IfErr, length};
+ghost use Rattle.std.specs.Prelude.{◌≡◌, ◌≤◌, [], None, true, All, IfOk, IfErr, length};
 ghost use Rattle.std.specs.List.{list_all};
 ghost use Rattle.std.specs.Map.{values_of};
 ghost use Rattle.key_scripts.specs.Script.{opens_well};
-ghost use Rattle.skk_disk.specs.Image.{Image};
 ghost use Rattle.skk_disk.specs.Moments.{SameImages};
-ghost use Rattle.learned_store.specs.Stands.{Stands, StandsOver};
-ghost use Rattle.learned_store.specs.Stores.{OpenStore, opening_now, Keeps, Recovers};
+ghost use Rattle.learned_store.specs.Stores.{opening_now, Keeps};
 ghost use Rattle.script_typing.specs.MapLaws.{Ascend};
 ghost use Rattle.skk_top.specs.Disks.{disk_now, RunsOver};
 ghost use Rattle.skk_top.specs.TypedTasks.{TypesTasks};
@@ -15,7 +13,7 @@ use key_scripts::Line;
 use learned_store::{Closed, LearnedName, Store};
 use romaji_rules::Rules;
 use script_typing::{Typed, type_tasks};
-use shared_desk::{Desk, Roll, Slips};
+use shared_desk::{Desk, Slips};
 use skk_disk::Disk;
 use skk_outside::Gate;
 use skk_text::{Memory, Sequence};
@@ -99,43 +97,12 @@ fn type_over<
 {
     let (history, pen, roll) = made;
     match Desk::<D, N, R>::open(rt, alloc, store, history, pen, roll) {
-        Ok((desk, roll)) => Ok(type_at(rt, alloc, rules, tasks, desk, roll, gate)),
+        Ok((desk, mut roll)) => {
+            let office = &desk;
+            let (typed, slips) = type_tasks(&rt, alloc, rules, tasks, &office, &mut roll, gate);
+            let closed = desk.close(roll, Slips::of(slips));
+            Ok(TypedTasks { typed, closed })
+        }
         Err(none) => Err(none.store.close()),
     }
-}
-
-// Types tasks at a desk that has admitted nobody, and closes it.
-fn type_at<
-    N: DeskName + LearnedName + Send + Sync,
-    D: Disk + Drop + Send,
-    R: Threads + Wait + Copy + Send + Sync,
-    G: Gate + Sync,
->(
-    rt: R,
-    alloc: Global,
-    rules: &Rules,
-    tasks: BTreeMap<u8, Sequence<Line>>,
-    desk: Desk<D, N, R>,
-    roll: Roll<N>,
-    gate: &G,
-) -> TypedTasks<D>
-    requires nobody { roll ≡ 0 }
-    requires ascend { Ascend tasks.entries }
-    requires few { length tasks.entries ≤ 256 }
-    requires opens { All (λ lines. list_all opens_well lines ≡ true) (values_of tasks.entries) }
-    ensures types { TypesTasks N.opening rules.now tasks.entries result
-        (disk_now D.time D.faults D.left_since result.closed.disk) }
-    ensures stands { (store : OpenStore _) × (result.closed.disk ≡ store.journal.disk)
-        × Stands D.time D.faults D.left_since N.opening N.past result.closed.chronicle store }
-    ensures since { (start : ℕ) →
-        ((time : ℕ) (image : Image) → start ≤ time → time ≤ N.opening.time → N.past time image
-        → Recovers N.opening.state image) →
-        StandsOver N.opening.state result.closed.chronicle start (D.time result.closed.disk)
-        (D.left_since result.closed.disk) }
-{
-    let mut roll = roll;
-    let office = &desk;
-    let (typed, slips) = type_tasks(&rt, alloc, rules, tasks, &office, &mut roll, gate);
-    let closed = desk.close(roll, Slips::of(slips));
-    TypedTasks { typed, closed }
 }

@@ -1,4 +1,4 @@
-use Rattle.std.proofs.Common.{arith, inl, inr}
+use Rattle.std.proofs.Common.{inl, inr}
 use Rattle.skk_outside.specs.Moved.{moved_sink}
 use Rattle.learned_store.specs.Stores.{opening_now}
 use Rattle.skk_top.proofs.Runs.{Keeps-self}

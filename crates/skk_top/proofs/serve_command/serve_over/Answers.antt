@@ -1,16 +1,58 @@
-use Rattle.std.proofs.Common.{◌≡◌, ◌∙◌, ap, []}
+use Rattle.std.proofs.Common.{◌≡◌, ◌∙◌, All, List, [], ap, inr, sym, subst}
+use Rattle.skk_calls.specs.Chronicles.{history_of}
+use Rattle.skk_outside.specs.Moved.{moved_sink}
+use Rattle.skk_server.specs.Services.{seen_listener}
+use Rattle.skk_server.specs.Visits.{seen_link}
+use Rattle.desk_history.specs.Seats.{CallerState}
 use Rattle.learned_store.specs.Stores.{OpenStore}
-use Rattle.skk_top.proofs.Disks.{runs-closed, runs-quiet}
+use Rattle.shared_desk.specs.Told.{Stood}
+use Rattle.skk_top.specs.Disks.{disk_now}
+use Rattle.skk_top.specs.ServeCommand.{ServesByOffice, ServesConnections, moved_listener}
+use Rattle.run_endings.specs.Status.{Ended}
+use Rattle.skk_top.proofs.Disks.{keeps-desk, runs-closed, runs-quiet}
+use Rattle.skk_top.proofs.Visits.{desk_slips, serves-closed}
 use Rattle.skk_top.proofs.serve_command.serve_over.Goals as goal
+
+-- what the callers said for the connections, and what the desk leaves
+pub returns-in-Ok-clause-leaves : goal.returns-in-Ok-clause-leaves
+returns-in-Ok-clause-leaves g c =
+    let D = g.D.Disk in
+    let service = c.args.service in
+    let table = c.args.rules.now in
+    let opening = g.N.OpeningName.opening in
+    let chronicle = c.close-closed.result.chronicle in
+    let history = history_of chronicle in
+    let closed = c.close-closed.ensures in
+    let outcome = c.serve_port-outcome.result in
+    let out = moved_sink g.O.Outside.written g.O.Outside.faults c.args.out.now c.serve_port-outcome.new.out in
+    let net =
+    moved_listener (seen_listener g.P.Listener.coming g.P.Listener.over g.P.Listener.out g.P.Listener.opened
+    g.P.Outside.faults)
+    (seen_link g.P.Link.Outside.left g.P.Link.Outside.written g.P.Link.Outside.faults g.P.Link.Link.closed)
+    c.args.net.now c.serve_port-outcome.new.net in
+    let serves = subst (λ n. ServesByOffice service table desk_slips n c.serve_port-outcome.new.roll outcome out net)
+    c.in-Ok.ensures.roll c.serve_port-outcome.ensures.serves in
+    let stood = subst (λ (slips : List CallerState). All (Stood history) slips) c.of.ensures closed.slips in
+    let stands = closed.stands in
+    let keeps = keeps-desk D.time g.D.Outside.faults D.left_since opening g.N.LearnedName.past chronicle
+    c.close-closed.result.disk stands.0 stands.1 stands.2 closed.now in
+    inr (subst (λ (e : Ended). ServesConnections service opening table
+    (record { ended = e; chronicle = chronicle; disk = c.close-closed.result.disk }) out net
+    (disk_now D.time g.D.Outside.faults D.left_since c.close-closed.result.disk)) (sym c.end_wanting.ensures)
+    (serves-closed service opening table chronicle c.close-closed.result.disk c.close-closed.result.tally
+    c.wants_memory-wanted.result c.serve_port-outcome.new.roll outcome out net
+    (disk_now D.time g.D.Outside.faults D.left_since c.close-closed.result.disk) serves stood closed.strangers
+    stands.2.legal keeps closed.tally c.wants_memory-wanted.ensures))
 
 pub returns-in-Ok-clause-runs : goal.returns-in-Ok-clause-runs
 returns-in-Ok-clause-runs g c =
     let D = g.D.Disk in
-    let left = c.serve_at.ensures.stands in
+    let closed = c.close-closed.ensures in
+    let left = closed.stands in
     rw left.1
     (runs-closed D.tells D.seen D.time g.D.Outside.faults D.left_since g.N.OpeningName.opening g.N.LearnedName.past
-    c.args.store left.0 c.serve_at.result.chronicle c.requires.named c.requires.past left.2
-    (rw left.1 at c.serve_at.ensures.since))
+    c.args.store left.0 c.close-closed.result.chronicle c.requires.named c.requires.past left.2
+    (rw left.1 at closed.since))
 
 pub returns-in-Err-clause-runs : goal.returns-in-Err-clause-runs
 returns-in-Err-clause-runs g c =
