@@ -4,7 +4,7 @@ use Rattle.romaji_rules.specs.declared.rule.Rule.{Rule}
 use Rattle.skk_outside.specs.Moved.{MovedSink}
 use Rattle.key_scripts.specs.declared.line.Line.{Line}
 use Rattle.learned_store.specs.Stores.{OpenStore, opening_now}
-use Rattle.skk_top.specs.Disks.{DiskNow}
+use Rattle.caller_work.specs.Disks.{DiskNow}
 use Rattle.skk_top.specs.TypeCommand.{LeavesBegun, Manner}
 use Rattle.run_endings.specs.declared.finish.Run.{Run}
 

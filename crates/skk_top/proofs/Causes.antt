@@ -58,7 +58,7 @@ use Rattle.skk_top.specs.TypeCommand.{HasScriptFlaw, LeavesTyped, Manner, TypesL
 use Rattle.skk_top.specs.WeaveCommand.{WeavesLines}
 use Rattle.skk_top.specs.declared.serving.Service.{Service}
 use Rattle.skk_top.proofs.Dictionaries.{are_dictionaries}
-use Rattle.skk_top.proofs.Disks.{counted-on}
+use Rattle.caller_work.specs.DiskLaws.{counted-on}
 use Rattle.skk_top.proofs.RunFiles.{each_fault}
 
 -- Why calls were refused

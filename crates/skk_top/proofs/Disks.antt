@@ -1,15 +1,11 @@
 -- What runs leave of the disk, of what their parts leave.
-use Rattle.std.proofs.Common.{◌≡◌, ◌≢◌, inl, inr, sym, ap, subst, refl, arith, ℕ, ◌<◌, ◌≤◌, List}
-use Rattle.std.proofs.Common.{[], ◌∷◌}
-use Rattle.std.proofs.lemmas.List.Elements.{All-nil}
+use Rattle.std.proofs.Common.{◌≡◌, ◌≢◌, sym, subst, refl, ℕ, ◌≤◌, List}
+use Rattle.std.proofs.Common.{[]}
 use Rattle.skk_calls.specs.declared.chronicle.Noted.{Noted}
-use Rattle.skk_calls.specs.Chronicles.{history_of}
-use Rattle.skk_calls.specs.Histories.{Opening, state_after}
 use Rattle.skk_calls.specs.Rows.{Row}
 use Rattle.skk_calls.specs.States.{State, empty_state}
 use Rattle.skk_disk.specs.Image.{Image}
 use Rattle.skk_disk.specs.Moments.{Passes, SameImages, Earlier}
-use Rattle.skk_disk.specs.MomentLaws.{passes_nothing}
 use Rattle.skk_journal.specs.Images.{Each}
 use Rattle.skk_journal.specs.Choice.{choice}
 use Rattle.skk_journal.specs.Opening.{HasChosen}
@@ -21,24 +17,16 @@ use Rattle.skk_journal.specs.Causes.{UnlessDisk}
 use Rattle.learned_store.specs.Recovered.{Recovery, with_state, foreign, refused, IsRecovered, IsRefused}
 use Rattle.learned_store.specs.Recovered.{IsOpenedWith}
 use Rattle.learned_store.specs.Stores.{OpenStore, opening_now, Recovers}
-use Rattle.learned_store.specs.Stands.{time_of, faults_of, left_behind, RecoversBy, StandsOver, RecoverAmong, GoOn}
-use Rattle.learned_store.specs.Stands.{Stands}
-use Rattle.skk_top.specs.Disks.{DiskNow, MovedDisk, moved_disk, disk_now, RefusesLearned, IsOpening, KeepsDisk}
-use Rattle.skk_top.specs.Disks.{RunsOver, StandsSince}
+use Rattle.learned_store.specs.Stands.{RecoversBy}
+use Rattle.caller_work.specs.Disks.{disk_now}
+use Rattle.caller_work.specs.DiskLaws.{behind-nothing, runs-nothing}
+use Rattle.skk_top.specs.Disks.{MovedDisk, moved_disk, RefusesLearned, IsOpening}
+use Rattle.caller_work.specs.Disks.{RunsOver}
+use Rattle.skk_top.specs.Disks.{StandsSince}
 use Rattle.run_endings.specs.Status.{Ended, fault_of_opening}
 use Rattle.run_endings.specs.Finishes.{finish_of}
 use Rattle.run_endings.specs.declared.finish.Finish.{Finish}
 use Rattle.run_endings.specs.declared.finish.Run.{Run}
-
--- a state that an image is opened as stands behind no notes
-behind-nothing : (state : State) (time : ℕ) (image : Image) → Recovers state image → RecoversBy state [] time image
-behind-nothing state time image is = record {
-  front = [];
-  back = [];
-  is = refl;
-  later = All-nil (λ (note : Noted). time < time_of note);
-  recovers = (state, (0, omega arith, refl), is);
-}
 
 -- what is left of a disk to which nothing was done, or whose learned dictionary was not opened
 pub stands-unopened : (disk : MovedDisk) → Earlier disk.after.left_since
@@ -55,14 +43,6 @@ stands-untouched disk earlier same state start all recovers time image from to l
     let there = same.no_more time image left in
     behind-nothing state time image
     (subst (Recovers state) (sym (all image (earlier disk.before.time time image from there))) recovers)
-
--- a disk to which nothing was done goes on so
-pub runs-nothing : (opened : State) (disk : DiskNow) → RunsOver opened [] disk disk
-runs-nothing opened disk = record {
-  since = λ start begun so time image from to left. behind-nothing opened time image (so time image from to left);
-  passes = passes_nothing disk.time disk.left_since;
-  counted = omega arith;
-}
 
 module _ {D : Type 0} (tells : Type 0) (seen : D → Image) (time faults : D → ℕ) (left_since : D → ℕ → Image → Type 0)
     (earlier : (disk : D) → Earlier (left_since disk))
@@ -90,36 +70,6 @@ module _ {D : Type 0} (tells : Type 0) (seen : D → Image) (time faults : D →
       (opens state start same recovers i (earlier mid (time old) t i start_at there)))
       moment image from to left)
 
--- what a caller leaves of the disk, which is closed then
-pub keeps-closed : {D : Type 0} (time faults : D → ℕ) (left_since : D → ℕ → Image → Type 0) (opening : Opening)
-    (past : ℕ → Image → Type 0) (notes : List Noted) (store : OpenStore D)
-    → Stands time faults left_since opening past notes store
-    → RecoverAmong store.state (left_behind opening.state notes)
-    (left_since store.journal.disk (time store.journal.disk))
-    → KeepsDisk opening notes (disk_now time faults left_since store.journal.disk)
-keeps-closed time faults left_since opening past notes store stands now = record {
-  moments = stands.moments;
-  now = subst (λ (s : State). RecoverAmong s (left_behind opening.state notes)
-      (left_since store.journal.disk (time store.journal.disk))) stands.state now;
-  goes_on = stands.goes_on;
-  fits = stands.fits;
-}
-
--- what the callers of a desk leave of the disk, which is closed then
-pub keeps-desk : {D : Type 0} (time faults : D → ℕ) (left_since : D → ℕ → Image → Type 0) (opening : Opening)
-    (past : ℕ → Image → Type 0) (notes : List Noted) (left : D) (store : OpenStore D) → left ≡ store.journal.disk
-    → Stands time faults left_since opening past notes store
-    → RecoverAmong (state_after opening.state (history_of notes)) (left_behind opening.state notes)
-    (left_since left (time left))
-    → KeepsDisk opening notes (disk_now time faults left_since left)
-keeps-desk {D} time faults left_since opening past notes left store is stands now = record {
-  moments = subst (λ (d : D). StandsOver opening.state notes opening.time (time d) (left_since d)) (sym is)
-      stands.moments;
-  now = now;
-  goes_on = subst (λ (d : D). GoOn opening.time opening.faults notes (time d) (faults d)) (sym is) stands.goes_on;
-  fits = stands.fits;
-}
-
 module _ (one_way : (image : Image) (one two : Recovery) → IsRecovered image one → IsRecovered image two → one ≡ two)
   where
     -- an image that is not opened as a state has a live file, or is refused before that is looked for
@@ -146,13 +96,6 @@ module _ (one_way : (image : Image) (one two : Recovery) → IsRecovered image o
         let live = kept disk.seen (refused why.0 at) why.2 (λ state same. cc same) in
         ((why.0, why.1, why.2, refl), record { seen = seen told live; images = images told live })
     refuses-learned disk opening.Memory is failed images seen = tt
-
-pub counted-on : (time faults : ℕ) (notes : List Noted) (last_time last_faults : ℕ)
-    → GoOn time faults notes last_time last_faults → faults ≤ last_faults
-counted-on time faults [] last_time last_faults on = omega (arith, on.1)
-counted-on time faults (first ∷ notes) last_time last_faults on =
-    let rest = counted-on (time_of first) (faults_of first) notes last_time last_faults on.3 in
-    omega (arith, on.1, rest)
 
 module _ {D : Type 0} (tells : Type 0) (seen : D → Image) (time faults : D → ℕ)
     (left_since : D → ℕ → Image → Type 0) where
@@ -203,41 +146,4 @@ module _ {D : Type 0} (tells : Type 0) (seen : D → Image) (time faults : D →
         opened = is;
         later = passes.later;
         counted = counted;
-      }
-
-  -- what a caller leaves of the disk of a store that was just opened, which is closed then
-  pub runs-closed : (opening : Opening) (past : ℕ → Image → Type 0) (before store : OpenStore D) (notes : List Noted)
-      → opening ≡ opening_now time faults before → SameImages past (left_since before.journal.disk)
-      → Stands time faults left_since opening past notes store
-      → ((start : ℕ)
-      → ((moment : ℕ) (image : Image) → start ≤ moment → moment ≤ opening.time → past moment image
-      → Recovers opening.state image)
-      → StandsOver opening.state notes start (time store.journal.disk) (left_since store.journal.disk))
-      → RunsOver before.state notes (disk_now time faults left_since before.journal.disk)
-      (disk_now time faults left_since store.journal.disk)
-  runs-closed opening past before store notes named same stands since =
-      let at : opening.time ≡ time before.journal.disk = ap (λ (o : Opening). o.time) named in
-      let counted : opening.faults ≡ faults before.journal.disk = ap (λ (o : Opening). o.faults) named in
-      let state : opening.state ≡ before.state = ap (λ (o : Opening). o.state) named in
-      record {
-        since = λ start begun so.
-            subst (λ (s : State). StandsOver s notes start (time store.journal.disk)
-            (left_since store.journal.disk)) state
-            (since start (λ moment image from to there.
-            subst (λ (s : State). Recovers s image) (sym state)
-            (so moment image from (omega (arith, to, at)) (same.no_fewer moment image there))));
-        passes = record {
-          later = omega (arith, stands.passes.later, at);
-          goes_on = λ t image le left. elim (stands.passes.goes_on t image (omega (arith, le, at)) left) [
-            | inl there ↦ inl (same.no_fewer t image there)
-            | inr here ↦ inr (subst (λ (n : ℕ). left_since store.journal.disk n image) at here)
-          ];
-          keeps = λ t image le left. stands.passes.keeps t image (omega (arith, le, at)) (same.no_more t image left);
-        };
-        counted = omega (
-          arith,
-          counted,
-          counted-on opening.time opening.faults notes (time store.journal.disk)
-              (faults store.journal.disk) stands.goes_on,
-        );
       }

@@ -27,7 +27,7 @@ use Rattle.script_typing.specs.Playing.{playing, sessions_behind}
 use Rattle.script_typing.specs.PlayingLaws.{entries_by, led-alone}
 use Rattle.script_typing.specs.Sessions.{SessionMap}
 use Rattle.command_line.specs.declared.command.LoadOptions.{LoadOptions}
-use Rattle.skk_top.specs.Disks.{DiskNow, KeepsDisk}
+use Rattle.caller_work.specs.Disks.{DiskNow, KeepsDisk}
 use Rattle.skk_top.specs.LoadCommand.{load_lines, loaded_from, number_line, summed, LoadsLines}
 use Rattle.run_endings.specs.Page.{LeavesPrinted, StopsPrinting}
 use Rattle.skk_top.specs.Playing.{PlaysLines}

@@ -14,7 +14,7 @@ use Rattle.skk_calls.specs.InteractionLaws.{printed-answered_alone}
 use Rattle.skk_calls.specs.Interactions.{asked, answers_of, calls_of, IsAnsweredAlone}
 use Rattle.skk_calls.specs.Openings.{IsLegalOver, said_in, are_of_one, are_served}
 use Rattle.skk_calls.specs.Tallies.{Tally, tally_of}
-use Rattle.skk_top.specs.Disks.{DiskNow, KeepsDisk}
+use Rattle.caller_work.specs.Disks.{DiskNow, KeepsDisk}
 use Rattle.run_endings.specs.Status.{Ended, ended_by}
 use Rattle.skk_top.specs.TypeCommand.{Prints, TypesLines}
 use Rattle.script_typing.specs.Typed.{typing, typed_alone}

@@ -25,7 +25,7 @@ use Rattle.script_typing.specs.Woven.{Tasks, task_typing, tasks_of}
 use Rattle.script_typing.specs.Workers.{AreDone, WorkedBy}
 use Rattle.script_typing.specs.declared.typed.Typed.{Typed}
 use Rattle.command_line.specs.declared.command.LoadOptions.{LoadOptions}
-use Rattle.skk_top.specs.Disks.{DiskNow, KeepsDisk}
+use Rattle.caller_work.specs.Disks.{DiskNow, KeepsDisk}
 use Rattle.skk_top.specs.LoadCommand.{load_lines, loaded_from, summed, LoadsTasks}
 use Rattle.run_endings.specs.Page.{LeavesPrinted, StopsPrinting}
 use Rattle.run_endings.specs.Status.{Ended, ended_by}

@@ -26,7 +26,7 @@ use Rattle.skk_server.specs.Services.{SeenListener, EndsServing, ServesAll}
 use Rattle.skk_server.specs.Visits.{SeenLink, SeenCaller, seen_caller, Visit, AreServed}
 use Rattle.desk_history.specs.Seats.{CallerState}
 use Rattle.shared_desk.specs.Told.{Stood}
-use Rattle.skk_top.specs.Disks.{DiskNow, KeepsDisk}
+use Rattle.caller_work.specs.Disks.{DiskNow, KeepsDisk}
 use Rattle.run_endings.specs.Page.{StopsPrinting}
 use Rattle.skk_top.specs.ServeCommand.{MovedListener, moved_listener, ready_line, served_line, serve_lines, TellsEnd}
 use Rattle.skk_top.specs.ServeCommand.{StopsServing, ServesVisits, AreServedFrom, wants_memory, ServesConnections}

@@ -30,7 +30,7 @@ use Rattle.script_typing.specs.Woven.{Tasks, tasks_of, numbers_printed, answers_
 use Rattle.script_typing.specs.Workers.{AreDone, AreWoven, WorkedBy}
 use Rattle.desk_history.specs.Seats.{CallerState}
 use Rattle.shared_desk.specs.Told.{Stood}
-use Rattle.skk_top.specs.Disks.{DiskNow, KeepsDisk}
+use Rattle.caller_work.specs.Disks.{DiskNow, KeepsDisk}
 use Rattle.run_endings.specs.Page.{StopsPrinting}
 use Rattle.run_endings.specs.Status.{Ended, ended_by}
 use Rattle.skk_top.specs.WeaveCommand.{LeavesPages, WeavesLines, text_left}

@@ -24,7 +24,8 @@ use Rattle.script_typing.specs.Playing.{playing, sessions_behind, sessions_from,
 use Rattle.script_typing.specs.Sessions.{SessionMap}
 use Rattle.script_typing.specs.Woven.{tasks_of}
 use Rattle.command_line.specs.declared.command.LoadOptions.{LoadOptions}
-use Rattle.skk_top.specs.Disks.{DiskNow, MovedDisk, RefusesLearned, IsOpening, KeepsDisk}
+use Rattle.caller_work.specs.Disks.{DiskNow, KeepsDisk}
+use Rattle.skk_top.specs.Disks.{MovedDisk, RefusesLearned, IsOpening}
 use Rattle.run_endings.specs.Finishes.{EndsUnbegun}
 use Rattle.run_endings.specs.Page.{LeavesPrinted}
 use Rattle.run_endings.specs.Status.{Ended, ended_by}

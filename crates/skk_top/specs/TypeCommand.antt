@@ -17,7 +17,8 @@ use Rattle.skk_text.specs.Lines.{lines_of}
 use Rattle.command_line.specs.Command.{limit_of}
 use Rattle.command_line.specs.declared.command.TypeOptions.{TypeOptions}
 use Rattle.skk_top.specs.Dictionaries.{AreRowsOf}
-use Rattle.skk_top.specs.Disks.{DiskNow, MovedDisk, RefusesLearned, IsOpening, KeepsDisk}
+use Rattle.caller_work.specs.Disks.{DiskNow, KeepsDisk}
+use Rattle.skk_top.specs.Disks.{MovedDisk, RefusesLearned, IsOpening}
 use Rattle.run_endings.specs.Finishes.{EndsUnbegun}
 use Rattle.skk_top.specs.NamedFiles.{rules_named, dictionaries_named, RefusesNamed}
 use Rattle.run_endings.specs.Page.{StopsPrinting}

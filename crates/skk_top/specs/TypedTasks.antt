@@ -9,7 +9,7 @@ use Rattle.skk_calls.specs.Tallies.{tally_of}
 use Rattle.script_typing.specs.Callers.{AreCallers}
 use Rattle.script_typing.specs.Woven.{Tasks}
 use Rattle.script_typing.specs.Workers.{WorkedBy}
-use Rattle.skk_top.specs.Disks.{DiskNow, KeepsDisk}
+use Rattle.caller_work.specs.Disks.{DiskNow, KeepsDisk}
 use Rattle.skk_top.specs.declared.typed_tasks.TypedTasks.{TypedTasks}
 
 -- what the typing of tasks over an opening leaves: the callers, whose numbers count on from 0, have said what the

@@ -1,5 +1,5 @@
 -- How far the typing of a line, and of lines, has come in what they come to.
-use Rattle.std.specs.Prelude.{◌≡◌, ℕ, Result, List, [], ◌∷◌, ◌++◌, OnOk, OnErr, encode_utf8_all}
+use Rattle.std.specs.Prelude.{◌≡◌, ◌≤◌, ℕ, Result, List, [], ◌∷◌, ◌++◌, OnOk, OnErr, encode_utf8_all}
 use Rattle.skk_outside.specs.Moved.{MovedSink}
 use Rattle.skk_outside.specs.Written.{AppendsPrefix}
 use Rattle.romaji_rules.specs.declared.rule.Rule.{Rule}
@@ -57,3 +57,8 @@ pub record LeavesLines (asking : Asking) (ended : Ended) (said said' : Dialog)
   pub grows : said' ≡ said ++ dialog
   pub asks : asked asking (answers_of dialog) ≡ calls_of dialog
   pub prints : Prints asking (answers_of dialog) ended out
+
+-- what the typing of a script's lines by some rules leaves in a sink and with a caller, by how it ends
+abbrev pub TypesOut : List Rule → List Line → Ended → Dialog → Dialog → MovedSink → Type 0
+TypesOut rules lines ended said said' out =
+    LeavesLines (typing rules [] lines) ended said said' out × (out.faults ≤ out.faults')

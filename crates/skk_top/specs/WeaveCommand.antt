@@ -17,7 +17,7 @@ use Rattle.script_typing.specs.Callers.{AskFrom, EndFrom}
 use Rattle.script_typing.specs.Pages.{text_of_pages, woven_pages}
 use Rattle.script_typing.specs.Typed.{closing_lines, typed_alone}
 use Rattle.script_typing.specs.Woven.{Tasks, tasks_of, numbers_printed, answers_by, woven, are_apart}
-use Rattle.skk_top.specs.Disks.{DiskNow, KeepsDisk}
+use Rattle.caller_work.specs.Disks.{DiskNow, KeepsDisk}
 use Rattle.run_endings.specs.Page.{StopsPrinting}
 use Rattle.run_endings.specs.Status.{Ended, ended_by}
 use Rattle.run_endings.specs.declared.finish.Run.{Run}

@@ -8,7 +8,8 @@ ghost use Rattle.skk_outside.specs.Taken.{TakesAtMost};
 ghost use Rattle.skk_outside.specs.declared.source.TheConstants.{PIECE};
 ghost use Rattle.learned_store.specs.Stores.{opening_now, Keeps};
 ghost use Rattle.script_typing.specs.MapLaws.{Ascend};
-ghost use Rattle.skk_top.specs.Disks.{disk_now, moved_disk, RunsOver, StandsSince};
+ghost use Rattle.caller_work.specs.Disks.{disk_now, RunsOver};
+ghost use Rattle.skk_top.specs.Disks.{moved_disk, StandsSince};
 ghost use Rattle.skk_top.specs.TypeCommand.{LeavesBegun, LeavesTyped};
 ghost use Rattle.skk_top.specs.WeaveCommand.{AreCutOf, LeavesPages, WeavesLines};
 

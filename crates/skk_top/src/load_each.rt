@@ -10,7 +10,8 @@ ghost use Rattle.learned_store.specs.Stores.{opening_now, Keeps};
 ghost use Rattle.script_typing.specs.MapLaws.{Ascend};
 ghost use Rattle.script_typing.specs.Woven.{tasks_of};
 ghost use Rattle.command_line.specs.Ranges.{IsLoadInRange};
-ghost use Rattle.skk_top.specs.Disks.{disk_now, moved_disk, RunsOver, StandsSince};
+ghost use Rattle.caller_work.specs.Disks.{disk_now, RunsOver};
+ghost use Rattle.skk_top.specs.Disks.{moved_disk, StandsSince};
 ghost use Rattle.run_endings.specs.Finishes.{EndsUnbegun};
 ghost use Rattle.skk_top.specs.LoadCommand.{load_lines, summed, LeavesLoaded, LoadsTasks};
 ghost use Rattle.run_endings.specs.Page.{LeavesPrinted};
@@ -116,11 +117,7 @@ fn share_load(alloc: Global, options: LoadOptions) -> Result<Shared, Memory>
     ensures opens { IfOk result (λ shared. All (λ lines. list_all opens_well lines ≡ true)
         (values_of shared.tasks.entries)) }
 {
-    let Load {
-        options: _,
-        rules,
-        lines,
-    } = draw_load(alloc, options)?;
+    let Load { rules, lines } = draw_load(alloc, options)?;
     let tasks = cut_lines(alloc, lines.into_vec())?.tasks;
     Ok(Shared { rules, tasks })
 }

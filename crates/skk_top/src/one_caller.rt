@@ -1,25 +1,25 @@
 ghost use Rattle.std.specs.Prelude.{◌≡◌, ◌≤◌, ◌+◌, None};
-ghost use Rattle.skk_disk.specs.Moments.{SameImages};
 ghost use Rattle.skk_outside.specs.Moved.{moved_shelf, moved_sink, moved_source};
 ghost use Rattle.skk_outside.specs.Taken.{TakesAtMost};
 ghost use Rattle.skk_outside.specs.declared.source.TheConstants.{PIECE};
 ghost use Rattle.key_scripts.specs.Script.{script_limit};
 ghost use Rattle.learned_store.specs.Stores.{opening_now, Keeps};
-ghost use Rattle.skk_top.specs.Disks.{disk_now, moved_disk, RunsOver, StandsSince};
+ghost use Rattle.caller_work.specs.Disks.{disk_now, RunsOver};
+ghost use Rattle.skk_top.specs.Disks.{moved_disk, StandsSince};
 ghost use Rattle.skk_top.specs.TypeCommand.{LeavesBegun, LeavesTyped, TypesLines};
 
 use crate::manner::Manner;
 use crate::type_command::{Begun, begin};
 use crate::typing::type_script;
+use caller_work::{Work, with_caller};
 use command_line::TypeOptions;
 use key_scripts::Script;
-use learned_store::{Alone, LearnedName, Store};
 use romaji_rules::Rules;
 use run_endings::{Run, RunFault, end_by};
+use skk_calls::Caller;
 use skk_disk::Disk;
 use skk_outside::{Shelf, Sink, Source};
 use std::alloc::Global;
-use std::marker::Brand;
 
 /// All calls of a script are made by one caller.
 pub struct OneCaller;
@@ -69,36 +69,40 @@ fn type_by_one<D: Disk, O: Sink>(alloc: Global, begun: Begun<D>, out: &mut O) ->
         script,
         store,
     } = begun;
-    type_over::<Brand, D, O>(alloc, &rules, &script, store, out)
+    let typing = Typing {
+        rules: &rules,
+        script: &script,
+    };
+    match with_caller(alloc, store, typing, out) {
+        Ok(worked) => Run {
+            ended: end_by(worked.left, &worked.closed.tally),
+            chronicle: worked.closed.chronicle,
+            disk: worked.closed.disk,
+        },
+        Err(disk) => Run::without_calls(Err(RunFault::Memory), disk),
+    }
 }
 
-// Types a script over a store that was just opened, by a caller for whom `N` names the opening to the proof.
-fn type_over<N: LearnedName, D: Disk, O: Sink>(
-    alloc: Global,
-    rules: &Rules,
-    script: &Script,
-    store: Store<D>,
-    out: &mut O,
-) -> Run<D>
-    requires calm { Keeps D.time D.left_since store.journal store.state None }
-    requires named { N.opening ≡ opening_now D.time D.faults store }
-    requires past { SameImages N.past (D.left_since store.journal.disk) }
-    ensures leaves { LeavesBegun TypesLines N.opening rules.now script.now result
-        (moved_sink O.written O.faults out.old out.new) (disk_now D.time D.faults D.left_since result.disk) }
-    ensures counted { O.faults out.old ≤ O.faults out.new }
-    ensures runs { RunsOver store.state result.chronicle
-        (disk_now D.time D.faults D.left_since store.journal.disk) (disk_now D.time D.faults D.left_since result.disk) }
-{
-    match Alone::<D, N>::new(alloc, store) {
-        Ok(mut caller) => {
-            let ended = type_script(alloc, rules, script.lines(), &mut caller, out);
-            let closed = caller.close();
-            Run {
-                ended: end_by(ended, &closed.tally),
-                chronicle: closed.chronicle,
-                disk: closed.disk,
-            }
-        }
-        Err(none) => Run::without_calls(Err(RunFault::Memory), none.store.close()),
+// The typing of a script, which prints to the outside.
+#[derive(Drop)]
+struct Typing<'a> {
+    rules: &'a Rules,
+    script: &'a Script,
+}
+
+impl<'a, O: Sink> Work<O> for Typing<'a> {
+    ghost use Rattle.std.specs.Prelude.{⊤};
+    ghost use Rattle.skk_outside.specs.Moved.{moved_sink};
+    ghost use Rattle.skk_top.specs.Typing.{TypesOut};
+
+    type Left = Result<(), RunFault>;
+
+    ghost fits = { λ work. ⊤ };
+
+    ghost leaves = { λ work out out' said said' ended. TypesOut work.rules.now work.script.now ended said said'
+        (moved_sink O.written O.faults out out') };
+
+    fn work<C: Caller>(self, alloc: Global, caller: &mut C, out: &mut O) -> Result<(), RunFault> {
+        type_script(alloc, self.rules, self.script.lines(), caller, out)
     }
 }

@@ -2,7 +2,8 @@ ghost use Rattle.std.specs.Prelude.{◌≡◌, ◌≤◌, [], None, Err, IfOk, I
 ghost use Rattle.skk_outside.specs.Moved.{moved_shelf};
 ghost use Rattle.learned_store.specs.Stores.{opening_now, Keeps};
 ghost use Rattle.skk_top.specs.Dictionaries.{AreRowsOf};
-ghost use Rattle.skk_top.specs.Disks.{disk_now, moved_disk, IsOpening, RefusesLearned, RunsOver, StandsSince};
+ghost use Rattle.caller_work.specs.Disks.{disk_now, RunsOver};
+ghost use Rattle.skk_top.specs.Disks.{moved_disk, IsOpening, RefusesLearned, StandsSince};
 ghost use Rattle.skk_top.specs.NamedFiles.{rules_named, dictionaries_named, RefusesNamed};
 ghost use Rattle.skk_top.specs.RunRules.{AreRules};
 ghost use Rattle.run_endings.specs.declared.finish.Run.{Run as run_value};

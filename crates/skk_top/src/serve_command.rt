@@ -5,7 +5,8 @@ ghost use Rattle.skk_outside.specs.Moved.{moved_shelf, moved_sink};
 ghost use Rattle.skk_server.specs.Services.{seen_listener};
 ghost use Rattle.skk_server.specs.Visits.{seen_link};
 ghost use Rattle.command_line.specs.Ranges.{LiesFrom};
-ghost use Rattle.skk_top.specs.Disks.{disk_now, moved_disk, RunsOver, StandsSince, RefusesLearned};
+ghost use Rattle.caller_work.specs.Disks.{disk_now, RunsOver};
+ghost use Rattle.skk_top.specs.Disks.{moved_disk, StandsSince, RefusesLearned};
 ghost use Rattle.skk_top.specs.ServeCommand.{LeavesServed, EndsUnasked, ServesOpened, ServesConnections};
 ghost use Rattle.skk_top.specs.ServeCommand.{moved_listener};
 
@@ -199,7 +200,7 @@ fn serve_over<
         (moved_listener (seen_listener P.coming P.over P.out P.opened P.faults)
         (seen_link P.Link.left P.Link.written P.Link.faults P.Link.closed) net.old net.new)
         (disk_now D.time D.faults D.left_since result.disk) }
-    ensures runs { RunsOver store.state result.chronicle
+    ensures runs { RunsOver N.opening.state result.chronicle
         (disk_now D.time D.faults D.left_since store.journal.disk)
         (disk_now D.time D.faults D.left_since result.disk) }
     ensures out_counted { O.faults out.old ≤ O.faults out.new }

@@ -5,7 +5,7 @@ ghost use Rattle.key_scripts.specs.Script.{opens_well};
 ghost use Rattle.skk_disk.specs.Moments.{SameImages};
 ghost use Rattle.learned_store.specs.Stores.{opening_now, Keeps};
 ghost use Rattle.script_typing.specs.MapLaws.{Ascend};
-ghost use Rattle.skk_top.specs.Disks.{disk_now, RunsOver};
+ghost use Rattle.caller_work.specs.Disks.{disk_now, RunsOver};
 ghost use Rattle.skk_top.specs.TypedTasks.{TypesTasks};
 
 use desk_history::{DeskName, History, Pen, RollSeat};
@@ -90,7 +90,7 @@ fn type_over<
     requires opens { All (λ lines. list_all opens_well lines ≡ true) (values_of tasks.entries) }
     ensures types { IfOk result (λ left. TypesTasks N.opening rules.now tasks.entries left
         (disk_now D.time D.faults D.left_since left.closed.disk)) }
-    ensures runs { IfOk result (λ left. RunsOver store.state left.closed.chronicle
+    ensures runs { IfOk result (λ left. RunsOver N.opening.state left.closed.chronicle
         (disk_now D.time D.faults D.left_since store.journal.disk)
         (disk_now D.time D.faults D.left_since left.closed.disk)) }
     ensures back { IfErr result (λ disk. disk ≡ store.journal.disk) }

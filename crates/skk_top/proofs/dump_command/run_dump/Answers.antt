@@ -1,10 +1,12 @@
 use Rattle.std.proofs.Common.{◌≡◌, ◌∙◌, sym, ap, subst, refl, inl, inr, arith, []}
 use Rattle.learned_store.specs.Stores.{opening_now}
 use Rattle.skk_outside.specs.Moved.{moved_sink}
-use Rattle.skk_top.specs.Disks.{moved_disk, disk_now, RefusesLearned, StandsSince}
+use Rattle.caller_work.specs.Disks.{disk_now}
+use Rattle.skk_top.specs.Disks.{moved_disk, RefusesLearned, StandsSince}
 use Rattle.skk_top.specs.DumpCommand.{LeavesDumped}
 use Rattle.run_endings.specs.declared.finish.Run.{Run}
-use Rattle.skk_top.proofs.Disks.{stands-quiet, stands-refused, stands-opened, runs-nothing, opened-so, refuses-learned}
+use Rattle.caller_work.specs.DiskLaws.{runs-nothing}
+use Rattle.skk_top.proofs.Disks.{stands-quiet, stands-refused, stands-opened, opened-so, refuses-learned}
 use Rattle.skk_top.proofs.Runs.{Keeps-self}
 use Rattle.skk_top.proofs.dump_command.run_dump.Goals as goal
 

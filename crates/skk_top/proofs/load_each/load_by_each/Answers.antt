@@ -7,7 +7,7 @@ use Rattle.skk_outside.specs.Moved.{moved_sink}
 use Rattle.learned_store.specs.Stores.{opening_now}
 use Rattle.script_typing.specs.Woven.{Tasks, tasks_of}
 use Rattle.script_typing.specs.Workers.{WorkedBy}
-use Rattle.skk_top.specs.Disks.{disk_now}
+use Rattle.caller_work.specs.Disks.{disk_now}
 use Rattle.skk_top.specs.LoadCommand.{load_lines, LoadsTasks}
 use Rattle.run_endings.specs.Status.{Ended}
 use Rattle.skk_top.proofs.Disks.{runs-quiet}

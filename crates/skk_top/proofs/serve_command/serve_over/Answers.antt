@@ -6,10 +6,11 @@ use Rattle.skk_server.specs.Visits.{seen_link}
 use Rattle.desk_history.specs.Seats.{CallerState}
 use Rattle.learned_store.specs.Stores.{OpenStore}
 use Rattle.shared_desk.specs.Told.{Stood}
-use Rattle.skk_top.specs.Disks.{disk_now}
+use Rattle.caller_work.specs.Disks.{disk_now}
 use Rattle.skk_top.specs.ServeCommand.{ServesByOffice, ServesConnections, moved_listener}
 use Rattle.run_endings.specs.Status.{Ended}
-use Rattle.skk_top.proofs.Disks.{keeps-desk, runs-closed, runs-quiet}
+use Rattle.caller_work.specs.Closings.{closes-at}
+use Rattle.skk_top.proofs.Disks.{runs-quiet}
 use Rattle.skk_top.proofs.Visits.{desk_slips, serves-closed}
 use Rattle.skk_top.proofs.serve_command.serve_over.Goals as goal
 
@@ -33,32 +34,32 @@ returns-in-Ok-clause-leaves g c =
     let serves = subst (λ n. ServesByOffice service table desk_slips n c.serve_port-outcome.new.roll outcome out net)
     c.in-Ok.ensures.roll c.serve_port-outcome.ensures.serves in
     let stood = subst (λ (slips : List CallerState). All (Stood history) slips) c.of.ensures closed.slips in
-    let stands = closed.stands in
-    let keeps = keeps-desk D.time g.D.Outside.faults D.left_since opening g.N.LearnedName.past chronicle
-    c.close-closed.result.disk stands.0 stands.1 stands.2 closed.now in
+    let closes = closes-at D.time g.D.Outside.faults D.left_since opening g.N.LearnedName.past c.args.store chronicle
+    c.close-closed.result.tally c.close-closed.result.disk c.requires.named c.requires.past closed.stands closed.now
+    closed.since closed.tally in
     inr (subst (λ (e : Ended). ServesConnections service opening table
     (record { ended = e; chronicle = chronicle; disk = c.close-closed.result.disk }) out net
     (disk_now D.time g.D.Outside.faults D.left_since c.close-closed.result.disk)) (sym c.end_wanting.ensures)
     (serves-closed service opening table chronicle c.close-closed.result.disk c.close-closed.result.tally
     c.wants_memory-wanted.result c.serve_port-outcome.new.roll outcome out net
     (disk_now D.time g.D.Outside.faults D.left_since c.close-closed.result.disk) serves stood closed.strangers
-    stands.2.legal keeps closed.tally c.wants_memory-wanted.ensures))
+    closes.legal closes.kept closed.tally c.wants_memory-wanted.ensures))
 
 pub returns-in-Ok-clause-runs : goal.returns-in-Ok-clause-runs
 returns-in-Ok-clause-runs g c =
     let D = g.D.Disk in
+    let left = c.close-closed.result in
     let closed = c.close-closed.ensures in
-    let left = closed.stands in
-    rw left.1
-    (runs-closed D.tells D.seen D.time g.D.Outside.faults D.left_since g.N.OpeningName.opening g.N.LearnedName.past
-    c.args.store left.0 c.close-closed.result.chronicle c.requires.named c.requires.past left.2
-    (rw left.1 at closed.since))
+    (closes-at D.time g.D.Outside.faults D.left_since g.N.OpeningName.opening g.N.LearnedName.past c.args.store
+    left.chronicle left.tally left.disk c.requires.named c.requires.past closed.stands closed.now closed.since
+    closed.tally).runs
 
 pub returns-in-Err-clause-runs : goal.returns-in-Err-clause-runs
 returns-in-Err-clause-runs g c =
     let D = g.D.Disk in
     let disk : c.close.result ≡ c.args.store.journal.disk =
     c.close.ensures ∙ ap (λ (s : OpenStore g.row.D.Denot). s.journal.disk) c.in-Err.ensures.back in
-    runs-quiet D.tells D.seen D.time g.D.Outside.faults D.left_since c.args.store.state c.args.store.journal.disk _
+    runs-quiet D.tells D.seen D.time g.D.Outside.faults D.left_since g.N.OpeningName.opening.state
+    c.args.store.journal.disk _
     c.without_calls.result
     (c.without_calls.ensures ∙ ap (λ (d : g.row.D.Denot). record { ended = _; chronicle = []; disk = d }) disk)

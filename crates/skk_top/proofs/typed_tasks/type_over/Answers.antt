@@ -4,7 +4,7 @@ use Rattle.desk_history.specs.Seats.{CallerState}
 use Rattle.learned_store.specs.Stores.{OpenStore}
 use Rattle.script_typing.specs.Workers.{WorkedBy}
 use Rattle.shared_desk.specs.Told.{Stood}
-use Rattle.skk_top.proofs.Disks.{keeps-desk, runs-closed}
+use Rattle.caller_work.specs.Closings.{closes-at}
 use Rattle.skk_top.proofs.Weaves.{told-callers}
 use Rattle.skk_top.proofs.typed_tasks.type_over.Goals as goal
 
@@ -12,7 +12,6 @@ use Rattle.skk_top.proofs.typed_tasks.type_over.Goals as goal
 pub returns-in-Ok-clause-types : goal.returns-in-Ok-clause-types
 returns-in-Ok-clause-types g c =
     let D = g.D.Disk in
-    let opening = g.N.OpeningName.opening in
     let closed = c.close-closed.ensures in
     let chronicle = c.close-closed.result.chronicle in
     let history = history_of chronicle in
@@ -24,6 +23,9 @@ returns-in-Ok-clause-types g c =
     let worked = subst (λ n. WorkedBy c.args.rules.now c.args.tasks.entries n typed numbers dialogs)
     c.in-Ok.ensures.roll
     tasked.worked in
+    let closes = closes-at D.time g.D.Outside.faults D.left_since g.N.OpeningName.opening g.N.LearnedName.past
+    c.args.store chronicle c.close-closed.result.tally c.close-closed.result.disk c.requires.named c.requires.past
+    closed.stands closed.now closed.since closed.tally in
     record {
       numbers = numbers;
       dialogs = dialogs;
@@ -33,20 +35,18 @@ returns-in-Ok-clause-types g c =
           (λ number behind.
           closed.strangers number (omega (arith, tasked.drawn, c.in-Ok.ensures.roll, behind)));
       worked = worked;
-      kept = keeps-desk D.time g.D.Outside.faults D.left_since opening g.N.LearnedName.past chronicle
-          c.close-closed.result.disk closed.stands.0 closed.stands.1 closed.stands.2 closed.now;
+      kept = closes.kept;
       tally_is = closed.tally;
     }
 
 pub returns-in-Ok-clause-runs : goal.returns-in-Ok-clause-runs
 returns-in-Ok-clause-runs g c =
     let D = g.D.Disk in
+    let left = c.close-closed.result in
     let closed = c.close-closed.ensures in
-    let left = closed.stands in
-    rw left.1
-    (runs-closed D.tells D.seen D.time g.D.Outside.faults D.left_since g.N.OpeningName.opening g.N.LearnedName.past
-    c.args.store left.0 c.close-closed.result.chronicle c.requires.named c.requires.past left.2
-    (rw left.1 at closed.since))
+    (closes-at D.time g.D.Outside.faults D.left_since g.N.OpeningName.opening g.N.LearnedName.past c.args.store
+    left.chronicle left.tally left.disk c.requires.named c.requires.past closed.stands closed.now closed.since
+    closed.tally).runs
 
 pub returns-in-Err-clause-back : goal.returns-in-Err-clause-back
 returns-in-Err-clause-back g c =

@@ -1,0 +1,3 @@
+pub mod Closings
+pub mod DiskLaws
+pub mod Disks
