@@ -13,8 +13,9 @@ ghost use Rattle.skk_top.specs.Disks.{moved_disk, StandsSince};
 ghost use Rattle.skk_top.specs.TypeCommand.{LeavesBegun, LeavesTyped};
 ghost use Rattle.skk_top.specs.WeaveCommand.{AreCutOf, LeavesPages, WeavesLines};
 
+use crate::host::Host;
 use crate::manner::Manner;
-use crate::type_command::{Begun, begin};
+use crate::type_command::{ScriptToType, begin};
 use crate::typed_tasks::type_by_callers;
 use crate::weaving::print_woven;
 use command_line::TypeOptions;
@@ -47,14 +48,12 @@ pub fn run_by_each<
     R: Threads + Wait + Copy + Send + Sync,
     G: Gate + Sync,
 >(
-    rt: R,
-    alloc: Global,
+    host: &Host<'_, R, G>,
     options: &TypeOptions,
     shelf: &mut H,
     disk: D,
     input: &mut I,
     out: &mut O,
-    gate: &G,
 ) -> Run<D>
     ensures leaves { LeavesTyped WeavesLines options.now result (moved_shelf H.file H.faults shelf.old shelf.new)
         (moved_source I.left I.faults input.old input.new) (moved_sink O.written O.faults out.old out.new)
@@ -67,8 +66,8 @@ pub fn run_by_each<
     ensures input_counted { I.faults input.old ≤ I.faults input.new }
     ensures out_counted { O.faults out.old ≤ O.faults out.new }
 {
-    match begin::<CallerEach, H, D, I>(alloc, options, shelf, disk, input) {
-        Ok(begun) => type_by_each(rt, alloc, begun, gate, out),
+    match begin::<CallerEach, H, D, I>(host.alloc, options, shelf, disk, input) {
+        Ok(begun) => type_by_each(host, begun, out),
         Err(run) => run,
     }
 }
@@ -80,7 +79,7 @@ fn type_by_each<
     O: Sink,
     R: Threads + Wait + Copy + Send + Sync,
     G: Gate + Sync,
->(rt: R, alloc: Global, begun: Begun<D>, gate: &G, out: &mut O) -> Run<D>
+>(host: &Host<'_, R, G>, begun: ScriptToType<D>, out: &mut O) -> Run<D>
     requires calm { Keeps D.time D.left_since begun.store.journal begun.store.state None }
     ensures leaves { LeavesBegun WeavesLines (opening_now D.time D.faults begun.store) begun.rules begun.script result
         (moved_sink O.written O.faults out.old out.new) (disk_now D.time D.faults D.left_since result.disk) }
@@ -93,17 +92,17 @@ fn type_by_each<
     callers_have_ended();
     pages_are_woven();
     typists_apart_type_alone();
-    let Begun {
+    let ScriptToType {
         rules,
         script,
         store,
     } = begun;
-    let Ok(cut) = cut_apart(alloc, script) else {
+    let Ok(cut) = cut_apart(host.alloc, script) else {
         return Run::without_calls(Err(RunFault::Memory), store.close());
     };
-    match type_by_callers(rt, alloc, &rules, cut.tasks, store, gate) {
+    match type_by_callers(host, &rules, cut.tasks, store) {
         Ok(left) => {
-            let ended = print_typed(alloc, cut.order.as_slice(), left.typed, out);
+            let ended = print_typed(host.alloc, cut.order.as_slice(), left.typed, out);
             Run {
                 ended: end_by(ended, &left.closed.tally),
                 chronicle: left.closed.chronicle,

@@ -15,6 +15,7 @@ mod check_command;
 mod checking;
 mod dictionary;
 mod dump_command;
+mod host;
 mod load_command;
 mod load_each;
 mod load_opening;

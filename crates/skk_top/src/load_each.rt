@@ -16,6 +16,7 @@ ghost use Rattle.run_endings.specs.Finishes.{EndsUnbegun};
 ghost use Rattle.skk_top.specs.LoadCommand.{load_lines, summed, LeavesLoaded, LoadsTasks};
 ghost use Rattle.run_endings.specs.Page.{LeavesPrinted};
 
+use crate::host::Host;
 use crate::load_command::{Load, draw_load};
 use crate::load_opening::open_load;
 use crate::summary::print_summary;
@@ -53,7 +54,7 @@ pub fn run_load_by_each<
     O: Sink,
     R: Threads + Wait + Copy + Send + Sync,
     G: Gate + Sync,
->(rt: R, alloc: Global, options: LoadOptions, disk: D, out: &mut O, gate: &G) -> Run<D>
+>(host: &Host<'_, R, G>, options: LoadOptions, disk: D, out: &mut O) -> Run<D>
     requires range { IsLoadInRange options }
     ensures leaves { LeavesLoaded (LoadsTasks options) result (moved_sink O.written O.faults out.old out.new)
         (moved_disk D.tells D.seen D.time D.faults D.left_since disk result.disk) }
@@ -62,8 +63,8 @@ pub fn run_load_by_each<
     ensures disk_counted { D.faults disk ≤ D.faults result.disk }
     ensures out_counted { O.faults out.old ≤ O.faults out.new }
 {
-    match open_load(alloc, disk) {
-        Ok(store) => load_by_each(rt, alloc, options, store, gate, out),
+    match open_load(host.alloc, disk) {
+        Ok(store) => load_by_each(host, options, store, out),
         Err(run) => run,
     }
 }
@@ -74,7 +75,7 @@ fn load_by_each<
     O: Sink,
     R: Threads + Wait + Copy + Send + Sync,
     G: Gate + Sync,
->(rt: R, alloc: Global, options: LoadOptions, store: Store<D>, gate: &G, out: &mut O) -> Run<D>
+>(host: &Host<'_, R, G>, options: LoadOptions, store: Store<D>, out: &mut O) -> Run<D>
     requires sessions { options.sessions ≤ 64 }
     requires lines { options.lines ≤ 20000 }
     requires calm { Keeps D.time D.left_since store.journal store.state None }
@@ -90,13 +91,13 @@ fn load_by_each<
     callers_have_ended();
     sessions_of_their_own_are_apart();
     typists_apart_play_alone();
-    let Ok(shared) = share_load(alloc, options) else {
+    let Ok(shared) = share_load(host.alloc, options) else {
         return Run::without_calls(Err(RunFault::Memory), store.close());
     };
     let Shared { rules, tasks } = shared;
-    match type_by_callers(rt, alloc, &rules, tasks, store, gate) {
+    match type_by_callers(host, &rules, tasks, store) {
         Ok(left) => {
-            let ended = sum_up_typed(alloc, &options, left.typed, &left.closed.tally, out);
+            let ended = sum_up_typed(host.alloc, &options, left.typed, &left.closed.tally, out);
             Run {
                 ended: end_by(ended, &left.closed.tally),
                 chronicle: left.closed.chronicle,

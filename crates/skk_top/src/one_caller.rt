@@ -9,7 +9,7 @@ ghost use Rattle.skk_top.specs.Disks.{moved_disk, StandsSince};
 ghost use Rattle.skk_top.specs.TypeCommand.{LeavesBegun, LeavesTyped, TypesLines};
 
 use crate::manner::Manner;
-use crate::type_command::{Begun, begin};
+use crate::type_command::{ScriptToType, begin};
 use crate::typing::type_script;
 use caller_work::{Work, with_caller};
 use command_line::TypeOptions;
@@ -55,7 +55,7 @@ pub fn run_by_one<H: Shelf, D: Disk, I: Source, O: Sink>(
 }
 
 // Types a script by one caller. A run of which a call was refused ends so where nothing else ended it before.
-fn type_by_one<D: Disk, O: Sink>(alloc: Global, begun: Begun<D>, out: &mut O) -> Run<D>
+fn type_by_one<D: Disk, O: Sink>(alloc: Global, begun: ScriptToType<D>, out: &mut O) -> Run<D>
     requires calm { Keeps D.time D.left_since begun.store.journal begun.store.state None }
     ensures leaves { LeavesBegun TypesLines (opening_now D.time D.faults begun.store) begun.rules begun.script result
         (moved_sink O.written O.faults out.old out.new) (disk_now D.time D.faults D.left_since result.disk) }
@@ -64,12 +64,12 @@ fn type_by_one<D: Disk, O: Sink>(alloc: Global, begun: Begun<D>, out: &mut O) ->
         (disk_now D.time D.faults D.left_since begun.store.journal.disk)
         (disk_now D.time D.faults D.left_since result.disk) }
 {
-    let Begun {
+    let ScriptToType {
         rules,
         script,
         store,
     } = begun;
-    let typing = Typing {
+    let typing = ScriptTyping {
         rules: &rules,
         script: &script,
     };
@@ -85,12 +85,12 @@ fn type_by_one<D: Disk, O: Sink>(alloc: Global, begun: Begun<D>, out: &mut O) ->
 
 // The typing of a script, which prints to the outside.
 #[derive(Drop)]
-struct Typing<'a> {
+struct ScriptTyping<'a> {
     rules: &'a Rules,
     script: &'a Script,
 }
 
-impl<'a, O: Sink> Work<O> for Typing<'a> {
+impl<'a, O: Sink> Work<O> for ScriptTyping<'a> {
     ghost use Rattle.std.specs.Prelude.{⊤};
     ghost use Rattle.skk_outside.specs.Moved.{moved_sink};
     ghost use Rattle.skk_top.specs.Typing.{TypesOut};

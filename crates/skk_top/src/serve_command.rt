@@ -4,24 +4,24 @@ ghost use Rattle.skk_disk.specs.Moments.{SameImages};
 ghost use Rattle.skk_outside.specs.Moved.{moved_shelf, moved_sink};
 ghost use Rattle.skk_server.specs.Services.{seen_listener};
 ghost use Rattle.skk_server.specs.Visits.{seen_link};
+ghost use Rattle.command_line.specs.Command.{limit_of};
 ghost use Rattle.command_line.specs.Ranges.{LiesFrom};
 ghost use Rattle.caller_work.specs.Disks.{disk_now, RunsOver};
 ghost use Rattle.skk_top.specs.Disks.{moved_disk, StandsSince, RefusesLearned};
 ghost use Rattle.skk_top.specs.ServeCommand.{LeavesServed, EndsUnasked, ServesOpened, ServesConnections};
 ghost use Rattle.skk_top.specs.ServeCommand.{moved_listener};
 
+use crate::host::Host;
 use crate::opening::{Table, end_unopened, open_learned, read_table};
-use crate::serving::{Outcome, Service, serve_port};
+use crate::serving::{Outcome, Service, Serving, serve_port};
 use command_line::ServeOptions;
 use desk_history::{DeskName, History, Pen, RollSeat};
 use learned_store::{LearnedName, Store};
-use romaji_rules::Rules;
 use run_endings::{Run, RunFault, end_wanting};
 use shared_desk::{Desk, Slips};
 use skk_disk::Disk;
 use skk_outside::{Gate, Listener, Shelf, Sink};
 use skk_text::Memory;
-use std::alloc::Global;
 use std::marker::Brand;
 use std::sync::Wait;
 use std::thread::Threads;
@@ -36,14 +36,12 @@ pub fn run_serve<
     R: Threads + Wait + Copy + Send + Sync,
     G: Gate + Sync,
 >(
-    rt: R,
-    alloc: Global,
+    host: &Host<'_, R, G>,
     options: &ServeOptions,
     shelf: &mut H,
     disk: D,
     out: &mut O,
     net: &mut P,
-    gate: &G,
 ) -> Run<D>
     requires port { LiesFrom 1 65535 options.now.port }
     requires connections { LiesFrom 1 1000000 options.now.connections }
@@ -59,22 +57,8 @@ pub fn run_serve<
     ensures out_counted { O.faults out.old ≤ O.faults out.new }
     ensures net_counted { P.faults net.old ≤ P.faults net.new }
 {
-    let service = Service {
-        port: options.port as u16,
-        connections: options.connections as u32,
-    };
-    match read_table(alloc, &options.rules, &options.dictionaries, shelf) {
-        Ok(table) => serve_learned(
-            rt,
-            alloc,
-            service,
-            options.limit(),
-            table,
-            disk,
-            out,
-            net,
-            gate,
-        ),
+    match read_table(host.alloc, &options.rules, &options.dictionaries, shelf) {
+        Ok(table) => serve_learned(host, options, table, disk, out, net),
         Err(fault) => end_unopened(fault, disk),
     }
 }
@@ -87,23 +71,22 @@ fn serve_learned<
     R: Threads + Wait + Copy + Send + Sync,
     G: Gate + Sync,
 >(
-    rt: R,
-    alloc: Global,
-    service: Service,
-    limit: u64,
+    host: &Host<'_, R, G>,
+    options: &ServeOptions,
     table: Table,
     disk: D,
     out: &mut O,
     net: &mut P,
-    gate: &G,
 ) -> Run<D>
-    requires connections { LiesFrom 1 1000000 service.connections }
+    requires port { LiesFrom 1 65535 options.now.port }
+    requires connections { LiesFrom 1 1000000 options.now.connections }
     ensures leaves { EndsUnasked
         (RefusesLearned (moved_disk D.tells D.seen D.time D.faults D.left_since disk result.disk)) result
         (moved_sink O.written O.faults out.old out.new)
         (moved_listener (seen_listener P.coming P.over P.out P.opened P.faults)
         (seen_link P.Link.left P.Link.written P.Link.faults P.Link.closed) net.old net.new)
-        ⊎ ServesOpened service limit table.system table.rules result
+        ⊎ ServesOpened (record { port = options.now.port; connections = options.now.connections })
+        (limit_of options.now.limit) table.system table.rules result
         (moved_sink O.written O.faults out.old out.new)
         (moved_listener (seen_listener P.coming P.over P.out P.opened P.faults)
         (seen_link P.Link.left P.Link.written P.Link.faults P.Link.closed) net.old net.new)
@@ -115,8 +98,15 @@ fn serve_learned<
     ensures net_counted { P.faults net.old ≤ P.faults net.new }
 {
     let Table { rules, system } = table;
-    match open_learned(alloc, disk, system, limit) {
-        Ok(store) => serve_store(rt, alloc, service, &rules, store, out, net, gate),
+    let serving = Serving {
+        service: Service {
+            port: options.port as u16,
+            connections: options.connections as u32,
+        },
+        rules: &rules,
+    };
+    match open_learned(host.alloc, disk, system, options.limit()) {
+        Ok(store) => serve_store(host, &serving, store, out, net),
         Err(run) => run,
     }
 }
@@ -128,23 +118,14 @@ fn serve_store<
     P: Listener<Link: Send + Drop>,
     R: Threads + Wait + Copy + Send + Sync,
     G: Gate + Sync,
->(
-    rt: R,
-    alloc: Global,
-    service: Service,
-    rules: &Rules,
-    store: Store<D>,
-    out: &mut O,
-    net: &mut P,
-    gate: &G,
-) -> Run<D>
-    requires connections { LiesFrom 1 1000000 service.connections }
+>(host: &Host<'_, R, G>, serving: &Serving<'_>, store: Store<D>, out: &mut O, net: &mut P) -> Run<D>
+    requires connections { LiesFrom 1 1000000 serving.now.service.connections }
     requires calm { Keeps D.time D.left_since store.journal store.state None }
     ensures leaves { EndsUnasked (λ fault. fault ≡ RunFault.Memory) result
         (moved_sink O.written O.faults out.old out.new)
         (moved_listener (seen_listener P.coming P.over P.out P.opened P.faults)
         (seen_link P.Link.left P.Link.written P.Link.faults P.Link.closed) net.old net.new)
-        ⊎ ServesConnections service (opening_now D.time D.faults store) rules.now result
+        ⊎ ServesConnections serving.now.service (opening_now D.time D.faults store) serving.now.rules.now result
         (moved_sink O.written O.faults out.old out.new)
         (moved_listener (seen_listener P.coming P.over P.out P.opened P.faults)
         (seen_link P.Link.left P.Link.written P.Link.faults P.Link.closed) net.old net.new)
@@ -155,10 +136,8 @@ fn serve_store<
     ensures out_counted { O.faults out.old ≤ O.faults out.new }
     ensures net_counted { P.faults net.old ≤ P.faults net.new }
 {
-    match History::new(alloc) {
-        Ok(made) => serve_over::<Brand, D, O, P, R, G>(
-            rt, alloc, service, rules, made, store, out, net, gate,
-        ),
+    match History::new(host.alloc) {
+        Ok(made) => serve_over::<Brand, D, O, P, R, G>(host, serving, made, store, out, net),
         Err(Memory) => Run::without_calls(Err(RunFault::Memory), store.close()),
     }
 }
@@ -174,17 +153,14 @@ fn serve_over<
     R: Threads + Wait + Copy + Send + Sync,
     G: Gate + Sync,
 >(
-    rt: R,
-    alloc: Global,
-    service: Service,
-    rules: &Rules,
+    host: &Host<'_, R, G>,
+    serving: &Serving<'_>,
     made: (History, Pen, RollSeat),
     store: Store<D>,
     out: &mut O,
     net: &mut P,
-    gate: &G,
 ) -> Run<D>
-    requires connections { LiesFrom 1 1000000 service.connections }
+    requires connections { LiesFrom 1 1000000 serving.now.service.connections }
     requires calm { Keeps D.time D.left_since store.journal store.state None }
     requires named { N.opening ≡ opening_now D.time D.faults store }
     requires past { SameImages N.past (D.left_since store.journal.disk) }
@@ -195,7 +171,7 @@ fn serve_over<
         (moved_sink O.written O.faults out.old out.new)
         (moved_listener (seen_listener P.coming P.over P.out P.opened P.faults)
         (seen_link P.Link.left P.Link.written P.Link.faults P.Link.closed) net.old net.new)
-        ⊎ ServesConnections service N.opening rules.now result
+        ⊎ ServesConnections serving.now.service N.opening serving.now.rules.now result
         (moved_sink O.written O.faults out.old out.new)
         (moved_listener (seen_listener P.coming P.over P.out P.opened P.faults)
         (seen_link P.Link.left P.Link.written P.Link.faults P.Link.closed) net.old net.new)
@@ -207,12 +183,10 @@ fn serve_over<
     ensures net_counted { P.faults net.old ≤ P.faults net.new }
 {
     let (history, pen, roll) = made;
-    match Desk::<D, N, R>::open(rt, alloc, store, history, pen, roll) {
+    match Desk::<D, N, R>::open(host.rt, host.alloc, store, history, pen, roll) {
         Ok((desk, mut roll)) => {
             let office = &desk;
-            let outcome = serve_port(
-                &rt, alloc, service, rules, &office, &mut roll, out, net, gate,
-            );
+            let outcome = serve_port(host, serving, &office, &mut roll, out, net);
             let wanted = outcome.wants_memory();
             let Outcome {
                 ended,

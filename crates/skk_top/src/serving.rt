@@ -7,6 +7,7 @@ ghost use Rattle.run_endings.specs.Page.{LeavesPrinted, Writes};
 ghost use Rattle.skk_top.specs.ServeCommand.{ServesByOffice, TellsEnd, moved_listener, ready_line, served_line};
 ghost use Rattle.skk_top.specs.ServeCommand.{wants_memory};
 
+use crate::host::Host;
 use romaji_rules::Rules;
 use run_endings::{RunFault, write_numbered, write_through};
 use skk_calls::Office;
@@ -23,6 +24,13 @@ pub struct Service {
     pub port: u16,
     /// How many connections.
     pub connections: u32,
+}
+
+/// What is to be served, and the rules by which its typists type.
+#[derive(Drop)]
+pub struct Serving<'a> {
+    pub service: Service,
+    pub rules: &'a Rules,
 }
 
 /// What the serving of a port came to.
@@ -77,19 +85,16 @@ pub fn serve_port<
     R: Threads + Wait + Sync,
     G: Gate + Sync,
 >(
-    rt: &R,
-    alloc: Global,
-    service: Service,
-    rules: &Rules,
+    host: &Host<'_, R, G>,
+    serving: &Serving<'_>,
     office: &W,
     roll: &mut W::Roll,
     out: &mut O,
     net: &mut P,
-    gate: &G,
 ) -> Outcome<W::Slip>
     requires owns { W.owns office.now roll.old }
-    requires few { W.drawn roll.old + service.connections ≤ 4294967295 }
-    ensures serves { ServesByOffice service rules.now (seen_caller W.Slip.number W.Slip.said)
+    requires few { W.drawn roll.old + serving.now.service.connections ≤ 4294967295 }
+    ensures serves { ServesByOffice serving.now.service serving.now.rules.now (seen_caller W.Slip.number W.Slip.said)
         (W.drawn roll.old) (W.drawn roll.new) result (moved_sink O.written O.faults out.old out.new)
         (moved_listener (seen_listener P.coming P.over P.out P.opened P.faults)
         (seen_link P.Link.left P.Link.written P.Link.faults P.Link.closed) net.old net.new) }
@@ -97,11 +102,11 @@ pub fn serve_port<
     ensures net_counted { P.faults net.old ≤ P.faults net.new }
     ensures owned { W.owns office.now roll.new }
 {
-    if let Err(Failed) = net.open(service.port) {
-        return Outcome::of_none(alloc, RunFault::Outside);
+    if let Err(Failed) = net.open(serving.service.port) {
+        return Outcome::of_none(host.alloc, RunFault::Outside);
     }
     if let Err(fault) = print_ready(out) {
-        return Outcome::of_none(alloc, fault);
+        return Outcome::of_none(host.alloc, fault);
     }
     let Served {
         count,
@@ -109,14 +114,14 @@ pub fn serve_port<
         ends,
         end,
     } = serve_all(
-        rt,
-        alloc,
+        &host.rt,
+        host.alloc,
         net,
-        service.connections,
-        rules,
+        serving.service.connections,
+        serving.rules,
         office,
         roll,
-        gate,
+        host.gate,
     );
     Outcome {
         ended: end_serving(end, count, out),

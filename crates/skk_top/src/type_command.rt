@@ -27,7 +27,7 @@ const SCRIPT_LIMIT: usize = 4_194_304;
 
 /// A script that was read and is to be typed.
 #[derive(Drop)]
-pub struct Begun<D: Disk> {
+pub struct ScriptToType<D: Disk> {
     /// The rules by which it is typed.
     pub rules: Rules,
     /// The script.
@@ -45,7 +45,7 @@ pub fn begin<M: Manner<D>, H: Shelf, D: Disk, I: Source>(
     shelf: &mut H,
     disk: D,
     input: &mut I,
-) -> Result<Begun<D>, Run<D>>
+) -> Result<ScriptToType<D>, Run<D>>
     ensures leaves { IfOk result (λ begun. (run : run_value _) (out : MovedSink)
         → LeavesBegun M.leaves (opening_now D.time D.faults begun.store) begun.rules begun.script run out
         (disk_now D.time D.faults D.left_since run.disk)
@@ -82,7 +82,7 @@ fn begin_learned<M: Manner<D>, D: Disk, I: Source>(
     table: Table,
     disk: D,
     input: &mut I,
-) -> Result<Begun<D>, Run<D>>
+) -> Result<ScriptToType<D>, Run<D>>
     ensures leaves { IfOk result (λ begun. (run : run_value _) (out : MovedSink)
         → LeavesBegun M.leaves (opening_now D.time D.faults begun.store) begun.rules begun.script run out
         (disk_now D.time D.faults D.left_since run.disk)
@@ -118,7 +118,7 @@ fn begin_script<M: Manner<D>, D: Disk, I: Source>(
     rules: Rules,
     store: Store<D>,
     input: &mut I,
-) -> Result<Begun<D>, Run<D>>
+) -> Result<ScriptToType<D>, Run<D>>
     ensures leaves { IfOk result (λ begun. (run : run_value _) (out : MovedSink)
         → LeavesBegun M.leaves (opening_now D.time D.faults store) rules begun.script run out
         (disk_now D.time D.faults D.left_since run.disk)
@@ -136,7 +136,7 @@ fn begin_script<M: Manner<D>, D: Disk, I: Source>(
     ensures input_counted { I.faults input.old ≤ I.faults input.new }
 {
     match read_script(alloc, input) {
-        Ok(script) => Ok(Begun {
+        Ok(script) => Ok(ScriptToType {
             rules,
             script,
             store,

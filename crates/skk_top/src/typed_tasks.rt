@@ -8,6 +8,7 @@ ghost use Rattle.script_typing.specs.MapLaws.{Ascend};
 ghost use Rattle.caller_work.specs.Disks.{disk_now, RunsOver};
 ghost use Rattle.skk_top.specs.TypedTasks.{TypesTasks};
 
+use crate::host::Host;
 use desk_history::{DeskName, History, Pen, RollSeat};
 use key_scripts::Line;
 use learned_store::{Closed, LearnedName, Store};
@@ -17,7 +18,6 @@ use shared_desk::{Desk, Slips};
 use skk_disk::Disk;
 use skk_outside::Gate;
 use skk_text::{Memory, Sequence};
-use std::alloc::Global;
 use std::collections::BTreeMap;
 use std::marker::Brand;
 use std::sync::Wait;
@@ -39,12 +39,10 @@ pub fn type_by_callers<
     R: Threads + Wait + Copy + Send + Sync,
     G: Gate + Sync,
 >(
-    rt: R,
-    alloc: Global,
+    host: &Host<'_, R, G>,
     rules: &Rules,
     tasks: BTreeMap<u8, Sequence<Line>>,
     store: Store<D>,
-    gate: &G,
 ) -> Result<TypedTasks<D>, D>
     requires calm { Keeps D.time D.left_since store.journal store.state None }
     requires ascend { Ascend tasks.entries }
@@ -57,8 +55,8 @@ pub fn type_by_callers<
         (disk_now D.time D.faults D.left_since left.closed.disk)) }
     ensures back { IfErr result (λ disk. disk ≡ store.journal.disk) }
 {
-    match History::new(alloc) {
-        Ok(made) => type_over::<Brand, D, R, G>(rt, alloc, rules, tasks, made, store, gate),
+    match History::new(host.alloc) {
+        Ok(made) => type_over::<Brand, D, R, G>(host, rules, tasks, made, store),
         Err(Memory) => Err(store.close()),
     }
 }
@@ -71,13 +69,11 @@ fn type_over<
     R: Threads + Wait + Copy + Send + Sync,
     G: Gate + Sync,
 >(
-    rt: R,
-    alloc: Global,
+    host: &Host<'_, R, G>,
     rules: &Rules,
     tasks: BTreeMap<u8, Sequence<Line>>,
     made: (History, Pen, RollSeat),
     store: Store<D>,
-    gate: &G,
 ) -> Result<TypedTasks<D>, D>
     requires calm { Keeps D.time D.left_since store.journal store.state None }
     requires named { N.opening ≡ opening_now D.time D.faults store }
@@ -96,10 +92,12 @@ fn type_over<
     ensures back { IfErr result (λ disk. disk ≡ store.journal.disk) }
 {
     let (history, pen, roll) = made;
-    match Desk::<D, N, R>::open(rt, alloc, store, history, pen, roll) {
+    match Desk::<D, N, R>::open(host.rt, host.alloc, store, history, pen, roll) {
         Ok((desk, mut roll)) => {
             let office = &desk;
-            let (typed, slips) = type_tasks(&rt, alloc, rules, tasks, &office, &mut roll, gate);
+            let (typed, slips) = type_tasks(
+                &host.rt, host.alloc, rules, tasks, &office, &mut roll, host.gate,
+            );
             let closed = desk.close(roll, Slips::of(slips));
             Ok(TypedTasks { typed, closed })
         }

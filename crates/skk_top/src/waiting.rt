@@ -17,6 +17,7 @@ ghost use Rattle.skk_top.specs.Failures.{HasFailed};
 ghost use Rattle.skk_top.specs.ServeCommand.{moved_listener};
 
 use crate::caller_each::run_by_each;
+use crate::host::Host;
 use crate::load_each::run_load_by_each;
 use crate::serve_command::run_serve;
 use command_line::WaitingCommand;
@@ -92,7 +93,8 @@ pub fn run<
     ensures stands { StandsSince result.chronicle
         (moved_disk D.tells D.seen D.time D.faults D.left_since disk result.disk) }
 {
-    let run = run_command(rt, alloc, command, shelf, disk, input, out, net, gate);
+    let host = Host { rt, alloc, gate };
+    let run = run_command(&host, command, shelf, disk, input, out, net);
     end_run(run, err)
 }
 
@@ -107,15 +109,13 @@ fn run_command<
     G: Gate + Sync,
     R: Threads + Wait + Copy + Send + Sync,
 >(
-    rt: R,
-    alloc: Global,
+    host: &Host<'_, R, G>,
     command: &WaitingCommand,
     shelf: &mut H,
     disk: D,
     input: &mut I,
     out: &mut O,
     net: &mut N,
-    gate: &G,
 ) -> Run<D>
     requires { IsWaitingInRange command.now }
     ensures leaves { LeavesWaiting command.now result (moved_shelf H.file H.faults shelf.old shelf.new)
@@ -134,11 +134,9 @@ fn run_command<
 {
     match command {
         WaitingCommand::TypeScript(options) => {
-            run_by_each(rt, alloc, options, shelf, disk, input, out, gate)
+            run_by_each(host, options, shelf, disk, input, out)
         }
-        WaitingCommand::Serve(options) => {
-            run_serve(rt, alloc, options, shelf, disk, out, net, gate)
-        }
-        WaitingCommand::Load(options) => { run_load_by_each(rt, alloc, *options, disk, out, gate) }
+        WaitingCommand::Serve(options) => { run_serve(host, options, shelf, disk, out, net) }
+        WaitingCommand::Load(options) => { run_load_by_each(host, *options, disk, out) }
     }
 }

@@ -1,9 +1,9 @@
-use Rattle.std.proofs.Common.{◌⊎◌, ℕ, subst, sym, refl, inl, inr}
+use Rattle.std.proofs.Common.{subst, sym, refl, inl, inr}
 use Rattle.skk_outside.specs.Moved.{moved_shelf, moved_sink}
 use Rattle.skk_server.specs.Services.{seen_listener}
 use Rattle.skk_server.specs.Visits.{seen_link}
-use Rattle.skk_top.specs.Disks.{moved_disk, RefusesLearned}
-use Rattle.skk_top.specs.ServeCommand.{EndsUnasked, LeavesServed, ServesOpened, moved_listener}
+use Rattle.skk_top.specs.Disks.{moved_disk}
+use Rattle.skk_top.specs.ServeCommand.{LeavesServed, moved_listener}
 use Rattle.run_endings.specs.declared.finish.Run.{Run}
 use Rattle.skk_top.proofs.Runs.{Keeps-self}
 use Rattle.skk_top.proofs.serve_command.run_serve.Goals as goal
@@ -26,10 +26,7 @@ returns-in-Ok-clause-leaves g c =
       books = table.system;
       are_rules = c.in-Ok.ensures.rules;
       are_rows = c.in-Ok.ensures.rows;
-      served = subst (λ (n : ℕ). EndsUnasked (RefusesLearned disk) run out net
-          ⊎ ServesOpened (record { port = c.args.options.now.port; connections = c.args.options.now.connections }) n
-          table.system table.rules run out net disk) c.limit.ensures
-          c.serve_learned.ensures.leaves;
+      served = c.serve_learned.ensures.leaves;
     })
 
 -- one of them is refused

@@ -1,13 +1,18 @@
-use Rattle.std.proofs.Common.{inr}
+use Rattle.std.proofs.Common.{ℕ, inr, subst}
 use Rattle.learned_store.specs.Stores.{opening_now}
+use Rattle.skk_top.specs.Disks.{moved_disk, IsOpening}
 use Rattle.skk_top.proofs.serve_command.serve_learned.Goals as goal
 
 -- the learned file was opened
 pub returns-in-Ok-clause-leaves : goal.returns-in-Ok-clause-leaves
 returns-in-Ok-clause-leaves g c =
+    let D = g.D.Disk in
+    let opening = opening_now D.time g.D.Outside.faults c.in-Ok.store in
+    let run = c.serve_store.result in
     inr (record {
-      opening = opening_now g.D.Disk.time g.D.Outside.faults c.in-Ok.store;
-      opened = c.in-Ok.ensures.opened c.serve_store.result;
+      opening = opening;
+      opened = subst (λ (n : ℕ). IsOpening (moved_disk D.tells D.seen D.time g.D.Outside.faults D.left_since c.args.disk
+          run.disk) c.args.table.system n opening) c.limit.ensures (c.in-Ok.ensures.opened run);
       served = c.serve_store.ensures.leaves;
     })
 

@@ -18,8 +18,8 @@ use Rattle.skk_top.proofs.serve_command.serve_over.Goals as goal
 pub returns-in-Ok-clause-leaves : goal.returns-in-Ok-clause-leaves
 returns-in-Ok-clause-leaves g c =
     let D = g.D.Disk in
-    let service = c.args.service in
-    let table = c.args.rules.now in
+    let service = c.args.serving.now.service in
+    let table = c.args.serving.now.rules.now in
     let opening = g.N.OpeningName.opening in
     let chronicle = c.close-closed.result.chronicle in
     let history = history_of chronicle in

@@ -11,10 +11,10 @@ pub returns-in-Err-clause-serves : goal.returns-in-Err-clause-serves
 returns-in-Err-clause-serves g c =
     let none = c.of_none.ensures in
     let opens = c.open.ensures in
-    office-unopened c.args.rules.now
+    office-unopened c.args.serving.now.rules.now
     (seen_listener g.P.Listener.coming g.P.Listener.over g.P.Listener.out g.P.Listener.opened g.P.Outside.faults)
     (seen_link g.P.Link.Outside.left g.P.Link.Outside.written g.P.Link.Outside.faults g.P.Link.Link.closed)
-    (seen_caller g.W.Slip.Kept.number g.W.Slip.Kept.said) c.args.service
+    (seen_caller g.W.Slip.Kept.number g.W.Slip.Kept.said) c.args.serving.now.service
     (g.W.Office.drawn c.args.roll.now) c.args.net.now c.open.new.self c.of_none.result
     (moved_sink g.O.Outside.written g.O.Outside.faults c.args.out.now c.args.out.now) none.ended none.slips none.ends
     opens.coming opens.over opens.out c.in-Err.ensures.stays c.in-Err.ensures.failed (Keeps-self _)
@@ -24,10 +24,10 @@ pub returns-in-Err-print_ready-clause-serves : goal.returns-in-Err-print_ready-c
 returns-in-Err-print_ready-clause-serves g c =
     let none = c.of_none-in-Err-print_ready.ensures in
     let opens = c.open.ensures in
-    office-untold c.args.rules.now
+    office-untold c.args.serving.now.rules.now
     (seen_listener g.P.Listener.coming g.P.Listener.over g.P.Listener.out g.P.Listener.opened g.P.Outside.faults)
     (seen_link g.P.Link.Outside.left g.P.Link.Outside.written g.P.Link.Outside.faults g.P.Link.Link.closed)
-    (seen_caller g.W.Slip.Kept.number g.W.Slip.Kept.said) c.args.service
+    (seen_caller g.W.Slip.Kept.number g.W.Slip.Kept.said) c.args.serving.now.service
     (g.W.Office.drawn c.args.roll.now) c.args.net.now c.open.new.self c.of_none-in-Err-print_ready.result
     c.in-Err-print_ready.fault
     (moved_sink g.O.Outside.written g.O.Outside.faults c.args.out.now c.print_ready.new.out) none.ended none.slips
@@ -40,10 +40,10 @@ returns-clause-serves g c =
     let opens = c.open.ensures in
     let written = g.O.Outside.written in
     let faults = g.O.Outside.faults in
-    office-served c.args.rules.now
+    office-served c.args.serving.now.rules.now
     (seen_listener g.P.Listener.coming g.P.Listener.over g.P.Listener.out g.P.Listener.opened g.P.Outside.faults)
     (seen_link g.P.Link.Outside.left g.P.Link.Outside.written g.P.Link.Outside.faults g.P.Link.Link.closed)
-    (seen_caller g.W.Slip.Kept.number g.W.Slip.Kept.said) c.args.service
+    (seen_caller g.W.Slip.Kept.number g.W.Slip.Kept.said) c.args.serving.now.service
     (g.W.Office.drawn c.args.roll.now) (g.W.Office.drawn c.serve_all-count.new.roll) c.args.net.now c.open.new.self
     c.serve_all-count.new.net c.serve_all-count.result
     (record {
