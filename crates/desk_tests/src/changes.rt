@@ -5,7 +5,7 @@ use std::process::Abort;
 
 // A word that was learnt, by its number, and the stamp that its row got.
 #[derive(Clone, Copy)]
-struct Change {
+struct MadeChange {
     word: u64,
     stamp: u64,
 }
@@ -16,7 +16,7 @@ struct Change {
 pub(crate) struct Changes {
     pub(crate) book: u16,
     letter: &'static str,
-    made: Vec<Change>,
+    made: Vec<MadeChange>,
     refused: u64,
 }
 
@@ -70,7 +70,10 @@ impl Changes {
     // Notes what the learning of a word was answered.
     fn note<R: Abort>(&mut self, rt: &R, word: u64, stamp: Option<u64>) {
         match stamp {
-            Some(stamp) => self.made.push(Change { word, stamp }).expect(rt, "memory"),
+            Some(stamp) => self
+                .made
+                .push(MadeChange { word, stamp })
+                .expect(rt, "memory"),
             None => self.refused = self.refused.saturating_add(1),
         }
     }

@@ -1,5 +1,5 @@
 use crate::left::{Left, reopened};
-use crate::sharing::{Shared, share};
+use crate::sharing::{SharedDesk, share};
 use crate::shift::Shift;
 use crate::worker::Notes;
 use expectations::same;
@@ -19,7 +19,7 @@ fn shared_after<R: Threads + Wait + Abort + Copy + Drop + Send + Sync>(
     alloc: Global,
     fails: &[u64],
     shift: Shift,
-) -> Shared<MemDisk> {
+) -> SharedDesk<MemDisk> {
     let disk = MemDisk::new(alloc, fails.to_vec(alloc).expect(&rt, "memory"));
     share(rt, alloc, disk, shift)
 }

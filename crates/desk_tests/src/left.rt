@@ -1,5 +1,5 @@
 use crate::calling::{learning, stamp_of};
-use crate::sharing::{Shared, opened};
+use crate::sharing::{SharedDesk, opened};
 use crate::worker::Notes;
 use expectations::same;
 use learned_store::{Closed, Store};
@@ -24,11 +24,11 @@ pub(crate) struct Left<D> {
 pub(crate) fn reopened<R: Abort>(
     rt: &R,
     alloc: Global,
-    shared: Shared<MemDisk>,
+    shared: SharedDesk<MemDisk>,
     tally: Tally,
     calls: usize,
 ) -> Left<MemDisk> {
-    let Shared { closed, one, two } = shared;
+    let SharedDesk { closed, one, two } = shared;
     same(closed.tally, tally).expect(rt, "as wanted");
     same(closed.disk.made().len(), calls).expect(rt, "as wanted");
     let store = opened_again(rt, alloc, closed, tally.rows());

@@ -25,7 +25,7 @@ const FAR_LIMIT: u64 = 1 << 30;
 
 // What was left of a desk that two workers shared.
 #[derive(Drop)]
-pub(crate) struct Shared<D> {
+pub(crate) struct SharedDesk<D> {
     pub(crate) closed: Closed<D>,
     pub(crate) one: Notes,
     pub(crate) two: Notes,
@@ -60,7 +60,7 @@ pub(crate) fn share<D: Disk + Drop + Send, R: Threads + Wait + Abort + Copy + Dr
     alloc: Global,
     disk: D,
     shift: Shift,
-) -> Shared<D> {
+) -> SharedDesk<D> {
     let store = opened(&rt, alloc, disk);
     let made = History::new(alloc).expect(&rt, "memory");
     share_named::<Brand, D, R>(rt, alloc, store, made, shift)
@@ -71,7 +71,13 @@ fn share_named<
     N: DeskName + LearnedName + Send + Sync,
     D: Disk + Drop + Send,
     R: Threads + Wait + Abort + Copy + Drop + Send + Sync,
->(rt: R, alloc: Global, store: Store<D>, made: (History, Pen, RollSeat), shift: Shift) -> Shared<D>
+>(
+    rt: R,
+    alloc: Global,
+    store: Store<D>,
+    made: (History, Pen, RollSeat),
+    shift: Shift,
+) -> SharedDesk<D>
     requires calm { Keeps D.time D.left_since store.journal store.state None }
     requires named { N.opening ≡ opening_now D.time D.faults store }
     requires past { SameImages N.past (D.left_since store.journal.disk) }
@@ -88,7 +94,7 @@ fn share_named<
     let mut slips = Slips::new(alloc);
     slips.push(worked.0).expect(&rt, "memory");
     slips.push(worked.1).expect(&rt, "memory");
-    Shared {
+    SharedDesk {
         closed: desk.close(roll, slips),
         one: worked.2,
         two: worked.3,

@@ -1,6 +1,6 @@
 ghost use Rattle.std.specs.Prelude.{◌<◌, ◌+◌};
 
-use crate::worker::{Notes, Worker};
+use crate::worker::{DeskWorker, Notes};
 use skk_calls::{Caller, Office};
 use std::alloc::Global;
 use std::process::Abort;
@@ -28,12 +28,12 @@ pub(crate) fn work<W: Office<Pass: Send + Drop>, R: Threads + Abort + Sync>(
 {
     let one = office.admit(alloc, roll).expect(rt, "memory");
     let two = office.admit(alloc, roll).expect(rt, "memory");
-    let one = Worker::new(alloc, one, 1, "甲", "子");
-    let two = Worker::new(alloc, two, 2, "乙", "丑");
+    let one = DeskWorker::new(alloc, one, 1, "甲", "子");
+    let two = DeskWorker::new(alloc, two, 2, "乙", "丑");
     let (one, two) = after_shift(rt, alloc, shift, one, two);
-    let Worker { caller, notes } = one;
+    let DeskWorker { caller, notes } = one;
     let first = office.rest(caller);
-    let Worker {
+    let DeskWorker {
         caller,
         notes: others,
     } = two;
@@ -45,9 +45,9 @@ fn after_shift<R: Threads + Abort + Sync, C: Caller + Send + Drop>(
     rt: &R,
     alloc: Global,
     shift: Shift,
-    one: Worker<C>,
-    two: Worker<C>,
-) -> (Worker<C>, Worker<C>) {
+    one: DeskWorker<C>,
+    two: DeskWorker<C>,
+) -> (DeskWorker<C>, DeskWorker<C>) {
     match shift {
         Shift::InTurn => in_turn(rt, alloc, one, two),
         Shift::AtOnce { cycles, words } => at_once(rt, alloc, cycles, words, one, two),
@@ -57,9 +57,9 @@ fn after_shift<R: Threads + Abort + Sync, C: Caller + Send + Drop>(
 fn in_turn<R: Abort, C: Caller>(
     rt: &R,
     alloc: Global,
-    mut one: Worker<C>,
-    mut two: Worker<C>,
-) -> (Worker<C>, Worker<C>) {
+    mut one: DeskWorker<C>,
+    mut two: DeskWorker<C>,
+) -> (DeskWorker<C>, DeskWorker<C>) {
     one.learn_text(rt, alloc, "感じ");
     two.find(rt, alloc);
     (one, two)
@@ -70,9 +70,9 @@ fn at_once<R: Threads + Abort + Sync, C: Caller + Send + Drop>(
     alloc: Global,
     cycles: u64,
     words: u64,
-    one: Worker<C>,
-    two: Worker<C>,
-) -> (Worker<C>, Worker<C>) {
+    one: DeskWorker<C>,
+    two: DeskWorker<C>,
+) -> (DeskWorker<C>, DeskWorker<C>) {
     join(
         rt,
         move || one.after_cycles(rt, alloc, cycles, words),

@@ -6,7 +6,7 @@ use std::process::Abort;
 
 // A caller that learns in a book of its own, which is its typist's, and in the shared one.
 #[derive(Drop)]
-pub(crate) struct Worker<C> {
+pub(crate) struct DeskWorker<C> {
     pub(crate) caller: C,
     pub(crate) notes: Notes,
 }
@@ -20,7 +20,7 @@ pub(crate) struct Notes {
     pub(crate) found: String,
 }
 
-impl<C: Caller> Worker<C> {
+impl<C: Caller> DeskWorker<C> {
     // A worker that has done nothing, with the number of its own book and the letters of the words that it is to learn
     // there and in the shared one.
     pub(crate) fn new(
@@ -29,9 +29,9 @@ impl<C: Caller> Worker<C> {
         book: u16,
         letter: &'static str,
         shared: &'static str,
-    ) -> Worker<C> {
+    ) -> DeskWorker<C> {
         let number = caller.number();
-        Worker {
+        DeskWorker {
             caller,
             notes: Notes {
                 number,
@@ -49,7 +49,7 @@ impl<C: Caller> Worker<C> {
         alloc: Global,
         cycles: u64,
         words: u64,
-    ) -> Worker<C> {
+    ) -> DeskWorker<C> {
         for _ in 0..cycles {
             self.cycle(rt, alloc, words);
         }
@@ -65,11 +65,11 @@ impl<C: Caller> Worker<C> {
 
     // Learns a word in its own book and one in the shared book, and finds them behind each.
     fn round<R: Abort>(&mut self, rt: &R, alloc: Global, word: u64) {
-        let Worker { caller, notes } = self;
+        let DeskWorker { caller, notes } = self;
         notes.own.learn(rt, alloc, caller, word);
         self.find(rt, alloc);
         self.notes.expect_found(rt, alloc);
-        let Worker { caller, notes } = self;
+        let DeskWorker { caller, notes } = self;
         notes.shared.learn(rt, alloc, caller, word);
         self.find(rt, alloc);
         self.notes.expect_found(rt, alloc);
@@ -77,7 +77,7 @@ impl<C: Caller> Worker<C> {
 
     // Learns a text in the shared book.
     pub(crate) fn learn_text<R: Abort>(&mut self, rt: &R, alloc: Global, text: &str) {
-        let Worker { caller, notes } = self;
+        let DeskWorker { caller, notes } = self;
         notes.shared.learn_text(rt, alloc, caller, 0, text);
     }
 

@@ -140,9 +140,9 @@ fn tallies_count_answers_and_show_their_fields(rt: HostRuntime) {
 
 // A dictionary that was just opened, over nothing.
 #[derive(Drop)]
-struct Opening;
+struct AnyOpening;
 
-impl Shows<Noted> for Opening {
+impl Shows<Noted> for AnyOpening {
     ghost use Rattle.std.specs.Prelude.{[]};
     ghost use Rattle.skk_calls.specs.declared.chronicle.Noted.TheVariants.{Opened};
 
@@ -152,7 +152,7 @@ impl Shows<Noted> for Opening {
 #[test]
 fn chronicles_begin_with_an_opening(rt: HostRuntime) {
     let _nothing = Chronicle::none();
-    let _opened = Chronicle::of(Trace::new(rt.alloc(), &Opening).expect(&rt, "memory"));
+    let _opened = Chronicle::of(Trace::new(rt.alloc(), &AnyOpening).expect(&rt, "memory"));
 }
 
 // A caller whose calls are all refused as out of memory.

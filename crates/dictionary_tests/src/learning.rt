@@ -132,7 +132,7 @@ fn books_keep_what_is_learnt(rt: HostRuntime) {
 
 // Runs a script over books of its own: on each line stands a command, a `=`, and what it tells.
 pub fn run(rt: &impl Abort, alloc: Global, script: &str) {
-    let mut desk = Desk::new(rt, alloc);
+    let mut desk = PlainDesk::new(rt, alloc);
     for line in script.trim().lines() {
         desk.run_line(rt, alloc, line);
     }
@@ -140,7 +140,7 @@ pub fn run(rt: &impl Abort, alloc: Global, script: &str) {
 
 // A command, and what it is given: empty or 0 where it is given less.
 #[derive(Drop)]
-struct Line<'a> {
+struct LearnLine<'a> {
     command: &'a str,
     number: u16,
     reading: &'a str,
@@ -149,9 +149,9 @@ struct Line<'a> {
 }
 
 // The parts of a line.
-fn parts(line: &str) -> Line<'_> {
+fn parts(line: &str) -> LearnLine<'_> {
     let mut words = line.split_whitespace();
-    Line {
+    LearnLine {
         command: words.next().unwrap_or(""),
         number: words.next().unwrap_or("").parse().unwrap_or(0),
         reading: words.next().unwrap_or(""),
@@ -162,17 +162,17 @@ fn parts(line: &str) -> Line<'_> {
 
 // An index, one that is rebuilt from it, the system files, and what was learnt and not taken back.
 #[derive(Drop)]
-struct Desk {
+struct PlainDesk {
     index: Index,
     rebuilt: Index,
     system: System,
     learnings: Vec<Learned>,
 }
 
-impl Desk {
-    fn new(rt: &impl Abort, alloc: Global) -> Desk {
+impl PlainDesk {
+    fn new(rt: &impl Abort, alloc: Global) -> PlainDesk {
         let system = System::of_books(alloc, Books::new(alloc)).expect(rt, "memory");
-        Desk {
+        PlainDesk {
             index: Index::new(alloc),
             rebuilt: Index::new(alloc),
             system,
@@ -187,7 +187,7 @@ impl Desk {
     }
 
     // Runs a command, and gives what it tells.
-    fn run(&mut self, rt: &impl Abort, alloc: Global, line: &Line) -> String {
+    fn run(&mut self, rt: &impl Abort, alloc: Global, line: &LearnLine) -> String {
         match line.command {
             "learn" | "purge" | "find" | "complete" => self.ask(
                 rt,
@@ -204,7 +204,7 @@ impl Desk {
     }
 
     // Runs a command that tells nothing.
-    fn change(&mut self, rt: &impl Abort, alloc: Global, line: &Line) {
+    fn change(&mut self, rt: &impl Abort, alloc: Global, line: &LearnLine) {
         match line.command {
             "forge" => self.forge(rt, alloc, line),
             "file" => self.file(rt, alloc, line),
@@ -250,7 +250,7 @@ impl Desk {
     }
 
     // Keeps as learnt what was never learnt.
-    fn forge(&mut self, rt: &impl Abort, alloc: Global, line: &Line) {
+    fn forge(&mut self, rt: &impl Abort, alloc: Global, line: &LearnLine) {
         let stamp = line.word.parse().expect(rt, "a number");
         let learned = Learned::new(line.number, key(rt, alloc, line.reading), stamp, None);
         self.learnings.push(learned).expect(rt, "memory");
@@ -265,7 +265,7 @@ impl Desk {
     }
 
     // Makes a book the one system file, or this and another the two.
-    fn file(&mut self, rt: &impl Abort, alloc: Global, line: &Line) {
+    fn file(&mut self, rt: &impl Abort, alloc: Global, line: &LearnLine) {
         let mut books = Books::new(alloc);
         push_book(rt, alloc, &mut books, &self.index, line.number);
         if let Ok(other) = line.reading.parse() {
@@ -275,14 +275,14 @@ impl Desk {
     }
 
     // Puts a row with a block alone into a book, with its count.
-    fn block(&mut self, rt: &impl Abort, alloc: Global, line: &Line) {
+    fn block(&mut self, rt: &impl Abort, alloc: Global, line: &LearnLine) {
         let count = self.index.count(line.number);
         let row = block_row(rt, alloc, line, count);
         put_into(rt, &mut self.index, alloc, (line.number, count), row)
     }
 
     // Copies a row into what is rebuilt: into its book, or into another.
-    fn put(&mut self, rt: &impl Abort, alloc: Global, line: &Line) {
+    fn put(&mut self, rt: &impl Abort, alloc: Global, line: &LearnLine) {
         let key = key(rt, alloc, line.reading);
         let row = self.index.row(line.number, &key).expect(rt, "no row");
         let row = row.copy(alloc).expect(rt, "memory");
@@ -291,7 +291,7 @@ impl Desk {
         put_into(rt, &mut self.rebuilt, alloc, (book, count), row)
     }
 
-    fn drop_row(&mut self, rt: &impl Abort, alloc: Global, line: &Line) {
+    fn drop_row(&mut self, rt: &impl Abort, alloc: Global, line: &LearnLine) {
         let key = key(rt, alloc, line.reading);
         let count = line.word.parse().expect(rt, "a number");
         assert!(rt; self.index.count(line.number) <= count);
@@ -300,7 +300,7 @@ impl Desk {
             .expect(rt, "memory");
     }
 
-    fn set_count(&mut self, rt: &impl Abort, alloc: Global, line: &Line) {
+    fn set_count(&mut self, rt: &impl Abort, alloc: Global, line: &LearnLine) {
         let count = line.reading.parse().expect(rt, "a number");
         assert!(rt; self.index.count(line.number) <= count);
         self.index
@@ -309,7 +309,7 @@ impl Desk {
     }
 
     // Tells of a row, the readings of a book, a count, or how many rows there are.
-    fn tell(&self, rt: &impl Abort, alloc: Global, line: &Line) -> String {
+    fn tell(&self, rt: &impl Abort, alloc: Global, line: &LearnLine) -> String {
         let mut told = String::new(alloc);
         match line.command {
             "row" => self.add_row(rt, &mut told, &key(rt, alloc, line.reading), line.number),
@@ -339,7 +339,7 @@ fn push_book(rt: &impl Abort, alloc: Global, books: &mut Books, index: &Index, n
 }
 
 // The call of a line.
-fn call_of(rt: &impl Abort, alloc: Global, line: &Line) -> Call
+fn call_of(rt: &impl Abort, alloc: Global, line: &LearnLine) -> Call
     ensures { is_fit result ≡ true }
 {
     match line.command {
@@ -350,7 +350,7 @@ fn call_of(rt: &impl Abort, alloc: Global, line: &Line) -> Call
     }
 }
 
-fn learning(rt: &impl Abort, alloc: Global, line: &Line) -> Call
+fn learning(rt: &impl Abort, alloc: Global, line: &LearnLine) -> Call
     ensures { is_fit result ≡ true }
 {
     Call::Learn {
@@ -361,7 +361,7 @@ fn learning(rt: &impl Abort, alloc: Global, line: &Line) -> Call
     }
 }
 
-fn purging(rt: &impl Abort, alloc: Global, line: &Line) -> Call
+fn purging(rt: &impl Abort, alloc: Global, line: &LearnLine) -> Call
     ensures { is_fit result ≡ true }
 {
     Call::Purge {
@@ -371,7 +371,7 @@ fn purging(rt: &impl Abort, alloc: Global, line: &Line) -> Call
     }
 }
 
-fn finding(rt: &impl Abort, alloc: Global, line: &Line) -> Call
+fn finding(rt: &impl Abort, alloc: Global, line: &LearnLine) -> Call
     ensures { is_fit result ≡ true }
 {
     Call::Lookup {
@@ -381,7 +381,7 @@ fn finding(rt: &impl Abort, alloc: Global, line: &Line) -> Call
     }
 }
 
-fn completing(rt: &impl Abort, alloc: Global, line: &Line) -> Call
+fn completing(rt: &impl Abort, alloc: Global, line: &LearnLine) -> Call
     ensures { is_fit result ≡ true }
 {
     Call::Complete {
@@ -489,7 +489,7 @@ fn add_blocks(rt: &impl Abort, told: &mut String, blocks: &Blocks) {
 }
 
 // The block of an okurigana, of one word.
-fn one_block(rt: &impl Abort, alloc: Global, line: &Line) -> Block {
+fn one_block(rt: &impl Abort, alloc: Global, line: &LearnLine) -> Block {
     let okuri = okuri(rt, alloc, line.okuri).expect(rt, "no okurigana");
     let mut words = Texts::new(alloc);
     words.push(word(rt, alloc, line.word)).expect(rt, "memory");
@@ -497,7 +497,7 @@ fn one_block(rt: &impl Abort, alloc: Global, line: &Line) -> Block {
 }
 
 // A row with a block alone.
-fn block_row(rt: &impl Abort, alloc: Global, line: &Line, stamp: u64) -> Row {
+fn block_row(rt: &impl Abort, alloc: Global, line: &LearnLine, stamp: u64) -> Row {
     let key = key(rt, alloc, line.reading);
     assert!(rt; key.part() == Part::Ari);
     let _reading = key.reading();

@@ -5,7 +5,7 @@ use std::alloc::Global;
 use std::process::Abort;
 
 // A disk, of which contracts see how many blocks it has.
-trait Disk {
+trait ToldDisk {
     ghost use Rattle.std.specs.Prelude.{ℕ};
 
     ghost blocks: { Self → ℕ };
@@ -16,37 +16,37 @@ struct SmallDisk {
     blocks: u64,
 }
 
-impl Disk for SmallDisk {
+impl ToldDisk for SmallDisk {
     ghost blocks = { λ disk. disk.blocks };
 }
 
 // What a disk answered, as contracts see it. No value of it is made.
-struct Event {
+struct AnswerEvent {
     blocks: u64,
     full: bool,
 }
 
 // A disk and its answer.
 #[derive(Drop)]
-struct Answered<'a, D> {
+struct AnsweredDisk<'a, D> {
     disk: &'a D,
     full: bool,
 }
 
-impl<D: Disk> Shows<Event> for Answered<'_, D> {
+impl<D: ToldDisk> Shows<AnswerEvent> for AnsweredDisk<'_, D> {
     ghost shows = { λ answered. record { blocks = D.blocks answered.disk.now; full = answered.full } };
 }
 
 // Three answers of a disk, in order.
-fn three_answers<D: Disk>(rt: &impl Abort, alloc: Global, disk: &D) -> Trace<Event>
+fn three_answers<D: ToldDisk>(rt: &impl Abort, alloc: Global, disk: &D) -> Trace<AnswerEvent>
     ensures { result ≡ record {
       blocks = D.blocks disk.now;
       full = false;
     } ∷ record { blocks = D.blocks disk.now; full = true } ∷ record { blocks = D.blocks disk.now; full = false } ∷ [] }
 {
-    let mut trace = Trace::new(alloc, &Answered { disk, full: false }).expect(rt, "memory");
-    trace.note(&Answered { disk, full: true });
-    trace.note(&Answered { disk, full: false });
+    let mut trace = Trace::new(alloc, &AnsweredDisk { disk, full: false }).expect(rt, "memory");
+    trace.note(&AnsweredDisk { disk, full: true });
+    trace.note(&AnsweredDisk { disk, full: false });
     trace
 }
 
@@ -61,7 +61,7 @@ fn a_trace_is_made_and_noted_in(rt: HostRuntime) {
     let disk = SmallDisk { blocks: 3 };
     let mut trace = send(three_answers(&rt, rt.alloc(), &disk));
     for _ in 0..100 {
-        trace.note(&Answered {
+        trace.note(&AnsweredDisk {
             disk: &disk,
             full: true,
         });

@@ -42,7 +42,7 @@ impl Line {
 
 /// Why no line was read.
 #[derive(Clone, Copy, Debug, PartialEq, Eq, Error)]
-pub enum LineFault {
+pub enum ScriptLineFault {
     /// The text is no line.
     #[error("no line")]
     NoLine,
@@ -51,53 +51,53 @@ pub enum LineFault {
     Memory,
 }
 
-impl From<Memory> for LineFault {
+impl From<Memory> for ScriptLineFault {
     ghost use Rattle.std.specs.Prelude.{◌≡◌};
-    ghost use Rattle.key_scripts.specs.declared.line.LineFault.TheVariants as faults;
+    ghost use Rattle.key_scripts.specs.declared.line.ScriptLineFault.TheVariants as faults;
 
     ghost from_gives = { λ _ fault. fault ≡ faults.Memory };
 
-    fn from(_memory: Memory) -> LineFault {
-        LineFault::Memory
+    fn from(_memory: Memory) -> ScriptLineFault {
+        ScriptLineFault::Memory
     }
 }
 
 /// Reads what a text says, which is nothing where it is empty or a comment. Whether its session was named before is
 /// not looked at.
-pub fn read_line(alloc: Global, text: &[u8]) -> Result<Option<Line>, LineFault>
+pub fn read_line(alloc: Global, text: &[u8]) -> Result<Option<Line>, ScriptLineFault>
     ensures ok { IfOk result (λ said. Spells text.now said) }
-    ensures none { IsErrOf result LineFault.NoLine → (said : Option Line) → ¬ Spells text.now said }
+    ensures none { IsErrOf result ScriptLineFault.NoLine → (said : Option Line) → ¬ Spells text.now said }
 {
     if text.is_empty() {
         return Ok(None);
     }
     if text[0] == b'#' {
         if text.contains(&b'\r') {
-            return Err(LineFault::NoLine);
+            return Err(ScriptLineFault::NoLine);
         }
         return Ok(None);
     }
     let Some((session, mark, rest)) = number_then(text) else {
-        return Err(LineFault::NoLine);
+        return Err(ScriptLineFault::NoLine);
     };
     if session < 1 || session > SESSIONS {
-        return Err(LineFault::NoLine);
+        return Err(ScriptLineFault::NoLine);
     }
     let line = read_behind(alloc, session as u8, mark, rest)?;
     Ok(Some(line))
 }
 
 // Reads what stands behind a session's number: the byte next to it, and the rest.
-fn read_behind(alloc: Global, session: u8, mark: u8, rest: &[u8]) -> Result<Line, LineFault>
+fn read_behind(alloc: Global, session: u8, mark: u8, rest: &[u8]) -> Result<Line, ScriptLineFault>
     ensures ok { IfOk result (Follows session mark rest.now) }
-    ensures none { IsErrOf result LineFault.NoLine → (line : Line) → ¬ Follows session mark rest.now line }
+    ensures none { IsErrOf result ScriptLineFault.NoLine → (line : Line) → ¬ Follows session mark rest.now line }
 {
     match mark {
         b':' => match read_keys(alloc, rest) {
             Ok(keys) => Ok(Line::Keys { session, keys }),
-            Err(KeyFault::Memory) => Err(LineFault::Memory),
+            Err(KeyFault::Memory) => Err(ScriptLineFault::Memory),
             Err(KeyFault::BadName { at: _ } | KeyFault::NotAscii { at: _ }) => Err(
-                LineFault::NoLine,
+                ScriptLineFault::NoLine,
             ),
         },
         b'=' => match typist_and_book(rest, b',') {
@@ -106,9 +106,9 @@ fn read_behind(alloc: Global, session: u8, mark: u8, rest: &[u8]) -> Result<Line
                 typist,
                 book,
             }),
-            None => Err(LineFault::NoLine),
+            None => Err(ScriptLineFault::NoLine),
         },
-        _ => Err(LineFault::NoLine),
+        _ => Err(ScriptLineFault::NoLine),
     }
 }
 

@@ -2,7 +2,7 @@ ghost use Rattle.std.specs.Prelude.{◌≡◌, ◌∷◌, ◌++◌, ℕ, Option,
 ghost use Rattle.key_scripts.specs.Marks.{Mark};
 ghost use Rattle.key_scripts.specs.Script.{IsSession, Spells, MayFollow, session_of, with_said};
 
-use crate::line::{Line, LineFault, read_line};
+use crate::line::{Line, ScriptLineFault, read_line};
 use exact_readers::first_byte_line;
 use skk_text::{Sequence, one_list_of_keys};
 use std::alloc::Global;
@@ -60,8 +60,8 @@ impl Script {
             number += 1;
             match push_line(alloc, text, &mut named, &mut lines) {
                 Ok(()) => rest = behind,
-                Err(LineFault::NoLine) => return Err(ScriptFault::BadLine { number }),
-                Err(LineFault::Memory) => return Err(ScriptFault::Memory),
+                Err(ScriptLineFault::NoLine) => return Err(ScriptFault::BadLine { number }),
+                Err(ScriptLineFault::Memory) => return Err(ScriptFault::Memory),
             }
         }
         Ok(Script { lines })
@@ -91,12 +91,12 @@ fn push_line(
     text: &[u8],
     named: &mut [bool; 65],
     lines: &mut Sequence<Line>,
-) -> Result<(), LineFault>
+) -> Result<(), ScriptLineFault>
     requires { Mark named.old lines.old }
     ensures marked { OnOk result (Mark named.new lines.new) }
     ensures ok { OnOk result ((said : Option Line) × Spells text.now said × MayFollow lines.old said
         × (lines.new ≡ with_said lines.old said)) }
-    ensures none { IsErrOf result LineFault.NoLine → (said : Option Line) → Spells text.now said
+    ensures none { IsErrOf result ScriptLineFault.NoLine → (said : Option Line) → Spells text.now said
         → ¬ MayFollow lines.old said }
 {
     one_list_of_keys();
@@ -104,7 +104,7 @@ fn push_line(
         return Ok(());
     };
     if !mark(named, &line) {
-        return Err(LineFault::NoLine);
+        return Err(ScriptLineFault::NoLine);
     }
     lines.push(line)?;
     Ok(())

@@ -7,8 +7,8 @@ use Rattle.std.specs.Ordering.{nat_cmp}
 use Rattle.skk_calls.specs.Canonical.{is_good}
 use Rattle.skk_calls.specs.Rows.{Row, is_row}
 use Rattle.skk_calls.specs.States.{State, row_at, count_of, fits_count, has_stamp}
-use Rattle.learned_store.specs.declared.form.Form.{Form}
-use Rattle.learned_store.specs.declared.form.Form.TheVariants.{Put}
+use Rattle.learned_store.specs.declared.form.PayloadForm.{PayloadForm}
+use Rattle.learned_store.specs.declared.form.PayloadForm.TheVariants.{Put}
 use Rattle.learned_store.specs.declared.row_place.RowPlace.{RowPlace}
 use Rattle.learned_store.specs.Gathering.{AreOf, IsRestamped, count_in}
 use Rattle.learned_store.specs.Payloads.{Says, are_held, book_number, wide_number, is_sound, state_told}
@@ -68,6 +68,6 @@ module _ (before after : RowPlace → Option Row) (counts later : BTreeMap ℕ �
       book count refl refl set state are sound later_count
 
   -- so a record says something, and what it leaves is gathered
-  pub added : (form : Form) × Says state (put_with book count stamp bytes) form
+  pub added : (form : PayloadForm) × Says state (put_with book count stamp bytes) form
       × AreOf (state_told state form) later after
   added = (Put book count again, says_again, are_again)

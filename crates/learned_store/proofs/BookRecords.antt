@@ -21,7 +21,7 @@ use Rattle.skk_journal.specs.RecordLaws.{need_is}
 use Rattle.skk_journal.specs.Records.{IsSized, framed}
 use Rattle.learn_index.specs.Kept.{changed, has_changed, kept, numbered}
 use Rattle.learn_index.specs.declared.book.LearnedBook.{LearnedBook}
-use Rattle.learned_store.specs.declared.form.Form.{Form}
+use Rattle.learned_store.specs.declared.form.PayloadForm.{PayloadForm}
 use Rattle.learned_store.specs.Payloads.{count_bytes, payload_of, put_bytes}
 use Rattle.learned_store.specs.Compacted.{book_forms, compacted, row_forms}
 use Rattle.learned_store.specs.Compacting.{book_need, book_records, form_record, capped}
@@ -95,7 +95,7 @@ rows_good book may =
 
 -- Records
 
-framed_forms : (forms : List Form) → framed (map payload_of forms) ≡ flat_map form_record forms
+framed_forms : (forms : List PayloadForm) → framed (map payload_of forms) ≡ flat_map form_record forms
 framed_forms [] = refl
 framed_forms (form ∷ forms) = ap (λ (l : List ℕ). form_record form ++ l) (framed_forms forms)
 

@@ -13,7 +13,7 @@ use Rattle.skk_calls.specs.Dictionary.{is_row_or_none}
 use Rattle.skk_calls.specs.Learning.{is_row_before, is_valid_learned}
 use Rattle.skk_calls.specs.Rows.{RowKey, Row, Learned, is_row_key}
 use Rattle.skk_calls.specs.States.{State, row_at, count_of, state_with, is_valid}
-use Rattle.learned_store.specs.declared.form.Form.{Form}
+use Rattle.learned_store.specs.declared.form.PayloadForm.{PayloadForm}
 use Rattle.learned_store.specs.Payloads.{state_told, row_told, change_told}
 
 -- a book with a row that may stand in it has changed
@@ -48,7 +48,7 @@ unlearning_leaves state learned valid call moved =
     (some_count (count_of state learned.book) (row_at state learned.book learned.key) learned.stamp
     (fits_row_at state learned.book valid learned.key) there) before
 
-pub change_leaves : (state : State) (call : Call) (form : Form) → is_valid state ≡ true → is_call call ≡ true
+pub change_leaves : (state : State) (call : Call) (form : PayloadForm) → is_valid state ≡ true → is_call call ≡ true
     → moves state call ≡ true → change_told state call ≡ Some form → state_told state form ≡ after state call
 change_leaves state (Lookup who key okuri) form valid call moved is = absurd (cc)
 change_leaves state (Complete who prefix) form valid call moved is = absurd (cc)

@@ -8,7 +8,7 @@ use Rattle.skk_calls.specs.Rows.{Row}
 use Rattle.skk_calls.specs.States.{State, empty_state}
 use Rattle.skk_calls.specs.Histories.{tight}
 use Rattle.skk_journal.specs.Records.{framed, end_of}
-use Rattle.learned_store.specs.declared.form.Form.TheVariants.{Put, SetCount}
+use Rattle.learned_store.specs.declared.form.PayloadForm.TheVariants.{Put, SetCount}
 use Rattle.learned_store.specs.Payloads.{payload_of}
 use Rattle.learned_store.specs.Compacted.{compacted, is_written}
 use Rattle.learned_store.specs.Compacting.{form_record, book_records, book_need, capped}

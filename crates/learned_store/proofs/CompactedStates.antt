@@ -14,8 +14,8 @@ use Rattle.skk_calls.specs.OrderLaws.{row_keys}
 use Rattle.skk_calls.specs.Rows.{Row}
 use Rattle.skk_calls.specs.States.{State, rows_of, count_of, book_rows, book_count, with_row, with_book, rows_ascend}
 use Rattle.skk_calls.specs.States.{fits_count, is_book, books_ascend, is_valid}
-use Rattle.learned_store.specs.declared.form.Form.{Form}
-use Rattle.learned_store.specs.declared.form.Form.TheVariants.{Put, SetCount}
+use Rattle.learned_store.specs.declared.form.PayloadForm.{PayloadForm}
+use Rattle.learned_store.specs.declared.form.PayloadForm.TheVariants.{Put, SetCount}
 use Rattle.learned_store.specs.Payloads.{are_held, is_sound, book_of, new_count, payload_of, state_told}
 use Rattle.learned_store.specs.Reading.{is_written_row}
 use Rattle.learned_store.specs.Recovered.{Leads, Leave}
@@ -78,7 +78,7 @@ leads-append start middle after (payload ∷ records) others (form, says, first)
     (form, says, leads-append (state_told start form) middle after records others first leads)
 
 -- a record that may be written says what it says, and others lead on behind it
-leads-cons : (start middle after : State) (form : Form) (records : List (List ℕ)) → is_sound form ≡ true
+leads-cons : (start middle after : State) (form : PayloadForm) (records : List (List ℕ)) → is_sound form ≡ true
     → count_of start (book_of form) ≤ new_count form → state_told start form ≡ middle → Leads middle records after
     → Leads start (payload_of form ∷ records) after
 leads-cons start middle after form records sound later is leads = (

@@ -6,8 +6,8 @@ use Rattle.skk_calls.specs.declared.part.Part.TheVariants.{Nasi, Ari}
 use Rattle.skk_calls.specs.declared.call.Call.TheVariants.{Lookup, Complete, Learn, Purge, Unlearn}
 use Rattle.skk_calls.specs.Rows.{RowKey, Row}
 use Rattle.skk_calls.specs.States.{State, empty_state}
-use Rattle.learned_store.specs.declared.form.Form.{Form}
-use Rattle.learned_store.specs.declared.form.Form.TheVariants.{Put, Drop, SetCount}
+use Rattle.learned_store.specs.declared.form.PayloadForm.{PayloadForm}
+use Rattle.learned_store.specs.declared.form.PayloadForm.TheVariants.{Put, Drop, SetCount}
 use Rattle.learned_store.specs.Payloads.{book_number, wide_number, part_byte}
 use Rattle.learned_store.specs.Payloads.{book_of, new_count}
 use Rattle.learned_store.specs.Payloads.{payload_of, are_held, is_sound, state_told, change_told}
@@ -71,7 +71,7 @@ unfolding number_bytes
 count_payload = refl
 
 -- the book and the count of each form
-abbrev forms : List Form
+abbrev forms : List PayloadForm
 forms = Put 7 9 (row Nasi (codes "a") (codes "b") 8) ∷ Drop 5 6 (key Nasi (codes "a")) ∷ SetCount 3 4 ∷ []
 
 form_books : map book_of forms ≡ 7 ∷ 5 ∷ 3 ∷ []

@@ -11,8 +11,8 @@ use Rattle.skk_calls.specs.States.{State, rows_of, row_at, count_of, state_with,
 use Rattle.dict_laws.specs.ChangedStates.{row_in_has_key}
 use Rattle.dict_laws.specs.ValidStates.{fits_row_at}
 use Rattle.learn_index.specs.Records.{state_counted}
-use Rattle.learned_store.specs.declared.form.Form.{Form}
-use Rattle.learned_store.specs.declared.form.Form.TheVariants.{Put, Drop, SetCount}
+use Rattle.learned_store.specs.declared.form.PayloadForm.{PayloadForm}
+use Rattle.learned_store.specs.declared.form.PayloadForm.TheVariants.{Put, Drop, SetCount}
 use Rattle.learned_store.specs.declared.row_place.RowPlace.{RowPlace}
 use Rattle.learned_store.specs.Gathering.{AreOf, count_in}
 use Rattle.learned_store.specs.Payloads.{book_of, new_count, is_sound, state_told}
@@ -48,7 +48,7 @@ number_updated counts later book count updates number =
 -- Records
 
 -- the rows were changed as a record tells
-abbrev pub IsTold : Form → (RowPlace → Option Row) → (RowPlace → Option Row) → Type 0
+abbrev pub IsTold : PayloadForm → (RowPlace → Option Row) → (RowPlace → Option Row) → Type 0
 IsTold form before after =
     (number : ℕ) (key : RowKey) → after (place_at number key)
     ≡ cond (book_of form == number) (row_told_of form key (before (place_at number key)))
@@ -68,7 +68,7 @@ module _ (before after : RowPlace → Option Row) (book count : ℕ) where
 pub set_told : (before : RowPlace → Option Row) (book count : ℕ) → IsTold (SetCount book count) before before
 set_told before book count number key = grind arith
 
-module _ (before after : RowPlace → Option Row) (counts later : BTreeMap ℕ ℕ) (form : Form)
+module _ (before after : RowPlace → Option Row) (counts later : BTreeMap ℕ ℕ) (form : PayloadForm)
     (told : IsTold form before after) (book count : ℕ) (own : book ≡ book_of form) (new : count ≡ new_count form)
     (set : Updates nat_cmp counts later book (Some count)) (state : State) (are : AreOf state counts before)
     (sound : is_sound form ≡ true) (counted : count_of state (book_of form) ≤ new_count form) where

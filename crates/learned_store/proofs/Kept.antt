@@ -6,14 +6,14 @@ use Rattle.skk_calls.specs.States.{State, empty_state}
 use Rattle.skk_journal.specs.Images.{Each, Opens}
 use Rattle.skk_journal.specs.Journal.{OpenJournal}
 use Rattle.skk_journal.specs.JournalLaws.{rests_open, doubts_open}
-use Rattle.learned_store.specs.declared.form.Form.{Form}
+use Rattle.learned_store.specs.declared.form.PayloadForm.{PayloadForm}
 use Rattle.learned_store.specs.Payloads.{Says, state_told}
 use Rattle.learned_store.specs.Recovered.{Leads, Leave}
 use Rattle.learned_store.specs.Stores.{Keeps, RecoversOneOf, with_doubt}
 use Rattle.learned_store.proofs.DoubtedStates.{first_is, second_is}
 
 -- records lead on where one more says something
-leads_on : (start : State) (records : List (List ℕ)) (state : State) (payload : List ℕ) (form : Form)
+leads_on : (start : State) (records : List (List ℕ)) (state : State) (payload : List ℕ) (form : PayloadForm)
     → Leads start records state → Says state payload form
     → Leads start (records ++ payload ∷ []) (state_told state form)
 leads_on start [] state payload form is says =
@@ -21,7 +21,7 @@ leads_on start [] state payload form is says =
 leads_on start (first ∷ records) state payload form leads says =
     (leads.0, leads.1, leads_on (state_told start leads.0) records state payload form leads.2 says)
 
-pub leave_on : (records : List (List ℕ)) (state : State) (payload : List ℕ) (form : Form) → Leave records state
+pub leave_on : (records : List (List ℕ)) (state : State) (payload : List ℕ) (form : PayloadForm) → Leave records state
     → Says state payload form → Leave (records ++ payload ∷ []) (state_told state form)
 leave_on = leads_on empty_state
 

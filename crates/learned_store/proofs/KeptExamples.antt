@@ -19,7 +19,7 @@ use Rattle.skk_journal.specs.Filling.{filled_bytes}
 use Rattle.skk_journal.specs.Images.{Each}
 use Rattle.skk_journal.specs.Journal.{OpenJournal, Rests, Doubts, Holds, HoldsDoubt}
 use Rattle.skk_journal.specs.Records.{IsSized, front, framed}
-use Rattle.learned_store.specs.declared.form.Form.TheVariants.{Put}
+use Rattle.learned_store.specs.declared.form.PayloadForm.TheVariants.{Put}
 use Rattle.learned_store.specs.Payloads.{Says}
 use Rattle.learned_store.specs.Recovered.{Leave}
 use Rattle.learned_store.specs.Stands.{KeepsAmong, RecoverAmong}

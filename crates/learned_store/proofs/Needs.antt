@@ -11,7 +11,7 @@ use Rattle.skk_calls.specs.Learning.{learnt, purged}
 use Rattle.skk_calls.specs.States.{State, row_at, count_of}
 use Rattle.skk_journal.specs.RecordLaws.{need_is}
 use Rattle.skk_journal.specs.Records.{need as record_need}
-use Rattle.learned_store.specs.declared.form.Form.{Form}
+use Rattle.learned_store.specs.declared.form.PayloadForm.{PayloadForm}
 use Rattle.learned_store.specs.Payloads.{book_number, wide_number, part_byte, put_bytes, drop_bytes, count_bytes}
 use Rattle.learned_store.specs.Payloads.{payload_of, row_told, change_told}
 
@@ -53,7 +53,7 @@ restored_needs : (book count : ℕ) (key : RowKey) (row : Option Row)
 restored_needs book count key None = drop_needs book count key
 restored_needs book count key (Some row) = put_needs book count row
 
-pub needs_record : (state : State) (call : Call) (form : Form) → change_told state call ≡ Some form
+pub needs_record : (state : State) (call : Call) (form : PayloadForm) → change_told state call ≡ Some form
     → need state call ≡ record_need (payload_of form)
 needs_record state (Lookup who key okuri) form is = absurd (cc)
 needs_record state (Complete who prefix) form is = absurd (cc)

@@ -9,7 +9,7 @@ use Rattle.skk_calls.specs.declared.part.Part.TheVariants.{Nasi}
 use Rattle.skk_calls.specs.Rows.{Row}
 use Rattle.skk_calls.specs.States.{State}
 use Rattle.dict_format.specs.Reading.{line_reading, row_reading, key_at, texts_at, fit_items_at, some_row_of}
-use Rattle.learned_store.specs.declared.form.Form.TheVariants.{Put, Drop, SetCount}
+use Rattle.learned_store.specs.declared.form.PayloadForm.TheVariants.{Put, Drop, SetCount}
 use Rattle.learned_store.specs.Payloads.{SaysNothing}
 use Rattle.learned_store.specs.Reading.{form_of}
 use Rattle.learned_store.proofs.ReadForms.{below_said}

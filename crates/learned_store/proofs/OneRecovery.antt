@@ -3,13 +3,13 @@ use Rattle.std.proofs.Common.{◌≡◌, ℕ, List, [], ◌∷◌, ◌++◌, inl
 use Rattle.skk_disk.specs.declared.which.Which.{Which}
 use Rattle.skk_disk.specs.Image.{Image}
 use Rattle.skk_calls.specs.States.{State, empty_state}
-use Rattle.skk_journal.specs.declared.choice.Choice.TheVariants.{LiveIn}
+use Rattle.skk_journal.specs.declared.choice.LiveChoice.TheVariants.{LiveIn}
 use Rattle.skk_journal.specs.declared.live.Live.{Live}
 use Rattle.skk_journal.specs.Choice.{choice}
 use Rattle.skk_journal.specs.Opening.{with_records, not_journal, bad_record, IsOpened}
 use Rattle.skk_journal.specs.OpeningLaws.{one_opening}
 use Rattle.skk_journal.specs.Records.{place_behind}
-use Rattle.learned_store.specs.declared.form.Form.{Form}
+use Rattle.learned_store.specs.declared.form.PayloadForm.{PayloadForm}
 use Rattle.learned_store.specs.Payloads.{Says, SaysNothing, state_told}
 use Rattle.learned_store.specs.Recovered.{Leads, Leave, BreakAt, Recovery, with_state, foreign, refused, IsRecovered}
 use Rattle.learned_store.proofs.ReadForms.{one_form}
@@ -25,7 +25,7 @@ module _ (read : LinesAreRead) where
   leads_once start [] one two is also = is ∙ sym also
   leads_once start (payload ∷ records) one two is also =
       leads_once (state_told start is.0) records one two is.2
-      (subst (λ (form : Form). Leads (state_told start form) records two)
+      (subst (λ (form : PayloadForm). Leads (state_told start form) records two)
       (one_form read start start payload also.0 is.0 also.1 is.1) also.2)
 
   -- the records before the first one that says nothing are the same ones
@@ -48,7 +48,7 @@ module _ (read : LinesAreRead) where
       let forms : also.0 ≡ is.0 =
       one_form read start start second also.0 is.0 also.1 (subst (λ (p : List ℕ). Says start p is.0) heads.0 is.1) in
       let goes_on : Leads (state_told start is.0) others later =
-      subst (λ (form : Form). Leads (state_told start form) others later) forms also.2 in
+      subst (λ (form : PayloadForm). Leads (state_told start form) others later) forms also.2 in
       let tails =
       before_once (state_told start is.0) before others payload other behind rest state later heads.1 is.2 none
       goes_on nothing in
@@ -70,7 +70,7 @@ module _ (read : LinesAreRead) where
       one_form read start start first whole.0 is.0
       (subst (λ (p : List ℕ). Says start p whole.0) heads.0 whole.1) is.1 in
       let goes_on : Leads (state_told start is.0) records after =
-      subst (λ (form : Form). Leads (state_told start form) records after) forms whole.2 in
+      subst (λ (form : PayloadForm). Leads (state_told start form) records after) forms whole.2 in
       no_break (state_told start is.0) records before payload behind state after heads.1 goes_on is.2 none
 
   break_once : (records : List (List ℕ)) (at other : ℕ) → BreakAt records at → BreakAt records other → at ≡ other

@@ -12,7 +12,7 @@ use Rattle.skk_calls.specs.States.{State, row_at, count_of, state_with}
 use Rattle.dict_laws.specs.ChangedStates.{after_moved, before_has_key, count_of_changed, has_key, row_at_changed}
 use Rattle.learn_index.specs.declared.plan.Plan.TheVariants.{Move}
 use Rattle.learn_index.specs.Plans.{IsPlanned}
-use Rattle.learned_store.specs.declared.form.Form.{Form}
+use Rattle.learned_store.specs.declared.form.PayloadForm.{PayloadForm}
 use Rattle.learned_store.specs.Payloads.{row_told, change_told}
 
 -- what is told of a row that was changed is what is told of the row that is read
@@ -40,18 +40,18 @@ plan_told state (Lookup who own okuri) book count key row reply typed planned = 
 plan_told state (Complete who prefix) book count key row reply typed planned = let moves = planned.0 in absurd (cc)
 plan_told state (Learn number own okuri cand) book count key row reply typed planned =
     let stamp = count_of state number + 1 in
-    ap (λ (f : Form). Some f) (same_told state (after state (Learn number own okuri cand)) number stamp own
+    ap (λ (f : PayloadForm). Some f) (same_told state (after state (Learn number own okuri cand)) number stamp own
     (Some (learnt (row_at state number own) own okuri cand stamp)) book count key row (same_key_itself own)
     planned.2 (after_moved state (Learn number own okuri cand) planned.0) planned.3 planned.4)
 plan_told state (Purge number own word) book count key row reply typed planned =
     let stamp = count_of state number + 1 in
-    ap (λ (f : Form). Some f) (same_told state (after state (Purge number own word)) number stamp own
+    ap (λ (f : PayloadForm). Some f) (same_told state (after state (Purge number own word)) number stamp own
     (Some (purged (row_at state number own) own word stamp)) book count key row (same_key_itself own)
     planned.2 (after_moved state (Purge number own word) planned.0) planned.3 planned.4)
 plan_told state (Unlearn learned) book count key row reply typed planned =
     let valid = (and_parts (is_valid_learned learned) (is_row_or_none learned.before)
     (and_parts (is_row_key learned.key) (is_valid_learned learned && is_row_or_none learned.before) typed).1).0 in
-    ap (λ (f : Form). Some f) (same_told state (after state (Unlearn learned)) learned.book
+    ap (λ (f : PayloadForm). Some f) (same_told state (after state (Unlearn learned)) learned.book
     (count_of state learned.book) learned.key learned.before book count key row
     (before_has_key learned.key learned.stamp learned.before valid) planned.2
     (after_moved state (Unlearn learned) planned.0) planned.3 planned.4)

@@ -15,8 +15,8 @@ use Rattle.skk_text.specs.Counts.{last_count}
 use Rattle.skk_text.specs.Lists.{is_empty}
 use Rattle.skk_calls.specs.Rows.{RowKey, Row}
 use Rattle.skk_calls.specs.States.{State, count_of}
-use Rattle.learned_store.specs.declared.form.Form.{Form}
-use Rattle.learned_store.specs.declared.form.Form.TheVariants.{Put, Drop, SetCount}
+use Rattle.learned_store.specs.declared.form.PayloadForm.{PayloadForm}
+use Rattle.learned_store.specs.declared.form.PayloadForm.TheVariants.{Put, Drop, SetCount}
 use Rattle.learned_store.specs.Payloads.{book_number, wide_number, are_held, book_of, new_count, payload_of, is_sound}
 use Rattle.learned_store.specs.Payloads.{Says, SaysNothing}
 use Rattle.learned_store.specs.Reading.{payload_with, put_with, fields, form_behind, form_of, key_of, row_of}
@@ -88,7 +88,7 @@ fields_complete kind book count rest is =
 -- Forms
 
 -- what is read of a payload may be written, and is written so
-pub record IsRead (payload : List ℕ) (form : Form) : Type 0 where
+pub record IsRead (payload : List ℕ) (form : PayloadForm) : Type 0 where
   pub sound : is_sound form ≡ true
   pub is : payload ≡ payload_of form
 
@@ -113,7 +113,7 @@ module _ (lines : LinesAreRows) (book count : ℕ) (rest : List ℕ) (is_held : 
       shorter [] none = append-nil (wide_number count)
       shorter (b ∷ rest) none = cc
 
-  behind_sound : (kind : ℕ) (form : Form) → form_behind kind book count rest ≡ Some form
+  behind_sound : (kind : ℕ) (form : PayloadForm) → form_behind kind book count rest ≡ Some form
       → IsRead (payload_with kind book count rest) form
   behind_sound kind form e =
       elim (chosen (kind == 1) _ _ _ e) [
@@ -137,7 +137,8 @@ module _ (lines : LinesAreRows) (book count : ℕ) (rest : List ℕ) (is_held : 
         ]
       ]
 
-pub form_sound : LinesAreRows → (payload : List ℕ) (form : Form) → form_of payload ≡ Some form → IsRead payload form
+pub form_sound : LinesAreRows → (payload : List ℕ) (form : PayloadForm) → form_of payload ≡ Some form
+    → IsRead payload form
 form_sound lines payload form e =
     let read = then_at-some (fields.step payload) _ form e in
     let begins = fields_sound payload read.0.0.0 read.0.0.1.0 read.0.0.1.1 read.0.1 read.1 in
@@ -145,13 +146,13 @@ form_sound lines payload form e =
     (behind_sound lines read.0.0.1.0 read.0.0.1.1 read.0.1 begins.held read.0.0.0 form read.2)
 
 -- what code reads of a payload is that
-pub form_read : LinesAreRows → (payload : List ℕ) (found : Option Form) → found ≡ form_of payload
+pub form_read : LinesAreRows → (payload : List ℕ) (found : Option PayloadForm) → found ≡ form_of payload
     → IfSome found (λ form. (is_sound form ≡ true) × (payload ≡ payload_of form))
 form_read lines payload None is = tt
 form_read lines payload (Some form) is = let read = form_sound lines payload form (sym is) in (read.sound, read.is)
 
 module _ (lines : LinesAreRead) where
-  form_complete : (form : Form) → is_sound form ≡ true → form_of (payload_of form) ≡ Some form
+  form_complete : (form : PayloadForm) → is_sound form ≡ true → form_of (payload_of form) ≡ Some form
   form_complete (Put book count row) sound =
       let parts = put_parts book count row sound in
       let last : count ≤ last_count = grind (arith, nat_tests, parts.held) in
@@ -169,11 +170,12 @@ module _ (lines : LinesAreRead) where
       (fields_complete 3 book count [] sound)
 
   -- what a payload says is read of it
-  pub said : (state : State) (payload : List ℕ) (form : Form) → Says state payload form → form_of payload ≡ Some form
+  pub said : (state : State) (payload : List ℕ) (form : PayloadForm) → Says state payload form
+      → form_of payload ≡ Some form
   said state payload form says = ap form_of says.is ∙ form_complete form says.sound
 
   -- so a payload says one thing, at whatever states
-  pub one_form : (state later : State) (payload : List ℕ) (form other : Form) → Says state payload form
+  pub one_form : (state later : State) (payload : List ℕ) (form other : PayloadForm) → Says state payload form
       → Says later payload other → form ≡ other
   one_form state later payload form other says also =
       same_Some form other (sym (said state payload form says) ∙ said later payload other also)
@@ -183,16 +185,16 @@ module _ (lines : LinesAreRead) where
   nothing_said state payload none form says = none-some form (sym none ∙ said state payload form says)
 
   -- or something of a count below that of its book
-  pub below_said : (state : State) (payload : List ℕ) (form : Form) → form_of payload ≡ Some form
+  pub below_said : (state : State) (payload : List ℕ) (form : PayloadForm) → form_of payload ≡ Some form
       → new_count form < count_of state (book_of form) → SaysNothing state payload
   below_said state payload form is below other says =
       let same = same_Some form other (sym is ∙ said state payload other says) in
       let counted : count_of state (book_of form) ≤ new_count form =
-      subst (λ (f : Form). count_of state (book_of f) ≤ new_count f) (sym same) says.counted in
+      subst (λ (f : PayloadForm). count_of state (book_of f) ≤ new_count f) (sym same) says.counted in
       omega (arith, below, counted)
 
   -- nor does code read anything then
-  pub none_read : (payload : List ℕ) (found : Option Form) → found ≡ form_of payload → found ≡ None
-      → (form : Form) → is_sound form ≡ true → payload ≡ payload_of form → ⊥
+  pub none_read : (payload : List ℕ) (found : Option PayloadForm) → found ≡ form_of payload → found ≡ None
+      → (form : PayloadForm) → is_sound form ≡ true → payload ≡ payload_of form → ⊥
   none_read payload found is none form sound same =
       none-some form (sym none ∙ is ∙ ap form_of same ∙ form_complete form sound)

@@ -7,7 +7,7 @@ use Rattle.skk_calls.specs.declared.part.Part.{Part}
 use Rattle.skk_calls.specs.declared.part.Part.TheVariants.{Nasi, Ari}
 use Rattle.skk_calls.specs.Rows.{RowKey, Row}
 use Rattle.dict_format.specs.Reading.{line_reading, row_reading, key_at, texts_at, fit_items_at, some_row_of}
-use Rattle.learned_store.specs.declared.form.Form.TheVariants.{Put, Drop, SetCount}
+use Rattle.learned_store.specs.declared.form.PayloadForm.TheVariants.{Put, Drop, SetCount}
 use Rattle.learned_store.specs.Reading.{payload_with, put_with, parted_bytes, parted_key, parted_row, is_line_row}
 use Rattle.learned_store.specs.Reading.{is_written_row, IsSpelled, HasOneCand}
 use Rattle.learned_store.specs.Reading.{part_of, text_of, parted_of, key_of, if_own, line_row, is_stamp}

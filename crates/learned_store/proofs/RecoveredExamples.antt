@@ -6,7 +6,7 @@ use Rattle.skk_calls.specs.States.{State, empty_state}
 use Rattle.skk_journal.specs.Opening.{IsOpened, with_records}
 use Rattle.skk_journal.specs.OpeningLaws.{one_opening}
 use Rattle.skk_journal.specs.Records.{front, end_of}
-use Rattle.learned_store.specs.declared.form.Form.TheVariants.{Put, Drop, SetCount}
+use Rattle.learned_store.specs.declared.form.PayloadForm.TheVariants.{Put, Drop, SetCount}
 use Rattle.learned_store.specs.Recovered.{Leave, BreakAt, IsRecovered, with_state, IsOpenedWith}
 use Rattle.learned_store.proofs.SmallFiles.{row_a, row_c, first, second, third, fourth, nothing, state, pair, file, has}
 use Rattle.learned_store.proofs.SmallFiles.{first_says, second_says, third_says, fourth_says, nothing_says}

@@ -1,7 +1,7 @@
 -- Why both files of a disk are refused, of whose live file no state was recovered.
 use Rattle.std.proofs.Common.{◌≡◌, ◌≢◌, ℕ, List, [], ◌∷◌, ◌++◌, inl, refl, sym, ◌∙◌, subst}
 use Rattle.skk_disk.specs.Image.{Image}
-use Rattle.skk_journal.specs.declared.choice.Choice.TheVariants.{NoLive, LiveIn}
+use Rattle.skk_journal.specs.declared.choice.LiveChoice.TheVariants.{NoLive, LiveIn}
 use Rattle.skk_journal.specs.declared.fault.OpenFault.{OpenFault}
 use Rattle.skk_journal.specs.declared.fault.OpenFault.TheVariants.{Disk, NotJournal, BadRecord, Memory}
 use Rattle.skk_journal.specs.declared.live.Live.{Live}

@@ -3,9 +3,9 @@ use Rattle.std.proofs.Common.{◌≡◌, ℕ, List, [], ◌∷◌, ◌++◌, inl
 use Rattle.exact_readers.specs.Numbers.{number_bytes, number_of, number_step}
 use Rattle.skk_calls.specs.States.{empty_state}
 use Rattle.skk_disk.specs.declared.which.Which.TheVariants.{A, B}
-use Rattle.skk_journal.specs.declared.choice.Choice.TheVariants.{NoneBy}
+use Rattle.skk_journal.specs.declared.choice.LiveChoice.TheVariants.{NoneBy}
 use Rattle.skk_journal.specs.declared.fault.OpenFault.TheVariants.{Disk, NotJournal, BadRecord, Memory}
-use Rattle.skk_journal.specs.declared.found.Found.{Found}
+use Rattle.skk_journal.specs.declared.found.FoundRecord.{FoundRecord}
 use Rattle.skk_journal.specs.Causes.{file_number}
 use Rattle.skk_journal.specs.Opening.{IsOpened, bad_record}
 use Rattle.skk_journal.specs.Records.{front}
@@ -177,7 +177,7 @@ second_foreign number byte is =
 
 -- of a live file the place that is told is the only one
 module _ (read : LinesAreRead) where
-  first_told : (number at : ℕ) (before : List Found) → IsRefused (pair (odd 1) []) (BadRecord number at before)
+  first_told : (number at : ℕ) (before : List FoundRecord) → IsRefused (pair (odd 1) []) (BadRecord number at before)
       → (number ≡ 0) × (at ≡ 47) × (before ≡ [])
   first_told number at before is =
       let same : refused A 47 ≡ refused is.0 at =
@@ -185,7 +185,7 @@ module _ (read : LinesAreRead) where
       let told : A ≡ is.0 = cc same in
       (is.1 ∙ ap file_number (sym told), cc same, is.3)
 
-  second_told : (number at : ℕ) (before : List Found)
+  second_told : (number at : ℕ) (before : List FoundRecord)
       → IsRefused (pair (odd_first 1) (odd 2)) (BadRecord number at before)
       → (number ≡ 1) × (at ≡ 47) × (before ≡ [])
   second_told number at before is =

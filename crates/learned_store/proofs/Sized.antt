@@ -6,8 +6,8 @@ use Rattle.skk_calls.specs.Canonical.{canonical, is_good, line_limit}
 use Rattle.skk_calls.specs.Rows.{RowKey, Row, fits_part, is_row_key}
 use Rattle.skk_journal.specs.RecordLaws.{need_is}
 use Rattle.skk_journal.specs.Records.{IsSized}
-use Rattle.learned_store.specs.declared.form.Form.{Form}
-use Rattle.learned_store.specs.declared.form.Form.TheVariants.{Put, Drop, SetCount}
+use Rattle.learned_store.specs.declared.form.PayloadForm.{PayloadForm}
+use Rattle.learned_store.specs.declared.form.PayloadForm.TheVariants.{Put, Drop, SetCount}
 use Rattle.learned_store.specs.Payloads.{put_bytes, drop_bytes, is_sound, payload_of}
 use Rattle.learned_store.proofs.Needs.{put_needs, drop_needs, counted_long}
 use Rattle.learned_store.proofs.SoundForms.{put_parts, drop_parts}
@@ -23,7 +23,7 @@ short_part part reading fits = grind arith
 short_reading : (key : RowKey) → is_row_key key ≡ true → byte_len key.reading ≤ 255
 short_reading key valid = grind (arith, short_part key.part key.reading)
 
-pub sound_sized : (form : Form) → is_sound form ≡ true → IsSized (payload_of form)
+pub sound_sized : (form : PayloadForm) → is_sound form ≡ true → IsSized (payload_of form)
 sound_sized (Put book count row) sound =
     let short = good_line row (put_parts book count row sound).written.good in
     let long = length (put_bytes book count row) in

@@ -9,7 +9,7 @@ use Rattle.skk_calls.specs.declared.call.Call.TheVariants.{Learn}
 use Rattle.skk_calls.specs.Rows.{Row}
 use Rattle.skk_calls.specs.States.{State, empty_state}
 use Rattle.skk_journal.specs.Records.{IsSized, IsGeneration, HasRecords, mark, front}
-use Rattle.learned_store.specs.declared.form.Form.TheVariants.{Put, Drop, SetCount}
+use Rattle.learned_store.specs.declared.form.PayloadForm.TheVariants.{Put, Drop, SetCount}
 use Rattle.learned_store.specs.Payloads.{Says, SaysNothing}
 use Rattle.learned_store.specs.Recovered.{Leave}
 use Rattle.learned_store.proofs.NoForms.{other_byte}

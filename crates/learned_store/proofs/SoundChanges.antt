@@ -11,8 +11,8 @@ use Rattle.skk_calls.specs.Orders.{key_less, insert_by}
 use Rattle.skk_calls.specs.Rows.{RowKey, Row, is_row_key}
 use Rattle.skk_calls.specs.States.{State, rows_of, count_of, state_with, with_row, with_book, without_row}
 use Rattle.skk_calls.specs.States.{without_book, fits_count, rows_ascend, is_book, books_ascend, is_valid}
-use Rattle.learned_store.specs.declared.form.Form.{Form}
-use Rattle.learned_store.specs.declared.form.Form.TheVariants.{Put, Drop}
+use Rattle.learned_store.specs.declared.form.PayloadForm.{PayloadForm}
+use Rattle.learned_store.specs.declared.form.PayloadForm.TheVariants.{Put, Drop}
 use Rattle.learned_store.specs.Payloads.{book_of, new_count, change_told}
 use Rattle.learned_store.proofs.Changes.{change_leaves}
 
@@ -38,7 +38,7 @@ put_fits state number count row valid =
     (without_row row.key (rows_of state number))
     (and_parts (rows_ascend rows) (list_all (fits_count count) rows) parts.1).1
 
-pub change_later : (state : State) (call : Call) (form : Form) → change_told state call ≡ Some form
+pub change_later : (state : State) (call : Call) (form : PayloadForm) → change_told state call ≡ Some form
     → count_of state (book_of form) ≤ new_count form
 change_later state call form is = grind arith
 

@@ -5,7 +5,7 @@ use Rattle.std.specs.Str.{all_scalars}
 use Rattle.skk_calls.specs.Canonical.{canonical, is_good}
 use Rattle.skk_calls.specs.Rows.{RowKey, Row, is_row, is_row_key}
 use Rattle.skk_calls.specs.States.{has_stamp, fits_count}
-use Rattle.learned_store.specs.declared.form.Form.TheVariants.{Put, Drop}
+use Rattle.learned_store.specs.declared.form.PayloadForm.TheVariants.{Put, Drop}
 use Rattle.learned_store.specs.Payloads.{are_held, is_sound}
 use Rattle.learned_store.specs.Reading.{is_written_row}
 

@@ -6,7 +6,7 @@ use Rattle.skk_calls.specs.Rows.{RowKey, Row}
 use Rattle.skk_calls.specs.States.{empty_state}
 use Rattle.skk_journal.specs.declared.fault.OpenFault.TheVariants as opening
 use Rattle.learn_index.specs.declared.plan.Plan.TheVariants.{Still, Move}
-use Rattle.learned_store.specs.declared.form.Form.TheVariants.{Put, Drop, SetCount}
+use Rattle.learned_store.specs.declared.form.PayloadForm.TheVariants.{Put, Drop, SetCount}
 use Rattle.learned_store.specs.declared.recovery.RecoverFault.TheVariants as recovering
 use Rattle.learned_store.specs.Payloads.{payload_of}
 use Rattle.learned_store.specs.Recovering.{IsBreak, refusal_of}

@@ -18,8 +18,8 @@ use Rattle.skk_calls.specs.States.{State, empty_state, rows_of, without_row, wit
 use Rattle.skk_calls.specs.States.{state_with}
 use Rattle.skk_journal.specs.RecordLaws.{length-record_bytes, need_is}
 use Rattle.skk_journal.specs.Records.{record_bytes, framed, end_of, need as record_need}
-use Rattle.learned_store.specs.declared.form.Form.{Form}
-use Rattle.learned_store.specs.declared.form.Form.TheVariants.{Put, Drop, SetCount}
+use Rattle.learned_store.specs.declared.form.PayloadForm.{PayloadForm}
+use Rattle.learned_store.specs.declared.form.PayloadForm.TheVariants.{Put, Drop, SetCount}
 use Rattle.learned_store.specs.Payloads.{count_bytes, payload_of, state_told}
 use Rattle.learned_store.specs.Recovered.{Leads, Leave}
 use Rattle.learned_store.specs.Compacted.{row_forms, book_forms, compacted}
@@ -152,7 +152,7 @@ count_needs : (book count : ℕ) → count_need ≡ record_need (count_bytes boo
 count_needs book count = omega (arith, need_is (count_bytes book count), counted_long book count)
 
 -- a record makes the tight end at most so much greater as it needs
-told_most : (state : State) (form : Form)
+told_most : (state : State) (form : PayloadForm)
     → tight (state_told state form) ≤ tight state + record_need (payload_of form)
 told_most state (Put book count row) =
     omega (arith, put_needs book count row, row_changed state book count row.key (Some row))

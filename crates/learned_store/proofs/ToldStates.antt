@@ -16,8 +16,8 @@ use Rattle.skk_calls.specs.States.{without_row, with_row, without_book, with_boo
 use Rattle.skk_calls.specs.States.{fits_count, is_book, is_valid}
 use Rattle.dict_laws.specs.ValidStates.{books_ascend_with_book, is_valid_changed, parts_at, rows_of_ascend, rows_of_fit}
 use Rattle.learn_index.specs.Records.{state_counted, state_without}
-use Rattle.learned_store.specs.declared.form.Form.{Form}
-use Rattle.learned_store.specs.declared.form.Form.TheVariants.{Put, Drop, SetCount}
+use Rattle.learned_store.specs.declared.form.PayloadForm.{PayloadForm}
+use Rattle.learned_store.specs.declared.form.PayloadForm.TheVariants.{Put, Drop, SetCount}
 use Rattle.learned_store.specs.Payloads.{book_of, new_count, is_sound, state_told}
 
 -- Items
@@ -125,29 +125,30 @@ no_rows state number valid none = by (book_at state number) refl none
 -- Records
 
 -- the rows of its book after a record
-abbrev told_rows : Form → List Row → List Row
+abbrev told_rows : PayloadForm → List Row → List Row
 told_rows (Put book count row) rows = with_row row.key (Some row) rows
 told_rows (Drop book count key) rows = without_row key rows
 told_rows (SetCount book count) rows = rows
 
 -- and the row of a key there, where it was this one
-abbrev pub row_told_of : Form → RowKey → Option Row → Option Row
+abbrev pub row_told_of : PayloadForm → RowKey → Option Row → Option Row
 row_told_of (Put book count row) key before = cond (same_key row.key key) (Some row) before
 row_told_of (Drop book count gone) key before = cond (same_key gone key) None before
 row_told_of (SetCount book count) key before = before
 
-row_of_told : (form : Form) (key : RowKey) (rows : List Row)
+row_of_told : (form : PayloadForm) (key : RowKey) (rows : List Row)
     → row_in key (told_rows form rows) ≡ row_told_of form key (row_in key rows)
 row_of_told (Put book count row) key rows = row_put row key rows
 row_of_told (Drop book count gone) key rows = row_without gone key rows
 row_of_told (SetCount book count) key rows = refl
 
 -- its book after a record
-abbrev told_book : State → Form → NumberedBook
+abbrev told_book : State → PayloadForm → NumberedBook
 told_book state form =
     record { number = book_of form; count = new_count form; rows = told_rows form (rows_of state (book_of form)) }
 
-module _ (state : State) (form : Form) (later : count_of state (book_of form) ≤ new_count form) (number : ℕ) where
+module _ (state : State) (form : PayloadForm) (later : count_of state (book_of form) ≤ new_count form)
+    (number : ℕ) where
   -- after a record the count of its book is that which it tells, and others stay
   pub count_told : count_of (state_told state form) number
       ≡ cond (book_of form == number) (new_count form) (count_of state number)
@@ -197,7 +198,7 @@ module _ (state : State) where
       )
 
   -- so it is valid after a record that may be written
-  pub valid_told : is_valid state ≡ true → (form : Form) → is_sound form ≡ true
+  pub valid_told : is_valid state ≡ true → (form : PayloadForm) → is_sound form ≡ true
       → count_of state (book_of form) ≤ new_count form → is_valid (state_told state form) ≡ true
   valid_told valid (Put book count row) sound later =
       valid_put valid book count row (put_fits book count row sound) later

@@ -15,8 +15,8 @@ use Rattle.skk_calls.specs.States.{State, empty_state, book_at, book_rows, book_
 use Rattle.skk_calls.specs.States.{without_row, without_book, with_book, state_with, is_valid}
 use Rattle.skk_journal.specs.Records.{IsSized}
 use Rattle.learn_index.specs.Records.{state_counted, state_without}
-use Rattle.learned_store.specs.declared.form.Form.{Form}
-use Rattle.learned_store.specs.declared.form.Form.TheVariants.{Put, Drop, SetCount}
+use Rattle.learned_store.specs.declared.form.PayloadForm.{PayloadForm}
+use Rattle.learned_store.specs.declared.form.PayloadForm.TheVariants.{Put, Drop, SetCount}
 use Rattle.learned_store.specs.Payloads.{are_held, is_sound, book_of, new_count, payload_of, state_told}
 use Rattle.learned_store.specs.Reading.{is_written_row}
 use Rattle.learned_store.specs.Recovered.{Leads, Leave}
@@ -85,7 +85,7 @@ module _ (state : State) (written : is_written state ≡ true) (number count : �
       by true = written
       by false = with_written (rows_of state number) rows_written
 
-told_written : (state : State) (form : Form) → is_written state ≡ true → is_sound form ≡ true
+told_written : (state : State) (form : PayloadForm) → is_written state ≡ true → is_sound form ≡ true
     → count_of state (book_of form) ≤ new_count form → is_written (state_told state form) ≡ true
 told_written state (Put book count row) written sound later =
     put_written state written book count later (grind (arith, sound)) row (grind (arith, sound))
@@ -137,7 +137,7 @@ pub compacted_sound : (state : State) → is_written state ≡ true → list_all
 compacted_sound state written = books_sound state.books written
 
 -- so each fits a record
-pub sound_all_sized : (forms : List Form) → list_all is_sound forms ≡ true → All IsSized (map payload_of forms)
+pub sound_all_sized : (forms : List PayloadForm) → list_all is_sound forms ≡ true → All IsSized (map payload_of forms)
 sound_all_sized [] sound = All-nil IsSized
 sound_all_sized (form ∷ forms) sound =
     let parts = and_parts (is_sound form) (list_all is_sound forms) sound in

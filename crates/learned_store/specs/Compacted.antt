@@ -4,22 +4,22 @@ use Rattle.std.specs.List.{flat_map, list_all}
 use Rattle.skk_calls.specs.declared.book.NumberedBook.{NumberedBook}
 use Rattle.skk_calls.specs.Rows.{Row}
 use Rattle.skk_calls.specs.States.{State}
-use Rattle.learned_store.specs.declared.form.Form.{Form}
-use Rattle.learned_store.specs.declared.form.Form.TheVariants.{Put, SetCount}
+use Rattle.learned_store.specs.declared.form.PayloadForm.{PayloadForm}
+use Rattle.learned_store.specs.declared.form.PayloadForm.TheVariants.{Put, SetCount}
 use Rattle.learned_store.specs.Payloads.{are_held}
 use Rattle.learned_store.specs.Reading.{is_written_row}
 
 -- the records of a book of a number and a count with these rows: each row is put, or the count set where there is none
-abbrev pub row_forms : ℕ → ℕ → List Row → List Form
+abbrev pub row_forms : ℕ → ℕ → List Row → List PayloadForm
 row_forms number count [] = SetCount number count ∷ []
 row_forms number count (row ∷ rows) = map (Put number count) (row ∷ rows)
 
 -- the records of a book
-abbrev pub book_forms : NumberedBook → List Form
+abbrev pub book_forms : NumberedBook → List PayloadForm
 book_forms book = row_forms book.number book.count book.rows
 
 -- the records that a compaction writes of a state: those of each book, one behind another
-abbrev pub compacted : State → List Form
+abbrev pub compacted : State → List PayloadForm
 compacted state = flat_map book_forms state.books
 
 -- the number and the count of a book are held, and each of its rows may be written

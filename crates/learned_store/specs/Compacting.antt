@@ -6,12 +6,12 @@ use Rattle.skk_calls.specs.declared.book.NumberedBook.{NumberedBook}
 use Rattle.skk_calls.specs.Histories.{rows_need}
 use Rattle.skk_journal.specs.Records.{record_bytes}
 use Rattle.learn_index.specs.Kept.{has_changed}
-use Rattle.learned_store.specs.declared.form.Form.{Form}
+use Rattle.learned_store.specs.declared.form.PayloadForm.{PayloadForm}
 use Rattle.learned_store.specs.Payloads.{payload_of}
 use Rattle.learned_store.specs.Compacted.{book_forms}
 
 -- the record of a form, behind an open gate
-abbrev pub form_record : Form → List ℕ
+abbrev pub form_record : PayloadForm → List ℕ
 form_record form = record_bytes (payload_of form)
 
 -- the records of a book, none where it has not changed

@@ -8,7 +8,7 @@ use Rattle.std.specs.Map.{keys_of, lookup}
 use Rattle.std.specs.Ordering.{eq_by_cmp, is_eq, nat_cmp}
 use Rattle.skk_calls.specs.Rows.{RowKey, Row}
 use Rattle.skk_calls.specs.States.{State, count_of, row_at, is_valid}
-use Rattle.learned_store.specs.declared.form.Form.{Form}
+use Rattle.learned_store.specs.declared.form.PayloadForm.{PayloadForm}
 use Rattle.learned_store.specs.declared.gathered.Gathered.{Gathered}
 use Rattle.learned_store.specs.declared.placed_row.PlacedRow.{PlacedRow}
 use Rattle.learned_store.specs.declared.row_place.RowPlace.{RowPlace}
@@ -49,7 +49,7 @@ Gathers gathered state = AreOf state gathered.counts (row_among gathered.rows)
 -- at a state a payload says something, and this was gathered when that was added
 abbrev pub IsAdded : State → List ℕ → Gathered → Type 0
 IsAdded state payload after =
-    (form : Form) × Says state payload form × Gathers after (state_told state form)
+    (form : PayloadForm) × Says state payload form × Gathers after (state_told state form)
 
 -- the row of a place has these bytes as its part and line, and got this stamp
 pub record IsRestamped (before after : RowPlace → Option Row) (place : RowPlace) (stamp : ℕ) (bytes : List ℕ)

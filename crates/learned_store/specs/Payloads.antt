@@ -13,8 +13,8 @@ use Rattle.skk_calls.specs.Canonical.{canonical}
 use Rattle.skk_calls.specs.Learning.{learnt, purged, unlearnt}
 use Rattle.skk_calls.specs.Rows.{RowKey, Row, is_row_key}
 use Rattle.skk_calls.specs.States.{State, row_at, count_of, state_with, fits_count}
-use Rattle.learned_store.specs.declared.form.Form.{Form}
-use Rattle.learned_store.specs.declared.form.Form.TheVariants.{Put, Drop, SetCount}
+use Rattle.learned_store.specs.declared.form.PayloadForm.{PayloadForm}
+use Rattle.learned_store.specs.declared.form.PayloadForm.TheVariants.{Put, Drop, SetCount}
 use Rattle.learn_index.specs.Records.{state_counted, state_without}
 
 -- the number of a book in two bytes
@@ -46,19 +46,19 @@ abbrev pub count_bytes : ℕ → ℕ → List ℕ
 count_bytes book count = 3 ∷ (book_number book ++ wide_number count)
 
 -- the number of the book that a record speaks of
-abbrev pub book_of : Form → ℕ
+abbrev pub book_of : PayloadForm → ℕ
 book_of (Put book count row) = book
 book_of (Drop book count key) = book
 book_of (SetCount book count) = book
 
 -- the count that a record gives the book
-abbrev pub new_count : Form → ℕ
+abbrev pub new_count : PayloadForm → ℕ
 new_count (Put book count row) = count
 new_count (Drop book count key) = count
 new_count (SetCount book count) = count
 
 -- the payload of a record
-abbrev pub payload_of : Form → List ℕ
+abbrev pub payload_of : PayloadForm → List ℕ
 payload_of (Put book count row) = put_bytes book count row
 payload_of (Drop book count key) = drop_bytes book count key
 payload_of (SetCount book count) = count_bytes book count
@@ -69,35 +69,35 @@ are_held book count = nat_lt book (2 ^ 16) && nat_le count last_count
 
 -- a record may be written: its numbers are held, its row may stand in a book of its count, its key is valid, and what
 -- it spells is of characters
-abbrev pub is_sound : Form → Bool
+abbrev pub is_sound : PayloadForm → Bool
 is_sound (Put book count row) = are_held book count && (fits_count count row && all_scalars (canonical row))
 is_sound (Drop book count key) = are_held book count && (is_row_key key && all_scalars key.reading)
 is_sound (SetCount book count) = are_held book count
 
 -- at a state, a payload says this: it is what a record is written as that may be written, whose count is not below that
 -- of its book
-pub record Says (state : State) (payload : List ℕ) (form : Form) : Type 0 where
+pub record Says (state : State) (payload : List ℕ) (form : PayloadForm) : Type 0 where
   pub sound : is_sound form ≡ true
   pub counted : count_of state (book_of form) ≤ new_count form
   pub is : payload ≡ payload_of form
 
 -- at a state, a payload is none of the forms
 abbrev pub SaysNothing : State → List ℕ → Type 0
-SaysNothing state payload = (form : Form) → Says state payload form → ⊥
+SaysNothing state payload = (form : PayloadForm) → Says state payload form → ⊥
 
 -- the state after a record
-abbrev pub state_told : State → Form → State
+abbrev pub state_told : State → PayloadForm → State
 state_told state (Put book count row) = state_with state book count row.key (Some row)
 state_told state (Drop book count key) = state_without state book count key
 state_told state (SetCount book count) = state_counted state book count
 
 -- what a record says of a key that has this row now, or none
-abbrev pub row_told : ℕ → ℕ → RowKey → Option Row → Form
+abbrev pub row_told : ℕ → ℕ → RowKey → Option Row → PayloadForm
 row_told book count key None = Drop book count key
 row_told book count key (Some row) = Put book count row
 
 -- what the record of a call says where the call changes a state. A look-up and a completion have none
-abbrev pub change_told : State → Call → Option Form
+abbrev pub change_told : State → Call → Option PayloadForm
 change_told state (Lookup who key okuri) = None
 change_told state (Complete who prefix) = None
 change_told state (Learn book key okuri cand) =

@@ -14,8 +14,8 @@ use Rattle.skk_calls.specs.Canonical.{canonical, is_good}
 use Rattle.skk_calls.specs.Rows.{Cand, RowKey, Row, is_row_key, is_row, same_text}
 use Rattle.skk_calls.specs.States.{fits_count}
 use Rattle.dict_format.specs.EntryRows.{row_of_line}
-use Rattle.learned_store.specs.declared.form.Form.{Form}
-use Rattle.learned_store.specs.declared.form.Form.TheVariants.{Put, Drop, SetCount}
+use Rattle.learned_store.specs.declared.form.PayloadForm.{PayloadForm}
+use Rattle.learned_store.specs.declared.form.PayloadForm.TheVariants.{Put, Drop, SetCount}
 use Rattle.learned_store.specs.Payloads.{book_number, wide_number, part_byte}
 
 -- What is written
@@ -117,7 +117,7 @@ abbrev pub fields : Format ℕ (ℕ × (ℕ × ℕ))
 fields = both (one_as (λ kind. Some kind)) (both (number w16) (number w64))
 
 -- what the bytes behind the fields say
-abbrev pub form_behind : ℕ → ℕ → ℕ → List ℕ → Option Form
+abbrev pub form_behind : ℕ → ℕ → ℕ → List ℕ → Option PayloadForm
 form_behind kind book count rest =
     if kind == 1 then option_map (Put book count) (row_of count rest)
     else if kind == 2 then option_map (Drop book count) (key_of rest)
@@ -125,6 +125,6 @@ form_behind kind book count rest =
     else None
 
 -- what a payload says
-abbrev pub form_of : List ℕ → Option Form
+abbrev pub form_of : List ℕ → Option PayloadForm
 form_of payload =
     then_at (fields.step payload) (λ read. form_behind read.0.0 read.0.1.0 read.0.1.1 read.1)

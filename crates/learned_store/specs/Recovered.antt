@@ -5,20 +5,20 @@ use Rattle.skk_journal.specs.declared.fault.OpenFault.{OpenFault}
 use Rattle.skk_journal.specs.declared.fault.OpenFault.TheVariants.{NotJournal, BadRecord}
 use Rattle.skk_disk.specs.Image.{Image}
 use Rattle.skk_disk.specs.declared.which.Which.{Which}
-use Rattle.skk_journal.specs.declared.choice.Choice.TheVariants.{LiveIn}
+use Rattle.skk_journal.specs.declared.choice.LiveChoice.TheVariants.{LiveIn}
 use Rattle.skk_journal.specs.declared.live.Live.{Live}
 use Rattle.skk_journal.specs.Causes.{file_number}
 use Rattle.skk_journal.specs.Choice.{choice}
 use Rattle.skk_journal.specs.Opening.{with_records, not_journal, bad_record, IsOpened}
 use Rattle.skk_journal.specs.Records.{place_behind, end_of}
-use Rattle.learned_store.specs.declared.form.Form.{Form}
+use Rattle.learned_store.specs.declared.form.PayloadForm.{PayloadForm}
 use Rattle.learned_store.specs.Payloads.{Says, SaysNothing, state_told}
 
 -- records with these payloads, one after another, lead from a state to this one: each says something at its own state
 abbrev pub Leads : State → List (List ℕ) → State → Type 0
 Leads state [] after = after ≡ state
 Leads state (payload ∷ payloads) after =
-    (form : Form) × Says state payload form × Leads (state_told state form) payloads after
+    (form : PayloadForm) × Says state payload form × Leads (state_told state form) payloads after
 
 -- records leave this state behind them, where there was nothing before
 abbrev pub Leave : List (List ℕ) → State → Type 0

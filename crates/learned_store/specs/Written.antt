@@ -8,18 +8,18 @@ use Rattle.skk_calls.specs.States.{State, fits_count}
 use Rattle.skk_journal.specs.Records.{IsSized, need as record_need}
 use Rattle.learn_index.specs.declared.plan.Plan.{Plan}
 use Rattle.learn_index.specs.declared.plan.Plan.TheVariants.{Still, Move}
-use Rattle.learned_store.specs.declared.form.Form.{Form}
-use Rattle.learned_store.specs.declared.form.Form.TheVariants.{Put, Drop, SetCount}
+use Rattle.learned_store.specs.declared.form.PayloadForm.{PayloadForm}
+use Rattle.learned_store.specs.declared.form.PayloadForm.TheVariants.{Put, Drop, SetCount}
 use Rattle.learned_store.specs.Payloads.{Says, is_sound, payload_of, row_told, state_told}
 
 -- a record may be written as far as its numbers and the characters of what it spells have no say in it
-abbrev pub may_stand : Form → Bool
+abbrev pub may_stand : PayloadForm → Bool
 may_stand (Put book count row) = fits_count count row
 may_stand (Drop book count key) = is_row_key key
 may_stand (SetCount book count) = true
 
 -- these bytes are the payload of a record, whose numbers are held and which spells characters
-pub record IsWritten (form : Form) (bytes : List ℕ) : Type 0 where
+pub record IsWritten (form : PayloadForm) (bytes : List ℕ) : Type 0 where
   pub is : bytes ≡ payload_of form
   pub sound : may_stand form ≡ true → is_sound form ≡ true
 
@@ -36,7 +36,7 @@ IsRecordOf plan (Some bytes) = TellsOf plan bytes
 
 -- a payload tells of a call that changes a state what the call makes of it
 pub record Told (state : State) (call : Call) (payload : List ℕ) : Type 0 where
-  pub form : Form
+  pub form : PayloadForm
   pub moved : moves state call ≡ true
   pub sized : IsSized payload
   pub says : Says state payload form

@@ -6,7 +6,7 @@ ghost use Rattle.skk_calls.specs.Canonical.{is_good};
 ghost use Rattle.skk_calls.specs.States.{is_book, is_valid};
 ghost use Rattle.skk_journal.specs.Records.{IsSized, framed, record_bytes};
 ghost use Rattle.learn_index.specs.Kept.{changed, has_changed, kept, numbered};
-ghost use Rattle.learned_store.specs.declared.form.Form.TheVariants.{Put, SetCount};
+ghost use Rattle.learned_store.specs.declared.form.PayloadForm.TheVariants.{Put, SetCount};
 ghost use Rattle.learned_store.specs.Payloads.{payload_of};
 ghost use Rattle.learned_store.specs.Compacted.{compacted, row_forms};
 ghost use Rattle.learned_store.specs.Compacting.{book_records, form_record};

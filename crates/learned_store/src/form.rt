@@ -15,19 +15,21 @@ pub(crate) const SET_COUNT: u8 = 3;
 /// What a record says of the book of a number, which then has a count: that a row stands in it; that it has no row of a
 /// key; or nothing more.
 #[derive(Debug, Drop)]
-pub enum Form {
+pub enum PayloadForm {
     Put { book: u16, count: u64, row: Row },
     Drop { book: u16, count: u64, key: RowKey },
     SetCount { book: u16, count: u64 },
 }
 
-impl Form {
+impl PayloadForm {
     /// The number of the book.
     pub fn book(&self) -> u16
         ensures { result ≡ book_of self.now }
     {
         match self {
-            Form::Put { book, .. } | Form::Drop { book, .. } | Form::SetCount { book, .. } => *book,
+            PayloadForm::Put { book, .. }
+            | PayloadForm::Drop { book, .. }
+            | PayloadForm::SetCount { book, .. } => *book,
         }
     }
 
@@ -36,8 +38,9 @@ impl Form {
         ensures { result ≡ new_count self.now }
     {
         match self {
-            Form::Put { count, .. } | Form::Drop { count, .. } | Form::SetCount { count, .. } =>
-                *count,
+            PayloadForm::Put { count, .. }
+            | PayloadForm::Drop { count, .. }
+            | PayloadForm::SetCount { count, .. } => *count,
         }
     }
 }

@@ -7,7 +7,7 @@ ghost use Rattle.learned_store.specs.Gathering.{placed_entries, row_among, row_p
 ghost use Rattle.learned_store.specs.Reading.{put_with};
 ghost use Rattle.learned_store.specs.Payloads.{Says, SaysNothing, book_of, is_sound, new_count, state_told};
 
-use crate::form::Form;
+use crate::form::PayloadForm;
 use crate::laws::files_are_recovered_in_one_way;
 use crate::payload::{put_fields, read_form, read_key};
 use crate::placed_row::PlacedRow;
@@ -101,7 +101,7 @@ impl Gathered {
     }
 
     // What the payload of the next record says. Takes time in its length.
-    fn read(&self, alloc: Global, payload: &[u8]) -> Result<Option<Form>, Memory>
+    fn read(&self, alloc: Global, payload: &[u8]) -> Result<Option<PayloadForm>, Memory>
         ensures some { IfOk result (λ form. IfSome form (λ f. (state : State) → Gathers self.now state
             → Says state payload.now f)) }
         ensures none { IfOk result (λ form. form ≡ None → (state : State) → Gathers self.now state
@@ -118,21 +118,21 @@ impl Gathered {
     }
 
     // Adds what a record says.
-    fn tell(&mut self, alloc: Global, form: Form) -> Result<(), Memory>
+    fn tell(&mut self, alloc: Global, form: PayloadForm) -> Result<(), Memory>
         ensures { OnOk result ((state : State) → Gathers self.old state → is_sound form ≡ true
             → count_of state (book_of form) ≤ new_count form → Gathers self.new (state_told state form)) }
     {
         let _count = self.counts.insert(form.book(), form.count())?;
         match form {
-            Form::Put { book, row, .. } => {
+            PayloadForm::Put { book, row, .. } => {
                 let key = row.key().copy(alloc)?;
                 let row = StampedRow::new(alloc, row)?;
                 let _row = self.rows.insert(RowPlace { book, key }, row)?;
             }
-            Form::Drop { book, key, .. } => {
+            PayloadForm::Drop { book, key, .. } => {
                 let _row = self.rows.remove(&RowPlace { book, key });
             }
-            Form::SetCount { .. } => {}
+            PayloadForm::SetCount { .. } => {}
         }
         Ok(())
     }

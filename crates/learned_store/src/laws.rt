@@ -9,8 +9,8 @@ ghost use Rattle.skk_disk.specs.Image.{Image};
 ghost use Rattle.skk_journal.specs.Images.{Each};
 ghost use Rattle.skk_journal.specs.Journal.{OpenJournal};
 ghost use Rattle.skk_journal.specs.Records.{IsSized, end_of, need as record_need};
-ghost use Rattle.learned_store.specs.declared.form.Form.{Form};
-ghost use Rattle.learned_store.specs.declared.form.Form.TheVariants.{Put, Drop};
+ghost use Rattle.learned_store.specs.declared.form.PayloadForm.{PayloadForm};
+ghost use Rattle.learned_store.specs.declared.form.PayloadForm.TheVariants.{Put, Drop};
 ghost use Rattle.learned_store.specs.Compacted.{compacted, is_written};
 ghost use Rattle.learned_store.specs.Payloads.{Says, book_of, new_count, payload_of, is_sound};
 ghost use Rattle.learned_store.specs.Payloads.{state_told, change_told};
@@ -23,13 +23,13 @@ use skk_disk::Disk;
 
 /// What a change needs in the learned file is what the record of what it says needs there.
 pub fn changes_need_their_records()
-    ensures { (state : State) (call : Call) (form : Form) → change_told state call ≡ Some form
+    ensures { (state : State) (call : Call) (form : PayloadForm) → change_told state call ≡ Some form
         → need state call ≡ record_need (payload_of form) }
 {}
 
 /// The record of a change leaves the state that the change leaves.
 pub fn records_leave_what_changes_leave()
-    ensures { (state : State) (call : Call) (form : Form) → is_valid state ≡ true → is_call call ≡ true
+    ensures { (state : State) (call : Call) (form : PayloadForm) → is_valid state ≡ true → is_call call ≡ true
         → moves state call ≡ true → change_told state call ≡ Some form → state_told state form ≡ after state call }
 {}
 
@@ -41,7 +41,7 @@ pub fn changes_tell_what_may_be_written()
         → change_told state call ≡ Some (Put book count row) → fits_count count row ≡ true }
     ensures drop { (state : State) (call : Call) (book count : ℕ) (key : RowKey) → is_call call ≡ true
         → change_told state call ≡ Some (Drop book count key) → is_row_key key ≡ true }
-    ensures count { (state : State) (call : Call) (form : Form) → change_told state call ≡ Some form
+    ensures count { (state : State) (call : Call) (form : PayloadForm) → change_told state call ≡ Some form
         → count_of state (book_of form) ≤ new_count form }
 {
     changes_keep_states_valid();
@@ -50,7 +50,7 @@ pub fn changes_tell_what_may_be_written()
 /// A payload says one thing at most, whatever the state; records leave one state at most, and none where one of them
 /// says nothing; and an image is opened in one way at most.
 pub fn files_are_recovered_in_one_way()
-    ensures form { (state later : State) (payload : List ℕ) (form other : Form) → Says state payload form
+    ensures form { (state later : State) (payload : List ℕ) (form other : PayloadForm) → Says state payload form
         → Says later payload other → form ≡ other }
     ensures state { (records : List (List ℕ)) (one two : State) → Leave records one → Leave records two → one ≡ two }
     ensures whole { (records : List (List ℕ)) (at : ℕ) (state : State) → Leave records state → BreakAt records at

@@ -63,7 +63,7 @@ impl<D: Disk, N: LearnedName> Noting<D, N> {
         ensures back { IfErr result (λ none. none.store ≡ store) }
     {
         counting_comes_to_the_tally();
-        let Ok(trace) = Trace::new(alloc, &Opening { store: &store }) else {
+        let Ok(trace) = Trace::new(alloc, &OpeningNote { store: &store }) else {
             return Err(NoDesk { store });
         };
         Ok(Noting {
@@ -107,7 +107,7 @@ impl<D: Disk, N: LearnedName> Noting<D, N> {
         counting_comes_to_the_tally();
         let answer = self.store.serve_over(alloc, found, call);
         self.tally.count(&answer);
-        self.trace.note(&Served {
+        self.trace.note(&AnswerNote {
             store: &self.store,
             number,
             call,
@@ -157,11 +157,11 @@ impl<D: Disk, N: LearnedName> Noting<D, N> {
 
 // What a store was opened with.
 #[derive(Drop)]
-struct Opening<'a, D> {
+struct OpeningNote<'a, D> {
     store: &'a Store<D>,
 }
 
-impl<D: Disk> Shows<Noted> for Opening<'_, D> {
+impl<D: Disk> Shows<Noted> for OpeningNote<'_, D> {
     ghost use Rattle.learned_store.specs.Stands.{opening_note};
     ghost use Rattle.learned_store.specs.Stores.{opening_now};
 
@@ -170,14 +170,14 @@ impl<D: Disk> Shows<Noted> for Opening<'_, D> {
 
 // That a store, which is as it is since, answered a caller.
 #[derive(Drop)]
-struct Served<'a, D> {
+struct AnswerNote<'a, D> {
     store: &'a Store<D>,
     number: u32,
     call: &'a Call,
     answer: &'a Answer,
 }
 
-impl<D: Disk> Shows<Noted> for Served<'_, D> {
+impl<D: Disk> Shows<Noted> for AnswerNote<'_, D> {
     ghost use Rattle.skk_calls.specs.declared.chronicle.Noted.TheVariants.{Entered};
 
     ghost shows = { λ served. Entered served.number served.call.now served.answer.now

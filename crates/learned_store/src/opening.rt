@@ -3,7 +3,7 @@ ghost use Rattle.skk_outside.specs.Faults.{Rose};
 ghost use Rattle.skk_disk.specs.Moments.{Passes};
 ghost use Rattle.skk_disk.specs.Image.{Image};
 ghost use Rattle.skk_calls.specs.States.{State};
-ghost use Rattle.skk_journal.specs.declared.choice.Choice.TheVariants.{NoLive};
+ghost use Rattle.skk_journal.specs.declared.choice.LiveChoice.TheVariants.{NoLive};
 ghost use Rattle.skk_journal.specs.Choice.{choice};
 ghost use Rattle.skk_journal.specs.Causes.{IsRefused as RefusesFrames, UnlessDisk};
 ghost use Rattle.skk_journal.specs.Images.{Each};

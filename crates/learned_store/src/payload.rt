@@ -4,13 +4,13 @@ ghost use Rattle.std.specs.Option.{option_map};
 ghost use Rattle.exact_readers.specs.Formats.{then_at};
 ghost use Rattle.skk_calls.specs.Canonical.{canonical};
 ghost use Rattle.skk_calls.specs.Rows.{same_text};
-ghost use Rattle.learned_store.specs.declared.form.Form.{Form};
-ghost use Rattle.learned_store.specs.declared.form.Form.TheVariants.{Put, Drop};
+ghost use Rattle.learned_store.specs.declared.form.PayloadForm.{PayloadForm};
+ghost use Rattle.learned_store.specs.declared.form.PayloadForm.TheVariants.{Put, Drop};
 ghost use Rattle.learned_store.specs.Payloads.{payload_of, is_sound};
 ghost use Rattle.learned_store.specs.Reading.{put_with, fields, form_of, form_behind, row_of, stamped_row, is_stamp};
 ghost use Rattle.learned_store.specs.Reading.{parted_of, part_of, text_of, key_of, valid_key, line_row};
 
-use crate::form::{DROP, Form, PUT, SET_COUNT};
+use crate::form::{DROP, PUT, PayloadForm, SET_COUNT};
 use crate::plain_row::plain_row;
 use dict_format::{good_rows_are_read_again, lines_spell_one_row, print_line, row_of_line};
 use exact_readers::{read_u16, read_u64};
@@ -21,7 +21,7 @@ use std::str;
 
 // What every payload begins with: the byte of its kind, the number of a book, and a count; and the rest behind them.
 #[derive(Clone, Copy, Debug)]
-struct Fields<'a> {
+struct PayloadFields<'a> {
     kind: u8,
     book: u16,
     count: u64,
@@ -39,9 +39,9 @@ pub(crate) struct PutFields<'a> {
 }
 
 // What a payload says, whatever the state. Takes time in its length.
-pub(crate) fn read_form(alloc: Global, payload: &[u8]) -> Result<Option<Form>, Memory>
+pub(crate) fn read_form(alloc: Global, payload: &[u8]) -> Result<Option<PayloadForm>, Memory>
     ensures some { IfOk result (λ form. IfSome form (λ f. (is_sound f ≡ true) × (payload.now ≡ payload_of f))) }
-    ensures none { IfOk result (λ form. form ≡ None → (f : Form) → is_sound f ≡ true
+    ensures none { IfOk result (λ form. form ≡ None → (f : PayloadForm) → is_sound f ≡ true
         → payload.now ≡ payload_of f → ⊥) }
 {
     good_rows_are_read_again();
@@ -51,7 +51,7 @@ pub(crate) fn read_form(alloc: Global, payload: &[u8]) -> Result<Option<Form>, M
 }
 
 // What is read of a payload.
-fn any_form(alloc: Global, payload: &[u8]) -> Result<Option<Form>, Memory>
+fn any_form(alloc: Global, payload: &[u8]) -> Result<Option<PayloadForm>, Memory>
     ensures { IfOk result (λ form. form ≡ form_of payload.now) }
 {
     match fields_of(payload) {
@@ -61,14 +61,14 @@ fn any_form(alloc: Global, payload: &[u8]) -> Result<Option<Form>, Memory>
 }
 
 // What is read behind the fields of a payload.
-fn form_behind(alloc: Global, fields: &Fields<'_>) -> Result<Option<Form>, Memory>
+fn form_behind(alloc: Global, fields: &PayloadFields<'_>) -> Result<Option<PayloadForm>, Memory>
     ensures { IfOk result (λ form. form
         ≡ form_behind fields.now.kind fields.now.book fields.now.count fields.now.rest.now) }
 {
     match fields.kind {
         PUT => put_of(alloc, fields.book, fields.count, fields.rest),
         DROP => drop_of(alloc, fields.book, fields.count, fields.rest),
-        SET_COUNT if fields.rest.is_empty() => Ok(Some(Form::SetCount {
+        SET_COUNT if fields.rest.is_empty() => Ok(Some(PayloadForm::SetCount {
             book: fields.book,
             count: fields.count,
         })),
@@ -77,19 +77,19 @@ fn form_behind(alloc: Global, fields: &Fields<'_>) -> Result<Option<Form>, Memor
 }
 
 // That a row is put into a book, where one is read.
-fn put_of(alloc: Global, book: u16, count: u64, rest: &[u8]) -> Result<Option<Form>, Memory>
+fn put_of(alloc: Global, book: u16, count: u64, rest: &[u8]) -> Result<Option<PayloadForm>, Memory>
     ensures { IfOk result (λ form. form ≡ option_map (Put book count) (row_of count rest.now)) }
 {
     let row = read_row(alloc, count, rest)?;
-    Ok(row.map(|row| Form::Put { book, count, row }))
+    Ok(row.map(|row| PayloadForm::Put { book, count, row }))
 }
 
 // That the row of a key is taken out of a book, where a key is read.
-fn drop_of(alloc: Global, book: u16, count: u64, rest: &[u8]) -> Result<Option<Form>, Memory>
+fn drop_of(alloc: Global, book: u16, count: u64, rest: &[u8]) -> Result<Option<PayloadForm>, Memory>
     ensures { IfOk result (λ form. form ≡ option_map (Drop book count) (key_of rest.now)) }
 {
     let key = read_key(alloc, rest)?;
-    Ok(key.map(|key| Form::Drop { book, count, key }))
+    Ok(key.map(|key| PayloadForm::Drop { book, count, key }))
 }
 
 // The fields of a payload that puts a row of a stamp that its count allows into a book. The row is not read.
@@ -115,14 +115,14 @@ pub(crate) fn put_fields(payload: &[u8]) -> Option<PutFields<'_>>
 }
 
 // The fields of a payload, where it is long enough for them.
-fn fields_of(payload: &[u8]) -> Option<Fields<'_>>
+fn fields_of(payload: &[u8]) -> Option<PayloadFields<'_>>
     ensures { option_map (λ read. ((read.kind, (read.book, read.count)), read.rest.now)) result
         ≡ fields.step payload.now }
 {
     let (kind, rest) = payload.split_first()?;
     let (book, rest) = read_u16(rest)?;
     let (count, rest) = read_u64(rest)?;
-    Some(Fields {
+    Some(PayloadFields {
         kind: *kind,
         book,
         count,

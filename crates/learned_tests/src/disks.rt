@@ -9,7 +9,7 @@ use std::process::Abort;
 // A call of a disk and its answer. Of a read there is the place that is read from, and behind the answer all of the
 // buffer then, which was dots.
 #[derive(Clone, Copy, Debug)]
-enum Step<'a> {
+enum DiskStep<'a> {
     Len(Which, Result<u64, Failed>),
     Read(Which, u64, Result<usize, Failed>, &'a str),
     Write(Which, u64, &'a str, Result<(), Failed>),
@@ -19,28 +19,34 @@ enum Step<'a> {
 
 // Makes calls of a disk one after another. What its answers say besides is none of a test's business, and a call that
 // stands alone is proved in a moment.
-fn expect_steps<R: Abort, D: Disk>(rt: &R, alloc: Global, disk: &mut D, steps: &[Step]) {
+fn expect_steps<R: Abort, D: Disk>(rt: &R, alloc: Global, disk: &mut D, steps: &[DiskStep]) {
     for step in steps {
         expect_step(rt, alloc, disk, *step);
     }
 }
 
-fn expect_step<R: Abort, D: Disk>(rt: &R, alloc: Global, disk: &mut D, step: Step) {
+fn expect_step<R: Abort, D: Disk>(rt: &R, alloc: Global, disk: &mut D, step: DiskStep) {
     match step {
-        Step::Len(file, answer) => same_at(disk.len(file), answer, step).expect(rt, "as wanted"),
-        Step::Read(file, at, answer, left) => {
+        DiskStep::Len(file, answer) => same_at(disk.len(file), answer, step).expect(
+            rt,
+            "as wanted",
+        ),
+        DiskStep::Read(file, at, answer, left) => {
             let mut into = vec![in alloc; b'.'; left.len()].expect(rt, "memory");
             same_at(disk.read_at(file, at, &mut into), answer, step).expect(rt, "as wanted");
             same_at(into.as_slice(), left.as_bytes(), step).expect(rt, "as wanted");
         }
-        Step::Write(file, at, from, answer) => {
+        DiskStep::Write(file, at, from, answer) => {
             same_at(disk.write_at(file, at, from.as_bytes()), answer, step).expect(rt, "as wanted");
         }
-        Step::Cut(file, len, answer) => same_at(disk.cut(file, len), answer, step).expect(
+        DiskStep::Cut(file, len, answer) => same_at(disk.cut(file, len), answer, step).expect(
             rt,
             "as wanted",
         ),
-        Step::Sync(file, answer) => same_at(disk.sync(file), answer, step).expect(rt, "as wanted"),
+        DiskStep::Sync(file, answer) => same_at(disk.sync(file), answer, step).expect(
+            rt,
+            "as wanted",
+        ),
     }
 }
 
@@ -61,17 +67,17 @@ fn records_what_failed(made: &[MadeCall]) -> bool {
     )
 }
 
-static FAILING: &[Step<'static>] = &[
-    Step::Write(Which::A, 0, "abc", Ok(())),
-    Step::Write(Which::A, 1, "xyz", Err(Failed)),
-    Step::Len(Which::A, Ok(3)),
-    Step::Cut(Which::A, 1, Err(Failed)),
-    Step::Sync(Which::A, Ok(())),
-    Step::Sync(Which::A, Err(Failed)),
-    Step::Read(Which::A, 0, Ok(3), "abc."),
-    Step::Read(Which::A, 0, Err(Failed), "."),
-    Step::Len(Which::B, Ok(0)),
-    Step::Len(Which::A, Err(Failed)),
+static FAILING: &[DiskStep<'static>] = &[
+    DiskStep::Write(Which::A, 0, "abc", Ok(())),
+    DiskStep::Write(Which::A, 1, "xyz", Err(Failed)),
+    DiskStep::Len(Which::A, Ok(3)),
+    DiskStep::Cut(Which::A, 1, Err(Failed)),
+    DiskStep::Sync(Which::A, Ok(())),
+    DiskStep::Sync(Which::A, Err(Failed)),
+    DiskStep::Read(Which::A, 0, Ok(3), "abc."),
+    DiskStep::Read(Which::A, 0, Err(Failed), "."),
+    DiskStep::Len(Which::B, Ok(0)),
+    DiskStep::Len(Which::A, Err(Failed)),
 ];
 
 #[test]
@@ -83,22 +89,22 @@ fn a_disk_in_memory_fails_at_the_calls_that_are_to_fail(rt: HostRuntime) {
 }
 
 // Changes of the first file, and what a read of it from its second byte on gives afterwards.
-static CHANGES: &[Step<'static>] = &[
-    Step::Write(Which::A, 2, "abcd", Ok(())),
-    Step::Read(Which::A, 1, Ok(5), "\0abcd."),
-    Step::Write(Which::A, 3, "xy", Ok(())),
-    Step::Read(Which::A, 1, Ok(4), "\0axy"),
-    Step::Cut(Which::A, 9, Ok(())),
-    Step::Len(Which::A, Ok(6)),
-    Step::Cut(Which::A, 4, Ok(())),
-    Step::Read(Which::A, 1, Ok(3), "\0ax."),
-    Step::Read(Which::A, 4, Ok(0), "."),
-    Step::Read(Which::A, 1 << 40, Ok(0), "."),
-    Step::Write(Which::A, 1, "", Ok(())),
-    Step::Write(Which::A, 6, "", Ok(())),
-    Step::Read(Which::A, 3, Ok(3), "x\0\0."),
-    Step::Sync(Which::A, Ok(())),
-    Step::Len(Which::B, Ok(0)),
+static CHANGES: &[DiskStep<'static>] = &[
+    DiskStep::Write(Which::A, 2, "abcd", Ok(())),
+    DiskStep::Read(Which::A, 1, Ok(5), "\0abcd."),
+    DiskStep::Write(Which::A, 3, "xy", Ok(())),
+    DiskStep::Read(Which::A, 1, Ok(4), "\0axy"),
+    DiskStep::Cut(Which::A, 9, Ok(())),
+    DiskStep::Len(Which::A, Ok(6)),
+    DiskStep::Cut(Which::A, 4, Ok(())),
+    DiskStep::Read(Which::A, 1, Ok(3), "\0ax."),
+    DiskStep::Read(Which::A, 4, Ok(0), "."),
+    DiskStep::Read(Which::A, 1 << 40, Ok(0), "."),
+    DiskStep::Write(Which::A, 1, "", Ok(())),
+    DiskStep::Write(Which::A, 6, "", Ok(())),
+    DiskStep::Read(Which::A, 3, Ok(3), "x\0\0."),
+    DiskStep::Sync(Which::A, Ok(())),
+    DiskStep::Len(Which::B, Ok(0)),
 ];
 
 #[test]
@@ -125,7 +131,7 @@ fn expect_files<R: Abort + Files<File = File>>(
     alloc: Global,
     a: &str,
     b: &str,
-    steps: &[Step],
+    steps: &[DiskStep],
 ) {
     let a = text(rt, alloc, a);
     let mut disk = FileDisk::new(rt, a, text(rt, alloc, b));
@@ -143,50 +149,50 @@ fn expect_taken<R: Abort + Files<File = File>>(rt: &R, alloc: Global, a: &str, b
 
 const FOLDER: &str = "learned_tests_disk";
 
-static WRITTEN: &[Step<'static>] = &[
-    Step::Read(Which::A, 0, Ok(6), "\0\0ax\0\0."),
-    Step::Len(Which::B, Err(Failed)),
-    Step::Write(Which::A, 1, "z", Ok(())),
-    Step::Write(Which::B, 0, "x", Err(Failed)),
-    Step::Cut(Which::A, 3, Ok(())),
-    Step::Cut(Which::B, 0, Err(Failed)),
-    Step::Sync(Which::A, Ok(())),
-    Step::Sync(Which::B, Err(Failed)),
-    Step::Read(Which::B, 0, Err(Failed), "."),
-    Step::Read(Which::A, 0, Ok(3), "\0za."),
-    Step::Len(Which::A, Ok(3)),
+static WRITTEN: &[DiskStep<'static>] = &[
+    DiskStep::Read(Which::A, 0, Ok(6), "\0\0ax\0\0."),
+    DiskStep::Len(Which::B, Err(Failed)),
+    DiskStep::Write(Which::A, 1, "z", Ok(())),
+    DiskStep::Write(Which::B, 0, "x", Err(Failed)),
+    DiskStep::Cut(Which::A, 3, Ok(())),
+    DiskStep::Cut(Which::B, 0, Err(Failed)),
+    DiskStep::Sync(Which::A, Ok(())),
+    DiskStep::Sync(Which::B, Err(Failed)),
+    DiskStep::Read(Which::B, 0, Err(Failed), "."),
+    DiskStep::Read(Which::A, 0, Ok(3), "\0za."),
+    DiskStep::Len(Which::A, Ok(3)),
 ];
 
 // A second file whose folder is not there is empty until it is written.
-static ABSENT: &[Step<'static>] = &[
-    Step::Len(Which::B, Ok(0)),
-    Step::Read(Which::B, 0, Ok(0), "."),
-    Step::Cut(Which::B, 0, Ok(())),
-    Step::Sync(Which::B, Ok(())),
-    Step::Write(Which::B, 0, "x", Err(Failed)),
-    Step::Len(Which::B, Ok(0)),
-    Step::Len(Which::A, Ok(3)),
+static ABSENT: &[DiskStep<'static>] = &[
+    DiskStep::Len(Which::B, Ok(0)),
+    DiskStep::Read(Which::B, 0, Ok(0), "."),
+    DiskStep::Cut(Which::B, 0, Ok(())),
+    DiskStep::Sync(Which::B, Ok(())),
+    DiskStep::Write(Which::B, 0, "x", Err(Failed)),
+    DiskStep::Len(Which::B, Ok(0)),
+    DiskStep::Len(Which::A, Ok(3)),
 ];
 
-static OPENED: &[Step<'static>] = &[Step::Len(Which::A, Ok(6))];
+static OPENED: &[DiskStep<'static>] = &[DiskStep::Len(Which::A, Ok(6))];
 
-static TAKEN: &[Step<'static>] = &[
-    Step::Len(Which::A, Err(Failed)),
-    Step::Read(Which::A, 0, Err(Failed), "."),
-    Step::Write(Which::A, 0, "x", Err(Failed)),
-    Step::Cut(Which::A, 0, Err(Failed)),
-    Step::Sync(Which::A, Err(Failed)),
-    Step::Len(Which::B, Ok(0)),
+static TAKEN: &[DiskStep<'static>] = &[
+    DiskStep::Len(Which::A, Err(Failed)),
+    DiskStep::Read(Which::A, 0, Err(Failed), "."),
+    DiskStep::Write(Which::A, 0, "x", Err(Failed)),
+    DiskStep::Cut(Which::A, 0, Err(Failed)),
+    DiskStep::Sync(Which::A, Err(Failed)),
+    DiskStep::Len(Which::B, Ok(0)),
 ];
 
-static SHUT: &[Step<'static>] = &[
-    Step::Write(Which::A, 0, "x", Err(Failed)),
-    Step::Sync(Which::A, Err(Failed)),
+static SHUT: &[DiskStep<'static>] = &[
+    DiskStep::Write(Which::A, 0, "x", Err(Failed)),
+    DiskStep::Sync(Which::A, Err(Failed)),
 ];
 
-static FULL: &[Step<'static>] = &[
-    Step::Write(Which::A, 0, "x", Err(Failed)),
-    Step::Write(Which::A, 0, "", Ok(())),
+static FULL: &[DiskStep<'static>] = &[
+    DiskStep::Write(Which::A, 0, "x", Err(Failed)),
+    DiskStep::Write(Which::A, 0, "", Ok(())),
 ];
 
 #[test]

@@ -59,16 +59,16 @@ pub(crate) const IN_ORDER: &[u8] = b"\x01\x20\0\0\0\x01\x01\0\x03\0\0\0\0\0\0\0\
 
 // What a file has: these bytes; or a first byte, the mark, a generation, and what stands behind them.
 #[derive(Clone, Copy, Debug)]
-pub(crate) enum Content<'a> {
+pub(crate) enum FileContent<'a> {
     Bytes(&'a [u8]),
     Headed(u8, u64, &'a [u8]),
 }
 
 // The bytes of a file.
-pub(crate) fn bytes_of<R: Abort>(rt: &R, alloc: Global, content: Content) -> Vec<u8> {
+pub(crate) fn bytes_of<R: Abort>(rt: &R, alloc: Global, content: FileContent) -> Vec<u8> {
     match content {
-        Content::Bytes(bytes) => bytes.to_vec(alloc).expect(rt, "memory"),
-        Content::Headed(first, generation, tail) => {
+        FileContent::Bytes(bytes) => bytes.to_vec(alloc).expect(rt, "memory"),
+        FileContent::Headed(first, generation, tail) => {
             let mut bytes = vec![in alloc; first].expect(rt, "memory");
             bytes.extend_from_slice(b"SKKDESK\x01").expect(rt, "memory");
             bytes

@@ -1,12 +1,12 @@
 use crate::journals::write;
-use crate::stores::{Step, ask_each, lines, opened_file};
+use crate::stores::{StoreStep, ask_each, lines, opened_file};
 use expectations::same_at;
 use skk_disk::{Disk, MadeCall, MemDisk, Which};
 use std::alloc::Global;
 use std::process::Abort;
 
 // The reading and the word that are learnt again and again here.
-pub(crate) const LEARNING: &[Step<'static>] = &[Step::Learn("かんじ", "漢字")];
+pub(crate) const LEARNING: &[StoreStep<'static>] = &[StoreStep::Learn("かんじ", "漢字")];
 
 // A limit that nothing here comes to.
 const FAR: u64 = 1_000_000;

@@ -75,7 +75,7 @@ fn expect_records<R: Abort>(rt: &R, records: &Records, expected: &[(u64, &[u8])]
 // What is asked of a journal, and its answer: to add a record within a limit, to fill the other file with records, to
 // repair what is in doubt, which file is live, where its records end, and whether a gate is in doubt.
 #[derive(Clone, Copy, Debug)]
-enum Step<'a> {
+enum JournalStep<'a> {
     Append(u64, &'a [u8], Result<(), AppendFault>),
     Compact(&'a [u8], Result<(), Failed>),
     Repair(Result<(), Failed>),
@@ -86,24 +86,30 @@ enum Step<'a> {
 
 // Asks a journal one step after another. Each stands in a call of its own that tells its caller nothing, so that the
 // proof of a test carries nothing from step to step.
-fn expect_steps<R: Abort, D: Disk>(rt: &R, journal: &mut Journal<D>, steps: &[Step]) {
+fn expect_steps<R: Abort, D: Disk>(rt: &R, journal: &mut Journal<D>, steps: &[JournalStep]) {
     for step in steps {
         expect_step(rt, journal, *step);
     }
 }
 
-fn expect_step<R: Abort, D: Disk>(rt: &R, journal: &mut Journal<D>, step: Step) {
+fn expect_step<R: Abort, D: Disk>(rt: &R, journal: &mut Journal<D>, step: JournalStep) {
     match step {
-        Step::Append(limit, payload, answer) => {
+        JournalStep::Append(limit, payload, answer) => {
             same_at(append(rt, journal, limit, payload), answer, step).expect(rt, "as wanted");
         }
-        Step::Compact(records, answer) => {
+        JournalStep::Compact(records, answer) => {
             same_at(compact(rt, journal, records), answer, step).expect(rt, "as wanted");
         }
-        Step::File(file) => same_at(journal.file(), file, step).expect(rt, "as wanted"),
-        Step::Repair(answer) => same_at(journal.repair(), answer, step).expect(rt, "as wanted"),
-        Step::End(end) => same_at(journal.end(), end, step).expect(rt, "as wanted"),
-        Step::InDoubt(doubt) => same_at(journal.in_doubt(), doubt, step).expect(rt, "as wanted"),
+        JournalStep::File(file) => same_at(journal.file(), file, step).expect(rt, "as wanted"),
+        JournalStep::Repair(answer) => same_at(journal.repair(), answer, step).expect(
+            rt,
+            "as wanted",
+        ),
+        JournalStep::End(end) => same_at(journal.end(), end, step).expect(rt, "as wanted"),
+        JournalStep::InDoubt(doubt) => same_at(journal.in_doubt(), doubt, step).expect(
+            rt,
+            "as wanted",
+        ),
     }
 }
 
@@ -136,7 +142,7 @@ fn expect_journal<R: Abort, D: Disk + Drop>(
     alloc: Global,
     disk: D,
     records: &[(u64, &[u8])],
-    steps: &[Step],
+    steps: &[JournalStep],
 ) -> D {
     let mut journal = open(rt, alloc, disk, records);
     expect_steps(rt, &mut journal, steps);
@@ -173,23 +179,23 @@ fn an_empty_file_is_made_anew_and_a_record_is_its_bytes(rt: HostRuntime) {
         limit: 60,
     };
     let steps = [
-        Step::End(18),
-        Step::Append(60, LEARNING, Err(full)),
-        Step::Append(61, LEARNING, Ok(())),
-        Step::End(61),
+        JournalStep::End(18),
+        JournalStep::Append(60, LEARNING, Err(full)),
+        JournalStep::Append(61, LEARNING, Ok(())),
+        JournalStep::End(61),
     ];
     let disk = disk_of(&rt, alloc, b"", &[]);
     let mut disk = expect_journal(&rt, alloc, disk, &[], &steps);
     same(disk.made().len(), 14).expect(&rt, "as wanted");
     expect_file(&rt, alloc, &mut disk, Which::A, LEARNT_FILE);
-    let steps = [Step::End(61), Step::InDoubt(false)];
+    let steps = [JournalStep::End(61), JournalStep::InDoubt(false)];
     expect_journal(&rt, alloc, disk, &[(17, LEARNING)], &steps);
 }
 
 // What a file is opened as: records with their places, its first byte, or the place that is refused and the records
 // before it.
 #[derive(Clone, Copy, Debug)]
-enum Row {
+enum OpenedRow {
     Anew,
     Records(&'static [(u64, &'static [u8])]),
     NotJournal(u8),
@@ -197,9 +203,9 @@ enum Row {
 }
 
 // Opens a file, and tells that a file that is refused, or has records, is the same afterwards.
-fn expect_row<R: Abort>(rt: &R, alloc: Global, bytes: &[u8], row: Row) {
+fn expect_row<R: Abort>(rt: &R, alloc: Global, bytes: &[u8], row: OpenedRow) {
     let left = match row {
-        Row::Anew => NEW_FILE,
+        OpenedRow::Anew => NEW_FILE,
         _ => bytes,
     };
     let disk = disk_of(rt, alloc, bytes, &[]);
@@ -208,7 +214,7 @@ fn expect_row<R: Abort>(rt: &R, alloc: Global, bytes: &[u8], row: Row) {
 }
 
 // The disk of a learned file that is opened as a row has it.
-fn opened_as<R: Abort, D: Disk + Drop>(rt: &R, alloc: Global, disk: D, row: Row) -> D {
+fn opened_as<R: Abort, D: Disk + Drop>(rt: &R, alloc: Global, disk: D, row: OpenedRow) -> D {
     match Journal::open(alloc, disk) {
         Ok((journal, records)) => {
             expect_opened(rt, &records, row);
@@ -221,20 +227,20 @@ fn opened_as<R: Abort, D: Disk + Drop>(rt: &R, alloc: Global, disk: D, row: Row)
     }
 }
 
-fn expect_opened<R: Abort>(rt: &R, records: &Records, row: Row) {
+fn expect_opened<R: Abort>(rt: &R, records: &Records, row: OpenedRow) {
     match row {
-        Row::Anew => expect_records(rt, records, &[]),
-        Row::Records(expected) => expect_records(rt, records, expected),
+        OpenedRow::Anew => expect_records(rt, records, &[]),
+        OpenedRow::Records(expected) => expect_records(rt, records, expected),
         _ => assert!(rt; false, "{row:?} is opened"),
     }
 }
 
-fn expect_fault<R: Abort>(rt: &R, why: &OpenFault, row: Row) {
+fn expect_fault<R: Abort>(rt: &R, why: &OpenFault, row: OpenedRow) {
     match (why, row) {
-        (OpenFault::NotJournal { file, first }, Row::NotJournal(byte)) => {
+        (OpenFault::NotJournal { file, first }, OpenedRow::NotJournal(byte)) => {
             same((*file, *first), (0, byte)).expect(rt, "as wanted");
         }
-        (OpenFault::BadRecord { file, at, before }, Row::BadRecord(place, expected)) => {
+        (OpenFault::BadRecord { file, at, before }, OpenedRow::BadRecord(place, expected)) => {
             same((*file, *at), (0, place)).expect(rt, "as wanted");
             expect_records(rt, before, expected);
         }
@@ -243,26 +249,38 @@ fn expect_fault<R: Abort>(rt: &R, why: &OpenFault, row: Row) {
 }
 
 // A file, and what it is opened as.
-static HEADS: &[(&[u8], Row)] = &[
-    (b"", Row::Anew),
-    (b"P", Row::Anew),
-    (b"\x01", Row::Anew),
-    (b"\0plain text", Row::Anew),
-    (b"\x02SKKDESK\x01", Row::Anew),
-    (b"\xffSKKDESK\x01 and text", Row::Anew),
-    (b"P.", Row::NotJournal(80)),
-    (b"\x01\x01", Row::NotJournal(1)),
-    (b"\x01SKKDESK", Row::NotJournal(1)),
-    (b"\x02SKKDESK", Row::NotJournal(2)),
-    (b"\x01SKKDESK\x02\x01\0\0\0\0\0\0\0\0", Row::NotJournal(1)),
-    (b"\x01SKKDESC\x01\x01\0\0\0\0\0\0\0\0", Row::NotJournal(1)),
-    (b"\x01SKKDESK\x01", Row::BadRecord(9, &[])),
-    (b"\x01SKKDESK\x01\x01\0\0\0\0\0\0", Row::BadRecord(9, &[])),
+static HEADS: &[(&[u8], OpenedRow)] = &[
+    (b"", OpenedRow::Anew),
+    (b"P", OpenedRow::Anew),
+    (b"\x01", OpenedRow::Anew),
+    (b"\0plain text", OpenedRow::Anew),
+    (b"\x02SKKDESK\x01", OpenedRow::Anew),
+    (b"\xffSKKDESK\x01 and text", OpenedRow::Anew),
+    (b"P.", OpenedRow::NotJournal(80)),
+    (b"\x01\x01", OpenedRow::NotJournal(1)),
+    (b"\x01SKKDESK", OpenedRow::NotJournal(1)),
+    (b"\x02SKKDESK", OpenedRow::NotJournal(2)),
+    (
+        b"\x01SKKDESK\x02\x01\0\0\0\0\0\0\0\0",
+        OpenedRow::NotJournal(1),
+    ),
+    (
+        b"\x01SKKDESC\x01\x01\0\0\0\0\0\0\0\0",
+        OpenedRow::NotJournal(1),
+    ),
+    (b"\x01SKKDESK\x01", OpenedRow::BadRecord(9, &[])),
+    (
+        b"\x01SKKDESK\x01\x01\0\0\0\0\0\0",
+        OpenedRow::BadRecord(9, &[]),
+    ),
     (
         b"\x01SKKDESK\x01\x01\0\0\0\0\0\0\0",
-        Row::BadRecord(17, &[]),
+        OpenedRow::BadRecord(17, &[]),
     ),
-    (b"\x01SKKDESK\x01\x07\0\0\0\0\0\0\x09\0", Row::Records(&[])),
+    (
+        b"\x01SKKDESK\x01\x07\0\0\0\0\0\0\x09\0",
+        OpenedRow::Records(&[]),
+    ),
 ];
 
 #[test]
@@ -273,25 +291,28 @@ fn files_are_opened_by_their_heads(rt: HostRuntime) {
 }
 
 // What stands behind the head of a file, and what that is opened as.
-static TAILS: &[(&[u8], Row)] = &[
-    (b"\0\x01\x01\0\0\0x\0", Row::Records(&[])),
-    (b"\x02\x01\0\0\0x\0", Row::Records(&[])),
-    (b"\x01", Row::BadRecord(17, &[])),
-    (b"\x01\x01\0\0", Row::BadRecord(17, &[])),
-    (b"\x01\0\0\0\0\0", Row::BadRecord(17, &[])),
-    (b"\x01\x02\0\0\0x", Row::BadRecord(17, &[])),
-    (b"\x01\x01\0\x02\0x", Row::BadRecord(17, &[])),
-    (b"\x01\xff\xff\xff\xffx", Row::BadRecord(17, &[])),
-    (b"\x01\x01\0\0\0x", Row::BadRecord(23, &[(17, b"x")])),
-    (b"\x01\x01\0\0\0x\0", Row::Records(&[(17, b"x")])),
-    (b"\x01\x01\0\0\0x\xffrest", Row::Records(&[(17, b"x")])),
+static TAILS: &[(&[u8], OpenedRow)] = &[
+    (b"\0\x01\x01\0\0\0x\0", OpenedRow::Records(&[])),
+    (b"\x02\x01\0\0\0x\0", OpenedRow::Records(&[])),
+    (b"\x01", OpenedRow::BadRecord(17, &[])),
+    (b"\x01\x01\0\0", OpenedRow::BadRecord(17, &[])),
+    (b"\x01\0\0\0\0\0", OpenedRow::BadRecord(17, &[])),
+    (b"\x01\x02\0\0\0x", OpenedRow::BadRecord(17, &[])),
+    (b"\x01\x01\0\x02\0x", OpenedRow::BadRecord(17, &[])),
+    (b"\x01\xff\xff\xff\xffx", OpenedRow::BadRecord(17, &[])),
+    (b"\x01\x01\0\0\0x", OpenedRow::BadRecord(23, &[(17, b"x")])),
+    (b"\x01\x01\0\0\0x\0", OpenedRow::Records(&[(17, b"x")])),
+    (
+        b"\x01\x01\0\0\0x\xffrest",
+        OpenedRow::Records(&[(17, b"x")]),
+    ),
     (
         b"\x01\x01\0\0\0x\x01\x02\0\0\0yz\0",
-        Row::Records(&[(17, b"x"), (23, b"yz")]),
+        OpenedRow::Records(&[(17, b"x"), (23, b"yz")]),
     ),
     (
         b"\x01\x01\0\0\0x\x01\x02\0\0\0yz\x01\0\0\0\0",
-        Row::BadRecord(30, &[(17, b"x"), (23, b"yz")]),
+        OpenedRow::BadRecord(30, &[(17, b"x"), (23, b"yz")]),
     ),
 ];
 
@@ -316,14 +337,14 @@ fn records_of_any_length_are_read_part_by_part(rt: HostRuntime) {
 fn expect_lengths<'x, R: Abort>(rt: &R, alloc: Global, longest: &'x [u8], long: &'x [u8]) {
     const LIMIT: u64 = 1 << 28;
     let steps = [
-        Step::Append(LIMIT, b"x", Ok(())),
-        Step::Append(LIMIT, longest, Ok(())),
-        Step::Append(LIMIT, long, Ok(())),
-        Step::Append(LIMIT, long, Ok(())),
-        Step::Append(LIMIT, b"y", Ok(())),
-        Step::Append(LIMIT, longest, Ok(())),
-        Step::Append(LIMIT, b"z", Ok(())),
-        Step::End(402_200),
+        JournalStep::Append(LIMIT, b"x", Ok(())),
+        JournalStep::Append(LIMIT, longest, Ok(())),
+        JournalStep::Append(LIMIT, long, Ok(())),
+        JournalStep::Append(LIMIT, long, Ok(())),
+        JournalStep::Append(LIMIT, b"y", Ok(())),
+        JournalStep::Append(LIMIT, longest, Ok(())),
+        JournalStep::Append(LIMIT, b"z", Ok(())),
+        JournalStep::End(402_200),
     ];
     let expected: &[(u64, &[u8])] = &[
         (17, b"x"),
@@ -348,7 +369,7 @@ fn a_record_may_not_be_one_byte_too_long(rt: HostRuntime) {
     write(&rt, &mut disk, Which::A, 22, &longest);
     write(&rt, &mut disk, Which::A, 22 + 131_072, b"a\0");
     let unopened = unopened(alloc, disk).expect(&rt, "a record that is too long is opened");
-    expect_fault(&rt, &unopened.why, Row::BadRecord(17, &[]));
+    expect_fault(&rt, &unopened.why, OpenedRow::BadRecord(17, &[]));
 }
 
 // A disk whose file has one record, the calls of which with these numbers fail: the first one behind its opening is
@@ -385,22 +406,22 @@ fn expect_kinds<R: Abort>(rt: &R, alloc: Global, disk: &MemDisk, wanted: &str) {
 
 // Two new files, of which each is filled once. The seventh call of the second filling is to fail, which is the
 // thirty-sixth in all: the opening has twelve, each record four, and the first filling nine.
-static FILLED: &[Step<'static>] = &[
-    Step::File(0),
-    Step::Append(1000, b"x", Ok(())),
-    Step::Compact(b"\x01\x02\0\0\0yz", Ok(())),
-    Step::File(1),
-    Step::End(25),
-    Step::Append(1000, b"w", Ok(())),
-    Step::Compact(b"", Err(Failed)),
-    Step::InDoubt(true),
-    Step::File(1),
-    Step::End(31),
-    Step::Repair(Ok(())),
-    Step::Compact(b"", Ok(())),
-    Step::File(0),
-    Step::End(18),
-    Step::InDoubt(false),
+static FILLED: &[JournalStep<'static>] = &[
+    JournalStep::File(0),
+    JournalStep::Append(1000, b"x", Ok(())),
+    JournalStep::Compact(b"\x01\x02\0\0\0yz", Ok(())),
+    JournalStep::File(1),
+    JournalStep::End(25),
+    JournalStep::Append(1000, b"w", Ok(())),
+    JournalStep::Compact(b"", Err(Failed)),
+    JournalStep::InDoubt(true),
+    JournalStep::File(1),
+    JournalStep::End(31),
+    JournalStep::Repair(Ok(())),
+    JournalStep::Compact(b"", Ok(())),
+    JournalStep::File(0),
+    JournalStep::End(18),
+    JournalStep::InDoubt(false),
 ];
 
 #[test]
@@ -435,11 +456,11 @@ fn a_record_whose_calls_fail_is_in_doubt_from_the_third_on(rt: HostRuntime) {
 
 fn expect_doubt<R: Abort>(rt: &R, alloc: Global, call: u64, doubt: bool, made: &str) {
     let steps = [
-        Step::Append(1000, b"x", Err(AppendFault::Disk)),
-        Step::InDoubt(doubt),
-        Step::End(61),
-        Step::Repair(Ok(())),
-        Step::Append(1000, b"y", Ok(())),
+        JournalStep::Append(1000, b"x", Err(AppendFault::Disk)),
+        JournalStep::InDoubt(doubt),
+        JournalStep::End(61),
+        JournalStep::Repair(Ok(())),
+        JournalStep::Append(1000, b"y", Ok(())),
     ];
     let disk = failing_disk(rt, alloc, &[call]);
     let disk = expect_journal(rt, alloc, disk, &[(17, LEARNING)], &steps);
@@ -451,12 +472,12 @@ fn expect_doubt<R: Abort>(rt: &R, alloc: Global, call: u64, doubt: bool, made: &
 fn a_doubt_stands_until_it_is_repaired(rt: HostRuntime) {
     let alloc = rt.alloc();
     let steps = [
-        Step::Append(1000, b"x", Err(AppendFault::Disk)),
-        Step::Repair(Err(Failed)),
-        Step::Repair(Err(Failed)),
-        Step::InDoubt(true),
-        Step::Repair(Ok(())),
-        Step::InDoubt(false),
+        JournalStep::Append(1000, b"x", Err(AppendFault::Disk)),
+        JournalStep::Repair(Err(Failed)),
+        JournalStep::Repair(Err(Failed)),
+        JournalStep::InDoubt(true),
+        JournalStep::Repair(Ok(())),
+        JournalStep::InDoubt(false),
     ];
     let disk = failing_disk(&rt, alloc, &[13, 14, 16]);
     let disk = expect_journal(&rt, alloc, disk, &[(17, LEARNING)], &steps);
@@ -512,7 +533,7 @@ fn a_file_of_the_system_is_a_journal(rt: HostRuntime) {
 
 // Learns in the new file of a disk.
 fn expect_learnt_file<R: Abort, D: Disk + Drop>(rt: &R, alloc: Global, disk: D) {
-    let steps = [Step::Append(1000, LEARNING, Ok(()))];
+    let steps = [JournalStep::Append(1000, LEARNING, Ok(()))];
     let mut disk = expect_journal(rt, alloc, disk, &[], &steps);
     expect_file(rt, alloc, &mut disk, Which::A, LEARNT_FILE);
     expect_journal(rt, alloc, disk, &[(17, LEARNING)], &[]);

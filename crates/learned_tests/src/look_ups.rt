@@ -17,7 +17,7 @@ const DICTIONARY: &str = ";; okuri-ari entries.\n;; okuri-nasi entries.\nかん�
 
 // What is asked of a store, all for かんじ.
 #[derive(Clone, Copy, Debug)]
-enum Step<'a> {
+enum LookUpStep<'a> {
     // Finds the words for a typist.
     Find(u16),
     // Purges a word in a book.
@@ -27,15 +27,15 @@ enum Step<'a> {
 }
 
 // A step, what the answer tells, and whether what typist 1 finds is kept then.
-static STEPS: &[(Step<'static>, &str, bool)] = &[
-    (Step::Find(2), "漢字 幹事;宴会の 感じ ", false),
-    (Step::Find(1), "漢字 幹事;宴会の 感じ ", true),
-    (Step::Purge(1, "漢字"), "Purged", false),
-    (Step::Find(1), "幹事;宴会の 感じ ", true),
-    (Step::Find(1), "幹事;宴会の 感じ ", true),
+static STEPS: &[(LookUpStep<'static>, &str, bool)] = &[
+    (LookUpStep::Find(2), "漢字 幹事;宴会の 感じ ", false),
+    (LookUpStep::Find(1), "漢字 幹事;宴会の 感じ ", true),
+    (LookUpStep::Purge(1, "漢字"), "Purged", false),
+    (LookUpStep::Find(1), "幹事;宴会の 感じ ", true),
+    (LookUpStep::Find(1), "幹事;宴会の 感じ ", true),
     // The shared book is another one than the typist's.
-    (Step::Learn(0, "監事"), "Learned", false),
-    (Step::Find(1), "監事 幹事;宴会の 感じ ", true),
+    (LookUpStep::Learn(0, "監事"), "Learned", false),
+    (LookUpStep::Find(1), "監事 幹事;宴会の 感じ ", true),
 ];
 
 #[test]
@@ -45,7 +45,7 @@ fn what_a_look_up_found_is_kept_until_a_row_of_its_reading_changes(rt: HostRunti
 
 fn expect_steps<R: Abort>(rt: &R, alloc: Global) {
     let mut store = opened(rt, alloc);
-    let look_up = call_of(rt, alloc, Step::Find(1));
+    let look_up = call_of(rt, alloc, LookUpStep::Find(1));
     same_at(store.kept(&look_up), false, "at first").expect(rt, "as wanted");
     for (step, told, kept) in STEPS {
         let answer = answer(alloc, &mut store, call_of(rt, alloc, *step));
@@ -76,22 +76,22 @@ fn answer<D: Disk>(alloc: Global, store: &mut Store<D>, call: Call) -> Answer
 }
 
 // The call of a step.
-fn call_of<R: Abort>(rt: &R, alloc: Global, step: Step) -> Call
+fn call_of<R: Abort>(rt: &R, alloc: Global, step: LookUpStep) -> Call
     ensures { is_fit result ≡ true }
 {
     let key = RowKey::new(Part::Nasi, text(rt, alloc, "かんじ")).expect(rt, "a key");
     match step {
-        Step::Find(who) => Call::Lookup {
+        LookUpStep::Find(who) => Call::Lookup {
             who,
             key,
             okuri: None,
         },
-        Step::Purge(book, word) => Call::Purge {
+        LookUpStep::Purge(book, word) => Call::Purge {
             book,
             key,
             word: word_of(rt, alloc, word),
         },
-        Step::Learn(book, word) => Call::Learn {
+        LookUpStep::Learn(book, word) => Call::Learn {
             book,
             key,
             okuri: None,

@@ -1,4 +1,4 @@
-use crate::files::{Content, TWICE, bytes_of};
+use crate::files::{FileContent, TWICE, bytes_of};
 use crate::images::{LEARNING, counts_left};
 use crate::journals::{NEW_FILE, disk_of_both, expect_file, kinds};
 use crate::stores::{ask_each, lines, open_file, opened_file};
@@ -15,9 +15,9 @@ const LIMIT: u64 = 110;
 // disk are made up to then, those that read among them, and what kinds of them are recorded; the stamp that the change
 // gets, and the kinds of its calls.
 #[derive(Clone, Copy, Debug)]
-struct Change<'a> {
-    a: Content<'a>,
-    b: Content<'a>,
+struct StoppedChange<'a> {
+    a: FileContent<'a>,
+    b: FileContent<'a>,
     learnt: u64,
     told: &'a str,
     before: u64,
@@ -35,32 +35,32 @@ type Failing<'a> = (u64, u64, bool, &'a [u64], &'a str);
 const OPENED: &str = "sswscwwsws";
 
 // Two files of which none is live, and the numbers of the calls of their opening, without those that read.
-type Opening<'a> = (Content<'a>, Content<'a>, &'a [u64]);
+type Opening<'a> = (FileContent<'a>, FileContent<'a>, &'a [u64]);
 
 static OPENINGS: &[Opening<'static>] = &[
     (
-        Content::Bytes(b""),
-        Content::Bytes(b""),
+        FileContent::Bytes(b""),
+        FileContent::Bytes(b""),
         &[1, 2, 5, 6, 7, 8, 9, 10, 11, 12],
     ),
     // The first byte of a file is 0, so that it is not written again.
     (
-        Content::Headed(0, 5, TWICE),
-        Content::Bytes(b""),
+        FileContent::Headed(0, 5, TWICE),
+        FileContent::Bytes(b""),
         &[3, 4, 7, 8, 9, 10, 11, 12],
     ),
     // It is another one than 1: an older generation without records is written first, so that no stop makes it live.
     (
-        Content::Headed(7, 5, TWICE),
-        Content::Headed(9, 6, TWICE),
+        FileContent::Headed(7, 5, TWICE),
+        FileContent::Headed(9, 6, TWICE),
         &[5, 6, 9, 10, 11, 12, 13, 14, 15, 16, 17, 18],
     ),
 ];
 
 // Where the first record is added, and where the second one is.
-const FIRST: Change<'static> = Change {
-    a: Content::Bytes(b""),
-    b: Content::Bytes(b""),
+const FIRST: StoppedChange<'static> = StoppedChange {
+    a: FileContent::Bytes(b""),
+    b: FileContent::Bytes(b""),
     learnt: 0,
     told: "",
     before: 12,
@@ -69,9 +69,9 @@ const FIRST: Change<'static> = Change {
     calls: "wsws",
 };
 
-const SECOND: Change<'static> = Change {
-    a: Content::Bytes(b""),
-    b: Content::Bytes(b""),
+const SECOND: StoppedChange<'static> = StoppedChange {
+    a: FileContent::Bytes(b""),
+    b: FileContent::Bytes(b""),
     learnt: 1,
     told: "Learned 1\n",
     before: 16,
@@ -82,9 +82,9 @@ const SECOND: Change<'static> = Change {
 
 // The third one has no room: the other file's first byte is made 0, it is filled with the row and made live, and then
 // the record is added there.
-const THIRD: Change<'static> = Change {
-    a: Content::Bytes(b""),
-    b: Content::Bytes(b""),
+const THIRD: StoppedChange<'static> = StoppedChange {
+    a: FileContent::Bytes(b""),
+    b: FileContent::Bytes(b""),
     learnt: 2,
     told: "Learned 1\nLearned 2\n",
     before: 20,
@@ -94,9 +94,9 @@ const THIRD: Change<'static> = Change {
 };
 
 // The same where both files were there before, with more in the second one. Its first byte is 0 already.
-const BLANK: Change<'static> = Change {
-    a: Content::Headed(1, 1, TWICE),
-    b: Content::Headed(0, 2, TWICE),
+const BLANK: StoppedChange<'static> = StoppedChange {
+    a: FileContent::Headed(1, 1, TWICE),
+    b: FileContent::Headed(0, 2, TWICE),
     learnt: 0,
     told: "",
     before: 11,
@@ -106,9 +106,9 @@ const BLANK: Change<'static> = Change {
 };
 
 // It has records that were live before those of the first one, of a generation that the next one follows.
-const LOOSE: Change<'static> = Change {
-    a: Content::Headed(1, 0, TWICE),
-    b: Content::Headed(1, 18_446_744_073_709_551_615, b"\x01\x01\0\0\0x\0"),
+const LOOSE: StoppedChange<'static> = StoppedChange {
+    a: FileContent::Headed(1, 0, TWICE),
+    b: FileContent::Headed(1, 18_446_744_073_709_551_615, b"\x01\x01\0\0\0x\0"),
     learnt: 0,
     told: "",
     before: 11,
@@ -118,9 +118,9 @@ const LOOSE: Change<'static> = Change {
 };
 
 // It has one byte.
-const BYTE: Change<'static> = Change {
-    a: Content::Headed(1, 1, TWICE),
-    b: Content::Bytes(b"\xff"),
+const BYTE: StoppedChange<'static> = StoppedChange {
+    a: FileContent::Headed(1, 1, TWICE),
+    b: FileContent::Bytes(b"\xff"),
     learnt: 0,
     told: "",
     before: 12,
@@ -130,9 +130,9 @@ const BYTE: Change<'static> = Change {
 };
 
 // Its records would be live if its first byte were 1, so that it gets an older generation and no records first.
-const STRAY: Change<'static> = Change {
-    a: Content::Headed(1, 18_446_744_073_709_551_615, TWICE),
-    b: Content::Headed(7, 0, b"\x01\x01\0\0\0x\0"),
+const STRAY: StoppedChange<'static> = StoppedChange {
+    a: FileContent::Headed(1, 18_446_744_073_709_551_615, TWICE),
+    b: FileContent::Headed(7, 0, b"\x01\x01\0\0\0x\0"),
     learnt: 0,
     told: "",
     before: 11,
@@ -142,9 +142,9 @@ const STRAY: Change<'static> = Change {
 };
 
 // The live file is the second one.
-const BACK: Change<'static> = Change {
-    a: Content::Headed(9, 6, b"\0"),
-    b: Content::Headed(1, 5, TWICE),
+const BACK: StoppedChange<'static> = StoppedChange {
+    a: FileContent::Headed(9, 6, b"\0"),
+    b: FileContent::Headed(1, 5, TWICE),
     learnt: 0,
     told: "",
     before: 11,
@@ -190,7 +190,7 @@ const STRAY_FAILING: &[Failing<'static>] = &[
     (14, 15, true, &[2, 3], "wsws"),
 ];
 
-type Row<'a> = (Change<'a>, &'a [Failing<'a>]);
+type Row<'a> = (StoppedChange<'a>, &'a [Failing<'a>]);
 
 static CHANGES: &[Row<'static>] = &[
     (FIRST, FIRST_FAILING),
@@ -255,13 +255,13 @@ fn expect_changes<R: Abort>(rt: &R, alloc: Global, changes: &[Row]) {
     }
 }
 
-fn expect_rows<R: Abort>(rt: &R, alloc: Global, change: &Change, rows: &[Failing]) {
+fn expect_rows<R: Abort>(rt: &R, alloc: Global, change: &StoppedChange, rows: &[Failing]) {
     for row in rows {
         expect_calls(rt, alloc, change, row);
     }
 }
 
-fn expect_calls<R: Abort>(rt: &R, alloc: Global, change: &Change, row: &Failing) {
+fn expect_calls<R: Abort>(rt: &R, alloc: Global, change: &StoppedChange, row: &Failing) {
     let (first, last, ..) = *row;
     for call in first..=last {
         expect_failing(rt, alloc, change, row, call);
@@ -270,7 +270,13 @@ fn expect_calls<R: Abort>(rt: &R, alloc: Global, change: &Change, row: &Failing)
 }
 
 // Tells what the change comes to whose call of this number fails.
-fn expect_failing<R: Abort>(rt: &R, alloc: Global, change: &Change, row: &Failing, call: u64) {
+fn expect_failing<R: Abort>(
+    rt: &R,
+    alloc: Global,
+    change: &StoppedChange,
+    row: &Failing,
+    call: u64,
+) {
     let (_, _, _, left, _) = *row;
     let mut told = String::new(alloc);
     let disk = disk_after(rt, alloc, change, call, 1, &mut told);
@@ -280,7 +286,7 @@ fn expect_failing<R: Abort>(rt: &R, alloc: Global, change: &Change, row: &Failin
 }
 
 // Tells that the same change goes well when it is made once more, and which calls of the disk are recorded of both.
-fn expect_again<R: Abort>(rt: &R, alloc: Global, change: &Change, row: &Failing, call: u64) {
+fn expect_again<R: Abort>(rt: &R, alloc: Global, change: &StoppedChange, row: &Failing, call: u64) {
     let (_, _, in_doubt, _, again) = *row;
     let mut told = String::new(alloc);
     let disk = disk_after(rt, alloc, change, call, 2, &mut told);
@@ -317,7 +323,7 @@ fn calls_begun<R: Abort>(rt: &R, alloc: Global, calls: &str, call: u64) -> Strin
 fn disk_after<R: Abort>(
     rt: &R,
     alloc: Global,
-    change: &Change,
+    change: &StoppedChange,
     call: u64,
     times: u64,
     told: &mut String,

@@ -21,7 +21,7 @@ const FAR: u64 = 1_000_000;
 
 // What is asked of a store. Words are learnt and purged in book 1.
 #[derive(Clone, Copy)]
-pub(crate) enum Step<'a> {
+pub(crate) enum StoreStep<'a> {
     // Learns a word for a reading.
     Learn(&'a str, &'a str),
     // Learns for the reading a the word that has a letter so many times.
@@ -39,37 +39,37 @@ pub(crate) enum Step<'a> {
 // The calls of the disk that fail, by their numbers: the first change begins with the thirteenth. A limit. What is
 // asked of new files. What the answers tell, and then the lines of book 1 when they are opened again. The calls of the
 // disk up to then.
-type Case<'a> = (&'a [u64], u64, &'a [Step<'a>], &'a str, &'a str);
+type Case<'a> = (&'a [u64], u64, &'a [StoreStep<'a>], &'a str, &'a str);
 
 // A change of the row of かさ whose calls fail, behind what was learnt before it, and then another one.
-const LEARNS: &[Step<'static>] = &[
-    Step::Learn("かさ", "傘"),
-    Step::Learn("き", "木"),
-    Step::Learn("き", "気"),
-    Step::Find("かさ"),
+const LEARNS: &[StoreStep<'static>] = &[
+    StoreStep::Learn("かさ", "傘"),
+    StoreStep::Learn("き", "木"),
+    StoreStep::Learn("き", "気"),
+    StoreStep::Find("かさ"),
 ];
 
-const PURGES: &[Step<'static>] = &[
-    Step::Learn("かさ", "傘"),
-    Step::Learn("かさ", "笠"),
-    Step::Purge("かさ", "傘"),
-    Step::Learn("き", "木"),
-    Step::Find("かさ"),
+const PURGES: &[StoreStep<'static>] = &[
+    StoreStep::Learn("かさ", "傘"),
+    StoreStep::Learn("かさ", "笠"),
+    StoreStep::Purge("かさ", "傘"),
+    StoreStep::Learn("き", "木"),
+    StoreStep::Find("かさ"),
 ];
 
-const RESTORES: &[Step<'static>] = &[
-    Step::Learn("かさ", "傘"),
-    Step::Learn("かさ", "笠"),
-    Step::Unlearn,
-    Step::Learn("き", "木"),
-    Step::Find("かさ"),
+const RESTORES: &[StoreStep<'static>] = &[
+    StoreStep::Learn("かさ", "傘"),
+    StoreStep::Learn("かさ", "笠"),
+    StoreStep::Unlearn,
+    StoreStep::Learn("き", "木"),
+    StoreStep::Find("かさ"),
 ];
 
-const REMOVES: &[Step<'static>] = &[
-    Step::Learn("かさ", "傘"),
-    Step::Unlearn,
-    Step::Learn("き", "木"),
-    Step::Find("かさ"),
+const REMOVES: &[StoreStep<'static>] = &[
+    StoreStep::Learn("かさ", "傘"),
+    StoreStep::Unlearn,
+    StoreStep::Learn("き", "木"),
+    StoreStep::Find("かさ"),
 ];
 
 // What they tell where the change is refused, and where the one that follows is refused too.
@@ -84,7 +84,7 @@ const NOT_RESTORED: &str = NOT_PURGED;
 const NOT_REMOVED: &str = "Learned 1\nDisk\nLearned 2\n傘 \nかさ /傘/\nき /木/\n";
 
 // What no other change follows: a record whose gate was opened may stand in the file.
-const LEARNS_LAST: &[Step<'static>] = &[Step::Learn("かさ", "傘"), Step::Find("かさ")];
+const LEARNS_LAST: &[StoreStep<'static>] = &[StoreStep::Learn("かさ", "傘"), StoreStep::Find("かさ")];
 
 static FAILINGS: &[Case<'static>] = &[
     (&[13], FAR, LEARNS, NOT_LEARNT, "sswscwwswsWwswswsws"),
@@ -182,14 +182,14 @@ static LOOKED_UP: &[Case<'static>] = &[
         &[25],
         FAR,
         &[
-            Step::Learn("かさ", "傘"),
-            Step::Learn("かさ", "笠"),
-            Step::Purge("かさ", "傘"),
-            Step::Find("かさ"),
-            Step::Complete("か"),
-            Step::Purge("かさ", "傘"),
-            Step::Unlearn,
-            Step::Learn("き", "木"),
+            StoreStep::Learn("かさ", "傘"),
+            StoreStep::Learn("かさ", "笠"),
+            StoreStep::Purge("かさ", "傘"),
+            StoreStep::Find("かさ"),
+            StoreStep::Complete("か"),
+            StoreStep::Purge("かさ", "傘"),
+            StoreStep::Unlearn,
+            StoreStep::Learn("き", "木"),
         ],
         "Learned 1\nLearned 2\nPurged\n笠 \nかさ \nUnchanged\nOvertaken(3)\nDisk\n\
             かさ /笠/(skk-ignore-dic-word \"傘\")/\n",
@@ -199,14 +199,14 @@ static LOOKED_UP: &[Case<'static>] = &[
         &[29],
         FAR,
         &[
-            Step::Learn("かさ", "傘"),
-            Step::Learn("かさ", "笠"),
-            Step::Unlearn,
-            Step::Find("かさ"),
-            Step::Unlearn,
-            Step::Find("かさ"),
-            Step::Complete("か"),
-            Step::Learn("き", "木"),
+            StoreStep::Learn("かさ", "傘"),
+            StoreStep::Learn("かさ", "笠"),
+            StoreStep::Unlearn,
+            StoreStep::Find("かさ"),
+            StoreStep::Unlearn,
+            StoreStep::Find("かさ"),
+            StoreStep::Complete("か"),
+            StoreStep::Learn("き", "木"),
         ],
         "Learned 1\nLearned 2\nRestored\n傘 \nRestored\n\n\nDisk\n",
         "sswscwwswswswswswswswswswsW",
@@ -223,49 +223,58 @@ static LIMITS: &[Case<'static>] = &[
     (
         &[],
         64,
-        &[Step::Learn("125", "東京都葛飾区"), Step::Learn("かんじ", "漢字")],
+        &[
+            StoreStep::Learn("125", "東京都葛飾区"),
+            StoreStep::Learn("かんじ", "漢字"),
+        ],
         "JournalFull { end: 18, need: 49, limit: 64 }\nLearned 1\nかんじ /漢字/\n",
         "sswscwwswswsws",
     ),
     (
         &[],
         64,
-        &[Step::Learn("かんじ", "漢字"), Step::Learn("かんじ", "漢字")],
+        &[StoreStep::Learn("かんじ", "漢字"), StoreStep::Learn("かんじ", "漢字")],
         "Learned 1\nJournalFull { end: 61, need: 43, limit: 64 }\nかんじ /漢字/\n",
         "sswscwwswswsws",
     ),
     (
         &[],
         103,
-        &[Step::Learn("かんじ", "漢字"), Step::Learn("かんじ", "漢字")],
+        &[StoreStep::Learn("かんじ", "漢字"), StoreStep::Learn("かんじ", "漢字")],
         "Learned 1\nJournalFull { end: 61, need: 43, limit: 103 }\nかんじ /漢字/\n",
         "sswscwwswswsws",
     ),
     (
         &[],
         66,
-        &[Step::Learn("125", "東京都葛飾区"), Step::Find("125")],
+        &[StoreStep::Learn("125", "東京都葛飾区"), StoreStep::Find("125")],
         "JournalFull { end: 18, need: 49, limit: 66 }\n\n",
         "sswscwwsws",
     ),
     (
         &[],
         67,
-        &[Step::Learn("125", "東京都葛飾区"), Step::Find("125")],
+        &[StoreStep::Learn("125", "東京都葛飾区"), StoreStep::Find("125")],
         "Learned 1\n東京都葛飾区 \n125 /東京都葛飾区/\n",
         "sswscwwswswsws",
     ),
     (
         &[16],
         64,
-        &[Step::Learn("かんじ", "漢字"), Step::Learn("125", "東京都葛飾区")],
+        &[
+            StoreStep::Learn("かんじ", "漢字"),
+            StoreStep::Learn("125", "東京都葛飾区"),
+        ],
         "Disk\nJournalFull { end: 18, need: 49, limit: 64 }\n",
         "sswscwwswswswws",
     ),
     (
         &[16, 18],
         64,
-        &[Step::Learn("かんじ", "漢字"), Step::Learn("125", "東京都葛飾区")],
+        &[
+            StoreStep::Learn("かんじ", "漢字"),
+            StoreStep::Learn("125", "東京都葛飾区"),
+        ],
         "Disk\nDisk\n",
         "sswscwwswswsww",
     ),
@@ -307,24 +316,24 @@ fn told_of<R: Abort>(rt: &R, alloc: Global, case: &Case) -> (String, String) {
 
 // The line that the row comes to has exactly 65,535 bytes: the reading and ` /` have 3, each of 15 words 4,096 with
 // its slash, and the last 4,092.
-const LONG: &[Step<'static>] = &[
-    Step::LearnLong("a", 4095),
-    Step::LearnLong("b", 4095),
-    Step::LearnLong("c", 4095),
-    Step::LearnLong("d", 4095),
-    Step::LearnLong("e", 4095),
-    Step::LearnLong("f", 4095),
-    Step::LearnLong("g", 4095),
-    Step::LearnLong("h", 4095),
-    Step::LearnLong("i", 4095),
-    Step::LearnLong("j", 4095),
-    Step::LearnLong("k", 4095),
-    Step::LearnLong("l", 4095),
-    Step::LearnLong("m", 4095),
-    Step::LearnLong("n", 4095),
-    Step::LearnLong("o", 4095),
-    Step::LearnLong("p", 4092),
-    Step::LearnLong("p", 4091),
+const LONG: &[StoreStep<'static>] = &[
+    StoreStep::LearnLong("a", 4095),
+    StoreStep::LearnLong("b", 4095),
+    StoreStep::LearnLong("c", 4095),
+    StoreStep::LearnLong("d", 4095),
+    StoreStep::LearnLong("e", 4095),
+    StoreStep::LearnLong("f", 4095),
+    StoreStep::LearnLong("g", 4095),
+    StoreStep::LearnLong("h", 4095),
+    StoreStep::LearnLong("i", 4095),
+    StoreStep::LearnLong("j", 4095),
+    StoreStep::LearnLong("k", 4095),
+    StoreStep::LearnLong("l", 4095),
+    StoreStep::LearnLong("m", 4095),
+    StoreStep::LearnLong("n", 4095),
+    StoreStep::LearnLong("o", 4095),
+    StoreStep::LearnLong("p", 4092),
+    StoreStep::LearnLong("p", 4091),
 ];
 
 const LONG_TOLD: &str =
@@ -462,7 +471,7 @@ pub(crate) fn disk_after<D: Disk + Drop>(
     alloc: Global,
     disk: D,
     limit: u64,
-    steps: &[Step],
+    steps: &[StoreStep],
     told: &mut String,
 ) -> D {
     let mut store = opened_file(rt, alloc, disk, limit);
@@ -475,7 +484,7 @@ pub(crate) fn ask_each<D: Disk>(
     rt: &impl Abort,
     alloc: Global,
     store: &mut Store<D>,
-    steps: &[Step],
+    steps: &[StoreStep],
     told: &mut String,
 ) {
     let mut learnings = Vec::new(alloc);
@@ -489,7 +498,7 @@ fn ask<D: Disk>(
     rt: &impl Abort,
     alloc: Global,
     store: &mut Store<D>,
-    step: Step,
+    step: StoreStep,
     learnings: &mut Vec<Learned>,
     told: &mut String,
 ) {
@@ -590,16 +599,16 @@ fn word_of(rt: &impl Abort, alloc: Global, content: &str) -> Text
 }
 
 // The call of a step, which may take back what was learnt.
-fn call_of(rt: &impl Abort, alloc: Global, step: Step, learnings: &mut Vec<Learned>) -> Call
+fn call_of(rt: &impl Abort, alloc: Global, step: StoreStep, learnings: &mut Vec<Learned>) -> Call
     ensures { is_fit result ≡ true }
 {
     match step {
-        Step::Learn(reading, word) => learning(rt, alloc, reading, word),
-        Step::LearnLong(letter, count) => learning_long(rt, alloc, letter, count),
-        Step::Purge(reading, word) => purging(rt, alloc, reading, word),
-        Step::Unlearn => unlearning(rt, learnings),
-        Step::Find(reading) => finding(rt, alloc, reading),
-        Step::Complete(prefix) => completing(rt, alloc, prefix),
+        StoreStep::Learn(reading, word) => learning(rt, alloc, reading, word),
+        StoreStep::LearnLong(letter, count) => learning_long(rt, alloc, letter, count),
+        StoreStep::Purge(reading, word) => purging(rt, alloc, reading, word),
+        StoreStep::Unlearn => unlearning(rt, learnings),
+        StoreStep::Find(reading) => finding(rt, alloc, reading),
+        StoreStep::Complete(prefix) => completing(rt, alloc, prefix),
     }
 }
 

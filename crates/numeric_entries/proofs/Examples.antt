@@ -2,9 +2,10 @@
 use Rattle.std.proofs.Common.{◌≡◌, ℕ, true, false, Option, None, Some, List, [], ◌∷◌, codes, map, refl}
 use Prim.Native.String.{String}
 use Rattle.std.specs.Char.{is_ascii_digit}
-use Rattle.numeric_entries.specs.declared.form.Form.{Form}
-use Rattle.numeric_entries.specs.declared.form.Form.TheVariants.{Digits, Wide, Kanji, Places, Lookup, Formal, Commas}
-use Rattle.numeric_entries.specs.declared.form.Form.TheVariants.{Square}
+use Rattle.numeric_entries.specs.declared.form.NumberForm.{NumberForm}
+use Rattle.numeric_entries.specs.declared.form.NumberForm.TheVariants.{Digits, Wide, Kanji, Places, Lookup, Formal}
+use Rattle.numeric_entries.specs.declared.form.NumberForm.TheVariants.{Commas}
+use Rattle.numeric_entries.specs.declared.form.NumberForm.TheVariants.{Square}
 use Rattle.numeric_entries.specs.Forms.{Holds, asks_lookup, fill, form_text, parts_of, stays, stands}
 use Rattle.numeric_entries.specs.Numbers.{NumberKey, are_numbers, begins, is_number, number_key, runs_of}
 use Rattle.numeric_entries.specs.Numerals.{groups_of}
@@ -50,7 +51,7 @@ many_numbers = refl
 -- What forms write
 
 -- a form writes for numbers what a table says
-abbrev Writes : Form → List (String × String) → Type 0
+abbrev Writes : NumberForm → List (String × String) → Type 0
 Writes form table =
     map (λ line. form_text form (codes line.0) (codes "first")) table ≡ map (λ line. codes line.1) table
 

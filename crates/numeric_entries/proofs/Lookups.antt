@@ -13,8 +13,8 @@ use Rattle.std.proofs.lemmas.Bool.Decides.{nat_tests}
 use Rattle.std.proofs.lemmas.List.{drop_all, get_or-drop, get_or-take, length-drop, length-take-le}
 use Rattle.std.proofs.lemmas.Str.{chars-nil, encodes-append}
 use Rattle.skk_text.specs.TextLaws.{chars-split}
-use Rattle.numeric_entries.specs.declared.form.Form.{Form}
-use Rattle.numeric_entries.specs.declared.form.Form.TheVariants.{Lookup}
+use Rattle.numeric_entries.specs.declared.form.NumberForm.{NumberForm}
+use Rattle.numeric_entries.specs.declared.form.NumberForm.TheVariants.{Lookup}
 use Rattle.numeric_entries.specs.Forms.{stays, stands, form_of, form_named, parts_of, is_lookup, asks_lookup, Holds}
 use Rattle.numeric_entries.proofs.Parts.{form_begun}
 
@@ -23,14 +23,14 @@ lookup_named : (c : ℕ) → form_named c ≡ Some Lookup → c ≡ 52
 lookup_named c e = grind (arith, nat_tests)
 
 -- the part of a form of a look-up is no other form
-lookup_form : (c : ℕ) (form : Form) → is_lookup (stands c form) ≡ true → form ≡ Lookup
+lookup_form : (c : ℕ) (form : NumberForm) → is_lookup (stands c form) ≡ true → form ≡ Lookup
 lookup_form c form e = grind arith
 
 abbrev pub mark : List ℕ
 mark = 35 ∷ 52 ∷ []
 
 -- whether a word asks for a look-up of which the first two characters may be a form
-abbrev asks : (c next : ℕ) (word : List ℕ) → Option Form → Bool
+abbrev asks : (c next : ℕ) (word : List ℕ) → Option NumberForm → Bool
 asks c next word found =
     list_any is_lookup
     (option_map_or (λ form. stands next form ∷ parts_of word) found (stays c ∷ parts_of (next ∷ word)))
@@ -42,7 +42,7 @@ asks-holds (c ∷ []) e = cc
 asks-holds (c ∷ next ∷ word) e =
     by (form_of c next) refl e (asks-holds word) (asks-holds (next ∷ word))
   where
-    by : (found : Option Form) → form_of c next ≡ found → asks c next word found ≡ true
+    by : (found : Option NumberForm) → form_of c next ≡ found → asks c next word found ≡ true
         → (asks_lookup word ≡ true → Holds mark word)
         → (asks_lookup (next ∷ word) ≡ true → Holds mark (next ∷ word)) → Holds mark (c ∷ next ∷ word)
     by None is e rest others =

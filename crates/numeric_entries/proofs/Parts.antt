@@ -3,7 +3,7 @@ use Rattle.std.proofs.Common.{◌≡◌, ◌∙◌, ◌+◌, ℕ, zero, suc, Boo
 use Rattle.std.proofs.Common.{add-one, drop, refl, sym, ap, append_assoc, arith}
 use Rattle.std.specs.Prelude.{slice_get}
 use Rattle.std.specs.List.{list_all}
-use Rattle.numeric_entries.specs.declared.form.Form.{Form}
+use Rattle.numeric_entries.specs.declared.form.NumberForm.{NumberForm}
 use Rattle.numeric_entries.specs.Forms.{Part, stands, form_of, form_named, form_text, filled_parts, fill}
 use Rattle.std.proofs.lemmas.Bool.Decides.{nat_tests}
 
@@ -22,7 +22,8 @@ got-passes test (y ∷ ys) zero x all e = grind (arith, e, all)
 got-passes test (y ∷ ys) (suc place) x all e = grind (arith, got-passes test ys place x)
 
 -- a form is a `#` and the character that names it
-pub form_begun : (c next : ℕ) (form : Form) → form_of c next ≡ Some form → (c ≡ 0x23) × (form_named next ≡ Some form)
+pub form_begun : (c next : ℕ) (form : NumberForm) → form_of c next ≡ Some form → (c ≡ 0x23)
+    × (form_named next ≡ Some form)
 form_begun c next form e = grind (arith, nat_tests)
 
 -- a word that is filled with no number stays
@@ -33,7 +34,8 @@ fill_none (c ∷ next ∷ word) =
     grind (arith, form_begun c next, fill_none word, fill_none (next ∷ word))
 
 -- a form that was written is filled with the next number
-pub form_pushed : (old pushed after rest all : List ℕ) (c : ℕ) (form : Form) (parts : List Part) (number first : List ℕ)
+pub form_pushed : (old pushed after rest all : List ℕ) (c : ℕ) (form : NumberForm) (parts : List Part)
+    (number first : List ℕ)
     (left left_firsts numbers firsts : List (List ℕ)) → left ≡ number ∷ numbers → left_firsts ≡ first ∷ firsts
     → pushed ++ filled_parts (stands c form ∷ parts) left left_firsts ≡ old ++ rest
     → after ≡ pushed ++ form_text form number first → old ++ rest ≡ all

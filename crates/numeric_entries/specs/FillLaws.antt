@@ -7,9 +7,10 @@ use Rattle.std.proofs.Common.{refl, arith}
 use Rattle.skk_text.specs.Characters.{code}
 use Rattle.skk_text.specs.Kana.{wide}
 use Rattle.skk_text.specs.Lists.{is_empty}
-use Rattle.numeric_entries.specs.declared.form.Form.{Form}
-use Rattle.numeric_entries.specs.declared.form.Form.TheVariants.{Digits, Wide, Kanji, Places, Lookup, Formal, Commas}
-use Rattle.numeric_entries.specs.declared.form.Form.TheVariants.{Square}
+use Rattle.numeric_entries.specs.declared.form.NumberForm.{NumberForm}
+use Rattle.numeric_entries.specs.declared.form.NumberForm.TheVariants.{Digits, Wide, Kanji, Places, Lookup, Formal}
+use Rattle.numeric_entries.specs.declared.form.NumberForm.TheVariants.{Commas}
+use Rattle.numeric_entries.specs.declared.form.NumberForm.TheVariants.{Square}
 use Rattle.numeric_entries.specs.declared.numerals.Numerals.{Numerals}
 use Rattle.numeric_entries.specs.Forms.{Part, stays, stands, filled_parts, fill, form_text, parts_of}
 use Rattle.numeric_entries.specs.Numbers.{are_numbers, is_number}
@@ -120,7 +121,7 @@ board_some (file ∷ []) is = refl
 board_some (file ∷ rank ∷ []) is = grind arith
 board_some (file ∷ rank ∷ next ∷ digits) is = refl
 
-form_some : (form : Form) (number first : List ℕ) → is_number number ≡ true → is_nonempty first ≡ true
+form_some : (form : NumberForm) (number first : List ℕ) → is_number number ≡ true → is_nonempty first ≡ true
     → is_nonempty (form_text form number first) ≡ true
 form_some Digits number first is some = number_some number is
 form_some Wide number first is some = map_some wide number is

@@ -6,12 +6,13 @@ use Rattle.std.specs.Option.{option_map_or}
 use Rattle.skk_text.specs.Characters.{code}
 use Rattle.skk_text.specs.Kana.{wide}
 use Rattle.numeric_entries.specs.Numerals.{everyday, formal, numeral, in_places, with_commas, on_board}
-use Rattle.numeric_entries.specs.declared.form.Form.{Form}
-use Rattle.numeric_entries.specs.declared.form.Form.TheVariants.{Digits, Wide, Kanji, Places, Lookup, Formal, Commas}
-use Rattle.numeric_entries.specs.declared.form.Form.TheVariants.{Square}
+use Rattle.numeric_entries.specs.declared.form.NumberForm.{NumberForm}
+use Rattle.numeric_entries.specs.declared.form.NumberForm.TheVariants.{Digits, Wide, Kanji, Places, Lookup, Formal}
+use Rattle.numeric_entries.specs.declared.form.NumberForm.TheVariants.{Commas}
+use Rattle.numeric_entries.specs.declared.form.NumberForm.TheVariants.{Square}
 
 -- the form that a character names behind a `#`
-abbrev pub form_named : ℕ → Option Form
+abbrev pub form_named : ℕ → Option NumberForm
 form_named c =
     if c == code "0" then Some Digits
     else if c == code "1" then Some Wide
@@ -24,7 +25,7 @@ form_named c =
     else None
 
 -- what a form writes for a number, and for the first word that was found for it
-abbrev pub form_text : Form → List ℕ → List ℕ → List ℕ
+abbrev pub form_text : NumberForm → List ℕ → List ℕ → List ℕ
 form_text Digits number first = number
 form_text Wide number first = map wide number
 form_text Kanji number first = map (numeral everyday) number
@@ -37,10 +38,10 @@ form_text Square number first = on_board number
 -- a part of a word: a character that stays, or a form with the character that names it
 pub data Part : Type 0 where
   stays : ℕ → Part
-  stands : ℕ → Form → Part
+  stands : ℕ → NumberForm → Part
 
 -- the form that two characters are: a `#`, and one that names a form
-abbrev pub form_of : ℕ → ℕ → Option Form
+abbrev pub form_of : ℕ → ℕ → Option NumberForm
 form_of c next = if c == code "#" then form_named next else None
 
 -- the parts of a word, from left to right

@@ -7,7 +7,7 @@ ghost use Rattle.numeric_entries.specs.Numbers.{are_numbers, is_number};
 
 use crate::characters::first_character;
 use crate::digits::{digits_of, push_kanji, push_on_board, push_wide, push_with_commas};
-use crate::form::{Form, form_named};
+use crate::form::{NumberForm, form_named};
 use crate::numerals::{EVERYDAY, FORMAL};
 use crate::places::push_in_places;
 use skk_text::{Memory, Text, Texts};
@@ -59,7 +59,7 @@ pub fn fill(alloc: Global, word: &Text, numbers: &Texts, firsts: &Texts) -> Resu
 
 // Adds what stands before the first form of a word, and gives that form and what stands behind it; where there is no
 // form all is added.
-fn push_to_form<'t>(text: &mut Text, word: &'t str) -> Result<Option<(Form, &'t str)>, Memory>
+fn push_to_form<'t>(text: &mut Text, word: &'t str) -> Result<Option<(NumberForm, &'t str)>, Memory>
     ensures { IfOk result (λ found. MatchOption found
         ((numbers firsts : List (List ℕ)) → text.new ≡ text.old ++ fill (chars word.now) numbers firsts)
         (λ parts. (c : ℕ) × ((numbers firsts : List (List ℕ)) →
@@ -78,7 +78,7 @@ fn push_to_form<'t>(text: &mut Text, word: &'t str) -> Result<Option<(Form, &'t 
 }
 
 // The form that a character begins before a text, and what stands behind the form.
-fn first_form(c: char, text: &str) -> Option<(Form, &str)>
+fn first_form(c: char, text: &str) -> Option<(NumberForm, &str)>
     ensures { MatchOption result
         (parts_of (c ∷ chars text.now) ≡ stays c ∷ parts_of (chars text.now))
         (λ found. (next : ℕ) × (parts_of (c ∷ chars text.now) ≡ stands next found.0 ∷ parts_of (chars found.1.now))) }
@@ -92,19 +92,19 @@ fn first_form(c: char, text: &str) -> Option<(Form, &str)>
 }
 
 // Adds what a form writes for a number, and for the first word that was found for it.
-fn push_form(text: &mut Text, form: Form, number: &Text, first: &Text) -> Result<(), Memory>
+fn push_form(text: &mut Text, form: NumberForm, number: &Text, first: &Text) -> Result<(), Memory>
     requires { is_number number.now ≡ true }
     ensures { OnOk result (text.new ≡ text.old ++ form_text form number.now first.now) }
 {
     let digits = digits_of(number);
     match form {
-        Form::Digits => text.push_str(number.as_str()),
-        Form::Wide => push_wide(text, digits),
-        Form::Kanji => push_kanji(text, &EVERYDAY, digits),
-        Form::Places => push_in_places(text, &EVERYDAY, number),
-        Form::Lookup => text.push_str(first.as_str()),
-        Form::Formal => push_in_places(text, &FORMAL, number),
-        Form::Commas => push_with_commas(text, digits),
-        Form::Square => push_on_board(text, number),
+        NumberForm::Digits => text.push_str(number.as_str()),
+        NumberForm::Wide => push_wide(text, digits),
+        NumberForm::Kanji => push_kanji(text, &EVERYDAY, digits),
+        NumberForm::Places => push_in_places(text, &EVERYDAY, number),
+        NumberForm::Lookup => text.push_str(first.as_str()),
+        NumberForm::Formal => push_in_places(text, &FORMAL, number),
+        NumberForm::Commas => push_with_commas(text, digits),
+        NumberForm::Square => push_on_board(text, number),
     }
 }

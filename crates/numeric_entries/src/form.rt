@@ -3,7 +3,7 @@ ghost use Rattle.numeric_entries.specs.Forms.{form_named};
 
 /// What stands for a number in a word: a `#`, and the digit that names the form.
 #[derive(Clone, Copy, Debug, PartialEq, Eq)]
-pub enum Form {
+pub enum NumberForm {
     /// `#0`: the digits.
     Digits,
     /// `#1`: the digits, each in its wide form.
@@ -23,18 +23,18 @@ pub enum Form {
 }
 
 // The form that a character names.
-pub fn form_named(c: char) -> Option<Form>
+pub fn form_named(c: char) -> Option<NumberForm>
     ensures { result ≡ form_named c }
 {
     match c {
-        '0' => Some(Form::Digits),
-        '1' => Some(Form::Wide),
-        '2' => Some(Form::Kanji),
-        '3' => Some(Form::Places),
-        '4' => Some(Form::Lookup),
-        '5' => Some(Form::Formal),
-        '8' => Some(Form::Commas),
-        '9' => Some(Form::Square),
+        '0' => Some(NumberForm::Digits),
+        '1' => Some(NumberForm::Wide),
+        '2' => Some(NumberForm::Kanji),
+        '3' => Some(NumberForm::Places),
+        '4' => Some(NumberForm::Lookup),
+        '5' => Some(NumberForm::Formal),
+        '8' => Some(NumberForm::Commas),
+        '9' => Some(NumberForm::Square),
         _ => None,
     }
 }

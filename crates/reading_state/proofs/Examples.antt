@@ -17,7 +17,8 @@ use Rattle.reading_state.specs.declared.reading_do.ReadingThen.{ReadingThen}
 use Rattle.reading_state.specs.declared.reading_do.ReadingThen.TheVariants.{Stay, Convert, AskCompletions, Drop}
 use Rattle.reading_state.specs.declared.reading_do.ReadingThen.TheVariants.{Confirm}
 use Rattle.reading_state.specs.Keys.{key_of, okuri_of}
-use Rattle.reading_state.specs.Puts.{Begun, Reading, new_reading, new_abbrev, suffix_reading, is_open, may_complete}
+use Rattle.reading_state.specs.Puts.{BegunOkuri, Reading, new_reading, new_abbrev, suffix_reading, is_open}
+use Rattle.reading_state.specs.Puts.{may_complete}
 use Rattle.reading_state.specs.Puts.{later_notice, may_read, may_end, fits_reading}
 use Rattle.reading_state.specs.Reading.{ReadingStep, reading_step, step_to, completed, is_alone, is_doubled}
 
@@ -37,12 +38,12 @@ rule_set : is_rule_set rules ≡ true
 rule_set = refl
 
 -- an open reading: its text, its okurigana, and what is pending
-abbrev opened : List ℕ → Option Begun → String → Reading
+abbrev opened : List ℕ → Option BegunOkuri → String → Reading
 opened text okuri pending =
     record { text = text; is_abbrev = false; okuri = okuri; pending = codes pending; completions = None }
 
 -- an okurigana that was begun: its letter, and its kana
-abbrev okuri : String → List ℕ → Option Begun
+abbrev okuri : String → List ℕ → Option BegunOkuri
 okuri letter text = Some (record { letter = code letter; text = text })
 
 -- readings that were just opened, of text alone, and of an okurigana too
@@ -602,7 +603,7 @@ unfolding lib.Utf8.encode
 texts_of_okurigana = refl
 
 -- an okurigana that is not begun fits any reading; one that is begun wants a small letter, kana, and a reading
-okurigana_fits : map (λ (pair : List ℕ × Option Begun). fits_reading pair.0 pair.1) (
+okurigana_fits : map (λ (pair : List ℕ × Option BegunOkuri). fits_reading pair.0 pair.1) (
     ([], None) ∷ (codes "か", None) ∷ (codes "か", okuri "k" []) ∷ (codes "か", okuri "k" (codes "く"))
     ∷ (codes "か", okuri "k" (codes "a")) ∷ (codes "か", okuri "K" []) ∷ ([], okuri "k" []) ∷ [])
     ≡ true ∷ true ∷ true ∷ true ∷ false ∷ false ∷ false ∷ []

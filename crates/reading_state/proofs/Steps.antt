@@ -9,7 +9,7 @@ use Rattle.skk_calls.specs.Rows.{is_letter}
 use Rattle.romaji_rules.specs.declared.out.Out.{Out}
 use Rattle.romaji_rules.specs.declared.rule.Rule.{Rule}
 use Rattle.romaji_rules.specs.Typed.{fed}
-use Rattle.reading_state.specs.Puts.{Begun, Reading, Put, may_read, may_end, fits_reading, later_notice, refusal}
+use Rattle.reading_state.specs.Puts.{BegunOkuri, Reading, Put, may_read, may_end, fits_reading, later_notice, refusal}
 use Rattle.reading_state.specs.Puts.{put, unless_refused}
 use Rattle.reading_state.specs.Reading.{flush, begin_okuri, ends_prefix, feed, prefix_step, put_after, with_okuri}
 use Rattle.reading_state.specs.Reading.{with_pending}
@@ -17,25 +17,26 @@ use Rattle.reading_state.specs.declared.reading_do.ReadingThen.TheVariants.{Conv
 use Rattle.reading_state.proofs.Texts.{may_end-without_last}
 
 -- what an open reading keeps where an okurigana was begun
-pub record Kept (text : List ℕ) (begun : Begun) : Type 0 where
+pub record Kept (text : List ℕ) (begun : BegunOkuri) : Type 0 where
   pub may : may_read text ≡ true
   pub letter : is_letter (begun.letter ∷ []) ≡ true
   pub kana : may_end begun.text ≡ true
   pub some : is_empty text ≡ false
 
-pub kept : (text : List ℕ) (okuri : Option Begun) (begun : Begun) → (may_read text && fits_reading text okuri) ≡ true
+pub kept : (text : List ℕ) (okuri : Option BegunOkuri) (begun : BegunOkuri)
+    → (may_read text && fits_reading text okuri) ≡ true
     → okuri ≡ Some begun → Kept text begun
 kept text okuri begun is e = grind arith
 
 -- an okurigana without its last kana may be begun too
-pub kept-shortened : (text : List ℕ) (okuri : Option Begun) (begun : Begun)
+pub kept-shortened : (text : List ℕ) (okuri : Option BegunOkuri) (begun : BegunOkuri)
     → (may_read text && fits_reading text okuri) ≡ true → okuri ≡ Some begun
     → (may_read text && fits_reading text (Some (record { letter = begun.letter; text = without_last begun.text })))
     ≡ true
 kept-shortened text okuri begun is e = grind (arith, kept text okuri begun, may_end-without_last begun.text)
 
 -- an okurigana that stands behind a reading may stand behind another that is not empty
-pub refitted : (old new : List ℕ) (okuri : Option Begun) → may_read new ≡ true → is_empty new ≡ false
+pub refitted : (old new : List ℕ) (okuri : Option BegunOkuri) → may_read new ≡ true → is_empty new ≡ false
     → (may_read old && fits_reading old okuri) ≡ true → (may_read new && fits_reading new okuri) ≡ true
 refitted old new None may some is = grind arith
 refitted old new (Some begun) may some is = grind arith
@@ -46,7 +47,7 @@ ok_unless (Ok value) none = refl
 ok_unless (Err fault) none = absurd (none refl)
 
 -- `>` ends a prefix behind a flush that leaves a reading
-ends : (okuri : Option Begun) (flush : Put) → okuri ≡ None → is_empty flush.reading.text ≡ false
+ends : (okuri : Option BegunOkuri) (flush : Put) → okuri ≡ None → is_empty flush.reading.text ≡ false
     → ends_prefix okuri flush ≡ true
 ends None flush e some = ap not some
 ends (Some begun) flush e some = cc
@@ -143,7 +144,7 @@ letter_read rules reading added notice flushed none empty c before pending piece
     is_fed is_piece is_put is_last =
     let alone : fed rules [] c ≡ record { pending = pending; out = out } =
     ap (λ b. fed rules b c) (sym is_before) ∙ is_fed in
-    let seen : List ℕ → Option Begun → Reading = λ text okuri. record {
+    let seen : List ℕ → Option BegunOkuri → Reading = λ text okuri. record {
       text = text;
       is_abbrev = reading.is_abbrev;
       okuri = okuri;

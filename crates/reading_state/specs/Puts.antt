@@ -12,7 +12,7 @@ use Rattle.skk_calls.specs.Rows.{is_letter, is_okuri, okuri_limit, reading_limit
 use Rattle.skk_calls.specs.declared.part.Part.TheVariants.{Nasi}
 
 -- an okurigana that was begun: the letter behind the reading in its key, and its kana so far
-pub record Begun : Type 0 where
+pub record BegunOkuri : Type 0 where
   pub letter : ℕ
   pub text : List ℕ
 
@@ -26,7 +26,7 @@ pub record Completions : Type 0 where
 pub record Reading : Type 0 where
   pub text : List ℕ
   pub is_abbrev : Bool
-  pub okuri : Option Begun
+  pub okuri : Option BegunOkuri
   pub pending : List ℕ
   pub completions : Option Completions
 
@@ -51,7 +51,7 @@ abbrev pub may_end : List ℕ → Bool
 may_end text = is_empty text || is_okuri text
 
 -- an okurigana that was begun has a letter from `a` to `z`, a text that may stand in it, and a reading before it
-abbrev pub fits_reading : List ℕ → Option Begun → Bool
+abbrev pub fits_reading : List ℕ → Option BegunOkuri → Bool
 fits_reading text None = true
 fits_reading text (Some begun) = is_letter (begun.letter ∷ []) && (may_end begun.text && not (is_empty text))
 
@@ -88,7 +88,7 @@ unless_refused notice text piece = text
 
 -- what putting a piece makes of a reading: the piece goes behind the okurigana where one was begun, or else behind the
 -- reading
-abbrev pub put_into : Reading → Option Begun → List ℕ → Put
+abbrev pub put_into : Reading → Option BegunOkuri → List ℕ → Put
 put_into reading None piece =
     let notice = refusal (reading_limit Nasi) may_read reading.text piece in
     record { reading = record reading { text = unless_refused notice reading.text piece }; notice = notice }

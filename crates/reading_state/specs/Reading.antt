@@ -12,7 +12,7 @@ use Rattle.skk_text.specs.declared.notice.Notice.{Notice}
 use Rattle.skk_text.specs.declared.notice.Notice.TheVariants as notices
 use Rattle.romaji_rules.specs.declared.rule.Rule.{Rule}
 use Rattle.romaji_rules.specs.Typed.{fed, flushed, extends_pending}
-use Rattle.reading_state.specs.Puts.{Begun, Completions, Reading, Put, put, later_notice}
+use Rattle.reading_state.specs.Puts.{BegunOkuri, Completions, Reading, Put, put, later_notice}
 use Rattle.reading_state.specs.declared.reading_do.AfterConfirm.{AfterConfirm}
 use Rattle.reading_state.specs.declared.reading_do.AfterConfirm.TheVariants.{Nothing, ToAscii, ToWide, OpenReading}
 use Rattle.reading_state.specs.declared.reading_do.AfterConfirm.TheVariants.{Newline}
@@ -45,12 +45,12 @@ feed rules reading c =
     put (with_pending reading step.pending) step.out.hira
 
 -- whether an okurigana was begun, and has no kana yet
-abbrev pub is_empty_okuri : Option Begun → Bool
+abbrev pub is_empty_okuri : Option BegunOkuri → Bool
 is_empty_okuri None = false
 is_empty_okuri (Some begun) = is_empty begun.text
 
 -- whether an okurigana was begun, and has a kana
-abbrev pub is_filled_okuri : Option Begun → Bool
+abbrev pub is_filled_okuri : Option BegunOkuri → Bool
 is_filled_okuri None = false
 is_filled_okuri (Some begun) = not (is_empty begun.text)
 
@@ -81,7 +81,7 @@ abbrev pub put_after : Put → Put → Put
 put_after first second = record { reading = second.reading; notice = later_notice first.notice second.notice }
 
 -- whether `>` ends a prefix: no okurigana was begun, and behind the flush the reading is not empty
-abbrev pub ends_prefix : Option Begun → Put → Bool
+abbrev pub ends_prefix : Option BegunOkuri → Put → Bool
 ends_prefix None flush = not (is_empty flush.reading.text)
 ends_prefix (Some begun) flush = false
 
@@ -113,7 +113,7 @@ begin_okuri rules flush c =
 
 -- what the lower-case letter of an upper-case one puts: it goes on with an okurigana that was begun; begins one with っ
 -- where it stands alone behind a reading already, and is doubled; or else begins one behind what is flushed
-abbrev pub put_upper : List Rule → Reading → Option Begun → ℕ → Put
+abbrev pub put_upper : List Rule → Reading → Option BegunOkuri → ℕ → Put
 put_upper rules reading None c =
     if is_alone c reading.pending && is_doubled c && not (is_empty reading.text)
     then record { reading = with_okuri reading c (code "っ" ∷ []); notice = notices.Empty }
@@ -143,7 +143,7 @@ without_empty_okuri reading =
     if is_empty_okuri reading.okuri && is_empty reading.pending then record reading { okuri = None } else reading
 
 -- an okurigana without its last kana
-abbrev pub okuri_without_last : Option Begun → Option Begun
+abbrev pub okuri_without_last : Option BegunOkuri → Option BegunOkuri
 okuri_without_last None = None
 okuri_without_last (Some begun) = Some (record { letter = begun.letter; text = without_last begun.text })
 
@@ -160,7 +160,7 @@ delete_step reading =
     else step_to reading notices.Empty Drop
 
 -- the step of Tab: without an okurigana completions are asked for behind the flush, and with one there are none
-abbrev pub tab_step : List Rule → Reading → Option Begun → ReadingStep
+abbrev pub tab_step : List Rule → Reading → Option BegunOkuri → ReadingStep
 tab_step rules reading None = let flush = flush rules reading in step_to flush.reading flush.notice AskCompletions
 tab_step rules reading (Some begun) = step_to reading notices.NoCompletion Stay
 

@@ -11,5 +11,5 @@ mod reading;
 mod reading_do;
 
 pub use press::press_reading;
-pub use reading::{Begun, Completions, Reading};
+pub use reading::{BegunOkuri, Completions, Reading};
 pub use reading_do::{AfterConfirm, ReadingDo, ReadingThen};

@@ -20,15 +20,15 @@ use std::marker::Model;
 
 /// An okurigana that was begun: the letter behind the reading in its key, and its kana so far.
 #[derive(Drop)]
-pub struct Begun {
+pub struct BegunOkuri {
     letter: u8,
     text: Text,
 }
 
-impl Model for Begun {
-    ghost use Rattle.reading_state.specs.Puts.{Begun};
+impl Model for BegunOkuri {
+    ghost use Rattle.reading_state.specs.Puts.{BegunOkuri};
 
-    ghost Value = { Begun };
+    ghost Value = { BegunOkuri };
 
     ghost view = { λ b. record { letter = b.letter; text = b.text } };
 }
@@ -40,7 +40,7 @@ impl Model for Begun {
 pub struct Reading {
     text: Text,
     is_abbrev: bool,
-    okuri: Option<Begun>,
+    okuri: Option<BegunOkuri>,
     pending: Pending,
     completions: Option<Completions>,
 }

@@ -5,11 +5,11 @@ use Rattle.std.specs.Str.{chars}
 use Rattle.skk_text.specs.Lines.{line_feed}
 use Rattle.romaji_rules.specs.declared.rule.Rule.{Rule}
 use Rattle.romaji_rules.specs.declared.rule_file.NumberedRules.{NumberedRules}
-use Rattle.romaji_rules.specs.declared.rule_line.Fields.{Fields}
+use Rattle.romaji_rules.specs.declared.rule_line.RuleFields.{RuleFields}
 use Rattle.romaji_rules.specs.RuleFiles.{says_rule, rule_of_line, fault_behind}
 
 -- the rule of fields that may be such
-abbrev pub rule_said : Fields → Rule
+abbrev pub rule_said : RuleFields → Rule
 rule_said fields = record {
   input = fields.input.now;
   next = fields.next.now;

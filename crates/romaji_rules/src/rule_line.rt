@@ -15,14 +15,14 @@ use std::alloc::Global;
 
 /// The fields of a line that spells a rule.
 #[derive(Clone, Copy)]
-pub struct Fields<'a> {
+pub struct RuleFields<'a> {
     pub input: &'a str,
     pub next: &'a str,
     pub hira: &'a str,
     pub kata: &'a str,
 }
 
-impl<'a> Fields<'a> {
+impl<'a> RuleFields<'a> {
     /// The rule of these fields.
     pub fn rule(self, alloc: Global) -> Result<Rule, Memory>
         ensures { IfOk result (λ rule. rule ≡ rule_said self.entry) }
@@ -73,7 +73,7 @@ pub fn says_rule(line: &str) -> bool
 }
 
 /// The fields of a line, where it spells a rule.
-pub fn fields_of(line: &str) -> Option<Fields<'_>>
+pub fn fields_of(line: &str) -> Option<RuleFields<'_>>
     ensures { option_map rule_said result ≡ rule_of_line line.now }
 {
     let fields = four_fields(line)?;
@@ -81,7 +81,7 @@ pub fn fields_of(line: &str) -> Option<Fields<'_>>
 }
 
 // The four fields of a line between TABs.
-fn four_fields(line: &str) -> Option<Fields<'_>>
+fn four_fields(line: &str) -> Option<RuleFields<'_>>
     ensures { MatchOption result (rule_of_line line.now ≡ None)
         (λ f. slice_split (λ c. c == 9) line.now ≡ f.input.now ∷ f.next.now ∷ f.hira.now ∷ f.kata.now ∷ []) }
 {
@@ -90,7 +90,7 @@ fn four_fields(line: &str) -> Option<Fields<'_>>
     let (hira, kata) = first_field(behind_next)?;
     match first_field(kata) {
         Some(_) => None,
-        None => Some(Fields {
+        None => Some(RuleFields {
             input,
             next,
             hira,
@@ -108,7 +108,7 @@ fn first_field(text: &str) -> Option<(&str, &str)>
 }
 
 // Whether the fields may be those of a rule.
-fn are_fit(fields: Fields<'_>) -> bool
+fn are_fit(fields: RuleFields<'_>) -> bool
     ensures { result
         ≡ fields_fit fields.entry.input.now fields.entry.next.now fields.entry.hira.now fields.entry.kata.now }
 {

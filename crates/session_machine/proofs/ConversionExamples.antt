@@ -15,8 +15,8 @@ use Rattle.skk_calls.specs.Interactions.{asked}
 use Rattle.skk_calls.specs.Rows.{Cand, RowKey}
 use Rattle.reading_state.specs.Puts.{Reading}
 use Rattle.candidate_state.specs.Shown.{Shown}
-use Rattle.session_machine.specs.declared.frame.State.{State}
-use Rattle.session_machine.specs.declared.frame.State.TheVariants as states
+use Rattle.session_machine.specs.declared.frame.FrameState.{FrameState}
+use Rattle.session_machine.specs.declared.frame.FrameState.TheVariants as states
 use Rattle.session_machine.specs.declared.frame.Waiting.TheVariants as waits
 use Rattle.session_machine.specs.declared.session_notice.SessionNotice.TheVariants as told
 use Rattle.session_machine.specs.Pressed.{pressed}
@@ -41,12 +41,12 @@ abbrev lacking : Answer
 lacking = Refused refusals.Memory
 
 -- candidates of a reading, of which the first is shown
-abbrev shown_for : Reading → List Shown → State
+abbrev shown_for : Reading → List Shown → FrameState
 shown_for reading shown =
     states.Picking (record { reading = reading; picking = record { shown = shown; place = 0; question = false } })
 
 -- what the space asks of a session in which a reading is open, by these answers
-abbrev space_asks : State → List Answer → List Call
+abbrev space_asks : FrameState → List Answer → List Call
 space_asks state answers = asked (pressed rules (at [] Hira state none) (Char 32)) answers
 
 -- a reading with a number is looked up as it is, and then by its number key
@@ -137,7 +137,7 @@ unfolding encode
 none_found = refl
 
 -- what is learnt is the candidate as it was found under the number key, and what is inserted the filled text
-abbrev year : State
+abbrev year : FrameState
 year = shown_for (reading (codes "9年") [])
     (record { key = plain_key (codes "#年"); cand = word (codes "#1年"); text = codes "９年" } ∷ [])
 
@@ -152,7 +152,7 @@ abbrev readings : List (List ℕ) → Answer
 readings texts = Done (replies.Readings texts)
 
 -- a reading that completes another is shown, with all of them kept and the place of it
-abbrev completed : List (List ℕ) → ℕ → List ℕ → State
+abbrev completed : List (List ℕ) → ℕ → List ℕ → FrameState
 completed texts place text =
     states.Reading (record (reading text []) { completions = Some (record { readings = texts; place = place }) })
 

@@ -9,14 +9,14 @@ use Rattle.skk_text.specs.declared.mode.Mode.TheVariants.{Hira, Kata, Ascii, Wid
 use Rattle.skk_text.specs.declared.notice.Notice.TheVariants as notices
 use Rattle.skk_calls.specs.declared.answer.Refusal.TheVariants.{Memory, Disk, JournalFull}
 use Rattle.skk_calls.specs.declared.part.Part.TheVariants.{Nasi}
-use Rattle.reading_state.specs.Puts.{Begun, Reading}
+use Rattle.reading_state.specs.Puts.{BegunOkuri, Reading}
 use Rattle.candidate_state.specs.Picking.{Picking}
 use Rattle.candidate_state.specs.Shown.{Shown}
 use Rattle.session_machine.specs.declared.frame.Conversion.{Conversion}
 use Rattle.session_machine.specs.declared.frame.Frame.{Frame}
 use Rattle.session_machine.specs.declared.frame.OuterFrame.{OuterFrame}
-use Rattle.session_machine.specs.declared.frame.State.{State}
-use Rattle.session_machine.specs.declared.frame.State.TheVariants as states
+use Rattle.session_machine.specs.declared.frame.FrameState.{FrameState}
+use Rattle.session_machine.specs.declared.frame.FrameState.TheVariants as states
 use Rattle.session_machine.specs.declared.frame.Waiting.TheVariants as waits
 use Rattle.session_machine.specs.declared.session_notice.SessionNotice.{SessionNotice}
 use Rattle.session_machine.specs.declared.session_notice.SessionNotice.TheVariants.{Step, Refused, Purged, Unchanged}
@@ -50,14 +50,14 @@ texts_printed = refl
 -- Readings
 
 -- an okurigana that was begun, and a reading
-abbrev begun : String → Option Begun
+abbrev begun : String → Option BegunOkuri
 begun text = Some (record { letter = code "r"; text = codes text })
 
-abbrev reading : String → Option Begun → String → Reading
+abbrev reading : String → Option BegunOkuri → String → Reading
 reading text okuri pending =
     record { text = codes text; is_abbrev = false; okuri = okuri; pending = codes pending; completions = None }
 
-okurigana : map (λ (l : Mode × Option Begun). okuri_shown l.0 l.1) ((Hira, None) ∷ (Kata, None) ∷ (Hira, begun "る")
+okurigana : map (λ (l : Mode × Option BegunOkuri). okuri_shown l.0 l.1) ((Hira, None) ∷ (Kata, None) ∷ (Hira, begun "る")
     ∷ (Kata, begun "る") ∷ (Ascii, begun "る") ∷ (Wide, begun "る") ∷ (Kata, begun "") ∷ [])
     ≡ [] ∷ [] ∷ codes "*る" ∷ codes "*ル" ∷ codes "*る" ∷ codes "*る" ∷ codes "*" ∷ []
 okurigana = refl
@@ -97,7 +97,7 @@ some_from c (suc count) =
 abbrev picking : List Shown → ℕ → Bool → Picking
 picking shown place question = record { shown = shown; place = place; question = question }
 
-abbrev conversion : Option Begun → List Shown → ℕ → Bool → Conversion
+abbrev conversion : Option BegunOkuri → List Shown → ℕ → Bool → Conversion
 conversion okuri shown place question =
     record { reading = reading "かん" okuri ""; picking = picking shown place question }
 
@@ -151,10 +151,10 @@ views = refl
 -- Frames
 
 -- a state with candidates
-abbrev picked : List Shown → ℕ → State
+abbrev picked : List Shown → ℕ → FrameState
 picked shown place = states.Picking (conversion None shown place false)
 
-states_shown : map (λ (l : Mode × State). state_shown l.0 l.1)
+states_shown : map (λ (l : Mode × FrameState). state_shown l.0 l.1)
     ((Kata, states.Plain []) ∷ (Kata, states.Plain (codes "ky")) ∷ (Kata, states.Reading (reading "か" None "n"))
     ∷ (Hira, picked three 0) ∷ (Hira, picked (some_from (code "a") 5) 4) ∷ [])
     ≡ [] ∷ codes "ky" ∷ codes "▽カn" ∷ codes "▼漢字" ∷ codes "▼[A:e 残り 0]" ∷ []
@@ -167,7 +167,7 @@ characters c zero = []
 characters c (suc count) = c ∷ characters (c + 1) count
 
 -- a frame with a text and a state
-abbrev frame : List ℕ → Mode → State → Frame
+abbrev frame : List ℕ → Mode → FrameState → Frame
 frame text mode state = record { text = text; mode = mode; state = state; last_choice = None }
 
 -- texts of 63, 64 and 65 characters, each of three bytes: the first of the last is not shown
@@ -262,7 +262,7 @@ notes : map note_text ([] ∷ codes "宴会の" ∷ codes ";" ∷ []) ≡ [] ∷
 notes = refl
 
 -- the notes of states: a single candidate without a note and with one, and pages, which have none
-abbrev noted : ℕ → State
+abbrev noted : ℕ → FrameState
 noted place = picked (some_from (code "a") 3 ++ three ++ three) place
 
 state_notes : map state_note (states.Plain (codes "k") ∷ states.Reading (reading "か" None "") ∷ picked three 0
@@ -271,7 +271,7 @@ state_notes : map state_note (states.Plain (codes "k") ∷ states.Reading (readi
 state_notes = refl
 
 -- a note is told where the last key gave no notice
-notices_told : map (λ (l : SessionNotice × State). notice_text l.0 l.1) (
+notices_told : map (λ (l : SessionNotice × FrameState). notice_text l.0 l.1) (
     (Step notices.Empty, states.Plain []) ∷ (Step notices.Empty, picked three 0) ∷ (Step notices.Empty, picked three 1)
     ∷ (Step notices.Limit, picked three 1) ∷ (Step notices.NoCandidate, states.Plain [])
     ∷ (Refused Disk, picked three 1) ∷ (Purged, states.Plain [])
@@ -292,7 +292,7 @@ odd = record {
   text = codes "a";
 } ∷ []
 
-notices_printed : map (λ (l : State × SessionNotice). notice (session (frame (codes "あ") Hira l.0) [] l.1)) ((
+notices_printed : map (λ (l : FrameState × SessionNotice). notice (session (frame (codes "あ") Hira l.0) [] l.1)) ((
   picked odd 0,
   Step notices.Empty,
 ) ∷ (picked odd 0, Step notices.NoUndo) ∷ (states.Plain [], Refused (JournalFull 1 2 3)) ∷ [])

@@ -23,8 +23,8 @@ use Rattle.session_machine.specs.Answered.{reply_notice, answer_notice, learnt_b
 use Rattle.session_machine.specs.declared.frame.Choice.{Choice}
 use Rattle.session_machine.specs.declared.frame.Conversion.{Conversion}
 use Rattle.session_machine.specs.declared.frame.OuterFrame.{OuterFrame}
-use Rattle.session_machine.specs.declared.frame.State.{State}
-use Rattle.session_machine.specs.declared.frame.State.TheVariants as states
+use Rattle.session_machine.specs.declared.frame.FrameState.{FrameState}
+use Rattle.session_machine.specs.declared.frame.FrameState.TheVariants as states
 use Rattle.session_machine.specs.declared.frame.Waiting.{Waiting}
 use Rattle.session_machine.specs.declared.frame.Waiting.TheVariants as waits
 use Rattle.session_machine.specs.declared.session_notice.SessionNotice.{SessionNotice}
@@ -42,7 +42,7 @@ rules =
     ∷ record { input = codes "nn"; next = []; out = record { hira = codes "ん"; kata = codes "ン" } } ∷ []
 
 -- a session of typist 3, who learns in the shared book, with a text, a mode, a state and a notice
-abbrev pub at : List ℕ → Mode → State → SessionNotice → Session
+abbrev pub at : List ℕ → Mode → FrameState → SessionNotice → Session
 at text mode state notice =
     record {
       typist = 3;
@@ -55,18 +55,18 @@ at text mode state notice =
 abbrev pub none : SessionNotice
 none = told.Step notices.Empty
 
-abbrev pub plain : State
+abbrev pub plain : FrameState
 plain = states.Plain []
 
 -- an open reading, with what is pending
 abbrev pub reading : List ℕ → List ℕ → Reading
 reading text pending = record { text = text; is_abbrev = false; okuri = None; pending = pending; completions = None }
 
-abbrev pub unfinished : List ℕ → State
+abbrev pub unfinished : List ℕ → FrameState
 unfinished text = states.Reading (reading text [])
 
 -- an abbreviation that is open
-abbrev pub abbreviation : List ℕ → State
+abbrev pub abbreviation : List ℕ → FrameState
 abbreviation text = states.Reading (record (reading text []) { is_abbrev = true })
 
 -- an open reading with an okurigana that was begun: its letter, and its kana
@@ -93,7 +93,7 @@ conversion place question = record {
   };
 }
 
-abbrev picking : ℕ → State
+abbrev picking : ℕ → FrameState
 picking place = states.Picking (conversion place false)
 
 -- what a key comes to where its calls get these answers
@@ -272,7 +272,7 @@ looked_up = refl
 
 -- an okurigana that is whole, a prefix with its `>` and an abbreviation are looked up too,
 -- the okurigana with its key's letter
-asked_for : map (λ (line : State × Key). asked (pressed rules (at (codes "x") Kata line.0 none) line.1) found_two)
+asked_for : map (λ (line : FrameState × Key). asked (pressed rules (at (codes "x") Kata line.0 none) line.1) found_two)
     ((unfinished (codes "あ"), Char 65) ∷ (states.Reading (with_begun (codes "あ") 107 []), Char 97)
     ∷ (unfinished (codes "あ"), Char 62)
     ∷ (states.Reading (reading (codes "あ") (codes "n")), Char 62)
@@ -330,14 +330,14 @@ answered_otherwise = refl
 -- Two things in one key
 
 -- the session of typist 3 with the notice of the limit
-abbrev past_limit : List ℕ → Mode → State → Session
+abbrev past_limit : List ℕ → Mode → FrameState → Session
 past_limit text mode state = at text mode state (told.Step notices.Limit)
 
 -- where a flush does not fit, what the key does else is done, and the limit is told
 flush_past_limit : (text : List ℕ) → has_room (at text Hira plain none) (codes "ん") ≡ false
     → map (pressed rules (at text Hira (states.Plain (codes "n")) none))
     (Char 81 ∷ Char 47 ∷ Char 65 ∷ Char 113 ∷ Char 108 ∷ Char 76 ∷ Cj ∷ [])
-    ≡ map (λ (left : Mode × State). ends (past_limit text left.0 left.1))
+    ≡ map (λ (left : Mode × FrameState). ends (past_limit text left.0 left.1))
     ((Hira, unfinished []) ∷ (Hira, abbreviation []) ∷ (Hira, unfinished (codes "あ")) ∷ (Kata, plain) ∷ (Ascii, plain)
     ∷ (Wide, plain) ∷ (Hira, plain) ∷ [])
 unfolding encode
@@ -504,7 +504,7 @@ choice inserted end mode place learned =
     record { inserted = inserted; end = end; mode = mode; conversion = conversion place false; learned = learned }
 
 -- a session with a last choice
-abbrev pub chosen : List ℕ → Mode → State → SessionNotice → Choice → Session
+abbrev pub chosen : List ℕ → Mode → FrameState → SessionNotice → Choice → Session
 chosen text mode state notice last =
     record {
       typist = 3;
@@ -592,7 +592,7 @@ unfolding encode
 choice_up_to_limit text room full = rw (room, full) refl
 
 -- pages: a letter chooses its candidate, and no key is read behind it
-abbrev pages : State
+abbrev pages : FrameState
 pages = states.Picking (record {
   reading = begun (codes "り");
   picking = record {
@@ -603,7 +603,7 @@ pages = states.Picking (record {
 })
 
 -- a session, and the state of it after a key with an answer to its call
-abbrev text_after : Session → Key → List Answer → Option (List ℕ × State)
+abbrev text_after : Session → Key → List Answer → Option (List ℕ × FrameState)
 text_after session key answers = option_map (λ (s : Session). (text_of s, s.frame.state)) (after session key answers)
 
 page_chooses : map (λ key. text_after (at (codes "x") Kata pages none) key learnt) (Char 97 ∷ Char 115 ∷ [])
@@ -636,7 +636,7 @@ no_room text full = rw full refl
 
 -- Purges
 
-abbrev question : State
+abbrev question : FrameState
 question = states.Picking (conversion 1 true)
 
 purge_asked : after (at [] Hira (picking 1) none) (Char 88) [] ≡ Some (at [] Hira question none)

@@ -43,8 +43,8 @@ use Rattle.candidate_state.specs.Picking.{picking_step, new_picking}
 use Rattle.candidate_state.specs.Shown.{Shown, shown_plain, shown_numbers}
 use Rattle.session_machine.specs.declared.frame.Choice.{Choice}
 use Rattle.session_machine.specs.declared.frame.Conversion.{Conversion}
-use Rattle.session_machine.specs.declared.frame.State.{State}
-use Rattle.session_machine.specs.declared.frame.State.TheVariants as states
+use Rattle.session_machine.specs.declared.frame.FrameState.{FrameState}
+use Rattle.session_machine.specs.declared.frame.FrameState.TheVariants as states
 use Rattle.session_machine.specs.declared.frame.OuterFrame.{OuterFrame}
 use Rattle.session_machine.specs.declared.frame.Waiting.{Waiting}
 use Rattle.session_machine.specs.declared.frame.Waiting.TheVariants as waits
@@ -85,7 +85,7 @@ pub record Keeps (Asked : Call → Type 0) (Given : Answer → Type 0) (Holds : 
   -- a notice, and another state or mode of the frame that takes the keys
   pub noticed : (session : Session) (notice : SessionNotice) → Holds session
       → Holds (record session { notice = notice })
-  pub stated : (session : Session) (state : State) → Holds session → Holds (with_state session state)
+  pub stated : (session : Session) (state : FrameState) → Holds session → Holds (with_state session state)
   pub moded : (session : Session) (mode : Mode) → Holds session → Holds (with_mode session mode)
   -- its text and its last choice
   pub longer : (session : Session) (piece : List ℕ) → has_room session piece ≡ true → Holds session
@@ -431,7 +431,7 @@ module _ {Asked : Call → Type 0} {Given : Answer → Type 0} {Holds : Session 
 
   -- Keys
 
-  state-kept : (rules : List Rule) (session : Session) (state : State) (key : Key) → Holds session
+  state-kept : (rules : List Rule) (session : Session) (state : FrameState) (key : Key) → Holds session
       → Kept (state_pressed rules session state key)
   state-kept rules session (states.Plain pending) key holds = plain-kept rules session pending key holds
   state-kept rules session (states.Reading reading) key holds = reading-kept rules session reading key holds

@@ -16,8 +16,8 @@ use Rattle.skk_calls.specs.declared.call.Call.TheVariants.{Learn}
 use Rattle.skk_calls.specs.declared.part.Part.TheVariants.{Nasi, Ari}
 use Rattle.skk_calls.specs.Interactions.{asked}
 use Rattle.session_machine.specs.declared.frame.OuterFrame.{OuterFrame}
-use Rattle.session_machine.specs.declared.frame.State.{State}
-use Rattle.session_machine.specs.declared.frame.State.TheVariants as states
+use Rattle.session_machine.specs.declared.frame.FrameState.{FrameState}
+use Rattle.session_machine.specs.declared.frame.FrameState.TheVariants as states
 use Rattle.session_machine.specs.declared.frame.Waiting.{Waiting}
 use Rattle.session_machine.specs.declared.frame.Waiting.TheVariants as waits
 use Rattle.session_machine.specs.declared.session_notice.SessionNotice.{SessionNotice}
@@ -34,7 +34,7 @@ abbrev outer : List ℕ → Mode → Waiting → OuterFrame
 outer text mode waiting = record { text = text; mode = mode; waiting = waiting; last_choice = None }
 
 -- a session in a registration, with its text, its mode and its state, inside these frames
-abbrev inside : List OuterFrame → List ℕ → Mode → State → SessionNotice → Session
+abbrev inside : List OuterFrame → List ℕ → Mode → FrameState → SessionNotice → Session
 inside frames text mode state notice = record (at text mode state notice) { outer = frames }
 
 -- a frame that waits for a word of あ, found nowhere

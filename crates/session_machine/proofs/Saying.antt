@@ -13,7 +13,7 @@ use Rattle.romaji_rules.specs.declared.rule.Rule.{Rule}
 use Rattle.candidate_state.specs.declared.cands_do.AfterChoose.{AfterChoose}
 use Rattle.candidate_state.specs.Shown.{Shown}
 use Rattle.session_machine.specs.declared.frame.Conversion.{Conversion}
-use Rattle.session_machine.specs.declared.frame.State.TheVariants as states
+use Rattle.session_machine.specs.declared.frame.FrameState.TheVariants as states
 use Rattle.session_machine.specs.Meanings.{Meaning, becomes}
 use Rattle.session_machine.specs.Pressed.{of_candidate, pressed, all_pressed, choice_piece, choosing, learning}
 use Rattle.session_machine.specs.Said.{Spoken, Says, Becomes, after}

@@ -22,7 +22,7 @@ use Rattle.candidate_state.specs.Picking.{new_picking}
 use Rattle.candidate_state.specs.Shown.{Shown, shown_plain, shown_numbers}
 use Rattle.session_machine.specs.declared.first_words.FirstWords.{FirstWords}
 use Rattle.session_machine.specs.declared.first_words.FirstWords.TheVariants.{Words, Stopped}
-use Rattle.session_machine.specs.declared.frame.State.TheVariants as states
+use Rattle.session_machine.specs.declared.frame.FrameState.TheVariants as states
 use Rattle.session_machine.specs.declared.session_notice.SessionNotice.TheVariants as told
 use Rattle.session_machine.specs.declared.frame.Waiting.TheVariants as waits
 use Rattle.session_machine.specs.Meanings.{Meaning, becomes}

@@ -14,13 +14,13 @@ use Rattle.skk_text.specs.declared.notice.Notice.{Notice}
 use Rattle.skk_text.specs.declared.notice.Notice.TheVariants as notices
 use Rattle.skk_calls.specs.declared.answer.Refusal.{Refusal}
 use Rattle.skk_calls.specs.declared.answer.Refusal.TheVariants as refusals
-use Rattle.reading_state.specs.Puts.{Begun, Reading}
+use Rattle.reading_state.specs.Puts.{BegunOkuri, Reading}
 use Rattle.candidate_state.specs.Picking.{Picking, is_single, page_size}
 use Rattle.candidate_state.specs.Shown.{Shown}
 use Rattle.session_machine.specs.declared.frame.Conversion.{Conversion}
 use Rattle.session_machine.specs.declared.frame.Frame.{Frame}
-use Rattle.session_machine.specs.declared.frame.State.{State}
-use Rattle.session_machine.specs.declared.frame.State.TheVariants as states
+use Rattle.session_machine.specs.declared.frame.FrameState.{FrameState}
+use Rattle.session_machine.specs.declared.frame.FrameState.TheVariants as states
 use Rattle.session_machine.specs.declared.session_notice.SessionNotice.{SessionNotice}
 use Rattle.session_machine.specs.declared.session_notice.SessionNotice.TheVariants as told
 use Rattle.session_machine.specs.declared.frame.OuterFrame.{OuterFrame}
@@ -54,7 +54,7 @@ abbrev pub shown_characters : ℕ
 shown_characters = 64
 
 -- an okurigana that was begun as it is shown in the kana of a mode, behind a star
-abbrev pub okuri_shown : Mode → Option Begun → List ℕ
+abbrev pub okuri_shown : Mode → Option BegunOkuri → List ℕ
 okuri_shown mode None = []
 okuri_shown mode (Some begun) = code "*" ∷ in_kana_of mode begun.text
 
@@ -102,7 +102,7 @@ picking_shown mode conversion =
     if is_single conversion.picking.place then single_shown mode conversion else page_shown conversion.picking
 
 -- what is shown of a state, in the kana of a mode: what is pending, the open reading, or the candidates
-abbrev pub state_shown : Mode → State → List ℕ
+abbrev pub state_shown : Mode → FrameState → List ℕ
 state_shown mode (states.Plain pending) = pending
 state_shown mode (states.Reading reading) = reading_shown mode reading
 state_shown mode (states.Picking conversion) = picking_shown mode conversion
@@ -155,7 +155,7 @@ first_note [] = []
 first_note (first ∷ others) = first.cand.note
 
 -- the note of a state: that of a single candidate
-abbrev pub state_note : State → List ℕ
+abbrev pub state_note : FrameState → List ℕ
 state_note (states.Plain pending) = []
 state_note (states.Reading reading) = []
 state_note (states.Picking conversion) =
@@ -163,7 +163,7 @@ state_note (states.Picking conversion) =
     if is_single picking.place then note_text (first_note (drop picking.place picking.shown)) else []
 
 -- the text of a notice, where a key that gave none tells the note of a state
-abbrev pub notice_text : SessionNotice → State → List ℕ
+abbrev pub notice_text : SessionNotice → FrameState → List ℕ
 notice_text (told.Step notices.Empty) state = state_note state
 notice_text (told.Step notice) state = step_text notice
 notice_text (told.Refused refusal) state = refusal_text refusal

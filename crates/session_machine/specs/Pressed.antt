@@ -34,8 +34,8 @@ use Rattle.session_machine.specs.Answered.{answer_notice, learnt_by, says_purged
 use Rattle.session_machine.specs.Converted.{converted, completing}
 use Rattle.session_machine.specs.declared.frame.Choice.{Choice}
 use Rattle.session_machine.specs.declared.frame.Conversion.{Conversion}
-use Rattle.session_machine.specs.declared.frame.State.{State}
-use Rattle.session_machine.specs.declared.frame.State.TheVariants as states
+use Rattle.session_machine.specs.declared.frame.FrameState.{FrameState}
+use Rattle.session_machine.specs.declared.frame.FrameState.TheVariants as states
 use Rattle.session_machine.specs.declared.session_notice.SessionNotice.TheVariants as told
 use Rattle.session_machine.specs.declared.frame.Waiting.TheVariants as waits
 use Rattle.session_machine.specs.Meanings.{Meaning, becomes}
@@ -208,7 +208,7 @@ picking_pressed rules session conversion key =
 -- Keys
 
 -- what a key comes to in a state of the frame
-abbrev pub state_pressed : List Rule → Session → State → Key → Meaning
+abbrev pub state_pressed : List Rule → Session → FrameState → Key → Meaning
 state_pressed rules session (states.Plain pending) key = plain_pressed rules session pending key
 state_pressed rules session (states.Reading reading) key = reading_pressed rules session reading key
 state_pressed rules session (states.Picking conversion) key = picking_pressed rules session conversion key

@@ -5,10 +5,10 @@ use Rattle.std.specs.List.{list_any}
 use Rattle.numeric_entries.specs.Numbers as numeric
 use Rattle.skk_calls.specs.Rows.{RowKey}
 use Rattle.reading_state.specs.Keys.{key_with}
-use Rattle.reading_state.specs.Puts.{Begun, Reading}
+use Rattle.reading_state.specs.Puts.{BegunOkuri, Reading}
 
 -- the kana of an okurigana that was begun, none where it was not
-abbrev pub kana_begun : Option Begun → List ℕ
+abbrev pub kana_begun : Option BegunOkuri → List ℕ
 kana_begun None = []
 kana_begun (Some begun) = begun.text
 

@@ -19,8 +19,8 @@ use Rattle.reading_state.specs.Puts.{Reading}
 use Rattle.session_machine.specs.Answered.{answer_notice}
 use Rattle.session_machine.specs.declared.frame.Frame.{Frame}
 use Rattle.session_machine.specs.declared.frame.OuterFrame.{OuterFrame}
-use Rattle.session_machine.specs.declared.frame.State.{State}
-use Rattle.session_machine.specs.declared.frame.State.TheVariants as states
+use Rattle.session_machine.specs.declared.frame.FrameState.{FrameState}
+use Rattle.session_machine.specs.declared.frame.FrameState.TheVariants as states
 use Rattle.session_machine.specs.declared.frame.Waiting.{Waiting}
 use Rattle.session_machine.specs.declared.frame.Waiting.TheVariants as waits
 use Rattle.session_machine.specs.declared.returning.Return.{Return}
@@ -42,7 +42,7 @@ waiting_reading (waits.Reading reading) = reading
 waiting_reading (waits.Picking conversion) = conversion.reading
 
 -- the state of a frame that waits, once it waits no more and no word came
-abbrev pub waiting_state : Waiting → State
+abbrev pub waiting_state : Waiting → FrameState
 waiting_state (waits.Reading reading) = states.Reading reading
 waiting_state (waits.Picking conversion) = states.Picking conversion
 

@@ -9,8 +9,8 @@ use Rattle.skk_text.specs.declared.notice.Notice.TheVariants as notices
 use Rattle.session_machine.specs.declared.frame.Choice.{Choice}
 use Rattle.session_machine.specs.declared.frame.Frame.{Frame}
 use Rattle.session_machine.specs.declared.frame.OuterFrame.{OuterFrame}
-use Rattle.session_machine.specs.declared.frame.State.{State}
-use Rattle.session_machine.specs.declared.frame.State.TheVariants.{Plain}
+use Rattle.session_machine.specs.declared.frame.FrameState.{FrameState}
+use Rattle.session_machine.specs.declared.frame.FrameState.TheVariants.{Plain}
 use Rattle.session_machine.specs.declared.session_notice.SessionNotice.{SessionNotice}
 use Rattle.session_machine.specs.declared.session_notice.SessionNotice.TheVariants.{Step}
 
@@ -65,7 +65,7 @@ abbrev pub with_frame : Session → Frame → Session
 with_frame session frame = record session { frame = frame }
 
 -- a session with another state of its frame
-abbrev pub with_state : Session → State → Session
+abbrev pub with_state : Session → FrameState → Session
 with_state session state = record session { frame = record session.frame { state = state } }
 
 -- a session with another text of its frame

@@ -8,7 +8,7 @@ ghost use Rattle.session_machine.specs.Said.{Says, after, spoken};
 ghost use Rattle.session_machine.specs.Session.{with_piece};
 
 use crate::answered::{learnt_by, notice_of};
-use crate::frame::{Choice, Conversion, State};
+use crate::frame::{Choice, Conversion, FrameState};
 use crate::kana::in_kana_of;
 use crate::pressing::press_in_plain;
 use crate::returning::put_return;
@@ -44,7 +44,7 @@ pub(crate) fn choose<C: Caller>(
         shown,
     )?;
     if !session.has_room(piece.as_str()) {
-        session.put_state(State::Picking(conversion));
+        session.put_state(FrameState::Picking(conversion));
         session.note(Notice::Limit);
         return Ok(());
     }
@@ -162,7 +162,7 @@ fn apply_choice<C: Caller>(
         AfterChoose::Nothing => {}
         AfterChoose::Delete => session.shorten(),
         AfterChoose::Newline => return put_return(session, alloc, caller),
-        AfterChoose::OpenSuffix => session.put_state(State::Reading(Reading::suffix(alloc)?)),
+        AfterChoose::OpenSuffix => session.put_state(FrameState::Reading(Reading::suffix(alloc)?)),
         AfterChoose::Read(key) => {
             return press_in_plain(session, alloc, rules, Pending::new(), key, caller);
         }

@@ -7,7 +7,7 @@ ghost use Rattle.skk_calls.specs.Dictionary.{is_plain_reading, may_answer};
 ghost use Rattle.session_machine.specs.Converted.{completing, completions_answered};
 ghost use Rattle.session_machine.specs.Said.{Becomes, Says, after, spoken};
 
-use crate::frame::State;
+use crate::frame::FrameState;
 use crate::opening::leave_open;
 use crate::session::Session;
 use reading_state::Reading;
@@ -67,7 +67,7 @@ fn show_first(
 {
     let mut reading = reading;
     let notice = reading.complete(alloc, readings)?;
-    session.put_state(State::Reading(reading));
+    session.put_state(FrameState::Reading(reading));
     session.note(notice);
     Ok(())
 }

@@ -2,7 +2,7 @@ ghost use Rattle.std.specs.Prelude.{◌≡◌, IfOk};
 ghost use Rattle.session_machine.specs.Pressed.{confirmed, confirmed_effect, reading_piece};
 ghost use Rattle.session_machine.specs.Said.{Says, after, spoken};
 
-use crate::frame::State;
+use crate::frame::FrameState;
 use crate::kana::{in_kana_of, whole_reading};
 use crate::returning::put_return;
 use crate::session::Session;
@@ -27,7 +27,7 @@ pub(crate) fn confirm<C: Caller>(
 {
     let piece = reading_piece(alloc, session.frame.mode, &reading, other)?;
     if !session.has_room(piece.as_str()) {
-        session.put_state(State::Reading(reading));
+        session.put_state(FrameState::Reading(reading));
         session.note(Notice::Limit);
         return Ok(());
     }
@@ -59,7 +59,7 @@ fn apply_confirmed<C: Caller>(
         AfterConfirm::Nothing => {}
         AfterConfirm::ToAscii => session.frame.mode = Mode::Ascii,
         AfterConfirm::ToWide => session.frame.mode = Mode::Wide,
-        AfterConfirm::OpenReading => session.put_state(State::Reading(Reading::new(alloc))),
+        AfterConfirm::OpenReading => session.put_state(FrameState::Reading(Reading::new(alloc))),
         AfterConfirm::Newline => return put_return(session, alloc, caller),
     }
     Ok(())

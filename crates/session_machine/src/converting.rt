@@ -10,7 +10,7 @@ ghost use Rattle.session_machine.specs.Said.{Becomes, Says, after, spoken};
 
 use crate::answered::found_by;
 use crate::first_words::{FirstWords, look_numbers_up};
-use crate::frame::{Conversion, State, Waiting};
+use crate::frame::{Conversion, FrameState, Waiting};
 use crate::headword::Headword;
 use crate::opening::leave_open;
 use crate::registering::register;
@@ -207,6 +207,6 @@ fn pick(
         return register(session, alloc, Waiting::Reading(reading));
     }
     let picking = Picking::new(shown);
-    session.put_state(State::Picking(Conversion { reading, picking }));
+    session.put_state(FrameState::Picking(Conversion { reading, picking }));
     Ok(())
 }

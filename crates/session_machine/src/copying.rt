@@ -1,7 +1,7 @@
 ghost use Rattle.std.specs.Prelude.{◌≡◌, IfOk};
 ghost use Rattle.std.specs.Option.{option_copied};
 
-use crate::frame::{Choice, Conversion, Frame, OuterFrame, State, Waiting};
+use crate::frame::{Choice, Conversion, Frame, FrameState, OuterFrame, Waiting};
 use crate::headword::Headword;
 use crate::session::Session;
 use skk_calls::{Answer, Call, DistinctCands, Learned, Reply};
@@ -42,12 +42,12 @@ impl Copies for OuterFrame {
     }
 }
 
-impl Copies for State {
-    fn copy(&self, alloc: Global) -> Result<State, Memory> {
+impl Copies for FrameState {
+    fn copy(&self, alloc: Global) -> Result<FrameState, Memory> {
         match self {
-            State::Plain(pending) => Ok(State::Plain(pending.copied())),
-            State::Reading(reading) => Ok(State::Reading(reading.copy(alloc)?)),
-            State::Picking(conversion) => Ok(State::Picking(conversion.copy(alloc)?)),
+            FrameState::Plain(pending) => Ok(FrameState::Plain(pending.copied())),
+            FrameState::Reading(reading) => Ok(FrameState::Reading(reading.copy(alloc)?)),
+            FrameState::Picking(conversion) => Ok(FrameState::Picking(conversion.copy(alloc)?)),
         }
     }
 }

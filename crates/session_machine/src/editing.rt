@@ -3,7 +3,7 @@ ghost use Rattle.std.specs.Option.{option_map_or};
 ghost use Rattle.std.specs.Str.{chars};
 ghost use Rattle.session_machine.specs.Session.{fits_behind, without_chars};
 
-use crate::frame::{Choice, Frame, State};
+use crate::frame::{Choice, Frame, FrameState};
 use crate::session::Session;
 use crate::session_notice::SessionNotice;
 use romaji_rules::Pending;
@@ -18,16 +18,16 @@ impl Session {
     ghost use Rattle.std.specs.Str.{chars};
     ghost use Rattle.skk_text.specs.Text.{byte_len};
     ghost use Rattle.session_machine.specs.Session.{before_key, choice_at, has_room, noting, shortened, telling};
-    ghost use Rattle.session_machine.specs.declared.frame.State.TheVariants.{Plain};
+    ghost use Rattle.session_machine.specs.declared.frame.FrameState.TheVariants.{Plain};
     ghost use Rattle.session_machine.specs.Session.{with_choice, with_frame, with_insertion, with_state};
 
     // Takes the state of the frame out, which is plain then, and the notice of the key before away.
-    pub(crate) fn take_state(&mut self) -> State
+    pub(crate) fn take_state(&mut self) -> FrameState
         ensures state { result ≡ self.old.frame.state }
         ensures left { self.new ≡ before_key self.old }
     {
         self.notice = SessionNotice::Step(Notice::Empty);
-        mem::replace(&mut self.frame.state, State::Plain(Pending::new()))
+        mem::replace(&mut self.frame.state, FrameState::Plain(Pending::new()))
     }
 
     // Takes the letters that wait out of a frame in the plain state, and the notice of the key before away: what
@@ -36,7 +36,7 @@ impl Session {
         ensures { MatchOption result (self.new ≡ self.old)
             (λ pending. (self.old.frame.state ≡ Plain pending) × (self.new ≡ before_key self.old)) }
     {
-        let State::Plain(pending) = &mut self.frame.state else {
+        let FrameState::Plain(pending) = &mut self.frame.state else {
             return None;
         };
         let taken = mem::replace(pending, Pending::new());
@@ -49,8 +49,8 @@ impl Session {
         ensures { self.new ≡ with_state self.old (Plain pending) }
     {
         match &mut self.frame.state {
-            State::Plain(waiting) => *waiting = pending,
-            state => drop(mem::replace(state, State::Plain(pending))),
+            FrameState::Plain(waiting) => *waiting = pending,
+            state => drop(mem::replace(state, FrameState::Plain(pending))),
         }
     }
 
@@ -62,7 +62,7 @@ impl Session {
     }
 
     // Puts another state into the frame.
-    pub(crate) fn put_state(&mut self, state: State)
+    pub(crate) fn put_state(&mut self, state: FrameState)
         ensures { self.new ≡ with_state self.old state }
     {
         drop(mem::replace(&mut self.frame.state, state));

@@ -14,7 +14,7 @@ use std::alloc::Global;
 pub struct Frame {
     pub text: Text,
     pub mode: Mode,
-    pub state: State,
+    pub state: FrameState,
     /// What was chosen last, while it can be taken back.
     pub last_choice: Option<Choice>,
 }
@@ -34,7 +34,7 @@ impl Drop for Frame {
 
 /// What a frame's next key goes to.
 #[derive(Drop)]
-pub enum State {
+pub enum FrameState {
     /// The plain state, with the letters that wait for more.
     Plain(Pending),
     /// ▽: a reading is open.
@@ -122,7 +122,7 @@ impl Frame {
         Frame {
             text: Text::new(alloc),
             mode: Mode::Hira,
-            state: State::Plain(Pending::new()),
+            state: FrameState::Plain(Pending::new()),
             last_choice: None,
         }
     }
@@ -181,7 +181,7 @@ impl OuterFrame {
         Ok(Frame {
             text,
             mode,
-            state: State::Plain(Pending::new()),
+            state: FrameState::Plain(Pending::new()),
             last_choice: None,
         })
     }
@@ -227,12 +227,12 @@ impl Waiting {
     }
 
     // The state that stands there once no word is waited for.
-    pub(crate) fn into_state(self) -> State
+    pub(crate) fn into_state(self) -> FrameState
         ensures { result ≡ waiting_state self }
     {
         match self {
-            Waiting::Reading(reading) => State::Reading(reading.into_reading()),
-            Waiting::Picking(conversion) => State::Picking(conversion),
+            Waiting::Reading(reading) => FrameState::Reading(reading.into_reading()),
+            Waiting::Picking(conversion) => FrameState::Picking(conversion),
         }
     }
 }

@@ -41,7 +41,7 @@ mod session_notice;
 mod undoing;
 
 pub use copying::{copy_answer, copy_call};
-pub use frame::{Choice, Conversion, Frame, OuterFrame, State, Waiting};
+pub use frame::{Choice, Conversion, Frame, FrameState, OuterFrame, Waiting};
 pub use headword::Headword;
 pub use laws::{calls_are_own, registrations_have_a_limit, texts_have_a_limit};
 pub use replay::Replayed;

@@ -1,7 +1,7 @@
 ghost use Rattle.std.specs.Prelude.{◌≡◌};
 ghost use Rattle.session_machine.specs.Converted.{left_open};
 
-use crate::frame::State;
+use crate::frame::FrameState;
 use crate::session::Session;
 use crate::session_notice::SessionNotice;
 use reading_state::Reading;
@@ -14,5 +14,5 @@ pub(crate) fn leave_open(session: &mut Session, reading: Reading, refusal: Optio
     if let Some(refusal) = refusal {
         session.notice = SessionNotice::Refused(refusal);
     }
-    session.put_state(State::Reading(reading));
+    session.put_state(FrameState::Reading(reading));
 }

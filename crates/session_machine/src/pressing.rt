@@ -8,7 +8,7 @@ use crate::choosing::choose;
 use crate::completing::complete;
 use crate::confirming::confirm;
 use crate::converting::convert;
-use crate::frame::{Conversion, State, Waiting};
+use crate::frame::{Conversion, FrameState, Waiting};
 use crate::purging::purge;
 use crate::registering::{cancel, register};
 use crate::returning::put_return;
@@ -38,9 +38,11 @@ pub(crate) fn press_key<C: Caller>(
         return press_in_plain(session, alloc, rules, pending, key, caller);
     }
     match session.take_state() {
-        State::Plain(pending) => press_in_plain(session, alloc, rules, pending, key, caller),
-        State::Reading(reading) => press_in_reading(session, alloc, rules, reading, key, caller),
-        State::Picking(conversion) => {
+        FrameState::Plain(pending) => press_in_plain(session, alloc, rules, pending, key, caller),
+        FrameState::Reading(reading) => press_in_reading(
+            session, alloc, rules, reading, key, caller,
+        ),
+        FrameState::Picking(conversion) => {
             press_in_picking(session, alloc, rules, conversion, key, caller)
         }
     }
@@ -100,12 +102,12 @@ fn apply_plain<C: Caller>(
         PlainThen::Stay => {}
         PlainThen::DeleteLast => session.shorten(),
         PlainThen::Newline => return put_return(session, alloc, caller),
-        PlainThen::OpenReading(None) => session.put_state(State::Reading(Reading::new(alloc))),
+        PlainThen::OpenReading(None) => session.put_state(FrameState::Reading(Reading::new(alloc))),
         PlainThen::OpenReading(Some(letter)) => {
             let key = Key::Char(letter);
             return press_in_reading(session, alloc, rules, Reading::new(alloc), key, caller);
         }
-        PlainThen::OpenAbbrev => session.put_state(State::Reading(Reading::abbrev(alloc))),
+        PlainThen::OpenAbbrev => session.put_state(FrameState::Reading(Reading::abbrev(alloc))),
         PlainThen::Cancel => cancel(session),
         PlainThen::AskUndo => undo(session, alloc, caller),
     }
@@ -145,7 +147,7 @@ fn apply_reading<C: Caller>(
         (spoken C.number C.said caller.old) (spoken C.number C.said caller.new) }
 {
     match then {
-        ReadingThen::Stay => session.put_state(State::Reading(reading)),
+        ReadingThen::Stay => session.put_state(FrameState::Reading(reading)),
         ReadingThen::Convert => return convert(session, alloc, reading, caller),
         ReadingThen::AskCompletions => return complete(session, alloc, reading, caller),
         ReadingThen::Drop => {}
@@ -191,12 +193,12 @@ fn apply_picking<C: Caller>(
 {
     match done {
         CandsDo::Stay(notice) => {
-            session.put_state(State::Picking(conversion));
+            session.put_state(FrameState::Picking(conversion));
             session.note(notice);
             Ok(())
         }
         CandsDo::Back => {
-            session.put_state(State::Reading(conversion.into_reading()));
+            session.put_state(FrameState::Reading(conversion.into_reading()));
             Ok(())
         }
         CandsDo::Register => register(session, alloc, Waiting::Picking(conversion)),

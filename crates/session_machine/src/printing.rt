@@ -18,7 +18,7 @@ ghost use Rattle.session_machine.specs.ReadingParts.{kana_begun};
 ghost use Rattle.session_machine.specs.Registrations.{innermost};
 
 use crate::escaping::push_printed;
-use crate::frame::{Conversion, OuterFrame, State};
+use crate::frame::{Conversion, FrameState, OuterFrame};
 use crate::kana::in_kana_of;
 use crate::reading_parts::registered_text;
 use crate::session::Session;
@@ -89,14 +89,14 @@ fn push_brackets(alloc: Global, page: &mut Text, bracket: &str, times: usize) ->
 }
 
 // Adds what is shown of a state.
-fn push_state(alloc: Global, page: &mut Text, mode: Mode, state: &State) -> Result<(), Memory>
+fn push_state(alloc: Global, page: &mut Text, mode: Mode, state: &FrameState) -> Result<(), Memory>
     ensures ok { OnOk result (page.new ≡ page.old ++ printed_form (state_shown mode state.now)) }
     ensures kept { StartsWith page.new page.old }
 {
     match state {
-        State::Plain(pending) => push_pending(page, pending),
-        State::Reading(reading) => push_reading(alloc, page, mode, reading),
-        State::Picking(conversion) => push_picking(alloc, page, mode, conversion),
+        FrameState::Plain(pending) => push_pending(page, pending),
+        FrameState::Reading(reading) => push_reading(alloc, page, mode, reading),
+        FrameState::Picking(conversion) => push_picking(alloc, page, mode, conversion),
     }
 }
 
@@ -290,16 +290,16 @@ fn push_numbered(page: &mut Text, word: &str, number: u64) -> Result<(), Memory>
 }
 
 // Adds the note of a state: that of a single candidate.
-fn push_state_note(page: &mut Text, state: &State) -> Result<(), Memory>
+fn push_state_note(page: &mut Text, state: &FrameState) -> Result<(), Memory>
     ensures ok { OnOk result (page.new ≡ page.old ++ printed_form (state_note state.now)) }
     ensures kept { StartsWith page.new page.old }
 {
     match state {
-        State::Picking(conversion) if conversion.picking.is_single() => push_note(
+        FrameState::Picking(conversion) if conversion.picking.is_single() => push_note(
             page,
             picked_cand(&conversion.picking).cand.note(),
         ),
-        State::Plain(_) | State::Reading(_) | State::Picking(_) => Ok(()),
+        FrameState::Plain(_) | FrameState::Reading(_) | FrameState::Picking(_) => Ok(()),
     }
 }
 

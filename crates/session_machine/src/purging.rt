@@ -5,7 +5,7 @@ ghost use Rattle.session_machine.specs.Pressed.{after_purge, of_candidate, purgi
 ghost use Rattle.session_machine.specs.Said.{Says, after, spoken};
 
 use crate::answered::{notice_of, says_purged};
-use crate::frame::{Conversion, State};
+use crate::frame::{Conversion, FrameState};
 use crate::session::Session;
 use candidate_state::Shown;
 use skk_calls::{Answer, Call, Caller};
@@ -53,6 +53,6 @@ fn take_purge(session: &mut Session, conversion: Conversion, answer: &Answer)
 {
     session.notice = notice_of(answer);
     if !says_purged(answer) {
-        session.put_state(State::Picking(conversion));
+        session.put_state(FrameState::Picking(conversion));
     }
 }

@@ -6,7 +6,7 @@ ghost use Rattle.skk_text.specs.Text.{byte_len};
 
 use crate::answered::notice_of;
 use crate::editing::delete_chars;
-use crate::frame::{Choice, State};
+use crate::frame::{Choice, FrameState};
 use crate::session::Session;
 use crate::session_notice::SessionNotice;
 use skk_calls::{Call, Caller, Learned};
@@ -35,7 +35,7 @@ fn go_before(session: &mut Session, choice: Choice) -> Option<Learned>
     delete_chars(&mut session.frame.text, choice.inserted);
     session.frame.mode = choice.mode;
     let (conversion, learned) = choice.into_parts();
-    session.put_state(State::Picking(conversion));
+    session.put_state(FrameState::Picking(conversion));
     session.frame.last_choice = None;
     learned
 }

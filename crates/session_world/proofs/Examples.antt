@@ -18,8 +18,8 @@ use Rattle.skk_calls.specs.Dictionary.{after}
 use Rattle.skk_calls.specs.Interactions.{Dialog}
 use Rattle.skk_calls.specs.Rows.{Cand, Row, RowKey}
 use Rattle.skk_calls.specs.States.{State, empty_state, count_of}
-use Rattle.session_machine.specs.declared.frame.State.{State as FrameState}
-use Rattle.session_machine.specs.declared.frame.State.TheVariants as states
+use Rattle.session_machine.specs.declared.frame.FrameState.{FrameState}
+use Rattle.session_machine.specs.declared.frame.FrameState.TheVariants as states
 use Rattle.session_machine.specs.declared.session_notice.SessionNotice.{SessionNotice}
 use Rattle.session_machine.specs.declared.session_notice.SessionNotice.TheVariants as told
 use Rattle.session_machine.specs.Session.{Session, new_session}

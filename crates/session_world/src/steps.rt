@@ -13,7 +13,7 @@ use crate::dictionary::moves;
 use crate::doubt::last_in_doubt;
 use crate::places::{start_in, take_in};
 use crate::seat::renewed_seats;
-use crate::world::{Opened, World, WorldFault};
+use crate::world::{OpenedBooks, World, WorldFault};
 use session_machine::copy_answer;
 use skk_calls::{Answer, Call, Entry, Refusal, Reply};
 use skk_text::{Key, Memory};
@@ -194,7 +194,7 @@ fn reopen(world: World, alloc: Global) -> Result<World, Memory>
 {
     let opened = Trace::new(
         alloc,
-        &Opened {
+        &OpenedBooks {
             index: &world.index,
         },
     )?;

@@ -99,7 +99,7 @@ impl World {
         ensures { IfOk result (λ world. world ≡ new_world sessions.now rules system) }
     {
         let index = Index::new(alloc);
-        let opened = Trace::new(alloc, &Opened { index: &index })?;
+        let opened = Trace::new(alloc, &OpenedBooks { index: &index })?;
         Ok(World {
             rules,
             system,
@@ -139,10 +139,10 @@ impl World {
 
 // The state that learned books stand for.
 #[derive(Drop)]
-pub(crate) struct Opened<'a> {
+pub(crate) struct OpenedBooks<'a> {
     pub(crate) index: &'a Index,
 }
 
-impl Shows<State> for Opened<'_> {
+impl Shows<State> for OpenedBooks<'_> {
     ghost shows = { λ opened. opened.index.now.state };
 }

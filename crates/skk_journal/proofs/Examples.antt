@@ -30,8 +30,8 @@ use Rattle.skk_journal.specs.OpeningLaws.{one_opening}
 use Rattle.skk_journal.specs.Images.{Opens, OpensEither}
 use Rattle.skk_journal.specs.Journal.{OpenJournal, is_in_doubt, IsStagedTo, Holds, HoldsDoubt, Rests, Doubts}
 use Rattle.skk_journal.specs.Causes.{file_number, IsRefused, UnlessDisk, IsNotAdded}
-use Rattle.skk_journal.specs.declared.choice.Choice.{Choice}
-use Rattle.skk_journal.specs.declared.choice.Choice.TheVariants.{NoneBy, CutShortIn, NoLive}
+use Rattle.skk_journal.specs.declared.choice.LiveChoice.{LiveChoice}
+use Rattle.skk_journal.specs.declared.choice.LiveChoice.TheVariants.{NoneBy, CutShortIn, NoLive}
 use Rattle.skk_journal.specs.declared.fault.AppendFault.TheVariants.{Full, Disk}
 use Rattle.skk_journal.specs.declared.fault.OpenFault.TheVariants as opening
 use Rattle.skk_journal.specs.declared.live.Live.{Live}
@@ -40,8 +40,8 @@ use Rattle.skk_journal.specs.declared.live.Doubt.TheVariants as doubts
 use Rattle.skk_journal.specs.Found.{found_from}
 use Rattle.skk_journal.specs.Frames.{Ends, IsFrame}
 use Rattle.skk_journal.specs.Reading.{Takes, StopsAt, StopsWithin, AreRead, BreakOff, TellsNoPlace, SameCause}
-use Rattle.skk_journal.specs.declared.found.Found.{Found}
-use Rattle.skk_journal.specs.declared.frame.Frame.TheVariants as frames
+use Rattle.skk_journal.specs.declared.found.FoundRecord.{FoundRecord}
+use Rattle.skk_journal.specs.declared.frame.RecordFrame.TheVariants as frames
 use Rattle.skk_journal.specs.declared.frames.Stop.TheVariants.{End, Else}
 use Rattle.skk_journal.specs.declared.head.Head.TheVariants.{Fresh, Foreign, CutShort, Headed}
 use Rattle.skk_journal.specs.declared.records.RecordsFault.TheVariants as reading
@@ -273,7 +273,7 @@ unfolding number_of number_step
 cut_ends = refl
 
 -- the choice between two headed files of these generations
-abbrev choice_by : ℕ × ℕ → Choice
+abbrev choice_by : ℕ × ℕ → LiveChoice
 choice_by generations = choice (record { a = front generations.0 []; b = front generations.1 [] })
 
 -- the one whose generation comes next after the other's, as 0 does after the greatest one; or else the greater one; or
@@ -395,7 +395,7 @@ by_bytes = refl
 abbrev stray_file : List ℕ
 stray_file = marked_by 7 ++ 1 ∷ 0 ∷ 0 ∷ 0 ∷ 0 ∷ 0 ∷ 0 ∷ 0 ∷ 1 ∷ 1 ∷ 0 ∷ 0 ∷ 0 ∷ 9 ∷ 0 ∷ []
 
-abbrev beside_old : List ℕ → Choice
+abbrev beside_old : List ℕ → LiveChoice
 beside_old file = choice (record { a = front 0 [] ++ 0 ∷ []; b = file })
 
 torn_open : (beside_old stray_file ≡ lives A 0) × (beside_old (1 ∷ drop 1 stray_file) ≡ lives B 1)
@@ -692,10 +692,10 @@ unfolding taken number_of number_step
 two_again = refl
 
 -- a record at 17 that was read, and one behind it, with a closed gate behind that
-abbrev first : Found
+abbrev first : FoundRecord
 first = record { at = 17; payload = 7 ∷ 8 ∷ [] }
 
-abbrev second : Found
+abbrev second : FoundRecord
 second = record { at = 24; payload = 9 ∷ [] }
 
 abbrev second_tail : List ℕ

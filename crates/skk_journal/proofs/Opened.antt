@@ -6,14 +6,14 @@ use Rattle.skk_disk.specs.Steps.{InFile, ComeFrom}
 use Rattle.skk_disk.specs.StepLaws.{no_step, then}
 use Rattle.skk_disk.specs.declared.which.Which.{Which}
 use Rattle.skk_disk.specs.declared.which.Which.TheVariants.{A, B}
-use Rattle.skk_journal.specs.declared.choice.Choice.{Choice}
-use Rattle.skk_journal.specs.declared.choice.Choice.TheVariants.{NoneBy, CutShortIn, NoLive, LiveIn}
+use Rattle.skk_journal.specs.declared.choice.LiveChoice.{LiveChoice}
+use Rattle.skk_journal.specs.declared.choice.LiveChoice.TheVariants.{NoneBy, CutShortIn, NoLive, LiveIn}
 use Rattle.skk_journal.specs.declared.choice.Chosen.{Chosen}
 use Rattle.skk_journal.specs.declared.fault.OpenFault.TheVariants.{NotJournal, BadRecord}
-use Rattle.skk_journal.specs.declared.found.Found.{Found}
+use Rattle.skk_journal.specs.declared.found.FoundRecord.{FoundRecord}
 use Rattle.skk_journal.specs.declared.live.Live.{Live}
 use Rattle.skk_journal.specs.declared.live.Idle.{Idle}
-use Rattle.skk_journal.specs.declared.opening.Opened.{Opened}
+use Rattle.skk_journal.specs.declared.opening.OpenedFiles.{OpenedFiles}
 use Rattle.skk_journal.specs.Records.{first_place, HasRecords}
 use Rattle.skk_journal.specs.Found.{payloads, found_from}
 use Rattle.skk_journal.specs.Choice.{choice, idle_beside}
@@ -30,12 +30,13 @@ no_live live is = cc
 
 module _ (image : Image) where
   -- one of the files is no learned one
-  pub none_refused : (chosen : Choice) (file : Which) (number first : ℕ) → chosen ≡ choice image
+  pub none_refused : (chosen : LiveChoice) (file : Which) (number first : ℕ) → chosen ≡ choice image
       → chosen ≡ NoneBy file first → number ≡ file_number file → IsRefused image (NotJournal number first)
   none_refused chosen file number first read is told = (file, told, sym read ∙ is)
 
   -- one of the files has no whole generation
-  pub cut_refused : (chosen : Choice) (file : Which) (number : ℕ) (before : List Found) → chosen ≡ choice image
+  pub cut_refused : (chosen : LiveChoice) (file : Which) (number : ℕ) (before : List FoundRecord)
+      → chosen ≡ choice image
       → chosen ≡ CutShortIn file → number ≡ file_number file → before ≡ [] → IsRefused image (BadRecord number 9 before)
   cut_refused chosen file number before read is told none = (
     file,
@@ -45,7 +46,7 @@ module _ (image : Image) where
   )
 
   -- no file is live
-  pub none_opened : (records : List Found) → choice image ≡ NoLive → records ≡ []
+  pub none_opened : (records : List FoundRecord) → choice image ≡ NoLive → records ≡ []
       → IsOpened image (with_records (payloads records))
   none_opened records is none = subst (HasChosen image (payloads records)) (sym is) (ap payloads none)
 
@@ -138,7 +139,7 @@ pub same_image : (c d : Image) → c.a ≡ d.a → c.b ≡ d.b → c ≡ d
 same_image c d a b = λ i. record { a = a i; b = b i }
 
 -- what the one image has that was read, each has
-pub read_holds : {E : Type 0} (result : Result Opened E) (tells P : Type 0) (new : Image → Type 0) (image : Image)
+pub read_holds : {E : Type 0} (result : Result OpenedFiles E) (tells P : Type 0) (new : Image → Type 0) (image : Image)
     → (tells → IfOk result (λ opened. Holds opened.live opened.idle (payloads opened.records) image))
     → (P → (now : Image) → new now → tells × (now ≡ image))
     → IfOk result (λ opened. P → Each new (Holds opened.live opened.idle (payloads opened.records)))

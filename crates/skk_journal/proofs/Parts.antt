@@ -8,7 +8,7 @@ use Rattle.std.specs.Option.{option_map}
 use Rattle.std.proofs.lemmas.Bool.{both_ways}
 use Rattle.std.proofs.Math.Seq.{take-append-add}
 use Rattle.std.proofs.lemmas.List.Elements.{All-append, All-nil, All-cons}
-use Rattle.skk_journal.specs.declared.found.Found.{Found}
+use Rattle.skk_journal.specs.declared.found.FoundRecord.{FoundRecord}
 use Rattle.skk_journal.specs.declared.records.RecordsFault.TheVariants as reading
 use Rattle.skk_journal.specs.Records.{payload_limit, IsSized, record_bytes, open_record, need, framed, first_place}
 use Rattle.skk_journal.specs.Records.{end_of}
@@ -40,12 +40,12 @@ found_from-append at (payload ∷ records) taken =
       length-record_bytes payload,
       length-append (record_bytes payload) (framed records),
     ) in
-    ap (λ (l : List Found). record { at = at; payload = payload } ∷ l)
+    ap (λ (l : List FoundRecord). record { at = at; payload = payload } ∷ l)
     (found_from-append (at + need payload) records taken
     ∙ ap (λ (n : ℕ). found_from (at + need payload) records ++ found_from n taken) next)
 
 -- one record was read
-pub takes_one : (tail rest payload : List ℕ) (at : ℕ) (old new : List Found) → IsSized payload
+pub takes_one : (tail rest payload : List ℕ) (at : ℕ) (old new : List FoundRecord) → IsSized payload
     → tail ≡ record_bytes payload ++ rest → new ≡ old ++ record { at = at; payload = payload } ∷ []
     → Takes ⊤ tail at (5 + length payload) old new
 takes_one tail rest payload at old new sized is found =
@@ -64,7 +64,7 @@ takes_one tail rest payload at old new sized is found =
     }
 
 -- records were read, and then those behind them
-pub takes_on : (tells : Type 0) (tail : List ℕ) (at from more : ℕ) (old mid new : List Found)
+pub takes_on : (tells : Type 0) (tail : List ℕ) (at from more : ℕ) (old mid new : List FoundRecord)
     → Takes tells tail at from old mid → Takes tells (drop from tail) (at + from) more mid new
     → Takes tells tail at (from + more) old new
 takes_on tells tail at from more old mid new one two =
@@ -81,10 +81,10 @@ takes_on tells tail at from more old mid new one two =
       );
       sized = All-append IsSized one.taken two.taken one.sized two.sized;
       found =
-          two.found ∙ ap (λ (l : List Found). l ++ found_from (at + from) two.taken) one.found
+          two.found ∙ ap (λ (l : List FoundRecord). l ++ found_from (at + from) two.taken) one.found
           ∙ append_assoc old (found_from at one.taken) (found_from (at + from) two.taken)
           ∙ ap (λ (n : ℕ). old ++ (found_from at one.taken ++ found_from n two.taken)) places
-          ∙ ap (λ (l : List Found). old ++ l) (sym (found_from-append at one.taken two.taken));
+          ∙ ap (λ (l : List FoundRecord). old ++ l) (sym (found_from-append at one.taken two.taken));
       is = λ told.
           one.is told ∙ ap (λ (l : List ℕ). framed one.taken ++ l) (two.is told)
           ∙ sym (append_assoc (framed one.taken) (framed two.taken) (drop more (drop from tail)))
@@ -93,7 +93,7 @@ takes_on tells tail at from more old mid new one two =
     }
 
 -- one more record was read, of those that stand in a slice of the part
-pub takes_frame : (part payload : List ℕ) (at from : ℕ) (old mid new : List Found) → from ≤ length part
+pub takes_frame : (part payload : List ℕ) (at from : ℕ) (old mid new : List FoundRecord) → from ≤ length part
     → Takes ⊤ part at from old mid
     → option_map (λ read. read.0) (open_record.step (take (length part - from) (drop from part))) ≡ Some payload
     → new ≡ mid ++ record { at = at + from; payload = payload } ∷ []
@@ -114,7 +114,7 @@ takes_frame part payload at from old mid new within takes read found =
     )
 
 -- what was read of a file's part is read of all of it
-module _ (tells : Type 0) (tail part : List ℕ) (count at from : ℕ) (old new : List Found)
+module _ (tells : Type 0) (tail part : List ℕ) (count at from : ℕ) (old new : List FoundRecord)
     (is_part : tells → part ≡ take count tail) (of_part : Takes ⊤ part at from old new) where
   tail_is : tells → tail ≡ framed of_part.taken ++ (drop from part ++ drop count tail)
   tail_is told =
@@ -164,7 +164,7 @@ ends_of_part tail part rest is (gate, behind, starts, shut) =
     (gate, behind ++ rest, is ∙ ap (λ (l : List ℕ). l ++ rest) starts, shut)
 
 -- reading that stopped in a part of a file stopped so in the file
-pub stops_of_part : (tells : Type 0) (tail part : List ℕ) (count at : ℕ) (old new : List Found) (stop : Stop)
+pub stops_of_part : (tells : Type 0) (tail part : List ℕ) (count at : ℕ) (old new : List FoundRecord) (stop : Stop)
     → (tells → part ≡ take count tail) → payload_limit + 5 ≤ count → StopsAt ⊤ part at old new stop
     → StopsAt tells tail at old new stop
 stops_of_part tells tail part count at old new (End from) is_part room (takes, ends) = (
@@ -185,7 +185,7 @@ drop_head file at behind =
     drop-drop (at - first_place) first_place file ∙ ap (λ (n : ℕ). drop n file) (omega arith)
 
 -- more records were read of a file, from a place behind its head on
-pub takes_more : (tells : Type 0) (file : List ℕ) (at from : ℕ) (old mid new : List Found) → first_place ≤ at
+pub takes_more : (tells : Type 0) (file : List ℕ) (at from : ℕ) (old mid new : List FoundRecord) → first_place ≤ at
     → Takes tells (drop first_place file) first_place (at - first_place) old mid
     → Takes tells (drop at file) at from mid new
     → Takes tells (drop first_place file) first_place (at + from - first_place) old new
@@ -199,7 +199,7 @@ takes_more tells file at from old mid new behind one two =
     (subst (λ (l : List ℕ). Takes tells l at from mid new) (sym same) two)))
 
 -- all records that were read from the first one on
-module _ (tells : Type 0) (bytes : List ℕ) (many : ℕ) (records : List Found)
+module _ (tells : Type 0) (bytes : List ℕ) (many : ℕ) (records : List FoundRecord)
     (takes : Takes tells bytes first_place many [] records) where
   pub payloads_are : payloads records ≡ takes.taken
   payloads_are = ap payloads takes.found ∙ payloads-found_from first_place takes.taken
@@ -232,7 +232,7 @@ module _ (tells : Type 0) (bytes : List ℕ) (many : ℕ) (records : List Found)
   )
 
 -- at the end of the records of a file that were read up to a place and behind it
-module _ (tells : Type 0) (file : List ℕ) (at from : ℕ) (old new : List Found) (behind : first_place ≤ at)
+module _ (tells : Type 0) (file : List ℕ) (at from : ℕ) (old new : List FoundRecord) (behind : first_place ≤ at)
     (before : Takes tells (drop first_place file) first_place (at - first_place) [] old) where
   behind_both : drop (at + from - first_place) (drop first_place file) ≡ drop from (drop at file)
   behind_both = drop_head file (at + from) (omega arith) ∙ sym (drop-drop from at file)
@@ -262,7 +262,7 @@ module _ (tells : Type 0) (file : List ℕ) (at from : ℕ) (old new : List Foun
       (subst (λ (l : List ℕ). is_bad l ≡ true) (sym (behind_both ∙ still)) (stops.1 told none)) (omega (arith, none))
 
 -- at a place that is no longer in the file
-pub bad_outside : (tells : Type 0) (file : List ℕ) (at : ℕ) (records : List Found) → first_place ≤ at
+pub bad_outside : (tells : Type 0) (file : List ℕ) (at : ℕ) (records : List FoundRecord) → first_place ≤ at
     → Takes tells (drop first_place file) first_place (at - first_place) [] records → length file ≤ at → tells
     → BreakOff (drop first_place file) (reading.Bad at records)
 bad_outside tells file at records behind takes outside told =

@@ -4,8 +4,8 @@ use Rattle.exact_readers.specs.Formats.{taken}
 use Rattle.exact_readers.specs.ManyLaws.{taken-sound}
 use Rattle.skk_disk.specs.Image.{Image, part}
 use Rattle.skk_journal.specs.declared.live.Live.{Live}
-use Rattle.skk_journal.specs.declared.choice.Choice.{Choice}
-use Rattle.skk_journal.specs.declared.choice.Choice.TheVariants.{NoneBy, CutShortIn, NoLive, LiveIn}
+use Rattle.skk_journal.specs.declared.choice.LiveChoice.{LiveChoice}
+use Rattle.skk_journal.specs.declared.choice.LiveChoice.TheVariants.{NoneBy, CutShortIn, NoLive, LiveIn}
 use Rattle.skk_journal.specs.Records.{open_record, front, place_behind, HasRecords}
 use Rattle.skk_journal.specs.FrameLaws.{open_record-exact, spelled_framed, stops_at}
 use Rattle.skk_journal.specs.Choice.{choice}
@@ -52,7 +52,7 @@ opened_live image live is =
 some_opening : (image : Image) → (opening : Opening) × IsOpened image opening
 some_opening image = by (choice image) refl
   where
-    by : (chosen : Choice) → choice image ≡ chosen → (opening : Opening) × IsOpened image opening
+    by : (chosen : LiveChoice) → choice image ≡ chosen → (opening : Opening) × IsOpened image opening
     by (NoneBy file first) is = (not_journal file first, is)
     by (CutShortIn file) is =
         (bad_record file 9 [], subst (BreaksOffIn image file 9 []) (sym is) (refl, refl, refl))

@@ -6,9 +6,9 @@ use Rattle.exact_readers.specs.Numbers.{number_bytes}
 use Rattle.exact_readers.specs.NumberLaws.{told_64}
 use Rattle.skk_disk.specs.Image.{Image, part}
 use Rattle.skk_journal.specs.declared.fault.OpenFault.{OpenFault}
-use Rattle.skk_journal.specs.declared.found.Found.{Found}
+use Rattle.skk_journal.specs.declared.found.FoundRecord.{FoundRecord}
 use Rattle.skk_journal.specs.declared.live.Live.{Live}
-use Rattle.skk_journal.specs.declared.choice.Choice.TheVariants.{LiveIn}
+use Rattle.skk_journal.specs.declared.choice.LiveChoice.TheVariants.{LiveIn}
 use Rattle.skk_journal.specs.declared.records.RecordsFault.{RecordsFault}
 use Rattle.skk_journal.specs.declared.records.RecordsFault.TheVariants.{Disk, Memory, Bad}
 use Rattle.skk_journal.specs.Records.{mark, framed, front, HasRecords, Marked}
@@ -30,7 +30,7 @@ front_is generation file marked records tail read =
     ∙ ap (λ (l : List ℕ). 1 ∷ (mark ++ l)) (sym (append_assoc bytes (framed records) tail))
 
 -- its records as they were read
-pub recorded : (generation : ℕ) (file : List ℕ) (records : List Found) → Marked 1 generation file
+pub recorded : (generation : ℕ) (file : List ℕ) (records : List FoundRecord) → Marked 1 generation file
     → AreRead (drop 17 file) records → HasRecords generation (payloads records) file
 recorded generation file records marked (tail, read, sized, (gate, rest, ends, shut)) = record {
   gate = gate;

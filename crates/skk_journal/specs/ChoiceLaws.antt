@@ -15,7 +15,7 @@ use Rattle.skk_journal.specs.declared.live.Idle.{Idle}
 use Rattle.skk_journal.specs.declared.live.Idle.TheVariants.{Blank, Loose, Stray}
 use Rattle.skk_journal.specs.declared.head.Head.{Head}
 use Rattle.skk_journal.specs.declared.head.Head.TheVariants.{Fresh, Foreign, CutShort, Headed}
-use Rattle.skk_journal.specs.declared.choice.Choice.TheVariants.{NoLive, LiveIn}
+use Rattle.skk_journal.specs.declared.choice.LiveChoice.TheVariants.{NoLive, LiveIn}
 use Rattle.skk_journal.specs.Records.{mark, generation_place, Marked}
 use Rattle.skk_journal.specs.Generations.{first_counts, file_counts}
 use Rattle.skk_journal.specs.Heads.{is_marked, is_fresh, is_foreign, first_byte, headed_by, head_of}

@@ -3,8 +3,8 @@ use Rattle.std.specs.Prelude.{◌≡◌, ℕ, ◌==◌, ◌&&◌, Bool, true, Li
 use Rattle.std.specs.Option.{is_none}
 use Rattle.skk_disk.specs.Image.{Image, part}
 use Rattle.skk_disk.specs.declared.which.Which.{Which}
-use Rattle.skk_journal.specs.declared.choice.Choice.{Choice}
-use Rattle.skk_journal.specs.declared.choice.Choice.TheVariants.{NoneBy, CutShortIn, NoLive, LiveIn}
+use Rattle.skk_journal.specs.declared.choice.LiveChoice.{LiveChoice}
+use Rattle.skk_journal.specs.declared.choice.LiveChoice.TheVariants.{NoneBy, CutShortIn, NoLive, LiveIn}
 use Rattle.skk_journal.specs.Records.{IsSized, IsGeneration, sized_payload, generation_place, front, place_behind}
 use Rattle.skk_journal.specs.Records.{HasRecords}
 use Rattle.skk_journal.specs.Choice.{choice}
@@ -32,13 +32,13 @@ pub data Opening : Type 0 where
   bad_record : Which → ℕ → List (List ℕ) → Opening
 
 -- by this choice the files of an image are opened with these records: those of the live file, or none
-abbrev pub HasChosen : Image → List (List ℕ) → Choice → Type 0
+abbrev pub HasChosen : Image → List (List ℕ) → LiveChoice → Type 0
 HasChosen image records NoLive = records ≡ []
 HasChosen image records (LiveIn live) = HasRecords live.generation records (part live.file image)
 HasChosen image records refused = ⊥
 
 -- by this choice the files of an image are refused at this place of this file, behind these records
-abbrev pub BreaksOffIn : Image → Which → ℕ → List (List ℕ) → Choice → Type 0
+abbrev pub BreaksOffIn : Image → Which → ℕ → List (List ℕ) → LiveChoice → Type 0
 BreaksOffIn image file at before (CutShortIn cut) = (file ≡ cut) × (at ≡ generation_place) × (before ≡ [])
 BreaksOffIn image file at before (LiveIn live) =
     (file ≡ live.file) × BreaksOff live.generation before at (part live.file image)

@@ -13,8 +13,8 @@ use Rattle.skk_disk.specs.declared.which.Which.TheVariants.{A, B}
 use Rattle.skk_journal.specs.declared.live.Live.{Live}
 use Rattle.skk_journal.specs.declared.head.Head.{Head}
 use Rattle.skk_journal.specs.declared.head.Head.TheVariants.{Fresh, Foreign, Headed}
-use Rattle.skk_journal.specs.declared.choice.Choice.{Choice}
-use Rattle.skk_journal.specs.declared.choice.Choice.TheVariants.{NoneBy, CutShortIn, NoLive, LiveIn}
+use Rattle.skk_journal.specs.declared.choice.LiveChoice.{LiveChoice}
+use Rattle.skk_journal.specs.declared.choice.LiveChoice.TheVariants.{NoneBy, CutShortIn, NoLive, LiveIn}
 use Rattle.skk_journal.specs.Records.{IsSized, mark, generation_place, framed, front, place_behind, HasRecords, Marked}
 use Rattle.skk_journal.specs.FrameLaws.{Stops, one_list}
 use Rattle.skk_journal.specs.Generations.{first_counts, file_counts}
@@ -154,21 +154,21 @@ module _ (generation : ℕ) (file : List ℕ) where
 
 module _ (image : Image) where
   -- by one choice an image is opened in one way
-  records_alone : (xs ys : List (List ℕ)) (c : Choice) → HasChosen image xs c → HasChosen image ys c → xs ≡ ys
+  records_alone : (xs ys : List (List ℕ)) (c : LiveChoice) → HasChosen image xs c → HasChosen image ys c → xs ≡ ys
   records_alone xs ys (NoneBy file first) one two = absurd one
   records_alone xs ys (CutShortIn file) one two = absurd one
   records_alone xs ys NoLive one two = one ∙ sym two
   records_alone xs ys (LiveIn live) one two =
       one_records live.generation (part live.file image) xs ys one two
 
-  not_refused : (xs ys : List (List ℕ)) (file : Which) (at : ℕ) (c : Choice) → HasChosen image xs c
+  not_refused : (xs ys : List (List ℕ)) (file : Which) (at : ℕ) (c : LiveChoice) → HasChosen image xs c
       → BreaksOffIn image file at ys c → ⊥
   not_refused xs ys file at (NoneBy other first) one two = one
   not_refused xs ys file at (CutShortIn other) one two = one
   not_refused xs ys file at NoLive one two = two
   not_refused xs ys file at (LiveIn live) one two = not_both live.generation (part live.file image) xs ys at one two.1
 
-  refused_alone : (file which : Which) (at place : ℕ) (xs ys : List (List ℕ)) (c : Choice)
+  refused_alone : (file which : Which) (at place : ℕ) (xs ys : List (List ℕ)) (c : LiveChoice)
       → BreaksOffIn image file at xs c → BreaksOffIn image which place ys c
       → bad_record file at xs ≡ bad_record which place ys
   refused_alone file which at place xs ys (NoneBy other first) one two = absurd one
@@ -179,19 +179,19 @@ module _ (image : Image) where
       let same = one_place live.generation (part live.file image) xs ys at place one.1 two.1 in
       λ i. bad_record ((one.0 ∙ sym two.0) i) (same.0 i) (same.1 i)
 
-  none_with : (file : Which) (first : ℕ) (c : Choice) (xs : List (List ℕ)) → c ≡ NoneBy file first
+  none_with : (file : Which) (first : ℕ) (c : LiveChoice) (xs : List (List ℕ)) → c ≡ NoneBy file first
       → HasChosen image xs c → ⊥
   none_with file first c xs is has = subst (HasChosen image xs) is has
 
-  none_bad : (file which : Which) (first at : ℕ) (c : Choice) (xs : List (List ℕ)) → c ≡ NoneBy file first
+  none_bad : (file which : Which) (first at : ℕ) (c : LiveChoice) (xs : List (List ℕ)) → c ≡ NoneBy file first
       → BreaksOffIn image which at xs c → ⊥
   none_bad file which first at c xs is off = subst (BreaksOffIn image which at xs) is off
 
-  abbrev first_of : Choice → ℕ
+  abbrev first_of : LiveChoice → ℕ
   first_of (NoneBy file first) = first
   first_of other = 0
 
-  abbrev file_of : Choice → Which
+  abbrev file_of : LiveChoice → Which
   file_of (NoneBy file first) = file
   file_of other = A
 

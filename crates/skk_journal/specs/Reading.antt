@@ -1,7 +1,7 @@
 -- Records that are read one after another, part by part.
 use Rattle.std.specs.Prelude.{◌≡◌, ⊤, ℕ, ◌≤◌, true, List, ◌++◌, length, drop, All}
 use Rattle.skk_disk.specs.declared.which.Which.{Which}
-use Rattle.skk_journal.specs.declared.found.Found.{Found}
+use Rattle.skk_journal.specs.declared.found.FoundRecord.{FoundRecord}
 use Rattle.skk_journal.specs.declared.frames.Stop.{Stop}
 use Rattle.skk_journal.specs.declared.frames.Stop.TheVariants.{End, Else}
 use Rattle.skk_journal.specs.declared.records.RecordsFault.{RecordsFault}
@@ -15,7 +15,7 @@ use Rattle.skk_journal.specs.Found.{payloads, found_from}
 use Rattle.skk_journal.specs.Causes.{file_number}
 
 -- some records were read and added to others: those before a byte of the tail that stands at a place, where it is told
-pub record Takes (tells : Type 0) (tail : List ℕ) (at from : ℕ) (old new : List Found) : Type 0 where
+pub record Takes (tells : Type 0) (tail : List ℕ) (at from : ℕ) (old new : List FoundRecord) : Type 0 where
   pub taken : List (List ℕ)
   pub many : from ≡ length (framed taken)
   pub sized : All IsSized taken
@@ -23,7 +23,7 @@ pub record Takes (tells : Type 0) (tail : List ℕ) (at from : ℕ) (old new : L
   pub is : tells → tail ≡ framed taken ++ drop from tail
 
 -- reading stopped so: at a closed gate, or else, at the tail's first byte only where that is bad
-abbrev pub StopsAt : Type 0 → List ℕ → ℕ → List Found → List Found → Stop → Type 0
+abbrev pub StopsAt : Type 0 → List ℕ → ℕ → List FoundRecord → List FoundRecord → Stop → Type 0
 StopsAt tells tail at old new (End from) = Takes tells tail at from old new × (tells → Ends (drop from tail))
 StopsAt tells tail at old new (Else from) =
     Takes tells tail at from old new × (tells → from ≡ 0 → is_bad tail ≡ true)
@@ -34,7 +34,7 @@ StopsWithin count (End from) = from ≤ count
 StopsWithin count (Else from) = from ≤ count
 
 -- the bytes are these records, and end at a closed gate
-abbrev pub AreRead : List ℕ → List Found → Type 0
+abbrev pub AreRead : List ℕ → List FoundRecord → Type 0
 AreRead bytes records =
     (tail : List ℕ) × (bytes ≡ framed (payloads records) ++ tail) × All IsSized (payloads records) × Ends tail
 

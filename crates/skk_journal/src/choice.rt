@@ -15,7 +15,7 @@ use skk_outside::Failed;
 
 /// What decides how both files are opened.
 #[derive(Clone, Copy, Debug)]
-pub enum Choice {
+pub enum LiveChoice {
     /// This file is no learned one, by its first byte.
     NoneBy(Which, u8),
     /// The generation of this file is not whole.
@@ -29,7 +29,7 @@ pub enum Choice {
 // The choice between both files, and what is known of each if it is not live.
 #[derive(Clone, Copy, Debug)]
 pub(crate) struct Chosen {
-    pub(crate) choice: Choice,
+    pub(crate) choice: LiveChoice,
     pub(crate) first: Idle,
     pub(crate) second: Idle,
 }
@@ -48,14 +48,14 @@ fn counts_first(first: u64, second: u64) -> bool
 }
 
 // A file that is live, with its generation.
-fn live_in(file: Which, generation: u64) -> Choice
+fn live_in(file: Which, generation: u64) -> LiveChoice
     ensures { result ≡ lives file generation }
 {
-    Choice::LiveIn(Live { file, generation })
+    LiveChoice::LiveIn(Live { file, generation })
 }
 
 // Chooses between two headed files by their generations.
-fn newer(first: u64, second: u64) -> Choice
+fn newer(first: u64, second: u64) -> LiveChoice
     ensures { result ≡ choice_of (Headed first) (Headed second) }
 {
     if counts_first(first, second) {
@@ -66,24 +66,24 @@ fn newer(first: u64, second: u64) -> Choice
 }
 
 // Chooses between two files by their heads.
-fn choose(first: Head, second: Head) -> Choice
+fn choose(first: Head, second: Head) -> LiveChoice
     ensures { result ≡ choice_of first second }
 {
     match first {
-        Head::Foreign(byte) => Choice::NoneBy(Which::A, byte),
+        Head::Foreign(byte) => LiveChoice::NoneBy(Which::A, byte),
         Head::CutShort => match second {
-            Head::Foreign(byte) => Choice::NoneBy(Which::B, byte),
-            _ => Choice::CutShortIn(Which::A),
+            Head::Foreign(byte) => LiveChoice::NoneBy(Which::B, byte),
+            _ => LiveChoice::CutShortIn(Which::A),
         },
         Head::Fresh => match second {
-            Head::Foreign(byte) => Choice::NoneBy(Which::B, byte),
-            Head::CutShort => Choice::CutShortIn(Which::B),
-            Head::Fresh => Choice::NoLive,
+            Head::Foreign(byte) => LiveChoice::NoneBy(Which::B, byte),
+            Head::CutShort => LiveChoice::CutShortIn(Which::B),
+            Head::Fresh => LiveChoice::NoLive,
             Head::Headed(generation) => live_in(Which::B, generation),
         },
         Head::Headed(own) => match second {
-            Head::Foreign(byte) => Choice::NoneBy(Which::B, byte),
-            Head::CutShort => Choice::CutShortIn(Which::B),
+            Head::Foreign(byte) => LiveChoice::NoneBy(Which::B, byte),
+            Head::CutShort => LiveChoice::CutShortIn(Which::B),
             Head::Fresh => live_in(Which::A, own),
             Head::Headed(generation) => newer(own, generation),
         },

@@ -9,25 +9,25 @@ use exact_readers::read_u32;
 
 // What stands at the place of a gate: a good record with its payload, a gate that is closed, or neither.
 #[derive(Clone, Copy, Debug)]
-pub(crate) enum Frame<'a> {
+pub(crate) enum RecordFrame<'a> {
     Record(&'a [u8]),
     End,
     Bad,
 }
 
 // Reads what stands at the place of a gate.
-pub(crate) fn read_frame(tail: &[u8]) -> Frame<'_>
+pub(crate) fn read_frame(tail: &[u8]) -> RecordFrame<'_>
     ensures { IsFrame tail.now result }
 {
     let Some((gate, behind)) = tail.split_first() else {
-        return Frame::Bad;
+        return RecordFrame::Bad;
     };
     if *gate != OPEN {
-        return Frame::End;
+        return RecordFrame::End;
     }
     match read_payload(behind) {
-        Some((payload, _)) => Frame::Record(payload),
-        None => Frame::Bad,
+        Some((payload, _)) => RecordFrame::Record(payload),
+        None => RecordFrame::Bad,
     }
 }
 

@@ -1,8 +1,8 @@
 ghost use Rattle.std.specs.Prelude.{◌≡◌, ◌<◌, ◌+◌, ◌^◌, ⊤, ◌++◌, ◌∷◌, [], length, IfOk, OnOk};
 ghost use Rattle.skk_journal.specs.Reading.{StopsAt};
 
-use crate::found::{Found, Records};
-use crate::frame::{Frame, read_frame};
+use crate::found::{FoundRecord, Records};
+use crate::frame::{RecordFrame, read_frame};
 use skk_text::{Bytes, Memory};
 use std::alloc::Global;
 
@@ -27,9 +27,9 @@ pub(crate) fn read_frames(
     let mut from = 0;
     loop {
         match read_frame(&part[from..]) {
-            Frame::End => return Ok(Stop::End(from)),
-            Frame::Bad => return Ok(Stop::Else(from)),
-            Frame::Record(payload) => {
+            RecordFrame::End => return Ok(Stop::End(from)),
+            RecordFrame::Bad => return Ok(Stop::Else(from)),
+            RecordFrame::Record(payload) => {
                 add_found(alloc, at + from as u64, payload, records)?;
                 from += 5 + payload.len();
             }
@@ -42,5 +42,5 @@ fn add_found(alloc: Global, at: u64, payload: &[u8], records: &mut Records) -> R
     ensures { OnOk result (records.new ≡ records.old ++ record { at = at; payload = payload.now } ∷ []) }
 {
     let payload = Bytes::of(payload.to_vec(alloc)?);
-    records.push(Found { at, payload })
+    records.push(FoundRecord { at, payload })
 }

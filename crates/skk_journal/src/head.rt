@@ -33,7 +33,7 @@ pub(crate) enum Head {
 
 // The head of a file, and what is known of it if it is not live.
 #[derive(Clone, Copy, Debug)]
-pub(crate) struct Front {
+pub(crate) struct FileFront {
     pub(crate) head: Head,
     pub(crate) idle: Idle,
 }
@@ -85,7 +85,7 @@ pub(crate) fn read_front<D: Disk>(
     disk: &mut D,
     file: Which,
     buffer: &mut [u8],
-) -> Result<Front, Failed>
+) -> Result<FileFront, Failed>
     requires { length buffer.old ≡ PIECE_ROOM }
     ensures head { D.tells → IfOk result (λ front. front.head ≡ head_of (part file (D.seen disk.old))) }
     ensures idle { D.tells → IfOk result (λ front. front.idle ≡ idle_of (part file (D.seen disk.old))) }
@@ -98,7 +98,7 @@ pub(crate) fn read_front<D: Disk>(
 {
     let n = read_full(disk, file, 0, &mut buffer[..17])?;
     let head = &buffer[..n];
-    Ok(Front {
+    Ok(FileFront {
         head: judge(head),
         idle: idle_kind(head),
     })

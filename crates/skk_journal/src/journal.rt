@@ -5,7 +5,7 @@ ghost use Rattle.skk_disk.specs.Image.{Image};
 ghost use Rattle.skk_disk.specs.declared.which.Which.TheVariants.{A};
 ghost use Rattle.skk_disk.specs.Moments.{Passes};
 ghost use Rattle.skk_disk.specs.Steps.{InFile, ComeFrom};
-ghost use Rattle.skk_journal.specs.declared.choice.Choice.TheVariants.{NoLive, LiveIn};
+ghost use Rattle.skk_journal.specs.declared.choice.LiveChoice.TheVariants.{NoLive, LiveIn};
 ghost use Rattle.skk_journal.specs.Records.{IsSized, need, framed, first_place};
 ghost use Rattle.skk_journal.specs.Found.{payloads, found_from};
 ghost use Rattle.skk_journal.specs.Generations.{live_after};

@@ -30,8 +30,8 @@ mod steps;
 mod through;
 mod writing;
 
-pub use choice::Choice;
+pub use choice::LiveChoice;
 pub use fault::{AppendFault, OpenFault};
-pub use found::{Found, Records};
+pub use found::{FoundRecord, Records};
 pub use journal::{Journal, PAYLOAD_LIMIT, Unopened};
 pub use live::{Doubt, Idle, Live};

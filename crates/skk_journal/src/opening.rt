@@ -4,7 +4,7 @@ ghost use Rattle.skk_disk.specs.Image.{Image, part, other};
 ghost use Rattle.skk_disk.specs.declared.which.Which.TheVariants.{A};
 ghost use Rattle.skk_disk.specs.Moments.{Passes, SameImages};
 ghost use Rattle.skk_disk.specs.Steps.{InFile, ComeFrom};
-ghost use Rattle.skk_journal.specs.declared.choice.Choice.TheVariants.{NoLive, LiveIn};
+ghost use Rattle.skk_journal.specs.declared.choice.LiveChoice.TheVariants.{NoLive, LiveIn};
 ghost use Rattle.skk_journal.specs.declared.journal.TheConstants.{PIECE_ROOM};
 ghost use Rattle.skk_journal.specs.Records.{first_place, end_of};
 ghost use Rattle.skk_journal.specs.Found.{payloads, found_from};
@@ -17,7 +17,7 @@ ghost use Rattle.skk_journal.specs.Journal.{Holds};
 ghost use Rattle.skk_journal.specs.Reading.{SameCause};
 ghost use Rattle.skk_journal.specs.Causes.{file_number, IsRefused, UnlessDisk};
 
-use crate::choice::{Choice, Chosen, read_choice};
+use crate::choice::{Chosen, LiveChoice, read_choice};
 use crate::fault::OpenFault;
 use crate::first::fill_first;
 use crate::found::Records;
@@ -32,7 +32,7 @@ use std::alloc::Global;
 // Both files, open: the live one, what is known of the other one, the records, and one more than the place of the gate
 // behind them.
 #[derive(Debug, Drop)]
-pub(crate) struct Opened {
+pub(crate) struct OpenedFiles {
     pub(crate) live: Live,
     pub(crate) idle: Idle,
     pub(crate) records: Records,
@@ -44,7 +44,7 @@ pub(crate) fn open_files<D: Disk>(
     alloc: Global,
     disk: &mut D,
     buffer: &mut [u8],
-) -> Result<Opened, OpenFault>
+) -> Result<OpenedFiles, OpenFault>
     requires { length buffer.old ≡ PIECE_ROOM }
     ensures opened { D.tells → IfOk result (λ opened.
         IsOpened (D.seen disk.old) (with_records (payloads opened.records))) }
@@ -89,7 +89,11 @@ fn sync_both<D: Disk>(disk: &mut D) -> Result<(), Failed>
 }
 
 // Opens both files, which were synced.
-fn open_synced<D: Disk>(alloc: Global, disk: &mut D, buffer: &mut [u8]) -> Result<Opened, OpenFault>
+fn open_synced<D: Disk>(
+    alloc: Global,
+    disk: &mut D,
+    buffer: &mut [u8],
+) -> Result<OpenedFiles, OpenFault>
     requires { length buffer.old ≡ PIECE_ROOM }
     ensures opened { D.tells → IfOk result (λ opened.
         IsOpened (D.seen disk.old) (with_records (payloads opened.records))) }
@@ -118,18 +122,18 @@ fn open_synced<D: Disk>(alloc: Global, disk: &mut D, buffer: &mut [u8]) -> Resul
 {
     let chosen = read_choice(disk, buffer)?;
     match chosen.choice {
-        Choice::NoneBy(file, first) => Err(OpenFault::NotJournal {
+        LiveChoice::NoneBy(file, first) => Err(OpenFault::NotJournal {
             file: number(file),
             first,
         }),
-        Choice::CutShortIn(file) => Err(OpenFault::BadRecord {
+        LiveChoice::CutShortIn(file) => Err(OpenFault::BadRecord {
             file: number(file),
             at: GENERATION_PLACE,
             before: Records::new(alloc),
         }),
-        Choice::NoLive => {
+        LiveChoice::NoLive => {
             fill_first(disk, chosen.first, chosen.second)?;
-            Ok(Opened {
+            Ok(OpenedFiles {
                 live: Live {
                     file: Which::A,
                     generation: 1,
@@ -139,7 +143,7 @@ fn open_synced<D: Disk>(alloc: Global, disk: &mut D, buffer: &mut [u8]) -> Resul
                 end: FIRST_PLACE + 1,
             })
         }
-        Choice::LiveIn(live) => {
+        LiveChoice::LiveIn(live) => {
             let idle = beside(live.file, &chosen);
             open_live(alloc, disk, live, idle, buffer)
         }
@@ -153,7 +157,7 @@ fn open_live<D: Disk>(
     live: Live,
     idle: Idle,
     buffer: &mut [u8],
-) -> Result<Opened, OpenFault>
+) -> Result<OpenedFiles, OpenFault>
     requires { length buffer.old ≡ PIECE_ROOM }
     ensures opened { D.tells → choice (D.seen disk.old) ≡ LiveIn live → IfOk result (λ opened.
         IsOpened (D.seen disk.old) (with_records (payloads opened.records))) }
@@ -175,7 +179,7 @@ fn open_live<D: Disk>(
         return Err(OpenFault::Memory);
     }
     match read_records(alloc, disk, live.file, len, buffer) {
-        Ok(read) => Ok(Opened {
+        Ok(read) => Ok(OpenedFiles {
             live,
             idle,
             records: read.records,

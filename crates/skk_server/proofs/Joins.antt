@@ -8,8 +8,8 @@ use Rattle.romaji_rules.specs.declared.rule.Rule.{Rule}
 use Rattle.skk_server.specs.declared.end.End.{End}
 use Rattle.skk_server.specs.declared.hall.Hall.{Hall}
 use Rattle.skk_server.specs.declared.promised.Promised.{Promised}
-use Rattle.skk_server.specs.declared.work.Work.{Work}
-use Rattle.skk_server.specs.declared.work.Work.TheVariants.{Running, Done, Refused}
+use Rattle.skk_server.specs.declared.work.Accepted.{Accepted}
+use Rattle.skk_server.specs.declared.work.Accepted.TheVariants.{Running, Done, Refused}
 use Rattle.skk_server.specs.Stages.{JoinsSome}
 use Rattle.skk_server.specs.Visits.{SeenLink, SeenCaller, HasWorked}
 use Rattle.skk_server.specs.Works.{begun, passes_of, passes_under_way, running_of, BeganWith, IsPromised}
@@ -19,7 +19,7 @@ use Rattle.skk_server.specs.Works.{IsUnderWay, AreUnderWay, Joins, AreJoined}
 
 module _ {L C : Type 0} where
   -- one worker at most serves a work
-  pub running-few : (work : Work L C) → running_of work ≤ 1
+  pub running-few : (work : Accepted L C) → running_of work ≤ 1
   running-few (Running handle was) = omega arith
   running-few (Done worked was) = omega arith
   running-few (Refused link was) = omega arith
@@ -36,14 +36,14 @@ module _ {L C : Type 0} (links : SeenLink L) (callers : SeenCaller C) where
       (subst (λ l. HasWorked links callers was.rules.value l promise.pass.value link pass end) is.1
       (subst (λ r. HasWorked links callers r promise.link.value promise.pass.value link pass end) is.0 worked))
 
-  begun-joined : (work work' : Work L C) → Joins links callers work work' → begun work' ≡ begun work
+  begun-joined : (work work' : Accepted L C) → Joins links callers work work' → begun work' ≡ begun work
   begun-joined (Running handle was) (Running handle' was') joins = absurd joins
   begun-joined (Running handle was) (Done worked was') joins = ap (λ w. w.link.value) joins.0
   begun-joined (Running handle was) (Refused link was') joins = absurd joins
   begun-joined (Done worked was) work' joins = ap begun joins
   begun-joined (Refused link was) work' joins = ap begun joins
 
-  passes-joined : (work work' : Work L C) → Joins links callers work work' → passes_of work' ≡ passes_of work
+  passes-joined : (work work' : Accepted L C) → Joins links callers work work' → passes_of work' ≡ passes_of work
   passes-joined (Running handle was) (Running handle' was') joins = absurd joins
   passes-joined (Running handle was) (Done worked was') joins = refl
   passes-joined (Running handle was) (Refused link was') joins = absurd joins
@@ -51,7 +51,7 @@ module _ {L C : Type 0} (links : SeenLink L) (callers : SeenCaller C) where
   passes-joined (Refused link was) work' joins = ap passes_of joins
 
   -- no worker serves a work that was joined
-  pub running-joined : (work work' : Work L C) → Joins links callers work work' → running_of work' ≡ 0
+  pub running-joined : (work work' : Accepted L C) → Joins links callers work work' → running_of work' ≡ 0
   running-joined (Running handle was) (Running handle' was') joins = absurd joins
   running-joined (Running handle was) (Done worked was') joins = refl
   running-joined (Running handle was) (Refused link was') joins = absurd joins
@@ -59,7 +59,7 @@ module _ {L C : Type 0} (links : SeenLink L) (callers : SeenCaller C) where
   running-joined (Refused link was) work' joins = ap running_of joins
 
   -- what was joined is as it is when it is joined again
-  joins-again : (work work' work'' : Work L C) → Joins links callers work work' → Joins links callers work' work''
+  joins-again : (work work' work'' : Accepted L C) → Joins links callers work work' → Joins links callers work' work''
       → work'' ≡ work'
   joins-again (Running handle was) (Running handle' was') work'' joins again = absurd joins
   joins-again (Running handle was) (Done worked was') work'' joins again = again
@@ -71,14 +71,15 @@ module _ {L C : Type 0} (links : SeenLink L) (callers : SeenCaller C) where
 
 module _ {L C : Type 0} (rules : List Rule) (links : SeenLink L) (callers : SeenCaller C) where
   -- a work is under way as it was, where nothing came behind it
-  way-behind : (number : ℕ) (work : Work L C) (behind behind' : List (Work L C)) → (behind ≡ [] → behind' ≡ [])
+  way-behind : (number : ℕ) (work : Accepted L C) (behind behind' : List (Accepted L C)) → (behind ≡ [] → behind' ≡ [])
       → IsUnderWay rules links callers number work behind → IsUnderWay rules links callers number work behind'
   way-behind number (Running handle was) behind behind' none way = way
   way-behind number (Done worked was) behind behind' none way = way
   way-behind number (Refused link was) behind behind' none way = (way.0, none way.1)
 
   -- and so it is where it was joined
-  way-joined : (number : ℕ) (work work' : Work L C) (behind behind' : List (Work L C)) → (behind ≡ [] → behind' ≡ [])
+  way-joined : (number : ℕ) (work work' : Accepted L C) (behind behind' : List (Accepted L C))
+      → (behind ≡ [] → behind' ≡ [])
       → Joins links callers work work' → IsUnderWay rules links callers number work behind
       → IsUnderWay rules links callers number work' behind'
   way-joined number (Running handle was) (Running handle' was') behind behind' none joins way = absurd joins
@@ -90,19 +91,19 @@ module _ {L C : Type 0} (rules : List Rule) (links : SeenLink L) (callers : Seen
   )
   way-joined number (Running handle was) (Refused link was') behind behind' none joins way = absurd joins
   way-joined number (Done worked was) work' behind behind' none joins way =
-      subst (λ (w : Work L C). IsUnderWay rules links callers number w behind') (sym joins) way
+      subst (λ (w : Accepted L C). IsUnderWay rules links callers number w behind') (sym joins) way
   way-joined number (Refused link was) work' behind behind' none joins way =
-      subst (λ (w : Work L C). IsUnderWay rules links callers number w behind') (sym joins) (way.0, none way.1)
+      subst (λ (w : Accepted L C). IsUnderWay rules links callers number w behind') (sym joins) (way.0, none way.1)
 
 -- Works in order
 
 module _ {L C : Type 0} (links : SeenLink L) (callers : SeenCaller C) where
   -- works of which none was joined
-  pub none-joined : (works : List (Work L C)) → AreJoined links callers works works
+  pub none-joined : (works : List (Accepted L C)) → AreJoined links callers works works
   none-joined [] = tt
   none-joined (work ∷ works) = (inl refl, none-joined works)
 
-  one-then : (work work' work'' : Work L C) → (work' ≡ work) ⊎ Joins links callers work work'
+  one-then : (work work' work'' : Accepted L C) → (work' ≡ work) ⊎ Joins links callers work work'
       → (work'' ≡ work') ⊎ Joins links callers work' work'' → (work'' ≡ work) ⊎ Joins links callers work work''
   one-then work work' work'' (inl same) (inl again) = inl (again ∙ same)
   one-then work work' work'' (inl same) (inr joins) = inr (subst (λ w. Joins links callers w work'') same joins)
@@ -111,7 +112,7 @@ module _ {L C : Type 0} (links : SeenLink L) (callers : SeenCaller C) where
       inr (subst (Joins links callers work) (sym (joins-again links callers work work' work'' joins again)) joins)
 
   -- some were joined, and then some more
-  pub joined-then : (works works' works'' : List (Work L C)) → AreJoined links callers works works'
+  pub joined-then : (works works' works'' : List (Accepted L C)) → AreJoined links callers works works'
       → AreJoined links callers works' works'' → AreJoined links callers works works''
   joined-then [] [] [] first more = tt
   joined-then [] [] (work'' ∷ works'') first more = absurd more
@@ -122,7 +123,7 @@ module _ {L C : Type 0} (links : SeenLink L) (callers : SeenCaller C) where
       (one-then work work' work'' first.0 more.0, joined-then works works' works'' first.1 more.1)
 
   -- one was joined at its place
-  pub joined-at : (works : List (Work L C)) (place : ℕ) (work work' : Work L C)
+  pub joined-at : (works : List (Accepted L C)) (place : ℕ) (work work' : Accepted L C)
       → work ≡ slice_index_or works place work → Joins links callers work work'
       → AreJoined links callers works (slice_set works place work')
   joined-at [] place work work' is joins = tt
@@ -131,15 +132,16 @@ module _ {L C : Type 0} (links : SeenLink L) (callers : SeenCaller C) where
   joined-at (other ∷ others) (suc place) work work' is joins = (inl refl, joined-at others place work work' is joins)
 
   -- where there was no work there is none
-  joined-nothing : (works works' : List (Work L C)) → AreJoined links callers works works' → works ≡ [] → works' ≡ []
+  joined-nothing : (works works' : List (Accepted L C)) → AreJoined links callers works works' → works ≡ []
+      → works' ≡ []
   joined-nothing [] [] are none = refl
   joined-nothing [] (work' ∷ works') are none = absurd are
   joined-nothing (work ∷ works) works' are none = absurd (omega (arith, ap length none))
 
   -- what stays of a work that is joined stays of all
-  stays-all : {X : Type 0} (f : Work L C → X)
-      → ((work work' : Work L C) → Joins links callers work work' → f work' ≡ f work)
-      → (works works' : List (Work L C)) → AreJoined links callers works works' → map f works' ≡ map f works
+  stays-all : {X : Type 0} (f : Accepted L C → X)
+      → ((work work' : Accepted L C) → Joins links callers work work' → f work' ≡ f work)
+      → (works works' : List (Accepted L C)) → AreJoined links callers works works' → map f works' ≡ map f works
   stays-all f stays [] [] are = refl
   stays-all f stays [] (work' ∷ works') are = absurd are
   stays-all f stays (work ∷ works) [] are = absurd are
@@ -150,22 +152,23 @@ module _ {L C : Type 0} (links : SeenLink L) (callers : SeenCaller C) where
       by (inl same) = ap f same
       by (inr joins) = stays work work' joins
 
-  pub begun-all : (works works' : List (Work L C)) → AreJoined links callers works works'
+  pub begun-all : (works works' : List (Accepted L C)) → AreJoined links callers works works'
       → map begun works' ≡ map begun works
   begun-all works works' are = stays-all begun (begun-joined links callers) works works' are
 
-  pub passes-all : (works works' : List (Work L C)) → AreJoined links callers works works'
+  pub passes-all : (works works' : List (Accepted L C)) → AreJoined links callers works works'
       → passes_under_way works' ≡ passes_under_way works
   passes-all works works' are =
       sym (sum-map passes_of works') ∙ ap sum (stays-all passes_of (passes-joined links callers) works works' are)
       ∙ sum-map passes_of works
 
-  pub length-all : (works works' : List (Work L C)) → AreJoined links callers works works'
+  pub length-all : (works works' : List (Accepted L C)) → AreJoined links callers works works'
       → length works' ≡ length works
   length-all works works' are =
       sym (length-map works' begun) ∙ ap length (begun-all works works' are) ∙ length-map works begun
 
-  pub way-all : (rules : List Rule) (first : ℕ) (works works' : List (Work L C)) → AreJoined links callers works works'
+  pub way-all : (rules : List Rule) (first : ℕ) (works works' : List (Accepted L C))
+      → AreJoined links callers works works'
       → AreUnderWay rules links callers first works → AreUnderWay rules links callers first works'
   way-all rules first [] [] are way = tt
   way-all rules first [] (work' ∷ works') are way = absurd are
@@ -178,7 +181,7 @@ module _ {L C : Type 0} (links : SeenLink L) (callers : SeenCaller C) where
 
       by : (work' ≡ work) ⊎ Joins links callers work work' → IsUnderWay rules links callers first work' works'
       by (inl same) =
-          subst (λ (w : Work L C). IsUnderWay rules links callers first w works') (sym same)
+          subst (λ (w : Accepted L C). IsUnderWay rules links callers first w works') (sym same)
           (way-behind rules links callers first work works works' none way.0)
       by (inr joins) = way-joined rules links callers first work work' works works' none joins way.0
 

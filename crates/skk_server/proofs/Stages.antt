@@ -15,7 +15,7 @@ use Rattle.skk_server.specs.declared.served.Served.{Served}
 use Rattle.skk_server.specs.declared.served_end.ServedEnd.{ServedEnd}
 use Rattle.skk_server.specs.declared.served_end.ServedEnd.TheVariants as ended
 use Rattle.skk_server.specs.declared.start.Start.{Start}
-use Rattle.skk_server.specs.declared.work.Work.{Work}
+use Rattle.skk_server.specs.declared.work.Accepted.{Accepted}
 use Rattle.skk_server.specs.Ends.{Serves, moved_link}
 use Rattle.skk_server.specs.Services.{SeenListener, EndsServing, ServesAll}
 use Rattle.skk_server.specs.Stages.{accepted_in, passes_in, CountsStay, Stage, TakesLink, GivesBack}
@@ -201,7 +201,8 @@ module _ {N L C S : Type 0} {nets : SeenListener N L} {links : SeenLink L} {call
   -- The oldest ends
 
   -- a connection is over, and so much is left of its caller
-  stage-ends : {net net' : N} {hall hall' : Hall L C S} {work : Work L C} {works : List (Work L C)} (visit : Visit L)
+  stage-ends : {net net' : N} {hall hall' : Hall L C S} {work : Accepted L C} {works : List (Accepted L C)}
+      (visit : Visit L)
       (left : List S)
       → (stage : Stage nets links callers slips start net hall) → hall.works.items ≡ work ∷ works
       → begun work ≡ visit.link → AreServed start.rules.value links slips start.first (stage.visits ++ visit ∷ []) left
@@ -246,7 +247,7 @@ module _ {N L C S : Type 0} {nets : SeenListener N L} {links : SeenLink L} {call
       }
 
   -- a worker has handed its link back, and its caller was rested
-  pub stage-worked : {net net' : N} {hall hall' : Hall L C S} {work : Work L C} {works : List (Work L C)}
+  pub stage-worked : {net net' : N} {hall hall' : Hall L C S} {work : Accepted L C} {works : List (Accepted L C)}
       (promise : Promised L C) (link : L) (pass : C) (end : End) (slip : S)
       → Stage nets links callers slips start net hall → hall.works.items ≡ work ∷ works
       → begun work ≡ promise.link.value
@@ -279,7 +280,7 @@ module _ {N L C S : Type 0} {nets : SeenListener N L} {links : SeenLink L} {call
       (λ some. omega (arith, len, level)) gives works_left passes_are ends_are
 
   -- a link that had no caller was given back
-  pub stage-refused : {net net' : N} {hall hall' : Hall L C S} {works : List (Work L C)} {work : Work L C}
+  pub stage-refused : {net net' : N} {hall hall' : Hall L C S} {works : List (Accepted L C)} {work : Accepted L C}
       {was link : L}
       → Stage nets links callers slips start net hall → hall.works.items ≡ work ∷ works → begun work ≡ was
       → IsClosed links was link → works ≡ [] → GivesBack nets net net' link → hall'.works.items ≡ works

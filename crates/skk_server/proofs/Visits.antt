@@ -4,8 +4,8 @@ use Rattle.std.proofs.Common.{Option, None, Some, append_assoc}
 use Rattle.std.proofs.lemmas.List.Sums.{sum_by-cons}
 use Rattle.std.specs.Option.{option_map}
 use Rattle.romaji_rules.specs.declared.rule.Rule.{Rule}
-use Rattle.skk_server.specs.declared.work.Work.{Work}
-use Rattle.skk_server.specs.declared.work.Work.TheVariants.{Running, Done, Refused}
+use Rattle.skk_server.specs.declared.work.Accepted.{Accepted}
+use Rattle.skk_server.specs.declared.work.Accepted.TheVariants.{Running, Done, Refused}
 use Rattle.skk_server.specs.Visits.{SeenLink, SeenCaller, Visit, IsServed, HasNoPass, AreServed}
 use Rattle.skk_server.specs.Works.{passes_of, passes_under_way, IsUnderWay, AreUnderWay}
 
@@ -67,13 +67,13 @@ module _ {L S : Type 0} (rules : List Rule) (links : SeenLink L) (slips : SeenCa
 
 module _ {L C : Type 0} where
   -- a work has one pass at most
-  pub pass-few : (work : Work L C) → passes_of work ≤ 1
+  pub pass-few : (work : Accepted L C) → passes_of work ≤ 1
   pass-few (Running handle was) = omega arith
   pass-few (Done worked was) = omega arith
   pass-few (Refused link was) = omega arith
 
   -- works have no more passes than they are
-  pub passes-few : (works : List (Work L C)) → passes_under_way works ≤ length works
+  pub passes-few : (works : List (Accepted L C)) → passes_under_way works ≤ length works
   passes-few [] = omega arith
   passes-few (work ∷ works) =
       let one = pass-few work in
@@ -81,14 +81,15 @@ module _ {L C : Type 0} where
 
 module _ {L C : Type 0} (rules : List Rule) (links : SeenLink L) (callers : SeenCaller C) where
   -- a work with a pass is under way whatever is behind it
-  pass-anyhow : (number : ℕ) (work : Work L C) (behind others : List (Work L C)) → passes_of work ≡ 1
+  pass-anyhow : (number : ℕ) (work : Accepted L C) (behind others : List (Accepted L C)) → passes_of work ≡ 1
       → IsUnderWay rules links callers number work behind → IsUnderWay rules links callers number work others
   pass-anyhow number (Running handle was) behind others one is = is
   pass-anyhow number (Done worked was) behind others one is = is
   pass-anyhow number (Refused link was) behind others one is = absurd (omega (arith, one))
 
   -- one work more behind works that have a pass each
-  pub way-more : (first : ℕ) (works : List (Work L C)) (work : Work L C) → AreUnderWay rules links callers first works
+  pub way-more : (first : ℕ) (works : List (Accepted L C)) (work : Accepted L C)
+      → AreUnderWay rules links callers first works
       → passes_under_way works ≡ length works → IsUnderWay rules links callers (first + length works) work []
       → AreUnderWay rules links callers first (works ++ work ∷ [])
   way-more first [] work are all one =

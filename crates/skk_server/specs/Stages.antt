@@ -8,7 +8,7 @@ use Rattle.skk_server.specs.declared.hall.Hall.{Hall}
 use Rattle.skk_server.specs.declared.served_end.ServedEnd.{ServedEnd}
 use Rattle.skk_server.specs.declared.served_end.ServedEnd.TheVariants.{Done, Fault, Memory}
 use Rattle.skk_server.specs.declared.start.Start.{Start}
-use Rattle.skk_server.specs.declared.work.Work.{Work}
+use Rattle.skk_server.specs.declared.work.Accepted.{Accepted}
 use Rattle.skk_server.specs.Services.{SeenListener}
 use Rattle.skk_server.specs.Visits.{SeenLink, SeenCaller, Visit, AreServed}
 use Rattle.skk_server.specs.Works.{begun, passes_of, passes_under_way, running_in, IsUnderWay, AreUnderWay, AreJoined}
@@ -112,7 +112,7 @@ pub record GivesBack {N L : Type 0} (nets : SeenListener N L) (net net' : N) (li
 -- a link was added to the works of a hall, with the roll's next pass or with none: its count before and after
 pub record AddsWork {L C S : Type 0} (rules : List Rule) (links : SeenLink L) (callers : SeenCaller C)
     (drawn drawn' : ℕ) (link : L) (hall hall' : Hall L C S) : Type 0 where
-  pub work : Work L C
+  pub work : Accepted L C
   pub works_are : hall'.works.items ≡ hall.works.items ++ work ∷ []
   pub begun_is : begun work ≡ link
   pub under_way : IsUnderWay rules links callers drawn work []

@@ -8,7 +8,7 @@ ghost use Rattle.skk_server.specs.declared.talk.Talk.TheVariants.{New};
 use crate::end::End;
 use crate::laws::exchange_of_a_front;
 use crate::responder::Responder;
-use crate::service::Service;
+use crate::service::ConnectionContext;
 use skk_calls::Caller;
 use skk_outside::{Failed, Gate, Link};
 use skk_text::Memory;
@@ -46,7 +46,7 @@ impl Connection {
     /// Reads bytes, answers them, and writes the replies. An end is told as an error.
     pub(crate) fn take_turn<K: Link, C: Caller, G: Gate>(
         &mut self,
-        service: &Service<'_, G>,
+        service: &ConnectionContext<'_, G>,
         link: &mut K,
         caller: &mut C,
     ) -> Result<(), End>

@@ -3,7 +3,7 @@ ghost use Rattle.std.specs.Prelude.{IfOk};
 ghost use Rattle.skk_server.specs.Stages.{HasPlaces};
 
 use crate::end::End;
-use crate::work::Work;
+use crate::work::Accepted;
 use skk_calls::Caller;
 use skk_outside::Link;
 use skk_text::Memory;
@@ -17,7 +17,7 @@ pub(crate) const WORKERS: usize = 32;
 /// what is left of the connections before them: slips of their callers, and ends.
 #[derive(Drop)]
 pub(crate) struct Hall<L: Link, C: Caller, S> {
-    pub(crate) works: VecDeque<Work<L, C>>,
+    pub(crate) works: VecDeque<Accepted<L, C>>,
     pub(crate) running: usize,
     pub(crate) passes: Vec<S>,
     pub(crate) ends: Vec<End>,

@@ -7,10 +7,10 @@ ghost use Rattle.skk_server.specs.Visits.{seen_link, seen_caller};
 
 use crate::end::End;
 use crate::hall::Hall;
-use crate::promised::Worked;
+use crate::promised::WorkerResult;
 use crate::server::Server;
 use crate::start::Start;
-use crate::work::Work;
+use crate::work::Accepted;
 use skk_calls::{Caller, Kept, Office};
 use skk_outside::{Link, Listener};
 use std::thread::Threads;
@@ -95,13 +95,13 @@ impl<L: Link, C: Caller, S: Kept> Hall<L, C, S> {
         };
         self.running -= work.running();
         match work {
-            Work::Running(handle, _was) => self.part_from(
+            Accepted::Running(handle, _was) => self.part_from(
                 net,
                 server.office,
                 handle.join(server.rt),
             ),
-            Work::Done(worked, _was) => self.part_from(net, server.office, worked),
-            Work::Refused(link, _was) => self.give_back(net, link, End::Memory),
+            Accepted::Done(worked, _was) => self.part_from(net, server.office, worked),
+            Accepted::Refused(link, _was) => self.give_back(net, link, End::Memory),
         }
     }
 
@@ -110,7 +110,7 @@ impl<L: Link, C: Caller, S: Kept> Hall<L, C, S> {
         &mut self,
         net: &mut N,
         office: &W,
-        worked: Worked<L, C>,
+        worked: WorkerResult<L, C>,
     )
         requires out { 0 < N.out net.old }
         requires passes_fit { vec_len self.old.passes < vec_capacity self.old.passes }
@@ -125,7 +125,7 @@ impl<L: Link, C: Caller, S: Kept> Hall<L, C, S> {
         ensures passes_kept { vec_capacity self.new.passes ≡ vec_capacity self.old.passes }
         ensures ends_kept { vec_capacity self.new.ends ≡ vec_capacity self.old.ends }
     {
-        let Worked { link, pass, end } = worked;
+        let WorkerResult { link, pass, end } = worked;
         self.passes.push_reserved(office.rest(pass));
         self.give_back(net, link, end);
     }

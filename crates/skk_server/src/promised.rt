@@ -7,7 +7,7 @@ use std::thread::Promise;
 
 /// What a worker hands back: its link, its caller, and the end of its connection.
 #[derive(Drop)]
-pub(crate) struct Worked<L, C> {
+pub(crate) struct WorkerResult<L, C> {
     pub(crate) link: L,
     pub(crate) pass: C,
     pub(crate) end: End,
@@ -21,7 +21,7 @@ pub(crate) struct Promised<L, C> {
     pub(crate) pass: Snapshot<C>,
 }
 
-impl<L: Link, C: Caller> Promise<Worked<L, C>> for Promised<L, C> {
+impl<L: Link, C: Caller> Promise<WorkerResult<L, C>> for Promised<L, C> {
     ghost use Rattle.skk_server.specs.Visits.{HasWorked, seen_link, seen_caller};
 
     ghost kept_by = { λ p w. HasWorked (seen_link L.left L.written L.faults L.closed) (seen_caller C.number C.said)

@@ -8,7 +8,7 @@ ghost use Rattle.skk_server.specs.Turns.{AnswersPart, AnswersRead, EndsPart, End
 use crate::end::End;
 use crate::laws::exchange_of_a_front;
 use crate::page::Page;
-use crate::service::Service;
+use crate::service::ConnectionContext;
 use crate::talk::Talk;
 use skk_calls::Caller;
 use skk_outside::{Failed, Gate, Link, write_all};
@@ -43,7 +43,7 @@ impl Responder {
     /// Answers bytes that were read, and writes the replies, many together. An end is told as an error.
     pub(crate) fn answer<K: Link, C: Caller, G: Gate>(
         &mut self,
-        service: &Service<'_, G>,
+        service: &ConnectionContext<'_, G>,
         bytes: &[u8],
         link: &mut K,
         caller: &mut C,
@@ -68,7 +68,7 @@ impl Responder {
     // Answers bytes that were read, part by part.
     fn answer_parts<K: Link, C: Caller, G: Gate>(
         &mut self,
-        service: &Service<'_, G>,
+        service: &ConnectionContext<'_, G>,
         bytes: &[u8],
         link: &mut K,
         caller: &mut C,
@@ -96,7 +96,7 @@ impl Responder {
     // Answers a part, and writes the replies where they are many, or no more come.
     fn answer_part<K: Link, C: Caller, G: Gate>(
         &mut self,
-        service: &Service<'_, G>,
+        service: &ConnectionContext<'_, G>,
         part: &[u8],
         link: &mut K,
         caller: &mut C,

@@ -3,7 +3,7 @@ ghost use Rattle.skk_server.specs.Ends.{Serves, moved_link};
 
 use crate::connection::{Connection, MOST_BYTES};
 use crate::end::End;
-use crate::service::Service;
+use crate::service::ConnectionContext;
 use romaji_rules::Rules;
 use skk_calls::Caller;
 use skk_outside::{Gate, Link};
@@ -27,7 +27,7 @@ pub fn serve_connection<K: Link, C: Caller, G: Gate>(
     ensures number { C.number caller.new ≡ C.number caller.old }
     ensures counted { K.faults link.old ≤ K.faults link.new }
 {
-    let service = Service { alloc, rules, gate };
+    let service = ConnectionContext { alloc, rules, gate };
     let end = serve_turns(&service, link, caller);
     link.close();
     end
@@ -35,7 +35,7 @@ pub fn serve_connection<K: Link, C: Caller, G: Gate>(
 
 // Serves a connection up to its end.
 fn serve_turns<K: Link, C: Caller, G: Gate>(
-    service: &Service<'_, G>,
+    service: &ConnectionContext<'_, G>,
     link: &mut K,
     caller: &mut C,
 ) -> End

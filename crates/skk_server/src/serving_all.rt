@@ -8,7 +8,7 @@ use crate::hall::Hall;
 use crate::served::Served;
 use crate::served_end::ServedEnd;
 use crate::server::Server;
-use crate::service::Service;
+use crate::service::ConnectionContext;
 use crate::start::Start;
 use romaji_rules::Rules;
 use skk_calls::{Caller, Kept, Office};
@@ -54,7 +54,7 @@ pub fn serve_all<
     let Ok(ended) = Ended::new(alloc) else {
         return none_served(alloc, connections);
     };
-    let service = Service { alloc, rules, gate };
+    let service = ConnectionContext { alloc, rules, gate };
     let server = Server {
         rt,
         service: &service,

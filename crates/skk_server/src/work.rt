@@ -3,9 +3,9 @@ ghost use Rattle.skk_server.specs.Visits.{HasWorked, seen_link, seen_caller};
 ghost use Rattle.skk_server.specs.Works.{begun, passes_of, running_of, IsUnderWay, Joins};
 
 use crate::ended::Ended;
-use crate::promised::{Promised, Worked};
+use crate::promised::{Promised, WorkerResult};
 use crate::server::Server;
-use crate::service::Service;
+use crate::service::ConnectionContext;
 use crate::serving::serve_connection;
 use core::mem::replace_with;
 use romaji_rules::Rules;
@@ -17,23 +17,23 @@ use std::thread::{PromisedHandle, Scope, Threads};
 
 /// A connection that was accepted, and whose link is not given back yet.
 #[derive(Drop)]
-pub(crate) enum Work<L: Link, C: Caller> {
+pub(crate) enum Accepted<L: Link, C: Caller> {
     /// A worker serves it, in a thread of its own.
-    Running(PromisedHandle<Worked<L, C>, Promised<L, C>>, Promised<L, C>),
+    Running(PromisedHandle<WorkerResult<L, C>, Promised<L, C>>, Promised<L, C>),
     /// It was served: its worker was joined, or no thread could be started for it.
-    Done(Worked<L, C>, Promised<L, C>),
+    Done(WorkerResult<L, C>, Promised<L, C>),
     /// It has no caller, for want of memory, and was closed: its link, and as that was before.
     Refused(L, Snapshot<L>),
 }
 
-impl<L: Link, C: Caller> Work<L, C> {
+impl<L: Link, C: Caller> Accepted<L, C> {
     /// How many workers serve it: one or none.
     pub(crate) fn running(&self) -> usize
         ensures { result ≡ running_of self.now }
     {
         match self {
-            Work::Running(..) => 1,
-            Work::Done(..) | Work::Refused(..) => 0,
+            Accepted::Running(..) => 1,
+            Accepted::Done(..) | Accepted::Refused(..) => 0,
         }
     }
 
@@ -45,13 +45,13 @@ impl<L: Link, C: Caller> Work<L, C> {
         replace_with(self, (), |work, ()| (work.joined(rt), ()))
     }
 
-    fn joined<R: Threads>(self, rt: &R) -> Work<L, C>
+    fn joined<R: Threads>(self, rt: &R) -> Accepted<L, C>
         ensures { Joins (seen_link L.left L.written L.faults L.closed) (seen_caller C.number C.said) self result }
     {
         match self {
-            Work::Running(handle, was) => Work::Done(handle.join(rt), was),
-            Work::Done(worked, was) => Work::Done(worked, was),
-            Work::Refused(link, was) => Work::Refused(link, was),
+            Accepted::Running(handle, was) => Accepted::Done(handle.join(rt), was),
+            Accepted::Done(worked, was) => Accepted::Done(worked, was),
+            Accepted::Refused(link, was) => Accepted::Refused(link, was),
         }
     }
 }
@@ -72,7 +72,7 @@ pub(crate) fn begin<
     number: usize,
     link: L,
     pass: C,
-) -> Work<L, C>
+) -> Accepted<L, C>
     requires new { C.said pass ≡ [] }
     ensures under_way { IsUnderWay server.now.service.now.rules.now
         (seen_link L.left L.written L.faults L.closed) (seen_caller C.number C.said) (C.number pass) result [] }
@@ -84,13 +84,13 @@ pub(crate) fn begin<
     let was = promised(service.rules, &link, &pass);
     let work = move || serve(rt, service, ended, number, link, pass);
     match scope.spawn_with(promise, work) {
-        Ok(handle) => Work::Running(handle, was),
-        Err(refused) => Work::Done((refused.value)(), was),
+        Ok(handle) => Accepted::Running(handle, was),
+        Err(refused) => Accepted::Done((refused.value)(), was),
     }
 }
 
 /// Closes a link for which there is no caller.
-pub(crate) fn refuse<L: Link, C: Caller>(mut link: L) -> Work<L, C>
+pub(crate) fn refuse<L: Link, C: Caller>(mut link: L) -> Accepted<L, C>
     ensures under_way { (rules : _) (number : _) → IsUnderWay rules (seen_link L.left L.written L.faults L.closed)
         (seen_caller C.number C.said) number result [] }
     ensures begun { begun result ≡ link }
@@ -99,7 +99,7 @@ pub(crate) fn refuse<L: Link, C: Caller>(mut link: L) -> Work<L, C>
 {
     let was = Snapshot::of(&link);
     link.close();
-    Work::Refused(link, was)
+    Accepted::Refused(link, was)
 }
 
 // What a worker begins with.
@@ -118,12 +118,12 @@ fn promised<L: Link, C: Caller>(rules: &Rules, link: &L, pass: &C) -> Promised<L
 // Serves a connection up to its end, and closes it. That it ends is told last.
 fn serve<R: Wait, L: Link, C: Caller, G: Gate>(
     rt: &R,
-    service: &Service<'_, G>,
+    service: &ConnectionContext<'_, G>,
     ended: &Ended,
     number: usize,
     mut link: L,
     mut pass: C,
-) -> Worked<L, C>
+) -> WorkerResult<L, C>
     ensures { HasWorked (seen_link L.left L.written L.faults L.closed) (seen_caller C.number C.said)
         service.now.rules.now link pass result.link result.pass result.end }
 {
@@ -135,5 +135,5 @@ fn serve<R: Wait, L: Link, C: Caller, G: Gate>(
         service.gate,
     );
     ended.tell(rt, number);
-    Worked { link, pass, end }
+    WorkerResult { link, pass, end }
 }

@@ -9,7 +9,7 @@ use Rattle.skk_disk.specs.Moments.{Passes, SameImages, Earlier}
 use Rattle.skk_journal.specs.Images.{Each}
 use Rattle.skk_journal.specs.Choice.{choice}
 use Rattle.skk_journal.specs.Opening.{HasChosen}
-use Rattle.skk_journal.specs.declared.choice.Choice.TheVariants.{NoLive}
+use Rattle.skk_journal.specs.declared.choice.LiveChoice.TheVariants.{NoLive}
 use Rattle.skk_journal.specs.declared.fault.OpenFault.{OpenFault}
 use Rattle.skk_journal.specs.declared.fault.OpenFault.TheVariants as opening
 use Rattle.skk_outside.specs.Faults.{Rose}

@@ -56,7 +56,7 @@ fn push_bad_line(page: &mut Text, bad: &BadLine) -> Result<(), Memory>
 }
 
 // The name of a reason.
-#[tactic(auto, using(crate::proofs::Words::check_words))]
+#[tactic(auto, using(crate::proofs::PrintedTexts::check_words))]
 fn reason_name(reason: LineReason) -> &'static str
     ensures { chars result.now ≡ reason_name reason }
 {

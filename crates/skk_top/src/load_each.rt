@@ -42,7 +42,7 @@ use std::thread::Threads;
 /// What is played where each session has a caller of its own: the rules by which the keys of a load are read, and the
 /// lines of each session.
 #[derive(Drop)]
-struct Shared {
+struct SharedTasks {
     rules: Rules,
     tasks: BTreeMap<u8, Sequence<Line>>,
 }
@@ -94,7 +94,7 @@ fn load_by_each<
     let Ok(shared) = share_load(host.alloc, options) else {
         return Run::without_calls(Err(RunFault::Memory), store.close());
     };
-    let Shared { rules, tasks } = shared;
+    let SharedTasks { rules, tasks } = shared;
     match type_by_callers(host, &rules, tasks, store) {
         Ok(left) => {
             let ended = sum_up_typed(host.alloc, &options, left.typed, &left.closed.tally, out);
@@ -109,7 +109,7 @@ fn load_by_each<
 }
 
 // Draws the lines of a load and cuts them among their sessions.
-fn share_load(alloc: Global, options: LoadOptions) -> Result<Shared, Memory>
+fn share_load(alloc: Global, options: LoadOptions) -> Result<SharedTasks, Memory>
     requires { options.sessions ≤ 64 }
     ensures rules { IfOk result (λ shared. shared.rules ≡ standard) }
     ensures tasks { IfOk result (λ shared. shared.tasks.entries ≡ tasks_of (load_lines options)) }
@@ -120,7 +120,7 @@ fn share_load(alloc: Global, options: LoadOptions) -> Result<Shared, Memory>
 {
     let Load { rules, lines } = draw_load(alloc, options)?;
     let tasks = cut_lines(alloc, lines.into_vec())?.tasks;
-    Ok(Shared { rules, tasks })
+    Ok(SharedTasks { rules, tasks })
 }
 
 // Prints the summary of a load that was played by workers, where memory was not out behind that or for one of them.

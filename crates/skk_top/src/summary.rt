@@ -32,7 +32,7 @@ pub fn print_summary<O: Sink>(
 }
 
 // Adds the five lines of a summary.
-#[tactic(auto, using(crate::proofs::Words::summary_words))]
+#[tactic(auto, using(crate::proofs::PrintedTexts::summary_words))]
 fn push_summary(
     page: &mut Text,
     options: &LoadOptions,

@@ -1,6 +1,6 @@
 ghost use Rattle.std.specs.Prelude.{◌≡◌, [], ◌∷◌, ◌++◌, IfOk};
 
-use crate::counting::{Adds, Counting, Noted};
+use crate::counting::{Adds, Counting, StepNotes};
 use crate::shows::Shows;
 use atomic_table::{Seat, Table};
 use std::alloc::{AllocError, Global};
@@ -53,7 +53,7 @@ impl<E> Trace<E> {
     }
 
     // The step of a note, whose entry `N` names for the proof.
-    fn add<X: Shows<E>, N: Noted<E>>(&mut self, x: &X)
+    fn add<X: Shows<E>, N: StepNotes<E>>(&mut self, x: &X)
         requires { N.entries ≡ X.shows x.now ∷ [] }
         ensures { self.new ≡ self.old ++ X.shows x.now ∷ [] }
     {

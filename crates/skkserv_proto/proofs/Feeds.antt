@@ -10,13 +10,13 @@ use Rattle.exact_readers.specs.Formats.{SpellsMany}
 use Rattle.exact_readers.specs.ManyLaws.{taken-some, taken-complete, many-append, many-one}
 use Rattle.cut_input.specs.Pieces.{GoesOn}
 use Rattle.cut_input.specs.PieceLaws.{cut-behind, cut-parts, goes-on-behind, goes-on-begun, long-behind}
-use Rattle.skkserv_proto.specs.declared.command.Command.TheVariants as commands
+use Rattle.skkserv_proto.specs.declared.command.CommandByte.TheVariants as commands
 use Rattle.skkserv_proto.specs.declared.command.Wants.{Wants}
 use Rattle.skkserv_proto.specs.declared.front.Rest.{Rest}
 use Rattle.skkserv_proto.specs.declared.front.Rest.TheVariants as rests
 use Rattle.skkserv_proto.specs.declared.next.Next.TheVariants as nexts
-use Rattle.skkserv_proto.specs.declared.place.Place.{Place}
-use Rattle.skkserv_proto.specs.declared.place.Place.TheVariants as places
+use Rattle.skkserv_proto.specs.declared.place.RequestPlace.{RequestPlace}
+use Rattle.skkserv_proto.specs.declared.place.RequestPlace.TheVariants as places
 use Rattle.skkserv_proto.specs.declared.request.Request.{Request}
 use Rattle.skkserv_proto.specs.declared.request.Request.TheVariants.{End}
 use Rattle.skkserv_proto.specs.Feeding.{Feeding, IsKept, EndsAt, Fed, Reads, ReadsTo, with_place}
@@ -46,7 +46,7 @@ counted bytes fed count e = omega (arith, e, length-append bytes fed)
 -- Places
 
 -- where the bytes behind the last token end, with more behind them, all end
-ends-on : (bytes fed : List ℕ) (count : ℕ) (place : Place) → count ≡ min (length bytes) last_count
+ends-on : (bytes fed : List ℕ) (count : ℕ) (place : RequestPlace) → count ≡ min (length bytes) last_count
     → EndsAt (length (tokens_of bytes).1) count ((tokens_of bytes).1 ++ fed) place → EndsAt 0 0 (bytes ++ fed) place
 ends-on bytes fed count place e ends = by place ends
   where
@@ -54,7 +54,7 @@ ends-on bytes fed count place e ends = by place ends
     none f =
         bad-on bytes fed ∙ ap (option_map (λ at. length bytes - length (tokens_of bytes).1 + at)) f
 
-    by : (place : Place) → EndsAt (length (tokens_of bytes).1) count ((tokens_of bytes).1 ++ fed) place
+    by : (place : RequestPlace) → EndsAt (length (tokens_of bytes).1) count ((tokens_of bytes).1 ++ fed) place
         → EndsAt 0 0 (bytes ++ fed) place
     by places.Command is =
         (none is.0, subst (IsKept places.Command) (sym (ap (λ parts. parts.1) (goes-on bytes fed))) is.1)
@@ -70,7 +70,7 @@ ends-on bytes fed count place e ends = by place ends
     )
 
 -- where bytes end behind one token more, all end
-ends-behind : (bytes behind : List ℕ) (skipped count more : ℕ) (place : Place)
+ends-behind : (bytes behind : List ℕ) (skipped count more : ℕ) (place : RequestPlace)
     → (tokens_of bytes).1 ≡ (tokens_of behind).1 → length bytes ≡ skipped + more + length behind
     → EndsAt 0 (min (count + more) last_count) behind place → EndsAt skipped count bytes place
 ends-behind bytes behind skipped count more place e long ends = by place ends
@@ -83,7 +83,8 @@ ends-behind bytes behind skipped count more place e long ends = by place ends
     none : first_bad behind ≡ None → first_bad bytes ≡ None
     none f = bad ∙ ap (option_map (λ at. skipped + more + at)) f
 
-    by : (place : Place) → EndsAt 0 (min (count + more) last_count) behind place → EndsAt skipped count bytes place
+    by : (place : RequestPlace) → EndsAt 0 (min (count + more) last_count) behind place
+        → EndsAt skipped count bytes place
     by places.Command is = (none is.0, subst (IsKept places.Command) (sym e) is.1)
     by (places.Reading wants text) is = (none is.0, subst (IsKept (places.Reading wants text)) (sym e) is.1)
     by places.Ended is = (none is.0, subst (IsKept places.Ended) (sym e) is.1)
@@ -96,7 +97,7 @@ ends-behind bytes behind skipped count more place e long ends = by place ends
 -- Feeding
 
 -- a feeder goes on by what stands behind the last token
-reads-kept : (feeder : Feeding) (fed : List ℕ) (place : Place) (more : List Request)
+reads-kept : (feeder : Feeding) (fed : List ℕ) (place : RequestPlace) (more : List Request)
     → ((before : List ℕ) → Fed before feeder → (end_in (tokens_of before).1 ≡ [])
     × (more ≡ requests ((tokens_of before).1 ++ fed))
     × EndsAt (length (tokens_of before).1) feeder.fed ((tokens_of before).1 ++ fed) place)
@@ -108,7 +109,7 @@ reads-kept feeder fed place more how before was =
     )
 
 -- before a command
-pub reads-command : (count : ℕ) (fed : List ℕ) (place : Place) (more : List Request) → more ≡ requests fed
+pub reads-command : (count : ℕ) (fed : List ℕ) (place : RequestPlace) (more : List Request) → more ≡ requests fed
     → EndsAt 0 count fed place
     → ReadsTo (record { place = places.Command; fed = count }) fed (nexts.To place) more
 reads-command count fed place more asked ends after is =
@@ -122,7 +123,7 @@ reads-command count fed place more asked ends after is =
     )))
 
 -- in a reading
-reads-reading : (wants : Wants) (text : List ℕ) (count : ℕ) (fed : List ℕ) (place : Place) (more : List Request)
+reads-reading : (wants : Wants) (text : List ℕ) (count : ℕ) (fed : List ℕ) (place : RequestPlace) (more : List Request)
     → ((byte : ℕ) → command_at byte ≡ commands.Reading wants → IsOpen text
     → (more ≡ requests (byte ∷ (text ++ fed)))
     × EndsAt (length (byte ∷ text)) count (byte ∷ (text ++ fed)) place)
@@ -139,7 +140,7 @@ reads-reading wants text count fed place more how =
     ))
 
 -- that ends
-pub reads-ended : (wants : Wants) (text : List ℕ) (count : ℕ) (fed reading behind : List ℕ) (place : Place)
+pub reads-ended : (wants : Wants) (text : List ℕ) (count : ℕ) (fed reading behind : List ℕ) (place : RequestPlace)
     (more : List Request) → cut ends_reading fed ≡ Some (reading, behind)
     → length text + length reading ≤ longest_reading
     → more ≡ asking wants (text ++ reading) ∷ requests behind
@@ -212,7 +213,7 @@ reads-long wants text count at fed more long none at_is after is =
     )))
 
 -- where nothing is read any more
-pub reads-stays : (place : Place) (count : ℕ) (fed : List ℕ) (more : List Request) → more ≡ []
+pub reads-stays : (place : RequestPlace) (count : ℕ) (fed : List ℕ) (more : List Request) → more ≡ []
     → (place ≡ places.Ended) ⊎ ((at : ℕ) × (place ≡ places.Bad at))
     → ReadsTo (record { place = place; fed = count }) fed nexts.Stays more
 reads-stays place count fed more none (inl ended) after is before was =
@@ -314,7 +315,7 @@ module _ (bytes left : List ℕ) (before now : List Request) (read : HasRead byt
 
 -- and where all bytes end
 pub ends-all : (bytes left : List ℕ) (before now : List Request) → HasRead bytes left before now → (rest : Rest)
-    → IsRest left rest → (count : ℕ) (place : Place) → IsPlaceOf rest count (length bytes) place
+    → IsRest left rest → (count : ℕ) (place : RequestPlace) → IsPlaceOf rest count (length bytes) place
     → EndsAt 0 count bytes place
 ends-all bytes left before now read rests.Empty is count place e =
     subst (EndsAt 0 count bytes) (sym e) (
@@ -372,7 +373,7 @@ pub no-bad-place : (bytes : List ℕ) (feeder : Feeding) → ((at : ℕ) → fee
     → Fed bytes feeder → bad_at bytes ≡ None
 no-bad-place bytes feeder other fed = by feeder.place refl fed.0
   where
-    by : (place : Place) → feeder.place ≡ place → EndsAt 0 0 bytes place → bad_at bytes ≡ None
+    by : (place : RequestPlace) → feeder.place ≡ place → EndsAt 0 0 bytes place → bad_at bytes ≡ None
     by places.Command e is = ap (option_map (λ n. min n last_count)) is.0
     by (places.Reading wants text) e is = ap (option_map (λ n. min n last_count)) is.0
     by places.Ended e is = ap (option_map (λ n. min n last_count)) is.0

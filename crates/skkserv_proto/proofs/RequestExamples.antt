@@ -1,7 +1,7 @@
 -- Requests that bytes spell, at small examples, each worked out by hand.
 use Rattle.std.proofs.Common.{◌≡◌, true, false, None, Some, [], ◌∷◌, ◌++◌, codes, map, replicate, refl}
 use Rattle.exact_readers.specs.Formats.{taken}
-use Rattle.skkserv_proto.specs.declared.command.Command.TheVariants as commands
+use Rattle.skkserv_proto.specs.declared.command.CommandByte.TheVariants as commands
 use Rattle.skkserv_proto.specs.declared.command.Wants.TheVariants.{Candidates, Completions}
 use Rattle.skkserv_proto.specs.declared.request.Request.TheVariants.{End, Look, Version, Host, Complete}
 use Rattle.skkserv_proto.specs.Requests.{command_at, ends_reading, longest_reading, requests, bad_at, reading_in}

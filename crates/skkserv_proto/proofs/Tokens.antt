@@ -11,8 +11,8 @@ use Rattle.exact_readers.specs.Formats.{one_as, both}
 use Rattle.exact_readers.specs.ManyLaws.{taken-none}
 use Rattle.cut_input.specs.PieceLaws.{piece-exact, piece-here, piece-open, piece-long, long-more}
 use Rattle.cut_input.specs.RestLaws.{taken-on, rest-within}
-use Rattle.skkserv_proto.specs.declared.command.Command.{Command}
-use Rattle.skkserv_proto.specs.declared.command.Command.TheVariants as commands
+use Rattle.skkserv_proto.specs.declared.command.CommandByte.{CommandByte}
+use Rattle.skkserv_proto.specs.declared.command.CommandByte.TheVariants as commands
 use Rattle.skkserv_proto.specs.declared.command.Wants.{Wants}
 use Rattle.skkserv_proto.specs.declared.request.Request.{Request}
 use Rattle.skkserv_proto.specs.Requests.{command_at, ends_reading, longest_reading, ended_reading, wanted_by}
@@ -22,7 +22,7 @@ use Rattle.skkserv_proto.specs.Requests.{end_by, end_in, all_asked, requests, re
 -- Tokens are exact
 
 -- a byte with a reading behind it is no token by itself
-not_alone : (command : Command) (wants : Wants) → wanted_by command ≡ Some wants → asked_by command ≡ None
+not_alone : (command : CommandByte) (wants : Wants) → wanted_by command ≡ Some wants → asked_by command ≡ None
 not_alone command wants e = grind arith
 
 pub token-exact : IsExact token
@@ -100,7 +100,7 @@ pub is-bad : (rest : List ℕ) (at : ℕ) → bad_in rest ≡ Some at → IsBad 
 is-bad [] at bad = cc
 is-bad (byte ∷ text) at bad = by (command_at byte) refl
   where
-    none : (command : Command) → command_at byte ≡ command → bad_by command text ≡ None → IsBad (byte ∷ text) at
+    none : (command : CommandByte) → command_at byte ≡ command → bad_by command text ≡ None → IsBad (byte ∷ text) at
     none command e f =
         let no : ◌≡◌ {A = Option ℕ} None (Some at) =
         sym f ∙ ap (λ c. bad_by c text) (sym e) ∙ bad in cc
@@ -116,7 +116,7 @@ is-bad (byte ∷ text) at bad = by (command_at byte) refl
         }
     reading wants e false more = none (commands.Reading wants) e (rw more refl)
 
-    by : (command : Command) → command_at byte ≡ command → IsBad (byte ∷ text) at
+    by : (command : CommandByte) → command_at byte ≡ command → IsBad (byte ∷ text) at
     by commands.LineEnd e = none commands.LineEnd e refl
     by commands.End e = none commands.End e refl
     by commands.Version e = none commands.Version e refl
@@ -226,7 +226,7 @@ requests-more bytes fed = by (tokens_of bytes).1 refl
     on : end_in (tokens_of bytes).1 ≡ [] → (more : List Request) × (requests (bytes ++ fed) ≡ requests bytes ++ more)
     on none = (requests ((tokens_of bytes).1 ++ fed), requests-on bytes fed none)
 
-    at : (byte : ℕ) (behind : List ℕ) → (tokens_of bytes).1 ≡ byte ∷ behind → (command : Command)
+    at : (byte : ℕ) (behind : List ℕ) → (tokens_of bytes).1 ≡ byte ∷ behind → (command : CommandByte)
         → command_at byte ≡ command → (more : List Request) × (requests (bytes ++ fed) ≡ requests bytes ++ more)
     at byte behind e commands.End f = ([], (end-stays bytes fed byte behind f e).0 ∙ sym (append-nil (requests bytes)))
     at byte behind e commands.LineEnd f = on (ap end_in e ∙ ap end_by f)

@@ -1,15 +1,15 @@
 -- How bytes begin, where a command may stand.
 use Rattle.std.specs.Prelude.{◌≡◌, ℕ, ◌+◌, ◌-◌, min, Some, List, [], ◌∷◌, length}
 use Rattle.skk_text.specs.Counts.{last_count}
-use Rattle.skkserv_proto.specs.declared.command.Command.TheVariants as commands
+use Rattle.skkserv_proto.specs.declared.command.CommandByte.TheVariants as commands
 use Rattle.skkserv_proto.specs.declared.front.Front.{Front}
 use Rattle.skkserv_proto.specs.declared.front.Front.TheVariants.{Whole, Cut}
 use Rattle.skkserv_proto.specs.declared.front.Rest.{Rest}
 use Rattle.skkserv_proto.specs.declared.front.Rest.TheVariants as rests
 use Rattle.skkserv_proto.specs.declared.front.Token.{Token}
 use Rattle.skkserv_proto.specs.declared.front.Token.TheVariants as tokens
-use Rattle.skkserv_proto.specs.declared.place.Place.{Place}
-use Rattle.skkserv_proto.specs.declared.place.Place.TheVariants as places
+use Rattle.skkserv_proto.specs.declared.place.RequestPlace.{RequestPlace}
+use Rattle.skkserv_proto.specs.declared.place.RequestPlace.TheVariants as places
 use Rattle.skkserv_proto.specs.declared.request.Request.{Request}
 use Rattle.skkserv_proto.specs.declared.request.Request.TheVariants.{End, Version, Host}
 use Rattle.skkserv_proto.specs.Requests.{token, command_at, IsOpen, asking, bad_in}
@@ -40,7 +40,7 @@ asked_last rests.Ended = End ∷ []
 asked_last rest = []
 
 -- the place where bytes end, so many with as many before them, whose last token stands before this rest
-abbrev pub IsPlaceOf : Rest → ℕ → ℕ → Place → Type 0
+abbrev pub IsPlaceOf : Rest → ℕ → ℕ → RequestPlace → Type 0
 IsPlaceOf rests.Empty before count place = place ≡ places.Command
 IsPlaceOf (rests.Open wants text) before count place = place ≡ places.Reading wants text.now
 IsPlaceOf rests.Ended before count place = place ≡ places.Ended

@@ -8,8 +8,8 @@ use Rattle.skk_text.specs.Counts.{last_count}
 use Rattle.skk_text.specs.Lines.{line_feed}
 use Rattle.cut_input.specs.Pieces.{ended_piece, begun_piece, IsBegun}
 use Rattle.exact_readers.specs.Formats.{Format, one_as, both, either, mapped, taken}
-use Rattle.skkserv_proto.specs.declared.command.Command.{Command}
-use Rattle.skkserv_proto.specs.declared.command.Command.TheVariants as commands
+use Rattle.skkserv_proto.specs.declared.command.CommandByte.{CommandByte}
+use Rattle.skkserv_proto.specs.declared.command.CommandByte.TheVariants as commands
 use Rattle.skkserv_proto.specs.declared.command.Wants.{Wants}
 use Rattle.skkserv_proto.specs.declared.command.Wants.TheVariants.{Candidates, Completions}
 use Rattle.skkserv_proto.specs.declared.request.Request.{Request}
@@ -17,7 +17,7 @@ use Rattle.skkserv_proto.specs.declared.request.Request.TheVariants.{End, Look, 
 
 -- what a byte is in a command's place: a CR or LF is skipped, `0` ends, `1` and `4` stand before a reading, `2` asks
 -- the version and `3` the host
-abbrev pub command_at : ℕ → Command
+abbrev pub command_at : ℕ → CommandByte
 command_at byte =
     if byte == carriage_return || byte == line_feed then commands.LineEnd
     else if byte == code "0" then commands.End
@@ -46,7 +46,7 @@ abbrev pub IsOpen : List ℕ → Type 0
 IsOpen text = IsBegun ends_reading longest_reading text
 
 -- what is asked of a reading, where a command is one before a reading
-abbrev pub wanted_by : Command → Option Wants
+abbrev pub wanted_by : CommandByte → Option Wants
 wanted_by (commands.Reading wants) = Some wants
 wanted_by command = None
 
@@ -62,7 +62,7 @@ asking Completions text = Complete text
 -- Tokens
 
 -- what a command asks that is whole by itself: nothing, where it is skipped, the version, or the host
-abbrev pub asked_by : Command → Option (List Request)
+abbrev pub asked_by : CommandByte → Option (List Request)
 asked_by commands.LineEnd = Some []
 asked_by commands.Version = Some (Version ∷ [])
 asked_by commands.Host = Some (Host ∷ [])
@@ -87,7 +87,7 @@ tokens_of bytes = taken token.step bytes
 -- Requests
 
 -- whether a command is the end
-abbrev pub end_by : Command → List Request
+abbrev pub end_by : CommandByte → List Request
 end_by commands.End = End ∷ []
 end_by command = []
 
@@ -112,7 +112,7 @@ reading_in text = begun_piece ends_reading text
 
 -- where a byte is bad, counted from a command in front of a text: that is none, or its reading is too long, which it is
 -- by the byte behind as many as a reading may have
-abbrev pub bad_by : Command → List ℕ → Option ℕ
+abbrev pub bad_by : CommandByte → List ℕ → Option ℕ
 bad_by commands.Other text = Some 0
 bad_by (commands.Reading wants) text =
     if nat_lt longest_reading (length (reading_in text)) then Some (longest_reading + 1) else None

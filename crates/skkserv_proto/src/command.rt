@@ -27,7 +27,7 @@ impl Wants {
 
 /// What a byte is in a command's place.
 #[derive(Clone, Copy, Debug, PartialEq, Eq)]
-pub enum Command {
+pub enum CommandByte {
     /// A CR or an LF, which is skipped.
     LineEnd,
     /// It ends the connection.
@@ -43,16 +43,16 @@ pub enum Command {
 }
 
 /// What a byte is in a command's place.
-pub fn command_at(byte: u8) -> Command
+pub fn command_at(byte: u8) -> CommandByte
     ensures { result ≡ command_at byte }
 {
     match byte {
-        b'\r' | b'\n' => Command::LineEnd,
-        b'0' => Command::End,
-        b'1' => Command::Reading(Wants::Candidates),
-        b'2' => Command::Version,
-        b'3' => Command::Host,
-        b'4' => Command::Reading(Wants::Completions),
-        _ => Command::Other,
+        b'\r' | b'\n' => CommandByte::LineEnd,
+        b'0' => CommandByte::End,
+        b'1' => CommandByte::Reading(Wants::Candidates),
+        b'2' => CommandByte::Version,
+        b'3' => CommandByte::Host,
+        b'4' => CommandByte::Reading(Wants::Completions),
+        _ => CommandByte::Other,
     }
 }

@@ -1,7 +1,7 @@
 ghost use Rattle.std.specs.Prelude.{◌≡◌, ◌≢◌, ℕ, Err, IsErrOf};
 
 use crate::next::{move_to, next_place};
-use crate::place::Place;
+use crate::place::RequestPlace;
 use crate::request::Request;
 use skk_text::Memory;
 use std::alloc::Global;
@@ -11,7 +11,7 @@ use thiserror::Error;
 /// Reads requests from bytes that come in any pieces. It holds the bytes of a reading that has not ended, at most 255.
 #[derive(Debug, Drop)]
 pub struct Feeder {
-    place: Place,
+    place: RequestPlace,
     fed: u64,
 }
 
@@ -55,7 +55,7 @@ impl Feeder {
         ensures { Fed [] result }
     {
         Feeder {
-            place: Place::Command,
+            place: RequestPlace::Command,
             fed: 0,
         }
     }
@@ -90,13 +90,13 @@ impl Feeder {
 }
 
 // Whether a place is one of a bad byte.
-fn told(place: &Place) -> Result<(), FeedFault>
-    ensures bad { (at : ℕ) → IsErrOf result (FeedFault.Bad at) → place.now ≡ Place.Bad at }
-    ensures good { result ≡ Ok tt → (at : ℕ) → place.now ≢ Place.Bad at }
+fn told(place: &RequestPlace) -> Result<(), FeedFault>
+    ensures bad { (at : ℕ) → IsErrOf result (FeedFault.Bad at) → place.now ≡ RequestPlace.Bad at }
+    ensures good { result ≡ Ok tt → (at : ℕ) → place.now ≢ RequestPlace.Bad at }
     ensures no_memory { result ≢ Err FeedFault.Memory }
 {
     match place {
-        Place::Bad { at } => Err(FeedFault::Bad { at: *at }),
+        RequestPlace::Bad { at } => Err(FeedFault::Bad { at: *at }),
         _ => Ok(()),
     }
 }

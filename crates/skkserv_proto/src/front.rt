@@ -1,11 +1,11 @@
 ghost use Rattle.std.specs.Prelude.{◌≡◌, ◌∷◌, ◌++◌, IfOk, OnOk, OnErr, length};
-ghost use Rattle.skkserv_proto.specs.declared.command.Command.TheVariants as commands;
+ghost use Rattle.skkserv_proto.specs.declared.command.CommandByte.TheVariants as commands;
 ghost use Rattle.skkserv_proto.specs.Fronts.{IsFront, IsPlaceOf, IsRest, asked_in, asked_last};
 ghost use Rattle.skkserv_proto.specs.Requests.{command_at};
 
-use crate::command::{Command, Wants, command_at};
-use crate::place::Place;
-use crate::reading::{READING, Reading};
+use crate::command::{CommandByte, Wants, command_at};
+use crate::place::RequestPlace;
+use crate::reading::{READING, ReadingEnding};
 use crate::request::Request;
 use cut_input::{Begun, PieceEnd, piece_end};
 use skk_text::{Bytes, Memory};
@@ -54,12 +54,12 @@ pub fn front_of(bytes: &[u8]) -> Front<'_>
         return Front::Cut(Rest::Empty);
     };
     match command_at(*first) {
-        Command::LineEnd => Front::Whole(Token::LineEnd, behind),
-        Command::End => Front::Cut(Rest::Ended),
-        Command::Version => Front::Whole(Token::Version, behind),
-        Command::Host => Front::Whole(Token::Host, behind),
-        Command::Reading(wants) => front_of_reading(*first, wants, behind),
-        Command::Other => Front::Cut(Rest::Bad { left: bytes.len() }),
+        CommandByte::LineEnd => Front::Whole(Token::LineEnd, behind),
+        CommandByte::End => Front::Cut(Rest::Ended),
+        CommandByte::Version => Front::Whole(Token::Version, behind),
+        CommandByte::Host => Front::Whole(Token::Host, behind),
+        CommandByte::Reading(wants) => front_of_reading(*first, wants, behind),
+        CommandByte::Other => Front::Cut(Rest::Bad { left: bytes.len() }),
     }
 }
 
@@ -68,7 +68,7 @@ fn front_of_reading(command: u8, wants: Wants, text: &[u8]) -> Front<'_>
     requires { command_at command ≡ commands.Reading wants }
     ensures { IsFront (command ∷ text.now) result }
 {
-    match piece_end::<Reading>(&[], text) {
+    match piece_end::<ReadingEnding>(&[], text) {
         PieceEnd::Here(reading, behind) => Front::Whole(Token::Reading(wants, reading), behind),
         PieceEnd::Open => Front::Cut(Rest::Open(wants, text)),
         PieceEnd::TooLong => Front::Cut(Rest::Bad {
@@ -102,21 +102,21 @@ impl Rest<'_> {
         before: u64,
         count: usize,
         requests: &mut Vec<Request>,
-    ) -> Result<Place, Memory>
+    ) -> Result<RequestPlace, Memory>
         ensures place { IfOk result (IsPlaceOf self.entry before count) }
         ensures asked { OnOk result (requests.new.items ≡ requests.old.items ++ asked_last self.entry) }
     {
         match self {
-            Rest::Empty => Ok(Place::Command),
+            Rest::Empty => Ok(RequestPlace::Command),
             Rest::Open(wants, reading) => {
                 let text = Begun::of(alloc, reading)?;
-                Ok(Place::Reading { wants, text })
+                Ok(RequestPlace::Reading { wants, text })
             }
             Rest::Ended => {
                 requests.push(Request::End)?;
-                Ok(Place::Ended)
+                Ok(RequestPlace::Ended)
             }
-            Rest::Bad { left } => Ok(Place::Bad {
+            Rest::Bad { left } => Ok(RequestPlace::Bad {
                 at: before.saturating_add(count.saturating_sub(left) as u64),
             }),
         }

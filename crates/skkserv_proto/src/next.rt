@@ -4,8 +4,8 @@ ghost use Rattle.skkserv_proto.specs.Requests.{requests};
 
 use crate::command::Wants;
 use crate::front::{Front, front_of, joined};
-use crate::place::Place;
-use crate::reading::{READING, Reading};
+use crate::place::RequestPlace;
+use crate::reading::{READING, ReadingEnding};
 use crate::request::Request;
 use cut_input::{PieceEnd, piece_end};
 use skk_text::Memory;
@@ -19,11 +19,11 @@ pub enum Next {
     /// Its reading goes on with all of the bytes.
     GoesOn,
     /// To another place.
-    To(Place),
+    To(RequestPlace),
 }
 
 /// Moves a place on with bytes. Memory is only asked for where its reading goes on.
-pub fn move_to(place: &mut Place, next: Next, bytes: &[u8]) -> Result<(), Memory>
+pub fn move_to(place: &mut RequestPlace, next: Next, bytes: &[u8]) -> Result<(), Memory>
     ensures ok { OnOk result (IsMoved place.old bytes.now next place.new) }
     ensures err { OnErr result (place.new ≡ place.old) }
     ensures only { OnErr result (next ≡ Next.GoesOn) }
@@ -31,7 +31,7 @@ pub fn move_to(place: &mut Place, next: Next, bytes: &[u8]) -> Result<(), Memory
     match next {
         Next::Stays => Ok(()),
         Next::GoesOn => {
-            if let Place::Reading { wants: _, text } = place {
+            if let RequestPlace::Reading { wants: _, text } = place {
                 text.push_bytes(bytes)?;
             }
             Ok(())
@@ -46,7 +46,7 @@ pub fn move_to(place: &mut Place, next: Next, bytes: &[u8]) -> Result<(), Memory
 /// Where a place goes with bytes, of which so many are fed before them, and the requests that they end.
 pub fn next_place(
     alloc: Global,
-    place: &Place,
+    place: &RequestPlace,
     fed: u64,
     bytes: &[u8],
 ) -> Result<(Next, Vec<Request>), Memory>
@@ -54,16 +54,16 @@ pub fn next_place(
     ensures none { IfOk result (λ r. r.0 ≡ Next.GoesOn → r.1.items ≡ []) }
 {
     match place {
-        Place::Command => next_behind_command(alloc, fed, bytes),
-        Place::Reading { wants, text } => next_in_reading(
+        RequestPlace::Command => next_behind_command(alloc, fed, bytes),
+        RequestPlace::Reading { wants, text } => next_in_reading(
             alloc,
             *wants,
             text.as_slice(),
             fed,
             bytes,
         ),
-        Place::Ended => Ok((Next::Stays, Vec::new(alloc))),
-        Place::Bad { at: _ } => Ok((Next::Stays, Vec::new(alloc))),
+        RequestPlace::Ended => Ok((Next::Stays, Vec::new(alloc))),
+        RequestPlace::Bad { at: _ } => Ok((Next::Stays, Vec::new(alloc))),
     }
 }
 
@@ -73,7 +73,8 @@ fn next_behind_command(
     fed: u64,
     bytes: &[u8],
 ) -> Result<(Next, Vec<Request>), Memory>
-    ensures reads { IfOk result (λ r. ReadsTo (record { place = Place.Command; fed = fed }) bytes.now r.0 r.1.items) }
+    ensures reads { IfOk result (λ r. ReadsTo (record { place = RequestPlace.Command; fed = fed }) bytes.now r.0
+        r.1.items) }
     ensures none { IfOk result (λ r. r.0 ≡ Next.GoesOn → r.1.items ≡ []) }
 {
     let mut read = Vec::new(alloc);
@@ -89,11 +90,11 @@ fn next_in_reading(
     fed: u64,
     bytes: &[u8],
 ) -> Result<(Next, Vec<Request>), Memory>
-    ensures reads { IfOk result (λ r. ReadsTo (record { place = Place.Reading wants text.now; fed = fed }) bytes.now
-        r.0 r.1.items) }
+    ensures reads { IfOk result (λ r. ReadsTo (record { place = RequestPlace.Reading wants text.now; fed = fed })
+        bytes.now r.0 r.1.items) }
     ensures none { IfOk result (λ r. r.0 ≡ Next.GoesOn → r.1.items ≡ []) }
 {
-    match piece_end::<Reading>(text, bytes) {
+    match piece_end::<ReadingEnding>(text, bytes) {
         PieceEnd::Here(reading, behind) => {
             let mut read = Vec::new(alloc);
             read.push(wants.request(joined(alloc, text, reading)?))?;
@@ -105,7 +106,7 @@ fn next_in_reading(
         PieceEnd::TooLong => {
             let more = READING.saturating_sub(text.len());
             let at = fed.saturating_add(more as u64);
-            Ok((Next::To(Place::Bad { at }), Vec::new(alloc)))
+            Ok((Next::To(RequestPlace::Bad { at }), Vec::new(alloc)))
         }
     }
 }
@@ -117,7 +118,7 @@ fn read_behind(
     before: u64,
     bytes: &[u8],
     read: &mut Vec<Request>,
-) -> Result<Place, Memory>
+) -> Result<RequestPlace, Memory>
     ensures asked { OnOk result (read.new.items ≡ read.old.items ++ requests bytes.now) }
     ensures place { IfOk result (EndsAt 0 before bytes.now) }
 {

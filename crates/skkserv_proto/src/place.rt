@@ -3,7 +3,7 @@ use cut_input::Begun;
 
 /// Where bytes end that are read as requests.
 #[derive(Debug, Drop)]
-pub enum Place {
+pub enum RequestPlace {
     /// Before a command.
     Command,
     /// In a reading, of which these bytes stand there.

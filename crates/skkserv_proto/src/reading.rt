@@ -7,9 +7,9 @@ use cut_input::Ending;
 pub const READING: usize = 255;
 
 /// A reading, which ends at a space, a CR or an LF.
-pub struct Reading;
+pub struct ReadingEnding;
 
-impl Ending for Reading {
+impl Ending for ReadingEnding {
     ghost ends = { ends_reading };
 
     ghost limit = { longest_reading };

@@ -51,8 +51,8 @@ fn cands_of(alloc: Global, bytes: &Bytes, reply: &Reply) -> Result<Vec<u8>, Memo
     let Reply::Found(cands) = reply else {
         return not_found(alloc, bytes);
     };
-    let mut listing = Listing::new(alloc)?;
-    print_each::<CandItem>(&mut listing, cands.cands().as_slice())?;
+    let mut listing = ReplyListing::new(alloc)?;
+    print_each::<ListedCand>(&mut listing, cands.cands().as_slice())?;
     let sent = listing.end(bytes)?;
     Ok(sent)
 }
@@ -75,26 +75,26 @@ fn readings_of(alloc: Global, bytes: &Bytes, reply: &Reply) -> Result<Vec<u8>, M
     let Reply::Readings(readings) = reply else {
         return not_found(alloc, bytes);
     };
-    let mut listing = Listing::new(alloc)?;
-    print_each::<ReadingItem>(&mut listing, readings.as_slice())?;
+    let mut listing = ReplyListing::new(alloc)?;
+    print_each::<ListedReading>(&mut listing, readings.as_slice())?;
     let sent = listing.end(bytes)?;
     Ok(sent)
 }
 
 // Items that are listed, each with its slash, behind what begins a list.
 #[derive(Drop)]
-struct Listing {
+struct ReplyListing {
     alloc: Global,
     bytes: Vec<u8>,
 }
 
-impl Listing {
+impl ReplyListing {
     // The list of no items.
-    fn new(alloc: Global) -> Result<Listing, Memory>
+    fn new(alloc: Global) -> Result<ReplyListing, Memory>
         ensures { IfOk result (λ listing. listing.bytes.items ≡ codes "1/") }
     {
         let bytes = bytes_of(alloc, b"1/")?;
-        Ok(Listing { alloc, bytes })
+        Ok(ReplyListing { alloc, bytes })
     }
 
     // Adds an item with its slash.
@@ -111,7 +111,7 @@ impl Listing {
         ensures { IfOk result (λ sent. (items : List (List ℕ))
             → self.bytes.items ≡ codes "1/" ++ flat_map item_bytes items → sent.items ≡ found_or_not bytes.now items) }
     {
-        let Listing {
+        let ReplyListing {
             alloc,
             bytes: mut sent,
         } = self;
@@ -124,10 +124,10 @@ impl Listing {
 }
 
 // A candidate as an item of a list.
-struct CandItem;
+struct ListedCand;
 
-impl Printer for CandItem {
-    type Page = Listing;
+impl Printer for ListedCand {
+    type Page = ReplyListing;
 
     type Value = Cand;
 
@@ -137,16 +137,16 @@ impl Printer for CandItem {
 
     ghost printed = { λ cand. item_bytes (item cand) };
 
-    fn print(listing: &mut Listing, cand: &Cand) -> Result<(), Memory> {
+    fn print(listing: &mut ReplyListing, cand: &Cand) -> Result<(), Memory> {
         listing.push(&print_item(listing.alloc, cand)?)
     }
 }
 
 // A reading as an item of a list, where it holds no slash.
-struct ReadingItem;
+struct ListedReading;
 
-impl Printer for ReadingItem {
-    type Page = Listing;
+impl Printer for ListedReading {
+    type Page = ReplyListing;
 
     type Value = Text;
 
@@ -156,7 +156,7 @@ impl Printer for ReadingItem {
 
     ghost printed = { λ reading. reading_bytes reading };
 
-    fn print(listing: &mut Listing, reading: &Text) -> Result<(), Memory> {
+    fn print(listing: &mut ReplyListing, reading: &Text) -> Result<(), Memory> {
         if !lacks_slash(reading.as_str()) {
             return Ok(());
         }

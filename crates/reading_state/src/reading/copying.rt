@@ -1,10 +1,10 @@
-use super::{Begun, Reading};
+use super::{BegunOkuri, Reading};
 use skk_text::{Copies, Memory, copy_of};
 use std::alloc::Global;
 
-impl Copies for Begun {
-    fn copy(&self, alloc: Global) -> Result<Begun, Memory> {
-        Ok(Begun {
+impl Copies for BegunOkuri {
+    fn copy(&self, alloc: Global) -> Result<BegunOkuri, Memory> {
+        Ok(BegunOkuri {
             letter: self.letter,
             text: self.text.copy(alloc)?,
         })

@@ -6,13 +6,13 @@ ghost use Rattle.reading_state.specs.Reading.{put_upper, begin_okuri, flush, is_
 ghost use Rattle.reading_state.specs.Reading.{is_empty_okuri, is_filled_okuri};
 
 use super::puts::{accepted_by_okuri, both_empty};
-use super::{Begun, Reading};
+use super::{BegunOkuri, Reading};
 use romaji_rules::{Kana, Pending, Rules};
 use skk_calls::Okuri;
 use skk_text::{Copies, Memory, Notice, Text};
 use std::alloc::Global;
 
-impl Begun {
+impl BegunOkuri {
     // The okurigana, where it has a kana.
     pub(super) fn okuri(&self, alloc: Global) -> Result<Option<Okuri>, Memory>
         requires { may_end self.now.text ≡ true }
@@ -74,7 +74,7 @@ impl Reading {
         if self.is_doubled_by(letter) {
             let mut text = Text::new(alloc);
             text.push('っ')?;
-            self.okuri = Some(Begun { letter, text });
+            self.okuri = Some(BegunOkuri { letter, text });
             return Ok(Notice::Empty);
         }
         self.begin_okuri(alloc, rules, letter)
@@ -109,7 +109,7 @@ impl Reading {
         }
         let kana = accepted_by_okuri(alloc, &Text::new(alloc), fed);
         self.text.push_str(flushed.text.as_str())?;
-        self.okuri = Some(Begun {
+        self.okuri = Some(BegunOkuri {
             letter,
             text: kana.text,
         });

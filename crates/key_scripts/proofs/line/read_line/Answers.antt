@@ -1,5 +1,5 @@
 use Rattle.std.proofs.Common.{Err, ◌≢◌, ◌∙◌, [], length, sym, ap, arith}
-use Rattle.key_scripts.specs.declared.line.LineFault.TheVariants.{NoLine}
+use Rattle.key_scripts.specs.declared.line.ScriptLineFault.TheVariants.{NoLine}
 use Rattle.key_scripts.proofs.LineReading.{line-follows, same-fault}
 use Rattle.key_scripts.proofs.Scripts.{return-no_line}
 use Rattle.key_scripts.proofs.line.read_line.Goals as goal

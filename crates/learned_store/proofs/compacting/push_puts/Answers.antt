@@ -1,7 +1,7 @@
 use Rattle.std.proofs.Common.{◌≡◌, true, ◌++◌, ◌∙◌, ap, subst, sym}
 use Rattle.skk_calls.specs.Canonical.{is_good}
 use Rattle.skk_calls.specs.Rows.{Row}
-use Rattle.learned_store.specs.declared.form.Form.TheVariants.{Put}
+use Rattle.learned_store.specs.declared.form.PayloadForm.TheVariants.{Put}
 use Rattle.learned_store.specs.Compacting.{form_record}
 use Rattle.learned_store.proofs.BookRecords.{holds_at, piece_added}
 use Rattle.learned_store.proofs.compacting.push_puts.Goals as goal

@@ -1,6 +1,6 @@
 use Rattle.std.proofs.Common.{◌≡◌, ◌++◌, map, take}
 use Rattle.std.specs.List.{flat_map}
-use Rattle.learned_store.specs.declared.form.Form.TheVariants.{Put}
+use Rattle.learned_store.specs.declared.form.PayloadForm.TheVariants.{Put}
 use Rattle.learned_store.specs.Compacting.{form_record}
 use Rattle.learned_store.proofs.compacting.push_puts.Given as goal
 

@@ -1,7 +1,7 @@
 use Rattle.std.proofs.Common.{List, ℕ, inl, inr, sym, subst, refl, ◌∙◌}
 use Rattle.skk_disk.specs.Image.{Image}
 use Rattle.skk_journal.specs.declared.fault.OpenFault.TheVariants as opening
-use Rattle.skk_journal.specs.declared.found.Found.{Found}
+use Rattle.skk_journal.specs.declared.found.FoundRecord.{FoundRecord}
 use Rattle.skk_journal.specs.Causes.{IsRefused as RefusesFrames}
 use Rattle.skk_journal.specs.Found.{payloads}
 use Rattle.learned_store.specs.declared.recovery.RecoverFault.{RecoverFault}
@@ -12,7 +12,7 @@ use Rattle.learned_store.proofs.opening.first_refusal.Goals.{in-Ok, in-Err}
 use Rattle.learned_store.proofs.opening.first_refusal.Goals as goal
 
 -- a bad frame behind records the first of which that says nothing stands at a place
-broken : (image : Image) (number at : ℕ) (before : List Found) (fault : RecoverFault)
+broken : (image : Image) (number at : ℕ) (before : List FoundRecord) (fault : RecoverFault)
     → RefusesFrames image (opening.BadRecord number at before) → IsBreak (payloads before) fault
     → IsRefused image (refusal_of number fault)
 broken image number at before (Break place) refused breaks =

@@ -1,7 +1,7 @@
 use Rattle.std.proofs.Common.{◌≡◌, ◌∷◌, ◌++◌, [], List, ℕ, sym, subst, ◌∙◌}
 use Rattle.std.proofs.lemmas.List.{append_assoc}
 use Rattle.std.specs.Vec.Iter.{into_iter_items}
-use Rattle.skk_journal.specs.declared.found.Found.{Found}
+use Rattle.skk_journal.specs.declared.found.FoundRecord.{FoundRecord}
 use Rattle.skk_journal.specs.Found.{payloads, found_from}
 use Rattle.skk_journal.specs.Records.{first_place}
 use Rattle.learned_store.specs.Payloads.{Says, SaysNothing, state_told}
@@ -17,11 +17,11 @@ returns-then-not-branch-clause-broken c places =
     let state = c.loop-found.invariant.state in
     let rest = into_iter_items c.next.new.self in
     let all : before ++ found ∷ rest ≡ c.args.records =
-    subst (λ (items : List Found). before ++ items ≡ c.args.records) c.in-Some.ensures.steps.0
+    subst (λ (items : List FoundRecord). before ++ items ≡ c.args.records) c.in-Some.ensures.steps.0
     c.loop-found.invariant.all in
-    subst (λ (records : List Found). BreakAt (payloads records) found.at) all
+    subst (λ (records : List FoundRecord). BreakAt (payloads records) found.at) all
     (break_at before rest found
-    (subst (λ (records : List Found). records ≡ found_from first_place (payloads records)) (sym all) places)
+    (subst (λ (records : List FoundRecord). records ≡ found_from first_place (payloads records)) (sym all) places)
     state c.loop-found.invariant.left
     (subst (SaysNothing state) c.as_slice.ensures
     (c.in_ok-add.ensures.none c.if-not-branch.true state c.loop-found.invariant.gathers)))
@@ -38,7 +38,7 @@ loop-found-preserved c =
       state = state_told state form;
       all =
           append_assoc before (found ∷ []) (into_iter_items c.next.new.self)
-          ∙ subst (λ (items : List Found). before ++ items ≡ c.args.records) c.in-Some.ensures.steps.0
+          ∙ subst (λ (items : List FoundRecord). before ++ items ≡ c.args.records) c.in-Some.ensures.steps.0
           c.loop-found.invariant.all;
       left =
           subst (λ (read : List (List ℕ)). Leave read (state_told state form)) (sym (payloads_next before [] found))

@@ -3,7 +3,7 @@ use Rattle.std.specs.Prelude.{◌≢◌}
 use Rattle.skk_disk.specs.Image.{Image}
 use Rattle.skk_disk.specs.MomentLaws.{each_within}
 use Rattle.skk_disk.specs.StepLaws.{no_step, within, at_end}
-use Rattle.skk_journal.specs.declared.choice.Choice.TheVariants.{NoLive, LiveIn}
+use Rattle.skk_journal.specs.declared.choice.LiveChoice.TheVariants.{NoLive, LiveIn}
 use Rattle.skk_journal.specs.declared.fault.OpenFault.{OpenFault}
 use Rattle.skk_journal.specs.declared.fault.OpenFault.TheVariants.{Disk, NotJournal, BadRecord, Memory}
 use Rattle.skk_journal.specs.Causes.{UnlessDisk}

@@ -1,7 +1,7 @@
 use Rattle.std.proofs.Common.{◌≡◌, List, IfOk, IfErr, sym, ◌∙◌, subst}
 use Rattle.skk_disk.specs.Image.{Image, part, other}
-use Rattle.skk_journal.specs.declared.choice.Choice.TheVariants.{LiveIn}
-use Rattle.skk_journal.specs.declared.found.Found.{Found}
+use Rattle.skk_journal.specs.declared.choice.LiveChoice.TheVariants.{LiveIn}
+use Rattle.skk_journal.specs.declared.found.FoundRecord.{FoundRecord}
 use Rattle.skk_journal.specs.Found.{payloads}
 use Rattle.skk_journal.specs.Choice.{choice}
 use Rattle.skk_journal.specs.Generations.{first_live}
@@ -117,7 +117,7 @@ returns-in_ok-fill_first-in-NoLive-clause-now g c same image left =
     let chosen = c.in_ok-chosen.chosen in
     let sides = none_each D.time D.left_since start c.read_choice.new.disk read.images (D.seen start) same read.time
     chosen (sym (read.choice told) ∙ c.in-NoLive.is) (read.first told) (read.second told) in
-    subst (λ (l : List Found). Holds first_live chosen.second (payloads l) image) (sym c.new-in-NoLive.ensures)
+    subst (λ (l : List FoundRecord). Holds first_live chosen.second (payloads l) image) (sym c.new-in-NoLive.ensures)
     (c.in_ok-fill_first-in-NoLive.ensures.ok sides image left)
 
 pub returns-in_ok-fill_first-in-NoLive-clause-anew : goal.returns-in_ok-fill_first-in-NoLive-clause-anew

@@ -1,14 +1,14 @@
 use Rattle.std.proofs.Common.{◌≡◌, [], ℕ, List, drop, ◌∙◌, subst, arith}
 use Rattle.skk_disk.specs.Image.{Image, part}
 use Rattle.skk_disk.specs.declared.which.Which.{Which}
-use Rattle.skk_journal.specs.declared.found.Found.{Found}
+use Rattle.skk_journal.specs.declared.found.FoundRecord.{FoundRecord}
 use Rattle.skk_journal.specs.declared.frames.Stop.{Stop}
 use Rattle.skk_journal.specs.Reading.{StopsAt, StopsWithin}
 use Rattle.skk_journal.proofs.Parts.{takes_more, end_at, places_at, read_at, bad_at, bad_outside}
 use Rattle.skk_journal.proofs.records.read_records.Goals as goal
 
 -- where reading stopped, seen by the file at the start and by the kind of stop
-stop_is : (file : Which) (tells : Type 0) (now start : Image) (at : ℕ) (old new : List Found) (stop kind : Stop)
+stop_is : (file : Which) (tells : Type 0) (now start : Image) (at : ℕ) (old new : List FoundRecord) (stop kind : Stop)
     → now ≡ start
     → stop ≡ kind → StopsAt tells (drop at (part file now)) at old new stop → StopsAt tells (drop at
     (part file start)) at old new kind

@@ -1,6 +1,6 @@
 use Rattle.std.proofs.Common.{sym, subst, inl, inr, IfOk}
 use Rattle.skkserv_proto.specs.Feeding.{ReadsTo}
-use Rattle.skkserv_proto.specs.declared.place.Place.TheVariants.{Reading}
+use Rattle.skkserv_proto.specs.declared.place.RequestPlace.TheVariants.{Reading}
 use Rattle.skkserv_proto.proofs.Feeds.{reads-stays}
 use Rattle.skkserv_proto.proofs.next.next_place.Goals as goal
 
