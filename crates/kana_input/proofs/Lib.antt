@@ -1,3 +1,3 @@
 mod Examples
 mod PlainKeys
-mod Words
+mod Rooms

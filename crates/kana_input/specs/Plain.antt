@@ -9,8 +9,11 @@ use Rattle.skk_text.specs.declared.key.Key.{Key}
 use Rattle.skk_text.specs.declared.key.Key.TheVariants.{Char, Cj, Cg, Bs, Ret, Tab, Undo}
 use Rattle.skk_text.specs.declared.mode.Mode.{Mode}
 use Rattle.skk_text.specs.declared.mode.Mode.TheVariants.{Hira, Kata, Ascii, Wide}
+use Rattle.romaji_rules.specs.declared.kana.Kana.{Kana}
+use Rattle.romaji_rules.specs.declared.kana.Kana.TheVariants.{Hiragana, Katakana}
 use Rattle.romaji_rules.specs.declared.out.Out.{Out}
 use Rattle.romaji_rules.specs.declared.rule.Rule.{Rule}
+use Rattle.romaji_rules.specs.Pieces.{out_in}
 use Rattle.romaji_rules.specs.Typed.{fed, flushed, extends_pending}
 use Rattle.kana_input.specs.declared.plain.Plain.{Plain}
 use Rattle.kana_input.specs.declared.plain.PlainDo.{PlainDo}
@@ -35,12 +38,16 @@ new_plain = in_mode Hira
 abbrev pub no_insertion : PlainThen → PlainDo
 no_insertion effect = record { insert = []; then = effect }
 
--- the form of an output that a mode inserts: its katakana in katakana mode, and its hiragana in every other
+-- the kana of an output that a mode inserts: katakana in katakana mode, and hiragana in every other
+abbrev pub kana_in : Mode → Kana
+kana_in Hira = Hiragana
+kana_in Kata = Katakana
+kana_in Ascii = Hiragana
+kana_in Wide = Hiragana
+
+-- the form of an output that a mode inserts
 abbrev pub in_kana : Mode → Out → List ℕ
-in_kana Hira out = out.hira
-in_kana Kata out = out.kata
-in_kana Ascii out = out.hira
-in_kana Wide out = out.hira
+in_kana mode out = out_in (kana_in mode) out
 
 -- a key's effect on the frame where an output is inserted
 abbrev pub insertion : Mode → Out → PlainDo

@@ -5,6 +5,8 @@
 //! does to the frame beside that; the frame itself it does not touch.
 #![tactic(auto)]
 
+mod insertion;
 mod plain;
 
+pub use insertion::Insertion;
 pub use plain::{Plain, PlainDo, PlainThen, press_plain};

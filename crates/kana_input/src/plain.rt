@@ -1,10 +1,9 @@
-ghost use Rattle.std.specs.Prelude.{◌≡◌};
-ghost use Rattle.std.specs.Prelude.{IfOk, OnErr};
-ghost use Rattle.kana_input.specs.Plain.{no_insertion, insertion, in_kana, char_in_mode, plain_step};
+ghost use Rattle.std.specs.Prelude.{◌≡◌, ◌<◌};
+ghost use Rattle.kana_input.specs.Plain.{no_insertion, insertion, kana_in, char_in_mode, plain_step};
 
+use crate::insertion::Insertion;
 use romaji_rules::{Kana, OutRef, Pending, Rules};
-use skk_text::{Key, Memory, Mode, Text, to_wide};
-use std::alloc::Global;
+use skk_text::{Key, Mode, to_wide};
 
 /// What a key of the plain state does to the frame besides the text that it inserts.
 #[derive(Clone, Copy, Debug, PartialEq, Eq)]
@@ -26,9 +25,9 @@ pub enum PlainThen {
 }
 
 /// What a key of the plain state does to its frame: first the text is inserted, then the rest is done.
-#[derive(Debug, Drop)]
-pub struct PlainDo {
-    pub insert: Text,
+#[derive(Drop)]
+pub struct PlainDo<'r> {
+    pub insert: Insertion<'r>,
     pub then: PlainThen,
 }
 
@@ -39,26 +38,19 @@ pub struct Plain {
     pub pending: Pending,
 }
 
-/// Reads a key in the plain state. After `Memory` the state is as before. Takes time in what the key does: in the
-/// number of rules, and in the text that it gives out.
-pub fn press_plain(
-    alloc: Global,
-    plain: &mut Plain,
-    rules: &Rules,
-    key: Key,
-) -> Result<PlainDo, Memory>
-    ensures ok { IfOk result (λ done. plain_step rules.now plain.old key ≡ record { plain = plain.new; done = done }) }
-    ensures err { OnErr result (plain.new ≡ plain.old) }
+/// Reads a key in the plain state. Takes no memory: what is inserted stands in the rules until it is pushed.
+pub fn press_plain<'r>(plain: &mut Plain, rules: &'r Rules, key: Key) -> PlainDo<'r>
+    ensures { plain_step rules.now plain.old key ≡ record { plain = plain.new; done = result } }
 {
     match plain.mode {
-        Mode::Hira | Mode::Kata => plain.press_kana(alloc, rules, key),
-        Mode::Ascii | Mode::Wide => plain.press_ascii(alloc, rules, key),
+        Mode::Hira | Mode::Kata => plain.press_kana(rules, key),
+        Mode::Ascii | Mode::Wide => plain.press_ascii(rules, key),
     }
 }
 
 impl Plain {
-    ghost use Rattle.std.specs.Prelude.{◌≡◌, ℕ, IfOk, OnErr, List, ◌∷◌, [], false};
-    ghost use Rattle.std.specs.Str.{chars};
+    ghost use Rattle.std.specs.Prelude.{◌≡◌, ℕ, List, ◌∷◌, [], None, Some, false};
+    ghost use Rattle.std.specs.Option.{option_to_list};
     ghost use Rattle.kana_input.specs.Plain.{new_plain, kana_step, kana_char_step, ascii_step, flush_step, feed_step};
     ghost use Rattle.romaji_rules.specs.Typed.{extends_pending};
 
@@ -73,157 +65,143 @@ impl Plain {
     }
 
     // Reads a key in a kana mode.
-    #[tactic(auto, using(crate::proofs::Words::words))]
-    fn press_kana(&mut self, alloc: Global, rules: &Rules, key: Key) -> Result<PlainDo, Memory>
-        ensures ok { IfOk result (λ done. kana_step rules.now self.old key ≡ record { plain = self.new; done = done }) }
-        ensures err { OnErr result (self.new ≡ self.old) }
+    fn press_kana<'r>(&mut self, rules: &'r Rules, key: Key) -> PlainDo<'r>
+        ensures { kana_step rules.now self.old key ≡ record { plain = self.new; done = result } }
     {
         match key {
-            Key::Char(c) => self.press_kana_char(alloc, rules, c),
-            Key::Cj => self.flush(alloc, rules, self.mode, "", PlainThen::Stay),
+            Key::Char(c) => self.press_kana_char(rules, c),
+            Key::Cj => self.flush(rules, self.mode, None, PlainThen::Stay),
             Key::Cg => {
                 if self.pending.is_empty() {
-                    return Ok(no_insertion(alloc, PlainThen::Cancel));
+                    return no_insertion(PlainThen::Cancel);
                 }
                 self.pending = Pending::new();
-                Ok(no_insertion(alloc, PlainThen::Stay))
+                no_insertion(PlainThen::Stay)
             }
             Key::Bs => {
                 if self.pending.is_empty() {
-                    return Ok(no_insertion(alloc, PlainThen::DeleteLast));
+                    return no_insertion(PlainThen::DeleteLast);
                 }
                 self.pending.delete_last();
-                Ok(no_insertion(alloc, PlainThen::Stay))
+                no_insertion(PlainThen::Stay)
             }
-            Key::Ret => self.flush(alloc, rules, self.mode, "", PlainThen::Newline),
-            Key::Tab => Ok(no_insertion(alloc, PlainThen::Stay)),
-            Key::Undo => Ok(no_insertion(alloc, PlainThen::AskUndo)),
+            Key::Ret => self.flush(rules, self.mode, None, PlainThen::Newline),
+            Key::Tab => no_insertion(PlainThen::Stay),
+            Key::Undo => no_insertion(PlainThen::AskUndo),
         }
     }
 
     // Reads a character in a kana mode. A character that goes on with what is pending does nothing else.
-    fn press_kana_char(&mut self, alloc: Global, rules: &Rules, c: u8) -> Result<PlainDo, Memory>
-        ensures ok { IfOk result (λ done. kana_char_step rules.now self.old c
-            ≡ record { plain = self.new; done = done }) }
-        ensures err { OnErr result (self.new ≡ self.old) }
+    fn press_kana_char<'r>(&mut self, rules: &'r Rules, c: u8) -> PlainDo<'r>
+        ensures { kana_char_step rules.now self.old c ≡ record { plain = self.new; done = result } }
     {
-        let mut pending = self.pending.copied();
-        match rules.extend(&mut pending, c) {
-            Some(out) => {
-                let done = insertion(alloc, self.mode, &out)?;
-                self.pending = pending;
-                Ok(done)
-            }
-            None => self.press_anew(alloc, rules, c),
+        match rules.extend(&mut self.pending, c) {
+            Some(out) => insertion(self.mode, out),
+            None => self.press_anew(rules, c),
         }
     }
 
     // Reads a character in a kana mode that does not go on with what is pending.
-    #[tactic(auto, using(crate::proofs::Words::words))]
-    fn press_anew(&mut self, alloc: Global, rules: &Rules, c: u8) -> Result<PlainDo, Memory>
+    fn press_anew<'r>(&mut self, rules: &'r Rules, c: u8) -> PlainDo<'r>
         requires { extends_pending rules.now self.old.pending c ≡ false }
-        ensures ok { IfOk result (λ done. kana_char_step rules.now self.old c
-            ≡ record { plain = self.new; done = done }) }
-        ensures err { OnErr result (self.new ≡ self.old) }
+        ensures { kana_char_step rules.now self.old c ≡ record { plain = self.new; done = result } }
     {
         let mode = self.mode;
         match c {
-            b' ' => self.flush(alloc, rules, mode, " ", PlainThen::Stay),
-            b'q' => self.flush(alloc, rules, mode.other_kana(), "", PlainThen::Stay),
-            b'l' => self.flush(alloc, rules, Mode::Ascii, "", PlainThen::Stay),
-            b'L' => self.flush(alloc, rules, Mode::Wide, "", PlainThen::Stay),
-            b'Q' => self.flush(alloc, rules, mode, "", PlainThen::OpenReading(None)),
-            b'/' => self.flush(alloc, rules, mode, "", PlainThen::OpenAbbrev),
+            b' ' => self.flush(rules, mode, Some(' '), PlainThen::Stay),
+            b'q' => self.flush(rules, mode.other_kana(), None, PlainThen::Stay),
+            b'l' => self.flush(rules, Mode::Ascii, None, PlainThen::Stay),
+            b'L' => self.flush(rules, Mode::Wide, None, PlainThen::Stay),
+            b'Q' => self.flush(rules, mode, None, PlainThen::OpenReading(None)),
+            b'/' => self.flush(rules, mode, None, PlainThen::OpenAbbrev),
             b'A'..=b'Z' => {
                 let letter = c.to_ascii_lowercase();
-                self.flush(alloc, rules, mode, "", PlainThen::OpenReading(Some(letter)))
+                self.flush(rules, mode, None, PlainThen::OpenReading(Some(letter)))
             }
-            _ => {
-                let mut pending = self.pending.copied();
-                let out = rules.feed_anew(&mut pending, c);
-                let done = insertion(alloc, mode, &out)?;
-                self.pending = pending;
-                Ok(done)
-            }
+            _ => insertion(mode, rules.feed_anew(&mut self.pending, c)),
         }
     }
 
-    // Gives out what is pending, with a text behind it, and goes to a mode.
-    fn flush(
+    // Gives out what is pending, with a character behind it or none, and goes to a mode.
+    fn flush<'r>(
         &mut self,
-        alloc: Global,
-        rules: &Rules,
+        rules: &'r Rules,
         mode: Mode,
-        behind: &str,
+        behind: Option<char>,
         then: PlainThen,
-    ) -> Result<PlainDo, Memory>
-        ensures ok { IfOk result (λ done. flush_step rules.now self.old mode (chars behind.now) (then)
-            ≡ record { plain = self.new; done = done }) }
-        ensures err { OnErr result (self.new ≡ self.old) }
+    ) -> PlainDo<'r>
+        ensures { flush_step rules.now self.old mode (option_to_list behind) (then)
+            ≡ record { plain = self.new; done = result } }
     {
-        let mut pending = self.pending.copied();
-        let mut insert = in_kana(alloc, self.mode, &rules.flush(&mut pending))?;
-        insert.push_str(behind)?;
+        let insert = Insertion {
+            out: rules.flush(&mut self.pending),
+            kana: kana_in(self.mode),
+            behind,
+        };
         self.mode = mode;
-        self.pending = pending;
-        Ok(PlainDo { insert, then })
+        PlainDo { insert, then }
     }
 
     // Reads a key in one of the two ASCII modes.
-    #[tactic(auto, using(crate::proofs::Words::words))]
-    fn press_ascii(&mut self, alloc: Global, rules: &Rules, key: Key) -> Result<PlainDo, Memory>
-        ensures ok { IfOk result (λ done. ascii_step rules.now self.old key
-            ≡ record { plain = self.new; done = done }) }
-        ensures err { OnErr result (self.new ≡ self.old) }
+    fn press_ascii<'r>(&mut self, rules: &'r Rules, key: Key) -> PlainDo<'r>
+        ensures { ascii_step rules.now self.old key ≡ record { plain = self.new; done = result } }
     {
         match key {
-            Key::Char(c) => {
-                let mut insert = Text::new(alloc);
-                insert.push(char_in_mode(self.mode, c))?;
-                Ok(PlainDo {
-                    insert,
-                    then: PlainThen::Stay,
-                })
-            }
+            Key::Char(c) => PlainDo {
+                insert: Insertion {
+                    out: OutRef::nothing(),
+                    kana: Kana::Hiragana,
+                    behind: Some(char_in_mode(self.mode, c)),
+                },
+                then: PlainThen::Stay,
+            },
             Key::Cj => {
                 self.mode = Mode::Hira;
-                Ok(no_insertion(alloc, PlainThen::Stay))
+                no_insertion(PlainThen::Stay)
             }
-            Key::Bs => Ok(no_insertion(alloc, PlainThen::DeleteLast)),
-            Key::Ret => self.flush(alloc, rules, self.mode, "", PlainThen::Newline),
-            Key::Cg | Key::Tab => Ok(no_insertion(alloc, PlainThen::Stay)),
-            Key::Undo => Ok(no_insertion(alloc, PlainThen::AskUndo)),
+            Key::Bs => no_insertion(PlainThen::DeleteLast),
+            Key::Ret => self.flush(rules, self.mode, None, PlainThen::Newline),
+            Key::Cg | Key::Tab => no_insertion(PlainThen::Stay),
+            Key::Undo => no_insertion(PlainThen::AskUndo),
         }
     }
 }
 
 // An output is inserted.
-fn insertion(alloc: Global, mode: Mode, out: &OutRef<'_>) -> Result<PlainDo, Memory>
-    ensures { IfOk result (λ done. done ≡ insertion mode out.now) }
+fn insertion(mode: Mode, out: OutRef<'_>) -> PlainDo<'_>
+    ensures { result ≡ insertion mode out.entry }
 {
-    Ok(PlainDo {
-        insert: in_kana(alloc, mode, out)?,
+    PlainDo {
+        insert: Insertion {
+            out,
+            kana: kana_in(mode),
+            behind: None,
+        },
         then: PlainThen::Stay,
-    })
+    }
 }
 
 // Nothing is inserted.
-fn no_insertion(alloc: Global, then: PlainThen) -> PlainDo
+fn no_insertion<'r>(then: PlainThen) -> PlainDo<'r>
     ensures { result ≡ no_insertion (then) }
 {
     PlainDo {
-        insert: Text::new(alloc),
+        insert: Insertion {
+            out: OutRef::nothing(),
+            kana: Kana::Hiragana,
+            behind: None,
+        },
         then,
     }
 }
 
-// An output in katakana mode, and in every other.
-fn in_kana(alloc: Global, mode: Mode, out: &OutRef<'_>) -> Result<Text, Memory>
-    ensures { IfOk result (λ text. text ≡ in_kana mode out.now) }
+// The kana of an output in katakana mode, and in every other.
+fn kana_in(mode: Mode) -> Kana
+    ensures { result ≡ kana_in mode }
 {
     match mode {
-        Mode::Kata => out.text(alloc, Kana::Katakana),
-        Mode::Hira | Mode::Ascii | Mode::Wide => out.text(alloc, Kana::Hiragana),
+        Mode::Kata => Kana::Katakana,
+        Mode::Hira | Mode::Ascii | Mode::Wide => Kana::Hiragana,
     }
 }
 

@@ -23,8 +23,8 @@ fn outcome_of(rt: &impl Abort, alloc: Global, rules: &Rules, keys: &str) -> Stri
     let mut then = PlainThen::Stay;
     let keys = read_keys(alloc, keys.as_bytes()).expect(rt, "keys");
     for key in keys.iter() {
-        let done = press_plain(alloc, &mut plain, rules, *key).expect(rt, "memory");
-        inserted.push_str(done.insert.as_str()).expect(rt, "memory");
+        let done = press_plain(&mut plain, rules, *key);
+        done.insert.push_to(&mut inserted).expect(rt, "memory");
         then = done.then;
     }
     outcome_text(rt, alloc, &plain, inserted.as_str(), then)
@@ -64,4 +64,30 @@ fn expect_case<R: Abort>(rt: &R, alloc: Global, rules: &Rules, case: &str) {
     let (keys, wanted) = case.split_once('=').expect(rt, "no `=`");
     let outcome = outcome_of(rt, alloc, rules, keys);
     same_at(outcome.as_str(), wanted, keys).expect(rt, "as wanted");
+}
+
+#[test]
+fn what_a_key_inserts_fits_where_its_bytes_do(rt: HostRuntime) {
+    let alloc = rt.alloc();
+    let rules = Rules::standard(alloc).expect(&rt, "memory");
+    expect_bytes(&rt, alloc, &rules, "a", 3);
+    expect_bytes(&rt, alloc, &rules, "kk", 3);
+    expect_bytes(&rt, alloc, &rules, "n ", 4);
+    expect_bytes(&rt, alloc, &rules, "kya", 6);
+    expect_bytes(&rt, alloc, &rules, "lA", 1);
+    expect_bytes(&rt, alloc, &rules, "LA", 3);
+    expect_bytes(&rt, alloc, &rules, "<tab>", 0);
+}
+
+// The last key inserts so many bytes in UTF-8, and fits into no smaller room.
+fn expect_bytes<R: Abort>(rt: &R, alloc: Global, rules: &Rules, keys: &str, bytes: usize) {
+    let mut plain = Plain::new();
+    let keys = read_keys(alloc, keys.as_bytes()).expect(rt, "keys");
+    let (last, first) = keys.as_slice().split_last().expect(rt, "a key");
+    for key in first {
+        drop(press_plain(&mut plain, rules, *key));
+    }
+    let insert = press_plain(&mut plain, rules, *last).insert;
+    same(insert.fits_in(bytes), true).expect(rt, "fits");
+    same(bytes > 0 && insert.fits_in(bytes - 1), false).expect(rt, "fits in less");
 }

@@ -7,6 +7,7 @@ pub mod FileRules
 pub mod Fits
 pub mod Found
 pub mod ReadLines
+pub mod Rooms
 pub mod Rows
 pub mod Step
 pub mod Tries

@@ -1,5 +1,6 @@
 -- What comes out of the rules in one kana, and the pieces of it.
-use Rattle.std.specs.Prelude.{ℕ, List}
+use Rattle.std.specs.Prelude.{ℕ, ◌-◌, nat_le, if◌then◌else◌, None, Some, Option, List}
+use Rattle.skk_text.specs.Text.{byte_len}
 use Rattle.romaji_rules.specs.declared.kana.Kana.{Kana}
 use Rattle.romaji_rules.specs.declared.kana.Kana.TheVariants.{Hiragana, Katakana}
 use Rattle.romaji_rules.specs.declared.out.Out.{Out}
@@ -17,3 +18,7 @@ abbrev pub piece_out : Piece → Out
 piece_out Nothing = nothing
 piece_out (Itself c) = itself c
 piece_out (Rule out) = out.now
+
+-- how much of a room in bytes is left behind a text, where the text fits in
+abbrev pub room_behind : ℕ → List ℕ → Option ℕ
+room_behind room text = if nat_le (byte_len text) room then Some (room - byte_len text) else None

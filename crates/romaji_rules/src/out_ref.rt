@@ -23,9 +23,16 @@ impl<'a> Model for OutRef<'a> {
 }
 
 impl<'a> OutRef<'a> {
-    ghost use Rattle.std.specs.Prelude.{◌≡◌, IfOk};
-    ghost use Rattle.romaji_rules.specs.Output.{appended};
-    ghost use Rattle.romaji_rules.specs.Pieces.{out_in, piece_out};
+    ghost use Rattle.std.specs.Prelude.{◌≡◌, ◌++◌, IfOk, OnOk};
+    ghost use Rattle.romaji_rules.specs.Output.{appended, nothing};
+    ghost use Rattle.romaji_rules.specs.Pieces.{out_in, piece_out, room_behind};
+
+    /// No output.
+    pub fn nothing() -> OutRef<'a>
+        ensures { result ≡ nothing }
+    {
+        OutRef::of(Piece::Nothing)
+    }
 
     // One piece.
     pub(crate) fn of(piece: Piece<'a>) -> OutRef<'a>
@@ -49,8 +56,24 @@ impl<'a> OutRef<'a> {
         ensures { IfOk result (λ text. text ≡ out_in kana self.now) }
     {
         let mut text = Text::new(alloc);
-        self.flushed.push_to(&mut text, kana)?;
-        self.fed.push_to(&mut text, kana)?;
+        self.push_to(&mut text, kana)?;
         Ok(text)
+    }
+
+    /// Adds the output in one kana to the end of a text. Takes time in its length. After `Memory` a part of it may
+    /// stand there.
+    pub fn push_to(&self, text: &mut Text, kana: Kana) -> Result<(), Memory>
+        ensures { OnOk result (text.new ≡ text.old ++ out_in kana self.now) }
+    {
+        self.flushed.push_to(text, kana)?;
+        self.fed.push_to(text, kana)
+    }
+
+    /// How much of a room in bytes is left behind the output in one kana, where it fits in.
+    pub fn room_behind(&self, kana: Kana, room: usize) -> Option<usize>
+        ensures { result ≡ room_behind room (out_in kana self.now) }
+    {
+        let left = self.flushed.room_behind(kana, room)?;
+        self.fed.room_behind(kana, left)
     }
 }

@@ -6,6 +6,7 @@ ghost use Rattle.session_machine.specs.Session.{fits_behind, without_chars};
 use crate::frame::{Choice, Frame, FrameState};
 use crate::session::Session;
 use crate::session_notice::SessionNotice;
+use kana_input::Insertion;
 use romaji_rules::Pending;
 use skk_text::{Memory, Notice, Text};
 use std::mem;
@@ -117,6 +118,27 @@ impl Session {
         ensures { result ≡ has_room self.now (chars piece.now) }
     {
         fits_behind(&self.frame.text, piece)
+    }
+
+    // Whether what a key of the plain state inserts fits behind the text of the frame.
+    fn has_plain_room(&self, insert: &Insertion<'_>) -> bool
+        ensures { result ≡ has_room self.now insert.now }
+    {
+        match TEXT_LIMIT.checked_sub(self.frame.text.byte_len()) {
+            Some(room) => insert.fits_in(room),
+            None => false,
+        }
+    }
+
+    // Inserts what a key of the plain state inserts, or notes that it does not fit.
+    pub(crate) fn insert_plain(&mut self, insert: &Insertion<'_>) -> Result<(), Memory>
+        ensures { OnOk result (self.new ≡ with_insertion self.old insert.now) }
+    {
+        if !self.has_plain_room(insert) {
+            self.note(Notice::Limit);
+            return Ok(());
+        }
+        insert.push_to(&mut self.frame.text)
     }
 
     // Inserts a piece at the end of the frame's text, or notes that it does not fit.

@@ -61,14 +61,15 @@ pub(crate) fn press_in_plain<C: Caller>(
     ensures { Says (plain_pressed rules.now session.old pending key) (after result session.new)
         (spoken C.number C.said caller.old) (spoken C.number C.said caller.new) }
 {
-    let then = type_plain(session, alloc, rules, pending, key)?;
-    apply_plain(session, alloc, rules, then, caller)
+    match type_plain(session, rules, pending, key)? {
+        PlainThen::Stay => Ok(()),
+        then => apply_plain(session, alloc, rules, then, caller),
+    }
 }
 
 // Gives a key to the plain state, and inserts what comes out. What else the key does is left to be done.
 fn type_plain(
     session: &mut Session,
-    alloc: Global,
     rules: &Rules,
     pending: Pending,
     key: Key,
@@ -79,14 +80,15 @@ fn type_plain(
         mode: session.frame.mode,
         pending,
     };
-    let PlainDo { insert, then } = press_plain(alloc, &mut plain, rules, key)?;
+    let PlainDo { insert, then } = press_plain(&mut plain, rules, key);
     session.frame.mode = plain.mode;
     session.put_pending(plain.pending);
-    session.insert(insert.as_str())?;
+    session.insert_plain(&insert)?;
     Ok(then)
 }
 
-// Does what a key of the plain state does behind its insertion.
+// Does what a key of the plain state does behind its insertion. Most keys do nothing, and need none of its room.
+#[inline(never)]
 #[tactic(auto, using(crate::proofs::Words::words, crate::proofs::Saying::says))]
 fn apply_plain<C: Caller>(
     session: &mut Session,
