@@ -1,8 +1,8 @@
-use command_line::{Command, read_command, words_of};
+use command_line::{Command, words_of};
 use skk_disk::Disk;
 use skk_outside::{Gate, Listener, Shelf, Sink, Source};
-use skk_text::{Memory, Text};
-use skk_top::{RunFault, run, run_alone, tell_end};
+use skk_text::Text;
+use skk_top::{RunFault, command_or_end, run, run_alone, tell_end};
 use std::alloc::Global;
 use std::sync::Wait;
 use std::thread::Threads;
@@ -24,13 +24,12 @@ pub fn status_of<H: Shelf, D: Disk + Drop, I: Source, O: Sink, E: Sink>(
     let Ok(words) = words_of(alloc, texts) else {
         return tell_end(Err(RunFault::Memory), err);
     };
-    match read_command(alloc, &words) {
-        Ok(Some(Command::Alone(command))) => {
+    match command_or_end(alloc, &words, err) {
+        Ok(Command::Alone(command)) => {
             run_alone(alloc, &command, shelf, disk, input, out, err).status
         }
-        Ok(Some(Command::Waiting(_))) => OTHER,
-        Ok(None) => tell_end(Err(RunFault::Words), err),
-        Err(Memory) => tell_end(Err(RunFault::Memory), err),
+        Ok(Command::Waiting(_)) => OTHER,
+        Err(status) => status,
     }
 }
 
@@ -59,12 +58,11 @@ pub fn status_in_threads<
     let Ok(words) = words_of(alloc, texts) else {
         return tell_end(Err(RunFault::Memory), err);
     };
-    match read_command(alloc, &words) {
-        Ok(Some(Command::Waiting(command))) => {
+    match command_or_end(alloc, &words, err) {
+        Ok(Command::Waiting(command)) => {
             run(rt, alloc, &command, shelf, disk, input, out, err, net, gate).status
         }
-        Ok(Some(Command::Alone(_))) => OTHER,
-        Ok(None) => tell_end(Err(RunFault::Words), err),
-        Err(Memory) => tell_end(Err(RunFault::Memory), err),
+        Ok(Command::Alone(_)) => OTHER,
+        Err(status) => status,
     }
 }

@@ -3,11 +3,11 @@
 
 ghost use Rattle.command_line.specs.Ranges.{HasNumbersInRange};
 
-use command_line::{Command, read_command, words_of};
+use command_line::{Command, words_of};
 use skk_disk::{Disk, FileDisk, MemDisk};
 use skk_outside::{HostListener, HostShelf, Open, ReaderSource, WriterSink};
 use skk_text::{Memory, Text};
-use skk_top::{RunFault, run, run_alone, tell_end};
+use skk_top::{RunFault, command_or_end, run, run_alone, tell_end};
 use std::io::ErrorKind;
 use std::process::ExitCode;
 use std::sync::Wait;
@@ -48,10 +48,9 @@ fn run_texts<R: Threads + Wait + Copy + Send + Sync>(
     let Ok(words) = words_of(alloc, texts) else {
         return end(host, RunFault::Memory);
     };
-    match read_command(alloc, &words) {
-        Ok(Some(command)) => run_command(host, rt, &command),
-        Ok(None) => end(host, RunFault::Words),
-        Err(Memory) => end(host, RunFault::Memory),
+    match command_or_end(alloc, &words, &mut WriterSink::new(host.stderr())) {
+        Ok(command) => run_command(host, rt, &command),
+        Err(status) => ExitCode::from(status),
     }
 }
 

@@ -19,6 +19,6 @@ pub mod Runs
 pub mod SharedLoads
 pub mod Typed
 pub mod Weaves
-pub mod Words
+pub mod PrintedTexts
 mod Disks
 mod Served

@@ -16,3 +16,4 @@ pub mod TypeCommand
 pub mod TypedTasks
 pub mod Typing
 pub mod WeaveCommand
+pub mod Words

@@ -3,7 +3,7 @@ use Rattle.std.specs.Fmt.{decimal}
 use Rattle.skk_top.specs.CheckedFiles.{reason_name}
 use Rattle.run_endings.specs.PageLaws.{each_ok}
 use Rattle.skk_top.proofs.PrintedChecks.{more}
-use Rattle.skk_top.proofs.Words.{line}
+use Rattle.skk_top.proofs.PrintedTexts.{line}
 use Rattle.skk_top.proofs.checking.push_bad_line.Goals as goal
 
 pub returns : goal.returns

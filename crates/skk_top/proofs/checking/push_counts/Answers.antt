@@ -4,7 +4,7 @@ use Rattle.skk_calls.specs.declared.part.Part.TheVariants.{Nasi, Ari}
 use Rattle.skk_top.specs.CheckedFiles.{count_of}
 use Rattle.run_endings.specs.PageLaws.{each_ok}
 use Rattle.skk_top.proofs.PrintedChecks.{more}
-use Rattle.skk_top.proofs.Words.{okuri_ari, okuri_nasi, bad}
+use Rattle.skk_top.proofs.PrintedTexts.{okuri_ari, okuri_nasi, bad}
 use Rattle.skk_top.proofs.checking.push_counts.Goals as goal
 
 pub returns : goal.returns

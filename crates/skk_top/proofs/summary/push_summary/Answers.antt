@@ -3,7 +3,7 @@ use Rattle.std.proofs.Math.Nat.{mul-le-mul}
 use Rattle.skk_top.specs.LoadCommand.{number_line}
 use Rattle.skk_top.proofs.Loads.{five-pushed, line-pushed}
 use Rattle.run_endings.specs.PageLaws.{each_ok}
-use Rattle.skk_top.proofs.Words.{lines, learned, restored, rows, bytes}
+use Rattle.skk_top.proofs.PrintedTexts.{lines, learned, restored, rows, bytes}
 use Rattle.skk_top.proofs.summary.push_summary.Goals as goal
 
 -- the lines of a load are few
