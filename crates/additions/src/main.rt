@@ -16,6 +16,9 @@ use std::process::ExitCode;
 /// The most bytes that the file may have.
 const LIMIT: u64 = 1 << 40;
 
+// The version of the learned file that is filled.
+const VERSION: u8 = 1;
+
 /// What is added each time: as many bytes as the first learning of a word takes.
 const PAYLOAD: [u8; 38] = [b'a'; 38];
 
@@ -48,7 +51,7 @@ fn end_of(rt: &HostRuntime) -> Option<u64> {
 
 // Adds so many records to the learned file of a disk, and gives its end.
 fn add_all<D: Disk + Drop>(alloc: Global, disk: D, count: u32) -> Option<u64> {
-    let (journal, _records) = Journal::open(alloc, disk).ok()?;
+    let (journal, _records) = Journal::open(alloc, disk, VERSION).ok()?;
     let mut journal = journal;
     for _ in 0..count {
         add(&mut journal)?;

@@ -10,10 +10,11 @@ use Rattle.candidate_state.specs.declared.cands_do.AfterChoose.TheVariants.{Noth
 use Rattle.candidate_state.specs.declared.cands_do.CandsDo.{CandsDo}
 use Rattle.candidate_state.specs.declared.cands_do.CandsDo.TheVariants.{Stay, Back, Register, Purge, Choose}
 use Rattle.candidate_state.specs.Picking.{Picking, PickingStep, is_single, begins_view, is_picking, new_picking}
-use Rattle.candidate_state.specs.Picking.{place_named, says_yes, picking_step}
+use Rattle.candidate_state.specs.Picking.{annotated, place_named, says_yes, picking_step}
 use Rattle.candidate_state.specs.declared.shown.Found.{Found}
 use Rattle.candidate_state.specs.declared.shown.ShownCands.TheVariants.{Numbered}
 use Rattle.candidate_state.specs.Shown.{Shown, shown_word, first_shown, shown_plain, shown_numbers, shown_cands}
+use Rattle.candidate_state.specs.Shown.{changed_at, renewed, with_cand}
 
 -- Candidates that are shown
 
@@ -74,6 +75,26 @@ list_shown : map {B = List ℕ × List ℕ} (λ (s : Shown). (s.key.reading, s.t
 }))) ≡ (codes "a", codes "x") ∷ (codes "b", codes "1") ∷ []
 list_shown = refl
 
+-- New notes
+
+-- a list with its second item changed, with its first, and with none behind its end
+changes : map (λ place. changed_at (λ n. n + 10) (1 ∷ 2 ∷ 3 ∷ []) place) (1 ∷ 0 ∷ 3 ∷ [])
+    ≡ (1 ∷ 12 ∷ 3 ∷ []) ∷ (11 ∷ 2 ∷ 3 ∷ []) ∷ (1 ∷ 2 ∷ 3 ∷ []) ∷ []
+changes = refl
+
+-- a candidate of the same word takes the place, with its note, and one of another word does not
+renewals : map (λ put. renewed put (cand (codes "漢字") (codes "x")))
+    (cand (codes "漢字") (codes "*よい") ∷ cand (codes "漢字") [] ∷ cand (codes "幹事") (codes "*よい") ∷ [])
+    ≡ cand (codes "漢字") (codes "*よい") ∷ cand (codes "漢字") [] ∷ cand (codes "漢字") (codes "x") ∷ []
+renewals = refl
+
+-- the candidate of a number key keeps the text that it is shown as, and all others are as they were
+notes_put : map (λ place. with_cand (shown_as (codes "#0") [] (codes "1") ∷ shown_as (codes "#1") [] (codes "１") ∷ [])
+    place (cand (codes "#1") (codes "*全角"))) (1 ∷ 0 ∷ [])
+    ≡ (shown_as (codes "#0") [] (codes "1") ∷ shown_as (codes "#1") (codes "*全角") (codes "１") ∷ [])
+    ∷ (shown_as (codes "#0") [] (codes "1") ∷ shown_as (codes "#1") [] (codes "１") ∷ []) ∷ []
+notes_put = refl
+
 -- Pickings
 
 -- so many candidates, whose words are the characters from one on
@@ -105,6 +126,16 @@ pickings = refl
 
 first_picked : new_picking (some_from (code "A") 5) ≡ at 5 0
 first_picked = refl
+
+-- the candidate that is picked gets a note, and the place and the question stay
+abbrev noted : List Shown
+noted =
+    shown_as (codes "A") [] (codes "A") ∷ shown_as (codes "B") (codes "*n") (codes "B")
+    ∷ shown_as (codes "C") [] (codes "C") ∷ []
+
+picked_noted : map (λ picking. annotated picking (cand (codes "B") (codes "*n"))) (at 3 1 ∷ asking_at 3 1 ∷ at 3 2 ∷ [])
+    ≡ record (at 3 1) { shown = noted } ∷ record (asking_at 3 1) { shown = noted } ∷ at 3 2 ∷ []
+picked_noted = refl
 
 -- Keys
 

@@ -1,2 +1,3 @@
 mod Examples
+mod Puts
 mod ShownWords

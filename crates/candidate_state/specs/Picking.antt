@@ -5,7 +5,8 @@ use Rattle.skk_text.specs.Characters.{code}
 use Rattle.skk_text.specs.declared.key.Key.{Key}
 use Rattle.skk_text.specs.declared.key.Key.TheVariants.{Char, Cj, Cg, Bs, Ret, Tab, Undo}
 use Rattle.skk_text.specs.declared.notice.Notice.TheVariants as notices
-use Rattle.candidate_state.specs.Shown.{Shown}
+use Rattle.skk_calls.specs.Rows.{Cand}
+use Rattle.candidate_state.specs.Shown.{Shown, with_cand}
 use Rattle.candidate_state.specs.declared.cands_do.AfterChoose.{AfterChoose}
 use Rattle.candidate_state.specs.declared.cands_do.AfterChoose.TheVariants.{Nothing, Delete, Newline, OpenSuffix, Read}
 use Rattle.candidate_state.specs.declared.cands_do.CandsDo.{CandsDo}
@@ -44,6 +45,10 @@ is_picking picking =
 -- the first candidate is picked, of those that are shown
 abbrev pub new_picking : List Shown → Picking
 new_picking shown = record { shown = shown; place = 0; question = false }
+
+-- a picking whose picked candidate, the single one or the first of the page, has another of its word in its place
+abbrev pub annotated : Picking → Cand → Picking
+annotated picking cand = record picking { shown = with_cand picking.shown picking.place cand }
 
 -- a key's step: the picking after it, and what is done
 pub record PickingStep : Type 0 where

@@ -1,8 +1,8 @@
 -- Candidates as they are shown.
-use Rattle.std.specs.Prelude.{◌≡◌, ℕ, true, false, if◌then◌else◌, List, [], ◌++◌, map}
+use Rattle.std.specs.Prelude.{◌≡◌, ℕ, zero, suc, true, false, if◌then◌else◌, List, [], ◌∷◌, ◌++◌, map}
 use Rattle.numeric_entries.specs.Forms.{fill}
 use Rattle.skk_calls.specs.Found.{first_of_each}
-use Rattle.skk_calls.specs.Rows.{RowKey, Cand}
+use Rattle.skk_calls.specs.Rows.{RowKey, Cand, same_text}
 use Rattle.candidate_state.specs.declared.numbered.FirstTexts.{FirstTexts}
 use Rattle.candidate_state.specs.declared.numbered.TextCand.{TextCand}
 use Rattle.candidate_state.specs.declared.shown.BothFound.{BothFound}
@@ -40,6 +40,26 @@ shown_numbers found numbers firsts =
     first_shown (map (shown_word found.plain.key) found.plain.cands
     ++ map (shown_filled found.numbered.key numbers firsts) found.numbered.cands)
 
+-- New notes
+
+-- a list in which the item of a place is changed
+abbrev pub changed_at : {A : Type 0} → (A → A) → List A → ℕ → List A
+changed_at change [] place = []
+changed_at change (first ∷ items) zero = change first ∷ items
+changed_at change (first ∷ items) (suc place) = first ∷ changed_at change items place
+
+-- a candidate with another of its word in its place: that one has a new note. One of another word changes nothing
+abbrev pub renewed : Cand → Cand → Cand
+renewed cand found = if same_text found.word cand.word then cand else found
+
+-- the same of a candidate that is shown, whose key and whose text stay
+abbrev pub shown_renewed : Cand → Shown → Shown
+shown_renewed cand shown = record shown { cand = renewed cand shown.cand }
+
+-- the candidates that are shown, of which that of a place has another of its word in its place
+abbrev pub with_cand : List Shown → ℕ → Cand → List Shown
+with_cand shown place cand = changed_at (shown_renewed cand) shown place
+
 -- Lists that are shown
 
 -- the text that is shown for a candidate
@@ -66,6 +86,10 @@ has_texts first = first.texts ≡ map text_of first.cands
 abbrev pub shown_with_text : RowKey → RowKey → TextCand → Shown
 shown_with_text key number_key shown =
     record { key = if shown.is_numbered then number_key else key; cand = shown.cand; text = shown.text }
+
+-- a candidate with its text, with another of its word in its place: its text and its key stay
+abbrev pub text_renewed : Cand → TextCand → TextCand
+text_renewed cand shown = record shown { cand = renewed cand shown.cand }
 
 -- the candidates of a list as they are shown
 abbrev pub shown_cands : ShownCands → List Shown

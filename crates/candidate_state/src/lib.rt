@@ -4,7 +4,7 @@
 //! look-up found, which it moves, and `shown_numbers` those of a reading with numbers, filled. `press_cands` reads a
 //! key: it goes on to the next candidate or page or back, asks whether one is to be purged, or tells the session to
 //! choose, to purge, to register or to go back to the reading. It takes no memory and constant time, however many
-//! candidates there are.
+//! candidates there are. `Picking::annotate` gives the candidate that is picked a new note.
 #![tactic(auto)]
 
 mod cands_do;

@@ -2,11 +2,12 @@ ghost use Rattle.std.specs.Prelude.{◌≡◌, ◌++◌, map, true, length, IfOk
 ghost use Rattle.numeric_entries.specs.Numbers.{are_numbers};
 ghost use Rattle.candidate_state.specs.Shown.{first_texts, with_fill, with_word};
 
-use crate::shown::{BothFound, Shown};
+use crate::shown::{BothFound, Shown, is_same_word};
 use numeric_entries::fill;
 use skk_calls::{Cand, Cands, RowKey};
 use skk_text::{Copies, Memory, Sequence, Text, Texts};
 use std::alloc::Global;
+use std::mem;
 use word_sets::WordSet;
 
 /// A candidate with the text that is shown for it, and whether it was found under the number key.
@@ -31,7 +32,7 @@ pub struct NumberedList {
 
 impl NumberedList {
     ghost use Rattle.std.specs.Prelude.{◌≡◌, ◌<◌, length, map, slice_get, Some};
-    ghost use Rattle.candidate_state.specs.Shown.{shown_with_text};
+    ghost use Rattle.candidate_state.specs.Shown.{changed_at, shown_with_text, text_renewed};
 
     // The candidate of a place, counted from 0. Takes constant time.
     pub(crate) fn at(&self, place: usize) -> Shown<'_>
@@ -49,6 +50,21 @@ impl NumberedList {
             cand: &shown.cand,
             text: &shown.text,
         }
+    }
+
+    // Puts another candidate in the place of that of a place, where it has its word: its text and its key stay.
+    // Takes no memory, and time in the word.
+    #[tactic(auto, using(crate::proofs::Puts::changes))]
+    pub(crate) fn put(&mut self, alloc: Global, place: usize, cand: Cand)
+        requires { place < length self.old.cands }
+        ensures { self.new ≡ record self.old { cands = changed_at (text_renewed cand) self.old.cands place } }
+    {
+        if !is_same_word(&self.cands.at(place).cand, &cand) {
+            return;
+        }
+        let mut items = mem::replace(&mut self.cands, TextCands::new(alloc)).into_vec();
+        items[place].cand = cand;
+        self.cands = TextCands::of(items);
     }
 }
 

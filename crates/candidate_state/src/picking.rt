@@ -1,4 +1,5 @@
 use crate::shown::ShownList;
+use skk_calls::Cand;
 use skk_text::{Copies, Memory};
 use std::alloc::Global;
 use std::marker::Model;
@@ -24,7 +25,7 @@ impl Model for Picking {
 
 impl Picking {
     ghost use Rattle.std.specs.Prelude.{◌≡◌, ◌<◌, true, false, length};
-    ghost use Rattle.candidate_state.specs.Picking.{begins_view, is_picking, is_single, new_picking};
+    ghost use Rattle.candidate_state.specs.Picking.{annotated, begins_view, is_picking, is_single, new_picking};
 
     /// The first candidate is picked.
     pub fn new(shown: ShownList) -> Picking
@@ -67,6 +68,15 @@ impl Picking {
         ensures { result ≡ is_single self.now.place }
     {
         self.place < SINGLES
+    }
+
+    /// Gives the candidate that is picked a new note: another of its word stands in its place, with its key and the
+    /// text that is shown for it. One of another word changes nothing. Takes no memory, and time in the word.
+    #[tactic(auto, using(crate::proofs::Puts::counts))]
+    pub fn annotate(&mut self, alloc: Global, cand: Cand)
+        ensures { self.new ≡ annotated self.old cand }
+    {
+        self.shown.put(alloc, self.place, cand);
     }
 
     // Goes to another place.

@@ -1,12 +1,14 @@
 ghost use Rattle.std.specs.Prelude.{◌≡◌, ◌<◌, true, length, map, slice_get, Some, IfOk};
 ghost use Rattle.numeric_entries.specs.Numbers.{are_numbers};
-ghost use Rattle.candidate_state.specs.Shown.{shown_plain, shown_numbers, shown_word};
+ghost use Rattle.skk_calls.specs.Rows.{same_text};
+ghost use Rattle.candidate_state.specs.Shown.{changed_at, renewed, shown_plain, shown_numbers, shown_word};
 
 use crate::numbered::{NumberedList, numbered_list};
 use skk_calls::{Cand, Cands, DistinctCands, RowKey};
 use skk_text::{Copies, Memory, Text, Texts};
 use std::alloc::Global;
 use std::marker::Model;
+use std::mem;
 
 /// What was found of a key.
 #[derive(Drop)]
@@ -89,6 +91,7 @@ pub fn shown_numbers(
 
 impl ShownList {
     ghost use Rattle.std.specs.Prelude.{◌≡◌, ◌<◌, length, slice_get, Some};
+    ghost use Rattle.candidate_state.specs.Shown.{with_cand};
 
     /// How many candidates there are.
     pub fn len(&self) -> usize
@@ -109,6 +112,19 @@ impl ShownList {
         match &self.cands {
             ShownCands::Words { key, cands } => word_at(key, cands, place),
             ShownCands::Numbered(list) => list.at(place),
+        }
+    }
+
+    // Puts another candidate in the place of that of a place, where it has its word: its key and the text that is
+    // shown stay. Takes no memory, and time in the word.
+    #[tactic(auto, using(crate::proofs::Puts::puts))]
+    pub(crate) fn put(&mut self, alloc: Global, place: usize, cand: Cand)
+        requires { place < length self.old }
+        ensures { self.new ≡ with_cand self.old place cand }
+    {
+        match &mut self.cands {
+            ShownCands::Words { cands, .. } => put_cand(alloc, cands, place, cand),
+            ShownCands::Numbered(list) => list.put(alloc, place, cand),
         }
     }
 }
@@ -145,4 +161,25 @@ fn word_at<'a>(key: &'a RowKey, cands: &'a Cands, place: usize) -> Shown<'a>
         cand,
         text: cand.word(),
     }
+}
+
+// Puts another candidate in the place of that of a place, where it has its word.
+#[tactic(auto, using(crate::proofs::Puts::changes))]
+fn put_cand(alloc: Global, cands: &mut Cands, place: usize, cand: Cand)
+    requires { place < length cands.old }
+    ensures { cands.new ≡ changed_at (renewed cand) cands.old place }
+{
+    if !is_same_word(cands.at(place), &cand) {
+        return;
+    }
+    let mut items = mem::replace(cands, Cands::new(alloc)).into_vec();
+    items[place] = cand;
+    *cands = Cands::of(items);
+}
+
+// Whether two candidates have the same word.
+pub(crate) fn is_same_word(cand: &Cand, other: &Cand) -> bool
+    ensures { result ≡ same_text cand.now.word other.now.word }
+{
+    cand.word().as_str() == other.word().as_str()
 }

@@ -1,11 +1,13 @@
 -- A candidate that is learnt again.
-use Rattle.std.proofs.Common.{◌≡◌, ℕ, Bool, true, false, cond, Option, None, Some, List, [], ◌∷◌, refl, ◌∙◌, ap}
+use Rattle.std.proofs.Common.{◌≡◌, ℕ, Bool, true, false, cond, ◌||◌, arith, Option, None, Some, List, [], ◌∷◌, refl}
+use Rattle.std.proofs.Common.{◌∙◌, ap}
 use Rattle.skk_calls.specs.KeyLaws.{same_itself}
 use Rattle.skk_calls.specs.declared.part.Part.{Part}
 use Rattle.skk_calls.specs.declared.part.Part.TheVariants.{Nasi, Ari}
 use Rattle.skk_text.specs.Lists.{is_empty}
 use Rattle.skk_calls.specs.Found.{note_of}
-use Rattle.skk_calls.specs.Learning.{without_text, without_word, learnt_note, learnt_cands, blocks_with_word}
+use Rattle.skk_calls.specs.Learning.{without_text, without_word, is_own_note, learnt_note, learnt_cands}
+use Rattle.skk_calls.specs.Learning.{blocks_with_word}
 use Rattle.skk_calls.specs.Learning.{learnt_blocks, learnt, row_or_empty}
 use Rattle.skk_calls.specs.Rows.{RowKey, Cand, Block, Row, same_text}
 use Rattle.dict_laws.proofs.Texts.{without_twice, without_word_twice}
@@ -13,12 +15,19 @@ use Rattle.dict_laws.proofs.Texts.{without_twice, without_word_twice}
 -- the note of a candidate that stands at the front already
 pub note_learnt_again : (cands : List Cand) (cand : Cand)
     → learnt_note (learnt_cands cands cand) cand ≡ learnt_note cands cand
-note_learnt_again cands cand = rw (same_itself cand.word) (by (is_empty cand.note))
+note_learnt_again cands cand =
+    rw (same_itself cand.word)
+    (by (is_own_note (note_of cands cand.word)) refl (is_empty cand.note) refl (is_own_note cand.note))
   where
-    by : (b : Bool)
-        → cond b (cond b (note_of cands cand.word) cand.note) cand.note ≡ cond b (note_of cands cand.word) cand.note
-    by true = refl
-    by false = refl
+    known : List ℕ
+    known = note_of cands cand.word
+
+    by : (own : Bool) → is_own_note known ≡ own → (none : Bool) → is_empty cand.note ≡ none → (again : Bool)
+        → cond (is_own_note (cond (own || none) known cand.note) || none) (cond (own || none) known cand.note) cand.note
+        ≡ cond (own || none) known cand.note
+    by true e none f again = rw e refl
+    by false e true f again = grind arith
+    by false e false f again = grind arith
 
 -- the candidates after a candidate is learnt again
 pub cands_learnt_again : (cands : List Cand) (cand : Cand)

@@ -4,10 +4,10 @@ use Rattle.std.proofs.lemmas.Bool.{and_parts, eqb-true}
 use Rattle.skk_calls.specs.KeyLaws.{same_key_itself}
 use Rattle.skk_calls.specs.declared.book.NumberedBook.{NumberedBook}
 use Rattle.skk_calls.specs.declared.call.Call.{Call}
-use Rattle.skk_calls.specs.declared.call.Call.TheVariants.{Lookup, Complete, Learn, Purge, Unlearn}
+use Rattle.skk_calls.specs.declared.call.Call.TheVariants.{Lookup, Complete, Learn, Purge, Annotate, Unlearn}
 use Rattle.skk_calls.specs.Dictionary.{after, moves, state_moved, is_call, is_row_or_none, speaks_of}
 use Rattle.skk_calls.specs.Found.{found}
-use Rattle.skk_calls.specs.Learning.{learnt, purged, unlearnt, is_valid_learned}
+use Rattle.skk_calls.specs.Learning.{learnt, purged, annotated, unlearnt, is_valid_learned}
 use Rattle.skk_calls.specs.Rows.{RowKey, Row, same_key, is_row_key}
 use Rattle.skk_calls.specs.States.{State, row_in, book_rows, book_count, row_at, count_of, state_with}
 use Rattle.dict_laws.specs.ChangedStates.{after_moved, before_has_key, has_key}
@@ -61,6 +61,10 @@ moved_leaves state (Purge number key word) book other typed e =
     let stamp = count_of state number + 1 in
     other_row state number stamp key (Some (purged (row_at state number key) key word stamp)) book other
     (same_key_itself key) e
+moved_leaves state (Annotate number key cand) book other typed e =
+    let stamp = count_of state number + 1 in
+    other_row state number stamp key (Some (annotated (row_at state number key) key cand stamp)) book other
+    (same_key_itself key) e
 moved_leaves state (Unlearn learned) book other typed e =
     other_row state learned.book (count_of state learned.book) learned.key (unlearnt learned) book other
     (before_has_key learned.key learned.stamp learned.before
@@ -96,6 +100,9 @@ moved_counts state (Learn number key okuri cand) book silent =
 moved_counts state (Purge number key word) book silent =
     let stamp = count_of state number + 1 in
     other_count state number stamp key (Some (purged (row_at state number key) key word stamp)) book (silent key)
+moved_counts state (Annotate number key cand) book silent =
+    let stamp = count_of state number + 1 in
+    other_count state number stamp key (Some (annotated (row_at state number key) key cand stamp)) book (silent key)
 moved_counts state (Unlearn learned) book silent =
     other_count state learned.book (count_of state learned.book) learned.key (unlearnt learned) book
     (silent learned.key)

@@ -1,3 +1,5 @@
+pub mod AnnotatedRows
+pub mod AnnotationsTold
 pub mod AnsweredAlone
 pub mod Counting
 pub mod FirstLayer

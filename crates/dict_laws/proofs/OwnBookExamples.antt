@@ -6,7 +6,7 @@ use Rattle.skk_calls.specs.declared.answer.Answer.TheVariants.{Done, Refused}
 use Rattle.skk_calls.specs.declared.answer.Refusal.TheVariants.{Memory}
 use Rattle.skk_calls.specs.declared.answer.Reply.TheVariants as replies
 use Rattle.skk_calls.specs.declared.call.Call.{Call}
-use Rattle.skk_calls.specs.declared.call.Call.TheVariants.{Lookup, Complete, Learn, Purge, Unlearn}
+use Rattle.skk_calls.specs.declared.call.Call.TheVariants.{Lookup, Complete, Learn, Purge, Annotate, Unlearn}
 use Rattle.skk_calls.specs.declared.part.Part.TheVariants.{Nasi}
 use Rattle.skk_calls.specs.declared.entry.Entry.{Entry}
 use Rattle.skk_calls.specs.Interactions.{Interaction, ends, asks, prints}
@@ -30,20 +30,20 @@ learned book = record { book = book; key = key; stamp = 7; before = None }
 abbrev calls : ℕ → List Call
 calls typist =
     Lookup typist key None ∷ Complete typist [] ∷ Learn typist key None cand ∷ Purge typist key []
-    ∷ Unlearn (learned typist)
+    ∷ Annotate typist key cand ∷ Unlearn (learned typist)
     ∷ []
 
-owners_of_calls : map owner (calls 3) ≡ 3 ∷ 3 ∷ 3 ∷ 3 ∷ 3 ∷ []
+owners_of_calls : map owner (calls 3) ≡ 3 ∷ 3 ∷ 3 ∷ 3 ∷ 3 ∷ 3 ∷ []
 owners_of_calls = refl
 
-own_calls : map (is_own 3) (calls 3) ≡ true ∷ true ∷ true ∷ true ∷ true ∷ []
+own_calls : map (is_own 3) (calls 3) ≡ true ∷ true ∷ true ∷ true ∷ true ∷ true ∷ []
 own_calls = refl
 
 -- those of another typist, and those on the shared book, are not the typist's own
-other_calls : map (is_own 2) (calls 3) ≡ false ∷ false ∷ false ∷ false ∷ false ∷ []
+other_calls : map (is_own 2) (calls 3) ≡ false ∷ false ∷ false ∷ false ∷ false ∷ false ∷ []
 other_calls = refl
 
-shared_calls : map (is_own 2) (calls 0) ≡ false ∷ false ∷ false ∷ false ∷ false ∷ []
+shared_calls : map (is_own 2) (calls 0) ≡ false ∷ false ∷ false ∷ false ∷ false ∷ false ∷ []
 shared_calls = refl
 
 -- States

@@ -1,3 +1,4 @@
+pub mod AnnotatedRows
 pub mod ChangedStates
 pub mod Filtered
 pub mod OtherRows

@@ -4,7 +4,7 @@ use Rattle.skk_calls.specs.declared.answer.Answer.{Answer}
 use Rattle.skk_calls.specs.declared.answer.Answer.TheVariants.{Done}
 use Rattle.skk_calls.specs.declared.answer.Reply.TheVariants as replies
 use Rattle.skk_calls.specs.declared.call.Call.{Call}
-use Rattle.skk_calls.specs.declared.call.Call.TheVariants.{Lookup, Complete, Learn, Purge, Unlearn}
+use Rattle.skk_calls.specs.declared.call.Call.TheVariants.{Lookup, Complete, Learn, Purge, Annotate, Unlearn}
 use Rattle.skk_calls.specs.declared.entry.Entry.{Entry}
 use Rattle.skk_calls.specs.Interactions.{Interaction, ends, asks, prints, Dialog}
 use Rattle.skk_calls.specs.States.{State, rows_of, count_of}
@@ -15,6 +15,7 @@ owner (Lookup who key okuri) = who
 owner (Complete who prefix) = who
 owner (Learn book key okuri cand) = book
 owner (Purge book key word) = book
+owner (Annotate book key cand) = book
 owner (Unlearn learned) = learned.book
 
 -- a call is a typist's own: it is made for the typist, or it changes the typist's book

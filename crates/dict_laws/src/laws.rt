@@ -1,5 +1,5 @@
 ghost use Rattle.std.specs.Prelude.{◌≡◌, ◌≢◌, ◌≤◌, ◌+◌, ℕ, List, [], ◌∷◌, ◌++◌, Option, Some, None, length, not, true};
-ghost use Rattle.std.specs.Prelude.{false};
+ghost use Rattle.std.specs.Prelude.{false, if◌then◌else◌};
 ghost use Rattle.std.specs.List.{list_all};
 ghost use Rattle.std.specs.Option.{IfSome};
 ghost use Rattle.skk_calls.specs.declared.call.Call.{Call};
@@ -9,12 +9,13 @@ ghost use Rattle.skk_calls.specs.declared.entry.Entry.{Entry};
 ghost use Rattle.skk_calls.specs.Completions.{completions, completion_limit, goes_on_from};
 ghost use Rattle.skk_calls.specs.Dictionary.{answer, after, is_call, is_fit, is_okuri_or_none, is_row_or_none};
 ghost use Rattle.skk_calls.specs.Dictionary.{is_stamped, speaks_of};
-ghost use Rattle.skk_calls.specs.Found.{found, merged, ordered};
+ghost use Rattle.skk_calls.specs.Found.{found, merged, note_of, ordered};
 ghost use Rattle.skk_calls.specs.Histories.{Opening, IsLegal, state_after, changes, after_calls};
-ghost use Rattle.skk_calls.specs.Learning.{learnt, purged, purge_changes};
+ghost use Rattle.skk_calls.specs.Learning.{learnt, purged, purge_changes, annotated, annotation_changes};
+ghost use Rattle.skk_calls.specs.Learning.{is_own_note, row_or_empty};
 ghost use Rattle.skk_calls.specs.Orders.{text_less};
-ghost use Rattle.skk_calls.specs.Rows.{RowKey, Cand, Row, Learned, has_text, texts_differ, words_of, is_row_key};
-ghost use Rattle.skk_calls.specs.Rows.{is_cand, is_row};
+ghost use Rattle.skk_calls.specs.Rows.{RowKey, Cand, Row, Learned, has_text, same_text, texts_differ, words_of};
+ghost use Rattle.skk_calls.specs.Rows.{is_cand, is_row, is_row_key};
 ghost use Rattle.skk_calls.specs.States.{State, rows_of, row_at, count_of, is_valid};
 ghost use Rattle.skk_calls.specs.Tallies.{empty_tally, tally_with, tally_of};
 ghost use Rattle.skk_calls.specs.Walks.{texts_ascend, next_above, is_least_above};
@@ -71,7 +72,16 @@ pub fn learning_twice_is_learning_once()
         learnt (Some (learnt before key okuri cand first)) key okuri cand second ≡ learnt before key okuri cand second }
 {}
 
-/// What is made of a row, or of none, by a candidate that is learnt or a word that is purged keeps what a row keeps.
+/// A note of the user's own stays with its word, whatever is learnt.
+pub fn learning_keeps_own_notes()
+    ensures { (before : Option Row) (key : RowKey) (okuri : Option (List ℕ)) (cand : Cand) (stamp : ℕ) →
+        is_own_note (note_of (row_or_empty key before).cands cand.word) ≡ true →
+        note_of (learnt before key okuri cand stamp).cands cand.word
+        ≡ note_of (row_or_empty key before).cands cand.word }
+{}
+
+/// What is made of a row, or of none, by a candidate that is learnt or annotated or a word that is purged keeps what a
+/// row keeps.
 pub fn changed_rows_are_rows()
     ensures learnt { (before : Option Row) (key : RowKey) (okuri : Option (List ℕ)) (cand : Cand) (stamp : ℕ) →
         is_row_key key ≡ true → IfSome before (λ row. row.key ≡ key) → is_row_or_none before ≡ true →
@@ -79,6 +89,9 @@ pub fn changed_rows_are_rows()
     ensures purged { (before : Option Row) (key : RowKey) (word : List ℕ) (stamp : ℕ) →
         is_row_key key ≡ true → IfSome before (λ row. row.key ≡ key) → is_row_or_none before ≡ true →
         is_row (purged before key word stamp) ≡ true }
+    ensures annotated { (before : Option Row) (key : RowKey) (cand : Cand) (stamp : ℕ) →
+        is_row_key key ≡ true → IfSome before (λ row. row.key ≡ key) → is_row_or_none before ≡ true →
+        is_cand cand ≡ true → is_row (annotated before key cand stamp) ≡ true }
 {}
 
 /// A purge is told to change something exactly where it makes another row.
@@ -87,6 +100,31 @@ pub fn purges_are_told_to_change_what_they_change()
         → purged (Some row) row.key word row.stamp ≡ row }
     ensures alters { (row : Row) (word : List ℕ) → purge_changes (Some row) row.key word ≡ true
         → purged (Some row) row.key word row.stamp ≢ row }
+{}
+
+/// An annotation is told to change something exactly where it makes another row.
+pub fn annotations_are_told_to_change_what_they_change()
+    ensures leaves { (row : Row) (cand : Cand) → is_row row ≡ true → annotation_changes (Some row) row.key cand ≡ false
+        → annotated (Some row) row.key cand row.stamp ≡ row }
+    ensures alters { (row : Row) (cand : Cand) → annotation_changes (Some row) row.key cand ≡ true
+        → annotated (Some row) row.key cand row.stamp ≢ row }
+{}
+
+/// An annotation keeps the order of the candidates, with a new one at the end; its word has the note and is hidden no
+/// more, and every other word keeps its note.
+pub fn annotations_keep_the_order()
+    ensures order { (before : Option Row) (key : RowKey) (cand : Cand) (stamp : ℕ) →
+        words_of (annotated before key cand stamp).cands
+        ≡ if has_text (words_of (row_or_empty key before).cands) cand.word
+        then words_of (row_or_empty key before).cands
+        else words_of (row_or_empty key before).cands ++ cand.word ∷ [] }
+    ensures note { (before : Option Row) (key : RowKey) (cand : Cand) (stamp : ℕ) →
+        note_of (annotated before key cand stamp).cands cand.word ≡ cand.note }
+    ensures others { (before : Option Row) (key : RowKey) (cand : Cand) (stamp : ℕ) (word : List ℕ) →
+        same_text cand.word word ≡ false →
+        note_of (annotated before key cand stamp).cands word ≡ note_of (row_or_empty key before).cands word }
+    ensures shown { (before : Option Row) (key : RowKey) (cand : Cand) (stamp : ℕ) →
+        has_text (annotated before key cand stamp).hides cand.word ≡ false }
 {}
 
 /// A row hides no word of its own: of the first layer every candidate is found, in its order.

@@ -1,8 +1,7 @@
 -- Blocks with a word at the front and without a word, and the candidate that stands first.
-use Rattle.std.proofs.Common.{◌≡◌, ℕ, Bool, true, false, cond, ◌||◌, not, nat_le, Some, Option, List, []}
+use Rattle.std.proofs.Common.{◌≡◌, ℕ, Bool, true, false, cond, ◌||◌, not, nat_le, None, Some, Option, List, []}
 use Rattle.std.proofs.Common.{◌∷◌, length, find, refl, sym, ap, ◌∙◌, arith}
 use Rattle.std.specs.List.{list_all, list_any}
-use Rattle.std.specs.Option.{unwrap_or}
 use Rattle.std.proofs.lemmas.Bool.{and_from}
 use Rattle.std.proofs.lemmas.Bool.Decides.{nat_tests}
 use Rattle.skk_text.specs.PairsLaws.{list_all-filter, all_pairs-filter}
@@ -10,7 +9,7 @@ use Rattle.skk_text.specs.Lists.{is_empty}
 use Rattle.skk_calls.specs.DifferLaws.{differ_front}
 use Rattle.skk_calls.specs.Found.{note_of}
 use Rattle.skk_calls.specs.KeyLaws.{same_equal}
-use Rattle.skk_calls.specs.Learning.{block_without, learnt_note, without_text}
+use Rattle.skk_calls.specs.Learning.{block_without, is_own_note, learnt_note, without_text}
 use Rattle.skk_calls.specs.RowLaws.{block_from_parts, block_parts, cand_word}
 use Rattle.skk_calls.specs.Rows.{Cand, Block, same_text, texts_differ, is_cand, is_block, is_okuri, is_word}
 use Rattle.skk_calls.specs.Rows.{words_of}
@@ -60,30 +59,67 @@ pub word_among : (test : List ℕ → Bool) (cands : List Cand)
 word_among test [] = refl
 word_among test (cand ∷ cands) = ap (λ b. test cand.word || b) (word_among test cands)
 
--- a candidate whose note is empty, or the first with its word, is that word with the note that is learnt
-first_noted : (cands : List Cand) (cand : Cand) → cand.note ≡ []
-    → unwrap_or (find (λ other. same_text other.word cand.word) cands) cand
-    ≡ record { word = cand.word; note = note_of cands cand.word }
-first_noted [] cand e = ap (λ note. record { word = cand.word; note = note }) e
-first_noted (other ∷ cands) cand e = by (same_text other.word cand.word) refl (first_noted cands cand e)
+-- the first candidate with a word is the word with its note
+found_noted : (cands : List Cand) (word : List ℕ) (found : Cand)
+    → find (λ other. same_text other.word word) cands ≡ Some found
+    → found ≡ record { word = word; note = note_of cands word }
+found_noted [] word found e = cc
+found_noted (other ∷ cands) word found e =
+    by (same_text other.word word) refl e (found_noted cands word found)
   where
-    found : Option Cand
-    found = find (λ o. same_text o.word cand.word) cands
+    among : Option Cand
+    among = find (λ o. same_text o.word word) cands
 
-    by : (b : Bool) → same_text other.word cand.word ≡ b
-        → unwrap_or found cand ≡ record { word = cand.word; note = note_of cands cand.word }
-        → unwrap_or (cond b (Some other) found) cand
-        ≡ record { word = cand.word; note = cond b other.note (note_of cands cand.word) }
-    by true same rest = ap (λ word. record { word = word; note = other.note }) (same_equal other.word cand.word same)
-    by false none rest = rest
+    by : (b : Bool) → same_text other.word word ≡ b → cond b (Some other) among ≡ Some found
+        → (among ≡ Some found → found ≡ record { word = word; note = note_of cands word })
+        → found ≡ record { word = word; note = cond b other.note (note_of cands word) }
+    by true same is rest =
+        let one : found ≡ other = cc in
+        one ∙ ap (λ w. record { word = w; note = other.note }) (same_equal other.word word same)
+    by false none is rest = rest is
 
-pub first_without_note : (cands : List Cand) (cand : Cand) → is_empty cand.note ≡ true
-    → unwrap_or (find (λ other. same_text other.word cand.word) cands) cand
-    ≡ record { word = cand.word; note = learnt_note cands cand }
-first_without_note cands cand e =
-    first_noted cands cand (by cand.note e)
-    ∙ sym (ap (λ b. record { word = cand.word; note = cond b (note_of cands cand.word) cand.note }) e)
+-- where there is none, the word has no note
+none_noted : (cands : List Cand) (word : List ℕ) → find (λ other. same_text other.word word) cands ≡ None
+    → note_of cands word ≡ []
+none_noted [] word e = refl
+none_noted (other ∷ cands) word e = by (same_text other.word word) e (none_noted cands word)
   where
-    by : (note : List ℕ) → is_empty note ≡ true → note ≡ []
-    by [] f = refl
-    by (c ∷ note) f = cc
+    among : Option Cand
+    among = find (λ o. same_text o.word word) cands
+
+    by : (b : Bool) → cond b (Some other) among ≡ None → (among ≡ None → note_of cands word ≡ [])
+        → cond b other.note (note_of cands word) ≡ []
+    by true is rest = cc
+    by false is rest = rest is
+
+-- the candidate that keeps its note, the one that does not, and the one whose word is new
+pub first_kept : (cands : List Cand) (cand known : Cand)
+    → find (λ other. same_text other.word cand.word) cands ≡ Some known
+    → (is_own_note known.note || is_empty cand.note) ≡ true
+    → known ≡ record { word = cand.word; note = learnt_note cands cand }
+first_kept cands cand known found keeps =
+    let is : known ≡ record { word = cand.word; note = note_of cands cand.word } =
+    found_noted cands cand.word known found in
+    is ∙ sym (ap (λ b. record { word = cand.word; note = cond b (note_of cands cand.word) cand.note })
+    (sym (ap (λ (k : Cand). is_own_note k.note || is_empty cand.note) is) ∙ keeps))
+
+pub first_taken : (cands : List Cand) (cand known : Cand)
+    → find (λ other. same_text other.word cand.word) cands ≡ Some known
+    → (is_own_note known.note || is_empty cand.note) ≡ false
+    → cand ≡ record { word = cand.word; note = learnt_note cands cand }
+first_taken cands cand known found takes =
+    let is : known ≡ record { word = cand.word; note = note_of cands cand.word } =
+    found_noted cands cand.word known found in
+    sym (ap (λ b. record { word = cand.word; note = cond b (note_of cands cand.word) cand.note })
+    (sym (ap (λ (k : Cand). is_own_note k.note || is_empty cand.note) is) ∙ takes))
+
+pub first_new : (cands : List Cand) (cand : Cand) → find (λ other. same_text other.word cand.word) cands ≡ None
+    → cand ≡ record { word = cand.word; note = learnt_note cands cand }
+first_new cands cand none =
+    rw (none_noted cands cand.word none) (by cand.note)
+  where
+    by : (note : List ℕ)
+        → (◌≡◌ {A = Cand}) (record { word = cand.word; note = note })
+        (record { word = cand.word; note = cond (is_own_note [] || is_empty note) [] note })
+    by [] = refl
+    by (c ∷ note) = refl

@@ -1,6 +1,8 @@
-ghost use Rattle.std.specs.Prelude.{◌≡◌, find, IfOk};
+ghost use Rattle.std.specs.Prelude.{◌≡◌, ◌||◌, find, IfOk};
 ghost use Rattle.std.specs.Option.{option_copied, IfSome};
-ghost use Rattle.skk_calls.specs.Learning.{learnt, learnt_cands, learnt_note};
+ghost use Rattle.std.specs.Str.{chars};
+ghost use Rattle.skk_text.specs.Lists.{is_empty};
+ghost use Rattle.skk_calls.specs.Learning.{is_own_note, learnt, learnt_cands, learnt_note};
 ghost use Rattle.skk_calls.specs.Rows.{same_text};
 
 use crate::copying::{add_cands_without, is_same, texts_without};
@@ -43,14 +45,32 @@ fn learnt_cands(alloc: Global, cands: &[Cand], cand: &Cand) -> Result<Cands, Mem
     Ok(after)
 }
 
-// The candidate that stands first after one is learnt: this one, or where it has no note the one with its word.
+// The candidate that stands first after one is learnt: the one with its word where that keeps its note, else this one.
 fn first_cand<'a>(cands: &'a [Cand], cand: &'a Cand) -> &'a Cand
     ensures { result.now ≡ record { word = cand.now.word; note = learnt_note cands.now cand.now } }
 {
-    if !cand.note().is_empty() {
+    let Some(known) = cand_of(cands, cand.word()) else {
         return cand;
+    };
+    if keeps_note(known, cand) { known } else { cand }
+}
+
+// Whether a candidate keeps its note when one with its word is learnt: it is the user's own, or the learnt one has
+// none.
+fn keeps_note(known: &Cand, cand: &Cand) -> bool
+    ensures { result ≡ (is_own_note known.now.note || is_empty cand.now.note) }
+{
+    is_own_note(known.note().as_str()) || cand.note().is_empty()
+}
+
+// Whether a note is the user's own.
+fn is_own_note(note: &str) -> bool
+    ensures { result ≡ is_own_note (chars note.now) }
+{
+    match note.chars().next() {
+        Some(first) => first == '*',
+        None => false,
     }
-    cand_of(cands, cand.word()).unwrap_or(cand)
 }
 
 // The first candidate with a word.

@@ -62,11 +62,39 @@ purge 1 おおk 多 = purged
 row 1 おおk = 4: / / 多
 ";
 
+// Notes for a candidate that is there, for one that is hidden, and for one that is new; what is learnt keeps the user's
+// own note.
+const NOTES: &str = "
+learn 1 か 蚊 = learned 1 after 0
+learn 1 か 可 = learned 2 after 1
+note 1 か 蚊 *よい = annotated
+row 1 か = 3: 可 蚊;*よい / /
+note 1 か 蚊 *よい = unchanged
+count 1 = 3
+learn 1 か 蚊 = learned 4 after 3
+row 1 か = 4: 蚊;*よい 可 / /
+note 1 か 蚊 *再 = annotated
+row 1 か = 5: 蚊;*再 可 / /
+unlearn 2 = overtaken 5
+purge 1 か 蚊 = purged
+note 1 か 蚊 *新 = annotated
+row 1 か = 7: 可 蚊;*新 / /
+note 1 おおk 多 *x = annotated
+row 1 おおk = 8: 多;*x / /
+learn 1 おおk 多 く = learned 9 after 8
+row 1 おおk = 9: 多;*x / く 多 /
+note 2 か 蚊 *よい = annotated
+row 2 か = 1: 蚊;*よい / /
+find 1 か = 可 蚊;*新
+";
+
 const LAST_STAMPS: &str = "
 set 1 18446744073709551614 = done
 learn 1 か 蚊 = learned 18446744073709551615 after 0
 learn 1 か 可 = stamps end
 purge 1 か 可 = stamps end
+note 1 か 可 *x = stamps end
+note 1 か 蚊 *x = stamps end
 row 1 か = 18446744073709551615: 蚊 / /
 unlearn 0 = restored
 row 1 か = none
@@ -92,6 +120,7 @@ learn 1 a m~4095 = learned 13 after 12
 learn 1 a n~4095 = learned 14 after 13
 learn 1 a o~4095 = learned 15 after 14
 learn 1 a p~4092 = too big 65536
+note 1 a p~4090 *x = too big 65537
 learn 1 a p~4091 = learned 16 after 15
 ";
 
@@ -121,7 +150,15 @@ row 7 か = none
 count 7 = 5
 ";
 
-static SCRIPTS: [&str; 6] = [LAYERS, TAKEN_BACK, PURGES, LAST_STAMPS, LONG, REBUILT];
+static SCRIPTS: [&str; 7] = [
+    LAYERS,
+    TAKEN_BACK,
+    PURGES,
+    NOTES,
+    LAST_STAMPS,
+    LONG,
+    REBUILT,
+];
 
 #[test]
 fn books_keep_what_is_learnt(rt: HostRuntime) {
@@ -189,7 +226,7 @@ impl PlainDesk {
     // Runs a command, and gives what it tells.
     fn run(&mut self, rt: &impl Abort, alloc: Global, line: &LearnLine) -> String {
         match line.command {
-            "learn" | "purge" | "find" | "complete" => self.ask(
+            "learn" | "purge" | "note" | "find" | "complete" => self.ask(
                 rt,
                 alloc,
                 call_of(rt, alloc, line),
@@ -345,6 +382,7 @@ fn call_of(rt: &impl Abort, alloc: Global, line: &LearnLine) -> Call
     match line.command {
         "learn" => learning(rt, alloc, line),
         "purge" => purging(rt, alloc, line),
+        "note" => annotating(rt, alloc, line),
         "find" => finding(rt, alloc, line),
         _ => completing(rt, alloc, line),
     }
@@ -368,6 +406,17 @@ fn purging(rt: &impl Abort, alloc: Global, line: &LearnLine) -> Call
         book: line.number,
         key: key(rt, alloc, line.reading),
         word: word(rt, alloc, line.word),
+    }
+}
+
+fn annotating(rt: &impl Abort, alloc: Global, line: &LearnLine) -> Call
+    ensures { is_fit result ≡ true }
+{
+    let note = text(rt, alloc, line.okuri);
+    Call::Annotate {
+        book: line.number,
+        key: key(rt, alloc, line.reading),
+        cand: Cand::new(text(rt, alloc, line.word), note).expect(rt, "a candidate"),
     }
 }
 
@@ -402,6 +451,7 @@ fn reply_text(rt: &impl Abort, alloc: Global, reply: &Reply) -> String {
         Reply::Purged => told.push_str("purged").expect(rt, "memory"),
         Reply::Unchanged => told.push_str("unchanged").expect(rt, "memory"),
         Reply::Restored => told.push_str("restored").expect(rt, "memory"),
+        Reply::Annotated => told.push_str("annotated").expect(rt, "memory"),
         Reply::StampsEnd => told.push_str("stamps end").expect(rt, "memory"),
     }
     told
@@ -442,10 +492,14 @@ fn word(rt: &impl Abort, alloc: Global, content: &str) -> Text
     cand.word().copy(alloc).expect(rt, "memory")
 }
 
-// The words of candidates, each with a space before it.
+// The words of candidates, each with a space before it, and with its note, where it has one.
 fn add_words(rt: &impl Abort, told: &mut String, cands: &Cands) {
     for cand in cands.as_slice() {
         add_word(rt, told, cand.word());
+        if !cand.note().is_empty() {
+            told.push(';').expect(rt, "memory");
+            told.push_str(cand.note().as_str()).expect(rt, "memory");
+        }
     }
 }
 

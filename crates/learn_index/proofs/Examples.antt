@@ -3,7 +3,7 @@ use Rattle.std.proofs.Common.{◌≡◌, ℕ, true, false, List, [], ◌∷◌, 
 use Rattle.skk_calls.specs.declared.answer.Reply.TheVariants as replies
 use Rattle.skk_calls.specs.declared.book.NumberedBook.{NumberedBook}
 use Rattle.skk_calls.specs.declared.call.Call.{Call}
-use Rattle.skk_calls.specs.declared.call.Call.TheVariants.{Lookup, Complete, Learn, Purge, Unlearn}
+use Rattle.skk_calls.specs.declared.call.Call.TheVariants.{Lookup, Complete, Learn, Purge, Annotate, Unlearn}
 use Rattle.skk_calls.specs.declared.part.Part.TheVariants.{Nasi}
 use Rattle.skk_calls.specs.Rows.{RowKey, Row}
 use Rattle.skk_calls.specs.States.{State}
@@ -27,9 +27,10 @@ calls =
     Lookup 1 (key (codes "a")) None ∷ Complete 1 (codes "a")
     ∷ Learn 1 (key (codes "a")) None (record { word = codes "b"; note = [] })
     ∷ Purge 1 (key (codes "a")) (codes "b")
+    ∷ Annotate 1 (key (codes "a")) (record { word = codes "b"; note = codes "*c" })
     ∷ Unlearn (record { book = 1; key = key (codes "a"); stamp = 2; before = None }) ∷ []
 
-questions : map is_question calls ≡ true ∷ true ∷ false ∷ false ∷ false ∷ []
+questions : map is_question calls ≡ true ∷ true ∷ false ∷ false ∷ false ∷ false ∷ []
 questions = refl
 
 -- an index over no changed book that has room for two changes of book 0, and for none of book 7

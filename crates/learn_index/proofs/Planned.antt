@@ -8,16 +8,17 @@ use Rattle.std.proofs.lemmas.Bool.Decides.{nat_tests}
 use Rattle.skk_text.specs.FilterLaws.{filter_all}
 use Rattle.skk_text.specs.PairsLaws.{list_all-weaker}
 use Rattle.skk_calls.specs.declared.answer.Reply.{Reply}
-use Rattle.skk_calls.specs.declared.answer.Reply.TheVariants.{Learned, Purged, Unchanged, Restored, Overtaken, TooBig}
-use Rattle.skk_calls.specs.declared.answer.Reply.TheVariants.{StampsEnd}
+use Rattle.skk_calls.specs.declared.answer.Reply.TheVariants.{Learned, Purged, Unchanged, Restored, Annotated}
+use Rattle.skk_calls.specs.declared.answer.Reply.TheVariants.{Overtaken, TooBig, StampsEnd}
 use Rattle.skk_calls.specs.declared.call.Call.{Call}
-use Rattle.skk_calls.specs.declared.call.Call.TheVariants.{Lookup, Complete, Learn, Purge, Unlearn}
+use Rattle.skk_calls.specs.declared.call.Call.TheVariants.{Lookup, Complete, Learn, Purge, Annotate, Unlearn}
 use Rattle.skk_calls.specs.declared.part.Part.TheVariants.{Nasi}
 use Rattle.skk_calls.specs.Canonical.{is_good, line_limit}
 use Rattle.skk_calls.specs.Dictionary.{answer, after, state_moved, speaks_of, is_change, is_call, is_fit}
 use Rattle.skk_calls.specs.Dictionary.{is_row_or_none, is_stamped, stamp_of, line_length, change_reply}
 use Rattle.skk_calls.specs.KeyLaws.{same_key_equal, same_key_itself}
-use Rattle.skk_calls.specs.Learning.{learnt, purged, purge_changes, is_row_before, is_valid_learned}
+use Rattle.skk_calls.specs.Learning.{learnt, purged, purge_changes, annotated, annotation_changes, is_row_before}
+use Rattle.skk_calls.specs.Learning.{is_valid_learned}
 use Rattle.skk_calls.specs.Rows.{RowKey, Cand, Row, Learned as LearnedRow, same_key, is_row_key, is_row}
 use Rattle.skk_calls.specs.States.{State, row_in, rows_of, row_at, count_of, without_row, with_book, state_with}
 use Rattle.skk_calls.specs.States.{has_stamp, fits_count, is_valid}
@@ -62,6 +63,11 @@ move_is state (Purge number own word) book count key row reply typed planned =
     same_change state (after state (Purge number own word)) number stamp own
     (Some (purged (row_at state number own) own word stamp)) book count key row (same_key_itself own)
     planned.2 (after_moved state (Purge number own word) planned.0) planned.3 planned.4
+move_is state (Annotate number own cand) book count key row reply typed planned =
+    let stamp = count_of state number + 1 in
+    same_change state (after state (Annotate number own cand)) number stamp own
+    (Some (annotated (row_at state number own) own cand stamp)) book count key row (same_key_itself own)
+    planned.2 (after_moved state (Annotate number own cand) planned.0) planned.3 planned.4
 move_is state (Unlearn learned) book count key row reply typed planned =
     let valid = (and_parts (is_valid_learned learned) (is_row_or_none learned.before)
     (and_parts (is_row_key learned.key) (is_valid_learned learned && is_row_or_none learned.before) typed).1).0 in
@@ -241,6 +247,11 @@ learn_planned state book key okuri cand row reply stamp e small rows replies =
         row_plan book n key (learnt (row_at state book key) key okuri cand n)
         (Learned (record { book = book; key = key; stamp = n; before = row_at state book key }))
 
+-- a row that stands where a test tells of a change is the one after the change
+changed_row : (test : Bool) (after row : Row) → cond test (Some after) None ≡ Some row → (test ≡ true) × (after ≡ row)
+changed_row true after row e = (refl, cc)
+changed_row false after row e = cc
+
 -- the plan of a purge
 pub purge_planned : (state : State) (book : ℕ) (key : RowKey) (word : List ℕ) (row : Row) (stamp : ℕ)
     → stamp ≡ count_of state book + 1 → stamp < 18446744073709551616
@@ -250,7 +261,8 @@ pub purge_planned : (state : State) (book : ℕ) (key : RowKey) (word : List ℕ
 purge_planned state book key word row stamp e small if_changes made found =
     let next = count_of state book + 1 in
     let new : Row = purged (row_at state book key) key word next in
-    let parts = split (purge_changes (row_at state book key) key word) (purged (row_at state book key) key word stamp)
+    let parts =
+    changed_row (purge_changes (row_at state book key) key word) (purged (row_at state book key) key word stamp)
     row (sym made ∙ found) in
     let answers = ap (λ b. cond b (change_reply (count_of state book) new Purged) Unchanged) parts.0 in
     let plain =
@@ -264,9 +276,30 @@ purge_planned state book key word row stamp e small if_changes made found =
     all : ℕ → Plan
     all n = row_plan book n key (purged (row_at state book key) key word n) Purged
 
-    split : (b : Bool) (x y : Row) → cond b (Some x) None ≡ Some y → (b ≡ true) × (x ≡ y)
-    split true x y f = (refl, cc)
-    split false x y f = cc
+-- the plan of an annotation
+pub annotation_planned : (state : State) (book : ℕ) (key : RowKey) (cand : Cand) (row : Row) (stamp : ℕ)
+    → stamp ≡ count_of state book + 1 → stamp < 18446744073709551616
+    → (if_changes : Option Row) → if_changes
+    ≡ cond (annotation_changes (row_at state book key) key cand)
+    (Some (annotated (row_at state book key) key cand stamp)) None
+    → if_changes ≡ Some row → IsPlanned state (Annotate book key cand) (row_plan book stamp key row Annotated)
+annotation_planned state book key cand row stamp e small if_changes made found =
+    let next = count_of state book + 1 in
+    let new : Row = annotated (row_at state book key) key cand next in
+    let parts = changed_row (annotation_changes (row_at state book key) key cand)
+    (annotated (row_at state book key) key cand stamp) row (sym made ∙ found) in
+    let answers = ap (λ b. cond b (change_reply (count_of state book) new Annotated) Unchanged) parts.0 in
+    let plain =
+    row_planned state (Annotate book key cand) book key new Annotated refl (same_key_itself key)
+    (speaks_itself book key) refl
+    answers (more_counts (count_of state book) (subst (λ n. n < 18446744073709551616) e small)) in
+    subst (IsPlanned state (Annotate book key cand)) (sym (ap (row_plan_at stamp) (sym parts.1) ∙ ap all e)) plain
+  where
+    row_plan_at : ℕ → Row → Plan
+    row_plan_at n r = row_plan book n key r Annotated
+
+    all : ℕ → Plan
+    all n = row_plan book n key (annotated (row_at state book key) key cand n) Annotated
 
 -- the plan of taking back
 pub unlearn_planned : (state : State) (learned : LearnedRow) → is_valid_learned learned ≡ true

@@ -3,9 +3,9 @@ use Rattle.std.proofs.Common.{◌≡◌, refl, arith, ℕ, ◌+◌, true, false,
 use Rattle.skk_calls.specs.declared.answer.Reply.{Reply}
 use Rattle.skk_calls.specs.declared.answer.Reply.TheVariants as replies
 use Rattle.skk_calls.specs.declared.call.Call.{Call}
-use Rattle.skk_calls.specs.declared.call.Call.TheVariants.{Lookup, Complete, Learn, Purge, Unlearn}
+use Rattle.skk_calls.specs.declared.call.Call.TheVariants.{Lookup, Complete, Learn, Purge, Annotate, Unlearn}
 use Rattle.skk_calls.specs.Dictionary.{answer, change_reply, line_length, may_reply}
-use Rattle.skk_calls.specs.Learning.{learnt, purged}
+use Rattle.skk_calls.specs.Learning.{learnt, purged, annotated}
 use Rattle.skk_calls.specs.Rows.{Row}
 use Rattle.skk_calls.specs.States.{State, count_of, row_at}
 use Rattle.learn_index.specs.Plans.{is_question}
@@ -29,5 +29,12 @@ may-change files state (Purge book key word) other =
       arith,
       may-told (Purge book key word) (count_of state book)
           (purged (row_at state book key) key word (count_of state book + 1)) replies.Purged (λ n. refl) refl refl,
+    )
+may-change files state (Annotate book key cand) other =
+    grind (
+      arith,
+      may-told (Annotate book key cand) (count_of state book)
+          (annotated (row_at state book key) key cand (count_of state book + 1)) replies.Annotated (λ n. refl) refl
+          refl,
     )
 may-change files state (Unlearn learned) other = grind arith

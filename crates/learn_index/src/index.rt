@@ -22,7 +22,8 @@ use crate::kept_row::{KeptRow, copied_rows};
 use crate::layering::found_cands;
 use crate::plan::Plan;
 use crate::planning::{
-    learning_is_call, plan_learn, plan_purge, plan_unlearn, purge_is_call, unlearning_is_call,
+    annotation_is_call, learning_is_call, plan_annotate, plan_learn, plan_purge, plan_unlearn,
+    purge_is_call, unlearning_is_call,
 };
 use crate::rows_of_files::{FileRows, file_rows};
 use dict_laws::changes_keep_states_valid;
@@ -128,6 +129,10 @@ impl Index {
             Call::Purge { book, key, word } => {
                 purge_is_call(key);
                 plan_purge(self, alloc, *book, key, word)
+            }
+            Call::Annotate { book, key, cand } => {
+                annotation_is_call(key, cand);
+                plan_annotate(self, alloc, *book, key, cand)
             }
             Call::Unlearn { learned } => {
                 unlearning_is_call(learned);

@@ -1,7 +1,7 @@
 ghost use Rattle.std.specs.Prelude.{◌≡◌, ◌<◌, true, ℕ, List, IfOk, OnOk, Some, nat_lt, if◌then◌else◌};
 ghost use Rattle.std.specs.Option.{option_copied};
 ghost use Rattle.skk_calls.specs.declared.answer.Reply.TheVariants.{TooBig, Learned as learned_reply};
-ghost use Rattle.skk_calls.specs.declared.call.Call.TheVariants.{Learn, Purge, Unlearn};
+ghost use Rattle.skk_calls.specs.declared.call.Call.TheVariants.{Learn, Purge, Annotate, Unlearn};
 ghost use Rattle.skk_calls.specs.Canonical.{line_limit};
 ghost use Rattle.skk_calls.specs.Dictionary.{line_length, is_call, is_stamped, stamp_of};
 ghost use Rattle.skk_calls.specs.Rows.{is_word};
@@ -14,7 +14,7 @@ use crate::book::RowOrders;
 use crate::index::Index;
 use crate::kept_row::KeptRow;
 use crate::plan::Plan;
-use dict_rows::{learn_row, line_length, purge_row};
+use dict_rows::{annotate_row, learn_row, line_length, purge_row};
 use skk_calls::{Cand, LINE_LIMIT, Learned, Okuri, Reply, Row, RowKey};
 use skk_text::{Copies, Memory, Text, copy_of};
 use std::alloc::Global;
@@ -65,6 +65,29 @@ pub fn plan_purge(
     plan_row(index, alloc, book, stamp, key, row, Reply::Purged)
 }
 
+/// Plans that a candidate is annotated.
+pub fn plan_annotate(
+    index: &mut Index,
+    alloc: Global,
+    book: u16,
+    key: &RowKey,
+    cand: &Cand,
+) -> Result<Plan, Memory>
+    ensures state { index.new.state ≡ index.old.state }
+    ensures planned { IfOk result (λ plan. IsPlanned index.old.state (Annotate book key.now cand.now) plan) }
+    ensures room { IfOk result (λ plan. HasRoom index.new plan) }
+{
+    let count = index.count(book);
+    let before = index.row(book, key);
+    let Some(row) = annotate_row(alloc, before, key, cand, count.saturating_add(1))? else {
+        return Ok(Plan::Still(Reply::Unchanged));
+    };
+    let Some(stamp) = count.checked_add(1) else {
+        return Ok(Plan::Still(Reply::StampsEnd));
+    };
+    plan_row(index, alloc, book, stamp, key, row, Reply::Annotated)
+}
+
 /// Plans that what was learnt is taken back.
 pub fn plan_unlearn(index: &mut Index, alloc: Global, learned: &Learned) -> Result<Plan, Memory>
     ensures state { index.new.state ≡ index.old.state }
@@ -98,6 +121,14 @@ pub fn purge_is_call(key: &RowKey)
     ensures { (book : ℕ) (word : List ℕ) → is_call (Purge book key.now word) ≡ true }
 {
     let _reading = key.reading();
+}
+
+/// What the types of an annotation's parts keep.
+pub fn annotation_is_call(key: &RowKey, cand: &Cand)
+    ensures { (book : ℕ) → is_call (Annotate book key.now cand.now) ≡ true }
+{
+    let _reading = key.reading();
+    let _word = cand.word();
 }
 
 /// What the types of the parts of what was learnt keep.

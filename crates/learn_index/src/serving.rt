@@ -21,9 +21,10 @@ impl Index {
     {
         match call {
             Call::Lookup { .. } | Call::Complete { .. } => self.answer(alloc, system, call),
-            Call::Learn { .. } | Call::Purge { .. } | Call::Unlearn { .. } => {
-                self.change(alloc, call)
-            }
+            Call::Learn { .. }
+            | Call::Purge { .. }
+            | Call::Annotate { .. }
+            | Call::Unlearn { .. } => self.change(alloc, call),
         }
     }
 

@@ -1,7 +1,7 @@
 -- A row that is put again with another stamp.
 use Rattle.std.proofs.Common.{◌≡◌, ℕ, ◌≤◌, true, ◌&&◌, nat_le, Option, Some, List, ◌∷◌, ◌++◌}
 use Rattle.std.proofs.Common.{refl, sym, ap, ◌∙◌, subst, arith}
-use Rattle.std.proofs.lemmas.Bool.{and_parts, and_from}
+use Rattle.std.proofs.lemmas.Bool.{and_parts, and_from, le-leb}
 use Rattle.std.specs.BTreeMap.{BTreeMap, Updates}
 use Rattle.std.specs.Ordering.{nat_cmp}
 use Rattle.skk_calls.specs.Canonical.{is_good}
@@ -10,16 +10,17 @@ use Rattle.skk_calls.specs.States.{State, row_at, count_of, fits_count, has_stam
 use Rattle.learned_store.specs.declared.form.PayloadForm.{PayloadForm}
 use Rattle.learned_store.specs.declared.form.PayloadForm.TheVariants.{Put}
 use Rattle.learned_store.specs.declared.row_place.RowPlace.{RowPlace}
-use Rattle.learned_store.specs.Gathering.{AreOf, IsRestamped, count_in}
+use Rattle.learned_store.specs.Gathering.{AreOf, IsRestamped, count_in, place_at}
 use Rattle.learned_store.specs.Payloads.{Says, are_held, book_number, wide_number, is_sound, state_told}
 use Rattle.learned_store.specs.Reading.{put_with}
-use Rattle.learned_store.proofs.Gathering.{IsChanged, place_at, put_told, are_told, row_key, row_fits}
+use Rattle.learned_store.proofs.Gathering.{IsChanged, put_told, are_told, row_key, row_fits}
 
 module _ (before after : RowPlace → Option Row) (counts later : BTreeMap ℕ ℕ) (book count stamp : ℕ)
     (place : RowPlace) (bytes : List ℕ) (own : place.book ≡ book) (held : are_held book count ≡ true)
     (stamped : (nat_le 1 stamp && nat_le stamp count) ≡ true)
     (restamped : IsRestamped before after place stamp bytes) (set : Updates nat_cmp counts later book (Some count))
-    (state : State) (are : AreOf state counts before) (counted : count_in counts book ≤ count) where
+    (state : State) (version : ℕ) (some : 1 ≤ version) (are : AreOf state counts before)
+    (counted : count_in counts book ≤ count) where
   -- the row that was gathered
   abbrev found : Row
   found = restamped.row
@@ -48,10 +49,12 @@ module _ (before after : RowPlace → Option Row) (counts later : BTreeMap ℕ �
   later_count = subst (λ (n : ℕ). n ≤ count) (are.count book) counted
 
   -- a record says so
-  says_again : Says state (put_with book count stamp bytes) (Put book count again)
+  says_again : Says version state (put_with book count stamp bytes) (Put book count again)
   says_again = record {
+    known = le-leb 1 version some;
     sound = sound;
     counted = later_count;
+    follows = refl;
     is = ap (λ (b : List ℕ). 1 ∷ (book_number book ++ (wide_number count ++ (wide_number stamp ++ b))))
         restamped.spelled.is;
   }
@@ -65,9 +68,9 @@ module _ (before after : RowPlace → Option Row) (counts later : BTreeMap ℕ �
   are_again =
       are_told before after counts later (Put book count again)
       (put_told before after book count place.key again (sym (row_key state are.valid place found there)) changed)
-      book count refl refl set state are sound later_count
+      book count refl refl set state are sound later_count refl
 
   -- so a record says something, and what it leaves is gathered
-  pub added : (form : PayloadForm) × Says state (put_with book count stamp bytes) form
+  pub added : (form : PayloadForm) × Says version state (put_with book count stamp bytes) form
       × AreOf (state_told state form) later after
   added = (Put book count again, says_again, are_again)

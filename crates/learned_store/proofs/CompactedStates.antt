@@ -16,7 +16,9 @@ use Rattle.skk_calls.specs.States.{State, rows_of, count_of, book_rows, book_cou
 use Rattle.skk_calls.specs.States.{fits_count, is_book, books_ascend, is_valid}
 use Rattle.learned_store.specs.declared.form.PayloadForm.{PayloadForm}
 use Rattle.learned_store.specs.declared.form.PayloadForm.TheVariants.{Put, SetCount}
-use Rattle.learned_store.specs.Payloads.{are_held, is_sound, book_of, new_count, payload_of, state_told}
+use Rattle.learned_store.specs.Payloads.{are_held, is_sound, book_of, first_version, may_follow, new_count}
+use Rattle.learned_store.specs.Payloads.{newest_version}
+use Rattle.learned_store.specs.Payloads.{payload_of, state_told}
 use Rattle.learned_store.specs.Reading.{is_written_row}
 use Rattle.learned_store.specs.Recovered.{Leads, Leave}
 use Rattle.learned_store.specs.Compacted.{row_forms, book_forms, compacted, is_written_book, is_written}
@@ -71,20 +73,24 @@ before_one test (y ∷ ys) x rest pairs = grind (arith, before_one test ys x res
 -- Records
 
 -- records lead on behind others
-leads-append : (start middle after : State) (records others : List (List ℕ)) → Leads start records middle
-    → Leads middle others after → Leads start (records ++ others) after
-leads-append start middle after [] others is leads = subst (λ (s : State). Leads s others after) is leads
-leads-append start middle after (payload ∷ records) others (form, says, first) leads =
-    (form, says, leads-append (state_told start form) middle after records others first leads)
+leads-append : (version : ℕ) (start middle after : State) (records others : List (List ℕ))
+    → Leads version start records middle → Leads version middle others after
+    → Leads version start (records ++ others) after
+leads-append version start middle after [] others is leads =
+    subst (λ (s : State). Leads version s others after) is leads
+leads-append version start middle after (payload ∷ records) others (form, says, first) leads =
+    (form, says, leads-append version (state_told start form) middle after records others first leads)
 
 -- a record that may be written says what it says, and others lead on behind it
-leads-cons : (start middle after : State) (form : PayloadForm) (records : List (List ℕ)) → is_sound form ≡ true
-    → count_of start (book_of form) ≤ new_count form → state_told start form ≡ middle → Leads middle records after
-    → Leads start (payload_of form ∷ records) after
-leads-cons start middle after form records sound later is leads = (
+leads-cons : (start middle after : State) (form : PayloadForm) (records : List (List ℕ))
+    → nat_le (first_version form) newest_version ≡ true → may_follow start form ≡ true → is_sound form ≡ true
+    → count_of start (book_of form) ≤ new_count form → state_told start form ≡ middle
+    → Leads newest_version middle records after
+    → Leads newest_version start (payload_of form ∷ records) after
+leads-cons start middle after form records known follows sound later is leads = (
   form,
-  record { sound = sound; counted = later; is = refl },
-  subst (λ (s : State). Leads s records after) (sym is) leads,
+  record { known = known; sound = sound; counted = later; follows = follows; is = refl },
+  subst (λ (s : State). Leads newest_version s records after) (sym is) leads,
 )
 
 -- A book behind others
@@ -146,16 +152,17 @@ module _ (done : List NumberedBook) (number count : ℕ) where
       -- a row, and what leads on behind it
       row_leads : (books : List NumberedBook) (front : List Row) (row : Row) (after : State) (records : List (List ℕ))
           → IsLast books front → list_all (λ r. row_keys.less r.key row.key) front ≡ true
-          → is_written_row count row ≡ true → Leads (in_state (and_book (front ++ row ∷ []))) records after
-          → Leads (in_state books) (payload_of (Put number count row) ∷ records) after
+          → is_written_row count row ≡ true
+          → Leads newest_version (in_state (and_book (front ++ row ∷ []))) records after
+          → Leads newest_version (in_state books) (payload_of (Put number count row) ∷ records) after
       row_leads books front row after records last behind written =
           leads-cons (in_state books) (in_state (and_book (front ++ row ∷ []))) after (Put number count row) records
-          (grind (arith, held, written)) last.later (one_put books front row last behind)
+          refl refl (grind (arith, held, written)) last.later (one_put books front row last behind)
 
       -- its rows, one after another
       rows_lead : (books : List NumberedBook) (front : List Row) (row : Row) (rows : List Row) → IsLast books front
           → rows_ascend (front ++ row ∷ rows) ≡ true → list_all (is_written_row count) (row ∷ rows) ≡ true
-          → Leads (in_state books) (map payload_of (map (Put number count) (row ∷ rows)))
+          → Leads newest_version (in_state books) (map payload_of (map (Put number count) (row ∷ rows)))
           (in_state (and_book (front ++ row ∷ rows)))
       rows_lead books front row [] last pairs all =
           row_leads books front row (in_state (and_book (front ++ row ∷ []))) [] last
@@ -166,17 +173,19 @@ module _ (done : List NumberedBook) (number count : ℕ) where
           let rest = map payload_of (map (Put number count) (next ∷ rows)) in
           row_leads books front row (in_state (and_book (front ++ row ∷ next ∷ rows))) rest last
           (before_one (before (λ (r : Row). r.key) row_keys) front row (next ∷ rows) pairs) own.0
-          (subst (λ (l : List Row). Leads (in_state (and_book (front ++ row ∷ []))) rest (in_state (and_book l))) same
+          (subst (λ (l : List Row). Leads newest_version (in_state (and_book (front ++ row ∷ []))) rest
+          (in_state (and_book l))) same
           (rows_lead (and_book (front ++ row ∷ [])) (front ++ row ∷ []) next rows (again (front ++ row ∷ []))
           (subst (λ (l : List Row). rows_ascend l ≡ true) (sym same) pairs) own.1))
 
       -- its records lead to the state with it behind the others
       book_leads : (rows : List Row) → nat_le 1 count ≡ true → rows_ascend rows ≡ true
           → list_all (is_written_row count) rows ≡ true
-          → Leads (in_state done) (map payload_of (row_forms number count rows)) (in_state (and_book rows))
+          → Leads newest_version (in_state done) (map payload_of (row_forms number count rows))
+          (in_state (and_book rows))
       book_leads [] some pairs all =
-          leads-cons (in_state done) (in_state (and_book [])) (in_state (and_book [])) (SetCount number count) [] held
-          not_yet.later set refl
+          leads-cons (in_state done) (in_state (and_book [])) (in_state (and_book [])) (SetCount number count) [] refl
+          refl held not_yet.later set refl
         where
           counted : (count == 0) ≡ false
           counted = grind (arith, nat_tests)
@@ -196,7 +205,7 @@ module _ (done : List NumberedBook) (number count : ℕ) where
 -- the records of books lead to the state with them behind the others
 books_lead : (done books : List NumberedBook) → books_ascend (done ++ books) ≡ true → list_all is_book books ≡ true
     → list_all is_written_book books ≡ true
-    → Leads (in_state done) (map payload_of (flat_map book_forms books)) (in_state (done ++ books))
+    → Leads newest_version (in_state done) (map payload_of (flat_map book_forms books)) (in_state (done ++ books))
 books_lead done [] pairs all written = ap in_state (append-nil done)
 books_lead done (book ∷ books) pairs all written =
     let less = before_one (before (λ (b : NumberedBook). b.number) number_keys) done book books pairs in
@@ -208,18 +217,18 @@ books_lead done (book ∷ books) pairs all written =
     let may = and_parts (are_held book.number book.count) (list_all (is_written_row book.count) book.rows) own.0 in
     let same = append_assoc done (book ∷ []) books in
     let rest = map payload_of (flat_map book_forms books) in
-    subst (λ (l : List (List ℕ)). Leads (in_state done) l (in_state (done ++ book ∷ books)))
+    subst (λ (l : List (List ℕ)). Leads newest_version (in_state done) l (in_state (done ++ book ∷ books)))
     (sym (map-append payload_of (book_forms book) (flat_map book_forms books)))
-    (leads-append (in_state done) (in_state (done ++ book ∷ [])) (in_state (done ++ book ∷ books))
+    (leads-append newest_version (in_state done) (in_state (done ++ book ∷ [])) (in_state (done ++ book ∷ books))
     (map payload_of (book_forms book)) rest
     (book_leads done book.number book.count less may.0 book.rows facts.0 ascends may.1)
-    (subst (λ (l : List NumberedBook). Leads (in_state (done ++ book ∷ [])) rest (in_state l)) same
+    (subst (λ (l : List NumberedBook). Leads newest_version (in_state (done ++ book ∷ [])) rest (in_state l)) same
     (books_lead (done ++ book ∷ []) books (subst (λ (l : List NumberedBook). books_ascend l ≡ true) (sym same) pairs)
     parts.1 own.1)))
 
 -- the records of a compaction leave their state
 pub compacted_leave : (state : State) → is_valid state ≡ true → is_written state ≡ true
-    → Leave (map payload_of (compacted state)) state
+    → Leave (record { version = newest_version; records = map payload_of (compacted state) }) state
 compacted_leave state valid written =
     let parts = and_parts (books_ascend state.books) (list_all is_book state.books) valid in
     books_lead [] state.books parts.0 parts.1 written

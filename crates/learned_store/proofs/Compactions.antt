@@ -3,6 +3,7 @@ use Rattle.std.proofs.Common.{◌≡◌, ℕ, ◌+◌, Option, None, Some, List,
 use Rattle.skk_disk.specs.Image.{Image}
 use Rattle.skk_calls.specs.Histories.{tight}
 use Rattle.skk_calls.specs.States.{State}
+use Rattle.skk_journal.specs.Contents.{Contents}
 use Rattle.skk_journal.specs.Journal.{OpenJournal}
 use Rattle.skk_journal.specs.Records.{first_place, framed}
 use Rattle.learned_store.specs.Compacted.{compacted}
@@ -18,16 +19,16 @@ module _ (state : State) (bytes : List ℕ) (is : bytes ≡ framed (map payload_
   pub compacted_bytes : first_place + 1 + length bytes ≡ tight state
   compacted_bytes = omega (arith, ap length is, compacted_end state)
 
-  left_compaction : (records : List (List ℕ)) → Leave records state → IsCompaction state bytes
-  left_compaction records leave =
-      let valid = left_valid records state leave in
-      let written = left_written records state leave in
+  left_compaction : (contents : Contents) → Leave contents state → IsCompaction state bytes
+  left_compaction contents leave =
+      let valid = left_valid contents state leave in
+      let written = left_written contents state leave in
       let sized = sound_all_sized (compacted state) (compacted_sound state written) in
       (map payload_of (compacted state), sized, is, compacted_leave state valid written)
 
   -- where a journal keeps the state, they are its compaction
   pub kept_compaction : {D : Type 0} (time : D → ℕ) (left_since : D → ℕ → Image → Type 0) (journal : OpenJournal D)
       (doubt : Option State) → Keeps time left_since journal state doubt → IsCompaction state bytes
-  kept_compaction time left_since journal None (records, leave, rests) = left_compaction records leave
-  kept_compaction time left_since journal (Some doubted) (records, others, leave, doubted_leave, doubts) =
-      left_compaction records leave
+  kept_compaction time left_since journal None (newest, contents, leave, rests) = left_compaction contents leave
+  kept_compaction time left_since journal (Some doubted) (newest, contents, others, leave, doubted_leave, doubts) =
+      left_compaction contents leave

@@ -1,5 +1,5 @@
 -- Results by their cases, and lists of states.
-use Rattle.std.proofs.Common.{⊎_elim, List, [], ◌∷◌, ◌++◌, refl, sym, subst, arith}
+use Rattle.std.proofs.Common.{◌≡◌, ⊎_elim, List, [], ◌∷◌, ◌++◌, refl, sym, subst, arith}
 use Rattle.std.proofs.Common.{rules, Result, Ok, Err, OnOk, OnErr}
 use Rattle.std.proofs.lemmas.List.Elements.{Contains-append_left, Contains-append_right, Contains-append_cases}
 use Rattle.std.specs.Prelude.{ℕ, Option, None, Some, IsOk, IsErrOf, MatchResult, Contains}
@@ -9,7 +9,7 @@ use Rattle.skk_calls.specs.declared.answer.Refusal.TheVariants.{Disk}
 use Rattle.skk_calls.specs.States.{State}
 use Rattle.skk_disk.specs.Image.{Image}
 use Rattle.skk_journal.specs.Journal.{OpenJournal}
-use Rattle.learned_store.specs.Stores.{Keeps, KeepsOneOf, RecoversOneOf, with_doubt}
+use Rattle.learned_store.specs.Stores.{Adds, Keeps, KeepsOneOf, RecoversOneOf, with_doubt}
 
 pub match_of : {T E : Type 0} (P Q : Type 0) (r : Result T E) → OnOk r P → OnErr r Q → MatchResult r (λ _. P) (λ _. Q)
 match_of P Q (Ok x) p q = p
@@ -43,6 +43,11 @@ unless_disk P Q (Ok x) (Ok y) is p q = p
 unless_disk P Q (Ok x) (Err y) is p q = absurd (cc is)
 unless_disk P Q (Err x) result is p q =
     subst (λ (r : Result (Unit {0}) Refusal). MatchResult r (λ _. P) Q) (sym is) q
+
+-- what a payload adds to a file of a version it adds where the version is the same
+pub adds_at : {v w : ℕ} (payload : List ℕ) (state after : State) → v ≡ w → Adds w payload state after
+    → Adds v payload state after
+adds_at payload state after same adds = subst (λ n. Adds n payload state after) (sym same) adds
 
 pub first_is : {X : Type 0} (x : X) (xs : List X) → Contains (x ∷ xs) x
 first_is x xs = (0, omega arith, refl)

@@ -3,13 +3,13 @@ use Rattle.std.proofs.Common.{◌≡◌, ℕ, ◌^◌, ◌-◌, true, false, Non
 use Rattle.exact_readers.specs.Numbers.{number_bytes}
 use Rattle.skk_calls.specs.declared.part.Part.{Part}
 use Rattle.skk_calls.specs.declared.part.Part.TheVariants.{Nasi, Ari}
-use Rattle.skk_calls.specs.declared.call.Call.TheVariants.{Lookup, Complete, Learn, Purge, Unlearn}
-use Rattle.skk_calls.specs.Rows.{RowKey, Row}
+use Rattle.skk_calls.specs.declared.call.Call.TheVariants.{Lookup, Complete, Learn, Purge, Annotate, Unlearn}
+use Rattle.skk_calls.specs.Rows.{RowKey, Cand, Row}
 use Rattle.skk_calls.specs.States.{State, empty_state}
 use Rattle.learned_store.specs.declared.form.PayloadForm.{PayloadForm}
-use Rattle.learned_store.specs.declared.form.PayloadForm.TheVariants.{Put, Drop, SetCount}
+use Rattle.learned_store.specs.declared.form.PayloadForm.TheVariants.{Put, Drop, SetCount, Note}
 use Rattle.learned_store.specs.Payloads.{book_number, wide_number, part_byte}
-use Rattle.learned_store.specs.Payloads.{book_of, new_count}
+use Rattle.learned_store.specs.Payloads.{book_of, new_count, first_version, may_follow}
 use Rattle.learned_store.specs.Payloads.{payload_of, are_held, is_sound, state_told, change_told}
 
 -- Bytes
@@ -30,6 +30,9 @@ parts = refl
 -- a key, and a row of it with one candidate
 abbrev key : Part → List ℕ → RowKey
 key part reading = record { part = part; reading = reading }
+
+abbrev cand : List ℕ → List ℕ → Cand
+cand word note = record { word = word; note = note }
 
 abbrev row : Part → List ℕ → List ℕ → ℕ → Row
 row part reading word stamp =
@@ -65,6 +68,16 @@ drop_payloads : map payload_of (Drop 1 2 (key Nasi (codes "かんじ")) ∷ Drop
 unfolding lib.Utf8.encode number_bytes
 drop_payloads = refl
 
+-- 漢字 for かんじ gets a note by the second change of book 1, and one of the row of おおk is taken away
+note_payloads : map payload_of (Note 1 2 (key Nasi (codes "かんじ")) (cand (codes "漢字") (codes "x"))
+    ∷ Note 258 772 (key Ari (codes "おおk")) (cand (codes "大") []) ∷ [])
+    ≡ (4 ∷ 1 ∷ 0 ∷ 2 ∷ 0 ∷ 0 ∷ 0 ∷ 0 ∷ 0 ∷ 0 ∷ 0 ∷ 0 ∷ 9 ∷ 227 ∷ 129 ∷ 139 ∷ 227 ∷ 130 ∷ 147 ∷ 227 ∷ 129 ∷ 152 ∷ 230
+    ∷ 188 ∷ 162 ∷ 229 ∷ 173 ∷ 151 ∷ 59 ∷ 120 ∷ [])
+    ∷ (4 ∷ 2 ∷ 1 ∷ 4 ∷ 3 ∷ 0 ∷ 0 ∷ 0 ∷ 0 ∷ 0 ∷ 0 ∷ 1 ∷ 7 ∷ 227 ∷ 129 ∷ 138 ∷ 227 ∷ 129 ∷ 138 ∷ 107 ∷ 229 ∷ 164 ∷ 167
+    ∷ []) ∷ []
+unfolding lib.Utf8.encode number_bytes
+note_payloads = refl
+
 -- a book gets a count
 count_payload : payload_of (SetCount 258 578437695752307201) ≡ 3 ∷ 2 ∷ 1 ∷ 1 ∷ 2 ∷ 3 ∷ 4 ∷ 5 ∷ 6 ∷ 7 ∷ 8 ∷ []
 unfolding number_bytes
@@ -72,13 +85,19 @@ count_payload = refl
 
 -- the book and the count of each form
 abbrev forms : List PayloadForm
-forms = Put 7 9 (row Nasi (codes "a") (codes "b") 8) ∷ Drop 5 6 (key Nasi (codes "a")) ∷ SetCount 3 4 ∷ []
+forms =
+    Put 7 9 (row Nasi (codes "a") (codes "b") 8) ∷ Drop 5 6 (key Nasi (codes "a")) ∷ SetCount 3 4
+    ∷ Note 1 2 (key Nasi (codes "a")) (cand (codes "b") []) ∷ []
 
-form_books : map book_of forms ≡ 7 ∷ 5 ∷ 3 ∷ []
+form_books : map book_of forms ≡ 7 ∷ 5 ∷ 3 ∷ 1 ∷ []
 form_books = refl
 
-form_counts : map new_count forms ≡ 9 ∷ 6 ∷ 4 ∷ []
+form_counts : map new_count forms ≡ 9 ∷ 6 ∷ 4 ∷ 2 ∷ []
 form_counts = refl
+
+-- the version that first has each
+form_versions : map first_version forms ≡ 1 ∷ 1 ∷ 1 ∷ 2 ∷ []
+form_versions = refl
 
 -- What may be written
 
@@ -113,6 +132,18 @@ sound_drops = refl
 sound_counts : map is_sound (SetCount 0 0 ∷ SetCount 65535 (2 ^ 64 - 1) ∷ SetCount 65536 0
     ∷ SetCount 0 (2 ^ 64) ∷ []) ≡ true ∷ true ∷ false ∷ false ∷ []
 sound_counts = refl
+
+-- a note, one behind a count of 0, of no key, of no word, of a number that is no character, and of numbers that are not
+-- held
+sound_notes : map is_sound (
+    Note 1 1 (key Nasi (codes "あ")) (cand (codes "亜") (codes "n"))
+    ∷ Note 1 0 (key Nasi (codes "あ")) (cand (codes "亜") []) ∷ Note 1 1 (key Nasi []) (cand (codes "亜") [])
+    ∷ Note 1 1 (key Nasi (codes "あ")) (cand [] (codes "n"))
+    ∷ Note 1 1 (key Nasi (codes "あ")) (cand (55296 ∷ []) []) ∷ Note 65536 1 (key Nasi (codes "あ")) (cand (codes "亜") [])
+    ∷ Note 1 (2 ^ 64) (key Nasi (codes "あ")) (cand (codes "亜") []) ∷ [])
+    ≡ true ∷ false ∷ false ∷ false ∷ false ∷ false ∷ false ∷ []
+unfolding lib.Utf8.encode
+sound_notes = refl
 
 -- What records leave
 
@@ -151,10 +182,32 @@ states : map (state_told one_row) (
 unfolding lib.Utf8.encode
 states = refl
 
+-- a note stands at its candidate, whose row has the stamp of the change, and may follow where its row is there
+noted_state : state_told one_row (Note 1 3 (key Nasi (codes "b")) (cand (codes "x") (codes "n")))
+    ≡ record {
+      books =
+          record {
+            number = 1;
+            count = 3;
+            rows = record (row Nasi (codes "b") [] 3) { cands = cand (codes "x") (codes "n") ∷ [] } ∷ [];
+          } ∷ [];
+    }
+unfolding lib.Utf8.encode
+noted_state = refl
+
+may_follow_row : map (may_follow one_row) (
+    Note 1 3 (key Nasi (codes "b")) (cand (codes "x") (codes "n"))
+    ∷ Note 1 3 (key Nasi (codes "a")) (cand (codes "x") [])
+    ∷ Note 2 3 (key Nasi (codes "b")) (cand (codes "x") []) ∷ Drop 1 3 (key Nasi (codes "a")) ∷ [])
+    ≡ true ∷ false ∷ false ∷ true ∷ []
+unfolding lib.Utf8.encode
+may_follow_row = refl
+
 -- Changes
 
 -- the first learning of a word, and one in a book that has changed, whose row has another candidate; a purge; and
--- a learning taken back, without a row before and with one, neither of which raises the count
+-- a learning taken back, without a row before and with one, neither of which raises the count; a note of a row that is
+-- there, and one of a row that is not, which is made with it
 first_change : change_told empty_state (Learn 1 (key Nasi (codes "かんじ")) None (record { word = codes "漢字"; note = [] }))
     ≡ Some (Put 1 1 (row Nasi (codes "かんじ") (codes "漢字") 1))
 unfolding lib.Utf8.encode
@@ -170,7 +223,9 @@ changes : map (change_told one_row) (
       key = key Nasi (codes "b");
       stamp = 2;
       before = Some (row Nasi (codes "b") (codes "z") 1);
-    }) ∷ [])
+    })
+    ∷ Annotate 1 (key Nasi (codes "b")) (cand (codes "x") (codes "n"))
+    ∷ Annotate 1 (key Nasi (codes "a")) (cand (codes "x") (codes "n")) ∷ [])
     ≡ None ∷ None
     ∷ Some (Put 1 3 (record {
       key = key Nasi (codes "b");
@@ -187,6 +242,8 @@ changes : map (change_told one_row) (
       stamp = 3;
     }))
     ∷ Some (Drop 1 2 (key Nasi (codes "b")))
-    ∷ Some (Put 1 2 (row Nasi (codes "b") (codes "z") 1)) ∷ []
+    ∷ Some (Put 1 2 (row Nasi (codes "b") (codes "z") 1))
+    ∷ Some (Note 1 3 (key Nasi (codes "b")) (cand (codes "x") (codes "n")))
+    ∷ Some (Put 1 3 (record (row Nasi (codes "a") [] 3) { cands = cand (codes "x") (codes "n") ∷ [] })) ∷ []
 unfolding lib.Utf8.encode
 changes = refl

@@ -1,29 +1,26 @@
 -- What was gathered of records, and how an index comes of it.
 use Rattle.std.proofs.Common.{◌≡◌, ℕ, ◌≤◌, ◌==◌, Bool, true, cond, Option, None, Some}
-use Rattle.std.proofs.Common.{sym, ap, ◌∙◌, subst, arith}
+use Rattle.std.proofs.Common.{refl, sym, ap, ◌∙◌, subst, arith}
 use Rattle.std.specs.BTreeMap.{BTreeMap, get, Updates}
 use Rattle.std.specs.Cmp.{unsigned_tied}
 use Rattle.std.specs.Option.{option_or, unwrap_or}
 use Rattle.std.specs.Ordering.{is_eq, nat_cmp}
 use Rattle.skk_calls.specs.KeyLaws.{same_key_equal}
-use Rattle.skk_calls.specs.Rows.{RowKey, Row, same_key}
+use Rattle.skk_calls.specs.Rows.{RowKey, Cand, Row, same_key}
 use Rattle.skk_calls.specs.States.{State, rows_of, row_at, count_of, state_with, fits_count, is_valid}
 use Rattle.dict_laws.specs.ChangedStates.{row_in_has_key}
 use Rattle.dict_laws.specs.ValidStates.{fits_row_at}
 use Rattle.learn_index.specs.Records.{state_counted}
 use Rattle.learned_store.specs.declared.form.PayloadForm.{PayloadForm}
-use Rattle.learned_store.specs.declared.form.PayloadForm.TheVariants.{Put, Drop, SetCount}
+use Rattle.learned_store.specs.declared.form.PayloadForm.TheVariants.{Put, Drop, SetCount, Note}
 use Rattle.learned_store.specs.declared.row_place.RowPlace.{RowPlace}
-use Rattle.learned_store.specs.Gathering.{AreOf, count_in}
-use Rattle.learned_store.specs.Payloads.{book_of, new_count, is_sound, state_told}
+use Rattle.learned_store.specs.Gathering.{AreKeyed, AreOf, IsAnnotated, IsTold, count_in, place_at}
+use Rattle.learned_store.specs.Gathering.{takes_on}
+use Rattle.learned_store.specs.Payloads.{book_of, new_count, is_sound, may_follow, state_told, takes_note}
 use Rattle.learned_store.specs.RowPlaces.{place_cmp, place_tied}
-use Rattle.learned_store.proofs.ToldStates.{row_told_of, count_told, row_told, valid_put, valid_counted, valid_told}
+use Rattle.learned_store.proofs.ToldStates.{count_told, row_told, valid_put, valid_counted, valid_told}
 
 -- Maps
-
--- the place of a key in a book
-abbrev pub place_at : ℕ → RowKey → RowPlace
-place_at number key = record { book = number; key = key }
 
 -- at a place a row stands now, or none, and at each other what stood there
 abbrev pub IsChanged : (RowPlace → Option Row) → (RowPlace → Option Row) → RowPlace → Option Row → Type 0
@@ -47,13 +44,6 @@ number_updated counts later book count updates number =
 
 -- Records
 
--- the rows were changed as a record tells
-abbrev pub IsTold : PayloadForm → (RowPlace → Option Row) → (RowPlace → Option Row) → Type 0
-IsTold form before after =
-    (number : ℕ) (key : RowKey) → after (place_at number key)
-    ≡ cond (book_of form == number) (row_told_of form key (before (place_at number key)))
-    (before (place_at number key))
-
 module _ (before after : RowPlace → Option Row) (book count : ℕ) where
   -- where a row was put at its own key, or one was taken out, and where no row was told of
   pub put_told : (own : RowKey) (row : Row) → own ≡ row.key → IsChanged before after (place_at book own) (Some row)
@@ -65,17 +55,31 @@ module _ (before after : RowPlace → Option Row) (book count : ℕ) where
       → IsTold (Drop book count gone) before after
   drop_told gone changed = place_changed before after (place_at book gone) None changed
 
+  -- and where a row took a note
+  pub note_told : (own : RowKey) (cand : Cand) → IsAnnotated before after (place_at book own) cand count
+      → AreKeyed before → IsTold (Note book count own cand) before after
+  note_told own cand is keyed number key =
+      grind (
+        arith,
+        keyed (place_at book own) is.row is.there,
+        is.there,
+        is.changed (place_at number key),
+        place_tied (place_at book own) (place_at number key),
+        same_key_equal own key,
+      )
+
 pub set_told : (before : RowPlace → Option Row) (book count : ℕ) → IsTold (SetCount book count) before before
 set_told before book count number key = grind arith
 
 module _ (before after : RowPlace → Option Row) (counts later : BTreeMap ℕ ℕ) (form : PayloadForm)
     (told : IsTold form before after) (book count : ℕ) (own : book ≡ book_of form) (new : count ≡ new_count form)
     (set : Updates nat_cmp counts later book (Some count)) (state : State) (are : AreOf state counts before)
-    (sound : is_sound form ≡ true) (counted : count_of state (book_of form) ≤ new_count form) where
+    (sound : is_sound form ≡ true) (counted : count_of state (book_of form) ≤ new_count form)
+    (follows : may_follow state form ≡ true) where
   -- what was gathered is what one record more leaves
   pub are_told : AreOf (state_told state form) later after
   are_told = record {
-    valid = valid_told state are.valid form sound counted;
+    valid = valid_told state are.valid form sound counted follows;
     count = λ number. grind (
       arith,
       number_updated counts later book (Some count) set number,
@@ -105,6 +109,20 @@ module _ (state : State) (valid : is_valid state ≡ true) (place : RowPlace) (r
   -- and may stand in its book
   pub row_fits : fits_count (count_of state place.book) row ≡ true
   row_fits = grind (arith, fits_row_at state place.book valid place.key, there)
+
+module _ (state : State) (counts : BTreeMap ℕ ℕ) (rows : RowPlace → Option Row) (are : AreOf state counts rows) where
+  -- the rows of a state have their keys
+  pub are_keyed : AreKeyed rows
+  are_keyed place row there =
+      row_key state are.valid place row (sym (are.row place.book place.key) ∙ there)
+
+  -- and a record may follow it where they take it on
+  pub follows_taken : (form : PayloadForm) → may_follow state form ≡ takes_on rows form
+  follows_taken (Put book count row) = refl
+  follows_taken (Drop book count key) = refl
+  follows_taken (SetCount book count) = refl
+  follows_taken (Note book count key cand) =
+      ap (λ (row : Option Row). takes_note row cand count) (sym (are.row book key))
 
 module _ (state index : State) (rows rest : RowPlace → Option Row) (place : RowPlace) (row : Row)
     (valid : is_valid state ≡ true) (put : IsPut state index rows) (first : rows place ≡ Some row)

@@ -5,7 +5,7 @@ use Rattle.skk_calls.specs.declared.answer.Answer.{Answer}
 use Rattle.skk_calls.specs.declared.answer.Answer.TheVariants.{Done, Refused}
 use Rattle.skk_calls.specs.declared.answer.Reply.TheVariants.{Found}
 use Rattle.skk_calls.specs.declared.call.Call.{Call}
-use Rattle.skk_calls.specs.declared.call.Call.TheVariants.{Lookup, Complete, Learn, Purge, Unlearn}
+use Rattle.skk_calls.specs.declared.call.Call.TheVariants.{Lookup, Complete, Learn, Purge, Annotate, Unlearn}
 use Rattle.skk_calls.specs.Dictionary.{answer, after, is_call, may_reply, speaks_of}
 use Rattle.skk_calls.specs.Found.{found}
 use Rattle.skk_calls.specs.Histories.{after_answer}
@@ -21,6 +21,7 @@ module _ (files : List (List Row)) (state : State) where
   none_kept (Complete who prefix) cands is = never cands is
   none_kept (Learn book key okuri cand) cands is = never cands is
   none_kept (Purge book key word) cands is = never cands is
+  none_kept (Annotate book key cand) cands is = never cands is
   none_kept (Unlearn learned) cands is = never cands is
 
   pub same_kept : (old new : KeptReadings) → AreAnswers files state old
@@ -46,6 +47,7 @@ module _ (files : List (List Row)) (state : State) where
   may_be_kept kept (Complete who prefix) cands is = never cands is
   may_be_kept kept (Learn book key okuri cand) cands is = never cands is
   may_be_kept kept (Purge book key word) cands is = never cands is
+  may_be_kept kept (Annotate book key cand) cands is = never cands is
   may_be_kept kept (Unlearn learned) cands is = never cands is
 
 -- a call that changes the row of a key leaves what is kept of other readings
@@ -96,4 +98,5 @@ module _ (files : List (List Row)) (old new : State) (kept left : KeptReadings) 
   kept_elsewhere given is typed answers forgets (Complete who prefix) cands there = never cands there
   kept_elsewhere given is typed answers forgets (Learn book k okuri cand) cands there = never cands there
   kept_elsewhere given is typed answers forgets (Purge book k word) cands there = never cands there
+  kept_elsewhere given is typed answers forgets (Annotate book k cand) cands there = never cands there
   kept_elsewhere given is typed answers forgets (Unlearn learned) cands there = never cands there

@@ -15,17 +15,18 @@ use Rattle.skk_disk.specs.declared.which.Which.TheVariants.{A}
 use Rattle.skk_journal.specs.declared.live.Doubt.{Doubt}
 use Rattle.skk_journal.specs.declared.live.Doubt.TheVariants as doubts
 use Rattle.skk_journal.specs.declared.live.Idle.TheVariants as idles
+use Rattle.skk_journal.specs.Contents.{Contents, no_records}
 use Rattle.skk_journal.specs.Filling.{filled_bytes}
 use Rattle.skk_journal.specs.Images.{Each}
 use Rattle.skk_journal.specs.Journal.{OpenJournal, Rests, Doubts, Holds, HoldsDoubt}
-use Rattle.skk_journal.specs.Records.{IsSized, front, framed}
+use Rattle.skk_journal.specs.Records.{IsSized, framed}
 use Rattle.learned_store.specs.declared.form.PayloadForm.TheVariants.{Put}
 use Rattle.learned_store.specs.Payloads.{Says}
 use Rattle.learned_store.specs.Recovered.{Leave}
 use Rattle.learned_store.specs.Stands.{KeepsAmong, RecoverAmong}
 use Rattle.learned_store.specs.Stores.{RecoversOneOf}
 use Rattle.learned_store.specs.Stores.{Keeps, KeepsOneOf, Adds, IsCompaction, with_doubt, states_within, DoubtAfter}
-use Rattle.learned_store.proofs.SmallFiles.{row_a, row_c, first, second, state, pair, file, has, learn}
+use Rattle.learned_store.proofs.SmallFiles.{row_a, row_c, first, second, old, state, pair, begun, file, has, learn}
 use Rattle.learned_store.proofs.SmallFiles.{first_leaves, two_leave, sized_one, sized_two}
 
 -- Journals
@@ -39,7 +40,14 @@ left_since disk since image = image ≡ disk
 
 abbrev journal : Image → ℕ → Doubt → OpenJournal Image
 journal disk end doubt =
-    record { disk = disk; live = record { file = A; generation = 1 }; end = end; idle = idles.Loose; doubt = doubt }
+    record {
+      disk = disk;
+      newest = 2;
+      live = record { file = A; version = 1; generation = 1 };
+      end = end;
+      idle = idles.Loose;
+      doubt = doubt;
+    }
 
 abbrev KeepsThat : OpenJournal Image → State → Option State → Type 0
 KeepsThat = Keeps time left_since
@@ -51,28 +59,31 @@ alone P disk holds image is = subst P (sym is) holds
 abbrev calm : OpenJournal Image
 calm = journal (pair (file 1 (first ∷ [])) []) 48 doubts.Calm
 
-calm_rests : Rests time left_since calm (first ∷ [])
+calm_rests : Rests time left_since calm (old (first ∷ []))
 unfolding number_bytes
 calm_rests = record {
   calm = refl;
+  version = refl;
   end = refl;
   images =
-      alone (Holds calm.live calm.idle (first ∷ [])) calm.disk
+      alone (Holds 2 calm.live calm.idle (old (first ∷ []))) calm.disk
       (record { this = has 1 (first ∷ []) (lit≤ tt) sized_one; that = inl (lit≤ tt) });
 }
 
 -- a record more stands behind a gate, and with it the state after it counts
 abbrev staged : OpenJournal Image
 staged =
-    journal (pair (front 1 (first ∷ []) ++ 7 ∷ 25 ∷ 0 ∷ 0 ∷ 0 ∷ (second ++ 0 ∷ [])) []) 48 doubts.Record
+    journal (pair (begun 1 (first ∷ []) ++ 7 ∷ 25 ∷ 0 ∷ 0 ∷ 0 ∷ (second ++ 0 ∷ [])) []) 48 doubts.Record
 
-staged_doubts : Doubts time left_since staged (first ∷ []) (first ∷ second ∷ [])
+staged_doubts : Doubts time left_since staged (old (first ∷ [])) (old (first ∷ second ∷ []))
 unfolding number_bytes
 staged_doubts = record {
   doubt = refl;
+  version = refl;
   end = refl;
   images =
-      alone (HoldsDoubt staged.live staged.idle doubts.Record (first ∷ []) (first ∷ second ∷ [])) staged.disk
+      alone (HoldsDoubt 2 staged.live staged.idle doubts.Record (old (first ∷ [])) (old (first ∷ second ∷ [])))
+      staged.disk
       (record {
         this = (
           second ∷ [],
@@ -82,6 +93,7 @@ staged_doubts = record {
             record {
               rest = [];
               is = refl;
+              right = (lit≤ tt, lit≤ tt);
               told = lit≤ tt;
               sized = sized_one;
               addition = record {
@@ -100,15 +112,18 @@ abbrev written : List ℕ
 written =
     1 ∷ 1 ∷ 0 ∷ 2 ∷ 0 ∷ 0 ∷ 0 ∷ 0 ∷ 0 ∷ 0 ∷ 0 ∷ 1 ∷ 0 ∷ 0 ∷ 0 ∷ 0 ∷ 0 ∷ 0 ∷ 0 ∷ 0 ∷ 97 ∷ 32 ∷ 47 ∷ 98 ∷ 47 ∷ []
 
-written_says : Says empty_state written (Put 1 2 row_a)
+written_says : Says 2 empty_state written (Put 1 2 row_a)
 unfolding lib.Utf8.encode number_bytes
-written_says = record { sound = refl; counted = lit≤ tt; is = refl }
+written_says = record { known = refl; sound = refl; counted = lit≤ tt; follows = refl; is = refl }
 
-after_says : Says (state 2 (row_a ∷ [])) second (Put 1 2 row_c)
+after_says : Says 2 (state 2 (row_a ∷ [])) second (Put 1 2 row_c)
 unfolding lib.Utf8.encode number_bytes
-after_says = record { sound = refl; counted = lit≤ tt; is = refl }
+after_says = record { known = refl; sound = refl; counted = lit≤ tt; follows = refl; is = refl }
 
-written_leave : Leave (written ∷ second ∷ []) (state 2 (row_a ∷ row_c ∷ []))
+abbrev compacted_records : Contents
+compacted_records = record { version = 2; records = written ∷ second ∷ [] }
+
+written_leave : Leave compacted_records (state 2 (row_a ∷ row_c ∷ []))
 unfolding lib.Utf8.encode
 written_leave = (Put 1 2 row_a, written_says, (Put 1 2 row_c, after_says, refl))
 
@@ -118,18 +133,20 @@ written_sized = All-cons IsSized written (second ∷ []) (lit≤ tt, lit≤ tt)
 
 abbrev filled : OpenJournal Image
 filled =
-    journal (pair (file 1 (first ∷ second ∷ [])) (filled_bytes 1 2 (framed (written ∷ second ∷ [])))) 78 doubts.Idle
+    journal (pair (file 1 (first ∷ second ∷ [])) (filled_bytes 1 2 2 (framed (written ∷ second ∷ [])))) 78 doubts.Idle
 
-filled_doubts : Doubts time left_since filled (first ∷ second ∷ []) (written ∷ second ∷ [])
+filled_doubts : Doubts time left_since filled (old (first ∷ second ∷ [])) compacted_records
 unfolding number_bytes
 filled_doubts = record {
   doubt = refl;
+  version = refl;
   end = refl;
   images =
-      alone (HoldsDoubt filled.live filled.idle doubts.Idle (first ∷ second ∷ []) (written ∷ second ∷ [])) filled.disk
+      alone (HoldsDoubt 2 filled.live filled.idle doubts.Idle (old (first ∷ second ∷ [])) compacted_records)
+      filled.disk
       (record {
         this = has 1 (first ∷ second ∷ []) (lit≤ tt) sized_two;
-        that = (lit≤ tt, written_sized, (1, refl));
+        that = ((lit≤ tt, lit≤ tt), lit≤ tt, written_sized, (1, refl));
       });
 }
 
@@ -137,15 +154,15 @@ keeps : KeepsThat calm (state 1 (row_a ∷ [])) None
     × KeepsThat staged (state 1 (row_a ∷ [])) (Some (state 2 (row_a ∷ row_c ∷ [])))
     × KeepsThat filled (state 2 (row_a ∷ row_c ∷ [])) (Some (state 2 (row_a ∷ row_c ∷ [])))
 keeps = (
-  (first ∷ [], first_leaves, calm_rests),
-  (first ∷ [], first ∷ second ∷ [], first_leaves, two_leave, staged_doubts),
-  (first ∷ second ∷ [], written ∷ second ∷ [], two_leave, written_leave, filled_doubts),
+  (refl, old (first ∷ []), first_leaves, calm_rests),
+  (refl, old (first ∷ []), old (first ∷ second ∷ []), first_leaves, two_leave, staged_doubts),
+  (refl, old (first ∷ second ∷ []), compacted_records, two_leave, written_leave, filled_doubts),
 )
 
 -- a journal in doubt keeps no state alone, and one in no doubt has none beside its own
 keeps_not : (kept : State) → (¬ KeepsThat staged kept None) × (¬ KeepsThat filled kept None)
     × ((other : State) → ¬ KeepsThat calm kept (Some other))
-keeps_not kept = (λ is. cc is.2.calm, λ is. cc is.2.calm, λ other is. cc is.4.doubt)
+keeps_not kept = (λ is. cc is.3.calm, λ is. cc is.3.calm, λ other is. cc is.5.doubt)
 
 -- one of these is in doubt, or nothing where nothing is among them
 keeps_one : KeepsOneOf time left_since calm (state 1 (row_a ∷ [])) (Some empty_state ∷ None ∷ [])
@@ -163,7 +180,7 @@ among : KeepsAmong time left_since staged (state 1 (row_a ∷ [])) (empty_state 
 among = ((Some (state 2 (row_a ∷ row_c ∷ [])), (1, lit< tt, refl), keeps.1), (None, tt, keeps.0))
 
 none_among : (kept : State) → ¬ KeepsAmong time left_since staged kept []
-none_among kept (None, here, keeps) = cc keeps.2.calm
+none_among kept (None, here, keeps) = cc keeps.3.calm
 none_among kept (Some other, here, keeps) = omega (arith, here.1)
 
 -- images that are opened as a state, or as one in doubt beside it
@@ -171,12 +188,20 @@ recover_among : RecoverAmong empty_state [] (left_since (pair [] []) 0)
     × RecoverAmong empty_state (state 1 (row_a ∷ []) ∷ []) (left_since calm.disk 0)
 unfolding number_bytes number_of number_step
 recover_among = (
-  (None, tt, alone (RecoversOneOf (empty_state ∷ [])) (pair [] []) (empty_state, (0, lit< tt, refl), ([], refl, refl))),
+  (
+    None,
+    tt,
+    alone (RecoversOneOf (empty_state ∷ [])) (pair [] [])
+        (empty_state, (0, lit< tt, refl), (no_records 2, refl, refl)),
+  ),
   (
     Some (state 1 (row_a ∷ [])),
     (0, lit< tt, refl),
-    alone (RecoversOneOf (empty_state ∷ state 1 (row_a ∷ []) ∷ [])) calm.disk
-        (state 1 (row_a ∷ []), (1, lit< tt, refl), (first ∷ [], has 1 (first ∷ []) (lit≤ tt) sized_one, first_leaves)),
+    alone (RecoversOneOf (empty_state ∷ state 1 (row_a ∷ []) ∷ [])) calm.disk (
+      state 1 (row_a ∷ []),
+      (1, lit< tt, refl),
+      (old (first ∷ []), has 1 (first ∷ []) (lit≤ tt) sized_one, first_leaves),
+    ),
   ),
 )
 
@@ -190,9 +215,9 @@ compactions = (
 )
 
 -- a payload that adds stands behind the records of the state before it
-added : (after : State) → (Adds first empty_state after → Leave (first ∷ []) after)
-    × (Adds second (state 1 (row_a ∷ [])) after → Leave (first ∷ second ∷ []) after)
-added after = (λ adds. adds [] refl, λ adds. adds (first ∷ []) first_leaves)
+added : (after : State) → (Adds 1 first empty_state after → Leave (old (first ∷ [])) after)
+    × (Adds 1 second (state 1 (row_a ∷ [])) after → Leave (old (first ∷ second ∷ [])) after)
+added after = (λ adds. adds (old []) refl refl, λ adds. adds (old (first ∷ [])) refl first_leaves)
 
 -- Calls
 

@@ -8,6 +8,7 @@ mod Compactions
 mod DoubtedStates
 mod Examples
 mod Gathering
+mod ItemLengths
 mod Kept
 mod KeptAnswers
 mod KeptExamples
@@ -18,6 +19,7 @@ mod Needs
 mod NoForms
 mod NoteExamples
 mod Noted
+mod NotedParts
 mod OneRecovery
 mod Opened
 mod Placed
@@ -32,7 +34,9 @@ mod RecoveredExamples
 mod Refused
 mod RefusedExamples
 mod RoomExamples
+mod RowGrowth
 mod SameStates
+mod ScalarsAnnotated
 mod ServedExamples
 mod Serving
 mod Sized
@@ -42,6 +46,7 @@ mod SoundForms
 mod Spelled
 mod StandExamples
 mod Standing
+mod StillOpened
 mod TightEnds
 mod Told
 mod ToldStates

@@ -62,13 +62,13 @@ module _ {D : Type 0} (time : D → ℕ) (left_since : D → ℕ → Image → T
   -- a journal that keeps a state is in doubt exactly where another state is
   calm-kept : (journal : OpenJournal D) (state : State) (doubt : Option State)
       → Keeps time left_since journal state doubt → doubt ≡ None → is_in_doubt journal.doubt ≡ false
-  calm-kept journal state None keeps none = keeps.2.calm
+  calm-kept journal state None keeps none = keeps.3.calm
   calm-kept journal state (Some other) keeps none = absurd (cc)
 
   none-kept : (journal : OpenJournal D) (state : State) (doubt : Option State)
       → Keeps time left_since journal state doubt → is_in_doubt journal.doubt ≡ false → doubt ≡ None
   none-kept journal state None keeps calm = refl
-  none-kept journal state (Some other) keeps calm = absurd (differ (is_in_doubt journal.doubt) keeps.4.doubt calm)
+  none-kept journal state (Some other) keeps calm = absurd (differ (is_in_doubt journal.doubt) keeps.5.doubt calm)
 
   module _ (old new : OpenJournal D) (state now : State) (calls : List Call) (call : Call) (doubt later : Option State)
       (kept : Keeps time left_since old state doubt) (keeps : Keeps time left_since new now later)

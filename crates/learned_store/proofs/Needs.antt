@@ -3,17 +3,17 @@ use Rattle.std.proofs.Common.{◌≡◌, ℕ, ◌+◌, Option, None, Some, ◌�
 use Rattle.std.proofs.Common.{arith, length-append}
 use Rattle.exact_readers.specs.NumberLaws.{told_16, told_64}
 use Rattle.skk_calls.specs.declared.call.Call.{Call}
-use Rattle.skk_calls.specs.declared.call.Call.TheVariants.{Lookup, Complete, Learn, Purge, Unlearn}
-use Rattle.skk_calls.specs.Canonical.{canonical}
-use Rattle.skk_calls.specs.Histories.{put_need, drop_need, restored_need, need}
-use Rattle.skk_calls.specs.Rows.{RowKey, Row}
-use Rattle.skk_calls.specs.Learning.{learnt, purged}
+use Rattle.skk_calls.specs.declared.call.Call.TheVariants.{Lookup, Complete, Learn, Purge, Annotate, Unlearn}
+use Rattle.skk_calls.specs.Canonical.{canonical, item}
+use Rattle.skk_calls.specs.Histories.{put_need, drop_need, restored_need, note_need, annotated_need, need}
+use Rattle.skk_calls.specs.Rows.{RowKey, Cand, Row}
+use Rattle.skk_calls.specs.Learning.{learnt, purged, annotated}
 use Rattle.skk_calls.specs.States.{State, row_at, count_of}
 use Rattle.skk_journal.specs.RecordLaws.{need_is}
 use Rattle.skk_journal.specs.Records.{need as record_need}
 use Rattle.learned_store.specs.declared.form.PayloadForm.{PayloadForm}
 use Rattle.learned_store.specs.Payloads.{book_number, wide_number, part_byte, put_bytes, drop_bytes, count_bytes}
-use Rattle.learned_store.specs.Payloads.{payload_of, row_told, change_told}
+use Rattle.learned_store.specs.Payloads.{note_bytes, payload_of, row_told, note_told, change_told}
 
 -- the record of a row needs 25 bytes and those of its line
 pub put_needs : (book count : ℕ) (row : Row) → put_need row ≡ record_need (put_bytes book count row)
@@ -48,6 +48,28 @@ pub counted_long : (book count : ℕ) → length (count_bytes book count) ≡ 11
 counted_long book count =
     omega (arith, length-append (book_number book) (wide_number count), told_16.long book, told_64.long count)
 
+-- the record of a note needs 18 bytes and those of its reading and of its item
+pub note_needs : (book count : ℕ) (key : RowKey) (cand : Cand) → note_need key cand
+    ≡ record_need (note_bytes book count key cand)
+note_needs book count key cand =
+    let reading = encode_utf8_all key.reading in
+    let text = encode_utf8_all (item cand) in
+    let behind = part_byte key.part ∷ length reading ∷ (reading ++ text) in
+    omega (
+      arith,
+      need_is (note_bytes book count key cand),
+      length-append (book_number book) (wide_number count ++ behind),
+      length-append (wide_number count) behind,
+      length-append reading text,
+      told_16.long book,
+      told_64.long count,
+    )
+
+annotated_needs : (book count : ℕ) (key : RowKey) (cand : Cand) (row : Option Row)
+    → annotated_need row key cand count ≡ record_need (payload_of (note_told book count key cand row))
+annotated_needs book count key cand None = put_needs book count (annotated None key cand count)
+annotated_needs book count key cand (Some row) = note_needs book count key cand
+
 restored_needs : (book count : ℕ) (key : RowKey) (row : Option Row)
     → restored_need key row ≡ record_need (payload_of (row_told book count key row))
 restored_needs book count key None = drop_needs book count key
@@ -63,5 +85,7 @@ needs_record state (Learn book key okuri cand) form is =
 needs_record state (Purge book key word) form is =
     let count = count_of state book + 1 in
     grind (arith, put_needs book count (purged (row_at state book key) key word count))
+needs_record state (Annotate book key cand) form is =
+    grind (arith, annotated_needs book (count_of state book + 1) key cand (row_at state book key))
 needs_record state (Unlearn learned) form is =
     grind (arith, restored_needs learned.book (count_of state learned.book) learned.key learned.before)

@@ -6,19 +6,19 @@ use Rattle.exact_readers.specs.Formats.{taken}
 use Rattle.exact_readers.specs.Numbers.{number_of, number_step}
 use Rattle.std.specs.Str.{chars, is_utf8}
 use Rattle.skk_calls.specs.declared.part.Part.TheVariants.{Nasi}
-use Rattle.skk_calls.specs.Rows.{Row}
+use Rattle.skk_calls.specs.Rows.{Cand, Row}
 use Rattle.skk_calls.specs.States.{State}
 use Rattle.dict_format.specs.Reading.{line_reading, row_reading, key_at, texts_at, fit_items_at, some_row_of}
-use Rattle.learned_store.specs.declared.form.PayloadForm.TheVariants.{Put, Drop, SetCount}
+use Rattle.learned_store.specs.declared.form.PayloadForm.TheVariants.{Put, Drop, SetCount, Note}
 use Rattle.learned_store.specs.Payloads.{SaysNothing}
 use Rattle.learned_store.specs.Reading.{form_of}
-use Rattle.learned_store.proofs.ReadForms.{below_said}
+use Rattle.learned_store.proofs.ReadForms.{below_said, unfit_said, unknown_said}
 use Rattle.learned_store.proofs.ReadRows.{LinesAreRead}
 
 -- another first byte
-pub other_byte : (state : State) (first : ℕ) (rest : List ℕ) → first ≢ 1 → first ≢ 2 → first ≢ 3
-    → SaysNothing state (first ∷ rest)
-other_byte state first rest one two three form says = grind (arith, says.is, one, two, three)
+pub other_byte : (version : ℕ) (state : State) (first : ℕ) (rest : List ℕ) → first ≢ 1 → first ≢ 2 → first ≢ 3
+    → first ≢ 4 → SaysNothing version state (first ∷ rest)
+other_byte version state first rest one two three four form says = grind (arith, says.is, one, two, three, four)
 
 -- a small number in eight bytes
 abbrev eight : ℕ → List ℕ
@@ -35,12 +35,16 @@ put stamp row = 1 ∷ 1 ∷ 0 ∷ (eight 1 ++ (eight stamp ++ row))
 abbrev dropped : List ℕ → List ℕ
 dropped key = 2 ∷ 1 ∷ 0 ∷ (eight 1 ++ key)
 
+-- what gives a candidate of a row of book 1 a note, after which that has this count
+abbrev noted : ℕ → List ℕ → List ℕ
+noted count rest = 4 ∷ 1 ∷ 0 ∷ (eight count ++ rest)
+
 -- nothing is read of each of these
 abbrev ReadNone : List (List ℕ) → Type 0
 ReadNone payloads = list_all (λ payload. is_none (form_of payload)) payloads ≡ true
 
 -- no byte, another first byte, a count with a byte too few, and one with a byte too many
-no_count : ReadNone ([] ∷ (0 ∷ []) ∷ (4 ∷ 1 ∷ 0 ∷ eight 1) ∷ (3 ∷ 1 ∷ 0 ∷ 1 ∷ 0 ∷ 0 ∷ 0 ∷ 0 ∷ 0 ∷ 0 ∷ [])
+no_count : ReadNone ([] ∷ (0 ∷ []) ∷ (5 ∷ 1 ∷ 0 ∷ eight 1) ∷ (3 ∷ 1 ∷ 0 ∷ 1 ∷ 0 ∷ 0 ∷ 0 ∷ 0 ∷ 0 ∷ 0 ∷ [])
     ∷ counted (0 ∷ [])
     ∷ [])
 unfolding number_of number_step
@@ -82,6 +86,20 @@ unfolding number_of number_step is_utf8 chars lib.Utf8.encode line_reading row_r
     some_row_of taken
 no_own_line = refl
 
+-- a note that ends before its part, before its length and within its reading, one whose part is neither 0 nor 1, one of
+-- no reading, of no item and of two items, and one behind which the count is 0
+no_note : ReadNone (noted 1 [] ∷ noted 1 (0 ∷ []) ∷ noted 1 (0 ∷ 2 ∷ codes "a") ∷ noted 1 (2 ∷ 1 ∷ codes "ab")
+    ∷ noted 1 (0 ∷ 0 ∷ codes "b") ∷ noted 1 (0 ∷ 1 ∷ codes "a") ∷ noted 1 (0 ∷ 1 ∷ codes "ab/c")
+    ∷ noted 0 (0 ∷ 1 ∷ codes "ab")
+    ∷ [])
+unfolding number_of number_step is_utf8 chars lib.Utf8.encode line_reading row_reading key_at texts_at fit_items_at
+    some_row_of taken
+no_note = refl
+
+-- the candidate b with the note c
+abbrev b_with_note : Cand
+b_with_note = record { word = codes "b"; note = codes "c" }
+
 -- the row of a with the candidate b and the stamp 1
 abbrev spelled : Row
 spelled =
@@ -94,8 +112,10 @@ spelled =
     }
 
 -- each form is read
-forms_read : map form_of (put 1 (0 ∷ codes "a /b/") ∷ dropped (0 ∷ codes "a") ∷ counted [] ∷ [])
-    ≡ Some (Put 1 1 spelled) ∷ Some (Drop 1 1 spelled.key) ∷ Some (SetCount 1 1) ∷ []
+forms_read : map form_of (put 1 (0 ∷ codes "a /b/") ∷ dropped (0 ∷ codes "a") ∷ counted []
+    ∷ noted 1 (0 ∷ 1 ∷ codes "ab;c") ∷ [])
+    ≡ Some (Put 1 1 spelled) ∷ Some (Drop 1 1 spelled.key) ∷ Some (SetCount 1 1)
+    ∷ Some (Note 1 1 spelled.key b_with_note) ∷ []
 unfolding number_of number_step is_utf8 chars lib.Utf8.encode line_reading row_reading key_at texts_at fit_items_at
     some_row_of taken
 forms_read = refl
@@ -105,12 +125,27 @@ abbrev twice : State
 twice = record { books = record { number = 1; count = 2; rows = [] } ∷ [] }
 
 -- so each says nothing there, since its count is below that of its book
-below : LinesAreRead → SaysNothing twice (put 1 (0 ∷ codes "a /b/")) × SaysNothing twice (dropped (0 ∷ codes "a"))
-    × SaysNothing twice (counted [])
+below : LinesAreRead → SaysNothing 1 twice (put 1 (0 ∷ codes "a /b/")) × SaysNothing 1 twice (dropped (0 ∷ codes "a"))
+    × SaysNothing 1 twice (counted []) × SaysNothing 2 twice (noted 1 (0 ∷ 1 ∷ codes "ab;c"))
 unfolding number_of number_step is_utf8 chars lib.Utf8.encode line_reading row_reading key_at texts_at fit_items_at
     some_row_of taken
 below lines = (
-  below_said lines twice _ (Put 1 1 spelled) refl (omega arith),
-  below_said lines twice _ (Drop 1 1 spelled.key) refl (omega arith),
-  below_said lines twice _ (SetCount 1 1) refl (omega arith),
+  below_said lines 1 twice _ (Put 1 1 spelled) refl (omega arith),
+  below_said lines 1 twice _ (Drop 1 1 spelled.key) refl (omega arith),
+  below_said lines 1 twice _ (SetCount 1 1) refl (omega arith),
+  below_said lines 2 twice _ (Note 1 1 spelled.key b_with_note) refl (omega arith),
+)
+
+-- book 1 has that row
+abbrev once : State
+once = record { books = record { number = 1; count = 1; rows = spelled ∷ [] } ∷ [] }
+
+-- a note says nothing in a file of version 1, nor where its row is not there
+unknown : LinesAreRead → SaysNothing 1 once (noted 2 (0 ∷ 1 ∷ codes "ab;c"))
+    × SaysNothing 2 twice (noted 3 (0 ∷ 1 ∷ codes "ab;c"))
+unfolding number_of number_step is_utf8 chars lib.Utf8.encode line_reading row_reading key_at texts_at fit_items_at
+    some_row_of taken
+unknown lines = (
+  unknown_said lines 1 once _ (Note 1 2 spelled.key b_with_note) refl refl,
+  unfit_said lines 2 twice _ (Note 1 3 spelled.key b_with_note) refl refl,
 )

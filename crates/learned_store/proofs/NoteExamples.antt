@@ -14,10 +14,12 @@ use Rattle.skk_disk.specs.Image.{Image}
 use Rattle.skk_disk.specs.declared.which.Which.TheVariants.{B}
 use Rattle.skk_journal.specs.declared.live.Doubt.TheVariants as doubts
 use Rattle.skk_journal.specs.declared.live.Idle.TheVariants as idles
+use Rattle.skk_journal.specs.Contents.{no_records}
+use Rattle.learned_store.specs.Payloads.{newest_version}
 use Rattle.learned_store.specs.Stands.{time_of, faults_of, left_behind, HasCause, GoOn, IsOneOf, opening_note, Counts}
 use Rattle.learned_store.specs.Stands.{RecoversBy, StandsOver}
 use Rattle.learned_store.specs.Stores.{opening_now, OpenStore, Recovers}
-use Rattle.learned_store.proofs.SmallFiles.{row_a, first, state, pair, file, has, learn, first_leaves, sized_one}
+use Rattle.learned_store.proofs.SmallFiles.{row_a, first, state, pair, file, has, learn, first_leaves, sized_one, old}
 
 -- the state after the learning, the reply that tells so, and another state
 abbrev learnt : State
@@ -105,10 +107,10 @@ at_each since stands image first middle last = (
 -- before 5, and a second file with its record as the state after it at each moment
 learnt_recovers : Recovers learnt (pair [] (file 1 (first ∷ [])))
 unfolding number_bytes number_of number_step
-learnt_recovers = (first ∷ [], has 1 (first ∷ []) (lit≤ tt) sized_one, first_leaves)
+learnt_recovers = (old (first ∷ []), has 1 (first ∷ []) (lit≤ tt) sized_one, first_leaves)
 
 empty_recovers : Recovers empty_state (pair [] [])
-empty_recovers = ([], refl, refl)
+empty_recovers = (no_records newest_version, refl, refl)
 
 by_times : RecoversBy empty_state (opened ∷ entry learned 5 2 ∷ []) 4 (pair [] [])
     × RecoversBy empty_state (opened ∷ entry learned 5 2 ∷ []) 4 (pair [] (file 1 (first ∷ [])))
@@ -143,7 +145,8 @@ abbrev store : OpenStore ℕ
 store = record {
   journal = record {
     disk = 7;
-    live = record { file = B; generation = 2 };
+    newest = 2;
+    live = record { file = B; version = 1; generation = 2 };
     end = 12;
     idle = idles.Loose;
     doubt = doubts.Calm;

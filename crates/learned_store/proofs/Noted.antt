@@ -67,7 +67,7 @@ module _ {D : Type 0} (time faults : D → ℕ) (left_since : D → ℕ → Imag
         files = refl;
         limit = refl;
         state = refl;
-        calm = λ none. keeps.2.calm;
+        calm = λ none. keeps.3.calm;
         keeps = (None, tt, keeps);
         moments = now store keeps;
         goes_on = (omega arith, omega arith, tt, (refl, refl));

@@ -1,9 +1,10 @@
 -- What is read of a payload is what it says, and what may be written is read again: so a payload says one thing.
-use Rattle.std.proofs.Common.{◌≡◌, ◌^◌, ◌<◌, ◌≤◌, ◌&&◌, ◌==◌, ℕ, true, inl, inr, Option, None, Some, List, [], ◌∷◌}
+use Rattle.std.proofs.Common.{◌≡◌, ◌^◌, ◌<◌, ◌≤◌, ◌&&◌, ◌==◌, ℕ, nat_le, true, false, inl, inr, Option, None, Some}
+use Rattle.std.proofs.Common.{List, [], ◌∷◌}
 use Rattle.std.proofs.Common.{◌++◌, append-nil, append_assoc, refl, sym, ap, ◌∙◌, subst, arith}
 use Rattle.std.specs.Int.{w16, w64}
 use Rattle.std.specs.Option.{IfSome, option_map}
-use Rattle.std.proofs.lemmas.Bool.{and_parts, eqb-true}
+use Rattle.std.proofs.lemmas.Bool.{and_parts, both_ways, eqb-true, le-leb}
 use Rattle.std.proofs.lemmas.Bool.Decides.{nat_tests}
 use Rattle.std.proofs.lemmas.Option.{none-some, same_Some}
 use Rattle.exact_readers.specs.Exact.{IsExact}
@@ -13,16 +14,17 @@ use Rattle.exact_readers.specs.NumberLaws.{number-exact, told_16, told_64}
 use Rattle.exact_readers.specs.Numbers.{number}
 use Rattle.skk_text.specs.Counts.{last_count}
 use Rattle.skk_text.specs.Lists.{is_empty}
-use Rattle.skk_calls.specs.Rows.{RowKey, Row}
+use Rattle.skk_calls.specs.Rows.{RowKey, Cand, Row}
 use Rattle.skk_calls.specs.States.{State, count_of}
 use Rattle.learned_store.specs.declared.form.PayloadForm.{PayloadForm}
-use Rattle.learned_store.specs.declared.form.PayloadForm.TheVariants.{Put, Drop, SetCount}
+use Rattle.learned_store.specs.declared.form.PayloadForm.TheVariants.{Put, Drop, SetCount, Note}
 use Rattle.learned_store.specs.Payloads.{book_number, wide_number, are_held, book_of, new_count, payload_of, is_sound}
-use Rattle.learned_store.specs.Payloads.{Says, SaysNothing}
-use Rattle.learned_store.specs.Reading.{payload_with, put_with, fields, form_behind, form_of, key_of, row_of}
+use Rattle.learned_store.specs.Payloads.{Says, SaysNothing, first_version, may_follow}
+use Rattle.learned_store.specs.Reading.{payload_with, put_with, fields, form_behind, form_of, key_of, row_of, noted_of}
+use Rattle.learned_store.proofs.NotedParts.{noted_sound, noted_complete}
 use Rattle.learned_store.proofs.ReadParts.{key_sound, key_complete, row_sound, row_complete}
 use Rattle.learned_store.proofs.ReadRows.{LinesAreRead, LinesAreRows}
-use Rattle.learned_store.proofs.SoundForms.{put_parts, drop_parts}
+use Rattle.learned_store.proofs.SoundForms.{put_parts, drop_parts, note_parts}
 
 -- Fields
 
@@ -113,6 +115,15 @@ module _ (lines : LinesAreRows) (book count : ℕ) (rest : List ℕ) (is_held : 
       shorter [] none = append-nil (wide_number count)
       shorter (b ∷ rest) none = cc
 
+  note_sound : nat_le 1 count ≡ true → (noted : RowKey × Cand) → noted_of rest ≡ Some noted
+      → IsRead (payload_with 4 book count rest) (Note book count noted.0 noted.1)
+  note_sound some noted e =
+      let read = noted_sound lines rest noted e in
+      record {
+        sound = grind (arith, some, read.valid, read.cand_is, read.reading, read.item);
+        is = ap (payload_with 4 book count) read.is;
+      }
+
   behind_sound : (kind : ℕ) (form : PayloadForm) → form_behind kind book count rest ≡ Some form
       → IsRead (payload_with kind book count rest) form
   behind_sound kind form e =
@@ -132,7 +143,14 @@ module _ (lines : LinesAreRows) (book count : ℕ) (rest : List ℕ) (is_held : 
                 subst (λ k. IsRead (payload_with k book count rest) form) (sym (eqb-true kind 3 tests.0))
                 (subst (IsRead (payload_with 3 book count rest)) (same_Some (SetCount book count) form set.1)
                 (count_sound tests.1))
-            | inr none ↦ absurd (none-some form none.1)
+            | inr note ↦ elim (chosen (kind == 4 && nat_le 1 count) _ _ _ note.1) [
+              | inl told ↦
+                  let tests = and_parts (kind == 4) (nat_le 1 count) told.0 in
+                  let read = option_map-some (noted_of rest) (λ noted. Note book count noted.0 noted.1) form told.1 in
+                  subst (λ k. IsRead (payload_with k book count rest) form) (sym (eqb-true kind 4 tests.0))
+                  (subst (IsRead (payload_with 4 book count rest)) read.2 (note_sound tests.1 read.0 read.1))
+              | inr none ↦ absurd (none-some form none.1)
+            ]
           ]
         ]
       ]
@@ -168,33 +186,57 @@ module _ (lines : LinesAreRead) where
       ap (λ l. form_of (3 ∷ (book_number book ++ l))) (sym (append-nil (wide_number count)))
       ∙ ap (λ o. then_at o (λ read. form_behind read.0.0 read.0.1.0 read.0.1.1 read.1))
       (fields_complete 3 book count [] sound)
+  form_complete (Note book count key cand) sound =
+      let parts = note_parts book count key cand sound in
+      ap (λ o. then_at o (λ read. form_behind read.0.0 read.0.1.0 read.0.1.1 read.1))
+      (fields_complete 4 book count _ parts.held)
+      ∙ rw (le-leb 1 count parts.some)
+      (ap (option_map (λ noted. Note book count noted.0 noted.1))
+      (noted_complete lines key cand parts.valid parts.cand_is parts.reading parts.item))
 
   -- what a payload says is read of it
-  pub said : (state : State) (payload : List ℕ) (form : PayloadForm) → Says state payload form
+  pub said : (version : ℕ) (state : State) (payload : List ℕ) (form : PayloadForm) → Says version state payload form
       → form_of payload ≡ Some form
-  said state payload form says = ap form_of says.is ∙ form_complete form says.sound
+  said version state payload form says = ap form_of says.is ∙ form_complete form says.sound
 
-  -- so a payload says one thing, at whatever states
-  pub one_form : (state later : State) (payload : List ℕ) (form other : PayloadForm) → Says state payload form
-      → Says later payload other → form ≡ other
-  one_form state later payload form other says also =
-      same_Some form other (sym (said state payload form says) ∙ said later payload other also)
+  -- so a payload says one thing, in files of whatever versions and at whatever states
+  pub one_form : (version other_version : ℕ) (state later : State) (payload : List ℕ) (form other : PayloadForm)
+      → Says version state payload form → Says other_version later payload other → form ≡ other
+  one_form version other_version state later payload form other says also =
+      same_Some form other
+      (sym (said version state payload form says) ∙ said other_version later payload other also)
 
   -- and nothing where nothing is read of it
-  pub nothing_said : (state : State) (payload : List ℕ) → form_of payload ≡ None → SaysNothing state payload
-  nothing_said state payload none form says = none-some form (sym none ∙ said state payload form says)
+  pub nothing_said : (version : ℕ) (state : State) (payload : List ℕ) → form_of payload ≡ None
+      → SaysNothing version state payload
+  nothing_said version state payload none form says =
+      none-some form (sym none ∙ said version state payload form says)
+
+  -- or something that the version has not
+  pub unknown_said : (version : ℕ) (state : State) (payload : List ℕ) (form : PayloadForm)
+      → form_of payload ≡ Some form → nat_le (first_version form) version ≡ false → SaysNothing version state payload
+  unknown_said version state payload form is unknown other says =
+      let same = same_Some form other (sym is ∙ said version state payload other says) in
+      both_ways (nat_le (first_version form) version) unknown
+      (ap (λ (f : PayloadForm). nat_le (first_version f) version) same ∙ says.known)
+
+  -- or that may not follow there
+  pub unfit_said : (version : ℕ) (state : State) (payload : List ℕ) (form : PayloadForm)
+      → form_of payload ≡ Some form → may_follow state form ≡ false → SaysNothing version state payload
+  unfit_said version state payload form is unfit other says =
+      let same = same_Some form other (sym is ∙ said version state payload other says) in
+      both_ways (may_follow state form) unfit (ap (may_follow state) same ∙ says.follows)
 
   -- or something of a count below that of its book
-  pub below_said : (state : State) (payload : List ℕ) (form : PayloadForm) → form_of payload ≡ Some form
-      → new_count form < count_of state (book_of form) → SaysNothing state payload
-  below_said state payload form is below other says =
-      let same = same_Some form other (sym is ∙ said state payload other says) in
+  pub below_said : (version : ℕ) (state : State) (payload : List ℕ) (form : PayloadForm) → form_of payload ≡ Some form
+      → new_count form < count_of state (book_of form) → SaysNothing version state payload
+  below_said version state payload form is below other says =
+      let same = same_Some form other (sym is ∙ said version state payload other says) in
       let counted : count_of state (book_of form) ≤ new_count form =
       subst (λ (f : PayloadForm). count_of state (book_of f) ≤ new_count f) (sym same) says.counted in
       omega (arith, below, counted)
 
-  -- nor does code read anything then
-  pub none_read : (payload : List ℕ) (found : Option PayloadForm) → found ≡ form_of payload → found ≡ None
-      → (form : PayloadForm) → is_sound form ≡ true → payload ≡ payload_of form → ⊥
-  none_read payload found is none form sound same =
-      none-some form (sym none ∙ is ∙ ap form_of same ∙ form_complete form sound)
+  -- and code reads it
+  pub form_found : (payload : List ℕ) (found : Option PayloadForm) → found ≡ form_of payload
+      → (form : PayloadForm) → is_sound form ≡ true → payload ≡ payload_of form → found ≡ Some form
+  form_found payload found is form sound same = is ∙ ap form_of same ∙ form_complete form sound

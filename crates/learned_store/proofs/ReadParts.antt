@@ -26,10 +26,10 @@ use Rattle.learned_store.proofs.SoundForms.{written_parts}
 
 -- Parts and texts
 
-part_sound : (byte : ℕ) (part : Part) → part_of byte ≡ Some part → byte ≡ part_byte part
+pub part_sound : (byte : ℕ) (part : Part) → part_of byte ≡ Some part → byte ≡ part_byte part
 part_sound byte part e = grind (arith, eqb-true byte 0, eqb-true byte 1)
 
-text_sound : (bytes text : List ℕ) → text_of bytes ≡ Some text
+pub text_sound : (bytes text : List ℕ) → text_of bytes ≡ Some text
     → (all_scalars text ≡ true) × (bytes ≡ encode_utf8_all text)
 text_sound bytes text e =
     elim (chosen (is_utf8 bytes) _ _ _ e) [
@@ -51,7 +51,7 @@ text_absent bytes not = elim (cases_Bool (is_utf8 bytes)) [
   | inr none ↦ rw none refl
 ]
 
-text_complete : (text : List ℕ) → all_scalars text ≡ true → text_of (encode_utf8_all text) ≡ Some text
+pub text_complete : (text : List ℕ) → all_scalars text ≡ true → text_of (encode_utf8_all text) ≡ Some text
 text_complete text all =
     sym (text_there (encode_utf8_all text) text (text, (all, refl))
     (chars_from_encodes text (encode_utf8_all text) (text, (all, refl)) refl))

@@ -24,11 +24,12 @@ module _ (before rest : List FoundRecord) (found : FoundRecord) where
   pub payloads_next : payloads (before ++ found ∷ []) ≡ payloads before ++ found.payload ∷ []
   payloads_next = map-append (λ (one : FoundRecord). one.payload) before (found ∷ [])
 
-  -- the first record that says nothing stands behind those that were read
-  pub break_at : before ++ found ∷ rest ≡ found_from first_place (payloads (before ++ found ∷ rest)) → (state : State)
-      → Leave (payloads before) state → SaysNothing state found.payload
-      → BreakAt (payloads (before ++ found ∷ rest)) found.at
-  break_at places state left none = record {
+  -- the first record of a file that says nothing stands behind those that were read
+  pub break_at : before ++ found ∷ rest ≡ found_from first_place (payloads (before ++ found ∷ rest))
+      → (version : ℕ) (state : State) → Leave (record { version = version; records = payloads before }) state
+      → SaysNothing version state found.payload
+      → BreakAt (record { version = version; records = payloads (before ++ found ∷ rest) }) found.at
+  break_at places version state left none = record {
     before = payloads before;
     payload = found.payload;
     behind = payloads rest;

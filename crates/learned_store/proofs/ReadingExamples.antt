@@ -11,7 +11,7 @@ use Rattle.learned_store.specs.declared.form.PayloadForm.TheVariants.{Put, Drop,
 use Rattle.learned_store.specs.Reading.{payload_with, put_with, parted_bytes, parted_key, parted_row, is_line_row}
 use Rattle.learned_store.specs.Reading.{is_written_row, IsSpelled, HasOneCand}
 use Rattle.learned_store.specs.Reading.{part_of, text_of, parted_of, key_of, if_own, line_row, is_stamp}
-use Rattle.learned_store.specs.Reading.{row_of, form_behind, form_of}
+use Rattle.learned_store.specs.Reading.{row_of, noted_of, form_behind, form_of}
 use Rattle.learned_store.proofs.SmallFiles.{row, row_a, row_c, first, second, third, fourth, nothing}
 
 abbrev key : Part → List ℕ → RowKey
@@ -143,14 +143,26 @@ unfolding is_utf8 chars lib.Utf8.encode number_of number_step taken
     line_reading row_reading key_at texts_at fit_items_at some_row_of
 forms = refl
 
--- a form by its kind, with the rest behind the count: a count has none, and there are no kinds 0 and 4
-kinds : map (λ kind. form_behind kind 258 5 []) (0 ∷ 1 ∷ 2 ∷ 3 ∷ 4 ∷ [])
-    ≡ None ∷ None ∷ None ∷ Some (SetCount 258 5) ∷ None ∷ []
+-- the key and the candidate of a note, one without its note, and none: another part; a reading that ends behind the
+-- payload; no reading; no item; two items; and what ends before the length, and before the part
+notes : map noted_of (
+    (0 ∷ 1 ∷ codes "ab;c") ∷ (0 ∷ 1 ∷ codes "ab") ∷ (2 ∷ 1 ∷ codes "ab") ∷ (0 ∷ 3 ∷ codes "ab") ∷ (0 ∷ 0 ∷ codes "b")
+    ∷ (0 ∷ 1 ∷ codes "a") ∷ (0 ∷ 1 ∷ codes "ab/c") ∷ (0 ∷ []) ∷ [] ∷ [])
+    ≡ Some (key Nasi (codes "a"), record { word = codes "b"; note = codes "c" })
+    ∷ Some (key Nasi (codes "a"), record { word = codes "b"; note = [] })
+    ∷ None ∷ None ∷ None ∷ None ∷ None ∷ None ∷ None ∷ []
+unfolding is_utf8 chars lib.Utf8.encode taken
+    line_reading row_reading key_at texts_at fit_items_at some_row_of
+notes = refl
+
+-- a form by its kind, with the rest behind the count: a count has none, and there are no kinds 0 and 5
+kinds : map (λ kind. form_behind kind 258 5 []) (0 ∷ 1 ∷ 2 ∷ 3 ∷ 4 ∷ 5 ∷ [])
+    ≡ None ∷ None ∷ None ∷ Some (SetCount 258 5) ∷ None ∷ None ∷ []
 unfolding number_step
 kinds = refl
 
-behind_kinds : map (λ kind. form_behind kind 258 5 (0 ∷ 97 ∷ [])) (0 ∷ 1 ∷ 2 ∷ 3 ∷ 4 ∷ [])
-    ≡ None ∷ None ∷ Some (Drop 258 5 (key Nasi (codes "a"))) ∷ None ∷ None ∷ []
+behind_kinds : map (λ kind. form_behind kind 258 5 (0 ∷ 97 ∷ [])) (0 ∷ 1 ∷ 2 ∷ 3 ∷ 4 ∷ 5 ∷ [])
+    ≡ None ∷ None ∷ Some (Drop 258 5 (key Nasi (codes "a"))) ∷ None ∷ None ∷ None ∷ []
 unfolding is_utf8 chars lib.Utf8.encode number_of number_step
 behind_kinds = refl
 

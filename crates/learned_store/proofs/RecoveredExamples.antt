@@ -2,22 +2,26 @@
 use Rattle.std.proofs.Common.{◌≡◌, ℕ, List, [], ◌∷◌, ◌++◌, codes, refl, ◌∙◌, ap, arith, lit≤}
 use Rattle.exact_readers.specs.Numbers.{number_bytes, number_of, number_step}
 use Rattle.skk_calls.specs.declared.part.Part.TheVariants.{Nasi}
+use Rattle.skk_calls.specs.Rows.{Cand}
 use Rattle.skk_calls.specs.States.{State, empty_state}
-use Rattle.skk_journal.specs.Opening.{IsOpened, with_records}
+use Rattle.skk_journal.specs.Contents.{Contents, no_records}
+use Rattle.skk_journal.specs.Opening.{IsOpened, with_contents}
 use Rattle.skk_journal.specs.OpeningLaws.{one_opening}
-use Rattle.skk_journal.specs.Records.{front, end_of}
-use Rattle.learned_store.specs.declared.form.PayloadForm.TheVariants.{Put, Drop, SetCount}
+use Rattle.skk_journal.specs.Records.{end_of}
+use Rattle.learned_store.specs.declared.form.PayloadForm.TheVariants.{Put, Drop, SetCount, Note}
+use Rattle.learned_store.specs.Payloads.{newest_version}
 use Rattle.learned_store.specs.Recovered.{Leave, BreakAt, IsRecovered, with_state, IsOpenedWith}
-use Rattle.learned_store.proofs.SmallFiles.{row_a, row_c, first, second, third, fourth, nothing, state, pair, file, has}
+use Rattle.learned_store.proofs.SmallFiles.{row_a, row_c, first, second, third, fourth, nothing, old, state}
+use Rattle.learned_store.proofs.SmallFiles.{pair, begun, file, has}
 use Rattle.learned_store.proofs.SmallFiles.{first_says, second_says, third_says, fourth_says, nothing_says}
 use Rattle.learned_store.proofs.SmallFiles.{first_leaves, two_leave, sized_one, sized_two}
 
 -- no record leaves nothing; two records leave both rows, the third one takes a row out, and the fourth one sets the
 -- count
-none_leave : Leave [] empty_state
+none_leave : Leave (old []) empty_state
 none_leave = refl
 
-four_leave : Leave (first ∷ second ∷ third ∷ fourth ∷ []) (state 5 (row_c ∷ []))
+four_leave : Leave (old (first ∷ second ∷ third ∷ fourth ∷ [])) (state 5 (row_c ∷ []))
 unfolding lib.Utf8.encode
 four_leave = (
   Put 1 1 row_a,
@@ -29,8 +33,29 @@ four_leave = (
   ),
 )
 
+-- b for a gets the note c, by the second change of its book
+abbrev noted : List ℕ
+noted = 4 ∷ 1 ∷ 0 ∷ 2 ∷ 0 ∷ 0 ∷ 0 ∷ 0 ∷ 0 ∷ 0 ∷ 0 ∷ 0 ∷ 1 ∷ 97 ∷ 98 ∷ 59 ∷ 99 ∷ []
+
+abbrev note : Cand
+note = record { word = codes "b"; note = codes "c" }
+
+-- a file of version 2 has that behind the row
+noted_leave : Leave (record { version = 2; records = first ∷ noted ∷ [] })
+    (state 2 (record row_a { cands = note ∷ []; stamp = 2 } ∷ []))
+unfolding lib.Utf8.encode number_bytes
+noted_leave = (
+  Put 1 1 row_a,
+  record { known = refl; sound = refl; counted = lit≤ tt; follows = refl; is = refl },
+  (
+    Note 1 2 row_a.key note,
+    record { known = refl; sound = refl; counted = lit≤ tt; follows = refl; is = refl },
+    refl,
+  ),
+)
+
 -- the first record may say nothing, or the one behind another, whose gate stands at 47
-breaks : BreakAt (nothing ∷ first ∷ []) 17 × BreakAt (first ∷ nothing ∷ second ∷ nothing ∷ []) 47
+breaks : BreakAt (old (nothing ∷ first ∷ [])) 17 × BreakAt (old (first ∷ nothing ∷ second ∷ nothing ∷ [])) 47
 unfolding number_bytes number_of number_step
 breaks = (
   record {
@@ -40,7 +65,7 @@ breaks = (
     state = empty_state;
     is = refl;
     left = refl;
-    none = nothing_says empty_state;
+    none = nothing_says 1 empty_state;
     place = refl;
   },
   record {
@@ -50,22 +75,23 @@ breaks = (
     state = state 1 (row_a ∷ []);
     is = refl;
     left = first_leaves;
-    none = nothing_says (state 1 (row_a ∷ []));
+    none = nothing_says 1 (state 1 (row_a ∷ []));
     place = refl;
   },
 )
 
 -- a file with the first record, and garbage behind its closed gate
 abbrev good_file : List ℕ
-good_file = front 1 (first ∷ []) ++ 0 ∷ 7 ∷ []
+good_file = begun 1 (first ∷ []) ++ 0 ∷ 7 ∷ []
 
-good_opened : IsOpened (pair good_file []) (with_records (first ∷ []))
+good_opened : IsOpened newest_version (pair good_file []) (with_contents (old (first ∷ [])))
 unfolding number_bytes number_of number_step
 good_opened =
     record {
       gate = 0;
       rest = 7 ∷ [];
       is = refl;
+      right = (lit≤ tt, lit≤ tt);
       told = lit≤ tt;
       sized = sized_one;
       closed = λ same. omega (arith, same);
@@ -79,11 +105,11 @@ recovered : IsRecovered (pair [] []) (with_state empty_state)
     × IsRecovered (pair (0 ∷ 7 ∷ 7 ∷ []) (file 1 (first ∷ []))) (with_state (state 1 (row_a ∷ [])))
 unfolding number_bytes number_of number_step
 recovered = (
-  ([], refl, refl),
-  ([], refl, refl),
-  (first ∷ [], good_opened, first_leaves),
-  (first ∷ second ∷ [], has 1 (first ∷ second ∷ []) (lit≤ tt) sized_two, two_leave),
-  (first ∷ [], has 1 (first ∷ []) (lit≤ tt) sized_one, first_leaves),
+  (no_records newest_version, refl, refl),
+  (no_records newest_version, refl, refl),
+  (old (first ∷ []), good_opened, first_leaves),
+  (old (first ∷ second ∷ []), has 1 (first ∷ second ∷ []) (lit≤ tt) sized_two, two_leave),
+  (old (first ∷ []), has 1 (first ∷ []) (lit≤ tt) sized_one, first_leaves),
 )
 
 -- of two live files that counts whose generation comes next, also behind the last one; else the greater one; else the
@@ -105,18 +131,18 @@ chosen : Leaves (two_records 1) (one_record 2) (state 1 (row_a ∷ []))
     × Leaves (one_record 3) (two_records 5) (state 2 (row_a ∷ row_c ∷ []))
     × Leaves (one_record 4) (two_records 4) (state 1 (row_a ∷ []))
     × Leaves (one_record 2) (file 1 (first ∷ nothing ∷ [])) (state 1 (row_a ∷ []))
-    × Leaves (front 1 (first ∷ nothing ∷ [])) (one_record 2) (state 1 (row_a ∷ []))
+    × Leaves (begun 1 (first ∷ nothing ∷ [])) (one_record 2) (state 1 (row_a ∷ []))
 unfolding number_bytes number_of number_step
 chosen = (
-  (first ∷ [], has 2 (first ∷ []) (lit≤ tt) sized_one, first_leaves),
-  (first ∷ second ∷ [], has 2 (first ∷ second ∷ []) (lit≤ tt) sized_two, two_leave),
-  (first ∷ [], has 0 (first ∷ []) (lit≤ tt) sized_one, first_leaves),
-  (first ∷ [], has 0 (first ∷ []) (lit≤ tt) sized_one, first_leaves),
-  (first ∷ second ∷ [], has 5 (first ∷ second ∷ []) (lit≤ tt) sized_two, two_leave),
-  (first ∷ second ∷ [], has 5 (first ∷ second ∷ []) (lit≤ tt) sized_two, two_leave),
-  (first ∷ [], has 4 (first ∷ []) (lit≤ tt) sized_one, first_leaves),
-  (first ∷ [], has 2 (first ∷ []) (lit≤ tt) sized_one, first_leaves),
-  (first ∷ [], has 2 (first ∷ []) (lit≤ tt) sized_one, first_leaves),
+  (old (first ∷ []), has 2 (first ∷ []) (lit≤ tt) sized_one, first_leaves),
+  (old (first ∷ second ∷ []), has 2 (first ∷ second ∷ []) (lit≤ tt) sized_two, two_leave),
+  (old (first ∷ []), has 0 (first ∷ []) (lit≤ tt) sized_one, first_leaves),
+  (old (first ∷ []), has 0 (first ∷ []) (lit≤ tt) sized_one, first_leaves),
+  (old (first ∷ second ∷ []), has 5 (first ∷ second ∷ []) (lit≤ tt) sized_two, two_leave),
+  (old (first ∷ second ∷ []), has 5 (first ∷ second ∷ []) (lit≤ tt) sized_two, two_leave),
+  (old (first ∷ []), has 4 (first ∷ []) (lit≤ tt) sized_one, first_leaves),
+  (old (first ∷ []), has 2 (first ∷ []) (lit≤ tt) sized_one, first_leaves),
+  (old (first ∷ []), has 2 (first ∷ []) (lit≤ tt) sized_one, first_leaves),
 )
 
 -- the state and the end of files that are told are those of their own records; of those that are not, those of some
@@ -125,21 +151,22 @@ opened_with : IsOpenedWith (Unit {0}) (pair good_file []) (state 1 (row_a ∷ []
     × IsOpenedWith (Unit {0}) (pair [] []) empty_state 18 × IsOpenedWith ⊥ (pair good_file []) empty_state 18
 unfolding number_bytes number_of number_step
 opened_with = (
-  record { records = first ∷ []; leave = first_leaves; end_is = refl; told = λ told. good_opened },
+  record { contents = old (first ∷ []); leave = first_leaves; end_is = refl; told = λ told. good_opened },
   record {
-    records = first ∷ second ∷ [];
+    contents = old (first ∷ second ∷ []);
     leave = two_leave;
     end_is = refl;
     told = λ told. has 4 (first ∷ second ∷ []) (lit≤ tt) sized_two;
   },
-  record { records = []; leave = refl; end_is = refl; told = λ told. refl },
-  record { records = []; leave = refl; end_is = refl; told = λ told. absurd told },
+  record { contents = no_records newest_version; leave = refl; end_is = refl; told = λ told. refl },
+  record { contents = no_records newest_version; leave = refl; end_is = refl; told = λ told. absurd told },
 )
 
 told_end : (left : State) (end : ℕ) → IsOpenedWith (Unit {0}) (pair good_file []) left end → end ≡ 48
 unfolding number_bytes number_of number_step
 told_end left end is =
     let one =
-    one_opening (pair good_file []) (with_records is.records) (with_records (first ∷ [])) (is.told tt) good_opened in
-    let records : is.records ≡ first ∷ [] = cc one in
-    is.end_is ∙ ap end_of records
+    one_opening newest_version (pair good_file []) (with_contents is.contents) (with_contents (old (first ∷ [])))
+    (is.told tt) good_opened in
+    let same : is.contents ≡ old (first ∷ []) = cc one in
+    is.end_is ∙ ap (λ (c : Contents). end_of c.records) same

@@ -7,16 +7,21 @@ use Rattle.skk_calls.specs.declared.answer.Answer.TheVariants.{Done, Refused}
 use Rattle.skk_calls.specs.declared.answer.Refusal.TheVariants.{Memory, Disk, JournalFull}
 use Rattle.skk_calls.specs.declared.answer.Reply.TheVariants.{Learned, Unchanged}
 use Rattle.skk_calls.specs.declared.call.Call.{Call}
-use Rattle.skk_calls.specs.declared.call.Call.TheVariants.{Learn}
+use Rattle.skk_calls.specs.declared.call.Call.TheVariants.{Annotate, Learn}
 use Rattle.skk_calls.specs.declared.entry.Entry.{Entry}
 use Rattle.skk_calls.specs.Dictionary.{after}
 use Rattle.skk_calls.specs.Histories.{Opening, need, tight}
 use Rattle.skk_calls.specs.Rows.{Row}
 use Rattle.skk_calls.specs.States.{State, empty_state}
+use Rattle.skk_disk.specs.declared.which.Which.TheVariants.{A}
+use Rattle.skk_journal.specs.declared.live.Doubt.TheVariants as doubts
+use Rattle.skk_journal.specs.declared.live.Idle.TheVariants as idles
+use Rattle.learned_store.specs.declared.room.Room.{Room}
 use Rattle.learned_store.specs.declared.room.Room.TheVariants.{Behind, Compacted, Full}
 use Rattle.learned_store.specs.Limits.{HadRoom, AllHadRoom}
-use Rattle.learned_store.specs.Rooms.{IsRoom}
-use Rattle.learned_store.specs.Served.{end_added}
+use Rattle.learned_store.specs.Rooms.{IsRoom, goes_behind}
+use Rattle.learned_store.specs.Served.{end_added, version_added}
+use Rattle.learned_store.specs.Stores.{OpenStore}
 use Rattle.learned_store.proofs.Limits.{had-none}
 use Rattle.learned_store.proofs.SmallFiles.{row, row_a, state, learn}
 
@@ -49,40 +54,77 @@ compaction =
     1 ∷ 38 ∷ 0 ∷ 0 ∷ 0 ∷ 1 ∷ 1 ∷ 0 ∷ 2 ∷ 0 ∷ 0 ∷ 0 ∷ 0 ∷ 0 ∷ 0 ∷ 0 ∷ 2 ∷ 0 ∷ 0 ∷ 0 ∷ 0 ∷ 0 ∷ 0 ∷ 0 ∷ 0
     ∷ 227 ∷ 129 ∷ 139 ∷ 227 ∷ 130 ∷ 147 ∷ 227 ∷ 129 ∷ 152 ∷ 32 ∷ 47 ∷ 230 ∷ 188 ∷ 162 ∷ 229 ∷ 173 ∷ 151 ∷ 47 ∷ []
 
+-- a learning at a state, under a limit, where the live file is one of version 1 and ends here
+abbrev Goes : State → ℕ → ℕ → Room → Type 0
+Goes state end limit room = IsRoom state (goes_behind limit 1 end 1 43) limit 43 room
+
 -- three learnings under the limit 110: the first two go behind what is there, and the third one needs a compaction;
 -- two under the limit 64: the second one has no room
-learnings_go : IsRoom empty_state 18 110 43 Behind × IsRoom one 61 110 43 Behind
-    × IsRoom two 104 110 43 (Compacted compaction)
-    × IsRoom empty_state 18 64 43 Behind × IsRoom one 61 64 43 (Full 61)
+learnings_go : Goes empty_state 18 110 Behind × Goes one 61 110 Behind × Goes two 104 110 (Compacted compaction)
+    × Goes empty_state 18 64 Behind × Goes one 61 64 (Full 61)
 unfolding lib.Utf8.encode number_bytes
-learnings_go = (lit≤ tt, lit≤ tt, (lit< tt, lit≤ tt, refl), lit≤ tt, (refl, lit< tt))
+learnings_go = (refl, refl, (refl, lit≤ tt, refl), refl, (refl, refl, lit< tt))
 
 -- where the file of two learnings ends at 104, a third one goes behind it just under the limit 147, and behind a
 -- compaction just under the limit 104
-edges : IsRoom two 104 147 43 Behind × IsRoom two 104 146 43 (Compacted compaction)
-    × IsRoom two 104 104 43 (Compacted compaction) × IsRoom two 104 103 43 (Full 61)
+edges : Goes two 104 147 Behind × Goes two 104 146 (Compacted compaction) × Goes two 104 104 (Compacted compaction)
+    × Goes two 104 103 (Full 61)
 unfolding lib.Utf8.encode number_bytes
-edges = (lit≤ tt, (lit< tt, lit≤ tt, refl), (lit< tt, lit≤ tt, refl), (refl, lit< tt))
+edges = (refl, (refl, lit≤ tt, refl), (refl, lit≤ tt, refl), (refl, refl, lit< tt))
 
-no_room : (¬ IsRoom two 104 146 43 Behind) × (¬ IsRoom two 104 147 43 (Compacted compaction))
-    × (¬ IsRoom two 104 103 43 (Compacted compaction)) × (¬ IsRoom two 104 110 43 (Compacted []))
-    × (¬ IsRoom two 104 104 43 (Full 61)) × (¬ IsRoom two 104 103 43 (Full 104))
+no_room : (¬ Goes two 104 146 Behind) × (¬ Goes two 104 147 (Compacted compaction))
+    × (¬ Goes two 104 103 (Compacted compaction)) × (¬ Goes two 104 110 (Compacted []))
+    × (¬ Goes two 104 104 (Full 61)) × (¬ Goes two 104 103 (Full 104))
 unfolding lib.Utf8.encode number_bytes
 no_room = (
-  λ is. omega (arith, is),
-  λ is. omega (arith, is.0),
+  λ is. cc is,
+  λ is. cc is.0,
   λ is. omega (arith, is.1),
   λ is. cc is.2,
+  λ is. omega (arith, is.2),
   λ is. omega (arith, is.1),
-  λ is. omega (arith, is.0),
 )
 
--- where the live file ends behind these learnings
-ends : (end_added 110 empty_state 18 learn_kanji ≡ 61) × (end_added 110 one 61 learn_kanji ≡ 104)
-    × (end_added 110 two 104 learn_kanji ≡ 104) × (end_added 147 two 104 learn_kanji ≡ 147)
-    × (end_added 146 two 104 learn_kanji ≡ 104)
+-- a store of a state under a limit, whose live file is of this version and ends here
+abbrev store : ℕ → State → ℕ → ℕ → OpenStore ℕ
+store limit state version end = record {
+  journal = record {
+    disk = 0;
+    newest = 2;
+    live = record { file = A; version = version; generation = 1 };
+    end = end;
+    idle = idles.Loose;
+    doubt = doubts.Calm;
+  };
+  state = state;
+  files = [];
+  limit = limit;
+}
+
+-- where the live file ends behind these learnings, whatever its version is
+ends : (end_added (store 110 empty_state 1 18) learn_kanji ≡ 61) × (end_added (store 110 one 1 61) learn_kanji ≡ 104)
+    × (end_added (store 110 two 2 104) learn_kanji ≡ 104) × (end_added (store 147 two 2 104) learn_kanji ≡ 147)
+    × (end_added (store 146 two 1 104) learn_kanji ≡ 104)
 unfolding lib.Utf8.encode
 ends = (refl, refl, refl, refl, refl)
+
+-- its version behind them: that which it had where they go behind what is there, and else the newest
+versions : (version_added (store 110 one 1 61) learn_kanji ≡ 1) × (version_added (store 110 two 1 104) learn_kanji ≡ 2)
+    × (version_added (store 147 two 2 104) learn_kanji ≡ 2)
+unfolding lib.Utf8.encode
+versions = (refl, refl, refl)
+
+-- a note of 漢字 needs 40 bytes. Behind a file of version 1 it needs a compaction, whatever the limit is; behind one of
+-- version 2 it goes where it has room. Where no row is there it is learnt with its note, which version 1 has
+abbrev note_kanji : Call
+note_kanji = Annotate 1 (kanji 1).key (record { word = codes "漢字"; note = codes "書く" })
+
+notes : (need two note_kanji ≡ 40) × (end_added (store 1000 two 1 104) note_kanji ≡ 101)
+    × (version_added (store 1000 two 1 104) note_kanji ≡ 2) × (end_added (store 1000 two 2 104) note_kanji ≡ 144)
+    × (end_added (store 143 two 2 104) note_kanji ≡ 101) × (need empty_state note_kanji ≡ 50)
+    × (version_added (store 1000 empty_state 1 18) note_kanji ≡ 1)
+unfolding lib.Utf8.encode
+notes = (refl, refl, refl, refl, refl, refl, refl)
 
 -- What answers tell
 

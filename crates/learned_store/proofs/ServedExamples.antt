@@ -35,7 +35,8 @@ abbrev store : State → ℕ → ℕ → Doubt → ℕ → OpenStore ℕ
 store kept end limit doubt disk = record {
   journal = record {
     disk = disk;
-    live = record { file = A; generation = 1 };
+    newest = 2;
+    live = record { file = A; version = 1; generation = 1 };
     end = end;
     idle = idles.Loose;
     doubt = doubt;
@@ -127,6 +128,7 @@ memory = record {
   failed = λ disk. cc;
   state = refl;
   end = λ changed. cc;
+  version = λ changed. cc;
   files = refl;
   limit = refl;
   still = λ stays. refl;

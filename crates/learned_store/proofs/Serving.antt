@@ -3,6 +3,7 @@ use Rattle.std.proofs.Common.{◌≡◌, ℕ, ◌+◌, ◌<◌, ◌≤◌, nat_l
 use Rattle.std.proofs.Common.{◌++◌, ◌⊎◌, refl, sym, ◌∙◌, ap, subst, arith}
 use Rattle.std.specs.Prelude.{⊤}
 use Rattle.std.proofs.lemmas.Bool.Decides.{nat_tests}
+use Rattle.std.specs.Option.{option_map_or}
 use Rattle.skk_outside.specs.Faults.{Rose}
 use Rattle.skk_disk.specs.Image.{Image}
 use Rattle.skk_disk.specs.MomentLaws.{passes_nothing}
@@ -14,9 +15,10 @@ use Rattle.skk_calls.specs.declared.answer.Refusal.TheVariants.{Memory, Disk, Jo
 use Rattle.skk_calls.specs.declared.answer.Reply.{Reply}
 use Rattle.skk_calls.specs.declared.call.Call.{Call}
 use Rattle.skk_calls.specs.Dictionary.{answer, after, is_change, may_answer, may_reply, moves, state_moved}
-use Rattle.skk_calls.specs.Histories.{tight, IsLegalAnswer, LacksRoom}
+use Rattle.skk_calls.specs.Histories.{need, tight, IsLegalAnswer, LacksRoom}
 use Rattle.skk_calls.specs.Rows.{Row}
 use Rattle.skk_calls.specs.States.{State}
+use Rattle.skk_journal.specs.Contents.{with_record}
 use Rattle.skk_journal.specs.Images.{Each}
 use Rattle.skk_journal.specs.Journal.{OpenJournal, is_in_doubt}
 use Rattle.skk_journal.specs.Records.{need as record_need}
@@ -25,7 +27,12 @@ use Rattle.learn_index.specs.declared.plan.Plan.TheVariants.{Still, Move}
 use Rattle.learn_index.specs.Plans.{is_question, IsPlanned}
 use Rattle.learn_index.specs.ReplyLaws.{may-change}
 use Rattle.learned_store.specs.Recovered.{Leave}
-use Rattle.learned_store.specs.Served.{Serves, end_added}
+use Rattle.learned_store.specs.declared.form.PayloadForm.{PayloadForm}
+use Rattle.learned_store.specs.declared.form.PayloadForm.TheVariants.{Put, Drop, SetCount, Note}
+use Rattle.learned_store.specs.declared.writing.Record.{Record}
+use Rattle.learned_store.specs.Payloads.{newest_version, first_version, change_told}
+use Rattle.learned_store.specs.Rooms.{goes_behind}
+use Rattle.learned_store.specs.Served.{Serves, end_added, is_added_behind, version_added}
 use Rattle.learned_store.specs.Stores.{OpenStore, opening_now, Adds, Keeps, KeepsOneOf, RecoversOneOf, with_doubt}
 use Rattle.learned_store.specs.Written.{IsRecordOf, Told}
 use Rattle.learned_store.proofs.Kept.{leave_on, opened_now}
@@ -54,10 +61,36 @@ pub may_be_refused : (call : Call) (refusal : Refusal) → is_question call ≡ 
 may_be_refused call refusal changes = grind arith
 
 -- a plan without a record changes nothing
-pub unrecorded : (state : State) (call : Call) (plan : Plan) → IsPlanned state call plan → IsRecordOf plan None
+pub unrecorded : (state : State) (call : Call) (plan : Plan) → IsPlanned state call plan
+    → IsRecordOf state call plan None
     → moves state call ≡ false
 unrecorded state call (Still reply) planned none = planned.0
 unrecorded state call (Move book count key row reply) planned none = absurd none
+
+-- the newest version has every record
+first_known : (form : PayloadForm) → nat_le (first_version form) newest_version ≡ true
+first_known (Put book count row) = refl
+first_known (Drop book count key) = refl
+first_known (SetCount book count) = refl
+first_known (Note book count key cand) = refl
+
+needed_known : (told : Option PayloadForm) → nat_le (option_map_or first_version told 1) newest_version ≡ true
+needed_known None = refl
+needed_known (Some form) = first_known form
+
+pub known_newest : (state : State) (call : Call) (written : Record) → Told state call written
+    → nat_le written.version newest_version ≡ true
+known_newest state call written told =
+    subst (λ n. nat_le n newest_version ≡ true) (sym told.version) (needed_known (change_told state call))
+
+-- a record that goes behind those of a live file is one that its version has, and ends within the limit
+pub known_behind : (limit version end first bytes : ℕ) → goes_behind limit version end first bytes ≡ true
+    → nat_le first version ≡ true
+known_behind limit version end first bytes goes = grind arith
+
+pub fits_behind : (limit version end first bytes : ℕ) → goes_behind limit version end first bytes ≡ true
+    → end + bytes ≤ limit
+fits_behind limit version end first bytes goes = grind (arith, nat_tests)
 
 module _ {D : Type 0} (time faults : D → ℕ) (left_since : D → ℕ → Image → Type 0) where
   -- where nothing is done to a store
@@ -75,6 +108,7 @@ module _ {D : Type 0} (time faults : D → ℕ) (left_since : D → ℕ → Imag
         failed = λ same. absurd (cc);
         state = sym (ap (λ (b : Bool). cond b (state_moved store.state call) store.state) still);
         end = λ told. absurd (differ (is_change reply) told none);
+        version = λ told. absurd (differ (is_change reply) told none);
         files = refl;
         limit = refl;
         still = λ e. refl;
@@ -95,6 +129,7 @@ module _ {D : Type 0} (time faults : D → ℕ) (left_since : D → ℕ → Imag
     failed = λ same. absurd (cc);
     state = refl;
     end = λ told. absurd (cc);
+    version = λ told. absurd (cc);
     files = refl;
     limit = refl;
     still = λ e. refl;
@@ -123,7 +158,7 @@ module _ {D : Type 0} (time faults : D → ℕ) (left_since : D → ℕ → Imag
       (quiet store call (Done reply) is (ap (may_reply call) is ∙ may-change files state call changes) still)
 
   module _ (old new : OpenJournal D) (state : State) (files : List (List Row)) (limit : ℕ) (call : Call)
-      (payload : List ℕ) (changes : is_question call ≡ false) (told : Told state call payload)
+      (written : Record) (changes : is_question call ≡ false) (told : Told state call written)
       (past : Passes (time old.disk) (time new.disk) (left_since old.disk) (left_since new.disk))
       (counted : faults old.disk ≤ faults new.disk) where
     abbrev before : OpenStore D
@@ -132,35 +167,55 @@ module _ {D : Type 0} (time faults : D → ℕ) (left_since : D → ℕ → Imag
     abbrev behind : State → OpenStore D
     behind now = record { journal = new; state = now; files = files; limit = limit }
 
-    -- the record adds the change to its state
-    adds : Adds payload state (after state call)
-    adds records left =
-        subst (λ (s : State). Leave (records ++ payload ∷ []) s) told.leaves
-        (leave_on records state payload told.form left told.says)
+    -- the record adds the change to its state in a file of a version that has it
+    adds : (version : ℕ) → nat_le written.version version ≡ true
+        → Adds version written.payload state (after state call)
+    adds version known contents is left =
+        subst (λ (s : State). Leave (with_record contents written.payload) s) told.leaves
+        (leave_on contents state written.payload told.form left
+        (told.says contents.version (subst (λ (n : ℕ). nat_le written.version n ≡ true) (sym is) known)))
 
-    -- where the live file ends behind a record that had room there, and behind one that a compaction made room for
-    pub end_behind : old.end + record_need payload ≤ limit → new.end ≡ old.end + record_need payload
-        → new.end ≡ end_added limit state old.end call
-    end_behind fits is =
-        subst (λ (n : ℕ). new.end ≡ cond (nat_le (old.end + n) limit) old.end (tight state) + n) (sym told.needs)
-        (grind (arith, nat_tests, fits, is))
+    -- whether the record goes behind those of the live file
+    abbrev goes : Bool
+    goes = goes_behind limit old.live.version old.end written.version (record_need written.payload)
 
-    pub end_compacted : limit < old.end + record_need payload → new.end ≡ tight state + record_need payload
-        → new.end ≡ end_added limit state old.end call
-    end_compacted lacks is =
-        subst (λ (n : ℕ). new.end ≡ cond (nat_le (old.end + n) limit) old.end (tight state) + n) (sym told.needs)
-        (grind (arith, nat_tests, lacks, is))
+    same_way : is_added_behind before call ≡ goes
+    same_way =
+        ap (λ n. goes_behind limit old.live.version old.end n (need state call)) (sym told.version)
+        ∙ ap (goes_behind limit old.live.version old.end written.version) told.needs
 
-    module _ (images : (doubt : Option State) → Adds payload state (after state call)
+    -- where the live file ends behind a record that went there, and behind one that a compaction made room for, and its
+    -- version then
+    pub end_behind : goes ≡ true → new.end ≡ old.end + record_need written.payload → new.end ≡ end_added before call
+    end_behind behind is =
+        is ∙ ap (λ n. old.end + n) (sym told.needs)
+        ∙ ap (λ b. cond b old.end (tight state) + need state call) (sym (same_way ∙ behind))
+
+    pub end_compacted : goes ≡ false → new.end ≡ tight state + record_need written.payload
+        → new.end ≡ end_added before call
+    end_compacted apart is =
+        is ∙ ap (λ n. tight state + n) (sym told.needs)
+        ∙ ap (λ b. cond b old.end (tight state) + need state call) (sym (same_way ∙ apart))
+
+    pub version_behind : goes ≡ true → new.live.version ≡ old.live.version
+        → new.live.version ≡ version_added before call
+    version_behind behind is = is ∙ ap (λ b. cond b old.live.version old.newest) (sym (same_way ∙ behind))
+
+    pub version_compacted : goes ≡ false → new.live.version ≡ old.newest → new.live.version ≡ version_added before call
+    version_compacted apart is = is ∙ ap (λ b. cond b old.live.version old.newest) (sym (same_way ∙ apart))
+
+    module _ (version : ℕ) (known : nat_le written.version version ≡ true)
+        (images : (doubt : Option State) → Adds version written.payload state (after state call)
         → Keeps time left_since old state doubt
         → Each (left_since new.disk (time old.disk))
         (RecoversOneOf (with_doubt state doubt ++ after state call ∷ []))) where
       -- where the record was added, and the plan was applied
-      pub changed : tight state + record_need payload ≤ limit → new.end ≡ end_added limit state old.end call
-          → ((doubt : Option State) → Adds payload state (after state call) → Keeps time left_since old state doubt
-          → Keeps time left_since new (after state call) None)
+      pub changed : tight state + record_need written.payload ≤ limit
+          → new.end ≡ end_added before call → new.live.version ≡ version_added before call
+          → ((doubt : Option State) → Adds version written.payload state (after state call)
+          → Keeps time left_since old state doubt → Keeps time left_since new (after state call) None)
           → Serves time faults left_since before (behind (after state call)) call (Done (answer files state call))
-      changed fits end keeps_on =
+      changed fits end version_is keeps_on =
           let reply = answer files state call in
           let yes : is_change reply ≡ true = change_is_told files state call ∙ told.moved in
           record {
@@ -171,23 +226,25 @@ module _ {D : Type 0} (time faults : D → ℕ) (left_since : D → ℕ → Imag
             failed = λ same. absurd (cc);
             state = refl;
             end = λ tells. end;
+            version = λ tells. version_is;
             files = refl;
             limit = refl;
             still = λ still. absurd (differ (moves state call) told.moved still);
             memory = λ same. absurd (cc);
             images = λ doubt keeps image left.
                 subst (λ (b : Bool). RecoversOneOf (cond b (with_doubt state doubt ++ after state call ∷ [])
-                (with_doubt state doubt)) image) (sym yes) (images doubt adds keeps image left);
+                (with_doubt state doubt)) image) (sym yes) (images doubt (adds version known) keeps image left);
             after = λ doubt keeps.
-                (None, sym (ap (λ (b : Bool). cond b None doubt) yes), keeps_on doubt adds keeps);
+                (None, sym (ap (λ (b : Bool). cond b None doubt) yes), keeps_on doubt (adds version known) keeps);
             past = past;
             counted = counted;
           }
 
       -- where the disk failed
-      pub failed : (is_in_doubt old.doubt ≡ true) ⊎ (tight state + record_need payload ≤ limit)
+      pub failed : (is_in_doubt old.doubt ≡ true) ⊎ (tight state + record_need written.payload ≤ limit)
           → Rose (faults old.disk) (faults new.disk)
-          → ((doubt : Option State) → Adds payload state (after state call) → Keeps time left_since old state doubt
+          → ((doubt : Option State) → Adds version written.payload state (after state call)
+          → Keeps time left_since old state doubt
           → KeepsOneOf time left_since new state (doubt ∷ None ∷ Some state ∷ Some (after state call) ∷ []))
           → Serves time faults left_since before (behind state) call (Refused Disk)
       failed had rose stands = record {
@@ -199,19 +256,20 @@ module _ {D : Type 0} (time faults : D → ℕ) (left_since : D → ℕ → Imag
         failed = λ same. rose;
         state = refl;
         end = λ change. absurd (cc);
+        version = λ change. absurd (cc);
         files = refl;
         limit = refl;
         still = λ still. absurd (differ (moves state call) told.moved still);
         memory = λ same. absurd (cc);
-        images = λ doubt keeps. images doubt adds keeps;
-        after = λ doubt keeps. stands doubt adds keeps;
+        images = λ doubt keeps. images doubt (adds version known) keeps;
+        after = λ doubt keeps. stands doubt (adds version known) keeps;
         past = past;
         counted = counted;
       }
 
     -- where no file had room for the record
-    pub full : (told_end told_need : ℕ) → told_end ≡ tight state → told_need ≡ record_need payload
-        → limit < tight state + record_need payload
+    pub full : (told_end told_need : ℕ) → told_end ≡ tight state → told_need ≡ record_need written.payload
+        → limit < tight state + record_need written.payload
         → ((doubt : Option State) → Keeps time left_since old state doubt
         → Each (left_since new.disk (time old.disk)) (RecoversOneOf (with_doubt state doubt)))
         → ((doubt : Option State) → Keeps time left_since old state doubt → Keeps time left_since new state None)
@@ -233,6 +291,7 @@ module _ {D : Type 0} (time faults : D → ℕ) (left_since : D → ℕ → Imag
       failed = λ same. absurd (cc);
       state = refl;
       end = λ change. absurd (cc);
+      version = λ change. absurd (cc);
       files = refl;
       limit = refl;
       still = λ still. absurd (differ (moves state call) told.moved still);

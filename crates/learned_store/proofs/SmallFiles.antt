@@ -8,9 +8,10 @@ use Rattle.skk_calls.specs.declared.call.Call.{Call}
 use Rattle.skk_calls.specs.declared.call.Call.TheVariants.{Learn}
 use Rattle.skk_calls.specs.Rows.{Row}
 use Rattle.skk_calls.specs.States.{State, empty_state}
-use Rattle.skk_journal.specs.Records.{IsSized, IsGeneration, HasRecords, mark, front}
+use Rattle.skk_journal.specs.Contents.{Contents}
+use Rattle.skk_journal.specs.Records.{IsSized, IsGeneration, HasContents, mark, front}
 use Rattle.learned_store.specs.declared.form.PayloadForm.TheVariants.{Put, Drop, SetCount}
-use Rattle.learned_store.specs.Payloads.{Says, SaysNothing}
+use Rattle.learned_store.specs.Payloads.{Says, SaysNothing, newest_version}
 use Rattle.learned_store.specs.Recovered.{Leave}
 use Rattle.learned_store.proofs.NoForms.{other_byte}
 
@@ -51,37 +52,42 @@ fourth = 3 ∷ 1 ∷ 0 ∷ 5 ∷ 0 ∷ 0 ∷ 0 ∷ 0 ∷ 0 ∷ 0 ∷ 0 ∷ []
 abbrev pub state : ℕ → List Row → State
 state count rows = record { books = record { number = 1; count = count; rows = rows } ∷ [] }
 
-pub first_says : Says empty_state first (Put 1 1 row_a)
+pub first_says : Says 1 empty_state first (Put 1 1 row_a)
 unfolding lib.Utf8.encode number_bytes
-first_says = record { sound = refl; counted = lit≤ tt; is = refl }
+first_says = record { known = refl; sound = refl; counted = lit≤ tt; follows = refl; is = refl }
 
-pub second_says : Says (state 1 (row_a ∷ [])) second (Put 1 2 row_c)
+pub second_says : Says 1 (state 1 (row_a ∷ [])) second (Put 1 2 row_c)
 unfolding lib.Utf8.encode number_bytes
-second_says = record { sound = refl; counted = lit≤ tt; is = refl }
+second_says = record { known = refl; sound = refl; counted = lit≤ tt; follows = refl; is = refl }
 
-pub third_says : Says (state 2 (row_a ∷ row_c ∷ [])) third (Drop 1 2 (record { part = Nasi; reading = codes "a" }))
+pub third_says : Says 1 (state 2 (row_a ∷ row_c ∷ [])) third (Drop 1 2 (record { part = Nasi; reading = codes "a" }))
 unfolding lib.Utf8.encode number_bytes
-third_says = record { sound = refl; counted = lit≤ tt; is = refl }
+third_says = record { known = refl; sound = refl; counted = lit≤ tt; follows = refl; is = refl }
 
-pub fourth_says : Says (state 2 (row_c ∷ [])) fourth (SetCount 1 5)
+pub fourth_says : Says 1 (state 2 (row_c ∷ [])) fourth (SetCount 1 5)
 unfolding lib.Utf8.encode number_bytes
-fourth_says = record { sound = refl; counted = lit≤ tt; is = refl }
+fourth_says = record { known = refl; sound = refl; counted = lit≤ tt; follows = refl; is = refl }
+
+-- what a file of version 1 has
+abbrev pub old : List (List ℕ) → Contents
+old records = record { version = 1; records = records }
 
 -- one record leaves its row, and two leave both
-pub first_leaves : Leave (first ∷ []) (state 1 (row_a ∷ []))
+pub first_leaves : Leave (old (first ∷ [])) (state 1 (row_a ∷ []))
 first_leaves = (Put 1 1 row_a, first_says, refl)
 
-pub two_leave : Leave (first ∷ second ∷ []) (state 2 (row_a ∷ row_c ∷ []))
+pub two_leave : Leave (old (first ∷ second ∷ [])) (state 2 (row_a ∷ row_c ∷ []))
 unfolding lib.Utf8.encode
 two_leave = (Put 1 1 row_a, first_says, (Put 1 2 row_c, second_says, refl))
 
 -- a payload that says nothing, wherever it stands
 abbrev pub nothing : List ℕ
-nothing = 4 ∷ []
+nothing = 5 ∷ []
 
-pub nothing_says : (state : State) → SaysNothing state nothing
-nothing_says state = other_byte state 4 [] (λ same. omega (arith, same)) (λ same. omega (arith, same))
-    (λ same. omega (arith, same))
+pub nothing_says : (version : ℕ) (state : State) → SaysNothing version state nothing
+nothing_says version state =
+    other_byte version state 5 [] (λ same. omega (arith, same)) (λ same. omega (arith, same))
+    (λ same. omega (arith, same)) (λ same. omega (arith, same))
 
 -- b is learnt for a in book 1, where nothing was learnt before
 abbrev pub learn : Call
@@ -109,17 +115,21 @@ sized_odd_first = All-cons IsSized nothing (first ∷ []) (lit≤ tt, lit≤ tt)
 abbrev pub pair : List ℕ → List ℕ → Image
 pair a b = record { a = a; b = b }
 
--- a file of a generation with records and a closed gate behind them
+-- a file of version 1 and of a generation with records, without a gate and with a closed one behind them
+abbrev pub begun : ℕ → List (List ℕ) → List ℕ
+begun generation records = front generation (old records)
+
 abbrev pub file : ℕ → List (List ℕ) → List ℕ
-file generation records = front generation records ++ 0 ∷ []
+file generation records = begun generation records ++ 0 ∷ []
 
 pub has : (generation : ℕ) (records : List (List ℕ)) → IsGeneration generation → All IsSized records
-    → HasRecords generation records (file generation records)
+    → HasContents newest_version generation (old records) (file generation records)
 has generation records told sized =
     record {
       gate = 0;
       rest = [];
       is = refl;
+      right = (lit≤ tt, lit≤ tt);
       told = told;
       sized = sized;
       closed = λ same. omega (arith, same);
@@ -127,4 +137,4 @@ has generation records told sized =
 
 -- an open gate and the mark, and a whole generation nowhere
 abbrev pub short : List ℕ
-short = 1 ∷ (mark ++ 1 ∷ [])
+short = 1 ∷ (mark 1 ++ 1 ∷ [])

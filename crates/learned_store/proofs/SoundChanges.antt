@@ -1,19 +1,28 @@
 -- What the record of a change says may be written, as far as no type tells it.
-use Rattle.std.proofs.Common.{◌≡◌, ℕ, ◌≤◌, Bool, true}
-use Rattle.std.proofs.Common.{◌&&◌, nat_le, nat_lt, Some, List, [], ◌∷◌}
-use Rattle.std.proofs.Common.{sym, subst, arith}
+use Rattle.std.proofs.Common.{◌≡◌, ℕ, ◌+◌, ◌≤◌, Bool, true, not, ◌&&◌, ◌||◌, nat_le, nat_lt, Option, None, Some, List}
+use Rattle.std.proofs.Common.{[], ◌∷◌}
+use Rattle.std.proofs.Common.{refl, sym, ap, ◌∙◌, subst, arith}
 use Rattle.std.proofs.lemmas.Bool.{and_parts}
+use Rattle.std.proofs.lemmas.Bool.Decides.{nat_tests}
 use Rattle.std.specs.List.{list_all}
 use Rattle.skk_calls.specs.declared.book.NumberedBook.{NumberedBook}
+use Rattle.skk_text.specs.Lists.{is_empty}
+use Rattle.skk_text.specs.Text.{byte_len}
 use Rattle.skk_calls.specs.declared.call.Call.{Call}
+use Rattle.skk_calls.specs.declared.call.Call.TheVariants.{Lookup, Complete, Learn, Purge, Annotate, Unlearn}
+use Rattle.skk_calls.specs.Canonical.{canonical, is_good, line_limit}
 use Rattle.skk_calls.specs.Dictionary.{after, moves, is_call}
+use Rattle.skk_calls.specs.KeyLaws.{same_key_equal}
+use Rattle.skk_calls.specs.Learning.{annotated}
 use Rattle.skk_calls.specs.Orders.{key_less, insert_by}
-use Rattle.skk_calls.specs.Rows.{RowKey, Row, is_row_key}
-use Rattle.skk_calls.specs.States.{State, rows_of, count_of, state_with, with_row, with_book, without_row}
+use Rattle.skk_calls.specs.Rows.{RowKey, Cand, Block, Row, is_cand, is_row, is_row_key, is_word}
+use Rattle.skk_calls.specs.States.{State, row_at, rows_of, count_of, state_with, with_row, with_book, without_row}
+use Rattle.skk_calls.specs.States.{has_stamp}
 use Rattle.skk_calls.specs.States.{without_book, fits_count, rows_ascend, is_book, books_ascend, is_valid}
+use Rattle.dict_laws.specs.ChangedStates.{has_key, row_in_has_key}
 use Rattle.learned_store.specs.declared.form.PayloadForm.{PayloadForm}
-use Rattle.learned_store.specs.declared.form.PayloadForm.TheVariants.{Put, Drop}
-use Rattle.learned_store.specs.Payloads.{book_of, new_count, change_told}
+use Rattle.learned_store.specs.declared.form.PayloadForm.TheVariants.{Put, Drop, SetCount, Note}
+use Rattle.learned_store.specs.Payloads.{book_of, change_told, may_follow, new_count, note_told, row_told, takes_note}
 use Rattle.learned_store.proofs.Changes.{change_leaves}
 
 -- what holds of each item of a list holds of one that was put into it
@@ -38,8 +47,18 @@ put_fits state number count row valid =
     (without_row row.key (rows_of state number))
     (and_parts (rows_ascend rows) (list_all (fits_count count) rows) parts.1).1
 
+-- what the record of an annotation says gives its book the count
+note_counts : (book count : ℕ) (key : RowKey) (cand : Cand) (row : Option Row)
+    → (book_of (note_told book count key cand row) ≡ book) × (new_count (note_told book count key cand row) ≡ count)
+note_counts book count key cand None = (refl, refl)
+note_counts book count key cand (Some row) = (refl, refl)
+
 pub change_later : (state : State) (call : Call) (form : PayloadForm) → change_told state call ≡ Some form
     → count_of state (book_of form) ≤ new_count form
+change_later state (Annotate book key cand) form is =
+    let same : note_told book (count_of state book + 1) key cand (row_at state book key) ≡ form = cc in
+    let counts = note_counts book (count_of state book + 1) key cand (row_at state book key) in
+    subst (λ (f : PayloadForm). count_of state (book_of f) ≤ new_count f) same (rw (counts.0, counts.1) (omega arith))
 change_later state call form is = grind arith
 
 pub put_sound : (state : State) (call : Call) (book count : ℕ) (row : Row) → is_valid state ≡ true
@@ -53,3 +72,104 @@ put_sound state call book count row valid fit later moved is =
 pub drop_sound : (state : State) (call : Call) (book count : ℕ) (key : RowKey) → is_call call ≡ true
     → change_told state call ≡ Some (Drop book count key) → is_row_key key ≡ true
 drop_sound state call book count key fit is = grind arith
+
+-- a note that the record of a call says has a count, and a valid key and candidate
+note_kept : (state : State) (book count number : ℕ) (key own : RowKey) (cand new : Cand) (row : Option Row)
+    → (is_row_key own && is_cand new) ≡ true → note_told number (count_of state number + 1) own new row
+    ≡ Note book count key cand → (nat_le 1 count && (is_row_key key && is_cand cand)) ≡ true
+note_kept state book count number key own cand new None valid is = cc
+note_kept state book count number key own cand new (Some row) valid is = grind (arith, nat_tests)
+
+pub note_sound : (state : State) (call : Call) (book count : ℕ) (key : RowKey) (cand : Cand) → is_call call ≡ true
+    → change_told state call ≡ Some (Note book count key cand)
+    → (nat_le 1 count && (is_row_key key && is_cand cand)) ≡ true
+note_sound state (Lookup who own okuri) book count key cand valid is = cc
+note_sound state (Complete who prefix) book count key cand valid is = cc
+note_sound state (Learn number own okuri new) book count key cand valid is = cc
+note_sound state (Purge number own word) book count key cand valid is = cc
+note_sound state (Annotate number own new) book count key cand valid is =
+    note_kept state book count number key own cand new (row_at state number own) valid (cc)
+note_sound state (Unlearn learned) book count key cand valid is = unsaid learned.before is
+  where
+    unsaid : (before : Option Row)
+        → Some (row_told learned.book (count_of state learned.book) learned.key before)
+        ≡ Some (Note book count key cand)
+        → (nat_le 1 count && (is_row_key key && is_cand cand)) ≡ true
+    unsaid None same = cc
+    unsaid (Some row) same = cc
+
+-- its row is there
+note_row : (state : State) (book count number stamp : ℕ) (key own : RowKey) (cand new : Cand) (found : Option Row)
+    → row_at state number own ≡ found → note_told number stamp own new found ≡ Note book count key cand
+    → (row : Row) × (row_at state book key ≡ Some row)
+note_row state book count number stamp key own cand new None at is = absurd (cc)
+note_row state book count number stamp key own cand new (Some row) at is =
+    let books : number ≡ book = cc in
+    let keys : own ≡ key = cc in
+    (row, ap (λ n. row_at state n key) (sym books) ∙ ap (row_at state number) (sym keys) ∙ at)
+
+note_there : (state : State) (call : Call) (book count : ℕ) (key : RowKey) (cand : Cand)
+    → change_told state call ≡ Some (Note book count key cand) → (row : Row) × (row_at state book key ≡ Some row)
+note_there state (Lookup who own okuri) book count key cand is = absurd (cc)
+note_there state (Complete who prefix) book count key cand is = absurd (cc)
+note_there state (Learn number own okuri new) book count key cand is = absurd (cc)
+note_there state (Purge number own word) book count key cand is = absurd (cc)
+note_there state (Annotate number own new) book count key cand is =
+    note_row state book count number (count_of state number + 1) key own cand new (row_at state number own) refl (cc)
+note_there state (Unlearn learned) book count key cand is = unsaid learned.before is
+  where
+    unsaid : (before : Option Row)
+        → Some (row_told learned.book (count_of state learned.book) learned.key before)
+        ≡ Some (Note book count key cand)
+        → (row : Row) × (row_at state book key ≡ Some row)
+    unsaid None same = absurd (cc)
+    unsaid (Some row) same = absurd (cc)
+
+-- a row that may stand in its book after it took a note takes it
+pub taken : (count : ℕ) (key : RowKey) (cand : Cand) (row : Row) → row.key ≡ key
+    → fits_count count (annotated (Some row) key cand count) ≡ true → takes_note (Some row) cand count ≡ true
+taken count key cand row same fits =
+    subst (λ (k : RowKey). nat_le (byte_len (canonical (annotated (Some row) k cand count))) line_limit ≡ true)
+    (sym same) short
+  where
+    after : Row
+    after = annotated (Some row) key cand count
+
+    short : nat_le (byte_len (canonical after)) line_limit ≡ true
+    short =
+        let rows = and_parts (is_row after) (is_good after && has_stamp count after) fits in
+        let good = and_parts (is_good after) (has_stamp count after) rows.1 in
+        let some = not (is_empty after.cands) || (not (is_empty after.blocks) || not (is_empty after.hides)) in
+        let fitting = nat_le (byte_len (canonical after)) line_limit in
+        let blocks = list_all (λ (block : Block). list_all is_word block.words) after.blocks in
+        let hidden = and_parts some (list_all is_word after.hides && (blocks && fitting)) good.0 in
+        let words = and_parts (list_all is_word after.hides) (blocks && fitting) hidden.1 in
+        (and_parts blocks fitting words.1).1
+
+-- and it may follow there
+note_follows : (state : State) (call : Call) (book count : ℕ) (key : RowKey) (cand : Cand) → is_valid state ≡ true
+    → is_call call ≡ true → is_valid (after state call) ≡ true → moves state call ≡ true
+    → change_told state call ≡ Some (Note book count key cand) → may_follow state (Note book count key cand) ≡ true
+note_follows state call book count key cand valid fit later moved is =
+    let there = note_there state call book count key cand is in
+    let row : Row = there.0 in
+    let fits =
+    put_fits state book count (annotated (row_at state book key) key cand count)
+    (subst (λ (s : State). is_valid s ≡ true)
+    (sym (change_leaves state call (Note book count key cand) valid fit moved is)) later) in
+    let keyed : row.key ≡ key =
+    same_key_equal row.key key (subst (λ (r : Option Row). has_key key r ≡ true) there.1
+    (row_in_has_key key (rows_of state book))) in
+    subst (λ (r : Option Row). takes_note r cand count ≡ true) (sym there.1)
+    (taken count key cand row keyed
+    (subst (λ (r : Option Row). fits_count count (annotated r key cand count) ≡ true) there.1 fits))
+
+-- so may whatever the record of a call says
+pub form_follows : (state : State) (call : Call) (form : PayloadForm) → is_valid state ≡ true → is_call call ≡ true
+    → is_valid (after state call) ≡ true → moves state call ≡ true → change_told state call ≡ Some form
+    → may_follow state form ≡ true
+form_follows state call (Put book count row) valid typed later moved is = refl
+form_follows state call (Drop book count key) valid typed later moved is = refl
+form_follows state call (SetCount book count) valid typed later moved is = refl
+form_follows state call (Note book count key cand) valid typed later moved is =
+    note_follows state call book count key cand valid typed later moved is

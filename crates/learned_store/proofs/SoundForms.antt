@@ -2,10 +2,10 @@
 use Rattle.std.proofs.Common.{◌≡◌, ℕ, ◌≤◌, true, ◌&&◌, nat_le, arith}
 use Rattle.std.proofs.lemmas.Bool.{and_parts, leb-true}
 use Rattle.std.specs.Str.{all_scalars}
-use Rattle.skk_calls.specs.Canonical.{canonical, is_good}
-use Rattle.skk_calls.specs.Rows.{RowKey, Row, is_row, is_row_key}
+use Rattle.skk_calls.specs.Canonical.{canonical, is_good, item}
+use Rattle.skk_calls.specs.Rows.{RowKey, Cand, Row, is_row, is_row_key, is_cand}
 use Rattle.skk_calls.specs.States.{has_stamp, fits_count}
-use Rattle.learned_store.specs.declared.form.PayloadForm.TheVariants.{Put, Drop}
+use Rattle.learned_store.specs.declared.form.PayloadForm.TheVariants.{Put, Drop, Note}
 use Rattle.learned_store.specs.Payloads.{are_held, is_sound}
 use Rattle.learned_store.specs.Reading.{is_written_row}
 
@@ -50,3 +50,30 @@ pub record DropParts (book count : ℕ) (key : RowKey) : Type 0 where
 
 pub drop_parts : (book count : ℕ) (key : RowKey) → is_sound (Drop book count key) ≡ true → DropParts book count key
 drop_parts book count key sound = record { held = grind arith; valid = grind arith; text = grind arith }
+
+-- what a note keeps that may be written
+pub record NoteParts (book count : ℕ) (key : RowKey) (cand : Cand) : Type 0 where
+  pub held : are_held book count ≡ true
+  pub some : 1 ≤ count
+  pub valid : is_row_key key ≡ true
+  pub cand_is : is_cand cand ≡ true
+  pub reading : all_scalars key.reading ≡ true
+  pub item : all_scalars (item cand) ≡ true
+
+pub note_parts : (book count : ℕ) (key : RowKey) (cand : Cand) → is_sound (Note book count key cand) ≡ true
+    → NoteParts book count key cand
+note_parts book count key cand sound =
+    let texts = all_scalars key.reading && all_scalars (item cand) in
+    let held = and_parts (are_held book count) (nat_le 1 count && (is_row_key key && (is_cand cand && texts))) sound in
+    let some = and_parts (nat_le 1 count) (is_row_key key && (is_cand cand && texts)) held.1 in
+    let valid = and_parts (is_row_key key) (is_cand cand && texts) some.1 in
+    let cand_is = and_parts (is_cand cand) texts valid.1 in
+    let spelled = and_parts (all_scalars key.reading) (all_scalars (item cand)) cand_is.1 in
+    record {
+      held = held.0;
+      some = leb-true 1 count some.0;
+      valid = valid.0;
+      cand_is = cand_is.0;
+      reading = spelled.0;
+      item = spelled.1;
+    }

@@ -1,6 +1,6 @@
 -- What the records of a compaction need is the least that any records of their state need.
 use Rattle.std.proofs.Common.{◌≡◌, ℕ, ◌+◌, ◌≤◌, Bool, true, false, cond, not, ◌==◌, nat_lt, Option, None, Some, List}
-use Rattle.std.proofs.Common.{[], ◌∷◌, map, length, refl, ap, ◌∙◌, arith, length-append}
+use Rattle.std.proofs.Common.{[], ◌∷◌, map, length, refl, sym, ap, ◌∙◌, subst, arith, length-append}
 use Rattle.std.specs.List.{filter, flat_map, sum_by}
 use Rattle.std.proofs.lemmas.List.{map-append}
 use Rattle.std.proofs.lemmas.List.Sorted.{sum_by-IsPermutation}
@@ -9,21 +9,30 @@ use Rattle.ordered_lists.specs.OrderLaws.{insert_moves}
 use Rattle.ordered_lists.specs.Orders.{insert_by}
 use Rattle.skk_calls.specs.declared.book.NumberedBook.{NumberedBook}
 use Rattle.skk_calls.specs.declared.call.Call.{Call}
-use Rattle.skk_calls.specs.declared.call.Call.TheVariants.{Lookup, Complete, Learn, Purge, Unlearn}
+use Rattle.skk_calls.specs.declared.call.Call.TheVariants.{Lookup, Complete, Learn, Purge, Annotate, Unlearn}
 use Rattle.skk_calls.specs.Dictionary.{after, moves, state_moved}
-use Rattle.skk_calls.specs.Histories.{put_need, restored_need, need, count_need, rows_need, tight}
+use Rattle.skk_text.specs.Text.{byte_len}
+use Rattle.skk_text.specs.TextLaws.{byte_len-append}
+use Rattle.skk_calls.specs.Canonical.{item}
+use Rattle.skk_calls.specs.Histories.{put_need, restored_need, note_need, annotated_need, need, count_need}
+use Rattle.skk_calls.specs.Histories.{rows_need, tight}
+use Rattle.skk_calls.specs.KeyLaws.{same_key_equal}
+use Rattle.skk_calls.specs.Learning.{annotated}
 use Rattle.skk_calls.specs.Orders.{key_less}
-use Rattle.skk_calls.specs.Rows.{RowKey, Row, same_key}
-use Rattle.skk_calls.specs.States.{State, empty_state, rows_of, without_row, with_row, without_book, with_book}
-use Rattle.skk_calls.specs.States.{state_with}
+use Rattle.skk_calls.specs.Rows.{RowKey, Cand, Row, same_key}
+use Rattle.skk_calls.specs.States.{State, empty_state, row_in, rows_of, row_at, count_of, without_row, with_row}
+use Rattle.skk_calls.specs.States.{without_book, with_book, state_with}
+use Rattle.dict_laws.specs.ChangedStates.{has_key, row_in_has_key}
+use Rattle.skk_journal.specs.Contents.{Contents}
 use Rattle.skk_journal.specs.RecordLaws.{length-record_bytes, need_is}
 use Rattle.skk_journal.specs.Records.{record_bytes, framed, end_of, need as record_need}
 use Rattle.learned_store.specs.declared.form.PayloadForm.{PayloadForm}
-use Rattle.learned_store.specs.declared.form.PayloadForm.TheVariants.{Put, Drop, SetCount}
-use Rattle.learned_store.specs.Payloads.{count_bytes, payload_of, state_told}
+use Rattle.learned_store.specs.declared.form.PayloadForm.TheVariants.{Put, Drop, SetCount, Note}
+use Rattle.learned_store.specs.Payloads.{count_bytes, may_follow, payload_of, state_told, takes_note}
 use Rattle.learned_store.specs.Recovered.{Leads, Leave}
 use Rattle.learned_store.specs.Compacted.{row_forms, book_forms, compacted}
-use Rattle.learned_store.proofs.Needs.{put_needs, drop_needs, counted_long}
+use Rattle.learned_store.proofs.Needs.{put_needs, drop_needs, counted_long, note_needs}
+use Rattle.learned_store.proofs.RowGrowth.{annotated_most}
 
 -- Sums
 
@@ -41,6 +50,10 @@ module _ {X : Type 0} (f : X → ℕ) where
       grind (arith, sum_by-cons f x xs, sum_by-cons f x (filter p xs), sum_by-filter p xs)
 
 -- Rows
+
+slash : byte_len (0x2F ∷ []) ≡ 1
+unfolding lib.Utf8.encode
+slash = refl
 
 -- the rows of a book need no more than its records, and those at most a count more
 rows_least : (rows : List Row) → sum_by put_need rows ≤ rows_need rows
@@ -116,12 +129,84 @@ row_changed state number count key row =
     replaced state number count (restored_need key row) (with_row key row (rows_of state number))
     (rows_with key row (rows_of state number))
 
+-- rows without those of a key need so much less as the one that is found does
+apart_row : (key : RowKey) (rows : List Row) (row : Row) → row_in key rows ≡ Some row
+    → sum_by put_need (without_row key rows) + put_need row ≤ sum_by put_need rows
+apart_row key [] row found = cc
+apart_row key (first ∷ rows) row found =
+    by (same_key first.key key) refl (apart_row key rows row) found
+  where
+    by : (b : Bool) → same_key first.key key ≡ b
+        → (row_in key rows ≡ Some row → sum_by put_need (without_row key rows) + put_need row ≤ sum_by put_need rows)
+        → cond b (Some first) (row_in key rows) ≡ Some row
+        → sum_by put_need (without_row key (first ∷ rows)) + put_need row ≤ sum_by put_need (first ∷ rows)
+    by true e rest is =
+        let same : first ≡ row = cc in
+        grind (
+          arith,
+          e,
+          same,
+          sum_by-cons put_need first rows,
+          sum_by-filter put_need (λ (r : Row). not (same_key r.key key)) rows,
+        )
+    by false e rest is =
+        grind (
+          arith,
+          e,
+          rest is,
+          sum_by-cons put_need first rows,
+          sum_by-cons put_need first (without_row key rows),
+        )
+
+-- a row that took a note needs at most so much more as the note's record does
+noted_more : (key : RowKey) (cand : Cand) (stamp : ℕ) (row : Row) → row.key ≡ key
+    → put_need (annotated (Some row) key cand stamp) ≤ put_need row + note_need key cand
+noted_more key cand stamp row same =
+    let most = annotated_most row cand stamp in
+    let at : put_need (annotated (Some row) key cand stamp) ≡ put_need (annotated (Some row) row.key cand stamp) =
+    ap (λ (k : RowKey). put_need (annotated (Some row) k cand stamp)) (sym same) in
+    omega (arith, at, most, byte_len-append (item cand) (0x2F ∷ []), slash)
+
+-- so does a state where a row of it took one
+note_changed : (state : State) (number count stamp : ℕ) (key : RowKey) (cand : Cand) (found : Option Row) (row : Row)
+    → found ≡ Some row → row_in key (rows_of state number) ≡ found
+    → tight (state_with state number count key (Some (annotated found key cand stamp)))
+    ≤ tight state + note_need key cand
+note_changed state number count stamp key cand found row is at =
+    let keyed : row.key ≡ key =
+    same_key_equal row.key key (subst (λ (r : Option Row). has_key key r ≡ true) (at ∙ is)
+    (row_in_has_key key (rows_of state number))) in
+    let new : Row = annotated (Some row) key cand stamp in
+    let less = λ (r other : Row). key_less r.key other.key in
+    let kept = without_row key (rows_of state number) in
+    subst (λ (r : Option Row). tight (state_with state number count key (Some (annotated r key cand stamp)))
+    ≤ tight state + note_need key cand) (sym is)
+    (replaced state number count (note_need key cand) (with_row key (Some new) (rows_of state number))
+    (omega (
+      arith,
+      some_rows less new kept,
+      sum_by-insert_by put_need less new kept,
+      apart_row key (rows_of state number) row (at ∙ is),
+      noted_more key cand stamp row keyed,
+    )))
+
+-- an annotation needs what it makes the tight end greater
+annotated_changed : (state : State) (number count : ℕ) (key : RowKey) (cand : Cand) (found : Option Row)
+    → row_in key (rows_of state number) ≡ found
+    → tight (state_with state number count key (Some (annotated found key cand count)))
+    ≤ tight state + annotated_need found key cand count
+annotated_changed state number count key cand None at = row_changed state number count key (Some _)
+annotated_changed state number count key cand (Some row) at =
+    note_changed state number count count key cand (Some row) row refl at
+
 -- a change makes the tight end at most so much greater as it needs
 moved_most : (state : State) (call : Call) → tight (state_moved state call) ≤ tight state + need state call
 moved_most state (Lookup who key okuri) = omega arith
 moved_most state (Complete who prefix) = omega arith
 moved_most state (Learn book key okuri cand) = row_changed state book _ key (Some _)
 moved_most state (Purge book key word) = row_changed state book _ key (Some _)
+moved_most state (Annotate book key cand) =
+    annotated_changed state book (count_of state book + 1) key cand (row_at state book key) refl
 moved_most state (Unlearn learned) = row_changed state learned.book _ learned.key learned.before
 
 pub after_most : (state : State) (call : Call) → tight (after state call) ≤ tight state + need state call
@@ -152,17 +237,17 @@ count_needs : (book count : ℕ) → count_need ≡ record_need (count_bytes boo
 count_needs book count = omega (arith, need_is (count_bytes book count), counted_long book count)
 
 -- a record makes the tight end at most so much greater as it needs
-told_most : (state : State) (form : PayloadForm)
+told_most : (state : State) (form : PayloadForm) → may_follow state form ≡ true
     → tight (state_told state form) ≤ tight state + record_need (payload_of form)
-told_most state (Put book count row) =
+told_most state (Put book count row) follows =
     omega (arith, put_needs book count row, row_changed state book count row.key (Some row))
-told_most state (Drop book count key) = by (count == 0)
+told_most state (Drop book count key) follows = by (count == 0)
   where
     by : (b : Bool) → tight (cond b state (state_with state book count key None))
         ≤ tight state + record_need (payload_of (Drop book count key))
     by true = omega arith
     by false = omega (arith, drop_needs book count key, row_changed state book count key None)
-told_most state (SetCount book count) = by (count == 0)
+told_most state (SetCount book count) follows = by (count == 0)
   where
     by : (b : Bool)
         → tight (cond b state (with_it state (record { number = book; count = count; rows = rows_of state book })))
@@ -174,22 +259,40 @@ told_most state (SetCount book count) = by (count == 0)
           count_needs book count,
           replaced state book count count_need (rows_of state book) (rows_most (rows_of state book)),
         )
-
-led_most : (start after : State) (records : List (List ℕ)) → Leads start records after
-    → tight after ≤ tight start + sum_by record_need records
-led_most start after [] is = omega (arith, ap tight is)
-led_most start after (payload ∷ records) (form, says, leads) =
+told_most state (Note book count key cand) follows =
     omega (
       arith,
-      told_most start form,
+      note_needs book count key cand,
+      taken (row_at state book key) refl follows,
+    )
+  where
+    taken : (found : Option Row) → row_at state book key ≡ found → takes_note found cand count ≡ true
+        → tight (state_told state (Note book count key cand)) ≤ tight state + note_need key cand
+    taken None at takes = cc
+    taken (Some row) at takes =
+        note_changed state book count count key cand (row_at state book key) row at refl
+
+led_most : (version : ℕ) (start after : State) (records : List (List ℕ)) → Leads version start records after
+    → tight after ≤ tight start + sum_by record_need records
+led_most version start after [] is = omega (arith, ap tight is)
+led_most version start after (payload ∷ records) (form, says, leads) =
+    omega (
+      arith,
+      told_most start form says.follows,
       ap record_need says.is,
-      led_most (state_told start form) after records leads,
+      led_most version (state_told start form) after records leads,
       sum_by-cons record_need payload records,
     )
 
 -- no records leave a state whose tight end is behind theirs
-pub tight_least : (records : List (List ℕ)) (state : State) → Leave records state → tight state ≤ end_of records
-tight_least records state leave = omega (arith, led_most empty_state state records leave, framed_needs records)
+pub tight_least : (contents : Contents) (state : State) → Leave contents state
+    → tight state ≤ end_of contents.records
+tight_least contents state leave =
+    omega (
+      arith,
+      led_most contents.version empty_state state contents.records leave,
+      framed_needs contents.records,
+    )
 
 -- Compacted records
 

@@ -1,40 +1,52 @@
 -- What the record of a plan tells of the call that was planned.
-use Rattle.std.proofs.Common.{◌≡◌, ℕ, true, Option, None, Some, List, sym, ◌∙◌, ap, subst}
+use Rattle.std.proofs.Common.{◌≡◌, ℕ, true, nat_le, Option, Some, List, refl, sym, ◌∙◌, ap, subst}
+use Rattle.std.specs.Option.{option_map_or}
 use Rattle.skk_calls.specs.declared.call.Call.{Call}
 use Rattle.skk_calls.specs.Dictionary.{after, is_call, moves}
-use Rattle.skk_calls.specs.Rows.{RowKey, Row}
 use Rattle.skk_calls.specs.States.{State, is_valid}
 use Rattle.skk_journal.specs.Records.{IsSized, need as record_need}
 use Rattle.learn_index.specs.declared.plan.Plan.{Plan}
 use Rattle.learn_index.specs.declared.plan.Plan.TheVariants.{Still, Move}
 use Rattle.learn_index.specs.Plans.{IsPlanned}
-use Rattle.learned_store.specs.Payloads.{row_told, change_told}
-use Rattle.learned_store.specs.Written.{Told, may_stand, TellsOf}
+use Rattle.learned_store.specs.declared.form.PayloadForm.{PayloadForm}
+use Rattle.learned_store.specs.declared.form.PayloadForm.TheVariants.{Put, Drop, SetCount, Note}
+use Rattle.learned_store.specs.declared.writing.Record.{Record}
+use Rattle.learned_store.specs.Payloads.{change_told, first_version}
+use Rattle.learned_store.specs.Written.{Told, may_stand, noted_in, planned_told, TellsOf}
 use Rattle.learned_store.proofs.Changes.{change_leaves}
 use Rattle.learned_store.proofs.Needs.{needs_record}
 use Rattle.learned_store.proofs.PlansTold.{plan_told}
 use Rattle.learned_store.proofs.Sized.{sound_sized}
-use Rattle.learned_store.proofs.SoundChanges.{put_sound, drop_sound, change_later}
+use Rattle.learned_store.proofs.SoundChanges.{put_sound, drop_sound, note_sound, form_follows, change_later}
 
 module _ (state : State) (call : Call) (valid : is_valid state ≡ true) (typed : is_call call ≡ true)
     (later : is_valid (after state call) ≡ true) where
-  stands : (book count : ℕ) (key : RowKey) (row : Option Row) → moves state call ≡ true
-      → change_told state call ≡ Some (row_told book count key row) → may_stand (row_told book count key row) ≡ true
-  stands book count key None moved is = drop_sound state call book count key typed is
-  stands book count key (Some row) moved is = put_sound state call book count row valid typed later moved is
+  stands : (form : PayloadForm) → moves state call ≡ true → change_told state call ≡ Some form
+      → may_stand form ≡ true
+  stands (Put book count row) moved is = put_sound state call book count row valid typed later moved is
+  stands (Drop book count key) moved is = drop_sound state call book count key typed is
+  stands (SetCount book count) moved is = refl
+  stands (Note book count key cand) moved is = note_sound state call book count key cand typed is
 
-  pub told : (plan : Plan) (payload : List ℕ) → IsPlanned state call plan → TellsOf plan payload
-      → Told state call payload
-  told (Still reply) payload planned tells = absurd tells
-  told (Move book count key row reply) payload planned tells =
-      let form = row_told book count key row in
+  pub told : (plan : Plan) (written : Record) → IsPlanned state call plan → TellsOf state call plan written
+      → Told state call written
+  told (Still reply) written planned tells = absurd tells
+  told (Move book count key row reply) written planned tells =
+      let form = planned_told (noted_in state call) book count key row in
       let is = plan_told state call book count key row reply typed planned in
-      let sound = tells.sound (stands book count key row planned.0 is) in
+      let sound = tells.sound (stands form planned.0 is) in
       record {
         form = form;
         moved = planned.0;
         sized = subst (λ (bytes : List ℕ). IsSized bytes) (sym tells.is) (sound_sized form sound);
-        says = record { sound = sound; counted = change_later state call form is; is = tells.is };
+        says = λ version known. record {
+          known = subst (λ (n : ℕ). nat_le n version ≡ true) tells.version known;
+          sound = sound;
+          counted = change_later state call form is;
+          follows = form_follows state call form valid typed later planned.0 is;
+          is = tells.is;
+        };
         leaves = change_leaves state call form valid typed planned.0 is;
         needs = needs_record state call form is ∙ ap record_need (sym tells.is);
+        version = tells.version ∙ sym (ap (λ (o : Option PayloadForm). option_map_or first_version o 1) is);
       }

@@ -1,5 +1,5 @@
 -- What a record that may be written changes: the count of its book, and the row of its key.
-use Rattle.std.proofs.Common.{◌≡◌, ℕ, ◌≤◌, Bool, true, false, cond, not, ◌&&◌, ◌==◌, nat_le, nat_lt}
+use Rattle.std.proofs.Common.{◌≡◌, ℕ, ◌≤◌, Bool, true, false, cond, not, ◌&&◌, ◌==◌, nat_le, nat_lt, subst}
 use Rattle.std.proofs.Common.{Option, None, Some, List, [], ◌∷◌, find, refl, arith}
 use Rattle.std.proofs.lemmas.Bool.{le-leb}
 use Rattle.std.proofs.lemmas.Bool.Decides.{nat_tests}
@@ -8,17 +8,24 @@ use Rattle.skk_text.specs.PairsLaws.{list_all-filter, list_all-weaker}
 use Rattle.ordered_lists.specs.OrderLaws.{list_all-insert_by}
 use Rattle.ordered_lists.specs.Orders.{insert_by}
 use Rattle.skk_calls.specs.declared.book.NumberedBook.{NumberedBook}
+use Rattle.skk_calls.specs.Canonical.{is_good}
 use Rattle.skk_calls.specs.KeyLaws.{same_key_equal, same_key_itself}
 use Rattle.skk_calls.specs.Orders.{key_less}
-use Rattle.skk_calls.specs.Rows.{RowKey, Row, same_key}
+use Rattle.skk_calls.specs.Learning.{annotated}
+use Rattle.skk_calls.specs.Rows.{RowKey, Cand, Row, is_row, same_key}
 use Rattle.skk_calls.specs.States.{State, row_in, book_at, book_rows, book_count, rows_of, count_of, row_at}
 use Rattle.skk_calls.specs.States.{without_row, with_row, without_book, with_book, state_with}
 use Rattle.skk_calls.specs.States.{fits_count, is_book, is_valid}
-use Rattle.dict_laws.specs.ValidStates.{books_ascend_with_book, is_valid_changed, parts_at, rows_of_ascend, rows_of_fit}
+use Rattle.dict_laws.specs.AnnotatedRows.{annotated_row, annotated_good}
+use Rattle.dict_laws.specs.ChangedStates.{has_key, row_in_has_key}
+use Rattle.dict_laws.specs.ValidStates.{books_ascend_with_book, fits_after, fits_row_at, is_valid_changed, parts_at}
+use Rattle.dict_laws.specs.ValidStates.{rows_of_ascend, rows_of_fit}
 use Rattle.learn_index.specs.Records.{state_counted, state_without}
 use Rattle.learned_store.specs.declared.form.PayloadForm.{PayloadForm}
-use Rattle.learned_store.specs.declared.form.PayloadForm.TheVariants.{Put, Drop, SetCount}
-use Rattle.learned_store.specs.Payloads.{book_of, new_count, is_sound, state_told}
+use Rattle.learned_store.specs.declared.form.PayloadForm.TheVariants.{Put, Drop, SetCount, Note}
+use Rattle.learned_store.specs.Gathering.{row_told_of}
+use Rattle.learned_store.specs.Payloads.{book_of, new_count, is_sound, may_follow, state_told, takes_note}
+use Rattle.learned_store.proofs.SoundForms.{note_parts}
 
 -- Items
 
@@ -129,42 +136,92 @@ abbrev told_rows : PayloadForm → List Row → List Row
 told_rows (Put book count row) rows = with_row row.key (Some row) rows
 told_rows (Drop book count key) rows = without_row key rows
 told_rows (SetCount book count) rows = rows
+told_rows (Note book count key cand) rows =
+    with_row key (Some (annotated (row_in key rows) key cand count)) rows
 
--- and the row of a key there, where it was this one
-abbrev pub row_told_of : PayloadForm → RowKey → Option Row → Option Row
-row_told_of (Put book count row) key before = cond (same_key row.key key) (Some row) before
-row_told_of (Drop book count gone) key before = cond (same_key gone key) None before
-row_told_of (SetCount book count) key before = before
+-- the row of a key that took a note, among others
+row_noted : (book count : ℕ) (own : RowKey) (cand : Cand) (key : RowKey) (rows : List Row)
+    → row_in key (with_row own (Some (annotated (row_in own rows) own cand count)) rows)
+    ≡ cond (same_key own key) (Some (annotated (row_in key rows) own cand count)) (row_in key rows)
+row_noted book count own cand key rows =
+    grind (arith, row_put (annotated (row_in own rows) own cand count) key rows, same_key_equal own key)
 
 row_of_told : (form : PayloadForm) (key : RowKey) (rows : List Row)
     → row_in key (told_rows form rows) ≡ row_told_of form key (row_in key rows)
 row_of_told (Put book count row) key rows = row_put row key rows
 row_of_told (Drop book count gone) key rows = row_without gone key rows
 row_of_told (SetCount book count) key rows = refl
+row_of_told (Note book count own cand) key rows = row_noted book count own cand key rows
 
 -- its book after a record
 abbrev told_book : State → PayloadForm → NumberedBook
 told_book state form =
     record { number = book_of form; count = new_count form; rows = told_rows form (rows_of state (book_of form)) }
 
-module _ (state : State) (form : PayloadForm) (later : count_of state (book_of form) ≤ new_count form)
-    (number : ℕ) where
-  -- after a record the count of its book is that which it tells, and others stay
-  pub count_told : count_of (state_told state form) number
-      ≡ cond (book_of form == number) (new_count form) (count_of state number)
-  count_told = grind (arith, count_with state (told_book state form) number, later)
+-- after a record the count of its book is that which it tells, and others stay
+pub count_told : (state : State) (form : PayloadForm) → count_of state (book_of form) ≤ new_count form → (number : ℕ)
+    → count_of (state_told state form) number
+    ≡ cond (book_of form == number) (new_count form) (count_of state number)
+count_told state (Put book count row) later number =
+    count_with state (told_book state (Put book count row)) number
+count_told state (Drop book count key) later number =
+    grind (arith, count_with state (told_book state (Drop book count key)) number, later)
+count_told state (SetCount book count) later number =
+    grind (arith, count_with state (told_book state (SetCount book count)) number, later)
+count_told state (Note book count key cand) later number =
+    count_with state (told_book state (Note book count key cand)) number
 
-  -- and the row of a key in that book is what it says, and others stay
-  pub row_told : is_valid state ≡ true → (key : RowKey) → row_at (state_told state form) number key
+-- and the row of a key in that book is what it says, and others stay
+module _ (state : State) (form : PayloadForm) (number : ℕ) (key : RowKey) where
+  row_with : row_at (with_it state (told_book state form)) number key
       ≡ cond (book_of form == number) (row_told_of form key (row_at state number key)) (row_at state number key)
-  row_told valid key =
+  row_with =
       grind (
         arith,
         row_of_told form key (rows_of state (book_of form)),
         rows_with state (told_book state form) number,
-        no_rows state number valid,
-        later,
       )
+
+pub row_told : (state : State) (form : PayloadForm) → count_of state (book_of form) ≤ new_count form → (number : ℕ)
+    → is_valid state ≡ true → (key : RowKey) → row_at (state_told state form) number key
+    ≡ cond (book_of form == number) (row_told_of form key (row_at state number key)) (row_at state number key)
+row_told state (Put book count row) later number valid key = row_with state (Put book count row) number key
+row_told state (Drop book count gone) later number valid key =
+    grind (
+      arith,
+      row_of_told (Drop book count gone) key (rows_of state book),
+      rows_with state (told_book state (Drop book count gone)) number,
+      no_rows state number valid,
+      later,
+    )
+row_told state (SetCount book count) later number valid key =
+    grind (
+      arith,
+      rows_with state (told_book state (SetCount book count)) number,
+      no_rows state number valid,
+      later,
+    )
+row_told state (Note book count own cand) later number valid key =
+    row_with state (Note book count own cand) number key
+
+-- a row that takes a note may stand in its book then
+noted_fits : (count : ℕ) (key : RowKey) (cand : Cand) (before most : ℕ) (row : Option Row)
+    → has_key key row ≡ true → fits_after most row ≡ true → is_sound (Note before count key cand) ≡ true
+    → takes_note row cand count ≡ true → fits_count count (annotated row key cand count) ≡ true
+noted_fits count key cand book most None has fits sound takes = cc
+noted_fits count key cand book most (Some row) has fits sound takes =
+    let parts = note_parts book count key cand sound in
+    let same = same_key_equal row.key key has in
+    let is : is_row row ≡ true = grind (arith, fits) in
+    let good : is_good row ≡ true = grind (arith, fits) in
+    subst (λ (k : RowKey). fits_count count (annotated (Some row) k cand count) ≡ true) same
+    (grind (
+      arith,
+      annotated_row row cand count is parts.cand_is,
+      annotated_good row cand count is parts.cand_is good takes,
+      le-leb 1 count parts.some,
+      le-leb count count (omega arith),
+    ))
 
 module _ (state : State) where
   -- a valid state is valid after a row was put that may stand in its book
@@ -197,10 +254,22 @@ module _ (state : State) where
             (fits_later (count_of state book) count later) (rows_of state book) (rows_of_fit state book valid),
       )
 
+  -- the row that a note leaves may stand in its book
+  pub note_fits : is_valid state ≡ true → (book count : ℕ) (key : RowKey) (cand : Cand)
+      → is_sound (Note book count key cand) ≡ true → takes_note (row_at state book key) cand count ≡ true
+      → fits_count count (annotated (row_at state book key) key cand count) ≡ true
+  note_fits valid book count key cand sound takes =
+      noted_fits count key cand book (count_of state book) (row_at state book key)
+      (row_in_has_key key (rows_of state book)) (fits_row_at state book valid key) sound takes
+
   -- so it is valid after a record that may be written
   pub valid_told : is_valid state ≡ true → (form : PayloadForm) → is_sound form ≡ true
-      → count_of state (book_of form) ≤ new_count form → is_valid (state_told state form) ≡ true
-  valid_told valid (Put book count row) sound later =
+      → count_of state (book_of form) ≤ new_count form → may_follow state form ≡ true
+      → is_valid (state_told state form) ≡ true
+  valid_told valid (Put book count row) sound later follows =
       valid_put valid book count row (put_fits book count row sound) later
-  valid_told valid (Drop book count key) sound later = valid_dropped valid book count key later
-  valid_told valid (SetCount book count) sound later = valid_counted valid book count later
+  valid_told valid (Drop book count key) sound later follows = valid_dropped valid book count key later
+  valid_told valid (SetCount book count) sound later follows = valid_counted valid book count later
+  valid_told valid (Note book count key cand) sound later follows =
+      valid_put valid book count (annotated (row_at state book key) key cand count)
+      (note_fits valid book count key cand sound follows) later

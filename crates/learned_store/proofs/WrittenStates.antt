@@ -2,6 +2,8 @@
 use Rattle.std.proofs.Common.{◌≡◌, ℕ, ◌≤◌, Bool, true, false, cond, not, ◌==◌, nat_lt, Option, None, Some, List, []}
 use Rattle.std.proofs.Common.{◌∷◌, All, map, refl, sym, ◌∙◌, subst, arith}
 use Rattle.std.specs.List.{flat_map, list_all}
+use Rattle.std.specs.Option.{option_map_or}
+use Rattle.std.specs.Str.{all_scalars}
 use Rattle.std.proofs.lemmas.Bool.{and_from, and_parts}
 use Rattle.std.proofs.lemmas.List.Elements.{All-nil, All-cons}
 use Rattle.std.proofs.lemmas.List.Folds.{list_all-append}
@@ -9,20 +11,29 @@ use Rattle.skk_text.specs.FilterLaws.{list_all_found}
 use Rattle.skk_text.specs.PairsLaws.{list_all-filter, list_all-weaker}
 use Rattle.ordered_lists.specs.OrderLaws.{list_all-insert_by}
 use Rattle.skk_calls.specs.declared.book.NumberedBook.{NumberedBook}
+use Rattle.skk_calls.specs.Canonical.{canonical, item}
+use Rattle.skk_calls.specs.KeyLaws.{same_key_equal}
+use Rattle.skk_calls.specs.Learning.{annotated}
 use Rattle.skk_calls.specs.Orders.{key_less}
-use Rattle.skk_calls.specs.Rows.{RowKey, Row, same_key}
-use Rattle.skk_calls.specs.States.{State, empty_state, book_at, book_rows, book_count, rows_of, count_of, with_row}
-use Rattle.skk_calls.specs.States.{without_row, without_book, with_book, state_with, is_valid}
+use Rattle.skk_calls.specs.Rows.{RowKey, Cand, Row, same_key}
+use Rattle.skk_calls.specs.States.{State, empty_state, book_at, book_rows, book_count, row_in, rows_of, row_at}
+use Rattle.skk_calls.specs.States.{count_of, with_row, without_row, without_book, with_book, state_with, fits_count}
+use Rattle.skk_calls.specs.States.{is_valid}
+use Rattle.dict_laws.specs.ChangedStates.{has_key, row_in_has_key}
+use Rattle.skk_journal.specs.Contents.{Contents}
 use Rattle.skk_journal.specs.Records.{IsSized}
 use Rattle.learn_index.specs.Records.{state_counted, state_without}
 use Rattle.learned_store.specs.declared.form.PayloadForm.{PayloadForm}
-use Rattle.learned_store.specs.declared.form.PayloadForm.TheVariants.{Put, Drop, SetCount}
-use Rattle.learned_store.specs.Payloads.{are_held, is_sound, book_of, new_count, payload_of, state_told}
+use Rattle.learned_store.specs.declared.form.PayloadForm.TheVariants.{Put, Drop, SetCount, Note}
+use Rattle.learned_store.specs.Payloads.{are_held, is_sound, book_of, may_follow, new_count, payload_of, state_told}
+use Rattle.learned_store.specs.Payloads.{takes_note}
 use Rattle.learned_store.specs.Reading.{is_written_row}
 use Rattle.learned_store.specs.Recovered.{Leads, Leave}
 use Rattle.learned_store.specs.Compacted.{row_forms, book_forms, compacted, is_written_book, is_written}
+use Rattle.learned_store.proofs.ScalarsAnnotated.{annotated_spells}
 use Rattle.learned_store.proofs.Sized.{sound_sized}
-use Rattle.learned_store.proofs.ToldStates.{fits_later, valid_told}
+use Rattle.learned_store.proofs.SoundForms.{note_parts}
+use Rattle.learned_store.proofs.ToldStates.{fits_later, note_fits, valid_told}
 
 -- a row that may be written in a book may be written in it later
 written_later : (count later : ℕ) → count ≤ later → (row : Row) → is_written_row count row ≡ true
@@ -85,32 +96,67 @@ module _ (state : State) (written : is_written state ≡ true) (number count : �
       by true = written
       by false = with_written (rows_of state number) rows_written
 
-told_written : (state : State) (form : PayloadForm) → is_written state ≡ true → is_sound form ≡ true
-    → count_of state (book_of form) ≤ new_count form → is_written (state_told state form) ≡ true
-told_written state (Put book count row) written sound later =
+-- of rows that may be written the one that is found may
+found_written : (count : ℕ) (key : RowKey) (rows : List Row) → list_all (is_written_row count) rows ≡ true
+    → option_map_or (is_written_row count) (row_in key rows) true ≡ true
+found_written count key rows all = by (row_in key rows) refl
+  where
+    by : (found : Option Row) → row_in key rows ≡ found → option_map_or (is_written_row count) found true ≡ true
+    by None is = refl
+    by (Some row) is = list_all_found (is_written_row count) (λ (r : Row). same_key r.key key) rows row all is
+
+-- a row that takes a note may be written then, where it could before
+noted_written : (count : ℕ) (key : RowKey) (cand : Cand) (row : Option Row) → has_key key row ≡ true
+    → option_map_or (is_written_row count) row true ≡ true → all_scalars (item cand) ≡ true
+    → takes_note row cand count ≡ true → fits_count count (annotated row key cand count) ≡ true
+    → is_written_row count (annotated row key cand count) ≡ true
+noted_written count key cand None has written new takes fits = cc
+noted_written count key cand (Some row) has written new takes fits =
+    let spelled = (and_parts (fits_count count row) (all_scalars (canonical row)) written).1 in
+    let same = same_key_equal row.key key has in
+    and_from (fits_count count (annotated (Some row) key cand count))
+    (all_scalars (canonical (annotated (Some row) key cand count))) fits
+    (subst (λ (k : RowKey). all_scalars (canonical (annotated (Some row) k cand count)) ≡ true) same
+    (annotated_spells row cand count spelled new))
+
+told_written : (state : State) (form : PayloadForm) → is_valid state ≡ true → is_written state ≡ true
+    → is_sound form ≡ true → count_of state (book_of form) ≤ new_count form → may_follow state form ≡ true
+    → is_written (state_told state form) ≡ true
+told_written state (Put book count row) valid written sound later follows =
     put_written state written book count later (grind (arith, sound)) row (grind (arith, sound))
-told_written state (Drop book count key) written sound later =
+told_written state (Drop book count key) valid written sound later follows =
     drop_written state written book count later (grind (arith, sound)) key
-told_written state (SetCount book count) written sound later = count_written state written book count later sound
+told_written state (SetCount book count) valid written sound later follows =
+    count_written state written book count later sound
+told_written state (Note book count key cand) valid written sound later follows =
+    let parts = note_parts book count key cand sound in
+    let rows = rows_written state written book count later parts.held in
+    put_written state written book count later parts.held (annotated (row_at state book key) key cand count)
+    (noted_written count key cand (row_at state book key) (row_in_has_key key (rows_of state book))
+    (found_written count key (rows_of state book) rows) parts.item follows
+    (note_fits state valid book count key cand sound follows))
 
 -- records leave a state that is valid and may be written
-led_valid : (start after : State) (records : List (List ℕ)) → Leads start records after → is_valid start ≡ true
-    → is_valid after ≡ true
-led_valid start after [] is valid = subst (λ (s : State). is_valid s ≡ true) (sym is) valid
-led_valid start after (payload ∷ records) (form, says, leads) valid =
-    led_valid (state_told start form) after records leads (valid_told start valid form says.sound says.counted)
+led_valid : (version : ℕ) (start after : State) (records : List (List ℕ)) → Leads version start records after
+    → is_valid start ≡ true → is_valid after ≡ true
+led_valid version start after [] is valid = subst (λ (s : State). is_valid s ≡ true) (sym is) valid
+led_valid version start after (payload ∷ records) (form, says, leads) valid =
+    led_valid version (state_told start form) after records leads
+    (valid_told start valid form says.sound says.counted says.follows)
 
-led_written : (start after : State) (records : List (List ℕ)) → Leads start records after → is_written start ≡ true
-    → is_written after ≡ true
-led_written start after [] is written = subst (λ (s : State). is_written s ≡ true) (sym is) written
-led_written start after (payload ∷ records) (form, says, leads) written =
-    led_written (state_told start form) after records leads (told_written start form written says.sound says.counted)
+led_written : (version : ℕ) (start after : State) (records : List (List ℕ)) → Leads version start records after
+    → is_valid start ≡ true → is_written start ≡ true → is_written after ≡ true
+led_written version start after [] is valid written = subst (λ (s : State). is_written s ≡ true) (sym is) written
+led_written version start after (payload ∷ records) (form, says, leads) valid written =
+    led_written version (state_told start form) after records leads
+    (valid_told start valid form says.sound says.counted says.follows)
+    (told_written start form valid written says.sound says.counted says.follows)
 
-pub left_valid : (records : List (List ℕ)) (state : State) → Leave records state → is_valid state ≡ true
-left_valid records state leave = led_valid empty_state state records leave refl
+pub left_valid : (contents : Contents) (state : State) → Leave contents state → is_valid state ≡ true
+left_valid contents state leave = led_valid contents.version empty_state state contents.records leave refl
 
-pub left_written : (records : List (List ℕ)) (state : State) → Leave records state → is_written state ≡ true
-left_written records state leave = led_written empty_state state records leave refl
+pub left_written : (contents : Contents) (state : State) → Leave contents state → is_written state ≡ true
+left_written contents state leave = led_written contents.version empty_state state contents.records leave refl refl
 
 -- each record of a compaction may be written
 rows_sound : (number count : ℕ) (rows : List Row) → are_held number count ≡ true

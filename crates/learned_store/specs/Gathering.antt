@@ -1,18 +1,20 @@
 -- What was gathered of records, and the state that it stands for.
-use Rattle.std.specs.Prelude.{◌≡◌, ℕ, ◌≤◌, true, cond, List, map, Option, Some}
+use Rattle.std.specs.Prelude.{◌≡◌, ℕ, ◌≤◌, ◌==◌, Bool, true, cond, List, map, Option, None, Some}
 use Rattle.std.specs.BTreeMap as tree
 use Rattle.std.specs.HashMap as hash
 use Rattle.std.specs.Option.{unwrap_or}
 use Rattle.std.specs.List.{IsDistinct}
 use Rattle.std.specs.Map.{keys_of, lookup}
 use Rattle.std.specs.Ordering.{eq_by_cmp, is_eq, nat_cmp}
-use Rattle.skk_calls.specs.Rows.{RowKey, Row}
+use Rattle.skk_calls.specs.Learning.{annotated}
+use Rattle.skk_calls.specs.Rows.{RowKey, Cand, Row, same_key}
 use Rattle.skk_calls.specs.States.{State, count_of, row_at, is_valid}
 use Rattle.learned_store.specs.declared.form.PayloadForm.{PayloadForm}
+use Rattle.learned_store.specs.declared.form.PayloadForm.TheVariants.{Put, Drop, SetCount, Note}
 use Rattle.learned_store.specs.declared.gathered.Gathered.{Gathered}
 use Rattle.learned_store.specs.declared.placed_row.PlacedRow.{PlacedRow}
 use Rattle.learned_store.specs.declared.row_place.RowPlace.{RowPlace}
-use Rattle.learned_store.specs.Payloads.{Says, state_told}
+use Rattle.learned_store.specs.Payloads.{Says, book_of, state_told, takes_note}
 use Rattle.learned_store.specs.Reading.{IsSpelled}
 use Rattle.learned_store.specs.RowPlaces.{place_cmp}
 
@@ -36,6 +38,36 @@ are_apart rows = IsDistinct (eq_by_cmp place_cmp) (keys_of (placed_entries rows)
 abbrev pub row_placed : List PlacedRow → RowPlace → Option Row
 row_placed rows place = lookup (eq_by_cmp place_cmp place) (placed_entries rows)
 
+-- the place of a key in a book
+abbrev pub place_at : ℕ → RowKey → RowPlace
+place_at number key = record { book = number; key = key }
+
+-- the row of a key of the book that a record tells of, where it was this one
+abbrev pub row_told_of : PayloadForm → RowKey → Option Row → Option Row
+row_told_of (Put book count row) key before = cond (same_key row.key key) (Some row) before
+row_told_of (Drop book count gone) key before = cond (same_key gone key) None before
+row_told_of (SetCount book count) key before = before
+row_told_of (Note book count own cand) key before =
+    cond (same_key own key) (Some (annotated before own cand count)) before
+
+-- rows were changed as a record tells
+abbrev pub IsTold : PayloadForm → (RowPlace → Option Row) → (RowPlace → Option Row) → Type 0
+IsTold form before after =
+    (number : ℕ) (key : RowKey) → after (place_at number key)
+    ≡ cond (book_of form == number) (row_told_of form key (before (place_at number key)))
+    (before (place_at number key))
+
+-- each row that is found has the key of its place
+abbrev pub AreKeyed : (RowPlace → Option Row) → Type 0
+AreKeyed rows = (place : RowPlace) (row : Row) → rows place ≡ Some row → row.key ≡ place.key
+
+-- rows take on what a record tells: a note where its row is there, and not too long with it
+abbrev pub takes_on : (RowPlace → Option Row) → PayloadForm → Bool
+takes_on rows (Put book count row) = true
+takes_on rows (Drop book count key) = true
+takes_on rows (SetCount book count) = true
+takes_on rows (Note book count key cand) = takes_note (rows (place_at book key)) cand count
+
 -- these counts, and the rows that are found at places, are those of a valid state
 pub record AreOf (state : State) (counts : tree.BTreeMap ℕ ℕ) (row_of : RowPlace → Option Row) : Type 0 where
   pub valid : is_valid state ≡ true
@@ -46,10 +78,10 @@ pub record AreOf (state : State) (counts : tree.BTreeMap ℕ ℕ) (row_of : RowP
 abbrev pub Gathers : Gathered → State → Type 0
 Gathers gathered state = AreOf state gathered.counts (row_among gathered.rows)
 
--- at a state a payload says something, and this was gathered when that was added
-abbrev pub IsAdded : State → List ℕ → Gathered → Type 0
-IsAdded state payload after =
-    (form : PayloadForm) × Says state payload form × Gathers after (state_told state form)
+-- in a file of a version, at a state, a payload says something, and this was gathered when that was added
+abbrev pub IsAdded : ℕ → State → List ℕ → Gathered → Type 0
+IsAdded version state payload after =
+    (form : PayloadForm) × Says version state payload form × Gathers after (state_told state form)
 
 -- the row of a place has these bytes as its part and line, and got this stamp
 pub record IsRestamped (before after : RowPlace → Option Row) (place : RowPlace) (stamp : ℕ) (bytes : List ℕ)
@@ -59,6 +91,16 @@ pub record IsRestamped (before after : RowPlace → Option Row) (place : RowPlac
   pub spelled : IsSpelled row bytes
   pub changed : (other : RowPlace)
       → after other ≡ cond (is_eq (place_cmp place other)) (Some (record row { stamp = stamp })) (before other)
+
+-- the row of a place took the note of a candidate, and got this stamp
+pub record IsAnnotated (before after : RowPlace → Option Row) (place : RowPlace) (cand : Cand) (stamp : ℕ)
+    : Type 0 where
+  pub row : Row
+  pub there : before place ≡ Some row
+  pub takes : takes_note (Some row) cand stamp ≡ true
+  pub changed : (other : RowPlace)
+      → after other
+      ≡ cond (is_eq (place_cmp place other)) (Some (annotated (Some row) row.key cand stamp)) (before other)
 
 -- a valid state has the rows of another, and none of its counts is above
 pub record HasRows (other state : State) : Type 0 where

@@ -1,20 +1,22 @@
 -- What the record of a learned file says of a book, and its payload. All numbers are written with the least byte first.
-use Rattle.std.specs.Prelude.{◌≡◌, ℕ, ◌+◌, ◌^◌, ◌≤◌, Bool, true, ◌&&◌, nat_le, nat_lt, Option, None, Some}
+use Rattle.std.specs.Prelude.{◌≡◌, ℕ, ◌+◌, ◌^◌, ◌≤◌, Bool, true, false, ◌&&◌, nat_le, nat_lt, Option, None, Some}
 use Rattle.std.specs.Prelude.{List, ◌∷◌, ◌++◌, encode_utf8_all}
 use Rattle.std.specs.Int.{w16, w64}
+use Rattle.std.specs.Option.{option_map_or}
 use Rattle.std.specs.Str.{all_scalars}
 use Rattle.exact_readers.specs.Numbers.{number_bytes}
 use Rattle.skk_text.specs.Counts.{last_count}
 use Rattle.skk_calls.specs.declared.call.Call.{Call}
-use Rattle.skk_calls.specs.declared.call.Call.TheVariants.{Lookup, Complete, Learn, Purge, Unlearn}
+use Rattle.skk_calls.specs.declared.call.Call.TheVariants.{Lookup, Complete, Learn, Purge, Annotate, Unlearn}
 use Rattle.skk_calls.specs.declared.part.Part.{Part}
 use Rattle.skk_calls.specs.declared.part.Part.TheVariants.{Nasi, Ari}
-use Rattle.skk_calls.specs.Canonical.{canonical}
-use Rattle.skk_calls.specs.Learning.{learnt, purged, unlearnt}
-use Rattle.skk_calls.specs.Rows.{RowKey, Row, is_row_key}
+use Rattle.skk_text.specs.Text.{byte_len}
+use Rattle.skk_calls.specs.Canonical.{canonical, item, line_limit}
+use Rattle.skk_calls.specs.Learning.{learnt, purged, annotated, unlearnt}
+use Rattle.skk_calls.specs.Rows.{RowKey, Cand, Row, is_row_key, is_cand}
 use Rattle.skk_calls.specs.States.{State, row_at, count_of, state_with, fits_count}
 use Rattle.learned_store.specs.declared.form.PayloadForm.{PayloadForm}
-use Rattle.learned_store.specs.declared.form.PayloadForm.TheVariants.{Put, Drop, SetCount}
+use Rattle.learned_store.specs.declared.form.PayloadForm.TheVariants.{Put, Drop, SetCount, Note}
 use Rattle.learn_index.specs.Records.{state_counted, state_without}
 
 -- the number of a book in two bytes
@@ -45,56 +47,105 @@ drop_bytes book count key =
 abbrev pub count_bytes : ℕ → ℕ → List ℕ
 count_bytes book count = 3 ∷ (book_number book ++ wide_number count)
 
+-- the bytes of a key and a candidate: those of the part, of the reading's length in bytes, of the reading, and of the
+-- candidate as an item, to the end
+abbrev pub noted_bytes : RowKey → Cand → List ℕ
+noted_bytes key cand =
+    part_byte key.part ∷ byte_len key.reading ∷ (encode_utf8_all key.reading ++ encode_utf8_all (item cand))
+
+-- the payload that gives the candidate with a word of a row its note, in a book which then has this count
+abbrev pub note_bytes : ℕ → ℕ → RowKey → Cand → List ℕ
+note_bytes book count key cand = 4 ∷ (book_number book ++ (wide_number count ++ noted_bytes key cand))
+
 -- the number of the book that a record speaks of
 abbrev pub book_of : PayloadForm → ℕ
 book_of (Put book count row) = book
 book_of (Drop book count key) = book
 book_of (SetCount book count) = book
+book_of (Note book count key cand) = book
 
 -- the count that a record gives the book
 abbrev pub new_count : PayloadForm → ℕ
 new_count (Put book count row) = count
 new_count (Drop book count key) = count
 new_count (SetCount book count) = count
+new_count (Note book count key cand) = count
+
+-- the version of a learned file that first has a record
+abbrev pub first_version : PayloadForm → ℕ
+first_version (Put book count row) = 1
+first_version (Drop book count key) = 1
+first_version (SetCount book count) = 1
+first_version (Note book count key cand) = 2
+
+-- the version that a file gets which is filled: the newest, that of the last records that were added to the forms
+abbrev pub newest_version : ℕ
+newest_version = 2
 
 -- the payload of a record
 abbrev pub payload_of : PayloadForm → List ℕ
 payload_of (Put book count row) = put_bytes book count row
 payload_of (Drop book count key) = drop_bytes book count key
 payload_of (SetCount book count) = count_bytes book count
+payload_of (Note book count key cand) = note_bytes book count key cand
 
 -- the number of a book and a count that their bytes can hold
 abbrev pub are_held : ℕ → ℕ → Bool
 are_held book count = nat_lt book (2 ^ 16) && nat_le count last_count
 
--- a record may be written: its numbers are held, its row may stand in a book of its count, its key is valid, and what
--- it spells is of characters
+-- a record may be written: its numbers are held, its row may stand in a book of its count, its key and its candidate
+-- are valid, a note has a count, and what it spells is of characters
 abbrev pub is_sound : PayloadForm → Bool
 is_sound (Put book count row) = are_held book count && (fits_count count row && all_scalars (canonical row))
 is_sound (Drop book count key) = are_held book count && (is_row_key key && all_scalars key.reading)
 is_sound (SetCount book count) = are_held book count
+is_sound (Note book count key cand) =
+    are_held book count && (nat_le 1 count && (is_row_key key && (is_cand cand && (all_scalars key.reading
+    && all_scalars (item cand)))))
 
--- at a state, a payload says this: it is what a record is written as that may be written, whose count is not below that
--- of its book
-pub record Says (state : State) (payload : List ℕ) (form : PayloadForm) : Type 0 where
+-- a candidate of the row that a key has may get its note: there is one, and its line is not too long then
+abbrev pub takes_note : Option Row → Cand → ℕ → Bool
+takes_note None cand count = false
+takes_note (Some row) cand count = nat_le (byte_len (canonical (annotated (Some row) row.key cand count))) line_limit
+
+-- a record may stand behind those that leave a state: a note where its row takes it, and every other record
+abbrev pub may_follow : State → PayloadForm → Bool
+may_follow state (Put book count row) = true
+may_follow state (Drop book count key) = true
+may_follow state (SetCount book count) = true
+may_follow state (Note book count key cand) = takes_note (row_at state book key) cand count
+
+-- in a file of a version, at a state, a payload says this: it is what a record is written as that the version has, that
+-- may be written and may stand there, and whose count is not below that of its book
+pub record Says (version : ℕ) (state : State) (payload : List ℕ) (form : PayloadForm) : Type 0 where
+  pub known : nat_le (first_version form) version ≡ true
   pub sound : is_sound form ≡ true
   pub counted : count_of state (book_of form) ≤ new_count form
+  pub follows : may_follow state form ≡ true
   pub is : payload ≡ payload_of form
 
--- at a state, a payload is none of the forms
-abbrev pub SaysNothing : State → List ℕ → Type 0
-SaysNothing state payload = (form : PayloadForm) → Says state payload form → ⊥
+-- in a file of a version, at a state, a payload is none of the forms
+abbrev pub SaysNothing : ℕ → State → List ℕ → Type 0
+SaysNothing version state payload = (form : PayloadForm) → Says version state payload form → ⊥
 
 -- the state after a record
 abbrev pub state_told : State → PayloadForm → State
 state_told state (Put book count row) = state_with state book count row.key (Some row)
 state_told state (Drop book count key) = state_without state book count key
 state_told state (SetCount book count) = state_counted state book count
+state_told state (Note book count key cand) =
+    state_with state book count key (Some (annotated (row_at state book key) key cand count))
 
 -- what a record says of a key that has this row now, or none
 abbrev pub row_told : ℕ → ℕ → RowKey → Option Row → PayloadForm
 row_told book count key None = Drop book count key
 row_told book count key (Some row) = Put book count row
+
+-- what the record of an annotation says, after which the book has a count: on a row that is there the candidate with
+-- its note, and else the row after it
+abbrev pub note_told : ℕ → ℕ → RowKey → Cand → Option Row → PayloadForm
+note_told book count key cand None = Put book count (annotated None key cand count)
+note_told book count key cand (Some row) = Note book count key cand
 
 -- what the record of a call says where the call changes a state. A look-up and a completion have none
 abbrev pub change_told : State → Call → Option PayloadForm
@@ -106,5 +157,11 @@ change_told state (Learn book key okuri cand) =
 change_told state (Purge book key word) =
     let count = count_of state book + 1 in
     Some (Put book count (purged (row_at state book key) key word count))
+change_told state (Annotate book key cand) =
+    Some (note_told book (count_of state book + 1) key cand (row_at state book key))
 change_told state (Unlearn learned) =
     Some (row_told learned.book (count_of state learned.book) learned.key (unlearnt learned))
+
+-- the version that a call needs where it changes a state: the first that has its record
+abbrev pub version_needed : State → Call → ℕ
+version_needed state call = option_map_or first_version (change_told state call) 1

@@ -1,7 +1,7 @@
 -- What is read of a payload, whatever the state: its fields from the front, and behind them the row or the key to the
 -- end.
 use Rattle.std.specs.Prelude.{◌≡◌, ℕ, Bool, true, ◌&&◌, ◌==◌, nat_le, if◌then◌else◌, Option, None, Some, List, [], ◌∷◌}
-use Rattle.std.specs.Prelude.{◌++◌, encode_utf8_all}
+use Rattle.std.specs.Prelude.{◌++◌, encode_utf8_all, length, take, drop}
 use Rattle.std.specs.Int.{w16, w64}
 use Rattle.std.specs.Option.{option_map}
 use Rattle.std.specs.Str.{all_scalars, chars, is_utf8}
@@ -10,12 +10,12 @@ use Rattle.exact_readers.specs.Numbers.{number}
 use Rattle.skk_text.specs.Lists.{is_empty}
 use Rattle.skk_calls.specs.declared.part.Part.{Part}
 use Rattle.skk_calls.specs.declared.part.Part.TheVariants.{Nasi, Ari}
-use Rattle.skk_calls.specs.Canonical.{canonical, is_good}
+use Rattle.skk_calls.specs.Canonical.{canonical, is_good, with_slash}
 use Rattle.skk_calls.specs.Rows.{Cand, RowKey, Row, is_row_key, is_row, same_text}
 use Rattle.skk_calls.specs.States.{fits_count}
 use Rattle.dict_format.specs.EntryRows.{row_of_line}
 use Rattle.learned_store.specs.declared.form.PayloadForm.{PayloadForm}
-use Rattle.learned_store.specs.declared.form.PayloadForm.TheVariants.{Put, Drop, SetCount}
+use Rattle.learned_store.specs.declared.form.PayloadForm.TheVariants.{Put, Drop, SetCount, Note}
 use Rattle.learned_store.specs.Payloads.{book_number, wide_number, part_byte}
 
 -- What is written
@@ -112,6 +112,43 @@ stamped_row count read =
 abbrev pub row_of : ℕ → List ℕ → Option Row
 row_of count bytes = then_at ((number w64).step bytes) (stamped_row count)
 
+-- the row of a reading that has one candidate alone
+abbrev pub one_row : RowKey → Cand → Row
+one_row key cand = record { key = key; cands = cand ∷ []; blocks = []; hides = []; stamp = 1 }
+
+-- the line of such a row, by its reading and the item of its candidate
+abbrev pub one_line : List ℕ → List ℕ → List ℕ
+one_line reading item = reading ++ 0x20 ∷ 0x2F ∷ with_slash item
+
+-- the candidate of candidates that are one alone
+abbrev pub single_cand : List Cand → Option Cand
+single_cand [] = None
+single_cand (cand ∷ []) = Some cand
+single_cand (cand ∷ other ∷ cands) = None
+
+-- the key of a row with its candidate, where the row has this reading and one candidate alone
+abbrev pub only_cand : List ℕ → Row → Option (RowKey × Cand)
+only_cand reading row =
+    if same_text row.key.reading reading && (is_empty row.blocks && is_empty row.hides)
+    then option_map (λ cand. (row.key, cand)) (single_cand row.cands)
+    else None
+
+-- the key and the candidate of a part, of the bytes of a reading and of those of an item, as the line of such a row has
+-- them
+abbrev pub item_cand : Part → List ℕ → List ℕ → Option (RowKey × Cand)
+item_cand part reading item =
+    then_at (text_of reading)
+    (λ r. then_at (text_of item) (λ i. then_at (line_row 1 (part, one_line r i)) (only_cand r)))
+
+-- the key and the candidate of their bytes: a part, the length of the reading in bytes, the reading, and the item to
+-- the end
+abbrev pub noted_of : List ℕ → Option (RowKey × Cand)
+noted_of [] = None
+noted_of (byte ∷ []) = None
+noted_of (byte ∷ size ∷ bytes) =
+    then_at (part_of byte)
+    (λ part. if nat_le size (length bytes) then item_cand part (take size bytes) (drop size bytes) else None)
+
 -- what every payload begins with: the byte of its kind, the number of a book, and a count
 abbrev pub fields : Format ℕ (ℕ × (ℕ × ℕ))
 fields = both (one_as (λ kind. Some kind)) (both (number w16) (number w64))
@@ -122,6 +159,7 @@ form_behind kind book count rest =
     if kind == 1 then option_map (Put book count) (row_of count rest)
     else if kind == 2 then option_map (Drop book count) (key_of rest)
     else if kind == 3 && is_empty rest then Some (SetCount book count)
+    else if kind == 4 && nat_le 1 count then option_map (λ noted. Note book count noted.0 noted.1) (noted_of rest)
     else None
 
 -- what a payload says

@@ -1,5 +1,5 @@
 -- What a call does to a store.
-use Rattle.std.specs.Prelude.{◌≡◌, ◌⊎◌, ℕ, ◌+◌, ◌≤◌, true, false, if◌then◌else◌, nat_le, Option}
+use Rattle.std.specs.Prelude.{◌≡◌, ◌⊎◌, ℕ, ◌+◌, ◌≤◌, Bool, true, false, if◌then◌else◌, Option}
 use Rattle.skk_outside.specs.Faults.{Rose}
 use Rattle.skk_disk.specs.Image.{Image}
 use Rattle.skk_disk.specs.Moments.{Passes}
@@ -12,12 +12,27 @@ use Rattle.skk_calls.specs.Histories.{after_answer, need, tells_change, tight, I
 use Rattle.skk_calls.specs.States.{State}
 use Rattle.skk_journal.specs.Images.{Each}
 use Rattle.skk_journal.specs.Journal.{is_in_doubt}
+use Rattle.learned_store.specs.Payloads.{version_needed}
+use Rattle.learned_store.specs.Rooms.{goes_behind}
 use Rattle.learned_store.specs.Stores.{OpenStore, opening_now, Keeps, RecoversOneOf, states_within, DoubtAfter}
 
--- where the live file ends behind a change: behind what it had, where that fits, or else behind what the state holds
-abbrev pub end_added : ℕ → State → ℕ → Call → ℕ
-end_added limit state end call =
-    (if nat_le (end + need state call) limit then end else tight state) + need state call
+-- the record of a call goes behind those of the live file of a store
+abbrev pub is_added_behind : {D : Type 0} → OpenStore D → Call → Bool
+is_added_behind store call =
+    goes_behind store.limit store.journal.live.version store.journal.end
+    (version_needed store.state call) (need store.state call)
+
+-- where the live file ends behind a change: behind what it had, where the record goes there, or else behind what the
+-- state holds
+abbrev pub end_added : {D : Type 0} → OpenStore D → Call → ℕ
+end_added store call =
+    (if is_added_behind store call then store.journal.end else tight store.state) + need store.state call
+
+-- the version of the live file behind a change: the one that it had, where the record goes behind what it had, or else
+-- the newest one that the journal writes
+abbrev pub version_added : {D : Type 0} → OpenStore D → Call → ℕ
+version_added store call =
+    if is_added_behind store call then store.journal.live.version else store.journal.newest
 
 -- a call with this answer makes this store of that one: each clause of `Store::serve`, by its name
 pub record Serves {D : Type 0} (time faults : D → ℕ) (left_since : D → ℕ → Image → Type 0) (old new : OpenStore D)
@@ -29,7 +44,8 @@ pub record Serves {D : Type 0} (time faults : D → ℕ) (left_since : D → ℕ
       → (is_in_doubt old.journal.doubt ≡ true) ⊎ (tight old.state + need old.state call ≤ old.limit)
   pub failed : answer ≡ Refused Disk → Rose (faults old.journal.disk) (faults new.journal.disk)
   pub state : new.state ≡ after_answer old.state call answer
-  pub end : tells_change answer ≡ true → new.journal.end ≡ end_added old.limit old.state old.journal.end call
+  pub end : tells_change answer ≡ true → new.journal.end ≡ end_added old call
+  pub version : tells_change answer ≡ true → new.journal.live.version ≡ version_added old call
   pub files : new.files ≡ old.files
   pub limit : new.limit ≡ old.limit
   pub still : moves old.state call ≡ false → new.journal ≡ old.journal

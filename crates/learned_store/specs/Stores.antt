@@ -10,8 +10,10 @@ use Rattle.skk_calls.specs.Histories.{Opening}
 use Rattle.skk_calls.specs.Rows.{Row}
 use Rattle.skk_calls.specs.States.{State}
 use Rattle.skk_disk.specs.Image.{Image}
+use Rattle.skk_journal.specs.Contents.{Contents, with_record}
 use Rattle.skk_journal.specs.Journal.{OpenJournal, Rests, Doubts}
 use Rattle.skk_journal.specs.Records.{IsSized, framed}
+use Rattle.learned_store.specs.Payloads.{newest_version}
 use Rattle.learned_store.specs.Recovered.{Leave, with_state, IsRecovered}
 
 -- an open journal and the state that its records leave, the rows of the system files, and the limit of the learned file
@@ -40,14 +42,15 @@ Recovers state image = IsRecovered image (with_state state)
 abbrev pub RecoversOneOf : List State → Image → Type 0
 RecoversOneOf states image = (state : State) × Contains states state × Recovers state image
 
--- the records of a journal leave a state. Where another state is in doubt, others leave that, which may count: a record
--- more stands behind some gate, or the other file is filled and its own gate may be open
+-- what the live file of a journal has leaves a state. Where another state is in doubt, other contents leave that, which
+-- may count: a record more stands behind some gate, or the other file is filled and its own gate may be open
 abbrev pub Keeps : {D : Type 0} → (D → ℕ) → (D → ℕ → Image → Type 0) → OpenJournal D → State → Option State → Type 0
 Keeps time left_since journal state None =
-    (records : List (List ℕ)) × Leave records state × Rests time left_since journal records
+    (journal.newest ≡ newest_version) × (contents : Contents) × Leave contents state
+    × Rests time left_since journal contents
 Keeps time left_since journal state (Some doubted) =
-    (records others : List (List ℕ)) × Leave records state × Leave others doubted
-    × Doubts time left_since journal records others
+    (journal.newest ≡ newest_version) × (contents : Contents) × (others : Contents) × Leave contents state
+    × Leave others doubted × Doubts time left_since journal contents others
 
 -- a journal keeps a state, and what is in doubt is one of these
 abbrev pub KeepsOneOf : {D : Type 0} → (D → ℕ) → (D → ℕ → Image → Type 0) → OpenJournal D → State
@@ -55,14 +58,17 @@ abbrev pub KeepsOneOf : {D : Type 0} → (D → ℕ) → (D → ℕ → Image �
 KeepsOneOf time left_since journal state doubts =
     (doubt : Option State) × Contains doubts doubt × Keeps time left_since journal state doubt
 
--- behind records that leave a state one of this payload leaves that one
-abbrev pub Adds : List ℕ → State → State → Type 0
-Adds payload state after = (records : List (List ℕ)) → Leave records state → Leave (records ++ payload ∷ []) after
+-- in a file of a version, behind records that leave a state one of this payload leaves that one
+abbrev pub Adds : ℕ → List ℕ → State → State → Type 0
+Adds version payload state after =
+    (contents : Contents) → contents.version ≡ version → Leave contents state
+    → Leave (with_record contents payload) after
 
--- bytes are records that leave a state
+-- bytes are the records of a file of the newest version that leave a state
 abbrev pub IsCompaction : State → List ℕ → Type 0
 IsCompaction state bytes =
-    (records : List (List ℕ)) × All IsSized records × (bytes ≡ framed records) × Leave records state
+    (records : List (List ℕ)) × All IsSized records × (bytes ≡ framed records)
+    × Leave (record { version = newest_version; records = records }) state
 
 -- a state and the one in doubt beside it, where there is one
 abbrev pub with_doubt : State → Option State → List State

@@ -6,14 +6,14 @@ ghost use Rattle.skk_calls.specs.Dictionary.{after, answer, is_call, is_fit};
 ghost use Rattle.skk_calls.specs.Histories.{tight};
 ghost use Rattle.skk_calls.specs.Rows.{Row};
 ghost use Rattle.skk_journal.specs.Records.{IsSized, need};
-ghost use Rattle.learn_index.specs.Plans.{is_question, IsPlanned, IsMade, HasRoom};
+ghost use Rattle.learn_index.specs.Plans.{is_question, IsPlanned, HasRoom};
 ghost use Rattle.learned_store.specs.Served.{Serves};
 ghost use Rattle.learned_store.specs.Written.{TellsOf, Told};
 
 use crate::committing::{commit, commit_compacted, settle};
 use crate::room::{Room, room_for};
 use crate::sizes::record_need;
-use crate::writing::planned_record;
+use crate::writing::{Record, planned_record};
 use dict_laws::changes_keep_states_valid;
 use learn_index::{Index, Plan};
 use skk_calls::{Answer, Call, Refusal};
@@ -43,38 +43,50 @@ pub(crate) fn change<D: Disk>(
     let Ok(plan) = index.plan(alloc, call) else {
         return Answer::Refused(Refusal::Memory);
     };
-    let Ok(record) = planned_record(alloc, &plan) else {
+    let Ok(record) = planned_record(alloc, index, call, &plan) else {
         return Answer::Refused(Refusal::Memory);
     };
     match record {
         None => Answer::Done(index.apply(plan)),
-        Some(record) => write_and_apply(alloc, journal, index, limit, plan, record.as_slice()),
+        Some(record) => {
+            let planned = Planned { plan, record };
+            write_and_apply(alloc, journal, index, limit, call, planned)
+        }
     }
 }
 
-// Writes the record of a plan where there is room for it, and applies the plan where it was written.
+// A change that was planned, and its record.
+struct Planned {
+    plan: Plan,
+    record: Record,
+}
+
+// Writes the record of a change that was planned where there is room for it, and makes the change where it was written.
 fn write_and_apply<D: Disk>(
     alloc: Global,
     journal: &mut Journal<D>,
     index: &mut Index,
     limit: u64,
-    plan: Plan,
-    payload: &[u8],
+    call: &Call,
+    planned: Planned,
 ) -> Answer
-    requires made { IsMade index.old.state plan }
-    requires room { HasRoom index.old plan }
-    requires told { TellsOf plan payload.now }
+    requires change { is_question call.now ≡ false }
+    requires typed { is_call call.now ≡ true }
+    requires fit { is_fit call.now ≡ true }
+    requires planned { IsPlanned index.old.state call.now planned.plan }
+    requires room { HasRoom index.old planned.plan }
+    requires told { TellsOf index.old.state call.now planned.plan planned.record }
     requires tight { tight index.old.state ≤ journal.old.end }
-    ensures serves { (files : List (List Row)) (call : call_value) → is_question call ≡ false → is_call call ≡ true
-        → is_fit call ≡ true → IsPlanned index.old.state call plan → Serves D.time D.faults D.left_since
+    ensures serves { (files : List (List Row)) → Serves D.time D.faults D.left_since
         (record { journal = journal.old; state = index.old.state; files = files; limit = limit })
-        (record { journal = journal.new; state = index.new.state; files = files; limit = limit }) call result }
+        (record { journal = journal.new; state = index.new.state; files = files; limit = limit }) call.now result }
     ensures tight { tight index.new.state ≤ journal.new.end }
 {
     changes_keep_states_valid();
     // The count of a book tells that the state is valid.
     let _valid = index.count(0);
-    match write(alloc, journal, index, limit, payload) {
+    let Planned { plan, record } = planned;
+    match write(alloc, journal, index, limit, &record) {
         Ok(()) => Answer::Done(index.apply(plan)),
         Err(refusal) => {
             drop(plan);
@@ -83,19 +95,19 @@ fn write_and_apply<D: Disk>(
     }
 }
 
-// Writes the record of a change where there is room for it: behind the records of the live file, or else in the other
-// file behind those of the state.
+// Writes the record of a change where there is room for it: behind the records of the live file, where its version has
+// such records, or else in the other file behind those of the state.
 fn write<D: Disk>(
     alloc: Global,
     journal: &mut Journal<D>,
     index: &Index,
     limit: u64,
-    payload: &[u8],
+    record: &Record,
 ) -> Result<(), Refusal>
-    requires sized { IsSized payload.now }
+    requires sized { IsSized record.now.payload }
     requires tight { tight index.now.state ≤ journal.old.end }
     ensures serves { (files : List (List Row)) (call : call_value) → is_question call ≡ false
-        → Told index.now.state call payload.now → MatchResult result
+        → Told index.now.state call record.now → MatchResult result
         (λ _. Serves D.time D.faults D.left_since
         (record { journal = journal.old; state = index.now.state; files = files; limit = limit })
         (record { journal = journal.new; state = after index.now.state call; files = files; limit = limit }) call
@@ -105,10 +117,11 @@ fn write<D: Disk>(
         (record { journal = journal.new; state = index.now.state; files = files; limit = limit }) call
         (Refused refusal)) }
     ensures tight { MatchResult result
-        (λ _. tight index.now.state + need payload.now ≤ journal.new.end)
+        (λ _. tight index.now.state + need record.now.payload ≤ journal.new.end)
         (λ _. tight index.now.state ≤ journal.new.end) }
 {
-    match room_for(alloc, index, journal, limit, payload) {
+    let payload = record.payload.as_slice();
+    match room_for(alloc, index, journal, limit, record) {
         Ok(Room::Behind) => unless_disk(commit(journal, limit, payload)),
         Ok(Room::Compacted(records)) => {
             unless_disk(commit_compacted(journal, limit, records.as_slice(), payload))

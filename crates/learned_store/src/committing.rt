@@ -6,6 +6,7 @@ ghost use Rattle.skk_disk.specs.Moments.{Passes};
 ghost use Rattle.skk_journal.specs.Images.{Each};
 ghost use Rattle.skk_journal.specs.Journal.{is_in_doubt};
 ghost use Rattle.skk_journal.specs.Records.{IsSized, first_place, need};
+ghost use Rattle.learned_store.specs.Payloads.{newest_version};
 ghost use Rattle.learned_store.specs.Stores.{Adds, IsCompaction, Keeps, KeepsOneOf, RecoversOneOf, with_doubt};
 
 use skk_disk::Disk;
@@ -22,15 +23,19 @@ pub(crate) fn commit<D: Disk>(
     requires room { journal.old.end + need payload.now ≤ limit }
     ensures end { OnOk result (journal.new.end ≡ journal.old.end + need payload.now) }
     ensures end_stays { OnErr result (journal.new.end ≡ journal.old.end) }
+    ensures version { journal.new.live.version ≡ journal.old.live.version }
     ensures calm { OnOk result (is_in_doubt journal.new.doubt ≡ false) }
 
     // What each image is opened as afterwards, and at each moment.
-    ensures ok { OnOk result ((state after : State) (doubt : Option State) → Adds payload.now state after →
+    ensures ok { OnOk result ((state after : State) (doubt : Option State)
+        → Adds journal.old.live.version payload.now state after →
         Keeps D.time D.left_since journal.old state doubt → Keeps D.time D.left_since journal.new after None) }
-    ensures err { OnErr result ((state after : State) (doubt : Option State) → Adds payload.now state after →
+    ensures err { OnErr result ((state after : State) (doubt : Option State)
+        → Adds journal.old.live.version payload.now state after →
         Keeps D.time D.left_since journal.old state doubt →
         KeepsOneOf D.time D.left_since journal.new state (doubt ∷ None ∷ Some state ∷ Some after ∷ [])) }
-    ensures images { (state after : State) (doubt : Option State) → Adds payload.now state after →
+    ensures images { (state after : State) (doubt : Option State)
+        → Adds journal.old.live.version payload.now state after →
         Keeps D.time D.left_since journal.old state doubt →
         Each (D.left_since journal.new.disk (D.time journal.old.disk))
         (RecoversOneOf (with_doubt state doubt ++ after ∷ [])) }
@@ -57,17 +62,20 @@ pub(crate) fn commit_compacted<D: Disk>(
     ensures end { OnOk result (journal.new.end ≡ first_place + 1 + length compacted.now + need payload.now) }
     ensures end_left { OnErr result ((journal.new.end ≡ journal.old.end)
         ⊎ (journal.new.end ≡ first_place + 1 + length compacted.now)) }
+    ensures version { OnOk result (journal.new.live.version ≡ journal.old.newest) }
     ensures calm { OnOk result (is_in_doubt journal.new.doubt ≡ false) }
 
     // What each image is opened as afterwards, and at each moment.
-    ensures ok { OnOk result ((state after : State) (doubt : Option State) → Adds payload.now state after →
+    ensures ok { OnOk result ((state after : State) (doubt : Option State)
+        → Adds newest_version payload.now state after →
         IsCompaction state compacted.now →
         Keeps D.time D.left_since journal.old state doubt → Keeps D.time D.left_since journal.new after None) }
-    ensures err { OnErr result ((state after : State) (doubt : Option State) → Adds payload.now state after →
+    ensures err { OnErr result ((state after : State) (doubt : Option State)
+        → Adds newest_version payload.now state after →
         IsCompaction state compacted.now →
         Keeps D.time D.left_since journal.old state doubt →
         KeepsOneOf D.time D.left_since journal.new state (doubt ∷ None ∷ Some state ∷ Some after ∷ [])) }
-    ensures images { (state after : State) (doubt : Option State) → Adds payload.now state after →
+    ensures images { (state after : State) (doubt : Option State) → Adds newest_version payload.now state after →
         IsCompaction state compacted.now →
         Keeps D.time D.left_since journal.old state doubt →
         Each (D.left_since journal.new.disk (D.time journal.old.disk))
@@ -88,6 +96,8 @@ pub(crate) fn settle<D: Disk>(journal: &mut Journal<D>) -> Result<(), Failed>
     ensures calm { OnOk result (is_in_doubt journal.new.doubt ≡ false) }
     ensures stands { OnErr result (is_in_doubt journal.old.doubt ≡ true) }
     ensures end { journal.new.end ≡ journal.old.end }
+    ensures version { journal.new.live.version ≡ journal.old.live.version }
+    ensures newest { journal.new.newest ≡ journal.old.newest }
 
     ensures keeps { (state : State) (doubt : Option State) → Keeps D.time D.left_since journal.old state doubt →
         MatchResult result
@@ -110,6 +120,7 @@ fn shrink<D: Disk>(journal: &mut Journal<D>, compacted: &[u8]) -> Result<(), Fai
     ensures calm { OnOk result (is_in_doubt journal.new.doubt ≡ false) }
     ensures end { OnOk result (journal.new.end ≡ first_place + 1 + length compacted.now) }
     ensures end_stays { OnErr result (journal.new.end ≡ journal.old.end) }
+    ensures version { OnOk result (journal.new.live.version ≡ journal.old.newest) }
 
     ensures keeps { (state : State) → IsCompaction state compacted.now →
         Keeps D.time D.left_since journal.old state None →
@@ -136,13 +147,14 @@ fn add<D: Disk>(journal: &mut Journal<D>, limit: u64, payload: &[u8]) -> Result<
     ensures calm { OnOk result (is_in_doubt journal.new.doubt ≡ false) }
     ensures end { OnOk result (journal.new.end ≡ journal.old.end + need payload.now) }
     ensures end_stays { OnErr result (journal.new.end ≡ journal.old.end) }
+    ensures version { journal.new.live.version ≡ journal.old.live.version }
 
-    ensures ok { OnOk result ((state after : State) → Adds payload.now state after →
+    ensures ok { OnOk result ((state after : State) → Adds journal.old.live.version payload.now state after →
         Keeps D.time D.left_since journal.old state None → Keeps D.time D.left_since journal.new after None) }
-    ensures err { OnErr result ((state after : State) → Adds payload.now state after →
+    ensures err { OnErr result ((state after : State) → Adds journal.old.live.version payload.now state after →
         Keeps D.time D.left_since journal.old state None →
         KeepsOneOf D.time D.left_since journal.new state (None ∷ Some after ∷ [])) }
-    ensures images { (state after : State) → Adds payload.now state after →
+    ensures images { (state after : State) → Adds journal.old.live.version payload.now state after →
         Keeps D.time D.left_since journal.old state None →
         Each (D.left_since journal.new.disk (D.time journal.old.disk)) (RecoversOneOf (state ∷ after ∷ [])) }
 

@@ -2,18 +2,21 @@ ghost use Rattle.std.specs.Prelude.{◌≡◌, ◌≤◌, ◌&&◌, nat_le, ℕ,
 ghost use Rattle.skk_calls.specs.Rows.{RowKey as row_key};
 ghost use Rattle.skk_calls.specs.States.{State, empty_state, count_of, row_at, is_valid};
 ghost use Rattle.learned_store.specs.declared.row_place.RowPlace.{RowPlace as place_value};
-ghost use Rattle.learned_store.specs.Gathering.{AreOf, Gathers, HasRows, IsAdded, IsRestamped, are_apart, count_in};
+ghost use Rattle.learned_store.specs.Gathering.{AreKeyed, AreOf, Gathers, HasRows, IsAdded, IsAnnotated, IsRestamped};
+ghost use Rattle.learned_store.specs.Gathering.{IsTold, are_apart, count_in, takes_on};
 ghost use Rattle.learned_store.specs.Gathering.{placed_entries, row_among, row_placed};
 ghost use Rattle.learned_store.specs.Reading.{put_with};
-ghost use Rattle.learned_store.specs.Payloads.{Says, SaysNothing, book_of, is_sound, new_count, state_told};
+ghost use Rattle.learned_store.specs.declared.form.PayloadForm.{PayloadForm};
+ghost use Rattle.learned_store.specs.Payloads.{Says, SaysNothing, book_of, first_version, is_sound, may_follow};
+ghost use Rattle.learned_store.specs.Payloads.{new_count, state_told, takes_note};
 
 use crate::form::PayloadForm;
-use crate::laws::files_are_recovered_in_one_way;
 use crate::payload::{put_fields, read_form, read_key};
 use crate::placed_row::PlacedRow;
 use crate::row_place::RowPlace;
 use crate::stamped_row::StampedRow;
 use learn_index::Index;
+use skk_calls::Cand;
 use skk_text::{Copies, Memory};
 use std::alloc::Global;
 use std::collections::{BTreeMap, HashMap};
@@ -37,37 +40,37 @@ impl Gathered {
         }
     }
 
-    // Adds what the payload of the next record says, where it says something. Takes time in its length and a logarithm
-    // in the number of books, and the memory of a row and of its key once more where the row is not the one that its
-    // key has, but for the stamp. After an error what was gathered is of no use.
-    pub(crate) fn add(&mut self, alloc: Global, payload: &[u8]) -> Result<bool, Memory>
+    // Adds what the payload of the next record of a file of a version says, where it says something. Takes time in its
+    // length and a logarithm in the number of books, of a note in its row, and the memory of a row and of its key once
+    // more where the row is not the one that its key has, but for the stamp. After an error what was gathered is of no
+    // use.
+    pub(crate) fn add(&mut self, alloc: Global, version: u8, payload: &[u8]) -> Result<bool, Memory>
         ensures said { IfOk result (λ is. is ≡ true → (state : State) → Gathers self.old state
-            → IsAdded state payload.now self.new) }
+            → IsAdded version state payload.now self.new) }
         ensures none { IfOk result (λ is. is ≡ false → (state : State) → Gathers self.old state
-            → SaysNothing state payload.now) }
+            → SaysNothing version state payload.now) }
     {
-        if self.put_again(alloc, payload)? {
+        if self.put_again(alloc, version, payload)? {
             return Ok(true);
         }
-        let Some(form) = self.read(alloc, payload)? else {
-            return Ok(false);
-        };
-        self.tell(alloc, form)?;
-        Ok(true)
+        match self.read(alloc, version, payload)? {
+            Some(form) => self.tell(alloc, form),
+            None => Ok(false),
+        }
     }
 
     // Adds what a payload says that puts the row that its key has, but for the stamp: its line is known, and not read.
-    fn put_again(&mut self, alloc: Global, payload: &[u8]) -> Result<bool, Memory>
+    fn put_again(&mut self, alloc: Global, version: u8, payload: &[u8]) -> Result<bool, Memory>
         ensures again { IfOk result (λ is. is ≡ true → (state : State) → Gathers self.old state
-            → IsAdded state payload.now self.new) }
+            → IsAdded version state payload.now self.new) }
         ensures same { IfOk result (λ is. is ≡ false → (state : State) → Gathers self.old state
             → Gathers self.new state) }
     {
         match put_fields(payload) {
-            Some(fields) => {
+            Some(fields) if version >= 1 => {
                 self.put_row_again(alloc, fields.book, fields.count, fields.stamp, fields.row)
             }
-            None => Ok(false),
+            _ => Ok(false),
         }
     }
 
@@ -82,8 +85,8 @@ impl Gathered {
         bytes: &[u8],
     ) -> Result<bool, Memory>
         requires { (nat_le 1 stamp && nat_le stamp count) ≡ true }
-        ensures again { IfOk result (λ is. is ≡ true → (state : State) → Gathers self.old state
-            → IsAdded state (put_with book count stamp bytes.now) self.new) }
+        ensures again { IfOk result (λ is. is ≡ true → (state : State) (version : ℕ) → 1 ≤ version
+            → Gathers self.old state → IsAdded version state (put_with book count stamp bytes.now) self.new) }
         ensures same { IfOk result (λ is. is ≡ false → (state : State) → Gathers self.old state
             → Gathers self.new state) }
     {
@@ -100,41 +103,55 @@ impl Gathered {
         Ok(true)
     }
 
-    // What the payload of the next record says. Takes time in its length.
-    fn read(&self, alloc: Global, payload: &[u8]) -> Result<Option<PayloadForm>, Memory>
+    // What the payload of the next record of a file of a version says, as far as no row has a say in it. Takes time in
+    // its length.
+    fn read(
+        &self,
+        alloc: Global,
+        version: u8,
+        payload: &[u8],
+    ) -> Result<Option<PayloadForm>, Memory>
         ensures some { IfOk result (λ form. IfSome form (λ f. (state : State) → Gathers self.now state
-            → Says state payload.now f)) }
+            → may_follow state f ≡ true → Says version state payload.now f)) }
+        ensures sound { IfOk result (λ form. IfSome form (λ f. (is_sound f ≡ true)
+            × ((state : State) → Gathers self.now state → count_of state (book_of f) ≤ new_count f))) }
+        ensures only { IfOk result (λ form. IfSome form (λ f. (state : State) (other : PayloadForm)
+            → Says version state payload.now other → other ≡ f)) }
         ensures none { IfOk result (λ form. form ≡ None → (state : State) → Gathers self.now state
-            → SaysNothing state payload.now) }
+            → SaysNothing version state payload.now) }
     {
-        files_are_recovered_in_one_way();
         let Some(form) = read_form(alloc, payload)? else {
             return Ok(None);
         };
-        if form.count() < count_in(&self.counts, form.book()) {
+        if !self.comes_next(version, &form) {
             return Ok(None);
         }
         Ok(Some(form))
     }
 
-    // Adds what a record says.
-    fn tell(&mut self, alloc: Global, form: PayloadForm) -> Result<(), Memory>
-        ensures { OnOk result ((state : State) → Gathers self.old state → is_sound form ≡ true
-            → count_of state (book_of form) ≤ new_count form → Gathers self.new (state_told state form)) }
+    // Whether what a record of a file of a version says has its version and its count there.
+    fn comes_next(&self, version: u8, form: &PayloadForm) -> bool
+        ensures { result ≡ (nat_le (first_version form.now) version
+            && nat_le (count_in self.now.counts (book_of form.now)) (new_count form.now)) }
     {
-        let _count = self.counts.insert(form.book(), form.count())?;
-        match form {
-            PayloadForm::Put { book, row, .. } => {
-                let key = row.key().copy(alloc)?;
-                let row = StampedRow::new(alloc, row)?;
-                let _row = self.rows.insert(RowPlace { book, key }, row)?;
-            }
-            PayloadForm::Drop { book, key, .. } => {
-                let _row = self.rows.remove(&RowPlace { book, key });
-            }
-            PayloadForm::SetCount { .. } => {}
+        form.first_version() <= version && count_in(&self.counts, form.book()) <= form.count()
+    }
+
+    // Adds what a record says, where it may stand behind the others.
+    fn tell(&mut self, alloc: Global, form: PayloadForm) -> Result<bool, Memory>
+        ensures told { IfOk result (λ is. is ≡ true → (state : State) → Gathers self.old state
+            → is_sound form ≡ true → count_of state (book_of form) ≤ new_count form
+            → (may_follow state form ≡ true) × Gathers self.new (state_told state form)) }
+        ensures none { IfOk result (λ is. is ≡ false → (state : State) → Gathers self.old state
+            → may_follow state form ≡ false) }
+    {
+        let book = form.book();
+        let count = form.count();
+        if !tell_row(alloc, &mut self.rows, form)? {
+            return Ok(false);
         }
-        Ok(())
+        let _count = self.counts.insert(book, count)?;
+        Ok(true)
     }
 
     // The index of what was gathered. Takes time in the number of rows, with one logarithm in it, and beside the index,
@@ -193,6 +210,57 @@ fn restamp(
     }
     row.restamp(stamp);
     Ok(true)
+}
+
+// Changes the rows as a record tells, where they take that on.
+fn tell_row(
+    alloc: Global,
+    rows: &mut HashMap<RowPlace, StampedRow>,
+    form: PayloadForm,
+) -> Result<bool, Memory>
+    ensures told { IfOk result (λ is. is ≡ true → AreKeyed (row_among rows.old)
+        → (takes_on (row_among rows.old) form ≡ true) × IsTold form (row_among rows.old) (row_among rows.new)) }
+    ensures none { IfOk result (λ is. is ≡ false → takes_on (row_among rows.old) form ≡ false) }
+{
+    match form {
+        PayloadForm::Put { book, row, .. } => {
+            let key = row.key().copy(alloc)?;
+            let row = StampedRow::new(alloc, row)?;
+            let _row = rows.insert(RowPlace { book, key }, row)?;
+            Ok(true)
+        }
+        PayloadForm::Drop { book, key, .. } => {
+            let _row = rows.remove(&RowPlace { book, key });
+            Ok(true)
+        }
+        PayloadForm::SetCount { .. } => Ok(true),
+        PayloadForm::Note {
+            book,
+            count,
+            key,
+            cand,
+        } => annotate(alloc, rows, &RowPlace { book, key }, &cand, count),
+    }
+}
+
+// Gives a candidate of the row of a place its note, and the row a stamp, where there is a row and its line is not too
+// long then.
+fn annotate(
+    alloc: Global,
+    rows: &mut HashMap<RowPlace, StampedRow>,
+    place: &RowPlace,
+    cand: &Cand,
+    stamp: u64,
+) -> Result<bool, Memory>
+    ensures annotated { IfOk result (λ is. is ≡ true
+        → IsAnnotated (row_among rows.old) (row_among rows.new) place.now cand.now stamp) }
+    ensures none { IfOk result (λ is. is ≡ false
+        → takes_note (row_among rows.old place.now) cand.now stamp ≡ false) }
+{
+    match rows.get_mut(place) {
+        Some(row) => row.annotate(alloc, cand, stamp),
+        None => Ok(false),
+    }
 }
 
 // The rows in the order of their places, which are sorted once.

@@ -1,18 +1,20 @@
-ghost use Rattle.std.specs.Prelude.{◌≡◌, ◌≤◌, ◌+◌, ℕ, All, true, List, Option, Some, map};
+ghost use Rattle.std.specs.Prelude.{◌≡◌, ◌≤◌, ◌+◌, ◌&&◌, ℕ, nat_le, All, true, List, Option, Some, map};
 ghost use Rattle.std.specs.List.{list_all};
 ghost use Rattle.skk_calls.specs.declared.call.Call.{Call};
 ghost use Rattle.skk_calls.specs.Dictionary.{after, is_call, is_fit, moves};
 ghost use Rattle.skk_calls.specs.Histories.{need, tight};
-ghost use Rattle.skk_calls.specs.Rows.{RowKey, Row, is_row_key};
+ghost use Rattle.skk_calls.specs.Rows.{RowKey, Cand, Row, is_cand, is_row_key};
 ghost use Rattle.skk_calls.specs.States.{State, count_of, fits_count, is_valid};
 ghost use Rattle.skk_disk.specs.Image.{Image};
+ghost use Rattle.skk_journal.specs.Contents.{Contents};
 ghost use Rattle.skk_journal.specs.Images.{Each};
 ghost use Rattle.skk_journal.specs.Journal.{OpenJournal};
 ghost use Rattle.skk_journal.specs.Records.{IsSized, end_of, need as record_need};
 ghost use Rattle.learned_store.specs.declared.form.PayloadForm.{PayloadForm};
-ghost use Rattle.learned_store.specs.declared.form.PayloadForm.TheVariants.{Put, Drop};
+ghost use Rattle.learned_store.specs.declared.form.PayloadForm.TheVariants.{Put, Drop, Note};
 ghost use Rattle.learned_store.specs.Compacted.{compacted, is_written};
-ghost use Rattle.learned_store.specs.Payloads.{Says, book_of, new_count, payload_of, is_sound};
+ghost use Rattle.learned_store.specs.Payloads.{Says, book_of, may_follow, new_count, newest_version, payload_of};
+ghost use Rattle.learned_store.specs.Payloads.{is_sound};
 ghost use Rattle.learned_store.specs.Payloads.{state_told, change_told};
 ghost use Rattle.learned_store.specs.Recovered.{BreakAt, Leave, Recovery, IsRecovered};
 ghost use Rattle.learned_store.specs.Stores.{Keeps, RecoversOneOf, with_doubt};
@@ -34,27 +36,33 @@ pub fn records_leave_what_changes_leave()
 {}
 
 /// What the record of a change says may be written, as far as no type tells it: a row may stand in a book of the count,
-/// a key is valid, and the count is not below that of its book.
+/// a key is valid, and so is a candidate with its note, whose row is there and is not too long with it; and the count
+/// is not below that of its book.
 pub fn changes_tell_what_may_be_written()
     ensures put { (state : State) (call : Call) (book count : ℕ) (row : Row) → is_valid state ≡ true
         → is_call call ≡ true → is_fit call ≡ true → moves state call ≡ true
         → change_told state call ≡ Some (Put book count row) → fits_count count row ≡ true }
     ensures drop { (state : State) (call : Call) (book count : ℕ) (key : RowKey) → is_call call ≡ true
         → change_told state call ≡ Some (Drop book count key) → is_row_key key ≡ true }
+    ensures note { (state : State) (call : Call) (book count : ℕ) (key : RowKey) (cand : Cand) → is_call call ≡ true
+        → change_told state call ≡ Some (Note book count key cand)
+        → (nat_le 1 count && (is_row_key key && is_cand cand)) ≡ true }
+    ensures follows { (state : State) (call : Call) (form : PayloadForm) → is_valid state ≡ true
+        → is_call call ≡ true → is_fit call ≡ true → moves state call ≡ true → change_told state call ≡ Some form
+        → may_follow state form ≡ true }
     ensures count { (state : State) (call : Call) (form : PayloadForm) → change_told state call ≡ Some form
         → count_of state (book_of form) ≤ new_count form }
 {
     changes_keep_states_valid();
 }
 
-/// A payload says one thing at most, whatever the state; records leave one state at most, and none where one of them
-/// says nothing; and an image is opened in one way at most.
+/// A payload says one thing at most, whatever the version and the state; records leave one state at most, and none
+/// where one of them says nothing; and an image is opened in one way at most.
 pub fn files_are_recovered_in_one_way()
-    ensures form { (state later : State) (payload : List ℕ) (form other : PayloadForm) → Says state payload form
-        → Says later payload other → form ≡ other }
-    ensures state { (records : List (List ℕ)) (one two : State) → Leave records one → Leave records two → one ≡ two }
-    ensures whole { (records : List (List ℕ)) (at : ℕ) (state : State) → Leave records state → BreakAt records at
-        → ⊥ }
+    ensures form { (version other_version : ℕ) (state later : State) (payload : List ℕ) (form other : PayloadForm)
+        → Says version state payload form → Says other_version later payload other → form ≡ other }
+    ensures state { (contents : Contents) (one two : State) → Leave contents one → Leave contents two → one ≡ two }
+    ensures whole { (contents : Contents) (at : ℕ) (state : State) → Leave contents state → BreakAt contents at → ⊥ }
     ensures image { (image : Image) (one two : Recovery) → IsRecovered image one → IsRecovered image two → one ≡ two }
 {
     good_rows_are_read_again();
@@ -64,12 +72,12 @@ pub fn files_are_recovered_in_one_way()
 /// What records leave, the records of its compaction leave: it is a valid state that may be written, and of any such
 /// state they leave it. Each of them may be written and fits a record.
 pub fn compacted_records_leave_their_state()
-    ensures again { (records : List (List ℕ)) (state : State) → Leave records state
-        → Leave (map payload_of (compacted state)) state }
-    ensures left { (records : List (List ℕ)) (state : State) → Leave records state
+    ensures again { (contents : Contents) (state : State) → Leave contents state
+        → Leave (record { version = newest_version; records = map payload_of (compacted state) }) state }
+    ensures left { (contents : Contents) (state : State) → Leave contents state
         → (is_valid state ≡ true) × (is_written state ≡ true) }
     ensures leave { (state : State) → is_valid state ≡ true → is_written state ≡ true
-        → Leave (map payload_of (compacted state)) state }
+        → Leave (record { version = newest_version; records = map payload_of (compacted state) }) state }
     ensures sound { (state : State) → is_written state ≡ true → list_all is_sound (compacted state) ≡ true }
     ensures sized { (state : State) → is_written state ≡ true → All IsSized (map payload_of (compacted state)) }
 {}
@@ -77,7 +85,8 @@ pub fn compacted_records_leave_their_state()
 /// The records of a compaction end at the tight end of their state, and no records leave a state and end before that.
 pub fn the_tight_end_is_least()
     ensures compacted { (state : State) → end_of (map payload_of (compacted state)) ≡ tight state }
-    ensures least { (records : List (List ℕ)) (state : State) → Leave records state → tight state ≤ end_of records }
+    ensures least { (contents : Contents) (state : State) → Leave contents state
+        → tight state ≤ end_of contents.records }
 {}
 
 /// A change makes the tight end of a state at most so much greater as it needs.

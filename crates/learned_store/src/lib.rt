@@ -46,7 +46,7 @@ mod writing;
 
 pub use alone::Alone;
 pub use closed::Closed;
-pub use form::PayloadForm;
+pub use form::{NEWEST, PayloadForm};
 pub use laws::{
     changes_keep_the_tight_end, changes_need_their_records, changes_tell_what_may_be_written,
     compacted_records_leave_their_state, files_are_recovered_in_one_way, kept_states_are_recovered,

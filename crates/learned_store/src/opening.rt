@@ -3,15 +3,17 @@ ghost use Rattle.skk_outside.specs.Faults.{Rose};
 ghost use Rattle.skk_disk.specs.Moments.{Passes};
 ghost use Rattle.skk_disk.specs.Image.{Image};
 ghost use Rattle.skk_calls.specs.States.{State};
-ghost use Rattle.skk_journal.specs.declared.choice.LiveChoice.TheVariants.{NoLive};
+ghost use Rattle.skk_journal.specs.declared.choice.LiveChoice.TheVariants.{NoLive, LiveIn};
 ghost use Rattle.skk_journal.specs.Choice.{choice};
 ghost use Rattle.skk_journal.specs.Causes.{IsRefused as RefusesFrames, UnlessDisk};
 ghost use Rattle.skk_journal.specs.Images.{Each};
 ghost use Rattle.skk_journal.specs.Filling.{IsNew};
+ghost use Rattle.learned_store.specs.Payloads.{newest_version};
 ghost use Rattle.learned_store.specs.Recovered.{IsOpenedWith, IsRefused};
 ghost use Rattle.learned_store.specs.Recovering.{refusal_of};
 ghost use Rattle.learned_store.specs.Stores.{Keeps, Recovers};
 
+use crate::form::NEWEST;
 use crate::kept_answers::KeptAnswers;
 use crate::recovery::{RecoverFault, recover};
 use crate::store::Store;
@@ -30,13 +32,15 @@ impl<D: Disk> Store<D> {
         ensures opened { IfOk result (λ store.
             IsOpenedWith D.tells (D.seen disk) store.state store.journal.end) }
         ensures refused { D.tells → IfErr result (λ unopened. IsRefused (D.seen disk) unopened.why) }
+        ensures live { D.tells → choice newest_version (D.seen disk) ≢ NoLive → IfOk result (λ store.
+            choice newest_version (D.seen disk) ≡ LiveIn store.journal.live) }
         ensures files { IfOk result (λ store. store.files ≡ system) }
         ensures limit { IfOk result (λ store. store.limit ≡ limit) }
 
         // What each image has afterwards, also where a file was filled.
         ensures keeps { IfOk result (λ store. Keeps D.time D.left_since store.journal store.state None) }
-        ensures anew { D.tells → choice (D.seen disk) ≡ NoLive → IfOk result (λ store.
-            Each (D.left_since store.journal.disk (D.time store.journal.disk)) IsNew) }
+        ensures anew { D.tells → choice newest_version (D.seen disk) ≡ NoLive → IfOk result (λ store.
+            Each (D.left_since store.journal.disk (D.time store.journal.disk)) (IsNew newest_version)) }
 
         // Where there was one image, each one of each moment is opened as it was.
         ensures images { (state : State) (start : Image) →
@@ -46,10 +50,10 @@ impl<D: Disk> Store<D> {
             (λ unopened. Each (D.left_since unopened.disk (D.time disk)) (Recovers state)) }
 
         // But where no file is live both are only synced and read.
-        ensures kept { D.tells → choice (D.seen disk) ≢ NoLive → MatchResult result
+        ensures kept { D.tells → choice newest_version (D.seen disk) ≢ NoLive → MatchResult result
             (λ store. Each (D.left_since store.journal.disk (D.time disk)) (D.left_since disk (D.time disk)))
             (λ unopened. Each (D.left_since unopened.disk (D.time disk)) (D.left_since disk (D.time disk))) }
-        ensures seen { D.tells → choice (D.seen disk) ≢ NoLive → MatchResult result
+        ensures seen { D.tells → choice newest_version (D.seen disk) ≢ NoLive → MatchResult result
             (λ store. D.seen store.journal.disk ≡ D.seen disk)
             (λ unopened. UnlessDisk unopened.why (D.seen unopened.disk ≡ D.seen disk)) }
         ensures past { MatchResult result
@@ -69,8 +73,8 @@ impl<D: Disk> Store<D> {
                 why: OpenFault::Memory,
             });
         };
-        match Journal::open(alloc, disk) {
-            Ok((journal, records)) => match recover(alloc, records) {
+        match Journal::open(alloc, disk, NEWEST) {
+            Ok((journal, records)) => match recover(alloc, journal.version(), records) {
                 Ok(index) => Ok(Store {
                     journal,
                     index,
@@ -80,9 +84,10 @@ impl<D: Disk> Store<D> {
                 }),
                 Err(fault) => {
                     let file = journal.file();
+                    let version = journal.version();
                     Err(Unopened {
                         disk: journal.close(),
-                        why: refusal(alloc, file, fault),
+                        why: refusal(alloc, file, version, fault),
                     })
                 }
             },
@@ -96,35 +101,41 @@ impl<D: Disk> Store<D> {
 
 // Why files are refused that their journal refuses: a record before a bad frame may say nothing.
 fn first_refusal(alloc: Global, why: OpenFault) -> OpenFault
-    ensures refused { (image : Image) → RefusesFrames image why → IsRefused image result }
+    ensures refused { (image : Image) → RefusesFrames newest_version image why → IsRefused image result }
     ensures disk { (result ≡ OpenFault.Disk) ↔ (why ≡ OpenFault.Disk) }
 {
     match why {
-        OpenFault::BadRecord { file, at, before } => match recover(alloc, before) {
-            Ok(_) => bad_record(alloc, file, at),
-            Err(fault) => refusal(alloc, file, fault),
+        OpenFault::BadRecord {
+            file,
+            at,
+            version,
+            before,
+        } => match recover(alloc, version, before) {
+            Ok(_) => bad_record(alloc, file, at, version),
+            Err(fault) => refusal(alloc, file, version, fault),
         },
         why => why,
     }
 }
 
-// Why the file of this number is refused, of whose records no state was recovered.
-fn refusal(alloc: Global, file: u8, fault: RecoverFault) -> OpenFault
-    ensures { result ≡ refusal_of file fault }
+// Why the file of this number and version is refused, of whose records no state was recovered.
+fn refusal(alloc: Global, file: u8, version: u8, fault: RecoverFault) -> OpenFault
+    ensures { result ≡ refusal_of file version fault }
 {
     match fault {
         RecoverFault::Memory => OpenFault::Memory,
-        RecoverFault::Break { at } => bad_record(alloc, file, at),
+        RecoverFault::Break { at } => bad_record(alloc, file, at, version),
     }
 }
 
-// The refusal of a place of the file of this number, which tells no records.
-fn bad_record(alloc: Global, file: u8, at: u64) -> OpenFault
-    ensures { result ≡ OpenFault.BadRecord file at [] }
+// The refusal of a place of the file of this number and version, which tells no records.
+fn bad_record(alloc: Global, file: u8, at: u64, version: u8) -> OpenFault
+    ensures { result ≡ OpenFault.BadRecord file at version [] }
 {
     OpenFault::BadRecord {
         file,
         at,
+        version,
         before: Records::new(alloc),
     }
 }

@@ -1,20 +1,22 @@
-ghost use Rattle.std.specs.Prelude.{◌≡◌, ◌&&◌, true, nat_le, None, IfOk, IfSome};
+ghost use Rattle.std.specs.Prelude.{◌≡◌, ◌&&◌, ◌++◌, true, nat_le, Some, IfOk, IfSome};
 ghost use Rattle.std.specs.Int.{w64};
 ghost use Rattle.std.specs.Option.{option_map};
 ghost use Rattle.exact_readers.specs.Formats.{then_at};
+ghost use Rattle.skk_text.specs.Lists.{is_empty};
 ghost use Rattle.skk_calls.specs.Canonical.{canonical};
 ghost use Rattle.skk_calls.specs.Rows.{same_text};
 ghost use Rattle.learned_store.specs.declared.form.PayloadForm.{PayloadForm};
-ghost use Rattle.learned_store.specs.declared.form.PayloadForm.TheVariants.{Put, Drop};
+ghost use Rattle.learned_store.specs.declared.form.PayloadForm.TheVariants.{Put, Drop, Note};
 ghost use Rattle.learned_store.specs.Payloads.{payload_of, is_sound};
 ghost use Rattle.learned_store.specs.Reading.{put_with, fields, form_of, form_behind, row_of, stamped_row, is_stamp};
-ghost use Rattle.learned_store.specs.Reading.{parted_of, part_of, text_of, key_of, valid_key, line_row};
+ghost use Rattle.learned_store.specs.Reading.{parted_of, part_of, text_of, key_of, valid_key, line_row, one_line};
+ghost use Rattle.learned_store.specs.Reading.{item_cand, noted_of, only_cand, single_cand};
 
-use crate::form::{DROP, PUT, PayloadForm, SET_COUNT};
+use crate::form::{DROP, NOTE, PUT, PayloadForm, SET_COUNT};
 use crate::plain_row::plain_row;
 use dict_format::{good_rows_are_read_again, lines_spell_one_row, print_line, row_of_line};
 use exact_readers::{read_u16, read_u64};
-use skk_calls::{Cands, Part, Row, RowKey};
+use skk_calls::{Cand, Cands, Part, Row, RowKey};
 use skk_text::{Copies, Memory, Text};
 use std::alloc::Global;
 use std::str;
@@ -41,8 +43,8 @@ pub(crate) struct PutFields<'a> {
 // What a payload says, whatever the state. Takes time in its length.
 pub(crate) fn read_form(alloc: Global, payload: &[u8]) -> Result<Option<PayloadForm>, Memory>
     ensures some { IfOk result (λ form. IfSome form (λ f. (is_sound f ≡ true) × (payload.now ≡ payload_of f))) }
-    ensures none { IfOk result (λ form. form ≡ None → (f : PayloadForm) → is_sound f ≡ true
-        → payload.now ≡ payload_of f → ⊥) }
+    ensures only { IfOk result (λ form. (f : PayloadForm) → is_sound f ≡ true → payload.now ≡ payload_of f
+        → form ≡ Some f) }
 {
     good_rows_are_read_again();
     lines_spell_one_row();
@@ -72,6 +74,7 @@ fn form_behind(alloc: Global, fields: &PayloadFields<'_>) -> Result<Option<Paylo
             book: fields.book,
             count: fields.count,
         })),
+        NOTE if fields.count >= 1 => note_of(alloc, fields.book, fields.count, fields.rest),
         _ => Ok(None),
     }
 }
@@ -90,6 +93,20 @@ fn drop_of(alloc: Global, book: u16, count: u64, rest: &[u8]) -> Result<Option<P
 {
     let key = read_key(alloc, rest)?;
     Ok(key.map(|key| PayloadForm::Drop { book, count, key }))
+}
+
+// That a candidate of a row in a book has a note, where a key and a candidate are read.
+fn note_of(alloc: Global, book: u16, count: u64, rest: &[u8]) -> Result<Option<PayloadForm>, Memory>
+    ensures { IfOk result (λ form. form
+        ≡ option_map (λ noted. Note book count noted.0 noted.1) (noted_of rest.now)) }
+{
+    let noted = read_noted(alloc, rest)?;
+    Ok(noted.map(|(key, cand)| PayloadForm::Note {
+        book,
+        count,
+        key,
+        cand,
+    }))
 }
 
 // The fields of a payload that puts a row of a stamp that its count allows into a book. The row is not read.
@@ -186,6 +203,84 @@ fn key_of(part: Part, reading: Text) -> Option<RowKey>
         Ok(key) => Some(key),
         Err(_) => None,
     }
+}
+
+// The key and the candidate of their bytes: those of a part, of a reading with its length before it, and of an item.
+fn read_noted(alloc: Global, bytes: &[u8]) -> Result<Option<(RowKey, Cand)>, Memory>
+    ensures { IfOk result (λ noted. noted ≡ noted_of bytes.now) }
+{
+    let [part, size, behind @ ..] = bytes else {
+        return Ok(None);
+    };
+    let Some(part) = part_of(*part) else {
+        return Ok(None);
+    };
+    match behind.split_at_checked(*size as usize) {
+        Some((reading, item)) => item_cand(alloc, part, reading, item),
+        None => Ok(None),
+    }
+}
+
+// The key and the candidate of a part, of the bytes of a reading, and of those of an item.
+fn item_cand(
+    alloc: Global,
+    part: Part,
+    reading: &[u8],
+    item: &[u8],
+) -> Result<Option<(RowKey, Cand)>, Memory>
+    ensures { IfOk result (λ noted. noted ≡ item_cand part reading.now item.now) }
+{
+    let Some(reading) = text_of(alloc, reading)? else {
+        return Ok(None);
+    };
+    let Some(item) = text_of(alloc, item)? else {
+        return Ok(None);
+    };
+    let line = one_line(alloc, &reading, &item)?;
+    match row_of(alloc, part, &line, 1)? {
+        Some(row) => only_cand(alloc, &reading, row),
+        None => Ok(None),
+    }
+}
+
+// The line of a row that has one candidate alone, by its reading and the item of the candidate.
+fn one_line(alloc: Global, reading: &Text, item: &Text) -> Result<Text, Memory>
+    ensures { IfOk result (λ line. line ≡ one_line reading.now item.now) }
+{
+    let mut line = Text::new(alloc);
+    line.push_str(reading.as_str())?;
+    line.push_str(" /")?;
+    line.push_str(item.as_str())?;
+    line.push('/')?;
+    Ok(line)
+}
+
+// The key of a row with its candidate, where the row has this reading and one candidate alone.
+fn only_cand(alloc: Global, reading: &Text, row: Row) -> Result<Option<(RowKey, Cand)>, Memory>
+    ensures { IfOk result (λ noted. noted ≡ only_cand reading.now row) }
+{
+    if !has_cands_only(reading, &row) {
+        return Ok(None);
+    }
+    let key = row.key().copy(alloc)?;
+    Ok(single_cand(row.into_cands()).map(|cand| (key, cand)))
+}
+
+// Whether a row has a reading, and nothing but candidates.
+fn has_cands_only(reading: &Text, row: &Row) -> bool
+    ensures { result ≡ (same_text row.now.key.reading reading.now
+        && (is_empty row.now.blocks && is_empty row.now.hides)) }
+{
+    row.key().reading().as_str() == reading.as_str()
+        && (row.blocks().is_empty() && row.hides().is_empty())
+}
+
+// The candidate of candidates that are one alone.
+fn single_cand(cands: Cands) -> Option<Cand>
+    ensures { result ≡ single_cand cands }
+{
+    let mut cands = cands.into_vec();
+    if cands.len() == 1 { cands.pop() } else { None }
 }
 
 // The row of a stamp, of its part and its line.

@@ -29,18 +29,19 @@ impl From<Memory> for RecoverFault {
     }
 }
 
-// The index of the state that records leave. What they say is gathered first, so that of each key the last row alone
-// comes into the index, and at the end of its book. Takes time in their bytes, with one logarithm in the number of rows
-// that are left, and beside the index the memory that these take while they are gathered; that of a record is given
-// back when it was gathered.
-pub(crate) fn recover(alloc: Global, records: Records) -> Result<Index, RecoverFault>
-    ensures left { IfOk result (λ index. Leave (payloads records) index.state) }
+// The index of the state that the records of a file of a version leave. What they say is gathered first, so that of
+// each key the last row alone comes into the index, and at the end of its book. Takes time in their bytes, with one
+// logarithm in the number of rows that are left, and beside the index the memory that these take while they are
+// gathered; that of a record is given back when it was gathered.
+pub(crate) fn recover(alloc: Global, version: u8, records: Records) -> Result<Index, RecoverFault>
+    ensures left { IfOk result (λ index.
+        Leave (record { version = version; records = payloads records }) index.state) }
     ensures broken { records ≡ found_from first_place (payloads records)
-        → IfErr result (IsBreak (payloads records)) }
+        → IfErr result (IsBreak (record { version = version; records = payloads records })) }
 {
     let mut gathered = Gathered::new(alloc);
     for found in records.into_vec() {
-        if !gathered.add(alloc, found.payload.as_slice())? {
+        if !gathered.add(alloc, version, found.payload.as_slice())? {
             return Err(RecoverFault::Break { at: found.at });
         }
     }

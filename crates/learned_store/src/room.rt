@@ -1,10 +1,11 @@
 ghost use Rattle.std.specs.Prelude.{◌≡◌, ◌+◌, ◌≤◌, nat_le, IfOk};
 ghost use Rattle.skk_calls.specs.Histories.{tight};
 ghost use Rattle.skk_journal.specs.Records.{need};
-ghost use Rattle.learned_store.specs.Rooms.{IsRoom};
+ghost use Rattle.learned_store.specs.Rooms.{IsRoom, goes_behind};
 
 use crate::compacting::compacted_records;
 use crate::sizes::{record_need, tight_end};
+use crate::writing::Record;
 use learn_index::Index;
 use skk_journal::Journal;
 use skk_text::{Bytes, Memory};
@@ -20,20 +21,23 @@ pub(crate) enum Room {
     Full(u64),
 }
 
-// Finds room for the record of a payload. Where it doesn't fit behind the records of the live file this takes time in
-// what the rows hold, and memory for their records.
+// Finds room for a record. Where it may not stand behind the records of the live file, or does not fit there, this
+// takes time in what the rows hold, and memory for their records.
 pub(crate) fn room_for<D>(
     alloc: Global,
     index: &Index,
     journal: &Journal<D>,
     limit: u64,
-    payload: &[u8],
+    record: &Record,
 ) -> Result<Room, Memory>
     requires tight { tight index.now.state ≤ journal.now.end }
-    ensures { IfOk result (IsRoom index.now.state journal.now.end limit (need payload.now)) }
+    ensures { IfOk result (IsRoom index.now.state
+        (goes_behind limit journal.now.live.version journal.now.end record.now.version (need record.now.payload))
+        limit (need record.now.payload)) }
 {
-    let need = record_need(payload);
-    if fits(journal.end(), limit, need) {
+    let need = record_need(record.payload.as_slice());
+    let end = journal.end();
+    if goes_behind(limit, journal.version(), end, record.version, need) {
         return Ok(Room::Behind);
     }
     let least = tight_end(index);
@@ -42,6 +46,14 @@ pub(crate) fn room_for<D>(
     } else {
         Ok(Room::Full(least))
     }
+}
+
+// Whether a record that a version first has, and that needs so many bytes, goes behind those of a live file that ends
+// here: its version has such records, and there is room.
+fn goes_behind(limit: u64, version: u8, end: u64, first: u8, need: u64) -> bool
+    ensures { result ≡ goes_behind limit version end first need }
+{
+    first <= version && fits(end, limit, need)
 }
 
 // Whether so many bytes behind an end are within a limit.

@@ -1,10 +1,13 @@
-ghost use Rattle.std.specs.Prelude.{◌≡◌, true, IfOk};
+ghost use Rattle.std.specs.Prelude.{◌≡◌, true, false, Some, IfOk};
+ghost use Rattle.skk_calls.specs.Learning.{annotated};
+ghost use Rattle.learned_store.specs.Payloads.{takes_note};
 ghost use Rattle.learned_store.specs.Reading.{IsSpelled};
 
 use crate::writing::part_byte;
 use dict_format::print_line;
+use dict_rows::{annotated_row, line_length};
 use learn_index::KeptRow;
-use skk_calls::{Row, RowKey};
+use skk_calls::{Cand, LINE_LIMIT, Row, RowKey};
 use skk_text::{Copies, Memory};
 use std::alloc::Global;
 use std::marker::Model;
@@ -54,6 +57,27 @@ impl StampedRow {
         ensures { self.new ≡ record self.old { stamp = stamp } }
     {
         self.stamp = stamp;
+    }
+
+    // Gives a candidate of the row its note, and the row another stamp, where its line is not too long then. Takes time
+    // in what the row holds.
+    pub(crate) fn annotate(
+        &mut self,
+        alloc: Global,
+        cand: &Cand,
+        stamp: u64,
+    ) -> Result<bool, Memory>
+        ensures annotated { IfOk result (λ is. is ≡ true → (takes_note (Some self.old) cand.now stamp ≡ true)
+            × (self.new ≡ annotated (Some self.old) self.old.key cand.now stamp)) }
+        ensures none { IfOk result (λ is. is ≡ false → takes_note (Some self.old) cand.now stamp ≡ false) }
+    {
+        let row = annotated_row(alloc, Some(&*self.row), self.row.key(), cand, stamp)?;
+        if line_length(&row) > LINE_LIMIT as u64 {
+            return Ok(false);
+        }
+        *self.row = row;
+        self.stamp = stamp;
+        Ok(true)
     }
 
     // The row as an index keeps it: its candidates are moved, and what mostly is small is copied.

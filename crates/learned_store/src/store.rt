@@ -13,7 +13,7 @@ ghost use Rattle.learn_index.specs.Plans.{is_question};
 ghost use Rattle.skk_journal.specs.Journal.{is_in_doubt};
 ghost use Rattle.skk_journal.specs.Images.{Each};
 ghost use Rattle.learned_store.specs.KeptLookUps.{is_look_up};
-ghost use Rattle.learned_store.specs.Served.{Serves, end_added};
+ghost use Rattle.learned_store.specs.Served.{Serves, end_added, version_added};
 ghost use Rattle.learned_store.specs.Stores.{opening_now, Keeps, RecoversOneOf, states_within, DoubtAfter};
 
 use crate::changing::change;
@@ -84,6 +84,13 @@ impl<D> Store<D> {
         self.kept.has(call)
     }
 
+    /// The version of the live file. Takes no memory.
+    pub fn version(&self) -> u8
+        ensures { result ≡ self.now.journal.live.version }
+    {
+        self.journal.version()
+    }
+
     /// Gives the disk back as it is. Takes no memory.
     pub fn close(self) -> D
         ensures { result ≡ self.journal.disk }
@@ -95,10 +102,11 @@ impl<D> Store<D> {
 impl<D: Disk> Store<D> {
     /// Answers a call. For a change all memory is taken first, and then its record is added to the live file, after a
     /// gate in doubt was closed; a change is made only where its record was added. Where the live file has no room for
-    /// it, the rows of the state are written into the other file first, which is live then; it is refused only where it
-    /// has no room there either. Where the call changes nothing, and after `Refused(Memory)`, the disk was not touched.
-    /// Costs what the call costs the index, and a change two writes and two syncs, or three where a gate was in doubt;
-    /// where rows are written into the other file, at most eleven calls more, and time and memory in what they hold.
+    /// it, or is of a version that does not have it, the rows of the state are written into the other file first, which
+    /// is live then and of the newest version; it is refused only where it has no room there either. Where the call
+    /// changes nothing, and after `Refused(Memory)`, the disk was not touched. Costs what the call costs the index, and
+    /// a change two writes and two syncs, or three where a gate was in doubt; where rows are written into the other
+    /// file, at most eleven calls more, and time and memory in what they hold.
     pub fn serve(&mut self, alloc: Global, call: &Call) -> Answer
         requires { is_fit call.now ≡ true }
 
@@ -115,8 +123,9 @@ impl<D: Disk> Store<D> {
 
         // What stands after it.
         ensures state { self.new.state ≡ after_answer self.old.state call.now result }
-        ensures end { tells_change result ≡ true → self.new.journal.end
-            ≡ end_added self.old.limit self.old.state self.old.journal.end call.now }
+        ensures end { tells_change result ≡ true → self.new.journal.end ≡ end_added self.old call.now }
+        ensures version { tells_change result ≡ true →
+            self.new.journal.live.version ≡ version_added self.old call.now }
         ensures files { self.new.files ≡ self.old.files }
         ensures limit { self.new.limit ≡ self.old.limit }
         ensures still { moves self.old.state call.now ≡ false → self.new.journal ≡ self.old.journal }
@@ -149,6 +158,7 @@ impl<D: Disk> Store<D> {
             Call::Lookup { .. } | Call::Complete { .. } => self.answer(alloc, found, call),
             Call::Learn { key, .. } => self.change(alloc, key, call),
             Call::Purge { key, .. } => self.change(alloc, key, call),
+            Call::Annotate { key, .. } => self.change(alloc, key, call),
             Call::Unlearn { learned } => self.change(alloc, learned.key(), call),
         }
     }

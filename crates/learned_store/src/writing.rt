@@ -1,20 +1,33 @@
-ghost use Rattle.std.specs.Prelude.{◌≡◌, true, IfOk, OnOk};
-ghost use Rattle.std.specs.Option.{option_copied};
+ghost use Rattle.std.specs.Prelude.{◌≡◌, ◌&&◌, true, IfOk, OnOk};
+ghost use Rattle.std.specs.Option.{option_copied, option_map};
 ghost use Rattle.std.specs.Str.{all_scalars};
-ghost use Rattle.skk_calls.specs.Canonical.{canonical};
-ghost use Rattle.learned_store.specs.Payloads.{put_bytes, drop_bytes, count_bytes, part_byte, row_told};
-ghost use Rattle.learned_store.specs.Written.{IsWritten, IsRecordOf};
+ghost use Rattle.skk_calls.specs.Canonical.{canonical, item};
+ghost use Rattle.learned_store.specs.declared.form.PayloadForm.TheVariants.{Note};
+ghost use Rattle.learned_store.specs.Payloads.{put_bytes, drop_bytes, count_bytes, note_bytes, part_byte, row_told};
+ghost use Rattle.learned_store.specs.Written.{IsWritten, IsRecordOf, noted_in};
 
-use crate::form::{DROP, PUT, SET_COUNT};
-use dict_format::print_line;
-use learn_index::{KeptRow, Plan};
-use skk_calls::{Part, Row, RowKey};
+use crate::form::{DROP, NOTE, PUT, SET_COUNT};
+use dict_format::{print_item, print_line};
+use learn_index::{Index, KeptRow, Plan};
+use skk_calls::{Call, Cand, Part, Row, RowKey};
 use skk_text::{Bytes, Memory};
 use std::alloc::Global;
 
-// The record of a plan, none where nothing changes.
-pub(crate) fn planned_record(alloc: Global, plan: &Plan) -> Result<Option<Bytes>, Memory>
-    ensures { IfOk result (IsRecordOf plan.now) }
+// The payload of a record, and the version of a learned file that first has such a record.
+#[derive(Debug, Drop)]
+pub(crate) struct Record {
+    pub(crate) payload: Bytes,
+    pub(crate) version: u8,
+}
+
+// The record of a call that was planned at the state of an index, none where nothing changes.
+pub(crate) fn planned_record(
+    alloc: Global,
+    index: &Index,
+    call: &Call,
+    plan: &Plan,
+) -> Result<Option<Record>, Memory>
+    ensures { IfOk result (IsRecordOf index.now.state call.now plan.now) }
 {
     match plan {
         Plan::Still(_) => Ok(None),
@@ -24,24 +37,89 @@ pub(crate) fn planned_record(alloc: Global, plan: &Plan) -> Result<Option<Bytes>
             key,
             row,
             ..
-        } => Ok(Some(record_of(alloc, *book, *count, key, row.as_ref())?)),
+        } => {
+            let record = match noted_in(index, call) {
+                Some((key, cand)) => note_record(alloc, *book, *count, key, cand)?,
+                None => row_record(alloc, *book, *count, key, row.as_ref())?,
+            };
+            Ok(Some(record))
+        }
     }
 }
 
-// The bytes that say of a book, which then has a count, that a key has this row or none. Takes time in their number.
-fn record_of(
+// The key and the candidate of an annotation whose row is there.
+fn noted_in<'a>(index: &Index, call: &'a Call) -> Option<(&'a RowKey, &'a Cand)>
+    ensures { option_map (λ noted. (noted.0.now, noted.1.now)) result ≡ noted_in index.now.state call.now }
+{
+    match call {
+        Call::Annotate { book, key, cand } => match index.row(*book, key) {
+            Some(_) => Some((key, cand)),
+            None => None,
+        },
+        _ => None,
+    }
+}
+
+// The record that says of a book, which then has a count, that a key has this row or none. Takes time in its bytes.
+fn row_record(
     alloc: Global,
     book: u16,
     count: u64,
     key: &RowKey,
     row: Option<&KeptRow>,
-) -> Result<Bytes, Memory>
+) -> Result<Record, Memory>
     ensures { IfOk result (IsWritten (row_told book count key.now (option_copied row.entry))) }
 {
-    match row {
-        Some(row) => put_record(alloc, book, count, row.row()),
-        None => drop_record(alloc, book, count, key),
-    }
+    let payload = match row {
+        Some(row) => put_record(alloc, book, count, row.row())?,
+        None => drop_record(alloc, book, count, key)?,
+    };
+    Ok(Record {
+        payload,
+        version: 1,
+    })
+}
+
+// The record that gives a candidate of a row its note, after which the book has a count. Takes time in its bytes.
+fn note_record(
+    alloc: Global,
+    book: u16,
+    count: u64,
+    key: &RowKey,
+    cand: &Cand,
+) -> Result<Record, Memory>
+    ensures { IfOk result (IsWritten (Note book count key.now cand.now)) }
+{
+    let payload = note_payload(alloc, book, count, key, cand)?;
+    Ok(Record {
+        payload,
+        version: 2,
+    })
+}
+
+// The bytes that give a candidate of a row its note, after which the book has a count.
+#[tactic(auto, unfolding(exact_readers::specs::Numbers::number_bytes))]
+fn note_payload(
+    alloc: Global,
+    book: u16,
+    count: u64,
+    key: &RowKey,
+    cand: &Cand,
+) -> Result<Bytes, Memory>
+    ensures payload { IfOk result (λ bytes. bytes ≡ note_bytes book count key.now cand.now) }
+    ensures characters { OnOk result ((all_scalars key.now.reading && all_scalars (item cand.now)) ≡ true) }
+{
+    let item = print_item(alloc, cand)?;
+    let reading = key.reading().as_str();
+    let mut record = Vec::new(alloc);
+    record.push(NOTE)?;
+    record.extend_from_slice(&book.to_le_bytes())?;
+    record.extend_from_slice(&count.to_le_bytes())?;
+    record.push(part_byte(key.part()))?;
+    record.push(reading.len() as u8)?;
+    record.extend_from_slice(reading.as_bytes())?;
+    record.extend_from_slice(item.as_str().as_bytes())?;
+    Ok(Bytes::of(record))
 }
 
 // The bytes that put a row into a book, which then has a count.

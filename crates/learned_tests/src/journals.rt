@@ -11,8 +11,10 @@ use std::process::Abort;
 const LEARNING: &[u8] = b"\x01\x01\0\x01\0\0\0\0\0\0\0\x01\0\0\0\0\0\0\0\0\
     \xe3\x81\x8b\xe3\x82\x93\xe3\x81\x98 /\xe6\xbc\xa2\xe5\xad\x97/";
 
-// A new file, and the file with that record.
-pub(crate) const NEW_FILE: &[u8] = b"\x01SKKDESK\x01\x01\0\0\0\0\0\0\0\0";
+// A new file, one of version 2, and the file with that record.
+const NEW_FILE: &[u8] = b"\x01SKKDESK\x01\x01\0\0\0\0\0\0\0\0";
+
+pub(crate) const NEW_FILE_OF_TWO: &[u8] = b"\x01SKKDESK\x02\x01\0\0\0\0\0\0\0\0";
 
 pub(crate) const LEARNT_FILE: &[u8] = b"\x01SKKDESK\x01\x01\0\0\0\0\0\0\0\x01\x26\0\0\0\
     \x01\x01\0\x01\0\0\0\0\0\0\0\x01\0\0\0\0\0\0\0\0\
@@ -73,13 +75,15 @@ fn expect_records<R: Abort>(rt: &R, records: &Records, expected: &[(u64, &[u8])]
 }
 
 // What is asked of a journal, and its answer: to add a record within a limit, to fill the other file with records, to
-// repair what is in doubt, which file is live, where its records end, and whether a gate is in doubt.
+// repair what is in doubt, which file is live and of which version it is, where its records end, and whether a gate is
+// in doubt.
 #[derive(Clone, Copy, Debug)]
 enum JournalStep<'a> {
     Append(u64, &'a [u8], Result<(), AppendFault>),
     Compact(&'a [u8], Result<(), Failed>),
     Repair(Result<(), Failed>),
     File(u8),
+    Version(u8),
     End(u64),
     InDoubt(bool),
 }
@@ -101,6 +105,10 @@ fn expect_step<R: Abort, D: Disk>(rt: &R, journal: &mut Journal<D>, step: Journa
             same_at(compact(rt, journal, records), answer, step).expect(rt, "as wanted");
         }
         JournalStep::File(file) => same_at(journal.file(), file, step).expect(rt, "as wanted"),
+        JournalStep::Version(version) => same_at(journal.version(), version, step).expect(
+            rt,
+            "as wanted",
+        ),
         JournalStep::Repair(answer) => same_at(journal.repair(), answer, step).expect(
             rt,
             "as wanted",
@@ -136,7 +144,8 @@ fn compact<R: Abort, D: Disk>(
     journal.compact(records)
 }
 
-// Opens the learned file of a disk, which has these records, asks steps of it, and gives the disk back.
+// Opens the learned file of a disk, which has these records and is of version 1, asks steps of it, and gives the disk
+// back.
 fn expect_journal<R: Abort, D: Disk + Drop>(
     rt: &R,
     alloc: Global,
@@ -144,7 +153,19 @@ fn expect_journal<R: Abort, D: Disk + Drop>(
     records: &[(u64, &[u8])],
     steps: &[JournalStep],
 ) -> D {
-    let mut journal = open(rt, alloc, disk, records);
+    expect_journal_up_to(rt, alloc, disk, 1, records, steps)
+}
+
+// The same where this is the newest version.
+fn expect_journal_up_to<R: Abort, D: Disk + Drop>(
+    rt: &R,
+    alloc: Global,
+    disk: D,
+    newest: u8,
+    records: &[(u64, &[u8])],
+    steps: &[JournalStep],
+) -> D {
+    let mut journal = open(rt, alloc, disk, newest, records);
     expect_steps(rt, &mut journal, steps);
     journal.close()
 }
@@ -154,9 +175,11 @@ fn open<R: Abort, D: Disk + Drop>(
     rt: &R,
     alloc: Global,
     disk: D,
+    newest: u8,
     expected: &[(u64, &[u8])],
 ) -> Journal<D> {
-    match Journal::open(alloc, disk) {
+    assert!(rt; newest >= 1);
+    match Journal::open(alloc, disk, newest) {
         Ok((journal, records)) => {
             expect_records(rt, &records, expected);
             journal
@@ -165,9 +188,9 @@ fn open<R: Abort, D: Disk + Drop>(
     }
 }
 
-// The disk of a learned file that is not opened, and why.
+// The disk of a learned file that is not opened where 1 is the newest version, and why.
 fn unopened<D: Disk + Drop>(alloc: Global, disk: D) -> Option<Unopened<D>> {
-    Journal::open(alloc, disk).err()
+    Journal::open(alloc, disk, 1).err()
 }
 
 #[test]
@@ -202,20 +225,29 @@ enum OpenedRow {
     BadRecord(u64, &'static [(u64, &'static [u8])]),
 }
 
-// Opens a file, and tells that a file that is refused, or has records, is the same afterwards.
-fn expect_row<R: Abort>(rt: &R, alloc: Global, bytes: &[u8], row: OpenedRow) {
+// Opens a file where 1 is the newest version, or 2, and tells that a file that is refused, or has records, is the same
+// afterwards.
+fn expect_row<R: Abort>(rt: &R, alloc: Global, newest: u8, bytes: &[u8], row: OpenedRow) {
     let left = match row {
-        OpenedRow::Anew => NEW_FILE,
+        OpenedRow::Anew if newest == 1 => NEW_FILE,
+        OpenedRow::Anew => NEW_FILE_OF_TWO,
         _ => bytes,
     };
     let disk = disk_of(rt, alloc, bytes, &[]);
-    let mut disk = opened_as(rt, alloc, disk, row);
+    let mut disk = opened_as(rt, alloc, disk, newest, row);
     expect_file(rt, alloc, &mut disk, Which::A, left);
 }
 
 // The disk of a learned file that is opened as a row has it.
-fn opened_as<R: Abort, D: Disk + Drop>(rt: &R, alloc: Global, disk: D, row: OpenedRow) -> D {
-    match Journal::open(alloc, disk) {
+fn opened_as<R: Abort, D: Disk + Drop>(
+    rt: &R,
+    alloc: Global,
+    disk: D,
+    newest: u8,
+    row: OpenedRow,
+) -> D {
+    assert!(rt; newest >= 1);
+    match Journal::open(alloc, disk, newest) {
         Ok((journal, records)) => {
             expect_opened(rt, &records, row);
             journal.close()
@@ -240,7 +272,15 @@ fn expect_fault<R: Abort>(rt: &R, why: &OpenFault, row: OpenedRow) {
         (OpenFault::NotJournal { file, first }, OpenedRow::NotJournal(byte)) => {
             same((*file, *first), (0, byte)).expect(rt, "as wanted");
         }
-        (OpenFault::BadRecord { file, at, before }, OpenedRow::BadRecord(place, expected)) => {
+        (
+            OpenFault::BadRecord {
+                file,
+                at,
+                version: _,
+                before,
+            },
+            OpenedRow::BadRecord(place, expected),
+        ) => {
             same((*file, *at), (0, place)).expect(rt, "as wanted");
             expect_records(rt, before, expected);
         }
@@ -283,10 +323,53 @@ static HEADS: &[(&[u8], OpenedRow)] = &[
     ),
 ];
 
+// The newest version, a file, and what it is opened as.
+static VERSIONS: &[(u8, &[u8], OpenedRow)] = &[
+    (
+        1,
+        b"\x01SKKDESK\0\x01\0\0\0\0\0\0\0\0",
+        OpenedRow::NotJournal(1),
+    ),
+    (
+        2,
+        b"\x01SKKDESK\0\x01\0\0\0\0\0\0\0\0",
+        OpenedRow::NotJournal(1),
+    ),
+    (
+        2,
+        b"\x01SKKDESK\x01\x05\0\0\0\0\0\0\0\x01\x01\0\0\0x\0",
+        OpenedRow::Records(&[(17, b"x")]),
+    ),
+    (
+        2,
+        b"\x01SKKDESK\x02\x05\0\0\0\0\0\0\0\x01\x01\0\0\0x\0",
+        OpenedRow::Records(&[(17, b"x")]),
+    ),
+    (
+        2,
+        b"\x01SKKDESK\x03\x05\0\0\0\0\0\0\0\0",
+        OpenedRow::NotJournal(1),
+    ),
+    (
+        2,
+        b"\x01SKKDESK\xff\x05\0\0\0\0\0\0\0\0",
+        OpenedRow::NotJournal(1),
+    ),
+    (2, b"\x01SKKDESK\x02", OpenedRow::BadRecord(9, &[])),
+    (1, b"\x02SKKDESK\x02", OpenedRow::NotJournal(2)),
+    (2, b"\x02SKKDESK\x01", OpenedRow::Anew),
+    (2, b"\x02SKKDESK\x02", OpenedRow::Anew),
+    (2, b"\x02SKKDESK\x03", OpenedRow::NotJournal(2)),
+    (2, b"", OpenedRow::Anew),
+];
+
 #[test]
 fn files_are_opened_by_their_heads(rt: HostRuntime) {
     for (bytes, row) in HEADS {
-        expect_row(&rt, rt.alloc(), bytes, *row);
+        expect_row(&rt, rt.alloc(), 1, bytes, *row);
+    }
+    for (newest, bytes, row) in VERSIONS {
+        expect_row(&rt, rt.alloc(), *newest, bytes, *row);
     }
 }
 
@@ -321,7 +404,7 @@ fn records_are_read_up_to_the_first_gate_that_is_not_open(rt: HostRuntime) {
     for (tail, row) in TAILS {
         let mut bytes = NEW_FILE[..17].to_vec(rt.alloc()).expect(&rt, "memory");
         bytes.extend_from_slice(tail).expect(&rt, "memory");
-        expect_row(&rt, rt.alloc(), &bytes, *row);
+        expect_row(&rt, rt.alloc(), 1, &bytes, *row);
     }
 }
 
@@ -440,6 +523,42 @@ fn records_go_over_to_the_other_file(rt: HostRuntime) {
     let b = b"\x01SKKDESK\x01\x02\0\0\0\0\0\0\0\x01\x02\0\0\0yz\x01\x01\0\0\0w\0";
     expect_file(&rt, alloc, &mut disk, Which::B, b);
     expect_journal(&rt, alloc, disk, &[], &[]);
+}
+
+// A file of version 1 where 2 is the newest version: a record more leaves it so, and the other file is filled with
+// version 2.
+static OLDER: &[JournalStep<'static>] = &[
+    JournalStep::Version(1),
+    JournalStep::Append(1000, b"x", Ok(())),
+    JournalStep::Version(1),
+    JournalStep::Compact(b"\x01\x02\0\0\0yz", Ok(())),
+    JournalStep::Version(2),
+    JournalStep::File(1),
+    JournalStep::End(25),
+];
+
+#[test]
+fn a_file_keeps_its_version_until_records_go_over(rt: HostRuntime) {
+    let alloc = rt.alloc();
+    let disk = disk_of(&rt, alloc, LEARNT_FILE, &[]);
+    let mut disk = expect_journal_up_to(&rt, alloc, disk, 2, &[(17, LEARNING)], OLDER);
+    let b = b"\x01SKKDESK\x02\x02\0\0\0\0\0\0\0\x01\x02\0\0\0yz\0";
+    expect_file(&rt, alloc, &mut disk, Which::B, b);
+    let disk = expect_above(&rt, alloc, disk);
+    let steps = [JournalStep::Version(2), JournalStep::File(1)];
+    expect_journal_up_to(&rt, alloc, disk, 2, &[(17, b"yz")], &steps);
+}
+
+// Tells that a disk whose second file has a version above the newest one is not opened, and gives it back.
+fn expect_above<R: Abort>(rt: &R, alloc: Global, disk: MemDisk) -> MemDisk {
+    let Some(Unopened { disk, why }) = unopened(alloc, disk) else {
+        panic!(rt; "a version above the newest one is opened");
+    };
+    assert!(rt;
+        matches!(why, OpenFault::NotJournal { file: 1, first: 1 }),
+        "{why}"
+    );
+    disk
 }
 
 #[test]

@@ -22,3 +22,5 @@ mod pairs;
 mod stops;
 #[cfg(test)]
 mod stores;
+#[cfg(test)]
+mod versions;

@@ -28,6 +28,8 @@ pub(crate) enum StoreStep<'a> {
     LearnLong(&'a str, usize),
     // Purges a word of a reading.
     Purge(&'a str, &'a str),
+    // Gives the word of a reading a note.
+    Annotate(&'a str, &'a str, &'a str),
     // Takes back what was learnt last.
     Unlearn,
     // Finds the words of a reading.
@@ -458,7 +460,7 @@ fn expect_opened<R: Abort>(rt: &R, alloc: Global, head: &[u8], tail: &[u8], want
 }
 
 // The lines of book 1 of the learned file of a disk, or why that is refused.
-fn opening_text<D: Disk + Drop>(rt: &impl Abort, alloc: Global, disk: D) -> String {
+pub(crate) fn opening_text<D: Disk + Drop>(rt: &impl Abort, alloc: Global, disk: D) -> String {
     match open_file(rt, alloc, disk, FAR) {
         Ok(store) => lines(rt, alloc, &store),
         Err(unopened) => format!(in alloc; "{}", unopened.why).expect(rt, "memory"),
@@ -606,6 +608,7 @@ fn call_of(rt: &impl Abort, alloc: Global, step: StoreStep, learnings: &mut Vec<
         StoreStep::Learn(reading, word) => learning(rt, alloc, reading, word),
         StoreStep::LearnLong(letter, count) => learning_long(rt, alloc, letter, count),
         StoreStep::Purge(reading, word) => purging(rt, alloc, reading, word),
+        StoreStep::Annotate(reading, word, note) => annotating(rt, alloc, reading, word, note),
         StoreStep::Unlearn => unlearning(rt, learnings),
         StoreStep::Find(reading) => finding(rt, alloc, reading),
         StoreStep::Complete(prefix) => completing(rt, alloc, prefix),
@@ -637,6 +640,17 @@ fn purging(rt: &impl Abort, alloc: Global, reading: &str, word: &str) -> Call
         book: 1,
         key: key(rt, alloc, reading),
         word: word_of(rt, alloc, word),
+    }
+}
+
+fn annotating(rt: &impl Abort, alloc: Global, reading: &str, word: &str, note: &str) -> Call
+    ensures { is_fit result ≡ true }
+{
+    let (word, note) = (text(rt, alloc, word), text(rt, alloc, note));
+    Call::Annotate {
+        book: 1,
+        key: key(rt, alloc, reading),
+        cand: Cand::new(word, note).expect(rt, "a candidate"),
     }
 }
 

@@ -54,6 +54,7 @@ fn answer_by(rt: &impl Abort, alloc: Global, word: &str, call: &Call) -> Answer
         Call::Complete { .. } => completion_answer(rt, alloc, word),
         Call::Learn { book, key, .. } => learning_answer(rt, alloc, word, *book, key),
         Call::Purge { .. } => purge_answer(word),
+        Call::Annotate { .. } => annotation_answer(word),
         Call::Unlearn { .. } => unlearning_answer(word),
     }
 }
@@ -114,6 +115,17 @@ fn purge_answer(word: &str) -> Answer
     }
 }
 
+// What an annotation is answered.
+fn annotation_answer(word: &str) -> Answer
+    ensures { (book : ℕ) (key : RowKey) (cand : Cand) → may_answer (calls.Annotate book key cand) result ≡ true }
+{
+    match word {
+        "annotated" => Answer::Done(Reply::Annotated),
+        "unchanged" => Answer::Done(Reply::Unchanged),
+        _ => other_answer(word),
+    }
+}
+
 // What a taking back is answered.
 fn unlearning_answer(word: &str) -> Answer
     ensures { (learned : Learned) → may_answer (calls.Unlearn learned) result ≡ true }
@@ -125,11 +137,13 @@ fn unlearning_answer(word: &str) -> Answer
     }
 }
 
-// What a learning or a purge is answered that is not done.
+// What a learning, a purge or an annotation is answered that is not done.
 fn other_answer(word: &str) -> Answer
     ensures learning { (book : ℕ) (key : RowKey) (okuri : Option (List ℕ)) (cand : Cand)
         → may_answer (calls.Learn book key okuri cand) result ≡ true }
     ensures purge { (book : ℕ) (key : RowKey) (text : List ℕ) → may_answer (calls.Purge book key text) result ≡ true }
+    ensures annotation { (book : ℕ) (key : RowKey) (cand : Cand)
+        → may_answer (calls.Annotate book key cand) result ≡ true }
 {
     match word {
         "too-big" => Answer::Done(Reply::TooBig(65_537)),
@@ -413,6 +427,49 @@ A_I_U_E_O_A_I_Ka_A___ 0 0 0 0 0 0 0 0 2=[[[[[[[[辞書登録]]]]]]]] か: ▼乙
 A_I_U_E_O_A_I_Ka_A_______ 0 0 0 0 0 0 0 0 12=[[[[[[[[辞書登録]]]]]]]] か: ▼[A:丑 残り 0]|depth 8
 A_I_U_E_O_A_I_Ka_A_<cg><cg>_ 0 0 0 0 0 0 0 0 0 0=[[[[[[[[辞書登録]]]]]]]] か: |
 A_I_U_E_O_A_I_Ka_lx<ret><ret> 0 0 0 0 0 0 0 0 learned disk=[[[[[[辞書登録]]]]]] あ: x|refused disk
+Kanji_^ 漢字=[注釈登録] 漢字: |
+Kanji_^yoi<ret> 漢字 annotated=▼漢字|annotated
+Kanji_^yoi<ret>x 漢字 annotated=▽かんじ|
+Kanji_^yoi<ret>x_ 漢字 annotated 漢字;*よい=▼漢字|;*よい
+Kanji_^yoi<ret><tab> 漢字 annotated=▼漢字|;*よい
+Ka__^yoi<ret> 12 unchanged=▼乙|unchanged
+Ka__^yoi<ret><tab> 12 unchanged=▼乙|;*よい
+Ka__^yoi<ret>x_ 12 annotated=▼乙|;*よい
+Ka__^yoi<ret> 12 too-big=▼乙|too-big 65537
+Ka__^yoi<ret> 12 stamps-end=▼乙|stamps-end
+Ka__^yoi<ret> 12 memory=▼乙|refused memory
+Ka__^yoi<ret> 12 disk=▼乙|refused disk
+Ka__^yoi<ret> 12 full=▼乙|refused full 18 90 100
+Ka__^yoi<ret><tab> 12 disk=▼乙|;二
+Ka__^yoi<cg> 12=▼乙|;二
+Ka__^<ret> 12=▼乙|;二
+Ka__^yo<bs><ret> 12=▼乙|;二
+Ka_^yoin<ret><tab> 12 annotated=▼甲|;*よいん
+Ka_^la/b<ret> 12=[注釈登録] 甲: a/b|note
+Ka_^la/b<ret><bs><bs><ret><tab> 12 annotated=▼甲|;*a
+Ka_^lx<cg> 12=[注釈登録] 甲: x|
+Ka_^<undo> 12=[注釈登録] 甲: |no-undo
+qKa_^ 12=[注釈登録] 甲: |
+KaKu^ 12=[注釈登録] 甲: |
+KaKu^yo<ret> 12 annotated=▼甲く|annotated
+aKa_^yo 12=[注釈登録] 甲: よ|
+aKa_^yo<ret> 12 annotated=あ▼甲|annotated
+Q7nen_^yo 0 #1年=[注釈登録] ７年: よ|
+Q7nen_^yo<ret> 0 #1年 annotated=▼７年|annotated
+Ka_X^ 12=▼甲|
+Ka_____^ 12=▼[A:戊 S:己 D:庚 F:辛 J:壬 K:癸 L:子 残り 1]|
+l^ =^|
+Ko_Ka_^ 0 12=[[注釈登録]] 甲: |
+Ko_Ka_^yo<ret> 0 12 annotated=[辞書登録] こ: ▼甲|annotated
+Ka_^Ki_^ 12 12=[[注釈登録]] 甲: |
+Ka_^Ki_<cj> 12 12 learned=[注釈登録] 甲: 甲|
+Ka_^Ki_<ret><tab> 12 12 disk annotated=▼甲|;*甲
+Ka_^Ko_ 12 0=[[辞書登録]] こ: |
+Ka_^Ko_lx<ret> 12 0 learned=[注釈登録] 甲: x|
+Ka_^Ko_lx<ret><ret> 12 0 learned annotated=▼甲|annotated
+A_I_U_E_O_A_I_Ka_^ 0 0 0 0 0 0 0 12=[[[[[[[[注釈登録]]]]]]]] 甲: |
+A_I_U_E_O_A_I_Ka_Ki_^ 0 0 0 0 0 0 0 0 12=[[[[[[[[辞書登録]]]]]]]] か: ▼甲|depth 8
+Ka_<cj>Ki_^yo<ret><cg><cg><undo> 12 learned 12 annotated restored=▼甲|undone
 ";
 
 // What a case has of a session.
@@ -427,7 +484,7 @@ fn case_text(rt: &impl Abort, alloc: Global, session: &Session) -> String {
 #[test]
 fn sessions_are_shown(rt: HostRuntime) {
     let alloc = rt.alloc();
-    same(CASES.lines().count(), 232).expect(&rt, "as wanted");
+    same(CASES.lines().count(), 275).expect(&rt, "as wanted");
     for case in CASES.lines().skip(1) {
         expect_case(&rt, alloc, case);
     }
@@ -483,8 +540,9 @@ fn expect_length<R: Abort>(rt: &R, alloc: Global, session: &Session, length: usi
     same((session.text().byte_len(), told.as_str()), (length, notice)).expect(rt, "as wanted");
 }
 
-// A word of more than 4,095 bytes stays in its registration, also where its last choice was learnt or refused.
-static REGISTERED: [(&str, &str, usize, &str); 4] = [
+// A word of more than 4,095 bytes stays in its registration, also where its last choice was learnt or refused; and a
+// note stays in its line that has more of them with its candidate's word and the `*`.
+static REGISTERED: [(&str, &str, usize, &str); 6] = [
     (
         "Ko_Ka_<cj>Ka_<ret>",
         "0 long learned long learned",
@@ -504,10 +562,22 @@ static REGISTERED: [(&str, &str, usize, &str); 4] = [
         4_095,
         "refused disk",
     ),
+    (
+        "Ka_^Ka_<cj>Ka_<cj><bs><bs><bs><bs><ret>",
+        "12 long learned long learned",
+        0,
+        "limit",
+    ),
+    (
+        "Ka_^Ka_<cj>Ka_<cj><bs><bs><bs><bs><bs><ret>",
+        "12 long learned long learned annotated",
+        0,
+        "annotated",
+    ),
 ];
 
 #[test]
-fn registered_words_have_a_limit(rt: HostRuntime) {
+fn registered_words_and_notes_have_a_limit(rt: HostRuntime) {
     for (keys, words, length, notice) in &REGISTERED {
         let session = session_after(&rt, rt.alloc(), keys, words);
         expect_length(&rt, rt.alloc(), &session, *length, notice);

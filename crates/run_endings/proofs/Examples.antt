@@ -52,7 +52,7 @@ ended_with_refusals = (refl, refl)
 
 -- what it is for the run that its learned dictionary was not opened, its status and its words
 unopened : map fault_of_opening (opening.Disk ∷ opening.NotJournal 0 80 ∷ opening.NotJournal 1 80
-    ∷ opening.BadRecord 0 17 [] ∷ opening.BadRecord 1 17 [] ∷ opening.Memory ∷ [])
+    ∷ opening.BadRecord 0 17 1 [] ∷ opening.BadRecord 1 17 2 [] ∷ opening.Memory ∷ [])
     ≡ Outside ∷ NotJournal 0 80 ∷ NotJournal 1 80 ∷ BadRecord 0 17 ∷ BadRecord 1 17 ∷ Memory ∷ []
 unopened = refl
 

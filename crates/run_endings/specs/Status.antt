@@ -123,5 +123,5 @@ fault_of_script scripts.Memory = Memory
 abbrev pub fault_of_opening : OpenFault → RunFault
 fault_of_opening opening.Disk = Outside
 fault_of_opening (opening.NotJournal file first) = NotJournal file first
-fault_of_opening (opening.BadRecord file at before) = BadRecord file at
+fault_of_opening (opening.BadRecord file at version before) = BadRecord file at
 fault_of_opening opening.Memory = Memory

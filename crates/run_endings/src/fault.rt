@@ -241,11 +241,7 @@ impl From<OpenFault> for RunFault {
         match fault {
             OpenFault::Disk => RunFault::Outside,
             OpenFault::NotJournal { file, first } => RunFault::NotJournal { file, first },
-            OpenFault::BadRecord {
-                file,
-                at,
-                before: _,
-            } => RunFault::BadRecord { file, at },
+            OpenFault::BadRecord { file, at, .. } => RunFault::BadRecord { file, at },
             OpenFault::Memory => RunFault::Memory,
         }
     }

@@ -1,4 +1,4 @@
--- No more registrations stand in one another than may be open.
+-- No more registrations and note lines stand in one another than may be open.
 use Rattle.std.specs.Bool.{⊤}
 use Rattle.std.proofs.Common.{◌≡◌, ◌≤◌, ◌-◌, ◌==◌, false, List, [], ◌∷◌, ◌++◌, length, length-append, length-take}
 use Rattle.std.proofs.Common.{arith, false-eqb, sym}
@@ -11,7 +11,7 @@ use Rattle.session_machine.specs.Registrations.{beyond, depth_limit, outside}
 use Rattle.session_machine.specs.Session.{Session}
 use Rattle.session_machine.proofs.Kept.{Keeps, all-kept}
 
--- a session is in so many registrations at most
+-- a session is in so many registrations and note lines at most
 abbrev pub Within : Session → Type 0
 Within session = length session.outer ≤ depth_limit
 
@@ -33,6 +33,7 @@ within-kept = record {
   completes = λ session prefix within. tt;
   learns = λ session key okuri cand within. tt;
   purges = λ session key word within. tt;
+  annotates = λ session key cand within. tt;
   unlearns = λ session choice learned within is was. tt;
   noticed = λ session notice within. within;
   stated = λ session state within. within;

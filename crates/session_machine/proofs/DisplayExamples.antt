@@ -21,7 +21,8 @@ use Rattle.session_machine.specs.declared.frame.Waiting.TheVariants as waits
 use Rattle.session_machine.specs.declared.session_notice.SessionNotice.{SessionNotice}
 use Rattle.session_machine.specs.declared.session_notice.SessionNotice.TheVariants.{Step, Refused, Purged, Unchanged}
 use Rattle.session_machine.specs.declared.session_notice.SessionNotice.TheVariants.{Undone, Overtaken, TooBig}
-use Rattle.session_machine.specs.declared.session_notice.SessionNotice.TheVariants.{StampsEnd, Depth}
+use Rattle.session_machine.specs.declared.session_notice.SessionNotice.TheVariants.{StampsEnd, Depth, Annotated}
+use Rattle.session_machine.specs.declared.session_notice.SessionNotice.TheVariants.{BadNote}
 use Rattle.session_machine.specs.Session.{Session}
 use Rattle.session_machine.specs.Display.{escaped, has_escape, printed_form, shown_characters, okuri_shown}
 use Rattle.session_machine.specs.Display.{reading_shown, question_shown, first_text, first_note, single_shown}
@@ -235,6 +236,20 @@ prompt_of_candidates : display (session (plain []) (record (outside []) {
 } ∷ []) (Step notices.Empty)) ≡ codes "[辞書登録] かんじ: "
 prompt_of_candidates = refl
 
+-- a note line that stands over a candidate of three
+abbrev noting : Mode → Conversion → OuterFrame
+noting mode conversion = record { text = []; mode = mode; waiting = waits.Note conversion; last_choice = None }
+
+-- the prompt has the brackets, the name and the candidate's text as it is shown, without okurigana and in any mode
+prompts_of_notes : map (λ frames. display (session (frame (codes "内") Kata (states.Reading (reading "か" None "")))
+    frames (Step notices.Empty)))
+    ((noting Hira (conversion None three 0 false) ∷ []) ∷ (noting Hira (conversion (begun "る") three 1 false) ∷ [])
+    ∷ (outside (codes "外") ∷ noting Kata (conversion None three 2 false) ∷ [])
+    ∷ (noting Hira (conversion None three 0 false) ∷ outside [] ∷ []) ∷ [])
+    ≡ codes "[注釈登録] 漢字: 内▽カ" ∷ codes "[注釈登録] 幹事: 内▽カ" ∷ codes "[[注釈登録]] ５かん: 内▽カ"
+    ∷ codes "[[辞書登録]] の: 内▽カ" ∷ []
+prompts_of_notes = refl
+
 -- so many line feeds as they are printed
 abbrev printed_feeds : ℕ → List ℕ
 printed_feeds zero = []
@@ -277,10 +292,11 @@ notices_told : map (λ (l : SessionNotice × FrameState). notice_text l.0 l.1) (
     ∷ (Refused Disk, picked three 1) ∷ (Purged, states.Plain [])
     ∷ (Unchanged, states.Plain []) ∷ (Undone, picked three 1) ∷ (Overtaken 0, picked three 1)
     ∷ (Overtaken 18, picked three 0) ∷ (TooBig 65537, picked three 1)
-    ∷ (StampsEnd, picked three 1) ∷ (Depth, picked three 1) ∷ [])
+    ∷ (StampsEnd, picked three 1) ∷ (Depth, picked three 1)
+    ∷ (Annotated, picked three 1) ∷ (BadNote, states.Plain []) ∷ [])
     ≡ [] ∷ [] ∷ codes ";宴会の" ∷ codes "limit" ∷ codes "no-candidate" ∷ codes "refused disk" ∷ codes "purged"
     ∷ codes "unchanged" ∷ codes "undone" ∷ codes "overtaken 0" ∷ codes "overtaken 18" ∷ codes "too-big 65537"
-    ∷ codes "stamps-end" ∷ codes "depth 8" ∷ []
+    ∷ codes "stamps-end" ∷ codes "depth 8" ∷ codes "annotated" ∷ codes "note" ∷ []
 unfolding digits
 notices_told = refl
 

@@ -19,7 +19,7 @@ use Rattle.skk_calls.specs.Interactions.{ends, asked, end_of}
 use Rattle.skk_calls.specs.Rows.{Cand, Learned, RowKey}
 use Rattle.reading_state.specs.Puts.{Reading}
 use Rattle.candidate_state.specs.Shown.{Shown}
-use Rattle.session_machine.specs.Answered.{reply_notice, answer_notice, learnt_by, says_purged}
+use Rattle.session_machine.specs.Answered.{reply_notice, answer_notice, learnt_by, says_annotated, says_purged}
 use Rattle.session_machine.specs.declared.frame.Choice.{Choice}
 use Rattle.session_machine.specs.declared.frame.Conversion.{Conversion}
 use Rattle.session_machine.specs.declared.frame.OuterFrame.{OuterFrame}
@@ -462,26 +462,31 @@ learned = record { book = 0; key = record { part = Nasi; reading = codes "あ" }
 
 replies_told : map reply_notice (replies.Found found ∷ replies.Readings [] ∷ replies.Learned learned ∷ replies.Purged
     ∷ replies.Unchanged ∷ replies.Restored
-    ∷ replies.Overtaken 9 ∷ replies.Overtaken 0 ∷ replies.TooBig 70000 ∷ replies.StampsEnd ∷ [])
+    ∷ replies.Overtaken 9 ∷ replies.Overtaken 0 ∷ replies.TooBig 70000 ∷ replies.StampsEnd ∷ replies.Annotated ∷ [])
     ≡ none ∷ none ∷ none ∷ told.Purged ∷ told.Unchanged ∷ told.Undone ∷ told.Overtaken 9 ∷ told.Overtaken 0
-    ∷ told.TooBig 70000 ∷ told.StampsEnd ∷ []
+    ∷ told.TooBig 70000 ∷ told.StampsEnd ∷ told.Annotated ∷ []
 replies_told = refl
 
 abbrev answers : List Answer
 answers =
     Done (replies.Learned learned) ∷ Done (replies.Found found) ∷ Done replies.Purged ∷ Done replies.Unchanged
-    ∷ Done replies.Restored ∷ Done (replies.TooBig 9) ∷ Done replies.StampsEnd ∷ Refused refusals.Disk ∷ []
+    ∷ Done replies.Restored ∷ Done (replies.TooBig 9) ∷ Done replies.StampsEnd ∷ Refused refusals.Disk
+    ∷ Done replies.Annotated ∷ []
 
 answers_told : map answer_notice answers
     ≡ none ∷ none ∷ told.Purged ∷ told.Unchanged ∷ told.Undone ∷ told.TooBig 9 ∷ told.StampsEnd
-    ∷ told.Refused refusals.Disk ∷ []
+    ∷ told.Refused refusals.Disk ∷ told.Annotated ∷ []
 answers_told = refl
 
-answers_learnt : map learnt_by answers ≡ Some learned ∷ None ∷ None ∷ None ∷ None ∷ None ∷ None ∷ None ∷ []
+answers_learnt : map learnt_by answers ≡ Some learned ∷ None ∷ None ∷ None ∷ None ∷ None ∷ None ∷ None ∷ None ∷ []
 answers_learnt = refl
 
-answers_purged : map says_purged answers ≡ false ∷ false ∷ true ∷ true ∷ false ∷ false ∷ false ∷ false ∷ []
+answers_purged : map says_purged answers ≡ false ∷ false ∷ true ∷ true ∷ false ∷ false ∷ false ∷ false ∷ false ∷ []
 answers_purged = refl
+
+answers_annotated : map says_annotated answers
+    ≡ false ∷ false ∷ false ∷ true ∷ false ∷ false ∷ false ∷ false ∷ true ∷ []
+answers_annotated = refl
 
 -- what is inserted for a candidate: its text and not its word, as it is, and the okurigana in the kana of a mode
 abbrev begun : List ℕ → Reading

@@ -17,7 +17,7 @@ use Rattle.skk_calls.specs.declared.answer.Reply.TheVariants as replies
 use Rattle.skk_calls.specs.Interactions.{ends, asks, prints, followed_by, Comes, Dialog}
 use Rattle.skk_calls.specs.Rows.{Cand, Learned, RowKey, is_word}
 use Rattle.skk_calls.specs.declared.call.Call.{Call}
-use Rattle.skk_calls.specs.declared.call.Call.TheVariants.{Lookup, Complete, Learn, Purge, Unlearn}
+use Rattle.skk_calls.specs.declared.call.Call.TheVariants.{Lookup, Complete, Learn, Purge, Annotate, Unlearn}
 use Rattle.skk_calls.specs.declared.part.Part.TheVariants.{Nasi}
 use Rattle.dict_laws.specs.OwnBooks.{AsksOnly}
 use Rattle.dict_laws.specs.OwnBookLaws.{only_followed}
@@ -58,13 +58,16 @@ use Rattle.session_machine.specs.ReadingParts.{number_key_of, registered_key}
 use Rattle.session_machine.specs.declared.first_words.FirstWords.{FirstWords}
 use Rattle.session_machine.specs.declared.first_words.FirstWords.TheVariants.{Words, Stopped}
 use Rattle.session_machine.specs.Meanings.{Meaning, becomes}
-use Rattle.session_machine.specs.Registrations.{back_in, cancelled, depth_limit, ended_in, innermost, outside}
-use Rattle.session_machine.specs.Registrations.{registered, registered_piece, registering, registration, returned}
-use Rattle.session_machine.specs.Registrations.{waiting_reading, beyond, waiting_state, with_word}
+use Rattle.session_machine.specs.Notes.{annotation, note_fits, noted}
+use Rattle.session_machine.specs.Registrations.{annotated, annotating, back_in, beyond, cancelled, depth_limit}
+use Rattle.session_machine.specs.Registrations.{ended_in, innermost, line_ended, note_ended, outside, registered}
+use Rattle.session_machine.specs.Registrations.{registered_piece, registering, registration, returned, state_noted}
+use Rattle.session_machine.specs.Registrations.{waiting_reading, waiting_state, with_word, word_ended}
 use Rattle.session_machine.specs.Pressed.{reading_piece, confirmed_effect, confirmed, reading_effect, reading_pressed}
 use Rattle.session_machine.specs.Pressed.{before_choice, unlearnt, undone, plain_effect, plain_pressed, of_candidate}
 use Rattle.session_machine.specs.Pressed.{choice_piece, after_learning, choice_effect, choosing, purging}
-use Rattle.session_machine.specs.Pressed.{picking_effect, picking_pressed, state_pressed, pressed, all_pressed}
+use Rattle.session_machine.specs.Pressed.{picking_effect, picking_pressed, picking_read, state_pressed, pressed}
+use Rattle.session_machine.specs.Pressed.{all_pressed}
 use Rattle.session_machine.specs.Pressed.{with_plain, learning}
 use Rattle.session_machine.specs.Session.{Session, choice_at, fits_behind, has_room, without_chars, with_piece}
 use Rattle.session_machine.specs.Session.{with_insertion, noting, before_key, telling, with_state, new_frame}
@@ -80,6 +83,8 @@ pub record Keeps (Asked : Call → Type 0) (Given : Answer → Type 0) (Holds : 
       → Asked (Learn session.book key okuri cand)
   pub purges : (session : Session) (key : RowKey) (word : List ℕ) → Holds session
       → Asked (Purge session.book key word)
+  pub annotates : (session : Session) (key : RowKey) (cand : Cand) → Holds session
+      → Asked (Annotate session.book key cand)
   pub unlearns : (session : Session) (choice : Choice) (learned : Learned) → Holds session
       → session.frame.last_choice ≡ Some choice → choice.learned ≡ Some learned → Asked (Unlearn learned)
   -- a notice, and another state or mode of the frame that takes the keys
@@ -95,7 +100,7 @@ pub record Keeps (Asked : Call → Type 0) (Given : Answer → Type 0) (Holds : 
       → Holds (with_text (with_choice session None) (without_chars count session.frame.text))
   pub chosen : (session : Session) (choice : Choice) (given : Answer) → choice.learned ≡ learnt_by given → Given given
       → Holds session → Holds (with_choice session (Some choice))
-  -- registrations
+  -- registrations and note lines
   pub opened : (session : Session) (waiting : Waiting) → (length session.outer == depth_limit) ≡ false → Holds session
       → Holds (record session { frame = new_frame; outer = session.outer ++ outside session.frame waiting ∷ [] })
   pub closed : (session : Session) (frame : OuterFrame) → innermost session.outer ≡ Some frame → Holds session
@@ -130,7 +135,7 @@ module _ {Asked : Call → Type 0} {Given : Answer → Type 0} {Holds : Session 
       keeps.noticed (with_state session (states.Reading reading)) (told.Refused refusal)
       (keeps.stated session (states.Reading reading) holds)
 
-  -- Registrations
+  -- Registrations and note lines
 
   cancelled-kept : (session : Session) → Holds session → Holds (cancelled session)
   cancelled-kept session holds = grind (arith, holds, keeps.closed session)
@@ -145,9 +150,9 @@ module _ {Asked : Call → Type 0} {Given : Answer → Type 0} {Holds : Session 
             (keeps.stated session (waiting_state waiting) holds),
       )
 
-  ended-kept : (session : Session) (frame : OuterFrame) → innermost session.outer ≡ Some frame → Holds session
-      → Kept (ended_in session frame)
-  ended-kept session frame is holds =
+  word-kept : (session : Session) (frame : OuterFrame) → innermost session.outer ≡ Some frame → Holds session
+      → Kept (word_ended session frame)
+  word-kept session frame is holds =
       grind (arith, keeps.closed session frame is holds, learnt, noted-kept session notices.Limit holds)
     where
       word : List ℕ
@@ -168,6 +173,47 @@ module _ {Asked : Call → Type 0} {Given : Answer → Type 0} {Holds : Session 
             (answer_notice answer)
             (keeps.ended session frame piece is (and_parts (is_word word) (fits_behind frame.text piece) e).1 holds),
       )
+
+  annotating-kept : (session : Session) (frame : OuterFrame) (shown : Shown)
+      → innermost session.outer ≡ Some frame → Holds session → Kept (annotating session frame shown)
+  annotating-kept session frame shown is holds =
+      grind (arith, asked, noted-kept session notices.Limit holds)
+    where
+      text : List ℕ
+      text = session.frame.text
+
+      cand : Cand
+      cand = noted shown.cand text
+
+      asked : note_fits shown.cand text ≡ true
+          → Kept (asks (annotation session.book shown.key shown.cand text)
+          (λ answer. becomes (annotated session frame cand answer)))
+      asked e = (
+        keeps.annotates session shown.key cand holds,
+        λ answer given. keeps.noticed
+            (with_state (back_in session frame) (state_noted frame.waiting cand answer)) (answer_notice answer)
+            (keeps.stated (back_in session frame) (state_noted frame.waiting cand answer)
+            (keeps.closed session frame is holds)),
+      )
+
+  note-kept : (session : Session) (frame : OuterFrame) (conversion : Conversion)
+      → innermost session.outer ≡ Some frame → Holds session → Kept (note_ended session frame conversion)
+  note-kept session frame conversion is holds =
+      grind (
+        arith,
+        keeps.closed session frame is holds,
+        λ (shown : Shown). annotating-kept session frame shown is holds,
+        keeps.noticed session told.BadNote holds,
+      )
+
+  line-kept : (session : Session) (frame : OuterFrame) (waiting : Waiting) → innermost session.outer ≡ Some frame
+      → Holds session → Kept (line_ended session frame waiting)
+  line-kept session frame (waits.Note conversion) is holds = note-kept session frame conversion is holds
+  line-kept session frame waiting is holds = word-kept session frame is holds
+
+  ended-kept : (session : Session) (frame : OuterFrame) → innermost session.outer ≡ Some frame → Holds session
+      → Kept (ended_in session frame)
+  ended-kept session frame is holds = line-kept session frame frame.waiting is holds
 
   returned-kept : (session : Session) → Holds session → Kept (returned session)
   returned-kept session holds =
@@ -422,12 +468,21 @@ module _ {Asked : Call → Type 0} {Given : Answer → Type 0} {Holds : Session 
       candidate-kept session conversion place (choosing rules session conversion effect) holds
       (λ shown. choosing-kept rules session conversion effect shown holds)
 
-  picking-kept : (rules : List Rule) (session : Session) (conversion : Conversion) (key : Key) → Holds session
-      → Kept (picking_pressed rules session conversion key)
-  picking-kept rules session conversion key holds =
+  picking-read-kept : (rules : List Rule) (session : Session) (conversion : Conversion) (key : Key) → Holds session
+      → Kept (picking_read rules session conversion key)
+  picking-read-kept rules session conversion key holds =
       let step = picking_step conversion.picking key in
       picking-effect-kept rules session (record { reading = conversion.reading; picking = step.picking }) step.done
       holds
+
+  picking-kept : (rules : List Rule) (session : Session) (conversion : Conversion) (key : Key) → Holds session
+      → Kept (picking_pressed rules session conversion key)
+  picking-kept rules session conversion key holds =
+      grind (
+        arith,
+        registering-kept session (waits.Note conversion) holds,
+        picking-read-kept rules session conversion key holds,
+      )
 
   -- Keys
 

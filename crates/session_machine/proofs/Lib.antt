@@ -6,6 +6,8 @@ mod Examples
 mod Forms
 mod Kept
 mod Limits
+mod NoteExamples
+mod NoteParts
 mod NumberReadings
 mod OwnExamples
 mod OwnKept

@@ -63,6 +63,7 @@ fits-kept = record {
   completes = λ session prefix fits. tt;
   learns = λ session key okuri cand fits. tt;
   purges = λ session key word fits. tt;
+  annotates = λ session key cand fits. tt;
   unlearns = λ session choice learned fits is was. tt;
   noticed = λ session notice fits. fits;
   stated = λ session state fits. fits;

@@ -50,6 +50,7 @@ module _ (typist : ℕ) where
     completes = λ session prefix own. eq-eqb session.typist typist own.0;
     learns = λ session key okuri cand own. eq-eqb session.book typist own.1;
     purges = λ session key word own. eq-eqb session.book typist own.1;
+    annotates = λ session key cand own. eq-eqb session.book typist own.1;
     unlearns = λ session choice learned own is was.
         ap (is_own_learning typist) (sym was) ∙ ap (is_own_choice typist) (sym is) ∙ own.2;
     noticed = λ session notice own. own;

@@ -30,15 +30,15 @@ use Rattle.session_machine.proofs.Examples.{rules, after, at, none, plain, readi
 use Rattle.session_machine.proofs.Examples.{choice, chosen, unfinished}
 
 -- a frame outside, with a text and a mode, which waits
-abbrev outer : List ℕ → Mode → Waiting → OuterFrame
+abbrev pub outer : List ℕ → Mode → Waiting → OuterFrame
 outer text mode waiting = record { text = text; mode = mode; waiting = waiting; last_choice = None }
 
 -- a session in a registration, with its text, its mode and its state, inside these frames
-abbrev inside : List OuterFrame → List ℕ → Mode → FrameState → SessionNotice → Session
+abbrev pub inside : List OuterFrame → List ℕ → Mode → FrameState → SessionNotice → Session
 inside frames text mode state notice = record (at text mode state notice) { outer = frames }
 
 -- a frame that waits for a word of あ, found nowhere
-abbrev waits_a : OuterFrame
+abbrev pub waits_a : OuterFrame
 waits_a = outer (codes "x") Kata (waits.Reading (reading (codes "あ") []))
 
 abbrev learned : Answer
@@ -49,13 +49,13 @@ learned = Done (replies.Learned (record {
   before = None;
 }))
 
-abbrev lacking : Answer
+abbrev pub lacking : Answer
 lacking = Refused refusals.Memory
 
 -- Opening
 
 -- so many frames outside
-abbrev nested : ℕ → List OuterFrame
+abbrev pub nested : ℕ → List OuterFrame
 nested zero = []
 nested (suc n) = waits_a ∷ nested n
 

@@ -1,6 +1,6 @@
 -- What a caller has said where nothing was asked, and where one thing was asked behind another.
 use Rattle.std.proofs.Common.{◌≡◌, ◌∙◌, sym, ap, refl, ℕ, slice_get, Result, Ok, Err, Some, List, [], ◌∷◌, true}
-use Rattle.std.proofs.Common.{◌++◌, IfOk, OnErr, IsErrAnd, append_assoc, rules, subst}
+use Rattle.std.proofs.Common.{◌++◌, IfOk, OnOk, OnErr, IsErrAnd, append_assoc, rules, subst}
 use Rattle.skk_text.specs.declared.memory.Memory.{Memory}
 use Rattle.std.proofs.lemmas.List.{append-nil}
 use Rattle.skk_calls.specs.declared.answer.Answer.{Answer}
@@ -157,6 +157,12 @@ says-choosing rules session conversion place behind shown piece result before af
 
     fits : choosing rules session conversion behind shown ≡ learning rules session conversion piece behind shown
     fits = rw (sym is, room) refl
+
+-- a session is what a call leaves of it where it stands, unless memory is out
+pub says-put : (session : Session) (result : Result (Unit {0}) Memory) (left : Session) (caller : Spoken)
+    → OnOk result (left ≡ session) → Says (becomes session) (after result left) caller caller
+says-put session (Ok unit) left caller is = says-end (becomes session) left caller (ap becomes (sym is))
+says-put session (Err memory) left caller is = says-memory (becomes session) memory caller
 
 -- what follows an interaction that came to its end is said behind it
 pub says-behind : {S T : Type 0} (interaction : Interaction S) (behind : S → Interaction T) (end : S)

@@ -106,6 +106,24 @@ pub depth : chars (codes "depth 8") ≡ codes "depth 8"
 unfolding chars
 depth = refl
 
+pub registration : chars (232 ∷ 190 ∷ 158 ∷ 230 ∷ 155 ∷ 184 ∷ 231 ∷ 153 ∷ 187 ∷ 233 ∷ 140 ∷ 178 ∷ [])
+    ≡ codes "辞書登録"
+unfolding chars
+registration = refl
+
+pub note_line : chars (230 ∷ 179 ∷ 168 ∷ 233 ∷ 135 ∷ 136 ∷ 231 ∷ 153 ∷ 187 ∷ 233 ∷ 140 ∷ 178 ∷ [])
+    ≡ codes "注釈登録"
+unfolding chars
+note_line = refl
+
+pub annotated : chars (codes "annotated") ≡ codes "annotated"
+unfolding chars
+annotated = refl
+
+pub bad_note : chars (codes "note") ≡ codes "note"
+unfolding chars
+bad_note = refl
+
 pub ruleset words = (
   hira,
   kata,
@@ -133,4 +151,8 @@ pub ruleset words = (
   too_big,
   stamps_end,
   depth,
+  registration,
+  note_line,
+  annotated,
+  bad_note,
 )

@@ -15,6 +15,7 @@ reply_notice (replies.Found cands) = no_notice
 reply_notice (replies.Readings readings) = no_notice
 reply_notice (replies.Learned learned) = no_notice
 reply_notice replies.Purged = told.Purged
+reply_notice replies.Annotated = told.Annotated
 reply_notice replies.Unchanged = told.Unchanged
 reply_notice replies.Restored = told.Undone
 reply_notice (replies.Overtaken stamp) = told.Overtaken stamp
@@ -36,3 +37,9 @@ abbrev pub says_purged : Answer → Bool
 says_purged (Done replies.Purged) = true
 says_purged (Done replies.Unchanged) = true
 says_purged answer = false
+
+-- an answer says that a candidate has a note: it was annotated, or it had that note
+abbrev pub says_annotated : Answer → Bool
+says_annotated (Done replies.Annotated) = true
+says_annotated (Done replies.Unchanged) = true
+says_annotated answer = false

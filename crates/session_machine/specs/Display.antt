@@ -24,6 +24,8 @@ use Rattle.session_machine.specs.declared.frame.FrameState.TheVariants as states
 use Rattle.session_machine.specs.declared.session_notice.SessionNotice.{SessionNotice}
 use Rattle.session_machine.specs.declared.session_notice.SessionNotice.TheVariants as told
 use Rattle.session_machine.specs.declared.frame.OuterFrame.{OuterFrame}
+use Rattle.session_machine.specs.declared.frame.Waiting.{Waiting}
+use Rattle.session_machine.specs.declared.frame.Waiting.TheVariants as waits
 use Rattle.session_machine.specs.ReadingParts.{kana_begun, registered_text}
 use Rattle.session_machine.specs.Registrations.{innermost, waiting_reading}
 use Rattle.session_machine.specs.Session.{Session, text_of}
@@ -111,15 +113,30 @@ state_shown mode (states.Picking conversion) = picking_shown mode conversion
 abbrev pub frame_shown : Frame → List ℕ
 frame_shown frame = last_chars shown_characters frame.text ++ state_shown frame.mode frame.state
 
--- the prompt of a registration: as many brackets around its name as there are registrations, and the reading that a
--- word is waited for, as it is learnt, with its okurigana in the kana of the mode outside
+-- the name of a line that is typed inside a frame: a registration, or a note line
+abbrev pub prompt_name : Waiting → List ℕ
+prompt_name (waits.Note conversion) = codes "注釈登録"
+prompt_name waiting = codes "辞書登録"
+
+-- the reading that a word is waited for, as it is learnt, with its okurigana in the kana of a mode
+abbrev pub reading_asked : Mode → Reading → List ℕ
+reading_asked mode reading = in_kana_of mode (registered_text reading) ++ okuri_shown mode reading.okuri
+
+-- what a line that is typed inside a frame is for: the reading that a word is waited for, or the text of the candidate
+-- that a note is
+abbrev pub prompt_text : Mode → Waiting → List ℕ
+prompt_text mode (waits.Note conversion) = first_text (drop conversion.picking.place conversion.picking.shown)
+prompt_text mode waiting = reading_asked mode (waiting_reading waiting)
+
+-- the prompt of a registration or a note line: as many brackets around its name as there are of both, and what it is
+-- for
 abbrev pub prompt : ℕ → OuterFrame → List ℕ
 prompt depth frame =
-    let reading = waiting_reading frame.waiting in
-    repeat depth (codes "[") ++ codes "辞書登録" ++ repeat depth (codes "]") ++ codes " "
-    ++ in_kana_of frame.mode (registered_text reading) ++ okuri_shown frame.mode reading.okuri ++ codes ": "
+    repeat depth (codes "[") ++ prompt_name frame.waiting ++ repeat depth (codes "]") ++ codes " "
+    ++ prompt_text frame.mode frame.waiting ++ codes ": "
 
--- the display of a session, as it is printed: the prompt of its innermost registration, and the innermost frame
+-- the display of a session, as it is printed: the prompt of its innermost registration or note line, and the innermost
+-- frame
 abbrev pub display : Session → List ℕ
 display session =
     let prompted = option_map_or (prompt (length session.outer)) (innermost session.outer) [] in
@@ -168,12 +185,14 @@ notice_text (told.Step notices.Empty) state = state_note state
 notice_text (told.Step notice) state = step_text notice
 notice_text (told.Refused refusal) state = refusal_text refusal
 notice_text told.Purged state = codes "purged"
+notice_text told.Annotated state = codes "annotated"
 notice_text told.Unchanged state = codes "unchanged"
 notice_text told.Undone state = codes "undone"
 notice_text (told.Overtaken stamp) state = codes "overtaken " ++ decimal stamp
 notice_text (told.TooBig length) state = codes "too-big " ++ decimal length
 notice_text told.StampsEnd state = codes "stamps-end"
 notice_text told.Depth state = codes "depth 8"
+notice_text told.BadNote state = codes "note"
 
 -- the notice of a session, as it is printed
 abbrev pub notice : Session → List ℕ

@@ -3,6 +3,7 @@ pub mod Converted
 pub mod Display
 pub mod Meanings
 pub mod NextAsked
+pub mod Notes
 pub mod OwnSessions
 pub mod Pressed
 pub mod ReadingParts

@@ -39,6 +39,7 @@ use Rattle.session_machine.specs.declared.frame.FrameState.TheVariants as states
 use Rattle.session_machine.specs.declared.session_notice.SessionNotice.TheVariants as told
 use Rattle.session_machine.specs.declared.frame.Waiting.TheVariants as waits
 use Rattle.session_machine.specs.Meanings.{Meaning, becomes}
+use Rattle.session_machine.specs.Notes.{opens_note}
 use Rattle.session_machine.specs.ReadingParts.{kana_begun}
 use Rattle.session_machine.specs.Registrations.{cancelled, registering, returned}
 use Rattle.session_machine.specs.Session.{Session, with_state, with_text, with_mode, with_choice, choice_at}
@@ -199,11 +200,17 @@ picking_effect rules session conversion cands.Purge =
 picking_effect rules session conversion (cands.Choose place behind) =
     of_candidate session conversion place (choosing rules session conversion behind)
 
--- what a key comes to where candidates are shown
-abbrev pub picking_pressed : List Rule → Session → Conversion → Key → Meaning
-picking_pressed rules session conversion key =
+-- what a key comes to that the candidate state reads
+abbrev pub picking_read : List Rule → Session → Conversion → Key → Meaning
+picking_read rules session conversion key =
     let step = picking_step conversion.picking key in
     picking_effect rules session (record { reading = conversion.reading; picking = step.picking }) step.done
+
+-- what a key comes to where candidates are shown: a note line opens, or the candidate state reads it
+abbrev pub picking_pressed : List Rule → Session → Conversion → Key → Meaning
+picking_pressed rules session conversion key =
+    if opens_note conversion.picking key then becomes (registering session (waits.Note conversion))
+    else picking_read rules session conversion key
 
 -- Keys
 

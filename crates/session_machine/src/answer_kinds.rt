@@ -27,6 +27,10 @@ fn may_reply(call: &Call, reply: &Reply) -> bool
             Call::Purge { .. },
             Reply::Purged | Reply::Unchanged | Reply::TooBig(_) | Reply::StampsEnd,
         ) => true,
+        (
+            Call::Annotate { .. },
+            Reply::Annotated | Reply::Unchanged | Reply::TooBig(_) | Reply::StampsEnd,
+        ) => true,
         (Call::Unlearn { .. }, Reply::Restored | Reply::Overtaken(_)) => true,
         _ => false,
     }

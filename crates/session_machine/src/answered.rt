@@ -1,5 +1,6 @@
 ghost use Rattle.std.specs.Prelude.{◌≡◌};
-ghost use Rattle.session_machine.specs.Answered.{answer_notice, learnt_by, reply_notice, says_purged};
+ghost use Rattle.session_machine.specs.Answered.{answer_notice, learnt_by, reply_notice, says_annotated};
+ghost use Rattle.session_machine.specs.Answered.{says_purged};
 ghost use Rattle.session_machine.specs.Converted.{found_by};
 
 use crate::session_notice::SessionNotice;
@@ -25,6 +26,7 @@ fn reply_notice(reply: &Reply) -> SessionNotice
             Notice::Empty,
         ),
         Reply::Purged => SessionNotice::Purged,
+        Reply::Annotated => SessionNotice::Annotated,
         Reply::Unchanged => SessionNotice::Unchanged,
         Reply::Restored => SessionNotice::Undone,
         Reply::Overtaken(stamp) => SessionNotice::Overtaken(*stamp),
@@ -48,6 +50,13 @@ pub(crate) fn says_purged(answer: &Answer) -> bool
     ensures { result ≡ says_purged answer.now }
 {
     matches!(answer, Answer::Done(Reply::Purged | Reply::Unchanged))
+}
+
+// Whether an answer says that a candidate has a note.
+pub(crate) fn says_annotated(answer: &Answer) -> bool
+    ensures { result ≡ says_annotated answer.now }
+{
+    matches!(answer, Answer::Done(Reply::Annotated | Reply::Unchanged))
 }
 
 // The candidates that an answer found; or else the refusal, where it is one.

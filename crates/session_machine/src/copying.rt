@@ -57,6 +57,7 @@ impl Copies for Waiting {
         match self {
             Waiting::Reading(reading) => Ok(Waiting::Reading(reading.copy(alloc)?)),
             Waiting::Picking(conversion) => Ok(Waiting::Picking(conversion.copy(alloc)?)),
+            Waiting::Note(conversion) => Ok(Waiting::Note(conversion.copy(alloc)?)),
         }
     }
 }
@@ -137,6 +138,11 @@ pub fn copy_call(alloc: Global, call: &Call) -> Result<Call, Memory>
             key: key.copy(alloc)?,
             word: word.copy(alloc)?,
         }),
+        Call::Annotate { book, key, cand } => Ok(Call::Annotate {
+            book: *book,
+            key: key.copy(alloc)?,
+            cand: cand.copy(alloc)?,
+        }),
         Call::Unlearn { learned } => Ok(Call::Unlearn {
             learned: copy_learned(alloc, learned)?,
         }),
@@ -164,6 +170,7 @@ fn copy_reply(alloc: Global, reply: &Reply) -> Result<Reply, Memory>
         Reply::Purged => Ok(Reply::Purged),
         Reply::Unchanged => Ok(Reply::Unchanged),
         Reply::Restored => Ok(Reply::Restored),
+        Reply::Annotated => Ok(Reply::Annotated),
         Reply::Overtaken(stamp) => Ok(Reply::Overtaken(*stamp)),
         Reply::TooBig(length) => Ok(Reply::TooBig(*length)),
         Reply::StampsEnd => Ok(Reply::StampsEnd),

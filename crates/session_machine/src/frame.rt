@@ -1,16 +1,19 @@
 ghost use Rattle.std.specs.Prelude.{◌≡◌, ◌≢◌, [], IfOk};
-ghost use Rattle.session_machine.specs.Registrations.{as_before, outside, waiting_reading, waiting_state, with_word};
+ghost use Rattle.session_machine.specs.Notes.{after_annotation};
+ghost use Rattle.session_machine.specs.Registrations.{as_before, outside, state_noted, waiting_reading, waiting_state};
+ghost use Rattle.session_machine.specs.Registrations.{with_word};
 ghost use Rattle.session_machine.specs.Session.{new_frame};
 
+use crate::answered::says_annotated;
 use crate::headword::Headword;
 use candidate_state::Picking;
 use reading_state::Reading;
 use romaji_rules::Pending;
-use skk_calls::Learned;
+use skk_calls::{Answer, Cand, Learned};
 use skk_text::{Memory, Mode, Text};
 use std::alloc::Global;
 
-/// A text that keys are typed into: the typist's line, or a word that is being registered.
+/// A text that keys are typed into: the typist's line, a word that is being registered, or a note.
 pub struct Frame {
     pub text: Text,
     pub mode: Mode,
@@ -85,7 +88,8 @@ impl Drop for Choice {
     }
 }
 
-/// A frame outside a registration (辞書登録), which waits for the word of its reading.
+/// A frame outside a registration (辞書登録) or a note line (注釈登録), which waits for the word of its reading or for the
+/// note of its candidate.
 pub struct OuterFrame {
     pub text: Text,
     pub mode: Mode,
@@ -105,13 +109,15 @@ impl Drop for OuterFrame {
     }
 }
 
-/// What a registration was opened for, and what stands there again where it is cancelled.
+/// What a registration or a note line was opened for, and what stands there again where it is cancelled.
 #[derive(Drop)]
 pub enum Waiting {
     /// ▽: no candidate was found for the reading.
     Reading(Headword),
     /// ▼: none of the candidates was chosen.
     Picking(Conversion),
+    /// ▼: the candidate that is picked gets a note.
+    Note(Conversion),
 }
 
 impl Frame {
@@ -166,6 +172,25 @@ impl OuterFrame {
         }
     }
 
+    // The frame as it was before it waited for the note of a candidate, which has it as the answer to its annotation
+    // says.
+    pub(crate) fn with_note(self, alloc: Global, cand: Cand, answer: &Answer) -> Frame
+        ensures { result ≡ record (as_before self) { state = state_noted self.waiting cand answer.now } }
+    {
+        let OuterFrame {
+            text,
+            mode,
+            waiting,
+            last_choice,
+        } = self;
+        Frame {
+            text,
+            mode,
+            state: waiting.into_noted(alloc, cand, answer),
+            last_choice,
+        }
+    }
+
     // The frame with the piece of its word inserted, for which it waits no more. Nothing is chosen last then.
     pub(crate) fn with_word(self, piece: &Text) -> Result<Frame, Memory>
         ensures { IfOk result (λ frame. frame ≡ with_word self piece.now) }
@@ -196,6 +221,21 @@ impl Conversion {
         drop(picking);
         reading.into_reading()
     }
+
+    // The candidates behind the answer to an annotation: the one that is picked has its new note, unless that was
+    // refused.
+    fn annotated(self, alloc: Global, cand: Cand, answer: &Answer) -> Conversion
+        ensures { result ≡ after_annotation self cand answer.now }
+    {
+        let Conversion {
+            reading,
+            mut picking,
+        } = self;
+        if says_annotated(answer) {
+            picking.annotate(alloc, cand);
+        }
+        Conversion { reading, picking }
+    }
 }
 
 impl Choice {
@@ -215,22 +255,39 @@ impl Choice {
 }
 
 impl Waiting {
-    // The reading that a word is waited for.
+    // The reading that a word is waited for, or for whose candidate a note is.
     pub(crate) fn reading(&self) -> &Reading
         ensures value { result.now ≡ waiting_reading self.now }
         ensures some { (waiting_reading self.now).text ≢ [] }
     {
         match self {
             Waiting::Reading(reading) => reading.reading(),
-            Waiting::Picking(conversion) => conversion.reading.reading(),
+            Waiting::Picking(conversion) | Waiting::Note(conversion) => {
+                conversion.reading.reading()
+            }
         }
     }
 
-    // The state that stands there once no word is waited for.
+    // The state that stands there once nothing is waited for.
     pub(crate) fn into_state(self) -> FrameState
         ensures { result ≡ waiting_state self }
     {
         match self {
+            Waiting::Reading(reading) => FrameState::Reading(reading.into_reading()),
+            Waiting::Picking(conversion) | Waiting::Note(conversion) => {
+                FrameState::Picking(conversion)
+            }
+        }
+    }
+
+    // The state that stands there once the annotation of a candidate was answered.
+    fn into_noted(self, alloc: Global, cand: Cand, answer: &Answer) -> FrameState
+        ensures { result ≡ state_noted self cand answer.now }
+    {
+        match self {
+            Waiting::Note(conversion) => {
+                FrameState::Picking(conversion.annotated(alloc, cand, answer))
+            }
             Waiting::Reading(reading) => FrameState::Reading(reading.into_reading()),
             Waiting::Picking(conversion) => FrameState::Picking(conversion),
         }

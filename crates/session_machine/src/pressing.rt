@@ -1,9 +1,10 @@
 ghost use Rattle.std.specs.Prelude.{◌≡◌, ◌≢◌, ◌<◌, ℕ, [], length, IfOk};
 ghost use Rattle.reading_state.specs.declared.reading_do.ReadingThen.TheVariants as effects;
 ghost use Rattle.session_machine.specs.Pressed.{pressed, plain_pressed, plain_typed, plain_effect, reading_pressed};
-ghost use Rattle.session_machine.specs.Pressed.{reading_effect, picking_pressed, picking_effect};
+ghost use Rattle.session_machine.specs.Pressed.{reading_effect, picking_pressed, picking_read, picking_effect};
 ghost use Rattle.session_machine.specs.Said.{Says, after, spoken};
 
+use crate::annotating::opens_note;
 use crate::choosing::choose;
 use crate::completing::complete;
 use crate::confirming::confirm;
@@ -171,6 +172,25 @@ fn press_in_picking<C: Caller>(
     caller: &mut C,
 ) -> Result<(), Memory>
     ensures { Says (picking_pressed rules.now session.old conversion key) (after result session.new)
+        (spoken C.number C.said caller.old) (spoken C.number C.said caller.new) }
+{
+    if opens_note(&conversion.picking, key) {
+        return register(session, alloc, Waiting::Note(conversion));
+    }
+    read_in_picking(session, alloc, rules, conversion, key, caller)
+}
+
+// Gives a key to the candidates that opens no note line.
+#[tactic(auto, using(crate::proofs::Saying::says))]
+fn read_in_picking<C: Caller>(
+    session: &mut Session,
+    alloc: Global,
+    rules: &Rules,
+    conversion: Conversion,
+    key: Key,
+    caller: &mut C,
+) -> Result<(), Memory>
+    ensures { Says (picking_read rules.now session.old conversion key) (after result session.new)
         (spoken C.number C.said caller.old) (spoken C.number C.said caller.new) }
 {
     let mut conversion = conversion;

@@ -12,13 +12,14 @@ ghost use Rattle.skk_calls.specs.declared.answer.Refusal.TheVariants as refusals
 ghost use Rattle.candidate_state.specs.Picking.{page_size};
 ghost use Rattle.session_machine.specs.Display.{display, first_note, first_text, indicator, lettered, line, note_text};
 ghost use Rattle.session_machine.specs.Display.{notice, okuri_shown, page_letters, page_shown, picking_shown};
-ghost use Rattle.session_machine.specs.Display.{printed_form, prompt, question_shown, reading_shown, refusal_text};
-ghost use Rattle.session_machine.specs.Display.{single_shown, state_note, state_shown, step_text};
+ghost use Rattle.session_machine.specs.Display.{printed_form, prompt, prompt_name, prompt_text, question_shown};
+ghost use Rattle.session_machine.specs.Display.{reading_asked, reading_shown, refusal_text, single_shown, state_note};
+ghost use Rattle.session_machine.specs.Display.{state_shown, step_text};
 ghost use Rattle.session_machine.specs.ReadingParts.{kana_begun};
 ghost use Rattle.session_machine.specs.Registrations.{innermost};
 
 use crate::escaping::push_printed;
-use crate::frame::{Conversion, FrameState, OuterFrame};
+use crate::frame::{Conversion, FrameState, OuterFrame, Waiting};
 use crate::kana::in_kana_of;
 use crate::reading_parts::registered_text;
 use crate::session::Session;
@@ -60,7 +61,7 @@ pub(crate) fn push_display(alloc: Global, page: &mut Text, session: &Session) ->
     push_state(alloc, page, frame.mode, &frame.state)
 }
 
-// Adds the prompt of the innermost registration, where there is one.
+// Adds the prompt of the innermost registration or note line, where there is one.
 fn push_prompt(alloc: Global, page: &mut Text, outer: &[OuterFrame]) -> Result<(), Memory>
     ensures ok { OnOk result (page.new ≡ page.old
         ++ printed_form (option_map_or (prompt (length outer.now)) (innermost outer.now) [])) }
@@ -70,13 +71,57 @@ fn push_prompt(alloc: Global, page: &mut Text, outer: &[OuterFrame]) -> Result<(
         return Ok(());
     };
     push_brackets(alloc, page, "[", outer.len())?;
-    page.push_str("辞書登録")?;
+    page.push_str(prompt_name(&frame.waiting))?;
     push_brackets(alloc, page, "]", outer.len())?;
     page.push(' ')?;
-    let reading = frame.waiting.reading();
-    push_kana(alloc, page, frame.mode, &registered_text(alloc, reading)?)?;
-    push_okuri(alloc, page, frame.mode, reading)?;
+    push_prompt_text(alloc, page, frame.mode, &frame.waiting)?;
     page.push_str(": ")
+}
+
+// The name of a line that is typed inside a frame.
+#[tactic(auto, using(crate::proofs::Words::words))]
+fn prompt_name(waiting: &Waiting) -> &'static str
+    ensures { chars result.now ≡ printed_form (prompt_name waiting.now) }
+{
+    match waiting {
+        Waiting::Reading(_) | Waiting::Picking(_) => "辞書登録",
+        Waiting::Note(_) => "注釈登録",
+    }
+}
+
+// Adds what a line that is typed inside a frame is for.
+fn push_prompt_text(
+    alloc: Global,
+    page: &mut Text,
+    mode: Mode,
+    waiting: &Waiting,
+) -> Result<(), Memory>
+    ensures ok { OnOk result (page.new ≡ page.old ++ printed_form (prompt_text mode waiting.now)) }
+    ensures kept { StartsWith page.new page.old }
+{
+    match waiting {
+        Waiting::Reading(_) | Waiting::Picking(_) => {
+            push_reading_asked(alloc, page, mode, waiting.reading())
+        }
+        Waiting::Note(conversion) => push_printed(
+            page,
+            picked_cand(&conversion.picking).text.as_str(),
+        ),
+    }
+}
+
+// Adds the reading that a word is waited for, as it is learnt, with its okurigana.
+fn push_reading_asked(
+    alloc: Global,
+    page: &mut Text,
+    mode: Mode,
+    reading: &Reading,
+) -> Result<(), Memory>
+    ensures ok { OnOk result (page.new ≡ page.old ++ printed_form (reading_asked mode reading.now)) }
+    ensures kept { StartsWith page.new page.old }
+{
+    push_kana(alloc, page, mode, &registered_text(alloc, reading)?)?;
+    push_okuri(alloc, page, mode, reading)
 }
 
 // Adds a bracket so many times.
@@ -270,12 +315,14 @@ pub(crate) fn push_notice(page: &mut Text, session: &Session) -> Result<(), Memo
         SessionNotice::Step(notice) => page.push_str(step_text(notice)),
         SessionNotice::Refused(refusal) => push_refusal(page, refusal),
         SessionNotice::Purged => page.push_str("purged"),
+        SessionNotice::Annotated => page.push_str("annotated"),
         SessionNotice::Unchanged => page.push_str("unchanged"),
         SessionNotice::Undone => page.push_str("undone"),
         SessionNotice::Overtaken(stamp) => push_numbered(page, "overtaken ", stamp),
         SessionNotice::TooBig(length) => push_numbered(page, "too-big ", length),
         SessionNotice::StampsEnd => page.push_str("stamps-end"),
         SessionNotice::Depth => page.push_str("depth 8"),
+        SessionNotice::BadNote => page.push_str("note"),
     }
 }
 

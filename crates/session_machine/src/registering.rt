@@ -8,10 +8,10 @@ use skk_text::Memory;
 use std::alloc::Global;
 use std::mem;
 
-/// The most registrations that are open at once, each inside the one before it.
+/// The most registrations and note lines that are open at once, each inside the one before it.
 const DEPTH_LIMIT: usize = 8;
 
-// Opens a registration for what waits, unless there are as many as there may be: then that stays.
+// Opens a registration or a note line for what waits, unless there are as many as there may be: then that stays.
 pub(crate) fn register(session: &mut Session, alloc: Global, waiting: Waiting) -> Result<(), Memory>
     ensures { OnOk result (session.new ≡ registering session.old waiting) }
 {
@@ -25,7 +25,8 @@ pub(crate) fn register(session: &mut Session, alloc: Global, waiting: Waiting) -
     Ok(())
 }
 
-// Cancels the innermost registration, where there is one: what is inside goes, and what waited stands there again.
+// Cancels the innermost registration or note line, where there is one: what is inside goes, and what waited stands
+// there again.
 pub(crate) fn cancel(session: &mut Session)
     ensures { session.new ≡ cancelled session.old }
 {

@@ -10,7 +10,9 @@ pub enum SessionNotice {
     Refused(Refusal),
     /// The word was purged.
     Purged,
-    /// The purge would have changed nothing.
+    /// The candidate was annotated.
+    Annotated,
+    /// The purge or the annotation would have changed nothing.
     Unchanged,
     /// What was chosen last was taken back.
     Undone,
@@ -21,6 +23,8 @@ pub enum SessionNotice {
     TooBig(u64),
     /// The book's count has no further number: nothing was changed.
     StampsEnd,
-    /// As many registrations are open as there may be: none was opened.
+    /// As many registrations and note lines are open as there may be: none was opened.
     Depth,
+    /// The text holds a character that no note has, a `/`, CR or LF.
+    BadNote,
 }

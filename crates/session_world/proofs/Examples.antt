@@ -306,10 +306,10 @@ has_not_played has = by has.first has.rest has.parts has.played
 
 -- a change that was accepted ends all doubt; a reply that tells of no change, and a refusal for another cause than the
 -- disk, leave it; and a call that a disk failed is in doubt
-doubts : map (doubt_behind (Some purge) look_up) (Done replies.Purged ∷ Done replies.Restored
+doubts : map (doubt_behind (Some purge) look_up) (Done replies.Purged ∷ Done replies.Restored ∷ Done replies.Annotated
     ∷ Done replies.Unchanged ∷ Done (replies.Overtaken 2) ∷ Refused Memory ∷ Refused (JournalFull 1 2 3) ∷ Refused Disk
     ∷ [])
-    ≡ None ∷ None ∷ Some purge ∷ Some purge ∷ Some purge ∷ Some purge ∷ Some look_up ∷ []
+    ≡ None ∷ None ∷ None ∷ Some purge ∷ Some purge ∷ Some purge ∷ Some purge ∷ Some look_up ∷ []
 doubts = refl
 
 -- and so it is behind an entry

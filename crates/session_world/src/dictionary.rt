@@ -15,9 +15,8 @@ pub(crate) fn moves(alloc: Global, index: &mut Index, call: &Call) -> Result<boo
 {
     match call {
         Call::Lookup { .. } | Call::Complete { .. } => Ok(false),
-        Call::Learn { .. } | Call::Purge { .. } | Call::Unlearn { .. } => {
-            change_moves(alloc, index, call)
-        }
+        Call::Learn { .. } | Call::Purge { .. } | Call::Annotate { .. } | Call::Unlearn { .. } =>
+            change_moves(alloc, index, call),
     }
 }
 

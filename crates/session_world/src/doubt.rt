@@ -1,12 +1,12 @@
 ghost use Rattle.std.specs.Prelude.{◌≡◌, [], true, IfSome};
 ghost use Rattle.std.specs.Option.{option_copied};
 ghost use Rattle.std.specs.List.{All};
-ghost use Rattle.skk_calls.specs.Dictionary.{is_change, is_fit};
+ghost use Rattle.skk_calls.specs.Dictionary.{is_fit};
 ghost use Rattle.skk_calls.specs.Histories.{in_doubt};
 ghost use Rattle.session_world.specs.Doubts.{doubt_after};
 ghost use Rattle.session_world.specs.Worlds.{last_of};
 
-use skk_calls::{Answer, Call, Entry, Refusal, Reply};
+use skk_calls::{Answer, Call, Entry, Refusal};
 
 // The change of a history that was last refused for the disk, with no change accepted behind it.
 pub(crate) fn last_in_doubt(history: &[Entry]) -> Option<&Call>
@@ -26,15 +26,8 @@ fn doubt_after<'a>(doubt: Option<&'a Call>, entry: &'a Entry) -> Option<&'a Call
     ensures { option_copied result ≡ doubt_after (option_copied doubt.entry) entry.now }
 {
     match &entry.answer {
-        Answer::Done(reply) if is_change(reply) => None,
+        Answer::Done(reply) if reply.is_change() => None,
         Answer::Refused(Refusal::Disk) => Some(&entry.call),
         Answer::Done(_) | Answer::Refused(_) => doubt,
     }
-}
-
-// Whether a reply tells of a change.
-fn is_change(reply: &Reply) -> bool
-    ensures { result ≡ is_change reply.now }
-{
-    matches!(reply, Reply::Learned(_) | Reply::Purged | Reply::Restored)
 }

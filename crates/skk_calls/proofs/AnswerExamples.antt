@@ -7,11 +7,11 @@ use Rattle.skk_calls.specs.declared.answer.Refusal.TheVariants.{Memory, Disk, Jo
 use Rattle.skk_calls.specs.declared.answer.Reply.{Reply}
 use Rattle.skk_calls.specs.declared.answer.Reply.TheVariants as replies
 use Rattle.skk_calls.specs.declared.call.Call.{Call}
-use Rattle.skk_calls.specs.declared.call.Call.TheVariants.{Lookup, Complete, Learn, Purge, Unlearn}
+use Rattle.skk_calls.specs.declared.call.Call.TheVariants.{Lookup, Complete, Learn, Purge, Annotate, Unlearn}
 use Rattle.skk_calls.specs.Canonical.{canonical}
 use Rattle.skk_calls.specs.Dictionary.{answer, after, moves, speaks_of, is_fit, is_call, may_answer, change_reply}
 use Rattle.skk_calls.specs.Dictionary.{line_length}
-use Rattle.skk_calls.specs.Learning.{learnt, purged}
+use Rattle.skk_calls.specs.Learning.{learnt, purged, annotated}
 use Rattle.skk_calls.specs.Rows.{Row, Learned}
 use Rattle.skk_calls.specs.States.{State, empty_state, is_valid}
 use Rattle.skk_calls.proofs.Samples.{Gives, Gives2, plain, noted, nasi, block, row, book, books, files, kanji_key}
@@ -54,6 +54,16 @@ purge_kanji = Purge 1 kanji_key (codes "漢字")
 abbrev purged_state : State
 purged_state = books (book 1 2 (row kanji_key [] [] (codes "漢字" ∷ []) 2 ∷ []) ∷ [])
 
+-- a note of the user's own for 漢字 in book 1, the row that has it, and the states that have it
+abbrev pub annotate_kanji : Call
+annotate_kanji = Annotate 1 kanji_key (noted (codes "漢字") (codes "*よい"))
+
+abbrev noted_row : ℕ → Row
+noted_row stamp = row kanji_key (noted (codes "漢字") (codes "*よい") ∷ []) [] [] stamp
+
+abbrev noted_state : State
+noted_state = books (book 1 2 (noted_row 2 ∷ []) ∷ [])
+
 -- what each call is answered
 answers : Gives2 (answer files) (
     (empty_state, learn_kanji, replies.Learned first)
@@ -66,6 +76,10 @@ answers : Gives2 (answer files) (
     ∷ (empty_state, purge_kanji, replies.Purged)
     ∷ (first_state, purge_kanji, replies.Purged)
     ∷ (purged_state, purge_kanji, replies.Unchanged)
+    ∷ (first_state, annotate_kanji, replies.Annotated)
+    ∷ (empty_state, annotate_kanji, replies.Annotated)
+    ∷ (purged_state, annotate_kanji, replies.Annotated)
+    ∷ (noted_state, annotate_kanji, replies.Unchanged)
     ∷ [])
 unfolding lib.Utf8.encode
 answers = refl
@@ -79,6 +93,10 @@ states_after : Gives2 after (
     ∷ (first_state, Unlearn first, books (book 1 1 [] ∷ []))
     ∷ (first_state, purge_kanji, purged_state)
     ∷ (purged_state, purge_kanji, purged_state)
+    ∷ (first_state, annotate_kanji, noted_state)
+    ∷ (empty_state, annotate_kanji, books (book 1 1 (noted_row 1 ∷ []) ∷ []))
+    ∷ (purged_state, annotate_kanji, books (book 1 3 (noted_row 3 ∷ []) ∷ []))
+    ∷ (noted_state, annotate_kanji, noted_state)
     ∷ (first_state, Lookup 1 kanji_key None, first_state)
     ∷ (first_state, Complete 1 a, first_state)
     ∷ [])
@@ -136,7 +154,7 @@ shared_book = refl
 abbrev counted_state : ℕ → State
 counted_state count = books (book 1 count [] ∷ [])
 
--- a book with the last count learns and purges nothing more
+-- a book with the last count learns, purges and annotates nothing more
 last_counts : Gives2 (λ count call. answer files (counted_state count) call) ((
   18446744073709551614,
   learn_kanji,
@@ -145,15 +163,21 @@ last_counts : Gives2 (λ count call. answer files (counted_state count) call) ((
     ∷ (18446744073709551615, learn_kanji, replies.StampsEnd)
     ∷ (18446744073709551614, purge_kanji, replies.Purged)
     ∷ (18446744073709551615, purge_kanji, replies.StampsEnd)
+    ∷ (18446744073709551614, annotate_kanji, replies.Annotated)
+    ∷ (18446744073709551615, annotate_kanji, replies.StampsEnd)
     ∷ [])
 unfolding lib.Utf8.encode
 last_counts = refl
 
--- a purge that would change nothing is told so also at the last count
+-- a purge or an annotation that would change nothing is told so also at the last count
 unchanged_at_last_count : answer files
     (books (book 1 18446744073709551615 (row kanji_key [] [] (codes "漢字" ∷ []) 2 ∷ []) ∷ [])) purge_kanji
     ≡ replies.Unchanged
 unchanged_at_last_count = refl
+
+noted_at_last_count : answer files (books (book 1 18446744073709551615 (noted_row 2 ∷ []) ∷ [])) annotate_kanji
+    ≡ replies.Unchanged
+noted_at_last_count = refl
 
 -- a line may have 65,535 bytes and no more, and the end of the stamps is told first
 module _ (long : Row) (reply : Reply) where
@@ -173,7 +197,7 @@ module _ (long : Row) (reply : Reply) where
 -- the line that counts is that of the row after the call, with all that the row before had
 module _ (long : List ℕ) where
   abbrev long_row : Row
-  long_row = row ook_key (plain a ∷ plain long ∷ []) (block (codes "く") (long ∷ []) ∷ []) [] 1
+  long_row = row ook_key (plain a ∷ plain long ∷ []) (block (codes "く") (long ∷ []) ∷ []) (a ∷ []) 1
 
   abbrev long_state : State
   long_state = books (book 1 1 (long_row ∷ []) ∷ [])
@@ -186,6 +210,10 @@ module _ (long : List ℕ) where
       → answer files long_state (Purge 1 ook_key a) ≡ replies.TooBig 65536
   too_long_purge e = rw e
 
+  too_long_annotation : line_length (annotated (Some long_row) ook_key (noted a b) 2) ≡ 65536
+      → answer files long_state (Annotate 1 ook_key (noted a b)) ≡ replies.TooBig 65536
+  too_long_annotation e = rw e
+
 -- Calls
 
 -- a call speaks of the row of its key in its book, where it may change one
@@ -193,6 +221,8 @@ rows_spoken_of : Gives (λ call. speaks_of call 1 (nasi a)) (
     (Learn 1 (nasi a) None (plain a), true) ∷ (Learn 2 (nasi a) None (plain a), false)
     ∷ (Learn 1 (nasi b) None (plain a), false)
     ∷ (Purge 1 (nasi a) a, true) ∷ (Purge 2 (nasi a) a, false) ∷ (Purge 1 (nasi b) a, false)
+    ∷ (Annotate 1 (nasi a) (noted a b), true) ∷ (Annotate 2 (nasi a) (noted a b), false)
+    ∷ (Annotate 1 (nasi b) (noted a b), false)
     ∷ (Unlearn (record { book = 1; key = nasi a; stamp = 1; before = None }), true)
     ∷ (Unlearn (record { book = 2; key = nasi a; stamp = 1; before = None }), false)
     ∷ (Unlearn (record { book = 1; key = nasi b; stamp = 1; before = None }), false)
@@ -204,7 +234,10 @@ rows_spoken_of = refl
 fit_calls : Gives is_fit ((Purge 1 (nasi a) [], false) ∷ (Purge 1 (nasi a) a, true) ∷ (
   Learn 1 (nasi a) None (plain []),
   true,
-) ∷ (Lookup 1 (nasi []) None, true) ∷ (Complete 1 [], true) ∷ (Unlearn second, true) ∷ [])
+) ∷ (Annotate 1 (nasi a) (plain []), true) ∷ (Lookup 1 (nasi []) None, true) ∷ (Complete 1 [], true) ∷ (
+  Unlearn second,
+  true,
+) ∷ [])
 unfolding lib.Utf8.encode
 fit_calls = refl
 
@@ -216,6 +249,8 @@ valid_calls : Gives is_call (
     ∷ (Learn 1 (nasi a) None (plain a), true) ∷ (Learn 1 (nasi []) None (plain a), false)
     ∷ (Learn 1 (nasi a) (Some a) (plain a), false) ∷ (Learn 1 (nasi a) None (plain []), false)
     ∷ (Purge 1 (nasi a) [], true) ∷ (Purge 1 (nasi []) a, false)
+    ∷ (Annotate 1 (nasi a) (noted a b), true) ∷ (Annotate 1 (nasi []) (noted a b), false)
+    ∷ (Annotate 1 (nasi a) (plain []), false)
     ∷ (Unlearn (record { book = 1; key = nasi a; stamp = 2; before = None }), true)
     ∷ (Unlearn (record { book = 1; key = nasi []; stamp = 2; before = None }), false)
     ∷ (
@@ -239,28 +274,30 @@ valid_calls = refl
 -- one call of each kind
 abbrev calls : List Call
 calls =
-    Lookup 1 (nasi a) None ∷ Complete 1 a ∷ Learn 1 (nasi a) None (plain a) ∷ Purge 1 (nasi a) a ∷ Unlearn second ∷ []
+    Lookup 1 (nasi a) None ∷ Complete 1 a ∷ Learn 1 (nasi a) None (plain a) ∷ Purge 1 (nasi a) a
+    ∷ Annotate 1 (nasi a) (noted a b) ∷ Unlearn second ∷ []
 
 -- which of these calls may be answered so
 abbrev answered_by : Answer → List Bool
 answered_by told = map (λ call. may_answer call told) calls
 
--- a look-up, a completion, a learning, a purge and a taking back each have their replies, and only the last three are
--- refused for more than memory
+-- a look-up, a completion, a learning, a purge, an annotation and a taking back each have their replies, and only the
+-- last four are refused for more than memory
 possible_answers : Gives answered_by (
-    (Done (replies.Found []), true ∷ false ∷ false ∷ false ∷ false ∷ [])
-    ∷ (Done (replies.Readings (a ∷ b ∷ [])), false ∷ true ∷ false ∷ false ∷ false ∷ [])
-    ∷ (Done (replies.Readings (a ∷ [] ∷ [])), false ∷ false ∷ false ∷ false ∷ false ∷ [])
-    ∷ (Done (replies.Learned second), false ∷ false ∷ true ∷ false ∷ false ∷ [])
-    ∷ (Done replies.Purged, false ∷ false ∷ false ∷ true ∷ false ∷ [])
-    ∷ (Done replies.Unchanged, false ∷ false ∷ false ∷ true ∷ false ∷ [])
-    ∷ (Done replies.Restored, false ∷ false ∷ false ∷ false ∷ true ∷ [])
-    ∷ (Done (replies.Overtaken 1), false ∷ false ∷ false ∷ false ∷ true ∷ [])
-    ∷ (Done (replies.TooBig 65536), false ∷ false ∷ true ∷ true ∷ false ∷ [])
-    ∷ (Done replies.StampsEnd, false ∷ false ∷ true ∷ true ∷ false ∷ [])
-    ∷ (Refused Memory, true ∷ true ∷ true ∷ true ∷ true ∷ [])
-    ∷ (Refused Disk, false ∷ false ∷ true ∷ true ∷ true ∷ [])
-    ∷ (Refused (JournalFull 18 49 64), false ∷ false ∷ true ∷ true ∷ true ∷ [])
+    (Done (replies.Found []), true ∷ false ∷ false ∷ false ∷ false ∷ false ∷ [])
+    ∷ (Done (replies.Readings (a ∷ b ∷ [])), false ∷ true ∷ false ∷ false ∷ false ∷ false ∷ [])
+    ∷ (Done (replies.Readings (a ∷ [] ∷ [])), false ∷ false ∷ false ∷ false ∷ false ∷ false ∷ [])
+    ∷ (Done (replies.Learned second), false ∷ false ∷ true ∷ false ∷ false ∷ false ∷ [])
+    ∷ (Done replies.Purged, false ∷ false ∷ false ∷ true ∷ false ∷ false ∷ [])
+    ∷ (Done replies.Unchanged, false ∷ false ∷ false ∷ true ∷ true ∷ false ∷ [])
+    ∷ (Done replies.Annotated, false ∷ false ∷ false ∷ false ∷ true ∷ false ∷ [])
+    ∷ (Done replies.Restored, false ∷ false ∷ false ∷ false ∷ false ∷ true ∷ [])
+    ∷ (Done (replies.Overtaken 1), false ∷ false ∷ false ∷ false ∷ false ∷ true ∷ [])
+    ∷ (Done (replies.TooBig 65536), false ∷ false ∷ true ∷ true ∷ true ∷ false ∷ [])
+    ∷ (Done replies.StampsEnd, false ∷ false ∷ true ∷ true ∷ true ∷ false ∷ [])
+    ∷ (Refused Memory, true ∷ true ∷ true ∷ true ∷ true ∷ true ∷ [])
+    ∷ (Refused Disk, false ∷ false ∷ true ∷ true ∷ true ∷ true ∷ [])
+    ∷ (Refused (JournalFull 18 49 64), false ∷ false ∷ true ∷ true ∷ true ∷ true ∷ [])
     ∷ [])
 unfolding lib.Utf8.encode
 possible_answers = refl
@@ -269,7 +306,8 @@ possible_answers = refl
 moving_calls : Gives2 moves (
     (first_state, Lookup 1 kanji_key None, false) ∷ (first_state, Complete 1 a, false)
     ∷ (first_state, learn_kanji, true) ∷ (first_state, purge_kanji, true)
-    ∷ (purged_state, purge_kanji, false) ∷ (first_state, Unlearn first, true) ∷ (first_state, Unlearn second, false)
+    ∷ (purged_state, purge_kanji, false) ∷ (first_state, annotate_kanji, true) ∷ (noted_state, annotate_kanji, false)
+    ∷ (first_state, Unlearn first, true) ∷ (first_state, Unlearn second, false)
     ∷ (counted_state 18446744073709551615, learn_kanji, false)
     ∷ [])
 unfolding lib.Utf8.encode

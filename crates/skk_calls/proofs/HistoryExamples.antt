@@ -7,7 +7,7 @@ use Rattle.skk_calls.specs.declared.answer.Refusal.TheVariants.{Memory, Disk, Jo
 use Rattle.skk_calls.specs.declared.answer.Reply.{Reply}
 use Rattle.skk_calls.specs.declared.answer.Reply.TheVariants as replies
 use Rattle.skk_calls.specs.declared.call.Call.{Call}
-use Rattle.skk_calls.specs.declared.call.Call.TheVariants.{Lookup, Complete, Learn, Purge, Unlearn}
+use Rattle.skk_calls.specs.declared.call.Call.TheVariants.{Lookup, Complete, Learn, Purge, Annotate, Unlearn}
 use Rattle.skk_calls.specs.declared.chronicle.Noted.{Noted}
 use Rattle.skk_calls.specs.declared.chronicle.Noted.TheVariants.{Opened, Entered}
 use Rattle.skk_calls.specs.declared.entry.Entry.{Entry}
@@ -20,7 +20,7 @@ use Rattle.skk_calls.specs.Openings.{fresh_opening, said_in, are_of_one, is_repl
 use Rattle.skk_calls.specs.Rows.{Row, Learned}
 use Rattle.skk_calls.specs.States.{State, empty_state}
 use Rattle.skk_calls.specs.Tallies.{Tally, empty_tally, tally_with, tally_of}
-use Rattle.skk_calls.proofs.AnswerExamples.{learn_kanji, first_row, first_state}
+use Rattle.skk_calls.proofs.AnswerExamples.{learn_kanji, annotate_kanji, first_row, first_state}
 use Rattle.skk_calls.proofs.Samples.{Gives, Gives2, plain, nasi, row, book, books, files, kanji_key, a}
 
 -- Room in the learned file
@@ -36,12 +36,15 @@ katsushika_row = row (nasi (codes "125")) (plain (codes "東京都葛飾区") �
 abbrev first : Learned
 first = record { book = 1; key = kanji_key; stamp = 1; before = None }
 
--- a row's record has 25 bytes before the line, and that of a row that is taken out 17 before the reading
+-- a row's record has 25 bytes before the line, that of a row that is taken out 17 before the reading, and that of a
+-- candidate with its note 18 before the reading and the item; where there is no row an annotation needs the row's
 needs_of_calls : Gives2 need (
     (empty_state, learn_kanji, 43) ∷ (empty_state, learn_katsushika, 49)
     ∷ (first_state, Learn 1 kanji_key None (plain a), 45) ∷ (first_state, Learn 2 kanji_key None (plain a), 38)
     ∷ (first_state, Purge 1 kanji_key (codes "漢字"), 67) ∷ (first_state, Purge 2 kanji_key a, 62)
     ∷ (first_state, Purge 1 kanji_key a, 69)
+    ∷ (first_state, annotate_kanji, 41) ∷ (first_state, Annotate 1 kanji_key (plain a), 28)
+    ∷ (empty_state, annotate_kanji, 51) ∷ (first_state, Annotate 2 kanji_key (plain a), 38)
     ∷ (first_state, Unlearn first, 26)
     ∷ (first_state, Unlearn (record { book = 1; key = kanji_key; stamp = 2; before = Some first_row }), 43)
     ∷ (first_state, Lookup 1 kanji_key None, 0) ∷ (first_state, Complete 1 a, 0)

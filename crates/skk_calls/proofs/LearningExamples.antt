@@ -1,6 +1,7 @@
--- What learning, purging and taking back make of rows.
+-- What learning, purging, annotating and taking back make of rows.
 use Rattle.std.proofs.Common.{◌≡◌, true, false, Option, [], ◌∷◌, codes, refl, Some, None}
-use Rattle.skk_calls.specs.Learning.{learnt, purged, purge_changes, unlearnt, is_valid_learned}
+use Rattle.skk_calls.specs.Learning.{learnt, purged, purge_changes, is_own_note, annotated, annotation_changes}
+use Rattle.skk_calls.specs.Learning.{unlearnt, is_valid_learned}
 use Rattle.skk_calls.specs.Rows.{Row, Learned}
 use Rattle.skk_calls.proofs.Samples.{Gives, plain, noted, nasi, ari, block, row, kanji, ook, kanji_key, ook_key, a, b}
 use Rattle.skk_calls.proofs.Samples.{c}
@@ -14,6 +15,19 @@ cands_after : Gives (λ cand. (learnt (Some kanji) kanji_key None cand 1).cands)
     ∷ (plain a, plain a ∷ plain (codes "漢字") ∷ noted (codes "幹事") (codes "宴会の") ∷ plain (codes "感じ") ∷ [])
     ∷ [])
 cands_after = refl
+
+-- a note that begins with `*` is the user's own, and stays whatever is learnt
+own_notes : Gives is_own_note ((codes "*", true) ∷ (codes "*x", true) ∷ (codes "x*", false) ∷ ([], false) ∷ [])
+own_notes = refl
+
+own_note_kept : Gives (λ cand. (learnt (Some (row (nasi a) (plain b ∷ noted a (codes "*x") ∷ []) [] [] 1)) (nasi a)
+    None cand 2).cands) (
+    (plain a, noted a (codes "*x") ∷ plain b ∷ [])
+    ∷ (noted a (codes "y"), noted a (codes "*x") ∷ plain b ∷ [])
+    ∷ (noted a (codes "*y"), noted a (codes "*x") ∷ plain b ∷ [])
+    ∷ (noted b (codes "*y"), noted b (codes "*y") ∷ noted a (codes "*x") ∷ [])
+    ∷ [])
+own_note_kept = refl
 
 -- the first word of a key
 learnt_first : learnt None kanji_key None (plain (codes "漢字")) 1 ≡ row kanji_key (plain (codes "漢字") ∷ []) [] [] 1
@@ -77,6 +91,37 @@ changing_purges : Gives (λ before. purge_changes before ook_key a) (
     ∷ (Some (row ook_key [] (block (codes "く") (b ∷ []) ∷ []) (a ∷ []) 1), false)
     ∷ [])
 changing_purges = refl
+
+-- Annotating
+
+-- the candidate keeps its place and gets the note, whatever it had, and a new word stands last
+cands_annotated : Gives (λ cand. (annotated (Some kanji) kanji_key cand 1).cands) (
+    (noted (codes "幹事") (codes "*x"), plain (codes "漢字") ∷ noted (codes "幹事") (codes "*x") ∷ plain (codes "感じ") ∷ [])
+    ∷ (plain (codes "幹事"), plain (codes "漢字") ∷ plain (codes "幹事") ∷ plain (codes "感じ") ∷ [])
+    ∷ (noted a b, plain (codes "漢字") ∷ noted (codes "幹事") (codes "宴会の") ∷ plain (codes "感じ") ∷ noted a b ∷ [])
+    ∷ [])
+cands_annotated = refl
+
+-- the word is hidden no more; the blocks stay, and the row has the key and the stamp of the annotation
+annotated_row : annotated (Some (row ook_key (plain a ∷ []) (block (codes "く") (a ∷ []) ∷ []) (b ∷ a ∷ c ∷ []) 1))
+    ook_key (noted a b) 7
+    ≡ row ook_key (noted a b ∷ []) (block (codes "く") (a ∷ []) ∷ []) (b ∷ c ∷ []) 7
+annotated_row = refl
+
+-- where there is no row, the candidate is its first
+annotated_none : annotated None (nasi a) (noted a b) 1 ≡ row (nasi a) (noted a b ∷ []) [] [] 1
+annotated_none = refl
+
+-- an annotation changes something where the word is hidden, or where no candidate has it with the note
+changing_annotations : Gives (λ before. annotation_changes before (nasi a) (noted a b)) (
+    (None, true) ∷ (Some (row (nasi a) (plain a ∷ []) [] [] 1), true)
+    ∷ (Some (row (nasi a) (noted a c ∷ []) [] [] 1), true)
+    ∷ (Some (row (nasi a) (noted a b ∷ []) [] [] 1), false)
+    ∷ (Some (row (nasi a) (plain c ∷ noted a b ∷ []) [] (c ∷ []) 1), false)
+    ∷ (Some (row (nasi a) (noted a b ∷ []) [] (c ∷ a ∷ []) 1), true)
+    ∷ (Some (row (nasi a) (noted c b ∷ []) [] [] 1), true)
+    ∷ [])
+changing_annotations = refl
 
 -- Taking back
 

@@ -11,12 +11,13 @@ use Rattle.skk_calls.specs.declared.answer.Refusal.TheVariants as refusals
 use Rattle.skk_calls.specs.declared.answer.Reply.{Reply}
 use Rattle.skk_calls.specs.declared.answer.Reply.TheVariants as replies
 use Rattle.skk_calls.specs.declared.call.Call.{Call}
-use Rattle.skk_calls.specs.declared.call.Call.TheVariants.{Lookup, Complete, Learn, Purge, Unlearn}
+use Rattle.skk_calls.specs.declared.call.Call.TheVariants.{Lookup, Complete, Learn, Purge, Annotate, Unlearn}
 use Rattle.skk_calls.specs.declared.part.Part.TheVariants.{Nasi}
 use Rattle.skk_calls.specs.Canonical.{canonical, line_limit}
 use Rattle.skk_calls.specs.Completions.{completions}
 use Rattle.skk_calls.specs.Found.{found}
-use Rattle.skk_calls.specs.Learning.{learnt, purged, purge_changes, unlearnt, is_valid_learned}
+use Rattle.skk_calls.specs.Learning.{learnt, purged, purge_changes, annotated, annotation_changes, unlearnt}
+use Rattle.skk_calls.specs.Learning.{is_valid_learned}
 use Rattle.skk_calls.specs.Rows.{RowKey, Row, same_key, is_row_key, is_okuri, is_cand, is_row, is_word}
 use Rattle.skk_calls.specs.States.{State, row_at, count_of, state_with}
 
@@ -56,6 +57,11 @@ answer files state (Purge book key word) =
     if purge_changes before key word
     then change_reply (count_of state book) (purged before key word (count_of state book + 1)) replies.Purged
     else replies.Unchanged
+answer files state (Annotate book key cand) =
+    let before = row_at state book key in
+    if annotation_changes before key cand
+    then change_reply (count_of state book) (annotated before key cand (count_of state book + 1)) replies.Annotated
+    else replies.Unchanged
 answer files state (Unlearn learned) =
     let row = row_at state learned.book learned.key in
     if is_stamped learned.stamp row then replies.Restored else replies.Overtaken (stamp_of row)
@@ -65,6 +71,7 @@ abbrev pub is_change : Reply → Bool
 is_change (replies.Learned learned) = true
 is_change replies.Purged = true
 is_change replies.Restored = true
+is_change replies.Annotated = true
 is_change reply = false
 
 -- a call changes the state; no system file has a say in that
@@ -81,6 +88,9 @@ state_moved state (Learn book key okuri cand) =
 state_moved state (Purge book key word) =
     let stamp = count_of state book + 1 in
     state_with state book stamp key (Some (purged (row_at state book key) key word stamp))
+state_moved state (Annotate book key cand) =
+    let stamp = count_of state book + 1 in
+    state_with state book stamp key (Some (annotated (row_at state book key) key cand stamp))
 state_moved state (Unlearn learned) =
     state_with state learned.book (count_of state learned.book) learned.key (unlearnt learned)
 
@@ -92,6 +102,7 @@ after state call = if moves state call then state_moved state call else state
 abbrev pub speaks_of : Call → ℕ → RowKey → Bool
 speaks_of (Learn book key okuri cand) number other = book == number && same_key key other
 speaks_of (Purge book key word) number other = book == number && same_key key other
+speaks_of (Annotate book key cand) number other = book == number && same_key key other
 speaks_of (Unlearn learned) number other = learned.book == number && same_key learned.key other
 speaks_of call number other = false
 
@@ -116,6 +127,7 @@ is_call (Lookup who key okuri) = is_row_key key && is_okuri_or_none okuri
 is_call (Complete who prefix) = true
 is_call (Learn book key okuri cand) = is_row_key key && (is_okuri_or_none okuri && is_cand cand)
 is_call (Purge book key word) = is_row_key key
+is_call (Annotate book key cand) = is_row_key key && is_cand cand
 is_call (Unlearn learned) = is_row_key learned.key && (is_valid_learned learned && is_row_or_none learned.before)
 
 -- a reading is valid without okurigana
@@ -133,6 +145,10 @@ may_reply (Purge book key word) replies.Purged = true
 may_reply (Purge book key word) replies.Unchanged = true
 may_reply (Purge book key word) (replies.TooBig length) = true
 may_reply (Purge book key word) replies.StampsEnd = true
+may_reply (Annotate book key cand) replies.Annotated = true
+may_reply (Annotate book key cand) replies.Unchanged = true
+may_reply (Annotate book key cand) (replies.TooBig length) = true
+may_reply (Annotate book key cand) replies.StampsEnd = true
 may_reply (Unlearn learned) replies.Restored = true
 may_reply (Unlearn learned) (replies.Overtaken stamp) = true
 may_reply call reply = false

@@ -7,12 +7,12 @@ use Rattle.skk_calls.specs.declared.answer.Answer.{Answer}
 use Rattle.skk_calls.specs.declared.answer.Answer.TheVariants.{Done, Refused}
 use Rattle.skk_calls.specs.declared.answer.Refusal.TheVariants as refusals
 use Rattle.skk_calls.specs.declared.call.Call.{Call}
-use Rattle.skk_calls.specs.declared.call.Call.TheVariants.{Lookup, Complete, Learn, Purge, Unlearn}
+use Rattle.skk_calls.specs.declared.call.Call.TheVariants.{Lookup, Complete, Learn, Purge, Annotate, Unlearn}
 use Rattle.skk_calls.specs.declared.entry.Entry.{Entry}
-use Rattle.skk_calls.specs.Canonical.{canonical}
+use Rattle.skk_calls.specs.Canonical.{canonical, item}
 use Rattle.skk_calls.specs.Dictionary.{answer, is_change, moves, after}
-use Rattle.skk_calls.specs.Learning.{learnt, purged, unlearnt}
-use Rattle.skk_calls.specs.Rows.{RowKey, Row}
+use Rattle.skk_calls.specs.Learning.{learnt, purged, annotated, unlearnt}
+use Rattle.skk_calls.specs.Rows.{RowKey, Cand, Row}
 use Rattle.skk_calls.specs.States.{State, row_at, count_of}
 
 -- what a history stands over: the rows of the system files, and at its opening the state, the end and the limit of the
@@ -84,6 +84,10 @@ stamp_bytes = 8
 abbrev pub part_bytes : ℕ
 part_bytes = 1
 
+-- the bytes of a reading's length where it stands before the reading
+abbrev pub reading_length_bytes : ℕ
+reading_length_bytes = 1
+
 -- the bytes that the record of a row needs
 abbrev pub put_need : Row → ℕ
 put_need row =
@@ -100,6 +104,18 @@ abbrev pub restored_need : RowKey → Option Row → ℕ
 restored_need key None = drop_need key
 restored_need key (Some row) = put_need row
 
+-- the bytes that the record of a candidate with its note needs
+abbrev pub note_need : RowKey → Cand → ℕ
+note_need key cand =
+    gate_bytes + length_bytes + kind_bytes + book_bytes + count_bytes + part_bytes + reading_length_bytes
+    + byte_len key.reading + byte_len (item cand)
+
+-- the bytes that an annotation needs: on a row that is there those of the candidate with its note, and else those of
+-- the row after it
+abbrev pub annotated_need : Option Row → RowKey → Cand → ℕ → ℕ
+annotated_need None key cand stamp = put_need (annotated None key cand stamp)
+annotated_need (Some row) key cand stamp = note_need key cand
+
 -- the bytes that a call needs in the learned file where it changes something
 abbrev pub need : State → Call → ℕ
 need state (Lookup who key okuri) = 0
@@ -107,6 +123,8 @@ need state (Complete who prefix) = 0
 need state (Learn book key okuri cand) =
     put_need (learnt (row_at state book key) key okuri cand (count_of state book + 1))
 need state (Purge book key word) = put_need (purged (row_at state book key) key word (count_of state book + 1))
+need state (Annotate book key cand) =
+    annotated_need (row_at state book key) key cand (count_of state book + 1)
 need state (Unlearn learned) = restored_need learned.key (unlearnt learned)
 
 -- the bytes that the record of a book's count needs

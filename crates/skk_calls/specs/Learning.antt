@@ -1,7 +1,7 @@
--- What learning, purging and taking back make of a row.
-use Rattle.std.specs.Prelude.{ℕ, Bool, true, ◌&&◌, ◌||◌, not, nat_le, nat_lt, if◌then◌else◌, Option, None, Some, List}
-use Rattle.std.specs.Prelude.{[], ◌∷◌, ◌++◌, map}
-use Rattle.std.specs.List.{filter, list_any}
+-- What learning, purging, annotating and taking back make of a row.
+use Rattle.std.specs.Prelude.{ℕ, Bool, true, ◌&&◌, ◌||◌, not, nat_eq, nat_le, nat_lt, if◌then◌else◌, Option}
+use Rattle.std.specs.Prelude.{None, Some, List, [], ◌∷◌, ◌++◌, map, codes}
+use Rattle.std.specs.List.{filter, list_any, starts_with}
 use Rattle.skk_calls.specs.declared.part.Part.{Part}
 use Rattle.skk_calls.specs.declared.part.Part.TheVariants.{Nasi, Ari}
 use Rattle.skk_calls.specs.Canonical.{is_good}
@@ -26,9 +26,16 @@ without_text text texts = filter (λ other. not (same_text other text)) texts
 abbrev pub without_word : List ℕ → List Cand → List Cand
 without_word word cands = filter (λ cand. not (same_text cand.word word)) cands
 
--- the note of a candidate that is learnt: its own, or where it has none that of the candidate with its word
+-- a note is the user's own: it begins with `*`
+abbrev pub is_own_note : List ℕ → Bool
+is_own_note note = starts_with nat_eq note (codes "*")
+
+-- the note of a candidate that is learnt: that of the candidate with its word, where that note is the user's own or the
+-- learnt one has none; else its own
 abbrev pub learnt_note : List Cand → Cand → List ℕ
-learnt_note cands cand = if is_empty cand.note then note_of cands cand.word else cand.note
+learnt_note cands cand =
+    let known = note_of cands cand.word in
+    if is_own_note known || is_empty cand.note then known else cand.note
 
 -- the candidates with one that is learnt at their front, and another with its word gone
 abbrev pub learnt_cands : List Cand → Cand → List Cand
@@ -90,6 +97,37 @@ purge_changes before key word =
     let row = row_or_empty key before in
     has_text (words_of row.cands) word
     || (list_any (λ block. has_text block.words word) row.blocks || not (has_text row.hides word))
+
+-- the candidates with a note for a word: the first with that word keeps its place and gets the note, and where there is
+-- none the candidate is added at the end
+abbrev pub annotated_cands : List Cand → Cand → List Cand
+annotated_cands [] cand = cand ∷ []
+annotated_cands (first ∷ cands) cand =
+    if same_text first.word cand.word
+    then record { word = first.word; note = cand.note } ∷ cands
+    else first ∷ annotated_cands cands cand
+
+-- the row after a candidate is annotated
+abbrev pub annotated : Option Row → RowKey → Cand → ℕ → Row
+annotated before key cand stamp =
+    let row = row_or_empty key before in
+    record {
+      key = key;
+      cands = annotated_cands row.cands cand;
+      blocks = row.blocks;
+      hides = without_text cand.word row.hides;
+      stamp = stamp;
+    }
+
+-- two candidates are the same, by their words and their notes
+abbrev pub same_cand : Cand → Cand → Bool
+same_cand one other = same_text one.word other.word && same_text one.note other.note
+
+-- an annotation changes something: the word is hidden, or there is no candidate with the word and the note
+abbrev pub annotation_changes : Option Row → RowKey → Cand → Bool
+annotation_changes before key cand =
+    let row = row_or_empty key before in
+    has_text row.hides cand.word || not (list_any (λ other. same_cand other cand) row.cands)
 
 -- the row after what was learnt is taken back: the one before, or none where there was none
 abbrev pub unlearnt : Learned → Option Row

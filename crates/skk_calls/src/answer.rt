@@ -13,16 +13,33 @@ pub enum Reply {
     Learned(Learned),
     /// The word was purged.
     Purged,
-    /// The purge would change nothing.
+    /// The purge or the annotation would change nothing.
     Unchanged,
     /// What was learnt was taken back.
     Restored,
+    /// The candidate was annotated.
+    Annotated,
     /// The row has this stamp by now, or 0 where there is none, and was left so.
     Overtaken(u64),
     /// The row's line would have so many bytes, which are too many.
     TooBig(u64),
     /// The book's count has no further number.
     StampsEnd,
+}
+
+impl Reply {
+    ghost use Rattle.std.specs.Prelude.{◌≡◌};
+    ghost use Rattle.skk_calls.specs.Dictionary.{is_change};
+
+    /// Whether it tells of a change.
+    pub fn is_change(&self) -> bool
+        ensures { result ≡ is_change self.now }
+    {
+        matches!(
+            self,
+            Reply::Learned(_) | Reply::Purged | Reply::Restored | Reply::Annotated
+        )
+    }
 }
 
 /// Why a call was refused. A refused call changes nothing.

@@ -31,6 +31,12 @@ pub enum Call {
         key: RowKey,
         word: Text,
     },
+    /// A candidate has this note from now on.
+    Annotate {
+        book: u16,
+        key: RowKey,
+        cand: Cand,
+    },
     /// What was learnt is taken back, unless the row was changed since.
     Unlearn {
         learned: Learned,

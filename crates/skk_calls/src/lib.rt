@@ -3,9 +3,9 @@
 //!
 //! It stands on `skk_text`, `ordered_lists` and `skk_trace`. Its types keep what the format of a dictionary asks of
 //! readings, okurigana, words and notes, and its definitions say what the crates above are proved to do: what is found
-//! for a key, which readings go on from a prefix, what learning, purging and taking back make of a row and of a state,
-//! what a dictionary of one thread answers, and which histories of calls and answers are legal. The crate `dict_laws`
-//! has the laws of these definitions.
+//! for a key, which readings go on from a prefix, what learning, purging, annotating and taking back make of a row and
+//! of a state, what a dictionary of one thread answers, and which histories of calls and answers are legal. The crate
+//! `dict_laws` has the laws of these definitions.
 #![tactic(auto)]
 
 mod answer;

@@ -23,37 +23,45 @@ not_before own = grind (arith, nat_tests)
 less_small : (own : ℕ) → own ≤ last_generation → one_less own ≤ last_generation
 less_small own small = grind (arith, nat_tests)
 
-pub aged_loose : (beside : Option Live) (file : List ℕ) → HasGeneration beside → IsAged (generation_before beside) file
-    → IsLoose beside file
-aged_loose None file small (first, rest, is) =
+pub aged_loose : (newest : ℕ) (beside : Option Live) (file : List ℕ) → HasGeneration beside
+    → IsAged newest (generation_before beside) file → IsLoose newest beside file
+aged_loose newest None file small (first, version, rest, is, right) =
     let bytes = number_bytes w64 0 in
     inr (
       first,
+      version,
       bytes ++ 0 ∷ rest,
       is,
+      right,
       (
+        version,
         0,
         record {
           gate = 0;
           rest = rest;
-          is = ap (λ (l : List ℕ). 1 ∷ (mark ++ l)) (sym (append_assoc bytes [] (0 ∷ rest)));
+          is = ap (λ (l : List ℕ). 1 ∷ (mark version ++ l)) (sym (append_assoc bytes [] (0 ∷ rest)));
+          right = right;
           told = omega arith;
           sized = All-nil IsSized;
           closed = λ same. omega (arith, same);
         },
       ),
     )
-aged_loose (Some live) file small (first, rest, is) =
+aged_loose newest (Some live) file small (first, version, rest, is, right) =
     let older = one_less live.generation in
     inr (
       first,
+      version,
       number_bytes w64 older ++ 0 ∷ rest,
       is,
+      right,
       (
+        version,
         older,
         record {
           rest = 0 ∷ rest;
           is = refl;
+          right = right;
           told = less_small live.generation small;
         },
         next_counts live.file live.generation older (next_of_less live.generation small) (not_before live.generation),

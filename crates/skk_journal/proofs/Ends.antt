@@ -44,11 +44,12 @@ placed_end at bytes file long =
     ∙ ap (λ (l : List ℕ). file ++ (bytes ++ l)) none ∙ ap (λ (l : List ℕ). file ++ l) (append-nil bytes)
 
 -- the parts of a filled file
-pub filled_is : (generation : ℕ) (records : List ℕ)
-    → ((0 ∷ (mark ++ number_bytes w64 generation)) ++ records) ++ 0 ∷ [] ≡ filled_bytes 0 generation records
-filled_is generation records =
-    ap (λ (l : List ℕ). 0 ∷ (mark ++ l)) (append_assoc (number_bytes w64 generation) records (0 ∷ []))
+pub filled_is : (version generation : ℕ) (records : List ℕ)
+    → ((0 ∷ (mark version ++ number_bytes w64 generation)) ++ records) ++ 0 ∷ []
+    ≡ filled_bytes 0 version generation records
+filled_is version generation records =
+    ap (λ (l : List ℕ). 0 ∷ (mark version ++ l)) (append_assoc (number_bytes w64 generation) records (0 ∷ []))
 
 -- a head has 17 bytes
-pub length-head : (generation : ℕ) → length (0 ∷ (mark ++ number_bytes w64 generation)) ≡ 17
-length-head generation = omega (arith, told_64.long generation)
+pub length-head : (version generation : ℕ) → length (0 ∷ (mark version ++ number_bytes w64 generation)) ≡ 17
+length-head version generation = omega (arith, told_64.long generation)

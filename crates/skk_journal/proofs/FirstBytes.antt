@@ -7,7 +7,7 @@ use Rattle.skk_disk.specs.Steps.{PartlyWritten, placed, IsPlaced}
 use Rattle.skk_journal.specs.declared.live.Live.{Live}
 use Rattle.std.specs.Int.{w64}
 use Rattle.exact_readers.specs.Numbers.{number_bytes}
-use Rattle.skk_journal.specs.Records.{mark}
+use Rattle.skk_journal.specs.Records.{mark_name, mark}
 use Rattle.skk_journal.specs.Filling.{IsAged}
 use Rattle.skk_journal.specs.Idle.{IsBlank, IsLoose, IsStray, OtherFirst, FirstIs}
 use Rattle.skk_journal.proofs.Places.{torn_at, torn_behind, placed_behind, no_gap}
@@ -23,40 +23,45 @@ pub first_placed : (first : ℕ) (old new : List ℕ) → IsPlaced 0 (first ∷ 
 first_placed first old new whole =
     whole ∙ ap (λ (l : List ℕ). l ++ (first ∷ drop 1 old)) (no_gap 0 old (omega arith))
 
-module _ (beside : Option Live) where
+module _ (newest : ℕ) (beside : Option Live) where
   -- another first byte leaves a file that gives way whatever that is
-  pub loose_other : (old new : List ℕ) → OtherFirst old new → IsLoose beside old → IsLoose beside new
+  pub loose_other : (old new : List ℕ) → OtherFirst old new → IsLoose newest beside old → IsLoose newest beside new
   loose_other old new (inl (short, also)) loose = inl also
   loose_other old new (inr (first, next, rest, is, now)) (inl short) =
       inl (omega (arith, ap length is, ap length now))
-  loose_other old new (inr (first, next, rest, is, now)) (inr (head, tail, also, gives)) =
-      inr (next, tail, now ∙ ap (λ (l : List ℕ). next ∷ drop 1 l) (sym is ∙ also), gives)
+  loose_other old new (inr (first, next, rest, is, now)) (inr (head, version, tail, also, right, gives)) =
+      inr (next, version, tail, now ∙ ap (λ (l : List ℕ). next ∷ drop 1 l) (sym is ∙ also), right, gives)
 
 -- the first byte 0 is blank
 pub first_blank : (old new : List ℕ) → FirstIs 0 old new → IsBlank new
 first_blank old new is = (drop 1 old, is)
 
 -- a torn write behind the mark leaves a stray file
-pub stray_torn : (count : ℕ) (old new : List ℕ) → PartlyWritten (record { at = 9; count = count }) old new
-    → IsStray old → IsStray new
-stray_torn count old new torn (first, rest, is, some, shut) = (
+pub stray_torn : (newest count : ℕ) (old new : List ℕ) → PartlyWritten (record { at = 9; count = count }) old new
+    → IsStray newest old → IsStray newest new
+stray_torn newest count old new torn (first, version, rest, is, right, some, shut) = (
   first,
+  version,
   drop 9 new,
-  torn_behind 9 count (first ∷ 83 ∷ 75 ∷ 75 ∷ 68 ∷ 69 ∷ 83 ∷ 75 ∷ []) 1 rest new refl
+  torn_behind 9 count (first ∷ mark_name) version rest new refl
       (subst (λ (l : List ℕ). PartlyWritten (record { at = 9; count = count }) l new) is torn),
+  right,
   some,
   shut,
 )
 
 -- a whole one ages it
-pub stray_placed : (generation : ℕ) (old new : List ℕ) → IsPlaced 9 (number_bytes w64 generation ++ 0 ∷ []) old new
-    → IsStray old → IsAged generation new
-stray_placed generation old new whole (first, rest, is, some, shut) =
+pub stray_placed : (newest generation : ℕ) (old new : List ℕ)
+    → IsPlaced 9 (number_bytes w64 generation ++ 0 ∷ []) old new → IsStray newest old → IsAged newest generation new
+stray_placed newest generation old new whole (first, version, rest, is, right, some, shut) =
     let piece = number_bytes w64 generation ++ 0 ∷ [] in
     let tail = drop (length piece) rest in (
       first,
+      version,
       tail,
       whole ∙ ap (placed 9 piece) is
-          ∙ placed_behind 9 piece (first ∷ 83 ∷ 75 ∷ 75 ∷ 68 ∷ 69 ∷ 83 ∷ 75 ∷ []) 1 rest refl
-          ∙ ap (λ (l : List ℕ). first ∷ (mark ++ l)) (append_assoc (number_bytes w64 generation) (0 ∷ []) tail),
+          ∙ placed_behind 9 piece (first ∷ mark_name) version rest refl
+          ∙ ap (λ (l : List ℕ). first ∷ (mark version ++ l))
+          (append_assoc (number_bytes w64 generation) (0 ∷ []) tail),
+      right,
     )

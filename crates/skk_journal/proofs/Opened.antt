@@ -14,13 +14,15 @@ use Rattle.skk_journal.specs.declared.found.FoundRecord.{FoundRecord}
 use Rattle.skk_journal.specs.declared.live.Live.{Live}
 use Rattle.skk_journal.specs.declared.live.Idle.{Idle}
 use Rattle.skk_journal.specs.declared.opening.OpenedFiles.{OpenedFiles}
-use Rattle.skk_journal.specs.Records.{first_place, HasRecords}
+use Rattle.skk_journal.specs.Contents.{Contents, no_records}
+use Rattle.skk_journal.specs.Records.{first_place, HasContents}
 use Rattle.skk_journal.specs.Found.{payloads, found_from}
+use Rattle.skk_journal.specs.Generations.{first_live}
 use Rattle.skk_journal.specs.Choice.{choice, idle_beside}
 use Rattle.skk_journal.specs.ChoiceLaws.{none_fresh, fresh_known_as}
 use Rattle.skk_journal.specs.Idle.{IsFreshAs, idle_of}
-use Rattle.skk_journal.specs.Opening.{with_records, HasChosen, BreaksOffIn, IsOpened}
-use Rattle.skk_journal.specs.Images.{Each, Sides, Opens, Anyhow}
+use Rattle.skk_journal.specs.Opening.{with_contents, contents_of, HasChosen, BreaksOffIn, IsOpened}
+use Rattle.skk_journal.specs.Images.{Each, Sides, Opens, OpensRecords, StillOpens, Anyhow}
 use Rattle.skk_journal.specs.Journal.{Holds}
 use Rattle.skk_journal.specs.Causes.{file_number, IsRefused}
 
@@ -28,52 +30,63 @@ use Rattle.skk_journal.specs.Causes.{file_number, IsRefused}
 pub no_live : (live : Live) → NoLive ≡ LiveIn live → ⊥
 no_live live is = cc
 
-module _ (image : Image) where
+module _ (newest : ℕ) (image : Image) where
   -- one of the files is no learned one
-  pub none_refused : (chosen : LiveChoice) (file : Which) (number first : ℕ) → chosen ≡ choice image
-      → chosen ≡ NoneBy file first → number ≡ file_number file → IsRefused image (NotJournal number first)
+  pub none_refused : (chosen : LiveChoice) (file : Which) (number first : ℕ) → chosen ≡ choice newest image
+      → chosen ≡ NoneBy file first → number ≡ file_number file → IsRefused newest image (NotJournal number first)
   none_refused chosen file number first read is told = (file, told, sym read ∙ is)
 
   -- one of the files has no whole generation
   pub cut_refused : (chosen : LiveChoice) (file : Which) (number : ℕ) (before : List FoundRecord)
-      → chosen ≡ choice image
-      → chosen ≡ CutShortIn file → number ≡ file_number file → before ≡ [] → IsRefused image (BadRecord number 9 before)
+      → chosen ≡ choice newest image → chosen ≡ CutShortIn file → number ≡ file_number file → before ≡ []
+      → IsRefused newest image (BadRecord number 9 newest before)
   cut_refused chosen file number before read is told none = (
     file,
     told,
-    subst (BreaksOffIn image file 9 (payloads before)) (sym (sym read ∙ is)) (refl, refl, ap payloads none),
+    subst (BreaksOffIn newest image file 9 (record { version = newest; records = payloads before }))
+        (sym (sym read ∙ is))
+        (refl, refl, ap (λ (l : List FoundRecord). record { version = newest; records = payloads l }) none),
     none ∙ sym (ap (λ l. found_from first_place (payloads l)) none),
   )
 
   -- no file is live
-  pub none_opened : (records : List FoundRecord) → choice image ≡ NoLive → records ≡ []
-      → IsOpened image (with_records (payloads records))
-  none_opened records is none = subst (HasChosen image (payloads records)) (sym is) (ap payloads none)
+  pub none_opened : (records : List FoundRecord) → choice newest image ≡ NoLive → records ≡ []
+      → IsOpened newest image (with_contents (contents_of (first_live newest) (payloads records)))
+  none_opened records is none =
+      subst (HasChosen newest image (contents_of (first_live newest) (payloads records))) (sym is)
+      (ap (λ (l : List FoundRecord). contents_of (first_live newest) (payloads l)) none)
 
-  -- so an image that is opened with records has none
-  pub none_there : (records : List (List ℕ)) → choice image ≡ NoLive → IsOpened image (with_records records)
-      → records ≡ []
-  none_there records is opened = subst (HasChosen image records) is opened
+  -- so an image that is opened with contents has no records
+  pub none_there : (contents : Contents) → choice newest image ≡ NoLive
+      → IsOpened newest image (with_contents contents) → contents ≡ no_records newest
+  none_there contents is opened = subst (HasChosen newest image contents) is opened
 
   -- a file is live
-  pub live_opened : (live : Live) (records : List (List ℕ)) → choice image ≡ LiveIn live
-      → HasRecords live.generation records (part live.file image) → IsOpened image (with_records records)
-  live_opened live records is has = subst (HasChosen image records) (sym is) has
-
-  pub beside_is : (file : Which) (chosen : Chosen) → chosen.first ≡ idle_of image.a → chosen.second ≡ idle_of image.b
-      → idle_beside file chosen ≡ idle_of (part (other file) image)
-  beside_is A chosen first second = second
-  beside_is B chosen first second = first
+  pub live_opened : (live : Live) (contents : Contents) → choice newest image ≡ LiveIn live
+      → HasContents newest live.generation contents (part live.file image)
+      → IsOpened newest image (with_contents contents)
+  live_opened live contents is has = subst (HasChosen newest image contents) (sym is) has
 
   -- where none is live both are known to be fresh
-  pub none_sides : (chosen : Chosen) → choice image ≡ NoLive → chosen.first ≡ idle_of image.a
-      → chosen.second ≡ idle_of image.b → Sides A (IsFreshAs chosen.first) (IsFreshAs chosen.second) image
+  pub none_sides : (chosen : Chosen) → choice newest image ≡ NoLive → chosen.first ≡ idle_of image.a
+      → chosen.second ≡ idle_of image.b
+      → Sides A (IsFreshAs newest chosen.first) (IsFreshAs newest chosen.second) image
   none_sides chosen is first second =
-      let fresh = none_fresh image is in
+      let fresh = none_fresh newest image is in
       record {
-        this = subst (λ (i : Idle). IsFreshAs i image.a) (sym first) (fresh_known_as image.a fresh.0);
-        that = subst (λ (i : Idle). IsFreshAs i image.b) (sym second) (fresh_known_as image.b fresh.1);
+        this = subst (λ (i : Idle). IsFreshAs newest i image.a) (sym first) (fresh_known_as newest image.a fresh.0);
+        that = subst (λ (i : Idle). IsFreshAs newest i image.b) (sym second) (fresh_known_as newest image.b fresh.1);
       }
+
+  -- an image is opened as itself
+  pub still_opens : (contents : Contents) → Opens newest contents image → StillOpens newest image contents image
+  still_opens contents opens = record { records = (contents.version, opens); live = λ some. opens }
+
+-- what is known of the file that is not this one
+pub beside_is : (image : Image) (file : Which) (chosen : Chosen) → chosen.first ≡ idle_of image.a
+    → chosen.second ≡ idle_of image.b → idle_beside file chosen ≡ idle_of (part (other file) image)
+beside_is image A chosen first second = second
+beside_is image B chosen first second = first
 
 -- what holds of one image holds of each that is the same
 pub each_same : (images : Image → Type 0) (seen : Image) (P : Image → Type 0) → Each images (λ image. image ≡ seen)
@@ -92,10 +105,12 @@ module _ {D : Type 0} (time : D → ℕ) (left_since : D → ℕ → Image → T
       each image (subst (λ (t : ℕ). left_since start t image) then (same.no_more (time new) image left))
 
   -- what each image is opened with, where there was one, it is opened with after a read
-  pub read_opens : (seen : Image) (records : List (List ℕ))
-      → Each (left_since start (time start)) (λ image. image ≡ seen) → Opens records seen
-      → Each (left_since new (time start)) (Opens records)
-  read_opens seen records one opens = each_since (Opens records) (each_same _ seen (Opens records) one opens)
+  pub read_opens : (newest : ℕ) (seen : Image) (contents : Contents)
+      → Each (left_since start (time start)) (λ image. image ≡ seen) → Opens newest contents seen
+      → Each (left_since new (time start)) (StillOpens newest seen contents)
+  read_opens newest seen contents one opens =
+      each_since (StillOpens newest seen contents)
+      (each_same _ seen (StillOpens newest seen contents) one (still_opens newest seen contents opens))
 
   -- a read changes no file
   pub read_alone : ComeFrom (InFile A Anyhow) (left_since start (time start)) (left_since new (time start))
@@ -110,21 +125,28 @@ module _ {D : Type 0} (time : D → ℕ) (left_since : D → ℕ → Image → T
       (λ old between new one two. tt) read_alone
       (subst (λ (t : ℕ). ComeFrom (InFile A Anyhow) (left_since new t) (last t)) no_later step)
 
-  module _ (seen : Image) (one : Each (left_since start (time start)) (λ image. image ≡ seen))
-      (no_later : time new ≡ time start) (chosen : Chosen) (is : choice seen ≡ NoLive)
+  module _ (newest : ℕ) (seen : Image) (one : Each (left_since start (time start)) (λ image. image ≡ seen))
+      (no_later : time new ≡ time start) (chosen : Chosen) (is : choice newest seen ≡ NoLive)
       (first : chosen.first ≡ idle_of seen.a) (second : chosen.second ≡ idle_of seen.b) where
     -- where none is live, both files of each image are known to be fresh
-    pub none_each : Each (left_since new (time new)) (Sides A (IsFreshAs chosen.first) (IsFreshAs chosen.second))
-    none_each = each_now _ no_later (each_same _ seen _ one (none_sides seen chosen is first second))
+    pub none_each : Each (left_since new (time new))
+        (Sides A (IsFreshAs newest chosen.first) (IsFreshAs newest chosen.second))
+    none_each = each_now _ no_later (each_same _ seen _ one (none_sides newest seen chosen is first second))
 
-    -- a filling by which each image is opened with no records leaves it opened as it was
-    pub none_fills : (last : ℕ → Image → Type 0) (records : List (List ℕ))
-        → (Each (left_since new (time new)) (Sides A (IsFreshAs chosen.first) (IsFreshAs chosen.second))
-        → Each (last (time new)) (Opens []))
-        → Opens records seen → Each (last (time start)) (Opens records)
-    none_fills last records fills opens image left =
-        subst (λ (l : List (List ℕ)). Opens l image) (sym (none_there seen records is opens))
-        (fills none_each image (subst (λ (t : ℕ). last t image) (sym no_later) left))
+    -- a filling by which each image is opened with no records leaves it opened so
+    pub none_fills : (last : ℕ → Image → Type 0) (contents : Contents)
+        → (Each (left_since new (time new))
+        (Sides A (IsFreshAs newest chosen.first) (IsFreshAs newest chosen.second))
+        → Each (last (time new)) (OpensRecords newest []))
+        → Opens newest contents seen → Each (last (time start)) (StillOpens newest seen contents)
+    none_fills last contents fills opens image left =
+        let none = none_there newest seen contents is opens in
+        record {
+          records =
+              subst (λ (c : Contents). OpensRecords newest c.records image) (sym none)
+              (fills none_each image (subst (λ (t : ℕ). last t image) (sym no_later) left));
+          live = λ some. absurd (some is);
+        }
 
 -- one read and then another one
 pub reads_on : (first second third : ℕ → Image → Type 0) → SameImages first second → SameImages second third
@@ -139,11 +161,15 @@ pub same_image : (c d : Image) → c.a ≡ d.a → c.b ≡ d.b → c ≡ d
 same_image c d a b = λ i. record { a = a i; b = b i }
 
 -- what the one image has that was read, each has
-pub read_holds : {E : Type 0} (result : Result OpenedFiles E) (tells P : Type 0) (new : Image → Type 0) (image : Image)
-    → (tells → IfOk result (λ opened. Holds opened.live opened.idle (payloads opened.records) image))
+pub read_holds : {E : Type 0} (newest : ℕ) (result : Result OpenedFiles E) (tells P : Type 0) (new : Image → Type 0)
+    (image : Image)
+    → (tells → IfOk result (λ opened.
+    Holds newest opened.live opened.idle (contents_of opened.live (payloads opened.records)) image))
     → (P → (now : Image) → new now → tells × (now ≡ image))
-    → IfOk result (λ opened. P → Each new (Holds opened.live opened.idle (payloads opened.records)))
-read_holds (Err e) tells P new image holds moments = tt
-read_holds (Ok opened) tells P new image holds moments = λ p now left.
+    → IfOk result (λ opened. P → Each new
+    (Holds newest opened.live opened.idle (contents_of opened.live (payloads opened.records))))
+read_holds newest (Err e) tells P new image holds moments = tt
+read_holds newest (Ok opened) tells P new image holds moments = λ p now left.
     let told = moments p now left in
-    subst (Holds opened.live opened.idle (payloads opened.records)) (sym told.1) (holds told.0)
+    subst (Holds newest opened.live opened.idle (contents_of opened.live (payloads opened.records))) (sym told.1)
+    (holds told.0)

@@ -18,13 +18,14 @@ file_number A = 0
 file_number B = 1
 
 -- an image that is refused is opened so, and the records that are given stand at their places
-abbrev pub IsRefused : Image → OpenFault → Type 0
-IsRefused image (opening.NotJournal number first) =
-    (file : Which) × (number ≡ file_number file) × IsOpened image (not_journal file first)
-IsRefused image (opening.BadRecord number at before) =
-    (file : Which) × (number ≡ file_number file) × IsOpened image (bad_record file at (payloads before))
+abbrev pub IsRefused : ℕ → Image → OpenFault → Type 0
+IsRefused newest image (opening.NotJournal number first) =
+    (file : Which) × (number ≡ file_number file) × IsOpened newest image (not_journal file first)
+IsRefused newest image (opening.BadRecord number at version before) =
+    (file : Which) × (number ≡ file_number file)
+    × IsOpened newest image (bad_record file at (record { version = version; records = payloads before }))
     × (before ≡ found_from first_place (payloads before))
-IsRefused image fault = ⊤
+IsRefused newest image fault = ⊤
 
 -- a fact holds unless a disk failed
 abbrev pub UnlessDisk : OpenFault → Type 0 → Type 0

@@ -43,10 +43,11 @@ file_counts B own others = not (first_counts others own)
 abbrev pub counts : Live → ℕ → Bool
 counts live generation = file_counts live.file live.generation generation
 
--- the file that is live where there was none: the first one, with the first generation
-abbrev pub first_live : Live
-first_live = record { file = A; generation = 1 }
+-- the file that is live where there was none: the first one, of the newest version, with the first generation
+abbrev pub first_live : ℕ → Live
+first_live newest = record { file = A; version = newest; generation = 1 }
 
--- the file that is live after this one: the other one, with the next generation
-abbrev pub live_after : Live → Live
-live_after live = record { file = other live.file; generation = one_more live.generation }
+-- the file that is live after this one: the other one, of the newest version, with the next generation
+abbrev pub live_after : ℕ → Live → Live
+live_after newest live =
+    record { file = other live.file; version = newest; generation = one_more live.generation }

@@ -1,6 +1,7 @@
 pub mod Causes
 pub mod Choice
 pub mod ChoiceLaws
+pub mod Contents
 pub mod Filling
 pub mod Found
 pub mod FrameLaws
@@ -8,6 +9,7 @@ pub mod Frames
 pub mod Gating
 pub mod GenerationLaws
 pub mod Generations
+pub mod HeadLaws
 pub mod Heads
 pub mod Idle
 pub mod IdleLaws

@@ -1,9 +1,9 @@
 -- Records that are read one after another, part by part.
 use Rattle.std.specs.Prelude.{◌≡◌, ⊤, ℕ, ◌≤◌, true, List, ◌++◌, length, drop, All}
-use Rattle.skk_disk.specs.declared.which.Which.{Which}
 use Rattle.skk_journal.specs.declared.found.FoundRecord.{FoundRecord}
 use Rattle.skk_journal.specs.declared.frames.Stop.{Stop}
 use Rattle.skk_journal.specs.declared.frames.Stop.TheVariants.{End, Else}
+use Rattle.skk_journal.specs.declared.live.Live.{Live}
 use Rattle.skk_journal.specs.declared.records.RecordsFault.{RecordsFault}
 use Rattle.skk_journal.specs.declared.records.RecordsFault.TheVariants as reading
 use Rattle.skk_journal.specs.declared.fault.OpenFault.{OpenFault}
@@ -51,8 +51,8 @@ abbrev pub TellsNoPlace : RecordsFault → Type 0
 TellsNoPlace (reading.Bad at before) = ⊥
 TellsNoPlace fault = ⊤
 
--- why the records of a file were not read is why the files are not opened
-abbrev pub SameCause : Which → RecordsFault → OpenFault → Type 0
-SameCause file reading.Disk fault = fault ≡ opening.Disk
-SameCause file reading.Memory fault = fault ≡ opening.Memory
-SameCause file (reading.Bad at before) fault = fault ≡ opening.BadRecord (file_number file) at before
+-- why the records of the live file were not read is why the files are not opened
+abbrev pub SameCause : Live → RecordsFault → OpenFault → Type 0
+SameCause live reading.Disk fault = fault ≡ opening.Disk
+SameCause live reading.Memory fault = fault ≡ opening.Memory
+SameCause live (reading.Bad at before) fault = fault ≡ opening.BadRecord (file_number live.file) at live.version before

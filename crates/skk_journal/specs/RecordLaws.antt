@@ -7,7 +7,8 @@ use Rattle.std.specs.Int.{w32, w64}
 use Rattle.exact_readers.specs.Numbers.{number_bytes}
 use Rattle.exact_readers.specs.NumberLaws.{told_32}
 use Rattle.skk_journal.specs.Records.{record_bytes, need, framed, behind_gate, mark, front}
-use Rattle.skk_journal.specs.Records.{IsSized, end_of, HasRecords, HasAddition}
+use Rattle.skk_journal.specs.Records.{IsSized, end_of, HasContents, HasAddition}
+use Rattle.skk_journal.specs.Contents.{Contents, with_added}
 use Rattle.skk_journal.specs.Gating.{IsStaged}
 
 -- a record has five bytes more than its payload
@@ -41,49 +42,53 @@ end_of-push records payload =
     )
 
 -- the front of a file with more records
-pub front-append : (generation : ℕ) (records added : List (List ℕ)) (rest : List ℕ)
-    → front generation records ++ (framed added ++ rest) ≡ front generation (records ++ added) ++ rest
-front-append generation records added rest =
+pub front-append : (generation : ℕ) (contents : Contents) (added : List (List ℕ)) (rest : List ℕ)
+    → front generation contents ++ (framed added ++ rest) ≡ front generation (with_added contents added) ++ rest
+front-append generation contents added rest =
     let bytes = number_bytes w64 generation in
+    let records = contents.records in
     let inner : (bytes ++ framed records) ++ (framed added ++ rest) ≡ (bytes ++ framed (records ++ added)) ++ rest =
     append_assoc bytes (framed records) (framed added ++ rest)
     ∙ ap (λ (l : List ℕ). bytes ++ l) (sym (append_assoc (framed records) (framed added) rest)
     ∙ ap (λ (l : List ℕ). l ++ rest) (sym (framed-append records added)))
     ∙ sym (append_assoc bytes (framed (records ++ added)) rest) in
-    ap (λ (l : List ℕ). 1 ∷ (mark ++ l)) inner
+    ap (λ (l : List ℕ). 1 ∷ (mark contents.version ++ l)) inner
 
-module _ (generation : ℕ) (records : List (List ℕ)) where
+module _ (newest generation : ℕ) (contents : Contents) where
   -- with a closed gate the added records do not count
   pub gated_shut : (added : List (List ℕ)) (gate : ℕ) (file : List ℕ) → gate ≢ 1
-      → HasAddition generation records added gate file → HasRecords generation records file
+      → HasAddition newest generation contents added gate file → HasContents newest generation contents file
   gated_shut added gate file shut gated = record {
     gate = gate;
     rest = behind_gate added ++ 0 ∷ gated.rest;
     is = gated.is;
+    right = gated.right;
     told = gated.told;
     sized = gated.sized;
     closed = shut;
   }
 
   -- with an open gate the added records count
-  pub gated_open : (added : List (List ℕ)) (file : List ℕ) → HasAddition generation records added 1 file
-      → HasRecords generation (records ++ added) file
+  pub gated_open : (added : List (List ℕ)) (file : List ℕ) → HasAddition newest generation contents added 1 file
+      → HasContents newest generation (with_added contents added) file
   gated_open [] file gated = absurd (omega (arith, gated.addition.some))
   gated_open (first ∷ others) file gated = record {
     gate = 0;
     rest = gated.rest;
-    is = gated.is ∙ front-append generation records (first ∷ others) (0 ∷ gated.rest);
+    is = gated.is ∙ front-append generation contents (first ∷ others) (0 ∷ gated.rest);
+    right = gated.right;
     told = gated.told;
-    sized = All-append IsSized records (first ∷ others) gated.sized gated.addition.sized;
+    sized = All-append IsSized contents.records (first ∷ others) gated.sized gated.addition.sized;
     closed = λ same. omega (arith, same);
   }
 
   -- records in doubt count or they do not
-  pub staged_either : (added : List (List ℕ)) (file : List ℕ) → IsStaged generation records added file
-      → HasRecords generation records file ⊎ HasRecords generation (records ++ added) file
+  pub staged_either : (added : List (List ℕ)) (file : List ℕ) → IsStaged newest generation contents added file
+      → HasContents newest generation contents file
+      ⊎ HasContents newest generation (with_added contents added) file
   staged_either added file from = elim (cases_eq from.0 1) [
     | inl is_open ↦
         inr (gated_open added file
-        (subst (λ (gate : ℕ). HasAddition generation records added gate file) is_open from.1))
+        (subst (λ (gate : ℕ). HasAddition newest generation contents added gate file) is_open from.1))
     | inr shut ↦ inl (gated_shut added from.0 file shut from.1)
   ]

@@ -4,6 +4,7 @@ use Rattle.std.specs.Prelude.{◌∷◌, ◌++◌, length, take, drop, All}
 use Rattle.std.specs.Int.{w32, w64}
 use Rattle.exact_readers.specs.Formats.{Format, then_at, behind}
 use Rattle.exact_readers.specs.Numbers.{number, number_bytes}
+use Rattle.skk_journal.specs.Contents.{Contents}
 
 -- the most bytes of a payload
 abbrev pub payload_limit : ℕ
@@ -58,9 +59,17 @@ pub record IsAddition (added : List (List ℕ)) : Type 0 where
   pub some : 0 < length added
   pub sized : All IsSized added
 
--- SKKDESK, and the version
-abbrev pub mark : List ℕ
-mark = 83 ∷ 75 ∷ 75 ∷ 68 ∷ 69 ∷ 83 ∷ 75 ∷ 1 ∷ []
+-- SKKDESK
+abbrev pub mark_name : List ℕ
+mark_name = 83 ∷ 75 ∷ 75 ∷ 68 ∷ 69 ∷ 83 ∷ 75 ∷ []
+
+-- the mark of a file of this version
+abbrev pub mark : ℕ → List ℕ
+mark version = mark_name ++ version ∷ []
+
+-- a number may be the version of a file, where this is the newest one
+abbrev pub IsVersion : ℕ → ℕ → Type 0
+IsVersion newest version = (1 ≤ version) × (version ≤ newest)
 
 -- the greatest generation
 abbrev pub last_generation : ℕ
@@ -78,9 +87,11 @@ generation_place = 9
 abbrev pub first_place : ℕ
 first_place = 17
 
--- a file up to the gate behind its records: its own gate, which is open, its mark, its generation, and these records
-abbrev pub front : ℕ → List (List ℕ) → List ℕ
-front generation records = 1 ∷ (mark ++ (number_bytes w64 generation ++ framed records))
+-- a file up to the gate behind its records: its own gate, which is open, its mark, its generation, and these contents'
+-- records
+abbrev pub front : ℕ → Contents → List ℕ
+front generation contents =
+    1 ∷ (mark contents.version ++ (number_bytes w64 generation ++ framed contents.records))
 
 -- the place of the gate behind these records
 abbrev pub place_behind : List (List ℕ) → ℕ
@@ -90,26 +101,32 @@ place_behind records = first_place + length (framed records)
 abbrev pub end_of : List (List ℕ) → ℕ
 end_of records = place_behind records + 1
 
--- the records of a file of this generation have just these payloads: then there is a closed gate, whatever follows it
-pub record HasRecords (generation : ℕ) (records : List (List ℕ)) (file : List ℕ) : Type 0 where
+-- a file of this generation has just these contents, where this version is the newest one: behind its records there is
+-- a closed gate, whatever follows it
+pub record HasContents (newest generation : ℕ) (contents : Contents) (file : List ℕ) : Type 0 where
   pub gate : ℕ
   pub rest : List ℕ
-  pub is : file ≡ front generation records ++ gate ∷ rest
+  pub is : file ≡ front generation contents ++ gate ∷ rest
+  pub right : IsVersion newest contents.version
   pub told : IsGeneration generation
-  pub sized : All IsSized records
+  pub sized : All IsSized contents.records
   pub closed : gate ≢ 1
 
--- a file of this generation has these records, then this gate, and behind it all of the added ones and a closed gate,
--- whatever follows it
-pub record HasAddition (generation : ℕ) (records added : List (List ℕ)) (gate : ℕ) (file : List ℕ) : Type 0 where
+-- a file of this generation has these contents, then this gate, and behind it all of the added records and a closed
+-- gate, whatever follows it
+pub record HasAddition (newest generation : ℕ) (contents : Contents) (added : List (List ℕ)) (gate : ℕ)
+    (file : List ℕ) : Type 0 where
   pub rest : List ℕ
-  pub is : file ≡ front generation records ++ gate ∷ (behind_gate added ++ 0 ∷ rest)
+  pub is : file ≡ front generation contents ++ gate ∷ (behind_gate added ++ 0 ∷ rest)
+  pub right : IsVersion newest contents.version
   pub told : IsGeneration generation
-  pub sized : All IsSized records
+  pub sized : All IsSized contents.records
   pub addition : IsAddition added
 
--- a file has this first byte, the mark and this generation, whatever follows them
-pub record Marked (first generation : ℕ) (file : List ℕ) : Type 0 where
+-- a file has this first byte, the mark of this version, which is a right one, and this generation, whatever follows
+-- them
+pub record Marked (newest first version generation : ℕ) (file : List ℕ) : Type 0 where
   pub rest : List ℕ
-  pub is : file ≡ first ∷ (mark ++ (number_bytes w64 generation ++ rest))
+  pub is : file ≡ first ∷ (mark version ++ (number_bytes w64 generation ++ rest))
+  pub right : IsVersion newest version
   pub told : IsGeneration generation

@@ -13,7 +13,8 @@ use Rattle.skk_journal.specs.declared.live.Live.{Live}
 use Rattle.skk_journal.specs.declared.live.Idle.{Idle}
 use Rattle.skk_journal.specs.declared.live.Doubt.{Doubt}
 use Rattle.skk_journal.specs.declared.live.Doubt.TheVariants as doubts
-use Rattle.skk_journal.specs.Records.{mark, last_generation, IsSized, framed, HasRecords}
+use Rattle.skk_journal.specs.Contents.{Contents, with_added}
+use Rattle.skk_journal.specs.Records.{mark, last_generation, IsSized, IsVersion, framed, HasContents}
 use Rattle.skk_journal.specs.RecordLaws.{staged_either}
 use Rattle.skk_journal.specs.Generations.{one_more, HasGeneration, live_after}
 use Rattle.skk_journal.specs.Heads.{is_fresh}
@@ -38,24 +39,25 @@ turned file P Q image sides = record {
   that = subst (λ (f : Which). P (part f image)) (sym (other_other file)) sides.this;
 }
 
--- where nothing is in doubt, an image is opened with the records of its live file
-pub holds_opens : (live : Live) (idle : Idle) (records : List (List ℕ)) (image : Image)
-    → Holds live idle records image → Opens records image
-holds_opens live idle records image holds =
-    sides_open live records image holds.this (known_idle (Some live) idle (part (other live.file) image) holds.that)
+-- where nothing is in doubt, an image is opened with the contents of its live file
+pub holds_opens : (newest : ℕ) (live : Live) (idle : Idle) (contents : Contents) (image : Image)
+    → Holds newest live idle contents image → Opens newest contents image
+holds_opens newest live idle contents image holds =
+    sides_open newest live contents image holds.this
+    (known_idle newest (Some live) idle (part (other live.file) image) holds.that)
 
 -- where a gate is in doubt, an image is opened with the records before it, or with those behind it too
-pub staged_opens : (live : Live) (idle : Idle) (records others : List (List ℕ)) (image : Image)
-    → Sides live.file (IsStagedTo live.generation records others) (IsKnown (Some live) idle) image
-    → OpensEither records others image
-staged_opens live idle records others image sides =
-    let gives = known_idle (Some live) idle (part (other live.file) image) sides.that in
+pub staged_opens : (newest : ℕ) (live : Live) (idle : Idle) (contents others : Contents) (image : Image)
+    → Sides live.file (IsStagedTo newest live.generation contents others) (IsKnown newest (Some live) idle) image
+    → OpensEither newest contents others image
+staged_opens newest live idle contents others image sides =
+    let gives = known_idle newest (Some live) idle (part (other live.file) image) sides.that in
     let added = sides.this.0 in
-    elim (staged_either live.generation records added (part live.file image) sides.this.2) [
-      | inl has ↦ inl (sides_open live records image has gives)
+    elim (staged_either newest live.generation contents added (part live.file image) sides.this.2) [
+      | inl has ↦ inl (sides_open newest live contents image has gives)
       | inr has ↦
-          inr (subst (λ (l : List (List ℕ)). Opens l image) (sym sides.this.1)
-          (sides_open live (records ++ added) image has gives))
+          inr (subst (λ (c : Contents). Opens newest c image) (sym sides.this.1)
+          (sides_open newest live (with_added contents added) image has gives))
     ]
 
 more_small : (own : ℕ) → own ≤ last_generation → one_more own ≤ last_generation
@@ -67,55 +69,69 @@ same_test n = grind (arith, nat_tests)
 not_after : (own : ℕ) → (own == one_more (one_more own)) ≡ false
 not_after own = grind (arith, nat_tests)
 
-module _ (live : Live) (records : List (List ℕ)) (file : List ℕ) where
-  -- the file that was live gives way to it
-  pub old_gives_way : HasRecords live.generation records file
-      → GivesWay (Some (live_after live)) file
+module _ (newest : ℕ) (live : Live) (contents : Contents) (file : List ℕ) where
+  -- the file that was live gives way to the next one
+  pub old_gives_way : HasContents newest live.generation contents file
+      → GivesWay newest (Some (live_after newest live)) file
   old_gives_way has = (
+    contents.version,
     live.generation,
-    has_marked live.generation records file has,
+    has_marked newest live.generation contents file has,
     next_counts (other live.file) (one_more live.generation) live.generation (same_test (one_more live.generation))
         (not_after live.generation),
   )
 
-  -- a filled file whose gate is open has its records
-  pub filled_has : HasGeneration (Some live) → All IsSized records
-      → file ≡ filled_bytes 1 (one_more live.generation) (framed records)
-      → HasRecords (one_more live.generation) records file
-  filled_has small sized is =
+  -- a filled file whose gate is open has its contents
+  pub filled_has : IsVersion newest contents.version → HasGeneration (Some live) → All IsSized contents.records
+      → file ≡ filled_bytes 1 contents.version (one_more live.generation) (framed contents.records)
+      → HasContents newest (one_more live.generation) contents file
+  filled_has right small sized is =
       let bytes = number_bytes w64 (one_more live.generation) in
       record {
         gate = 0;
         rest = [];
-        is = is ∙ ap (λ (l : List ℕ). 1 ∷ (mark ++ l)) (sym (append_assoc bytes (framed records) (0 ∷ [])));
+        is =
+            is
+            ∙ ap (λ (l : List ℕ). 1 ∷ (mark contents.version ++ l))
+            (sym (append_assoc bytes (framed contents.records) (0 ∷ [])));
+        right = right;
         told = more_small live.generation small;
         sized = sized;
         closed = λ same. omega (arith, same);
       }
 
--- beside a filled file the old records count, or its own
-pub filled_opens : (live : Live) (records others : List (List ℕ)) (image : Image)
-    → Sides live.file (HasRecords live.generation records) (IsFilled live others) image
-    → OpensEither records others image
-filled_opens live records others image sides = elim (cases_eq sides.that.2.0 1) [
-  | inl is_open ↦
-      let file = part (other live.file) image in
-      let is : file ≡ filled_bytes 1 (one_more live.generation) (framed others) =
-      sides.that.2.1 ∙ ap (λ (n : ℕ). filled_bytes n (one_more live.generation) (framed others)) is_open in
-      let gives = turned live.file (λ (l : List ℕ). IsIdle (Some (live_after live)) l)
-      (λ (l : List ℕ). l ≡ file) image
-      (record { this = inr (old_gives_way live records (part live.file image) sides.this); that = refl }) in
-      inr (sides_open (live_after live) others image
-      (filled_has live others file sides.that.0 sides.that.1 is) gives.that)
-  | inr shut ↦
-      inl (sides_open live records image sides.this
-      (inl (subst (λ (l : List ℕ). is_fresh l ≡ true) (sym sides.that.2.1)
-      (marked_fresh sides.that.2.0 (number_bytes w64 (one_more live.generation) ++ (framed others ++ 0 ∷ [])) shut))))
-]
+-- beside a filled file the old contents count, or its own
+pub filled_opens : (newest : ℕ) (live : Live) (contents others : Contents) (image : Image)
+    → Sides live.file (HasContents newest live.generation contents) (IsFilled newest live others) image
+    → OpensEither newest contents others image
+filled_opens newest live contents others image sides =
+    let (right, small, sized, (first, filled)) = sides.that in
+    let file = part (other live.file) image in
+    let next = one_more live.generation in
+    elim (cases_eq first 1) [
+      | inl is_open ↦
+          let is : file ≡ filled_bytes 1 others.version next (framed others.records) =
+          filled ∙ ap (λ (n : ℕ). filled_bytes n others.version next (framed others.records)) is_open in
+          let gives = turned live.file (λ (l : List ℕ). IsIdle newest (Some (live_after newest live)) l)
+          (λ (l : List ℕ). l ≡ file) image
+          (record {
+            this = inr (old_gives_way newest live contents (part live.file image) sides.this);
+            that = refl;
+          }) in
+          inr (sides_open newest (live_after newest live) others image
+          (filled_has newest live others file right small sized is) gives.that)
+      | inr shut ↦
+          inl (sides_open newest live contents image sides.this
+          (inl (subst (λ (l : List ℕ). is_fresh newest l ≡ true) (sym filled)
+          (marked_fresh newest first others.version (number_bytes w64 next ++ (framed others.records ++ 0 ∷ []))
+          right shut))))
+    ]
 
 -- what is in doubt counts or it does not
-pub doubt_opens : (live : Live) (idle : Idle) (doubt : Doubt) (records others : List (List ℕ)) (image : Image)
-    → HoldsDoubt live idle doubt records others image → OpensEither records others image
-doubt_opens live idle doubts.Calm records others image holds = absurd holds
-doubt_opens live idle doubts.Record records others image holds = staged_opens live idle records others image holds
-doubt_opens live idle doubts.Idle records others image holds = filled_opens live records others image holds
+pub doubt_opens : (newest : ℕ) (live : Live) (idle : Idle) (doubt : Doubt) (contents others : Contents) (image : Image)
+    → HoldsDoubt newest live idle doubt contents others image → OpensEither newest contents others image
+doubt_opens newest live idle doubts.Calm contents others image holds = absurd holds
+doubt_opens newest live idle doubts.Record contents others image holds =
+    staged_opens newest live idle contents others image holds
+doubt_opens newest live idle doubts.Idle contents others image holds =
+    filled_opens newest live contents others image holds

@@ -1,10 +1,9 @@
 ghost use Rattle.std.specs.Prelude.{◌≡◌, ◌≤◌, length, IfOk, OnErr};
 ghost use Rattle.skk_outside.specs.Faults.{Rose};
 ghost use Rattle.skk_disk.specs.Moments.{SameImages};
-ghost use Rattle.skk_journal.specs.declared.head.Head.TheVariants.{Headed};
 ghost use Rattle.skk_journal.specs.declared.journal.TheConstants.{PIECE_ROOM};
 ghost use Rattle.skk_journal.specs.Generations.{first_counts};
-ghost use Rattle.skk_journal.specs.Choice.{lives, choice_of, choice};
+ghost use Rattle.skk_journal.specs.Choice.{lives, choice_of, choice, ChoosesVersion};
 ghost use Rattle.skk_journal.specs.Idle.{idle_of};
 
 use crate::head::{Head, read_front};
@@ -47,22 +46,15 @@ fn counts_first(first: u64, second: u64) -> bool
     }
 }
 
-// A file that is live, with its generation.
-fn live_in(file: Which, generation: u64) -> LiveChoice
-    ensures { result ≡ lives file generation }
+// A file that is live, with its version and its generation.
+fn live_in(file: Which, version: u8, generation: u64) -> LiveChoice
+    ensures { result ≡ lives file version generation }
 {
-    LiveChoice::LiveIn(Live { file, generation })
-}
-
-// Chooses between two headed files by their generations.
-fn newer(first: u64, second: u64) -> LiveChoice
-    ensures { result ≡ choice_of (Headed first) (Headed second) }
-{
-    if counts_first(first, second) {
-        live_in(Which::A, first)
-    } else {
-        live_in(Which::B, second)
-    }
+    LiveChoice::LiveIn(Live {
+        file,
+        version,
+        generation,
+    })
 }
 
 // Chooses between two files by their heads.
@@ -79,21 +71,41 @@ fn choose(first: Head, second: Head) -> LiveChoice
             Head::Foreign(byte) => LiveChoice::NoneBy(Which::B, byte),
             Head::CutShort => LiveChoice::CutShortIn(Which::B),
             Head::Fresh => LiveChoice::NoLive,
-            Head::Headed(generation) => live_in(Which::B, generation),
+            Head::Headed {
+                version,
+                generation,
+            } => live_in(Which::B, version, generation),
         },
-        Head::Headed(own) => match second {
+        Head::Headed {
+            version,
+            generation,
+        } => match second {
             Head::Foreign(byte) => LiveChoice::NoneBy(Which::B, byte),
             Head::CutShort => LiveChoice::CutShortIn(Which::B),
-            Head::Fresh => live_in(Which::A, own),
-            Head::Headed(generation) => newer(own, generation),
+            Head::Fresh => live_in(Which::A, version, generation),
+            Head::Headed {
+                version: other,
+                generation: others,
+            } => {
+                if counts_first(generation, others) {
+                    live_in(Which::A, version, generation)
+                } else {
+                    live_in(Which::B, other, others)
+                }
+            }
         },
     }
 }
 
 // Reads the heads of both files, and chooses between them.
-pub(crate) fn read_choice<D: Disk>(disk: &mut D, buffer: &mut [u8]) -> Result<Chosen, Failed>
+pub(crate) fn read_choice<D: Disk>(
+    disk: &mut D,
+    newest: u8,
+    buffer: &mut [u8],
+) -> Result<Chosen, Failed>
     requires { length buffer.old ≡ PIECE_ROOM }
-    ensures choice { D.tells → IfOk result (λ chosen. chosen.choice ≡ choice (D.seen disk.old)) }
+    ensures choice { D.tells → IfOk result (λ chosen. chosen.choice ≡ choice newest (D.seen disk.old)) }
+    ensures right { IfOk result (λ chosen. ChoosesVersion newest chosen.choice) }
     ensures first { D.tells → IfOk result (λ chosen. chosen.first ≡ idle_of (D.seen disk.old).a) }
     ensures second { D.tells → IfOk result (λ chosen. chosen.second ≡ idle_of (D.seen disk.old).b) }
     ensures room { length buffer.new ≡ PIECE_ROOM }
@@ -103,8 +115,8 @@ pub(crate) fn read_choice<D: Disk>(disk: &mut D, buffer: &mut [u8]) -> Result<Ch
     ensures failed { OnErr result (Rose (D.faults disk.old) (D.faults disk.new)) }
     ensures counted { D.faults disk.old ≤ D.faults disk.new }
 {
-    let first = read_front(disk, Which::A, buffer)?;
-    let second = read_front(disk, Which::B, buffer)?;
+    let first = read_front(disk, Which::A, newest, buffer)?;
+    let second = read_front(disk, Which::B, newest, buffer)?;
     Ok(Chosen {
         choice: choose(first.head, second.head),
         first: first.idle,

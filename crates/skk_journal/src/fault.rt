@@ -11,11 +11,19 @@ pub enum OpenFault {
     Disk,
     /// It is no learned file; `first` is its first byte.
     #[error("the first byte of file {file} is {first}")]
-    NotJournal { file: u8, first: u8 },
+    NotJournal {
+        file: u8,
+        first: u8,
+    },
     /// At this place, the least such one, there is neither a good record nor a closed gate; or, at 9, no whole
-    /// generation. The records before it are given.
+    /// generation. The version of the file is given, the newest one at 9, and the records before that place.
     #[error("no record at {at} of file {file}")]
-    BadRecord { file: u8, at: u64, before: Records },
+    BadRecord {
+        file: u8,
+        at: u64,
+        version: u8,
+        before: Records,
+    },
     /// Out of memory.
     #[error("out of memory")]
     Memory,

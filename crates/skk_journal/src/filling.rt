@@ -1,4 +1,4 @@
-ghost use Rattle.std.specs.Prelude.{◌≡◌, ◌≤◌, ◌++◌, ◌∷◌, [], OnOk, OnErr};
+ghost use Rattle.std.specs.Prelude.{◌≡◌, ◌≤◌, ◌++◌, ◌∷◌, [], ℕ, OnOk, OnErr};
 ghost use Rattle.skk_outside.specs.Faults.{Rose};
 ghost use Rattle.skk_disk.specs.Moments.{Passes};
 ghost use Rattle.skk_disk.specs.Steps.{InFile, ComeFrom, Makes};
@@ -31,9 +31,10 @@ pub(crate) fn write_first<D: Disk>(disk: &mut D, file: Which, first: u8) -> Resu
 
 // Writes this generation and a closed gate behind it into a stray file: two calls.
 fn age<D: Disk>(disk: &mut D, file: Which, generation: u64) -> Result<(), Failed>
-    ensures images { ComeFrom (InFile file (Makes IsStray IsStray))
+    ensures images { (newest : ℕ) → ComeFrom (InFile file (Makes (IsStray newest) (IsStray newest)))
         (D.left_since disk.old (D.time disk.old)) (D.left_since disk.new (D.time disk.old)) }
-    ensures ok { OnOk result (ComeFrom (InFile file (Makes IsStray (IsAged generation)))
+    ensures ok { OnOk result ((newest : ℕ) →
+        ComeFrom (InFile file (Makes (IsStray newest) (IsAged newest generation)))
         (D.left_since disk.old (D.time disk.old)) (D.left_since disk.new (D.time disk.new))) }
     ensures past { Passes (D.time disk.old) (D.time disk.new) (D.left_since disk.old) (D.left_since disk.new) }
     ensures failed { OnErr result (Rose (D.faults disk.old) (D.faults disk.new)) }
@@ -50,9 +51,11 @@ fn bring_nearer<D: Disk>(
     beside: Option<Live>,
     idle: &mut Idle,
 ) -> Result<(), Failed>
-    ensures images { ComeFrom (InFile file (Makes (IsKnown beside idle.old) (IsIdle beside)))
+    ensures images { (newest : ℕ) →
+        ComeFrom (InFile file (Makes (IsKnown newest beside idle.old) (IsIdle newest beside)))
         (D.left_since disk.old (D.time disk.old)) (D.left_since disk.new (D.time disk.old)) }
-    ensures known { ComeFrom (InFile file (Makes (IsKnown beside idle.old) (IsKnown beside idle.new)))
+    ensures known { (newest : ℕ) →
+        ComeFrom (InFile file (Makes (IsKnown newest beside idle.old) (IsKnown newest beside idle.new)))
         (D.left_since disk.old (D.time disk.old)) (D.left_since disk.new (D.time disk.new)) }
     ensures ok { OnOk result (idle.new ≡ nearer idle.old) }
     ensures past { Passes (D.time disk.old) (D.time disk.new) (D.left_since disk.old) (D.left_since disk.new) }
@@ -81,9 +84,11 @@ pub(crate) fn blank<D: Disk>(
     beside: Option<Live>,
     idle: &mut Idle,
 ) -> Result<(), Failed>
-    ensures images { ComeFrom (InFile file (Makes (IsKnown beside idle.old) (IsIdle beside)))
+    ensures images { (newest : ℕ) →
+        ComeFrom (InFile file (Makes (IsKnown newest beside idle.old) (IsIdle newest beside)))
         (D.left_since disk.old (D.time disk.old)) (D.left_since disk.new (D.time disk.old)) }
-    ensures known { ComeFrom (InFile file (Makes (IsKnown beside idle.old) (IsKnown beside idle.new)))
+    ensures known { (newest : ℕ) →
+        ComeFrom (InFile file (Makes (IsKnown newest beside idle.old) (IsKnown newest beside idle.new)))
         (D.left_since disk.old (D.time disk.old)) (D.left_since disk.new (D.time disk.new)) }
     ensures ok { OnOk result (idle.new ≡ idles.Blank) }
     ensures past { Passes (D.time disk.old) (D.time disk.new) (D.left_since disk.old) (D.left_since disk.new) }

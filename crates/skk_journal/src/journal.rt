@@ -6,12 +6,13 @@ ghost use Rattle.skk_disk.specs.declared.which.Which.TheVariants.{A};
 ghost use Rattle.skk_disk.specs.Moments.{Passes};
 ghost use Rattle.skk_disk.specs.Steps.{InFile, ComeFrom};
 ghost use Rattle.skk_journal.specs.declared.choice.LiveChoice.TheVariants.{NoLive, LiveIn};
-ghost use Rattle.skk_journal.specs.Records.{IsSized, need, framed, first_place};
+ghost use Rattle.skk_journal.specs.Contents.{Contents, with_record};
+ghost use Rattle.skk_journal.specs.Records.{IsSized, IsVersion, need, framed, first_place};
 ghost use Rattle.skk_journal.specs.Found.{payloads, found_from};
 ghost use Rattle.skk_journal.specs.Generations.{live_after};
 ghost use Rattle.skk_journal.specs.Choice.{choice};
-ghost use Rattle.skk_journal.specs.Opening.{IsOpened, with_records};
-ghost use Rattle.skk_journal.specs.Images.{Each, Opens, OpensEither, Anyhow};
+ghost use Rattle.skk_journal.specs.Opening.{IsOpened, with_contents, contents_of};
+ghost use Rattle.skk_journal.specs.Images.{Each, Opens, OpensEither, StillOpens, Anyhow};
 ghost use Rattle.skk_journal.specs.Filling.{IsNew};
 ghost use Rattle.skk_journal.specs.Journal.{is_in_doubt, Rests, Doubts};
 ghost use Rattle.skk_journal.specs.Causes.{file_number, IsRefused, UnlessDisk, IsNotAdded};
@@ -40,6 +41,7 @@ pub(crate) const PIECE_ROOM: usize = 131_077;
 #[derive(Drop)]
 pub struct Journal<D> {
     disk: D,
+    newest: u8,
     live: Live,
     end: u64,
     idle: Idle,
@@ -49,14 +51,22 @@ pub struct Journal<D> {
 
 impl<D> Model for Journal<D> {
     ghost use Rattle.std.specs.Prelude.{◌≡◌, ◌≤◌, length};
+    ghost use Rattle.skk_journal.specs.Records.{IsVersion};
     ghost use Rattle.skk_journal.specs.Journal.{OpenJournal};
     ghost use Rattle.skk_journal.specs.declared.journal.TheConstants.{PIECE_ROOM};
 
     ghost Value = { OpenJournal D };
 
-    ghost view = { λ j. record { disk = j.disk; live = j.live; end = j.end; idle = j.idle; doubt = j.doubt } };
+    ghost view = { λ j. record {
+      disk = j.disk;
+      newest = j.newest;
+      live = j.live;
+      end = j.end;
+      idle = j.idle;
+      doubt = j.doubt;
+    } };
 
-    ghost invariant = { λ j. (1 ≤ j.end) × (length j.buffer.items ≡ PIECE_ROOM) };
+    ghost invariant = { λ j. (1 ≤ j.end) × (length j.buffer.items ≡ PIECE_ROOM) × IsVersion j.newest j.live.version };
 }
 
 /// A disk whose learned dictionary was not opened, and why.
@@ -99,6 +109,14 @@ impl<D> Journal<D> {
         number(self.live.file)
     }
 
+    /// The version of the live file. Takes no memory.
+    pub fn version(&self) -> u8
+        ensures live { result ≡ self.now.live.version }
+        ensures right { IsVersion self.now.newest result }
+    {
+        self.live.version
+    }
+
     /// Gives the disk back as it is. Takes no memory.
     pub fn close(self) -> D
         ensures { result ≡ self.disk }
@@ -109,34 +127,45 @@ impl<D> Journal<D> {
 
 impl<D: Disk> Journal<D> {
     /// Opens the learned dictionary of a disk, after a sync of both files, and gives the records of its live file in
-    /// order. Where no file is live the first one is filled with no records. It takes the memory of the records, and a
-    /// buffer that each later record is written from.
-    pub fn open(alloc: Global, mut disk: D) -> Result<(Journal<D>, Records), Unopened<D>>
+    /// order. The versions from 1 up to `newest` are right, and a file that is filled gets `newest`. Where no file is
+    /// live the first one is filled with no records. It takes the memory of the records, and a buffer that each later
+    /// record is written from.
+    pub fn open(
+        alloc: Global,
+        mut disk: D,
+        newest: u8,
+    ) -> Result<(Journal<D>, Records), Unopened<D>>
+        requires { 1 ≤ newest }
+        ensures newest { IfOk result (λ opened. opened.0.newest ≡ newest) }
+
         // What a read gives of both files at the start decides.
         ensures opened { D.tells → IfOk result (λ opened.
-            IsOpened (D.seen disk) (with_records (payloads opened.1))) }
-        ensures refused { D.tells → IfErr result (λ unopened. IsRefused (D.seen disk) unopened.why) }
-        ensures live { D.tells → choice (D.seen disk) ≢ NoLive → IfOk result (λ opened.
-            choice (D.seen disk) ≡ LiveIn opened.0.live) }
+            IsOpened newest (D.seen disk) (with_contents (contents_of opened.0.live (payloads opened.1)))) }
+        ensures refused { D.tells → IfErr result (λ unopened. IsRefused newest (D.seen disk) unopened.why) }
+        ensures live { D.tells → choice newest (D.seen disk) ≢ NoLive → IfOk result (λ opened.
+            choice newest (D.seen disk) ≡ LiveIn opened.0.live) }
+        ensures right { IfOk result (λ opened. IsVersion newest opened.0.live.version) }
         ensures places { IfOk result (λ opened. opened.1 ≡ found_from first_place (payloads opened.1)) }
 
         // What each image has afterwards, also where a file was filled.
-        ensures rests { IfOk result (λ opened. Rests D.time D.left_since opened.0 (payloads opened.1)) }
-        ensures anew { D.tells → choice (D.seen disk) ≡ NoLive → IfOk result (λ opened.
-            Each (D.left_since opened.0.disk (D.time opened.0.disk)) IsNew) }
+        ensures rests { IfOk result (λ opened.
+            Rests D.time D.left_since opened.0 (contents_of opened.0.live (payloads opened.1))) }
+        ensures anew { D.tells → choice newest (D.seen disk) ≡ NoLive → IfOk result (λ opened.
+            Each (D.left_since opened.0.disk (D.time opened.0.disk)) (IsNew newest)) }
 
-        // Where there was one image, each one of each moment is opened as it was.
-        ensures images { (records : List (List ℕ)) (start : Image) →
-            Each (D.left_since disk (D.time disk)) (λ image. image ≡ start) → Opens records start →
+        // Where there was one image, each one of each moment is opened with its records, and where a file was live with
+        // its version too: a file that was not may be one of an older version without records, until it is filled.
+        ensures images { (contents : Contents) (start : Image) →
+            Each (D.left_since disk (D.time disk)) (λ image. image ≡ start) → Opens newest contents start →
             MatchResult result
-            (λ opened. Each (D.left_since opened.0.disk (D.time disk)) (Opens records))
-            (λ unopened. Each (D.left_since unopened.disk (D.time disk)) (Opens records)) }
+            (λ opened. Each (D.left_since opened.0.disk (D.time disk)) (StillOpens newest start contents))
+            (λ unopened. Each (D.left_since unopened.disk (D.time disk)) (StillOpens newest start contents)) }
 
         // But where no file is live both are only synced and read, and the second one is in any case.
-        ensures kept { D.tells → choice (D.seen disk) ≢ NoLive → MatchResult result
+        ensures kept { D.tells → choice newest (D.seen disk) ≢ NoLive → MatchResult result
             (λ opened. Each (D.left_since opened.0.disk (D.time disk)) (D.left_since disk (D.time disk)))
             (λ unopened. Each (D.left_since unopened.disk (D.time disk)) (D.left_since disk (D.time disk))) }
-        ensures seen { D.tells → choice (D.seen disk) ≢ NoLive → MatchResult result
+        ensures seen { D.tells → choice newest (D.seen disk) ≢ NoLive → MatchResult result
             (λ opened. D.seen opened.0.disk ≡ D.seen disk)
             (λ unopened. UnlessDisk unopened.why (D.seen unopened.disk ≡ D.seen disk)) }
         ensures first_alone { MatchResult result
@@ -160,10 +189,11 @@ impl<D: Disk> Journal<D> {
             let why = OpenFault::Memory;
             return Err(Unopened { disk, why });
         };
-        match open_files(alloc, &mut disk, &mut buffer) {
+        match open_files(alloc, &mut disk, newest, &mut buffer) {
             Ok(opened) => {
                 let journal = Journal {
                     disk,
+                    newest,
                     live: opened.live,
                     end: opened.end,
                     idle: opened.idle,
@@ -192,16 +222,17 @@ impl<D: Disk> Journal<D> {
         ensures end { OnOk result (self.new.end ≡ self.old.end + need payload.now) }
         ensures end_stays { OnErr result (self.new.end ≡ self.old.end) }
         ensures live { self.new.live ≡ self.old.live }
+        ensures newest { self.new.newest ≡ self.old.newest }
 
         // What each image has afterwards, and at each moment.
-        ensures ok { OnOk result ((records : List (List ℕ)) → Rests D.time D.left_since self.old records →
-            Rests D.time D.left_since self.new (records ++ payload.now ∷ [])) }
-        ensures err { OnErr result ((records : List (List ℕ)) → Rests D.time D.left_since self.old records →
-            Rests D.time D.left_since self.new records
-            ⊎ Doubts D.time D.left_since self.new records (records ++ payload.now ∷ [])) }
-        ensures images { (records : List (List ℕ)) → Rests D.time D.left_since self.old records →
+        ensures ok { OnOk result ((contents : Contents) → Rests D.time D.left_since self.old contents →
+            Rests D.time D.left_since self.new (with_record contents payload.now)) }
+        ensures err { OnErr result ((contents : Contents) → Rests D.time D.left_since self.old contents →
+            Rests D.time D.left_since self.new contents
+            ⊎ Doubts D.time D.left_since self.new contents (with_record contents payload.now)) }
+        ensures images { (contents : Contents) → Rests D.time D.left_since self.old contents →
             Each (D.left_since self.new.disk (D.time self.old.disk))
-            (OpensEither records (records ++ payload.now ∷ [])) }
+            (OpensEither self.old.newest contents (with_record contents payload.now)) }
 
         ensures past { Passes (D.time self.old.disk) (D.time self.new.disk)
             (D.left_since self.old.disk) (D.left_since self.new.disk) }
@@ -222,9 +253,9 @@ impl<D: Disk> Journal<D> {
         Ok(())
     }
 
-    /// Fills the other file with the bytes of these records, which is live after `Ok` with them alone: at most eleven
-    /// calls. After `Failed` the live file is the same, and the gate of the other one is in doubt where its opening was
-    /// begun. Takes no memory.
+    /// Fills the other file with the newest version and the bytes of these records, which is live after `Ok` with them
+    /// alone: at most eleven calls. After `Failed` the live file is the same, and the gate of the other one is in doubt
+    /// where its opening was begun. Takes no memory.
     pub fn compact(&mut self, records: &[u8]) -> Result<(), Failed>
         requires { is_in_doubt self.old.doubt ≡ false }
         ensures failed { OnErr result (Rose (D.faults self.old.disk) (D.faults self.new.disk)) }
@@ -232,33 +263,49 @@ impl<D: Disk> Journal<D> {
         ensures settled { OnOk result (is_in_doubt self.new.doubt ≡ false) }
         ensures end { OnOk result (self.new.end ≡ first_place + 1 + length records.now) }
         ensures end_stays { OnErr result (self.new.end ≡ self.old.end) }
-        ensures live { OnOk result (self.new.live ≡ live_after self.old.live) }
+        ensures live { OnOk result (self.new.live ≡ live_after self.old.newest self.old.live) }
         ensures live_stays { OnErr result (self.new.live ≡ self.old.live) }
+        ensures newest { self.new.newest ≡ self.old.newest }
 
         // What each image has afterwards, and at each moment.
-        ensures ok { OnOk result ((before compacted : List (List ℕ)) → All IsSized compacted →
+        ensures ok { OnOk result ((before : Contents) (compacted : List (List ℕ)) → All IsSized compacted →
             records.now ≡ framed compacted → Rests D.time D.left_since self.old before →
-            Rests D.time D.left_since self.new compacted) }
-        ensures err { OnErr result ((before compacted : List (List ℕ)) → All IsSized compacted →
+            Rests D.time D.left_since self.new (record { version = self.old.newest; records = compacted })) }
+        ensures err { OnErr result ((before : Contents) (compacted : List (List ℕ)) → All IsSized compacted →
             records.now ≡ framed compacted → Rests D.time D.left_since self.old before →
-            Rests D.time D.left_since self.new before ⊎ Doubts D.time D.left_since self.new before compacted) }
-        ensures images { (before compacted : List (List ℕ)) → All IsSized compacted →
+            Rests D.time D.left_since self.new before
+            ⊎ Doubts D.time D.left_since self.new before
+            (record { version = self.old.newest; records = compacted })) }
+        ensures images { (before : Contents) (compacted : List (List ℕ)) → All IsSized compacted →
             records.now ≡ framed compacted → Rests D.time D.left_since self.old before →
-            Each (D.left_since self.new.disk (D.time self.old.disk)) (OpensEither before compacted) }
+            Each (D.left_since self.new.disk (D.time self.old.disk))
+            (OpensEither self.old.newest before (record { version = self.old.newest; records = compacted })) }
 
         ensures past { Passes (D.time self.old.disk) (D.time self.new.disk)
             (D.left_since self.old.disk) (D.left_since self.new.disk) }
         ensures counted { D.faults self.old.disk ≤ D.faults self.new.disk }
     {
+        let newest = self.newest;
         let beside = Some(self.live);
         let file = other_file(self.live.file);
         let generation = generation_beside(beside);
-        make_ready(&mut self.disk, file, beside, &mut self.idle, records)?;
+        make_ready(
+            &mut self.disk,
+            file,
+            newest,
+            beside,
+            &mut self.idle,
+            records,
+        )?;
         // From here on the gate may be open.
         self.doubt = Doubt::Idle;
         write_first(&mut self.disk, file, OPEN)?;
         self.doubt = Doubt::Calm;
-        self.live = Live { file, generation };
+        self.live = Live {
+            file,
+            version: newest,
+            generation,
+        };
         self.idle = Idle::Loose;
         self.end = FIRST_PLACE + 1 + records.len() as u64;
         Ok(())
@@ -274,17 +321,18 @@ impl<D: Disk> Journal<D> {
         ensures stands { OnErr result (is_in_doubt self.new.doubt ≡ true) }
         ensures end { self.new.end ≡ self.old.end }
         ensures live { self.new.live ≡ self.old.live }
+        ensures newest { self.new.newest ≡ self.old.newest }
 
         // What each image has afterwards, and at each moment.
-        ensures ok { OnOk result ((records others : List (List ℕ)) →
-            Doubts D.time D.left_since self.old records others → Rests D.time D.left_since self.new records) }
-        ensures err { OnErr result ((records others : List (List ℕ)) →
-            Doubts D.time D.left_since self.old records others →
-            Doubts D.time D.left_since self.new records others) }
-        ensures images { (records others : List (List ℕ)) → Doubts D.time D.left_since self.old records others →
-            Each (D.left_since self.new.disk (D.time self.old.disk)) (OpensEither records others) }
-        ensures rests { (records : List (List ℕ)) → Rests D.time D.left_since self.old records →
-            Each (D.left_since self.new.disk (D.time self.old.disk)) (Opens records) }
+        ensures ok { OnOk result ((contents others : Contents) →
+            Doubts D.time D.left_since self.old contents others → Rests D.time D.left_since self.new contents) }
+        ensures err { OnErr result ((contents others : Contents) →
+            Doubts D.time D.left_since self.old contents others →
+            Doubts D.time D.left_since self.new contents others) }
+        ensures images { (contents others : Contents) → Doubts D.time D.left_since self.old contents others →
+            Each (D.left_since self.new.disk (D.time self.old.disk)) (OpensEither self.old.newest contents others) }
+        ensures rests { (contents : Contents) → Rests D.time D.left_since self.old contents →
+            Each (D.left_since self.new.disk (D.time self.old.disk)) (Opens self.old.newest contents) }
 
         ensures past { Passes (D.time self.old.disk) (D.time self.new.disk)
             (D.left_since self.old.disk) (D.left_since self.new.disk) }

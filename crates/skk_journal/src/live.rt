@@ -7,10 +7,11 @@ ghost use Rattle.skk_journal.specs.Generations.{one_more as more, one_less as le
 
 use skk_disk::Which;
 
-/// The file whose records count, and its generation.
+/// The file whose records count, its version and its generation.
 #[derive(Clone, Copy, Debug)]
 pub struct Live {
     pub file: Which,
+    pub version: u8,
     pub generation: u64,
 }
 

@@ -1,4 +1,4 @@
-ghost use Rattle.std.specs.Prelude.{◌≡◌, ◌≢◌, ◌≤◌, List, ℕ, length, IfOk, IfErr, IsErrOf, MatchResult, OnOk, OnErr};
+ghost use Rattle.std.specs.Prelude.{◌≡◌, ◌≢◌, ◌≤◌, ℕ, length, IfOk, IfErr, IsErrOf, MatchResult, OnOk, OnErr};
 ghost use Rattle.skk_outside.specs.Faults.{Rose};
 ghost use Rattle.skk_disk.specs.Image.{Image, part, other};
 ghost use Rattle.skk_disk.specs.declared.which.Which.TheVariants.{A};
@@ -6,12 +6,13 @@ ghost use Rattle.skk_disk.specs.Moments.{Passes, SameImages};
 ghost use Rattle.skk_disk.specs.Steps.{InFile, ComeFrom};
 ghost use Rattle.skk_journal.specs.declared.choice.LiveChoice.TheVariants.{NoLive, LiveIn};
 ghost use Rattle.skk_journal.specs.declared.journal.TheConstants.{PIECE_ROOM};
-ghost use Rattle.skk_journal.specs.Records.{first_place, end_of};
+ghost use Rattle.skk_journal.specs.Contents.{Contents};
+ghost use Rattle.skk_journal.specs.Records.{IsVersion, first_place, end_of};
 ghost use Rattle.skk_journal.specs.Found.{payloads, found_from};
 ghost use Rattle.skk_journal.specs.Choice.{choice, idle_beside};
 ghost use Rattle.skk_journal.specs.Idle.{idle_of};
-ghost use Rattle.skk_journal.specs.Opening.{IsOpened, with_records};
-ghost use Rattle.skk_journal.specs.Images.{Each, Opens, Anyhow};
+ghost use Rattle.skk_journal.specs.Opening.{IsOpened, with_contents, contents_of};
+ghost use Rattle.skk_journal.specs.Images.{Each, Opens, StillOpens, Anyhow};
 ghost use Rattle.skk_journal.specs.Filling.{IsNew};
 ghost use Rattle.skk_journal.specs.Journal.{Holds};
 ghost use Rattle.skk_journal.specs.Reading.{SameCause};
@@ -43,26 +44,29 @@ pub(crate) struct OpenedFiles {
 pub(crate) fn open_files<D: Disk>(
     alloc: Global,
     disk: &mut D,
+    newest: u8,
     buffer: &mut [u8],
 ) -> Result<OpenedFiles, OpenFault>
-    requires { length buffer.old ≡ PIECE_ROOM }
+    requires room { length buffer.old ≡ PIECE_ROOM }
+    requires some { 1 ≤ newest }
     ensures opened { D.tells → IfOk result (λ opened.
-        IsOpened (D.seen disk.old) (with_records (payloads opened.records))) }
-    ensures refused { D.tells → IfErr result (IsRefused (D.seen disk.old)) }
+        IsOpened newest (D.seen disk.old) (with_contents (contents_of opened.live (payloads opened.records)))) }
+    ensures refused { D.tells → IfErr result (IsRefused newest (D.seen disk.old)) }
+    ensures right { IfOk result (λ opened. IsVersion newest opened.live.version) }
     ensures places { IfOk result (λ opened. opened.records ≡ found_from first_place (payloads opened.records)) }
     ensures end { IfOk result (λ opened. opened.end ≡ end_of (payloads opened.records)) }
     ensures now { IfOk result (λ opened. Each (D.left_since disk.new (D.time disk.new))
-        (Holds opened.live opened.idle (payloads opened.records))) }
-    ensures live { D.tells → choice (D.seen disk.old) ≢ NoLive → IfOk result (λ opened.
-        choice (D.seen disk.old) ≡ LiveIn opened.live) }
-    ensures anew { D.tells → choice (D.seen disk.old) ≡ NoLive → IfOk result (λ opened.
-        Each (D.left_since disk.new (D.time disk.new)) IsNew) }
-    ensures images { (records : List (List ℕ)) (start : Image) →
-        Each (D.left_since disk.old (D.time disk.old)) (λ image. image ≡ start) → Opens records start →
-        Each (D.left_since disk.new (D.time disk.old)) (Opens records) }
-    ensures kept { D.tells → choice (D.seen disk.old) ≢ NoLive →
+        (Holds newest opened.live opened.idle (contents_of opened.live (payloads opened.records)))) }
+    ensures live { D.tells → choice newest (D.seen disk.old) ≢ NoLive → IfOk result (λ opened.
+        choice newest (D.seen disk.old) ≡ LiveIn opened.live) }
+    ensures anew { D.tells → choice newest (D.seen disk.old) ≡ NoLive → IfOk result (λ opened.
+        Each (D.left_since disk.new (D.time disk.new)) (IsNew newest)) }
+    ensures images { (contents : Contents) (start : Image) →
+        Each (D.left_since disk.old (D.time disk.old)) (λ image. image ≡ start) → Opens newest contents start →
+        Each (D.left_since disk.new (D.time disk.old)) (StillOpens newest start contents) }
+    ensures kept { D.tells → choice newest (D.seen disk.old) ≢ NoLive →
         Each (D.left_since disk.new (D.time disk.old)) (D.left_since disk.old (D.time disk.old)) }
-    ensures seen { D.tells → choice (D.seen disk.old) ≢ NoLive → MatchResult result
+    ensures seen { D.tells → choice newest (D.seen disk.old) ≢ NoLive → MatchResult result
         (λ opened. D.seen disk.new ≡ D.seen disk.old)
         (λ why. UnlessDisk why (D.seen disk.new ≡ D.seen disk.old)) }
     ensures first_alone { ComeFrom (InFile A Anyhow)
@@ -72,7 +76,7 @@ pub(crate) fn open_files<D: Disk>(
     ensures counted { D.faults disk.old ≤ D.faults disk.new }
 {
     sync_both(disk)?;
-    open_synced(alloc, disk, buffer)
+    open_synced(alloc, disk, newest, buffer)
 }
 
 // Syncs both files: two calls.
@@ -92,35 +96,40 @@ fn sync_both<D: Disk>(disk: &mut D) -> Result<(), Failed>
 fn open_synced<D: Disk>(
     alloc: Global,
     disk: &mut D,
+    newest: u8,
     buffer: &mut [u8],
 ) -> Result<OpenedFiles, OpenFault>
-    requires { length buffer.old ≡ PIECE_ROOM }
+    requires room { length buffer.old ≡ PIECE_ROOM }
+    requires some { 1 ≤ newest }
     ensures opened { D.tells → IfOk result (λ opened.
-        IsOpened (D.seen disk.old) (with_records (payloads opened.records))) }
-    ensures refused { D.tells → IfErr result (IsRefused (D.seen disk.old)) }
+        IsOpened newest (D.seen disk.old) (with_contents (contents_of opened.live (payloads opened.records)))) }
+    ensures refused { D.tells → IfErr result (IsRefused newest (D.seen disk.old)) }
+    ensures right { IfOk result (λ opened. IsVersion newest opened.live.version) }
     ensures places { IfOk result (λ opened. opened.records ≡ found_from first_place (payloads opened.records)) }
     ensures end { IfOk result (λ opened. opened.end ≡ end_of (payloads opened.records)) }
     ensures now { IfOk result (λ opened.
         Each (D.left_since disk.old (D.time disk.old)) (λ image. image ≡ D.seen disk.old) →
-        Each (D.left_since disk.new (D.time disk.new)) (Holds opened.live opened.idle (payloads opened.records))) }
-    ensures live { D.tells → choice (D.seen disk.old) ≢ NoLive → IfOk result (λ opened.
-        choice (D.seen disk.old) ≡ LiveIn opened.live) }
-    ensures anew { D.tells → choice (D.seen disk.old) ≡ NoLive → IfOk result (λ opened.
+        Each (D.left_since disk.new (D.time disk.new))
+        (Holds newest opened.live opened.idle (contents_of opened.live (payloads opened.records)))) }
+    ensures live { D.tells → choice newest (D.seen disk.old) ≢ NoLive → IfOk result (λ opened.
+        choice newest (D.seen disk.old) ≡ LiveIn opened.live) }
+    ensures anew { D.tells → choice newest (D.seen disk.old) ≡ NoLive → IfOk result (λ opened.
         Each (D.left_since disk.old (D.time disk.old)) (λ image. image ≡ D.seen disk.old) →
-        Each (D.left_since disk.new (D.time disk.new)) IsNew) }
-    ensures images { (records : List (List ℕ)) →
+        Each (D.left_since disk.new (D.time disk.new)) (IsNew newest)) }
+    ensures images { (contents : Contents) →
         Each (D.left_since disk.old (D.time disk.old)) (λ image. image ≡ D.seen disk.old) →
-        Opens records (D.seen disk.old) → Each (D.left_since disk.new (D.time disk.old)) (Opens records) }
-    ensures kept { D.tells → choice (D.seen disk.old) ≢ NoLive →
+        Opens newest contents (D.seen disk.old) →
+        Each (D.left_since disk.new (D.time disk.old)) (StillOpens newest (D.seen disk.old) contents) }
+    ensures kept { D.tells → choice newest (D.seen disk.old) ≢ NoLive →
         SameImages (D.left_since disk.old) (D.left_since disk.new) }
-    ensures seen { D.tells → choice (D.seen disk.old) ≢ NoLive → D.seen disk.new ≡ D.seen disk.old }
+    ensures seen { D.tells → choice newest (D.seen disk.old) ≢ NoLive → D.seen disk.new ≡ D.seen disk.old }
     ensures first_alone { ComeFrom (InFile A Anyhow)
         (D.left_since disk.old (D.time disk.old)) (D.left_since disk.new (D.time disk.old)) }
     ensures past { Passes (D.time disk.old) (D.time disk.new) (D.left_since disk.old) (D.left_since disk.new) }
     ensures failed { IsErrOf result OpenFault.Disk → Rose (D.faults disk.old) (D.faults disk.new) }
     ensures counted { D.faults disk.old ≤ D.faults disk.new }
 {
-    let chosen = read_choice(disk, buffer)?;
+    let chosen = read_choice(disk, newest, buffer)?;
     match chosen.choice {
         LiveChoice::NoneBy(file, first) => Err(OpenFault::NotJournal {
             file: number(file),
@@ -129,13 +138,15 @@ fn open_synced<D: Disk>(
         LiveChoice::CutShortIn(file) => Err(OpenFault::BadRecord {
             file: number(file),
             at: GENERATION_PLACE,
+            version: newest,
             before: Records::new(alloc),
         }),
         LiveChoice::NoLive => {
-            fill_first(disk, chosen.first, chosen.second)?;
+            fill_first(disk, newest, chosen.first, chosen.second)?;
             Ok(OpenedFiles {
                 live: Live {
                     file: Which::A,
+                    version: newest,
                     generation: 1,
                 },
                 idle: chosen.second,
@@ -159,12 +170,15 @@ fn open_live<D: Disk>(
     buffer: &mut [u8],
 ) -> Result<OpenedFiles, OpenFault>
     requires { length buffer.old ≡ PIECE_ROOM }
-    ensures opened { D.tells → choice (D.seen disk.old) ≡ LiveIn live → IfOk result (λ opened.
-        IsOpened (D.seen disk.old) (with_records (payloads opened.records))) }
-    ensures holds { D.tells → choice (D.seen disk.old) ≡ LiveIn live →
+    ensures opened { (newest : ℕ) → D.tells → choice newest (D.seen disk.old) ≡ LiveIn live →
+        IfOk result (λ opened.
+        IsOpened newest (D.seen disk.old) (with_contents (contents_of opened.live (payloads opened.records)))) }
+    ensures holds { (newest : ℕ) → D.tells → choice newest (D.seen disk.old) ≡ LiveIn live →
         idle ≡ idle_of (part (other live.file) (D.seen disk.old)) → IfOk result (λ opened.
-        Holds opened.live opened.idle (payloads opened.records) (D.seen disk.old)) }
-    ensures refused { D.tells → choice (D.seen disk.old) ≡ LiveIn live → IfErr result (IsRefused (D.seen disk.old)) }
+        Holds newest opened.live opened.idle (contents_of opened.live (payloads opened.records))
+        (D.seen disk.old)) }
+    ensures refused { (newest : ℕ) → D.tells → choice newest (D.seen disk.old) ≡ LiveIn live →
+        IfErr result (IsRefused newest (D.seen disk.old)) }
     ensures places { IfOk result (λ opened. opened.records ≡ found_from first_place (payloads opened.records)) }
     ensures live { IfOk result (λ opened. opened.live ≡ live) }
     ensures end { IfOk result (λ opened. opened.end ≡ end_of (payloads opened.records)) }
@@ -185,20 +199,21 @@ fn open_live<D: Disk>(
             records: read.records,
             end: read.end,
         }),
-        Err(fault) => Err(refusal(live.file, fault)),
+        Err(fault) => Err(refusal(live, fault)),
     }
 }
 
-// Why the files are not opened where the records of one of them were not read.
-fn refusal(file: Which, fault: RecordsFault) -> OpenFault
-    ensures { SameCause file fault result }
+// Why the files are not opened where the records of the live one were not read.
+fn refusal(live: Live, fault: RecordsFault) -> OpenFault
+    ensures { SameCause live fault result }
 {
     match fault {
         RecordsFault::Disk => OpenFault::Disk,
         RecordsFault::Memory => OpenFault::Memory,
         RecordsFault::Bad { at, before } => OpenFault::BadRecord {
-            file: number(file),
+            file: number(live.file),
             at,
+            version: live.version,
             before,
         },
     }

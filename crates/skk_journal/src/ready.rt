@@ -13,42 +13,47 @@ use crate::writing::write_behind_first;
 use skk_disk::{Disk, Which};
 use skk_outside::Failed;
 
-// Fills a blank file up to its gate, which stays closed, and syncs it: at most five calls.
+// Fills a blank file with this version up to its gate, which stays closed, and syncs it: at most five calls.
 fn write_ready<D: Disk>(
     disk: &mut D,
     file: Which,
+    version: u8,
     generation: u64,
     records: &[u8],
 ) -> Result<(), Failed>
     requires { length records.now < 2 ^ 63 }
     ensures images { ComeFrom (InFile file (Makes IsBlank IsBlank))
         (D.left_since disk.old (D.time disk.old)) (D.left_since disk.new (D.time disk.old)) }
-    ensures ok { OnOk result (ComeFrom (InFile file (Makes IsBlank (IsReady generation records.now)))
+    ensures ok { OnOk result (ComeFrom (InFile file (Makes IsBlank (IsReady version generation records.now)))
         (D.left_since disk.old (D.time disk.old)) (D.left_since disk.new (D.time disk.new))) }
     ensures past { Passes (D.time disk.old) (D.time disk.new) (D.left_since disk.old) (D.left_since disk.new) }
     ensures failed { OnErr result (Rose (D.faults disk.old) (D.faults disk.new)) }
     ensures counted { D.faults disk.old ≤ D.faults disk.new }
 {
-    write_behind_first(disk, file, generation, records)?;
+    write_behind_first(disk, file, version, generation, records)?;
     disk.sync(file)
 }
 
-// Makes the idle file ready to be live, so that both files are opened as before at each moment: at most nine calls.
+// Makes the idle file ready to be live with the newest version, so that both files are opened as before at each moment:
+// at most nine calls.
 pub(crate) fn make_ready<D: Disk>(
     disk: &mut D,
     file: Which,
+    newest: u8,
     beside: Option<Live>,
     idle: &mut Idle,
     records: &[u8],
 ) -> Result<(), Failed>
     requires { length records.now < 2 ^ 63 }
-    ensures images { ComeFrom (InFile file (Makes (IsKnown beside idle.old) (IsIdle beside)))
+    ensures images { ComeFrom (InFile file (Makes (IsKnown newest beside idle.old) (IsIdle newest beside)))
         (D.left_since disk.old (D.time disk.old)) (D.left_since disk.new (D.time disk.old)) }
-    ensures known { ComeFrom (InFile file (Makes (IsKnown beside idle.old) (IsKnown beside idle.new)))
+    ensures known { ComeFrom
+        (InFile file (Makes (IsKnown newest beside idle.old) (IsKnown newest beside idle.new)))
         (D.left_since disk.old (D.time disk.old)) (D.left_since disk.new (D.time disk.new)) }
     ensures blank { OnOk result (idle.new ≡ idles.Blank) }
     ensures ok { OnOk result (ComeFrom
-        (InFile file (Makes (IsKnown beside idle.old) (IsReady (next_generation beside) records.now)))
+        (InFile file
+        (Makes (IsKnown newest beside idle.old) (IsReady newest (next_generation beside) records.now)))
         (D.left_since disk.old (D.time disk.old)) (D.left_since disk.new (D.time disk.new))) }
     ensures small { HasGeneration beside }
     ensures past { Passes (D.time disk.old) (D.time disk.new) (D.left_since disk.old) (D.left_since disk.new) }
@@ -57,5 +62,5 @@ pub(crate) fn make_ready<D: Disk>(
 {
     let generation = generation_beside(beside);
     blank(disk, file, beside, idle)?;
-    write_ready(disk, file, generation, records)
+    write_ready(disk, file, newest, generation, records)
 }

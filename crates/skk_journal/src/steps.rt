@@ -4,7 +4,7 @@ ghost use Rattle.skk_disk.specs.Moments.{Passes};
 ghost use Rattle.skk_disk.specs.Steps.{InFile, ComeFrom};
 ghost use Rattle.skk_journal.specs.Records.{IsSized, behind_gate, IsAddition};
 ghost use Rattle.skk_journal.specs.declared.journal.TheConstants.{PIECE_ROOM};
-ghost use Rattle.skk_journal.specs.Gating.{KeepsRecords, Stages, KeepsStaged, Gates};
+ghost use Rattle.skk_journal.specs.Gating.{KeepsContents, Stages, KeepsStaged, Gates};
 
 use crate::journal::PIECE_ROOM;
 use crate::piece::put_together;
@@ -20,7 +20,7 @@ pub(crate) const CLOSED: u8 = 0;
 
 // Writes what stands behind the gate of the first of the added records, and a closed gate behind them: two calls.
 fn write_behind<D: Disk>(disk: &mut D, file: Which, end: u64, piece: &[u8]) -> Result<(), Failed>
-    ensures images { ComeFrom (InFile file (KeepsRecords end))
+    ensures images { ComeFrom (InFile file (KeepsContents end))
         (D.left_since disk.old (D.time disk.old)) (D.left_since disk.new (D.time disk.old)) }
     ensures ok { OnOk result ((added : List (List ℕ)) → IsAddition added → piece.now ≡ behind_gate added ++ 0 ∷ [] →
         ComeFrom (InFile file (Stages end added))
@@ -42,7 +42,7 @@ pub(crate) fn stage_record<D: Disk>(
 ) -> Result<(), Failed>
     requires sized { IsSized payload.now }
     requires room { length buffer.old ≡ PIECE_ROOM }
-    ensures images { ComeFrom (InFile file (KeepsRecords end))
+    ensures images { ComeFrom (InFile file (KeepsContents end))
         (D.left_since disk.old (D.time disk.old)) (D.left_since disk.new (D.time disk.old)) }
     ensures ok { OnOk result (ComeFrom (InFile file (Stages end (payload.now ∷ [])))
         (D.left_since disk.old (D.time disk.old)) (D.left_since disk.new (D.time disk.new))) }

@@ -9,7 +9,7 @@ ghost use Rattle.std.specs.Int.{w64};
 ghost use Rattle.exact_readers.specs.Numbers.{number_bytes};
 ghost use Rattle.skk_journal.specs.Records.{mark, first_place};
 
-use crate::head::MARK;
+use crate::head::MARK_NAME;
 use crate::records::FIRST_PLACE;
 use crate::steps::CLOSED;
 use skk_disk::{Disk, Which};
@@ -32,17 +32,22 @@ fn write_end<D: Disk>(disk: &mut D, file: Which, at: u64, bytes: &[u8]) -> Resul
     disk.write_at(file, at, bytes)
 }
 
-// Cuts a blank file to its first byte, and writes a head behind it: two calls.
-fn write_head<D: Disk>(disk: &mut D, file: Which, generation: u64) -> Result<(), Failed>
+// Cuts a blank file to its first byte, and writes a head of this version behind it: two calls.
+fn write_head<D: Disk>(
+    disk: &mut D,
+    file: Which,
+    version: u8,
+    generation: u64,
+) -> Result<(), Failed>
     ensures images { ComeFrom (InFile file (Makes IsBlank IsBlank))
         (D.left_since disk.old (D.time disk.old)) (D.left_since disk.new (D.time disk.old)) }
     ensures ok { OnOk result (D.tells → IsBlank (part file (D.seen disk.old)) →
-        part file (D.seen disk.new) ≡ 0 ∷ (mark ++ number_bytes w64 generation)) }
+        part file (D.seen disk.new) ≡ 0 ∷ (mark version ++ number_bytes w64 generation)) }
     ensures past { Passes (D.time disk.old) (D.time disk.new) (D.left_since disk.old) (D.left_since disk.new) }
     ensures failed { OnErr result (Rose (D.faults disk.old) (D.faults disk.new)) }
     ensures counted { D.faults disk.old ≤ D.faults disk.new }
 {
-    let head = head_bytes(generation);
+    let head = head_bytes(version, generation);
     disk.cut(file, 1)?;
     write_end(disk, file, 1, &head)
 }
@@ -62,10 +67,11 @@ fn write_records<D: Disk>(disk: &mut D, file: Which, records: &[u8]) -> Result<(
     write_end(disk, file, FIRST_PLACE + records.len() as u64, &[CLOSED])
 }
 
-// Writes a head, records and a closed gate behind the first byte of a blank file: four calls at most.
+// Writes a head of this version, records and a closed gate behind the first byte of a blank file: four calls at most.
 pub(crate) fn write_behind_first<D: Disk>(
     disk: &mut D,
     file: Which,
+    version: u8,
     generation: u64,
     records: &[u8],
 ) -> Result<(), Failed>
@@ -73,21 +79,21 @@ pub(crate) fn write_behind_first<D: Disk>(
     ensures images { ComeFrom (InFile file (Makes IsBlank IsBlank))
         (D.left_since disk.old (D.time disk.old)) (D.left_since disk.new (D.time disk.old)) }
     ensures ok { OnOk result (D.tells → IsBlank (part file (D.seen disk.old)) →
-        part file (D.seen disk.new) ≡ filled_bytes 0 generation records.now) }
+        part file (D.seen disk.new) ≡ filled_bytes 0 version generation records.now) }
     ensures past { Passes (D.time disk.old) (D.time disk.new) (D.left_since disk.old) (D.left_since disk.new) }
     ensures failed { OnErr result (Rose (D.faults disk.old) (D.faults disk.new)) }
     ensures counted { D.faults disk.old ≤ D.faults disk.new }
 {
-    write_head(disk, file, generation)?;
+    write_head(disk, file, version, generation)?;
     write_records(disk, file, records)
 }
 
-// The mark, and a generation.
+// The mark of this version, and a generation.
 #[tactic(auto, unfolding(exact_readers::specs::Numbers::number_bytes))]
-fn head_bytes(generation: u64) -> [u8; 16]
-    ensures { result ≡ mark ++ number_bytes w64 generation }
+fn head_bytes(version: u8, generation: u64) -> [u8; 16]
+    ensures { result ≡ mark version ++ number_bytes w64 generation }
 {
-    let [s, k, k2, d, e, s2, k3, version] = MARK;
+    let [s, k, k2, d, e, s2, k3] = MARK_NAME;
     let [n0, n1, n2, n3, n4, n5, n6, n7] = generation.to_le_bytes();
     [
         s, k, k2, d, e, s2, k3, version, n0, n1, n2, n3, n4, n5, n6, n7,

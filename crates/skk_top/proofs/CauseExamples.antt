@@ -277,12 +277,12 @@ not_journals = (
 )
 
 -- a bad place is told of the files that are refused for it, not for another, nor of files that are empty
-bad_records : (files : Image) → IsRefused files (opens.BadRecord 0 9 [])
+bad_records : (files : Image) → IsRefused files (opens.BadRecord 0 9 2 [])
     → CausesOf (Some 64) files (faults.BadRecord 0 9) × (¬ CausesOf None files (faults.BadRecord 0 9))
     × (¬ CausesOf (Some 64) no_learned (faults.BadRecord 0 9))
 bad_records files refused = ((refl, λ tells. refused), λ is. cc (is.0), λ is. none (is.1 tt))
   where
-    none : ¬ IsRefused no_learned (opens.BadRecord 0 9 [])
+    none : ¬ IsRefused no_learned (opens.BadRecord 0 9 2 [])
     none (file, number, inl breaks, before) = cc (breaks.chosen)
     none (file, number, inr (inl (records, frame, opened, breaks)), before) = opened
     none (file, number, inr (inr (records, state, opened, leave)), before) = opened

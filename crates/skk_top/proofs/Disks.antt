@@ -8,12 +8,14 @@ use Rattle.skk_disk.specs.Image.{Image}
 use Rattle.skk_disk.specs.Moments.{Passes, SameImages, Earlier}
 use Rattle.skk_journal.specs.Images.{Each}
 use Rattle.skk_journal.specs.Choice.{choice}
+use Rattle.skk_journal.specs.Contents.{no_records}
 use Rattle.skk_journal.specs.Opening.{HasChosen}
 use Rattle.skk_journal.specs.declared.choice.LiveChoice.TheVariants.{NoLive}
 use Rattle.skk_journal.specs.declared.fault.OpenFault.{OpenFault}
 use Rattle.skk_journal.specs.declared.fault.OpenFault.TheVariants as opening
 use Rattle.skk_outside.specs.Faults.{Rose}
 use Rattle.skk_journal.specs.Causes.{UnlessDisk}
+use Rattle.learned_store.specs.Payloads.{newest_version}
 use Rattle.learned_store.specs.Recovered.{Recovery, with_state, foreign, refused, IsRecovered, IsRefused}
 use Rattle.learned_store.specs.Recovered.{IsOpenedWith}
 use Rattle.learned_store.specs.Stores.{OpenStore, opening_now, Recovers}
@@ -62,7 +64,7 @@ module _ {D : Type 0} (tells : Type 0) (seen : D → Image) (time faults : D →
       let here : seen old ≡ start = same (seen old) (reads_image old told) in
       let one : with_state opened ≡ with_state state =
       one_way start (with_state opened) (with_state state)
-      (subst (λ (i : Image). Recovers opened i) here (is.records, is.told told, is.leave)) recovers in
+      (subst (λ (i : Image). Recovers opened i) here (is.contents, is.told told, is.leave)) recovers in
       let equal : opened ≡ state = cc one in
       subst (λ (s : State). RecoversBy s chronicle moment image) equal
       (runs.since (time old) passes.later
@@ -74,24 +76,28 @@ module _ (one_way : (image : Image) (one two : Recovery) → IsRecovered image o
   where
     -- an image that is not opened as a state has a live file, or is refused before that is looked for
     kept : (image : Image) (recovery : Recovery) → IsRecovered image recovery
-        → ((state : State) → ¬ (with_state state ≡ recovery)) → choice image ≢ NoLive
+        → ((state : State) → ¬ (with_state state ≡ recovery)) → choice newest_version image ≢ NoLive
     kept image recovery is none anew =
         none empty_state
-        (one_way image (with_state empty_state) recovery ([], subst (HasChosen image []) (sym anew) refl, refl) is)
+        (one_way image (with_state empty_state) recovery (
+          no_records newest_version,
+          subst (HasChosen newest_version image (no_records newest_version)) (sym anew) refl,
+          refl,
+        ) is)
 
     -- why a learned dictionary is not had, by why it was not opened
     pub refuses-learned : (disk : MovedDisk) (why : OpenFault) → (disk.tells → IsRefused disk.seen why)
         → (why ≡ opening.Disk → Rose disk.before.faults disk.after.faults)
-        → (disk.tells → choice disk.seen ≢ NoLive
+        → (disk.tells → choice newest_version disk.seen ≢ NoLive
         → Each (disk.after.left_since disk.before.time) (disk.before.left_since disk.before.time))
-        → (disk.tells → choice disk.seen ≢ NoLive → UnlessDisk why (disk.seen' ≡ disk.seen))
+        → (disk.tells → choice newest_version disk.seen ≢ NoLive → UnlessDisk why (disk.seen' ≡ disk.seen))
         → RefusesLearned disk (fault_of_opening why)
     refuses-learned disk opening.Disk is failed images seen = failed refl
     refuses-learned disk (opening.NotJournal number first) is failed images seen = λ told.
         let why = is told in
         let live = kept disk.seen (foreign why.0 first) why.2 (λ state same. cc same) in
         (why, record { seen = seen told live; images = images told live })
-    refuses-learned disk (opening.BadRecord number at before) is failed images seen = λ told.
+    refuses-learned disk (opening.BadRecord number at version before) is failed images seen = λ told.
         let why = is told in
         let live = kept disk.seen (refused why.0 at) why.2 (λ state same. cc same) in
         ((why.0, why.1, why.2, refl), record { seen = seen told live; images = images told live })

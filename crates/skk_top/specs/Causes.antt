@@ -8,6 +8,7 @@ use Rattle.skk_calls.specs.Chronicles.{opening_of, history_of}
 use Rattle.skk_calls.specs.Dictionary.{moves}
 use Rattle.skk_calls.specs.Histories.{Opening, state_after, tight, need}
 use Rattle.skk_journal.specs.declared.fault.OpenFault.TheVariants as opens
+use Rattle.learned_store.specs.Payloads.{newest_version}
 use Rattle.learned_store.specs.Recovered.{IsRefused}
 use Rattle.command_line.specs.Command.{limit_of}
 use Rattle.command_line.specs.declared.command.AloneCommand.TheVariants as alone
@@ -94,7 +95,7 @@ HasRunCause files disk Failed chronicle (faults.Refused (Dictionary number) flaw
 HasRunCause files disk Failed chronicle (faults.NotJournal file first) =
     IsSome files.learned × (disk.tells → IsRefused disk.seen (opens.NotJournal file first))
 HasRunCause files disk Failed chronicle (faults.BadRecord file at) =
-    IsSome files.learned × (disk.tells → IsRefused disk.seen (opens.BadRecord file at []))
+    IsSome files.learned × (disk.tells → IsRefused disk.seen (opens.BadRecord file at newest_version []))
 HasRunCause files disk Failed chronicle faults.Outside = Failed
 HasRunCause files disk Failed chronicle faults.Memory = ⊤
 HasRunCause files disk Failed chronicle faults.JournalFull = LackedRoom files.learned chronicle

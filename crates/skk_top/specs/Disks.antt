@@ -8,6 +8,7 @@ use Rattle.skk_calls.specs.States.{State}
 use Rattle.skk_disk.specs.Image.{Image}
 use Rattle.skk_journal.specs.declared.fault.OpenFault.TheVariants as opening
 use Rattle.skk_journal.specs.Images.{Each}
+use Rattle.learned_store.specs.Payloads.{newest_version}
 use Rattle.learned_store.specs.Recovered.{IsOpenedWith, IsRefused}
 use Rattle.learned_store.specs.Stores.{Recovers}
 use Rattle.learned_store.specs.Stands.{StandsOver}
@@ -49,7 +50,7 @@ abbrev pub RefusesLearned : MovedDisk → RunFault → Type 0
 RefusesLearned disk (NotJournal file first) =
     disk.tells → IsRefused disk.seen (opening.NotJournal file first) × IsAsItWas disk
 RefusesLearned disk (BadRecord file at) =
-    disk.tells → IsRefused disk.seen (opening.BadRecord file at []) × IsAsItWas disk
+    disk.tells → IsRefused disk.seen (opening.BadRecord file at newest_version []) × IsAsItWas disk
 RefusesLearned disk Outside = Rose disk.before.faults disk.after.faults
 RefusesLearned disk Memory = ⊤
 RefusesLearned disk fault = ⊥

@@ -5,11 +5,11 @@ use Rattle.std.specs.List.{list_all}
 use Rattle.std.proofs.lemmas.Bool.{eq-eqb, eqb-true}
 use Rattle.skk_calls.specs.declared.book.NumberedBook.{NumberedBook}
 use Rattle.skk_calls.specs.declared.call.Call.{Call}
-use Rattle.skk_calls.specs.declared.call.Call.TheVariants.{Lookup, Complete, Learn, Purge, Unlearn}
+use Rattle.skk_calls.specs.declared.call.Call.TheVariants.{Lookup, Complete, Learn, Purge, Annotate, Unlearn}
 use Rattle.skk_calls.specs.declared.entry.Entry.{Entry}
 use Rattle.skk_calls.specs.Dictionary.{after, moves, state_moved}
 use Rattle.skk_calls.specs.Histories.{after_calls, state_after}
-use Rattle.skk_calls.specs.Learning.{learnt, purged, unlearnt}
+use Rattle.skk_calls.specs.Learning.{learnt, purged, annotated, unlearnt}
 use Rattle.skk_calls.specs.Openings.{is_reply}
 use Rattle.skk_calls.specs.Orders.{insert_by}
 use Rattle.skk_calls.specs.Rows.{RowKey, Row}
@@ -103,6 +103,9 @@ others-leave state number call differs = grind (arith, moved call differs)
     moved (Purge book key word) differs =
         changed-other state book (count_of state book + 1) key
         (Some (purged (row_at state book key) key word (count_of state book + 1))) number differs
+    moved (Annotate book key cand) differs =
+        changed-other state book (count_of state book + 1) key
+        (Some (annotated (row_at state book key) key cand (count_of state book + 1))) number differs
     moved (Unlearn learned) differs =
         changed-other state learned.book (count_of state learned.book) learned.key (unlearnt learned) number differs
 
@@ -127,6 +130,8 @@ module _ (state other : State) where
       rw (same-count book state other same, same-rows book state other same) refl
   both-move (Purge book key word) same =
       rw (same-count book state other same, same-rows book state other same) refl
+  both-move (Annotate book key cand) same =
+      rw (same-count book state other same, same-rows book state other same) refl
   both-move (Unlearn learned) same = rw (same-rows learned.book state other same) refl
 
   both-moved : (call : Call) → SameBook (owner call) state other
@@ -146,6 +151,13 @@ module _ (state other : State) where
       both-changed book (count_of state book + 1) (count_of other book + 1) key
       (Some (purged (row_at state book key) key word (count_of state book + 1)))
       (Some (purged (row_at other book key) key word (count_of other book + 1)))
+      (ap (λ n. n + 1) counts) (rw (counts, rows) refl) same
+  both-moved (Annotate book key cand) same =
+      let counts = same-count book state other same in
+      let rows = same-rows book state other same in
+      both-changed book (count_of state book + 1) (count_of other book + 1) key
+      (Some (annotated (row_at state book key) key cand (count_of state book + 1)))
+      (Some (annotated (row_at other book key) key cand (count_of other book + 1)))
       (ap (λ n. n + 1) counts) (rw (counts, rows) refl) same
   both-moved (Unlearn learned) same =
       both-changed learned.book (count_of state learned.book) (count_of other learned.book) learned.key

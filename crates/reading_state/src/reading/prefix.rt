@@ -7,7 +7,7 @@ ghost use Rattle.reading_state.specs.Reading.{flush, ends_prefix, prefix_step};
 ghost use Rattle.reading_state.specs.declared.reading_do.ReadingThen.TheVariants.{Convert};
 
 use super::Reading;
-use super::puts::{Accepted, both_empty};
+use super::puts::{AcceptedPiece, both_empty};
 use romaji_rules::{Pending, Rules};
 use skk_calls::READING_LIMIT;
 use skk_text::{Memory, Notice, Text};
@@ -45,7 +45,7 @@ impl Reading {
 
 // What is put of a piece and of `>` behind it, at the end of a reading that is not empty then.
 #[tactic(auto, using(crate::proofs::Texts::marks))]
-fn with_mark(text: &Text, piece: Accepted) -> Result<Accepted, Memory>
+fn with_mark(text: &Text, piece: AcceptedPiece) -> Result<AcceptedPiece, Memory>
     requires may { may_read (text.now ++ piece.text) ≡ true }
     requires some { is_empty (text.now ++ piece.text) ≡ false }
     ensures notice { IfOk result (λ added. added.notice
@@ -57,13 +57,13 @@ fn with_mark(text: &Text, piece: Accepted) -> Result<Accepted, Memory>
 {
     let mut added = piece.text;
     if added.byte_len() >= READING_LIMIT - text.byte_len() {
-        return Ok(Accepted {
+        return Ok(AcceptedPiece {
             text: added,
             notice: Notice::Limit,
         });
     }
     added.push('>')?;
-    Ok(Accepted {
+    Ok(AcceptedPiece {
         text: added,
         notice: piece.notice,
     })

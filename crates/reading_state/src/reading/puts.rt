@@ -16,27 +16,27 @@ use std::alloc::Global;
 
 // What of a piece is put at the end of a text: all of it, or nothing and the notice of that.
 #[derive(Drop)]
-pub(super) struct Accepted {
+pub(super) struct AcceptedPiece {
     pub(super) text: Text,
     pub(super) notice: Notice,
 }
 
-impl Accepted {
+impl AcceptedPiece {
     // All of a piece is put.
-    fn all(piece: Text) -> Accepted
+    fn all(piece: Text) -> AcceptedPiece
         ensures { result ≡ record { text = piece; notice = Notice.Empty } }
     {
-        Accepted {
+        AcceptedPiece {
             text: piece,
             notice: Notice::Empty,
         }
     }
 
     // Nothing of a piece is put.
-    fn nothing(alloc: Global, notice: Notice) -> Accepted
+    fn nothing(alloc: Global, notice: Notice) -> AcceptedPiece
         ensures { result ≡ record { text = []; notice = notice } }
     {
-        Accepted {
+        AcceptedPiece {
             text: Text::new(alloc),
             notice,
         }
@@ -88,7 +88,11 @@ impl Reading {
     }
 
     // What is put of the hiragana of what is pending, where no okurigana was begun.
-    pub(super) fn accepted_flush(&self, alloc: Global, rules: &Rules) -> Result<Accepted, Memory>
+    pub(super) fn accepted_flush(
+        &self,
+        alloc: Global,
+        rules: &Rules,
+    ) -> Result<AcceptedPiece, Memory>
         requires { self.now.okuri ≡ None }
         ensures flush { IfOk result (λ accepted. flush rules.now self.now ≡ record {
           reading = record {
@@ -172,7 +176,7 @@ impl Reading {
 }
 
 // Puts what is accepted at the end of a text, and gives the notice of that.
-fn push_accepted(text: &mut Text, accepted: &Accepted) -> Result<Notice, Memory>
+fn push_accepted(text: &mut Text, accepted: &AcceptedPiece) -> Result<Notice, Memory>
     ensures notice { IfOk result (λ notice. notice ≡ accepted.now.notice) }
     ensures text { IfOk result (λ notice. text.new ≡ text.old ++ accepted.now.text) }
     ensures err { OnErr result (text.new ≡ text.old) }
@@ -183,36 +187,36 @@ fn push_accepted(text: &mut Text, accepted: &Accepted) -> Result<Notice, Memory>
 
 // What of a piece is put at the end of a reading. Takes time in the piece's length.
 #[tactic(auto, using(crate::proofs::Texts::may_reads))]
-fn accepted_by_reading(alloc: Global, text: &Text, piece: Text) -> Accepted
+fn accepted_by_reading(alloc: Global, text: &Text, piece: Text) -> AcceptedPiece
     requires { may_read text.now ≡ true }
     ensures notice { result.notice ≡ refusal (reading_limit Nasi) may_read text.now piece }
     ensures text { text.now ++ result.text ≡ unless_refused result.notice text.now piece }
     ensures may { may_read (text.now ++ result.text) ≡ true }
 {
     if piece.byte_len() > READING_LIMIT - text.byte_len() {
-        return Accepted::nothing(alloc, Notice::Limit);
+        return AcceptedPiece::nothing(alloc, Notice::Limit);
     }
     if !may_read_behind(text, &piece) {
-        return Accepted::nothing(alloc, Notice::Reading);
+        return AcceptedPiece::nothing(alloc, Notice::Reading);
     }
-    Accepted::all(piece)
+    AcceptedPiece::all(piece)
 }
 
 // What of a piece is put at the end of an okurigana. Takes time in the piece's length.
 #[tactic(auto, using(crate::proofs::Texts::may_reads))]
-pub(super) fn accepted_by_okuri(alloc: Global, text: &Text, piece: Text) -> Accepted
+pub(super) fn accepted_by_okuri(alloc: Global, text: &Text, piece: Text) -> AcceptedPiece
     requires { may_end text.now ≡ true }
     ensures notice { result.notice ≡ refusal okuri_limit may_end text.now piece }
     ensures text { text.now ++ result.text ≡ unless_refused result.notice text.now piece }
     ensures may { may_end (text.now ++ result.text) ≡ true }
 {
     if piece.byte_len() > OKURI_LIMIT - text.byte_len() {
-        return Accepted::nothing(alloc, Notice::Limit);
+        return AcceptedPiece::nothing(alloc, Notice::Limit);
     }
     if !may_end_behind(text, &piece) {
-        return Accepted::nothing(alloc, Notice::Reading);
+        return AcceptedPiece::nothing(alloc, Notice::Reading);
     }
-    Accepted::all(piece)
+    AcceptedPiece::all(piece)
 }
 
 // Whether a text with a piece behind it is empty.

@@ -3,9 +3,10 @@
 use Rattle.std.proofs.Common.{◌≡◌, ℕ, true, not, None, Some, Option, List, [], refl}
 use Rattle.std.specs.Option.{IfSome}
 use Rattle.skk_calls.specs.Dictionary.{is_okuri_or_none, is_row_or_none}
-use Rattle.skk_calls.specs.Learning.{learnt, purged}
+use Rattle.skk_calls.specs.Learning.{learnt, purged, annotated}
 use Rattle.skk_calls.specs.Rows.{RowKey, Cand, Row, same_text, is_row_key, is_cand, is_row}
 use Rattle.skk_calls.specs.RowLaws.{row_from_parts, row_parts}
+use Rattle.dict_laws.proofs.AnnotatedRows.{annotated_parts, annotated_is_row}
 use Rattle.dict_laws.proofs.LearntRows.{learnt_parts, learnt_is_row}
 use Rattle.dict_laws.proofs.PurgedRows.{purged_parts, purged_is_row, hidden_too_differ}
 use Rattle.dict_laws.proofs.RowParts.{BeforeParts, before_parts}
@@ -75,4 +76,25 @@ returns-clause-purged c = purged_row
           blocks = parts.blocks;
           okuri = parts.okuri;
           hides = hidden_too_differ word row.hides (row_parts row was).hides;
+        })
+
+pub returns-clause-annotated : goal.returns-clause-annotated
+returns-clause-annotated c = annotated_row
+  where
+    annotated_row : (before : Option Row) (key : RowKey) (cand : Cand) (stamp : ℕ)
+        → is_row_key key ≡ true → IfSome before (λ row. row.key ≡ key) → is_row_or_none before ≡ true
+        → is_cand cand ≡ true → is_row (annotated before key cand stamp) ≡ true
+    annotated_row None key cand stamp is same was cand_is =
+        annotated_is_row None key cand stamp is cand_is (before_parts 0 key None is refl refl)
+    annotated_row (Some row) key cand stamp is same was cand_is =
+        let parts = annotated_parts (Some (bare row)) key cand stamp is cand_is (bare_parts key row same was) in
+        row_from_parts (annotated (Some row) key cand stamp)
+        (record {
+          key = parts.key;
+          cands = parts.cands;
+          words = parts.words;
+          part = parts.part;
+          blocks = parts.blocks;
+          okuri = parts.okuri;
+          hides = differ_filter (λ other. not (same_text other cand.word)) row.hides (row_parts row was).hides;
         })

@@ -1,7 +1,7 @@
-use Rattle.std.proofs.Common.{◌∙◌, ap, refl, subst, sym}
+use Rattle.std.proofs.Common.{◌≡◌, false, ◌∙◌, ap, refl, subst, sym}
 use Rattle.skk_calls.specs.declared.answer.Answer.TheVariants.{Refused}
 use Rattle.skk_calls.specs.declared.answer.Refusal.TheVariants.{Memory}
-use Rattle.skk_calls.specs.Dictionary.{after, answer}
+use Rattle.skk_calls.specs.Dictionary.{after, answer, moves}
 use Rattle.skk_calls.specs.States.{State}
 use Rattle.learn_index.specs.Plans.{IsPlanned}
 use Rattle.learned_store.specs.Served.{Serves}
@@ -44,9 +44,11 @@ returns-in-None-clause-serves g c files =
     let plan = c.in-Ok.plan in
     let planned : IsPlanned state call plan = c.in-Ok.ensures.planned in
     let made = subst (λ (s : State). IsPlanned s call plan) (sym c.plan.ensures.state) planned in
-    let none = subst (IsRecordOf plan) c.in-None.is c.in-Ok-planned_record.ensures in
+    let none = subst (IsRecordOf c.plan.new.self.state call plan) c.in-None.is c.in-Ok-planned_record.ensures in
+    let still = subst (λ (s : State). moves s call ≡ false) c.plan.ensures.state
+    (unrecorded c.plan.new.self.state call plan made none) in
     unchanged D.Disk.time D.Outside.faults D.Disk.left_since c.args.journal.now state c.apply.new.self.state files
-    c.args.limit call c.apply.result c.requires.change (unrecorded state call plan planned none)
+    c.args.limit call c.apply.result c.requires.change still
     (c.apply.ensures.reply files call c.requires.change made
     ∙ ap (λ (s : State). answer files s call) c.plan.ensures.state)
     (c.apply.ensures.state call c.in-Ok.ensures.valid made ∙ ap (λ (s : State). after s call) c.plan.ensures.state)
@@ -55,8 +57,6 @@ pub returns-in-Some-clause-serves : goal.returns-in-Some-clause-serves
 returns-in-Some-clause-serves g c files =
     let D = g.D in
     let call = c.args.call.now in
-    let plan = c.in-Ok.plan in
-    let made = subst (λ (s : State). IsPlanned s call plan) (sym c.plan.ensures.state) c.in-Ok.ensures.planned in
     subst (λ (s : State). Serves D.Disk.time D.Outside.faults D.Disk.left_since
     (record { journal = c.args.journal.now; state = s; files = files; limit = c.args.limit })
     (record {
@@ -65,4 +65,4 @@ returns-in-Some-clause-serves g c files =
       files = files;
       limit = c.args.limit;
     }) call c.write_and_apply.result) c.plan.ensures.state
-    (c.write_and_apply.ensures.serves files call c.requires.change c.in-Ok.ensures.valid c.requires.fit made)
+    (c.write_and_apply.ensures.serves files)

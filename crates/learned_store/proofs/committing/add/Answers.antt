@@ -1,37 +1,55 @@
-use Rattle.std.proofs.Common.{⊎_elim, [], ◌∷◌, ◌++◌, List, ℕ}
+use Rattle.std.proofs.Common.{⊎_elim, [], ◌∷◌, List, ℕ, sym, subst, ◌∙◌}
 use Rattle.std.specs.Prelude.{None, Some}
 use Rattle.skk_calls.specs.States.{State}
 use Rattle.skk_disk.specs.Image.{Image}
+use Rattle.skk_journal.specs.Contents.{Contents, with_record}
 use Rattle.skk_journal.specs.Images.{OpensEither}
-use Rattle.learned_store.specs.Stores.{Adds, RecoversOneOf}
+use Rattle.learned_store.specs.Payloads.{newest_version}
+use Rattle.learned_store.specs.Stores.{RecoversOneOf}
 use Rattle.learned_store.specs.Recovered.{Leave}
 use Rattle.learned_store.proofs.DoubtedStates.{first_is, second_is}
 use Rattle.learned_store.proofs.committing.add.Goals as goal
 
--- an image that is opened with the records, or with one more, is opened as one of the two states
-added : (state after : State) (payload : List ℕ) (records : List (List ℕ)) (image : Image) → Leave records state
-    → Adds payload state after → OpensEither records (records ++ payload ∷ []) image
+-- an image that is opened with the contents, or with one record more, is opened as one of the two states
+added : (state after : State) (payload : List ℕ) (contents : Contents) (image : Image) → Leave contents state
+    → Leave (with_record contents payload) after
+    → OpensEither newest_version contents (with_record contents payload) image
     → RecoversOneOf (state ∷ after ∷ []) image
-added state after payload records image left adds either = ⊎_elim
-    (λ opens. (state, first_is state (after ∷ []), (records, opens, left)))
-    (λ opens. (after, second_is state after [], (records ++ payload ∷ [], opens, adds records left)))
+added state after payload contents image left more either = ⊎_elim
+    (λ opens. (state, first_is state (after ∷ []), (contents, opens, left)))
+    (λ opens. (after, second_is state after [], (with_record contents payload, opens, more)))
     either
 
 pub returns-in-Ok-clause-images : goal.returns-in-Ok-clause-images
-returns-in-Ok-clause-images g c state after adds (records, left, rests) image at =
-    added state after c.args.payload.now records image left adds (c.append.ensures.images records rests image at)
+returns-in-Ok-clause-images g c state after adds (newest, contents, left, rests) image at =
+    let payload = c.args.payload.now in
+    added state after payload contents image left (adds contents (sym rests.version) left)
+    (subst (λ n. OpensEither n contents (with_record contents payload) image) newest
+    (c.append.ensures.images contents rests image at))
 
 pub returns-in-Ok-clause-ok : goal.returns-in-Ok-clause-ok
-returns-in-Ok-clause-ok g c state after adds (records, left, rests) =
-    (records ++ c.args.payload.now ∷ [], adds records left, c.in-Ok.ensures.ok records rests)
+returns-in-Ok-clause-ok g c state after adds (newest, contents, left, rests) = (
+  c.append.ensures.newest ∙ newest,
+  with_record contents c.args.payload.now,
+  adds contents (sym rests.version) left,
+  c.in-Ok.ensures.ok contents rests,
+)
 
 pub returns-in-Err-Disk-clause-err : goal.returns-in-Err-Disk-clause-err
-returns-in-Err-Disk-clause-err g c state after adds (records, left, rests) =
-    let more = records ++ c.args.payload.now ∷ [] in ⊎_elim
-    (λ same. (None, first_is None (Some after ∷ []), (records, left, same)))
-    (λ doubts. (Some after, second_is None (Some after) [], (records, more, left, adds records left, doubts)))
-    (c.in-Err-Disk.ensures.err records rests)
+returns-in-Err-Disk-clause-err g c state after adds (newest, contents, left, rests) =
+    let more = with_record contents c.args.payload.now in
+    let still = c.append.ensures.newest ∙ newest in ⊎_elim
+    (λ same. (None, first_is None (Some after ∷ []), (still, contents, left, same)))
+    (λ doubts. (
+      Some after,
+      second_is None (Some after) [],
+      (still, contents, more, left, adds contents (sym rests.version) left, doubts),
+    ))
+    (c.in-Err-Disk.ensures.err contents rests)
 
 pub returns-in-Err-Disk-clause-images : goal.returns-in-Err-Disk-clause-images
-returns-in-Err-Disk-clause-images g c state after adds (records, left, rests) image at =
-    added state after c.args.payload.now records image left adds (c.append.ensures.images records rests image at)
+returns-in-Err-Disk-clause-images g c state after adds (newest, contents, left, rests) image at =
+    let payload = c.args.payload.now in
+    added state after payload contents image left (adds contents (sym rests.version) left)
+    (subst (λ n. OpensEither n contents (with_record contents payload) image) newest
+    (c.append.ensures.images contents rests image at))

@@ -2,7 +2,7 @@ use Rattle.std.proofs.Common.{[], ◌∷◌, ◌++◌}
 use Rattle.std.proofs.lemmas.Result.{on_ok_weaker, on_err_weaker}
 use Rattle.skk_disk.specs.MomentLaws.{each_within}
 use Rattle.learned_store.specs.Stores.{RecoversOneOf, with_doubt}
-use Rattle.learned_store.proofs.DoubtedStates.{on_err, doubt_more, either_more, doubt_stays, doubt_is_after}
+use Rattle.learned_store.proofs.DoubtedStates.{on_err, adds_at, doubt_more, either_more, doubt_stays, doubt_is_after}
 use Rattle.learned_store.proofs.committing.commit.Goals as goal
 
 pub returns-in_err-settle-clause-err : goal.returns-in_err-settle-clause-err
@@ -17,14 +17,16 @@ returns-in_err-settle-clause-images g c state after doubt adds keeps image left 
 pub returns-clause-ok : goal.returns-clause-ok
 returns-clause-ok g c = on_ok_weaker c.add.result
     (λ keeps_on. λ state after doubt adds keeps.
-    keeps_on state after adds (c.in_ok-settle.ensures.keeps state doubt keeps))
+    keeps_on state after (adds_at c.args.payload.now state after c.in_ok-settle.ensures.version adds)
+    (c.in_ok-settle.ensures.keeps state doubt keeps))
     c.add.ensures.ok
 
 pub returns-clause-err : goal.returns-clause-err
 returns-clause-err g c = on_err_weaker c.add.result
     (λ keeps_on. λ state after doubt adds keeps.
     doubt_is_after g.D.Disk.time g.D.Disk.left_since c.add.new.journal state after doubt
-    (keeps_on state after adds (c.in_ok-settle.ensures.keeps state doubt keeps)))
+    (keeps_on state after (adds_at c.args.payload.now state after c.in_ok-settle.ensures.version adds)
+    (c.in_ok-settle.ensures.keeps state doubt keeps)))
     c.add.ensures.err
 
 pub returns-clause-images : goal.returns-clause-images
@@ -33,4 +35,5 @@ returns-clause-images g c state after doubt adds keeps =
     (RecoversOneOf (with_doubt state doubt ++ after ∷ []))
     (λ image left. doubt_more state after doubt image (c.in_ok-settle.ensures.images state doubt keeps image left))
     (λ image left. either_more state after doubt image
-    (c.add.ensures.images state after adds (c.in_ok-settle.ensures.keeps state doubt keeps) image left))
+    (c.add.ensures.images state after (adds_at c.args.payload.now state after c.in_ok-settle.ensures.version adds)
+    (c.in_ok-settle.ensures.keeps state doubt keeps) image left))

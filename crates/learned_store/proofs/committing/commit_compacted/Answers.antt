@@ -1,8 +1,8 @@
-use Rattle.std.proofs.Common.{[], ◌∷◌, ◌++◌}
+use Rattle.std.proofs.Common.{[], ◌∷◌, ◌++◌, ◌∙◌}
 use Rattle.std.proofs.lemmas.Result.{on_ok_weaker, on_err_weaker}
 use Rattle.skk_disk.specs.MomentLaws.{each_within, passes_on}
 use Rattle.learned_store.specs.Stores.{RecoversOneOf, with_doubt}
-use Rattle.learned_store.proofs.DoubtedStates.{on_err, doubt_more, state_more, either_more}
+use Rattle.learned_store.proofs.DoubtedStates.{on_err, adds_at, doubt_more, state_more, either_more}
 use Rattle.learned_store.proofs.DoubtedStates.{doubt_stays, doubt_is_state, doubt_is_after}
 use Rattle.learned_store.proofs.committing.commit_compacted.Goals as goal
 
@@ -31,20 +31,23 @@ returns-in_err-shrink-clause-images g c state after doubt adds is keeps =
 pub returns-clause-ok : goal.returns-clause-ok
 returns-clause-ok g c = on_ok_weaker c.add.result
     (λ keeps_on. λ state after doubt adds is keeps.
-    keeps_on state after adds
-    (c.in_ok-shrink.ensures.keeps state is (c.in_ok-settle.ensures.keeps state doubt keeps)))
+    let settled = c.in_ok-settle.ensures.keeps state doubt keeps in
+    keeps_on state after (adds_at c.args.payload.now state after (c.in_ok-shrink.ensures.version ∙ settled.0) adds)
+    (c.in_ok-shrink.ensures.keeps state is settled))
     c.add.ensures.ok
 
 pub returns-clause-err : goal.returns-clause-err
 returns-clause-err g c = on_err_weaker c.add.result
     (λ keeps_on. λ state after doubt adds is keeps.
+    let settled = c.in_ok-settle.ensures.keeps state doubt keeps in
     doubt_is_after g.D.Disk.time g.D.Disk.left_since c.add.new.journal state after doubt
-    (keeps_on state after adds
-    (c.in_ok-shrink.ensures.keeps state is (c.in_ok-settle.ensures.keeps state doubt keeps))))
+    (keeps_on state after (adds_at c.args.payload.now state after (c.in_ok-shrink.ensures.version ∙ settled.0) adds)
+    (c.in_ok-shrink.ensures.keeps state is settled)))
     c.add.ensures.err
 
 pub returns-clause-images : goal.returns-clause-images
 returns-clause-images g c state after doubt adds is keeps =
+    let settled = c.in_ok-settle.ensures.keeps state doubt keeps in
     each_within _ _ _ _ _ _
     (passes_on _ _ _ _ _ _ c.in_ok-settle.ensures.past c.in_ok-shrink.ensures.past
     (g.met.D.Disk.earlier c.shrink.new.journal.disk)) c.add.ensures.past
@@ -53,7 +56,8 @@ returns-clause-images g c state after doubt adds is keeps =
     (RecoversOneOf (with_doubt state doubt ++ after ∷ []))
     (λ image left. doubt_more state after doubt image (c.in_ok-settle.ensures.images state doubt keeps image left))
     (λ image left. state_more state after doubt image
-    (c.in_ok-shrink.ensures.images state is (c.in_ok-settle.ensures.keeps state doubt keeps) image left)))
+    (c.in_ok-shrink.ensures.images state is settled image left)))
     (λ image left. either_more state after doubt image
-    (c.add.ensures.images state after adds
-    (c.in_ok-shrink.ensures.keeps state is (c.in_ok-settle.ensures.keeps state doubt keeps)) image left))
+    (c.add.ensures.images state after
+    (adds_at c.args.payload.now state after (c.in_ok-shrink.ensures.version ∙ settled.0) adds)
+    (c.in_ok-shrink.ensures.keeps state is settled) image left))

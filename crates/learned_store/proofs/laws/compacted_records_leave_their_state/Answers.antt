@@ -5,11 +5,11 @@ use Rattle.learned_store.proofs.laws.compacted_records_leave_their_state.Goals a
 
 pub returns-clause-again : goal.returns-clause-again
 returns-clause-again c =
-    λ records state leave.
-    compacted_leave state (left_valid records state leave) (left_written records state leave)
+    λ contents state leave.
+    compacted_leave state (left_valid contents state leave) (left_written contents state leave)
 
 pub returns-clause-left : goal.returns-clause-left
-returns-clause-left c = λ records state leave. (left_valid records state leave, left_written records state leave)
+returns-clause-left c = λ contents state leave. (left_valid contents state leave, left_written contents state leave)
 
 pub returns-clause-leave : goal.returns-clause-leave
 returns-clause-leave c = compacted_leave

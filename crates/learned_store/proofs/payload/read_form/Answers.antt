@@ -1,4 +1,4 @@
-use Rattle.learned_store.proofs.ReadForms.{form_read, none_read}
+use Rattle.learned_store.proofs.ReadForms.{form_read, form_found}
 use Rattle.learned_store.proofs.ReadRows.{lines_are_read}
 use Rattle.learned_store.proofs.payload.read_form.Goals as goal
 
@@ -10,7 +10,7 @@ returns-clause-some c =
       key = c.lines_spell_one_row.ensures.key;
     }) c.args.payload.now c.in_ok-form.form c.in_ok-form.ensures
 
-pub returns-clause-none : goal.returns-clause-none
-returns-clause-none c =
-    none_read (lines_are_read c.good_rows_are_read_again.ensures c.lines_spell_one_row.ensures.read)
+pub returns-clause-only : goal.returns-clause-only
+returns-clause-only c =
+    form_found (lines_are_read c.good_rows_are_read_again.ensures c.lines_spell_one_row.ensures.read)
     c.args.payload.now c.in_ok-form.form c.in_ok-form.ensures

@@ -19,11 +19,13 @@ returns-then-not-branch-clause-broken c places =
     let all : before ++ found ∷ rest ≡ c.args.records =
     subst (λ (items : List FoundRecord). before ++ items ≡ c.args.records) c.in-Some.ensures.steps.0
     c.loop-found.invariant.all in
-    subst (λ (records : List FoundRecord). BreakAt (payloads records) found.at) all
+    let version = c.args.version in
+    subst (λ (records : List FoundRecord). BreakAt (record { version = version; records = payloads records }) found.at)
+    all
     (break_at before rest found
     (subst (λ (records : List FoundRecord). records ≡ found_from first_place (payloads records)) (sym all) places)
-    state c.loop-found.invariant.left
-    (subst (SaysNothing state) c.as_slice.ensures
+    version state c.loop-found.invariant.left
+    (subst (SaysNothing version state) c.as_slice.ensures
     (c.in_ok-add.ensures.none c.if-not-branch.true state c.loop-found.invariant.gathers)))
 
 pub loop-found-preserved : goal.loop-found-preserved
@@ -33,7 +35,7 @@ loop-found-preserved c =
     let state = c.loop-found.invariant.state in
     let added = c.in_ok-add.ensures.said c.if-not-branch.false state c.loop-found.invariant.gathers in
     let form = added.0 in
-    let says = subst (λ (payload : List ℕ). Says state payload form) c.as_slice.ensures added.1 in
+    let says = subst (λ (payload : List ℕ). Says c.args.version state payload form) c.as_slice.ensures added.1 in
     record {
       state = state_told state form;
       all =
@@ -41,7 +43,9 @@ loop-found-preserved c =
           ∙ subst (λ (items : List FoundRecord). before ++ items ≡ c.args.records) c.in-Some.ensures.steps.0
           c.loop-found.invariant.all;
       left =
-          subst (λ (read : List (List ℕ)). Leave read (state_told state form)) (sym (payloads_next before [] found))
-          (leave_on (payloads before) state found.payload form c.loop-found.invariant.left says);
+          subst (λ (read : List (List ℕ)). Leave (record { version = c.args.version; records = read })
+          (state_told state form)) (sym (payloads_next before [] found))
+          (leave_on (record { version = c.args.version; records = payloads before }) state found.payload form
+          c.loop-found.invariant.left says);
       gathers = added.2;
     }

@@ -11,6 +11,6 @@ abbrev pub invariant-loop-found : goal.invariant-loop-found
 invariant-loop-found l = record {
   state : State;
   all : l.yielded ++ into_iter_items l.found-iterator ≡ l.fn.records;
-  left : Leave (payloads l.yielded) state;
+  left : Leave (record { version = l.fn.version; records = payloads l.yielded }) state;
   gathers : Gathers l.gathered state;
 }

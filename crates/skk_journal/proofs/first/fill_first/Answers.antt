@@ -17,34 +17,38 @@ use Rattle.skk_journal.proofs.SideSteps.{sides_on, fresh_as, first_has, first_to
 use Rattle.skk_journal.proofs.first.fill_first.Goals as goal
 
 -- the first file is filled with no records, where it was fresh
-filled_anew : (first : Idle) (Q : List ℕ → Type 0) (before mid now : Image → Type 0)
-    → ComeFrom (InFile A (Makes (IsKnown None first) (IsReady 1 []))) before mid
-    → ComeFrom (InFile A (FirstIs 1)) mid now → Each before (Sides A (IsFreshAs first) Q)
-    → Each now (Sides A (λ l. l ≡ filled_bytes 1 1 []) Q)
-filled_anew first Q before mid now ready written = sides_on A before now
-    (λ old new. IsFreshAs first old → new ≡ filled_bytes 1 1 []) (IsFreshAs first) Q
-    (λ l. l ≡ filled_bytes 1 1 []) (λ old new step is. step is)
-    (then A (Makes (IsKnown None first) (IsReady 1 [])) (FirstIs 1) _ before mid now
+filled_anew : (newest : ℕ) (first : Idle) (Q : List ℕ → Type 0) (before mid now : Image → Type 0)
+    → ComeFrom (InFile A (Makes (IsKnown newest None first) (IsReady newest 1 []))) before mid
+    → ComeFrom (InFile A (FirstIs 1)) mid now → Each before (Sides A (IsFreshAs newest first) Q)
+    → Each now (Sides A (λ l. l ≡ filled_bytes 1 newest 1 []) Q)
+filled_anew newest first Q before mid now ready written = sides_on A before now
+    (λ old new. IsFreshAs newest first old → new ≡ filled_bytes 1 newest 1 []) (IsFreshAs newest first) Q
+    (λ l. l ≡ filled_bytes 1 newest 1 []) (λ old new step is. step is)
+    (then A (Makes (IsKnown newest None first) (IsReady newest 1 [])) (FirstIs 1) _ before mid now
     (λ old between new makes first_is is.
-    ready_first 1 1 [] between new first_is (makes (fresh_known None first old is)))
+    ready_first 1 newest 1 [] between new first_is (makes (fresh_known newest None first old is)))
     ready written)
 
 pub returns-in_err-make_ready-clause-images : goal.returns-in_err-make_ready-clause-images
 returns-in_err-make_ready-clause-images g c each image left =
-    let sides = sides_on _ _ _ _ _ _ (IsIdle None)
-    (λ old new makes is. makes (fresh_known None c.args.first old is)) c.make_ready.ensures.images each image left in
-    none_open image sides.this (fresh_as c.args.second image.b sides.that)
+    let newest = c.args.newest in
+    let sides = sides_on _ _ _ _ _ _ (IsIdle newest None)
+    (λ old new makes is. makes (fresh_known newest None c.args.first old is)) c.make_ready.ensures.images each image
+    left in
+    none_open newest image sides.this (fresh_as newest c.args.second image.b sides.that)
 
 pub returns-clause-images : goal.returns-clause-images
 returns-clause-images g c each image left =
+    let newest = c.args.newest in
     let one = c.in_ok-make_ready.ensures in
-    let sides = sides_on _ _ _ _ _ _ (IsIdle None) (λ old new step is. step is)
-    (within _ _ _ _ _ _ _ one.past c.write_first.ensures.past _ _ _ (λ old new. IsFreshAs c.args.first old
-    → IsIdle None new)
-    (λ old new makes is. makes (fresh_known None c.args.first old is))
-    (λ old between new makes other is. first_torn_idle between new other (makes (fresh_known None c.args.first old is)))
+    let sides = sides_on _ _ _ _ _ _ (IsIdle newest None) (λ old new step is. step is)
+    (within _ _ _ _ _ _ _ one.past c.write_first.ensures.past _ _ _ (λ old new. IsFreshAs newest c.args.first old
+    → IsIdle newest None new)
+    (λ old new makes is. makes (fresh_known newest None c.args.first old is))
+    (λ old between new makes other is. first_torn_idle newest c.requires between new other
+    (makes (fresh_known newest None c.args.first old is)))
     one.images one.ok c.write_first.ensures.images) each image left in
-    none_open image sides.this (fresh_as c.args.second image.b sides.that)
+    none_open newest image sides.this (fresh_as newest c.args.second image.b sides.that)
 
 pub returns-clause-past : goal.returns-clause-past
 returns-clause-past g c =
@@ -53,18 +57,20 @@ returns-clause-past g c =
 
 pub returns-clause-ok : goal.returns-clause-ok
 returns-clause-ok g c = on_ok_weaker c.write_first.result (λ written each image left.
+    let newest = c.args.newest in
     let ready = c.in_ok-make_ready.ensures.ok in
-    let sides = filled_anew c.args.first (IsFreshAs c.args.second) _ _ _ ready written each image left in
+    let sides = filled_anew newest c.args.first (IsFreshAs newest c.args.second) _ _ _ ready written each image left in
     record {
-      this = first_has image.a sides.this;
-      that = fresh_known (Some first_live) c.args.second image.b sides.that;
+      this = first_has newest c.requires image.a sides.this;
+      that = fresh_known newest (Some (first_live newest)) c.args.second image.b sides.that;
     })
     c.write_first.ensures.ok
 
 pub returns-clause-anew : goal.returns-clause-anew
 returns-clause-anew g c = on_ok_weaker c.write_first.result (λ written each image left.
+    let newest = c.args.newest in
     let ready = c.in_ok-make_ready.ensures.ok in
-    (filled_anew c.args.first (IsFreshAs c.args.second) _ _ _ ready written each image left).this)
+    (filled_anew newest c.args.first (IsFreshAs newest c.args.second) _ _ _ ready written each image left).this)
     c.write_first.ensures.ok
 
 pub returns-in_err-make_ready-clause-first_alone : goal.returns-in_err-make_ready-clause-first_alone

@@ -8,30 +8,35 @@ use Rattle.skk_journal.specs.declared.fault.OpenFault.{OpenFault}
 use Rattle.skk_journal.specs.declared.fault.OpenFault.TheVariants.{Disk, NotJournal, BadRecord, Memory}
 use Rattle.skk_journal.specs.Causes.{UnlessDisk}
 use Rattle.skk_journal.specs.Choice.{choice}
-use Rattle.skk_journal.specs.Images.{Opens, Anyhow}
+use Rattle.skk_journal.specs.Images.{Opens, StillOpens, Anyhow}
+use Rattle.skk_journal.proofs.Opened.{still_opens}
 use Rattle.skk_journal.proofs.opening.open_files.Goals as goal
 
 pub returns-in_err-sync_both-clause-images : goal.returns-in_err-sync_both-clause-images
-returns-in_err-sync_both-clause-images g c records start same opens image left =
-    subst (Opens records) (sym (same image (c.sync_both.ensures.images image left))) opens
+returns-in_err-sync_both-clause-images g c contents start same opens image left =
+    subst (StillOpens c.args.newest start contents) (sym (same image (c.sync_both.ensures.images image left)))
+    (still_opens c.args.newest start contents opens)
 
 pub returns-in_err-sync_both-clause-first_alone : goal.returns-in_err-sync_both-clause-first_alone
 returns-in_err-sync_both-clause-first_alone g c = no_step _ Anyhow _ _ (λ bytes. tt) c.sync_both.ensures.images
 
 pub returns-clause-images : goal.returns-clause-images
-returns-clause-images g c records start same opens =
+returns-clause-images g c contents start same opens =
     let D = g.D.Disk in
     let laws = g.met.D.Disk in
+    let newest = c.args.newest in
     let old = c.args.disk.now in
     let mid = c.sync_both.new.disk in
     let end = c.open_synced.new.disk in
-    each_within _ _ _ _ _ _ c.sync_both.ensures.past c.open_synced.ensures.past (Opens records)
-    (λ image left. subst (Opens records) (sym (same image (c.sync_both.ensures.images image left))) opens)
+    each_within _ _ _ _ _ _ c.sync_both.ensures.past c.open_synced.ensures.past (StillOpens newest start contents)
+    (λ image left. subst (StillOpens newest start contents) (sym (same image (c.sync_both.ensures.images image left)))
+    (still_opens newest start contents opens))
     (λ image left.
     let told = laws.tells_images end (D.time mid) image left in
     let is = c.in_ok-sync_both.ensures.seen ∙ same (D.seen old) (laws.reads_image old told) in
-    c.open_synced.ensures.images records c.in_ok-sync_both.ensures.durable (subst (Opens records) (sym is) opens)
-    image left)
+    subst (λ (s : Image). StillOpens newest s contents image) is
+    (c.open_synced.ensures.images contents c.in_ok-sync_both.ensures.durable
+    (subst (Opens newest contents) (sym is) opens) image left))
 
 pub returns-clause-kept : goal.returns-clause-kept
 returns-clause-kept g c tells some =
@@ -39,7 +44,7 @@ returns-clause-kept g c tells some =
     let laws = g.met.D.Disk in
     let old = c.args.disk.now in
     let mid = c.sync_both.new.disk in
-    let still = subst (λ (s : Image). choice s ≢ NoLive) (sym c.in_ok-sync_both.ensures.seen) some in
+    let still = subst (λ (s : Image). choice c.args.newest s ≢ NoLive) (sym c.in_ok-sync_both.ensures.seen) some in
     each_within _ _ _ _ _ _ c.sync_both.ensures.past c.open_synced.ensures.past (D.left_since old (D.time old))
     c.sync_both.ensures.images
     (λ image left. c.sync_both.ensures.images image
@@ -58,8 +63,8 @@ returns-clause-first_alone g c =
 pub returns-clause-live : goal.returns-clause-live
 returns-clause-live g c tells some =
     let same = c.in_ok-sync_both.ensures.seen in
-    let still = subst (λ (s : Image). choice s ≢ NoLive) (sym same) some in
-    subst (λ (s : Image). IfOk c.open_synced.result (λ opened. choice s ≡ LiveIn opened.live)) same
+    let still = subst (λ (s : Image). choice c.args.newest s ≢ NoLive) (sym same) some in
+    subst (λ (s : Image). IfOk c.open_synced.result (λ opened. choice c.args.newest s ≡ LiveIn opened.live)) same
     (c.open_synced.ensures.live tells still)
 
 -- what holds in each case holds unless the disk failed
@@ -68,11 +73,11 @@ in_each : {T : Type 0} (P : Type 0) (r : Result T OpenFault) → P
 in_each P (Ok opened) p = p
 in_each P (Err Disk) p = tt
 in_each P (Err (NotJournal file first)) p = p
-in_each P (Err (BadRecord file at before)) p = p
+in_each P (Err (BadRecord file at version before)) p = p
 in_each P (Err Memory) p = p
 
 pub returns-clause-seen : goal.returns-clause-seen
 returns-clause-seen g c tells some =
     let same = c.in_ok-sync_both.ensures.seen in
-    let still = subst (λ (s : Image). choice s ≢ NoLive) (sym same) some in
+    let still = subst (λ (s : Image). choice c.args.newest s ≢ NoLive) (sym same) some in
     in_each _ c.open_synced.result (c.open_synced.ensures.seen tells still ∙ same)

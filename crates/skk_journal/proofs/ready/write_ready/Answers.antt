@@ -29,7 +29,7 @@ returns-clause-ok g c =
     let new = c.sync.new.self in
     on_ok_both c.sync.result
     (λ durable seen.
-    read_images c.args.file _ (Makes IsBlank (IsReady c.args.generation c.args.records.now)) D.tells
+    read_images c.args.file _ (Makes IsBlank (IsReady c.args.version c.args.generation c.args.records.now)) D.tells
     (D.left_since old (D.time old)) (D.left_since mid (D.time old)) (D.left_since new (D.time new))
     (D.seen old) (D.seen new) (laws.apart old) (laws.reads_image old) c.write_behind_first.ensures.images
     (λ image left. laws.earlier mid (D.time old) (D.time mid) image c.write_behind_first.ensures.past.later

@@ -20,7 +20,7 @@ pub returns-clause-ok : goal.returns-clause-ok
 returns-clause-ok g c = on_ok_weaker c.write_records.result
     (λ written tells blank.
     let head = c.in_ok-write_head.ensures.ok tells blank in
-    written tells (ap length head ∙ length-head c.args.generation)
+    written tells (ap length head ∙ length-head c.args.version c.args.generation)
     ∙ ap (λ (l : List ℕ). (l ++ c.args.records.now) ++ 0 ∷ []) head
-    ∙ filled_is c.args.generation c.args.records.now)
+    ∙ filled_is c.args.version c.args.generation c.args.records.now)
     c.write_records.ensures.ok

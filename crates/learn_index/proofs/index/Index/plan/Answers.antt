@@ -2,7 +2,7 @@ use Rattle.std.proofs.Common.{◌≡◌, ◌∙◌, ℕ, List, Option, true, ap,
 use Rattle.std.specs.Option.{option_copied}
 use Rattle.std.proofs.lemmas.Result.{IfOk-weaker}
 use Rattle.skk_calls.specs.declared.call.Call.{Call}
-use Rattle.skk_calls.specs.declared.call.Call.TheVariants.{Learn, Purge}
+use Rattle.skk_calls.specs.declared.call.Call.TheVariants.{Learn, Purge, Annotate}
 use Rattle.skk_calls.specs.Dictionary.{is_call, is_fit}
 use Rattle.skk_calls.specs.States.{State}
 use Rattle.learn_index.specs.declared.plan.Plan.{Plan}
@@ -33,6 +33,18 @@ returns-in-Purge-clause-made c =
       subst (λ (state : State). IsPlanned state call plan) (sym c.plan_purge.ensures.state) planned,
     )) c.plan_purge.ensures.planned
 
+pub returns-in-Annotate-clause-made : goal.returns-in-Annotate-clause-made
+returns-in-Annotate-clause-made c =
+    let call : Call = Annotate c.in-Annotate.book c.in-Annotate.key c.in-Annotate.cand in
+    IfOk-weaker c.plan_annotate.result (IsPlanned c.args.self.now.state call) (IsMade c.plan_annotate.new.index.state)
+    (λ (plan : Plan) planned. (
+      call,
+      c.annotation_is_call.ensures c.in-Annotate.book,
+      refl,
+      refl,
+      subst (λ (state : State). IsPlanned state call plan) (sym c.plan_annotate.ensures.state) planned,
+    )) c.plan_annotate.ensures.planned
+
 pub returns-in-Learn-clause-valid : goal.returns-in-Learn-clause-valid
 returns-in-Learn-clause-valid c =
     let call : Call = Learn c.in-Learn.book c.in-Learn.key (option_copied c.as_ref-okuri.result) c.in-Learn.cand in
@@ -49,3 +61,11 @@ returns-in-Purge-clause-valid c =
     ≡ true)
     (λ (plan : Plan) planned. ap is_call c.in-Purge.is ∙ c.purge_is_call.ensures c.in-Purge.book c.in-Purge.word)
     c.plan_purge.ensures.planned
+
+pub returns-in-Annotate-clause-valid : goal.returns-in-Annotate-clause-valid
+returns-in-Annotate-clause-valid c =
+    let call : Call = Annotate c.in-Annotate.book c.in-Annotate.key c.in-Annotate.cand in
+    IfOk-weaker c.plan_annotate.result (IsPlanned c.args.self.now.state call) (λ (plan : Plan). is_call c.args.call.now
+    ≡ true)
+    (λ (plan : Plan) planned. ap is_call c.in-Annotate.is ∙ c.annotation_is_call.ensures c.in-Annotate.book)
+    c.plan_annotate.ensures.planned

@@ -1,6 +1,5 @@
 use Rattle.std.proofs.Common.{◌∙◌}
-use Rattle.learned_store.specs.Gathering.{AreOf, row_placed}
-use Rattle.learned_store.proofs.Gathering.{place_at}
+use Rattle.learned_store.specs.Gathering.{AreOf, place_at, row_placed}
 use Rattle.learned_store.proofs.SameStates.{same_state}
 use Rattle.learned_store.proofs.gathered.Gathered.into_index.Goals as goal
 

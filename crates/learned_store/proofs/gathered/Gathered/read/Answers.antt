@@ -1,27 +1,70 @@
-use Rattle.std.proofs.Common.{◌≡◌, ◌≤◌, ℕ, true, Option, sym, subst, arith}
+use Rattle.std.proofs.Common.{◌≡◌, ◌≤◌, ◌∙◌, ℕ, true, nat_le, List, Option, Some, sym, subst, arith}
+use Rattle.std.proofs.lemmas.Bool.{and_from, and_parts, both_ways, le-leb, leb-true}
+use Rattle.std.proofs.lemmas.Option.{same_Some}
 use Rattle.std.specs.Option.{IfSome}
-use Rattle.skk_calls.specs.States.{empty_state, count_of}
+use Rattle.skk_calls.specs.States.{State, count_of}
 use Rattle.learned_store.specs.declared.form.PayloadForm.{PayloadForm}
-use Rattle.learned_store.specs.Payloads.{Says, book_of, is_sound, new_count, payload_of}
+use Rattle.learned_store.specs.Gathering.{count_in}
+use Rattle.learned_store.specs.Payloads.{Says, book_of, first_version, is_sound, new_count, payload_of}
 use Rattle.learned_store.proofs.gathered.Gathered.read.Goals as goal
 
--- a payload that says something of a count that is below that of its book says nothing
-pub returns-then-count-count_in-clause-none : goal.returns-then-count-count_in-clause-none
-returns-then-count-count_in-clause-none c none state gathers form says =
+-- what a payload says is the one form that is read of it
+module _ (version : ℕ) (payload : List ℕ) (found : Option PayloadForm) (form : PayloadForm) (is : found ≡ Some form)
+    (only : (f : PayloadForm) → is_sound f ≡ true → payload ≡ payload_of f → found ≡ Some f) where
+  one_said : (state : State) (other : PayloadForm) → Says version state payload other → other ≡ form
+  one_said state other says = same_Some other form (sym (only other says.sound says.is) ∙ is)
+
+-- it is said where its version, its count and its row have it so
+pub returns-clause-sound : goal.returns-clause-sound
+returns-clause-sound c =
+    let form = c.in-Some.form in
     let facts = subst (λ (found : Option PayloadForm). IfSome found (λ f. (is_sound f ≡ true)
     × (c.args.payload.now ≡ payload_of f))) c.in-Some.is c.in_ok-form.ensures.some in
-    let read : Says empty_state c.args.payload.now c.in-Some.form =
-    record { sound = facts.0; counted = omega arith; is = facts.1 } in
-    let forms = c.files_are_recovered_in_one_way.ensures.form empty_state state c.args.payload.now c.in-Some.form form
-    read says in
-    let counted : count_of state c.book.result ≤ new_count c.in-Some.form =
-    subst (λ (number : ℕ). count_of state number ≤ new_count c.in-Some.form) (sym c.book.ensures)
-    (subst (λ (f : PayloadForm). count_of state (book_of f) ≤ new_count f) (sym forms) says.counted) in
+    let next = and_parts (nat_le (first_version form) c.args.version)
+    (nat_le (count_in c.args.self.now.counts (book_of form)) (new_count form))
+    (sym c.comes_next.ensures ∙ c.if-not-comes_next.false) in (
+      facts.0,
+      λ state gathers.
+          omega (
+            arith,
+            leb-true (count_in c.args.self.now.counts (book_of form)) (new_count form) next.1,
+            gathers.count (book_of form),
+          ),
+    )
+
+pub returns-clause-some : goal.returns-clause-some
+returns-clause-some c state gathers follows =
+    let form = c.in-Some.form in
+    let facts = subst (λ (found : Option PayloadForm). IfSome found (λ f. (is_sound f ≡ true)
+    × (c.args.payload.now ≡ payload_of f))) c.in-Some.is c.in_ok-form.ensures.some in
+    let next = and_parts (nat_le (first_version form) c.args.version)
+    (nat_le (count_in c.args.self.now.counts (book_of form)) (new_count form))
+    (sym c.comes_next.ensures ∙ c.if-not-comes_next.false) in
+    let counted : count_of state (book_of form) ≤ new_count form =
     omega (
       arith,
-      counted,
-      c.if-count-count_in.true,
-      c.count.ensures,
-      c.count_in.ensures,
-      gathers.count c.book.result,
-    )
+      leb-true (count_in c.args.self.now.counts (book_of form)) (new_count form) next.1,
+      gathers.count (book_of form),
+    ) in
+    record { known = next.0; sound = facts.0; counted = counted; follows = follows; is = facts.1 }
+
+pub returns-clause-only : goal.returns-clause-only
+returns-clause-only c =
+    one_said c.args.version c.args.payload.now c.in_ok-form.field-0 c.in-Some.form c.in-Some.is
+    c.in_ok-form.ensures.only
+
+-- and nothing where the version has no such record, or the count is below that of its book
+pub returns-then-not-comes_next-clause-none : goal.returns-then-not-comes_next-clause-none
+returns-then-not-comes_next-clause-none c none state gathers form says =
+    let same = one_said c.args.version c.args.payload.now c.in_ok-form.field-0 c.in-Some.form c.in-Some.is
+    c.in_ok-form.ensures.only state form says in
+    let known : nat_le (first_version c.in-Some.form) c.args.version ≡ true =
+    subst (λ (f : PayloadForm). nat_le (first_version f) c.args.version ≡ true) same says.known in
+    let counted : count_of state (book_of c.in-Some.form) ≤ new_count c.in-Some.form =
+    subst (λ (f : PayloadForm). count_of state (book_of f) ≤ new_count f) same says.counted in
+    let least = count_in c.args.self.now.counts (book_of c.in-Some.form) in
+    let below : least ≤ new_count c.in-Some.form =
+    omega (arith, counted, gathers.count (book_of c.in-Some.form)) in
+    both_ways c.comes_next.result c.if-not-comes_next.true
+    (c.comes_next.ensures ∙ and_from (nat_le (first_version c.in-Some.form) c.args.version)
+    (nat_le least (new_count c.in-Some.form)) known (le-leb least (new_count c.in-Some.form) below))

@@ -1,0 +1,41 @@
+use Rattle.std.proofs.Common.{◌≡◌, ◌∙◌, cond, None, Some, ap, sym, subst, arith}
+use Rattle.std.specs.Option.{IfSome}
+use Rattle.std.proofs.lemmas.Result.{IfOk-weaker}
+use Rattle.skk_calls.specs.declared.answer.Reply.TheVariants.{Annotated}
+use Rattle.skk_calls.specs.declared.call.Call.TheVariants.{Annotate}
+use Rattle.skk_calls.specs.Learning.{annotated, annotation_changes}
+use Rattle.skk_calls.specs.States.{row_at, rows_of}
+use Rattle.learn_index.specs.declared.plan.Plan.{Plan}
+use Rattle.learn_index.specs.Plans.{IsPlanned}
+use Rattle.learn_index.proofs.Planned.{before_keyed, annotation_planned, row_plan}
+use Rattle.learn_index.proofs.planning.plan_annotate.Goals as goal
+
+pub annotate_row-requires : goal.annotate_row-requires
+annotate_row-requires c =
+    let key = c.args.key.now in
+    subst (λ found. IfSome found (λ before. before.key ≡ key)) (sym c.row-before.ensures)
+    (before_keyed key (rows_of c.args.index.now.state c.args.book))
+
+pub returns-clause-planned : goal.returns-clause-planned
+returns-clause-planned c =
+    let state = c.args.index.now.state in
+    let book = c.args.book in
+    let key = c.args.key.now in
+    let cand = c.args.cand.now in
+    let stamp = c.in-Some-checked_add.stamp in
+    let same : c.saturating_add.result ≡ stamp =
+    omega (arith, c.saturating_add.ensures, c.in-Some-checked_add.ensures) in
+    let made =
+    c.in_ok-row.ensures
+    ∙ ap (λ before. cond (annotation_changes before key cand)
+    (Some (annotated before key cand c.saturating_add.result)) None)
+    c.row-before.ensures
+    ∙ ap (λ n. cond (annotation_changes (row_at state book key) key cand)
+    (Some (annotated (row_at state book key) key cand n)) None) same in
+    let planned =
+    annotation_planned state book key cand c.in-Some.row stamp
+    (omega (arith, c.in-Some-checked_add.ensures, c.count-count.ensures.value))
+    (omega (arith, c.in-Some-checked_add.ensures)) c.in_ok-row.field-0 made c.in-Some.is in
+    IfOk-weaker c.plan_row.result (λ plan. plan ≡ row_plan book stamp key c.in-Some.row Annotated)
+    (IsPlanned state (Annotate book key cand))
+    (λ (plan : Plan) e. subst (IsPlanned state (Annotate book key cand)) (sym e) planned) c.plan_row.ensures.plan
