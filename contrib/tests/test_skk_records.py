@@ -17,7 +17,7 @@ PROGRAM = TOP / "release" / "skk-x86_64-linux"
 
 # The record of 漢字 for かんじ has 43 bytes, so that two of them end at 103, where the third has no room below 110.
 THREE = "1:Kanji <cj>\n" * 3
-FIRST = "F: generation 1, 104 bytes"
+FIRST = "F: version 2, generation 1, 104 bytes"
 OLDER = """17 put book 1 count 1 stamp 1 okuri-nasi かんじ /漢字/
 60 put book 1 count 2 stamp 2 okuri-nasi かんじ /漢字/
 103 closed gate, bytes behind it: 0
@@ -34,7 +34,8 @@ DAMAGES = [
     (18, b"\0\0\0\0", "record at 17: its payload has 0 bytes, and not 1 to 131072"),
     (18, b"\x01\0\x02\0", "record at 17: its payload has 131073 bytes, and not 1 to 131072"),
     (18, b"\x28\0\0\0", "record at 17: its payload has 40 bytes, and the file ends before"),
-    (22, b"\x04", "record at 17: the payload begins with 4, and with none of 1, 2 and 3"),
+    (22, b"\x05", "record at 17: the payload begins with 5, which no record of version 2 does"),
+    (22, b"\x04", "record at 17: the reading is empty, begins with ; or has a control character"),
     (33, b"\x02", "record at 17: the stamp 2 is not from 1 to the count 1"),
     (33, b"\0", "record at 17: the stamp 0 is not from 1 to the count 1"),
     (41, b"\x02", "record at 17: the part is 2, and neither 0 nor 1"),
@@ -74,7 +75,7 @@ class Tests(unittest.TestCase):
 
     def test_the_live_file_is_printed(self):
         self.type(THREE, "--limit", "110")
-        heads = f"{FIRST}\nF.2: generation 2, 104 bytes, live\n"
+        heads = f"{FIRST}\nF.2: version 2, generation 2, 104 bytes, live\n"
         self.assertEqual(self.looked(), (0, heads + NEWER, ""))
         self.assertEqual(self.looked("--file", "1"), (0, heads + OLDER, ""))
 
@@ -88,17 +89,35 @@ class Tests(unittest.TestCase):
 188 closed gate, bytes behind it: 0
 """
         self.assertEqual((status, told), (0, ""))
-        self.assertEqual(printed, f"F: generation 1, 189 bytes, live\nF.2: not there\n{rows}")
+        self.assertEqual(printed, f"F: version 2, generation 1, 189 bytes, live\nF.2: not there\n{rows}")
 
     def test_the_count_of_a_book_is_printed(self):
         count = b"\x03\x05\x00" + (7).to_bytes(8, "little")
         head = b"\x01SKKDESK\x01" + (2**64 - 1).to_bytes(8, "little")
         self.file.write_bytes(head + b"\x01" + len(count).to_bytes(4, "little") + count + b"\0\x01x")
-        self.second.write_bytes(b"\x01SKKDESK\x01" + bytes(8) + b"\0")
-        heads = "F: generation 18446744073709551615, 36 bytes\nF.2: generation 0, 18 bytes, live\n"
+        self.second.write_bytes(b"\x01SKKDESK\x02" + bytes(8) + b"\0")
+        heads = "F: version 1, generation 18446744073709551615, 36 bytes\nF.2: version 2, generation 0, 18 bytes, live\n"
         self.assertEqual(self.looked(), (0, f"{heads}17 closed gate, bytes behind it: 0\n", ""))
         rows = "17 count book 5 count 7\n33 closed gate, bytes behind it: 2\n"
         self.assertEqual(self.looked("--file", "1"), (0, heads + rows, ""))
+
+    def test_a_note_is_printed_in_a_file_of_version_2_alone(self):
+        put = b"\x01\x01\0" + (1).to_bytes(8, "little") * 2 + "\0かんじ /漢字/".encode()
+        note = b"\x04\x01\0" + (2).to_bytes(8, "little") + b"\0\x09" + "かんじ漢字;書く文字".encode()
+        records = b"".join(b"\x01" + len(one).to_bytes(4, "little") + one for one in (put, note))
+        rows = "17 put book 1 count 1 stamp 1 okuri-nasi かんじ /漢字/\n"
+        for version in (1, 2):
+            with self.subTest(version):
+                self.file.write_bytes(b"\x01SKKDESK" + bytes([version]) + (1).to_bytes(8, "little") + records + b"\0")
+                status, printed, told = self.looked()
+                words = ran(PROGRAM, "dump", "--learned", self.file, "--book", "1")
+                if version == 1:
+                    self.assertEqual((status, words[::2]), (1, (5, "skk: learned file record at 60\n")))
+                    self.assertEqual(told, "F: record at 60: the payload begins with 4, which no record of version 1 does\n")
+                else:
+                    self.assertEqual((status, told, words[0]), (0, "", 0))
+                    self.assertIn("かんじ /漢字;書く文字/\n", words[1])
+                    self.assertIn(f"{rows}60 note book 1 count 2 okuri-nasi かんじ /漢字;書く文字/\n", printed)
 
     def test_what_is_bad_is_told_where_the_program_refuses_it(self):
         self.type("1:Kanji <cj>\n")

@@ -65,7 +65,7 @@ def broken_learned_file(draw, content):
     content = bytearray(content)
     places = places_of_records(content)
     at = draw.choice([*places, len(content) - 1])
-    kind = draw.randrange(11)
+    kind = draw.randrange(13)
     if kind < 5 or kind == 5 and at + 24 < len(content):
         put_number(draw, content, at, kind)
     elif kind == 6:
@@ -101,10 +101,15 @@ def put_number(draw, content, at, kind):
 
 
 def new_record(draw, kind):
-    """A record of a count, of a broken row, or of a reading whose row is gone."""
+    """A record of a count, of a note, of a broken row, or of a reading whose row is gone."""
     if kind == 7:
         book, count = draw.choice((0, 1, 2, 3)), draw.choice((0, 1, 9, END - 1))
         return record(b"\3" + struct.pack("<HQ", book, count))
+    if kind > 10:
+        reading = draw.choice(("かんじ", "おおk", "こう", "a b", "")).encode()
+        fields = draw.randrange(3), draw.choice((0, 2, 3, 9)), draw.randrange(3), draw.choice((len(reading), 0, 200))
+        item = draw.choice(("漢字;x", "大;*y", "新", "(concat \"a\\057\");z", "a/b", ";z", "", "[く")).encode()
+        return record(b"\4" + struct.pack("<HQBB", *fields) + reading + item)
     if kind > 8:
         fields = draw.randrange(3), draw.choice((3, 3, 9)), draw.choice((1, 2, 3, 3)), draw.randrange(2)
         return record(b"\1" + struct.pack("<HQQB", *fields) + broken_content(draw, ROWS))

@@ -39,6 +39,7 @@ LEARNING = [
     b"1:/ao lx/;\"y<ret>\n1:/ao  l[z<ret>\n2:Q12nen <cj>\n2:/p7 <cj>\n",
     b"1=9,0\n1:Kou     a\n1:Kou     s\n2:Nuno lfoo<ret>\n3:Nuno lbar<ret>\n3:NuKu lx<ret>\n",
     b"1:Kanji <cj>\n2:Kanji <cj>\n3:Kanji <cj>\n",
+    b"1:Kanji ^lmemo<ret><cj>\n1:Kanji ^lx<ret><cg><cg>\n2:OoKu^lmemo<ret><cj>\n2:OoKu^<ret><cg><cg>\n",
 ]
 
 STREAMS = [

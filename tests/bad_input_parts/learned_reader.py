@@ -2,7 +2,9 @@
 
 from bad_input_parts.dictionary_reader import entry, line_of
 
-MAGIC = b"SKKDESK\x01"
+NAME = b"SKKDESK"
+NEWEST = 2
+MAGIC = NAME + bytes([NEWEST])
 END = 2**64
 
 
@@ -11,18 +13,45 @@ def number_at(content, at, length):
     return int.from_bytes(content[at : at + length], "little")
 
 
-def apply_payload(payload, counts, rows):
-    """Applies a payload to the counts and rows of books, and says whether it is one of a learned file."""
+def apply_payload(version, payload, counts, rows):
+    """Applies a payload to the counts and rows of books, and says whether it is one of a learned file of a version."""
     kind, book, count = payload[0], number_at(payload, 1, 2), number_at(payload, 3, 8)
-    place = {1: 19, 2: 11}.get(kind)
-    if kind not in (1, 2, 3) or len(payload) < (place + 1 if place else 11) or kind == 3 and len(payload) != 11:
+    place = {1: 19, 2: 11, 4: 12}.get(kind)
+    if kind not in (1, 2, 3, 4) or len(payload) < (place + 1 if place else 11) or kind == 3 and len(payload) != 11:
         return False
-    if count < counts.get(book, 0):
+    if kind == 4 and version < 2 or count < counts.get(book, 0):
         return False
-    if kind != 3 and not apply_row(payload, place, book, count, rows):
+    if kind == 4 and not apply_note(payload, book, count, rows):
+        return False
+    if kind in (1, 2) and not apply_row(payload, place, book, count, rows):
         return False
     counts[book] = count
     return True
+
+
+def apply_note(payload, book, count, rows):
+    """The same of what a payload says of a note: its row is there, and has the candidate with the note then."""
+    size = payload[12]
+    if payload[11] > 1 or count == 0 or len(payload) < 13 + size:
+        return False
+    part = "ari" if payload[11] else "nasi"
+    try:
+        reading, item = payload[13 : 13 + size].decode(), payload[13 + size :].decode()
+    except UnicodeDecodeError:
+        return False
+    line = f"{reading} /{item}/"
+    one = entry(part, line)
+    if isinstance(one, str) or one[0] != reading or len(one[1]) != 1 or one[2] or one[3] or line_of(one) != line:
+        return False
+    if (book, part, reading) not in rows:
+        return False
+    _, cands, blocks, hides = entry(part, rows[book, part, reading])
+    (word, note), = one[1].items()
+    cands[word] = note
+    hides.pop(word, None)
+    line = line_of((reading, cands, blocks, hides))
+    rows[book, part, reading] = line
+    return len(line.encode()) <= 65_535
 
 
 def apply_row(payload, place, book, count, rows):
@@ -47,7 +76,7 @@ def apply_row(payload, place, book, count, rows):
 
 def rows_of(content):
     """The rows of a live file's records, or the place of the first bad one."""
-    at, counts, rows = 17, {}, {}
+    at, counts, rows, version = 17, {}, {}, content[8]
     while True:
         if at >= len(content):
             return at
@@ -57,21 +86,26 @@ def rows_of(content):
         payload = content[at + 5 : at + 5 + length]
         if at + 5 > len(content) or not 1 <= length <= 131_072 or len(payload) < length:
             return at
-        if not apply_payload(payload, counts, rows):
+        if not apply_payload(version, payload, counts, rows):
             return at
         at += 5 + length
 
 
+def is_marked(content):
+    """Whether a file has the mark of a version that is known."""
+    return content[1:8] == NAME and 1 <= number_at(content, 8, 1) <= NEWEST
+
+
 def is_fresh(content):
     """Whether a file counts for nothing."""
-    return len(content) < 2 or content[0] == 0 or content[0] != 1 and content[1:9] == MAGIC
+    return len(content) < 2 or content[0] == 0 or content[0] != 1 and is_marked(content)
 
 
 def state_of(pair):
     """The rows of a learned file and whether it is filled as a new one, or the line on standard error."""
     names = "", "2 "
     for name, content in zip(names, pair):
-        if not is_fresh(content) and content[1:9] != MAGIC:
+        if not is_fresh(content) and not is_marked(content):
             return f"skk: learned file {name}byte {content[0]}\n".encode()
     for name, content in zip(names, pair):
         if not is_fresh(content) and len(content) < 17:
