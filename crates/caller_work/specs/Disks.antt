@@ -6,6 +6,7 @@ use Rattle.skk_calls.specs.Histories.{Opening, state_after}
 use Rattle.skk_calls.specs.Openings.{IsLegalOver}
 use Rattle.skk_calls.specs.States.{State}
 use Rattle.skk_calls.specs.Tallies.{tally_of}
+use Rattle.skk_disk.specs.declared.disk.Disk.{Ghosts}
 use Rattle.skk_disk.specs.Image.{Image}
 use Rattle.skk_disk.specs.Moments.{Passes}
 use Rattle.learned_store.specs.Limits.{AllHadRoom}
@@ -20,9 +21,9 @@ pub record DiskNow : Type 1 where
   pub left_since : ℕ → Image → Type 0
 
 -- a disk by its meanings
-abbrev pub disk_now : {D : Type 0} → (D → ℕ) → (D → ℕ) → (D → ℕ → Image → Type 0) → D → DiskNow
-disk_now time faults left_since disk =
-    record { time = time disk; faults = faults disk; left_since = left_since disk }
+abbrev pub disk_now : {D : Type 0} → Ghosts D → D → DiskNow
+disk_now ghosts disk =
+    record { time = ghosts.time disk; faults = ghosts.faults disk; left_since = ghosts.left_since disk }
 
 -- what the calls of a chronicle leave of the disk that they were made over: what a stop at a moment since the opening
 -- might have left is opened as a state that a part of the chronicle may leave, which has each entry that was made by

@@ -21,13 +21,12 @@ pub fn with_caller<D: Disk, O, W: Work<O> + Drop>(
     outside: &mut O,
 ) -> Result<Worked<D, W::Left>, D>
     requires fits { W.fits work }
-    requires calm { Keeps D.time D.left_since store.journal store.state None }
+    requires calm { Keeps D.Disk store.journal store.state None }
     ensures leaves { IfOk result (λ worked.
         W.leaves work outside.old outside.new [] (said_in worked.closed.chronicle 0) worked.left) }
     ensures one { IfOk result (λ worked. are_of_one worked.closed.chronicle ≡ true) }
-    ensures closes { IfOk result (λ worked. Closes (opening_now D.time D.faults store) worked.closed
-        (disk_now D.time D.faults D.left_since store.journal.disk)
-        (disk_now D.time D.faults D.left_since worked.closed.disk)) }
+    ensures closes { IfOk result (λ worked. Closes (opening_now D.Disk store) worked.closed
+        (disk_now D.Disk store.journal.disk) (disk_now D.Disk worked.closed.disk)) }
     ensures back { IfErr result (λ disk. disk ≡ store.journal.disk) }
     ensures quiet { OnErr result (outside.new ≡ outside.old) }
 {
@@ -42,15 +41,14 @@ fn with_name<N: LearnedName, D: Disk, O, W: Work<O> + Drop>(
     outside: &mut O,
 ) -> Result<Worked<D, W::Left>, D>
     requires fits { W.fits work }
-    requires calm { Keeps D.time D.left_since store.journal store.state None }
-    requires named { N.opening ≡ opening_now D.time D.faults store }
+    requires calm { Keeps D.Disk store.journal store.state None }
+    requires named { N.opening ≡ opening_now D.Disk store }
     requires past { SameImages N.past (D.left_since store.journal.disk) }
     ensures leaves { IfOk result (λ worked.
         W.leaves work outside.old outside.new [] (said_in worked.closed.chronicle 0) worked.left) }
     ensures one { IfOk result (λ worked. are_of_one worked.closed.chronicle ≡ true) }
     ensures closes { IfOk result (λ worked. Closes N.opening worked.closed
-        (disk_now D.time D.faults D.left_since store.journal.disk)
-        (disk_now D.time D.faults D.left_since worked.closed.disk)) }
+        (disk_now D.Disk store.journal.disk) (disk_now D.Disk worked.closed.disk)) }
     ensures back { IfErr result (λ disk. disk ≡ store.journal.disk) }
     ensures quiet { OnErr result (outside.new ≡ outside.old) }
 {

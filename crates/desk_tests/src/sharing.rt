@@ -33,7 +33,7 @@ pub(crate) struct SharedDesk<D> {
 
 // Opens the learned file of a disk over the system's file.
 pub(crate) fn opened<D: Disk + Drop>(rt: &impl Abort, alloc: Global, disk: D) -> Store<D>
-    ensures { Keeps D.time D.left_since result.journal result.state None }
+    ensures { Keeps D.Disk result.journal result.state None }
 {
     let system = system(rt, alloc);
     match Store::open(alloc, disk, system, FAR_LIMIT) {
@@ -78,8 +78,8 @@ fn share_named<
     made: (History, Pen, RollSeat),
     shift: Shift,
 ) -> SharedDesk<D>
-    requires calm { Keeps D.time D.left_since store.journal store.state None }
-    requires named { N.opening ≡ opening_now D.time D.faults store }
+    requires calm { Keeps D.Disk store.journal store.state None }
+    requires named { N.opening ≡ opening_now D.Disk store }
     requires past { SameImages N.past (D.left_since store.journal.disk) }
     requires history { made.0 ≡ N.table }
     requires pen { made.1 ≡ record { table = made.0; seen = []; ended = []; roll = None } }

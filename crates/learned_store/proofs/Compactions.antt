@@ -1,6 +1,6 @@
 -- The bytes that a compaction writes of a state: where they end, and that they are records which leave it.
 use Rattle.std.proofs.Common.{◌≡◌, ℕ, ◌+◌, Option, None, Some, List, map, length, ap, arith}
-use Rattle.skk_disk.specs.Image.{Image}
+use Rattle.skk_disk.specs.declared.disk.Disk.{Ghosts}
 use Rattle.skk_calls.specs.Histories.{tight}
 use Rattle.skk_calls.specs.States.{State}
 use Rattle.skk_journal.specs.Contents.{Contents}
@@ -27,8 +27,8 @@ module _ (state : State) (bytes : List ℕ) (is : bytes ≡ framed (map payload_
       (map payload_of (compacted state), sized, is, compacted_leave state valid written)
 
   -- where a journal keeps the state, they are its compaction
-  pub kept_compaction : {D : Type 0} (time : D → ℕ) (left_since : D → ℕ → Image → Type 0) (journal : OpenJournal D)
-      (doubt : Option State) → Keeps time left_since journal state doubt → IsCompaction state bytes
-  kept_compaction time left_since journal None (newest, contents, leave, rests) = left_compaction contents leave
-  kept_compaction time left_since journal (Some doubted) (newest, contents, others, leave, doubted_leave, doubts) =
+  pub kept_compaction : {D : Type 0} (disk : Ghosts D) (journal : OpenJournal D)
+      (doubt : Option State) → Keeps disk journal state doubt → IsCompaction state bytes
+  kept_compaction disk journal None (newest, contents, leave, rests) = left_compaction contents leave
+  kept_compaction disk journal (Some doubted) (newest, contents, others, leave, doubted_leave, doubts) =
       left_compaction contents leave

@@ -7,6 +7,7 @@ use Rattle.skk_outside.specs.declared.outside.Failed.{Failed}
 use Rattle.skk_calls.specs.declared.answer.Refusal.{Refusal}
 use Rattle.skk_calls.specs.declared.answer.Refusal.TheVariants.{Disk}
 use Rattle.skk_calls.specs.States.{State}
+use Rattle.skk_disk.specs.declared.disk.Disk.{Ghosts}
 use Rattle.skk_disk.specs.Image.{Image}
 use Rattle.skk_journal.specs.Journal.{OpenJournal}
 use Rattle.learned_store.specs.Stores.{Adds, Keeps, KeepsOneOf, RecoversOneOf, with_doubt}
@@ -84,16 +85,15 @@ module _ (state after : State) (doubt : Option State) (image : Image) where
 
 -- What is in doubt, among more
 
-module _ {D : Type 0} (time : D → ℕ) (left_since : D → ℕ → Image → Type 0) (journal : OpenJournal D)
-    (state after : State) (doubt : Option State) where
+module _ {D : Type 0} (disk : Ghosts D) (journal : OpenJournal D) (state after : State) (doubt : Option State) where
   -- it may be what was so before, nothing, the state, or the one after a change
   abbrev pub KeepsMore : Type 0
-  KeepsMore = KeepsOneOf time left_since journal state (doubt ∷ None ∷ Some state ∷ Some after ∷ [])
+  KeepsMore = KeepsOneOf disk journal state (doubt ∷ None ∷ Some state ∷ Some after ∷ [])
 
-  pub doubt_stays : Keeps time left_since journal state doubt → KeepsMore
+  pub doubt_stays : Keeps disk journal state doubt → KeepsMore
   doubt_stays keeps = (doubt, first_is doubt (None ∷ Some state ∷ Some after ∷ []), keeps)
 
-  pub doubt_is_state : KeepsOneOf time left_since journal state (None ∷ Some state ∷ []) → KeepsMore
+  pub doubt_is_state : KeepsOneOf disk journal state (None ∷ Some state ∷ []) → KeepsMore
   doubt_is_state (now, is, keeps) = (
     now,
     Contains-append_right (doubt ∷ []) (None ∷ Some state ∷ Some after ∷ []) now
@@ -101,7 +101,7 @@ module _ {D : Type 0} (time : D → ℕ) (left_since : D → ℕ → Image → T
     keeps,
   )
 
-  pub doubt_is_after : KeepsOneOf time left_since journal state (None ∷ Some after ∷ []) → KeepsMore
+  pub doubt_is_after : KeepsOneOf disk journal state (None ∷ Some after ∷ []) → KeepsMore
   doubt_is_after (now, is, keeps) = (
     now,
     ⊎_elim

@@ -1,6 +1,7 @@
 -- What records leave with one more, and what the images of a journal that keeps a state are opened as.
 use Rattle.std.proofs.Common.{ℕ, List, [], ◌∷◌, ◌++◌, Option, None, Some}
 use Rattle.std.proofs.Common.{inl, inr, ap, subst}
+use Rattle.skk_disk.specs.declared.disk.Disk.{Ghosts}
 use Rattle.skk_disk.specs.Image.{Image}
 use Rattle.skk_calls.specs.States.{State, empty_state}
 use Rattle.skk_journal.specs.Contents.{Contents, with_record}
@@ -35,21 +36,21 @@ either_opened contents others state doubted image left leave (inl opens) =
 either_opened contents others state doubted image left leave (inr opens) =
     (doubted, second_is state doubted [], (others, opens, leave))
 
-module _ {D : Type 0} (time : D → ℕ) (left_since : D → ℕ → Image → Type 0) where
+module _ {D : Type 0} (disk : Ghosts D) where
   -- each image that a stop now may leave is opened as the state that is kept, or as the one in doubt
   pub opened_now : (journal : OpenJournal D) (state : State) (doubt : Option State)
-      → Keeps time left_since journal state doubt
-      → Each (left_since journal.disk (time journal.disk)) (RecoversOneOf (with_doubt state doubt))
+      → Keeps disk journal state doubt
+      → Each (disk.left_since journal.disk (disk.time journal.disk)) (RecoversOneOf (with_doubt state doubt))
   opened_now journal state None (newest, contents, leave, rests) image left = (
     state,
     first_is state [],
     (
       contents,
-      subst (λ (n : ℕ). Opens n contents image) newest (rests_open time left_since journal contents rests image left),
+      subst (λ (n : ℕ). Opens n contents image) newest (rests_open disk journal contents rests image left),
       leave,
     ),
   )
   opened_now journal state (Some doubted) (newest, contents, others, leave, leaves, doubts) image left =
       either_opened contents others state doubted image leave leaves
       (subst (λ (n : ℕ). OpensEither n contents others image) newest
-      (doubts_open time left_since journal contents others doubts image left))
+      (doubts_open disk journal contents others doubts image left))

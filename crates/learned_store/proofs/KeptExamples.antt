@@ -10,6 +10,7 @@ use Rattle.skk_calls.specs.declared.answer.Refusal.TheVariants.{Memory, Disk, Jo
 use Rattle.skk_calls.specs.declared.answer.Reply.TheVariants.{Learned, Unchanged}
 use Rattle.skk_calls.specs.declared.book.NumberedBook.{NumberedBook}
 use Rattle.skk_calls.specs.States.{State, empty_state}
+use Rattle.skk_disk.specs.declared.disk.Disk.{Ghosts}
 use Rattle.skk_disk.specs.Image.{Image}
 use Rattle.skk_disk.specs.declared.which.Which.TheVariants.{A}
 use Rattle.skk_journal.specs.declared.live.Doubt.{Doubt}
@@ -32,11 +33,14 @@ use Rattle.learned_store.proofs.SmallFiles.{first_leaves, two_leave, sized_one, 
 -- Journals
 
 -- a disk whose one image is this one, and a journal of it whose first file is live with the generation 1
-abbrev time : Image → ℕ
-time disk = 0
-
-abbrev left_since : Image → ℕ → Image → Type 0
-left_since disk since image = image ≡ disk
+abbrev lasting : Ghosts Image
+lasting = record {
+  tells = ⊥;
+  faults = λ disk. 0;
+  time = λ disk. 0;
+  seen = λ disk. disk;
+  left_since = λ disk since image. image ≡ disk;
+}
 
 abbrev journal : Image → ℕ → Doubt → OpenJournal Image
 journal disk end doubt =
@@ -50,16 +54,16 @@ journal disk end doubt =
     }
 
 abbrev KeepsThat : OpenJournal Image → State → Option State → Type 0
-KeepsThat = Keeps time left_since
+KeepsThat = Keeps lasting
 
-alone : (P : Image → Type 0) (disk : Image) → P disk → Each (left_since disk 0) P
+alone : (P : Image → Type 0) (disk : Image) → P disk → Each (lasting.left_since disk 0) P
 alone P disk holds image is = subst P (sym is) holds
 
 -- in no doubt a journal has just the records of the state
 abbrev calm : OpenJournal Image
 calm = journal (pair (file 1 (first ∷ [])) []) 48 doubts.Calm
 
-calm_rests : Rests time left_since calm (old (first ∷ []))
+calm_rests : Rests lasting calm (old (first ∷ []))
 unfolding number_bytes
 calm_rests = record {
   calm = refl;
@@ -75,7 +79,7 @@ abbrev staged : OpenJournal Image
 staged =
     journal (pair (begun 1 (first ∷ []) ++ 7 ∷ 25 ∷ 0 ∷ 0 ∷ 0 ∷ (second ++ 0 ∷ [])) []) 48 doubts.Record
 
-staged_doubts : Doubts time left_since staged (old (first ∷ [])) (old (first ∷ second ∷ []))
+staged_doubts : Doubts lasting staged (old (first ∷ [])) (old (first ∷ second ∷ []))
 unfolding number_bytes
 staged_doubts = record {
   doubt = refl;
@@ -135,7 +139,7 @@ abbrev filled : OpenJournal Image
 filled =
     journal (pair (file 1 (first ∷ second ∷ [])) (filled_bytes 1 2 2 (framed (written ∷ second ∷ [])))) 78 doubts.Idle
 
-filled_doubts : Doubts time left_since filled (old (first ∷ second ∷ [])) compacted_records
+filled_doubts : Doubts lasting filled (old (first ∷ second ∷ [])) compacted_records
 unfolding number_bytes
 filled_doubts = record {
   doubt = refl;
@@ -165,9 +169,9 @@ keeps_not : (kept : State) → (¬ KeepsThat staged kept None) × (¬ KeepsThat 
 keeps_not kept = (λ is. cc is.3.calm, λ is. cc is.3.calm, λ other is. cc is.5.doubt)
 
 -- one of these is in doubt, or nothing where nothing is among them
-keeps_one : KeepsOneOf time left_since calm (state 1 (row_a ∷ [])) (Some empty_state ∷ None ∷ [])
-    × KeepsOneOf time left_since staged (state 1 (row_a ∷ [])) (Some (state 2 (row_a ∷ row_c ∷ [])) ∷ [])
-    × (¬ KeepsOneOf time left_since calm (state 1 (row_a ∷ [])) [])
+keeps_one : KeepsOneOf lasting calm (state 1 (row_a ∷ [])) (Some empty_state ∷ None ∷ [])
+    × KeepsOneOf lasting staged (state 1 (row_a ∷ [])) (Some (state 2 (row_a ∷ row_c ∷ [])) ∷ [])
+    × (¬ KeepsOneOf lasting calm (state 1 (row_a ∷ [])) [])
 keeps_one = (
   (None, (1, lit< tt, refl), keeps.0),
   (Some (state 2 (row_a ∷ row_c ∷ [])), (0, lit< tt, refl), keeps.1),
@@ -175,17 +179,17 @@ keeps_one = (
 )
 
 -- what is in doubt is one of these states, or nothing is
-among : KeepsAmong time left_since staged (state 1 (row_a ∷ [])) (empty_state ∷ state 2 (row_a ∷ row_c ∷ []) ∷ [])
-    × KeepsAmong time left_since calm (state 1 (row_a ∷ [])) []
+among : KeepsAmong lasting staged (state 1 (row_a ∷ [])) (empty_state ∷ state 2 (row_a ∷ row_c ∷ []) ∷ [])
+    × KeepsAmong lasting calm (state 1 (row_a ∷ [])) []
 among = ((Some (state 2 (row_a ∷ row_c ∷ [])), (1, lit< tt, refl), keeps.1), (None, tt, keeps.0))
 
-none_among : (kept : State) → ¬ KeepsAmong time left_since staged kept []
+none_among : (kept : State) → ¬ KeepsAmong lasting staged kept []
 none_among kept (None, here, keeps) = cc keeps.3.calm
 none_among kept (Some other, here, keeps) = omega (arith, here.1)
 
 -- images that are opened as a state, or as one in doubt beside it
-recover_among : RecoverAmong empty_state [] (left_since (pair [] []) 0)
-    × RecoverAmong empty_state (state 1 (row_a ∷ []) ∷ []) (left_since calm.disk 0)
+recover_among : RecoverAmong empty_state [] (lasting.left_since (pair [] []) 0)
+    × RecoverAmong empty_state (state 1 (row_a ∷ []) ∷ []) (lasting.left_since calm.disk 0)
 unfolding number_bytes number_of number_step
 recover_among = (
   (

@@ -9,7 +9,7 @@ use Rattle.skk_calls.specs.declared.entry.Entry.{Entry}
 use Rattle.skk_calls.specs.Histories.{Opening, need, tight, state_after, tells_change, in_doubt, in_doubt_after}
 use Rattle.skk_calls.specs.HistoryLaws.{split-last}
 use Rattle.skk_calls.specs.States.{State}
-use Rattle.skk_disk.specs.Image.{Image}
+use Rattle.skk_disk.specs.declared.disk.Disk.{Ghosts}
 use Rattle.skk_journal.specs.Journal.{OpenJournal, is_in_doubt}
 use Rattle.learned_store.specs.Limits.{HasRoomFor, HadRoom, AllHadRoom}
 use Rattle.learned_store.specs.Stores.{OpenStore, Keeps, DoubtAfter}
@@ -58,20 +58,20 @@ not-empty : (calls : List Call) (call : Call) → calls ++ call ∷ [] ≡ [] �
 not-empty [] call e = cc
 not-empty (first ∷ calls) call e = cc
 
-module _ {D : Type 0} (time : D → ℕ) (left_since : D → ℕ → Image → Type 0) where
+module _ {D : Type 0} (disk : Ghosts D) where
   -- a journal that keeps a state is in doubt exactly where another state is
   calm-kept : (journal : OpenJournal D) (state : State) (doubt : Option State)
-      → Keeps time left_since journal state doubt → doubt ≡ None → is_in_doubt journal.doubt ≡ false
+      → Keeps disk journal state doubt → doubt ≡ None → is_in_doubt journal.doubt ≡ false
   calm-kept journal state None keeps none = keeps.3.calm
   calm-kept journal state (Some other) keeps none = absurd (cc)
 
   none-kept : (journal : OpenJournal D) (state : State) (doubt : Option State)
-      → Keeps time left_since journal state doubt → is_in_doubt journal.doubt ≡ false → doubt ≡ None
+      → Keeps disk journal state doubt → is_in_doubt journal.doubt ≡ false → doubt ≡ None
   none-kept journal state None keeps calm = refl
   none-kept journal state (Some other) keeps calm = absurd (differ (is_in_doubt journal.doubt) keeps.5.doubt calm)
 
   module _ (old new : OpenJournal D) (state now : State) (calls : List Call) (call : Call) (doubt later : Option State)
-      (kept : Keeps time left_since old state doubt) (keeps : Keeps time left_since new now later)
+      (kept : Keeps disk old state doubt) (keeps : Keeps disk new now later)
       (calm : calls ≡ [] → is_in_doubt old.doubt ≡ false) where
     -- where no call is in doubt after an answer, the journal is in no doubt then
     pub calm-more : (given : Answer) → DoubtAfter state doubt call given later

@@ -10,7 +10,8 @@ use Rattle.skk_calls.specs.declared.chronicle.Noted.{Noted}
 use Rattle.skk_calls.specs.declared.chronicle.Noted.TheVariants.{Opened, Entered}
 use Rattle.skk_calls.specs.States.{State, empty_state}
 use Rattle.skk_calls.specs.Tallies.{empty_tally}
-use Rattle.skk_disk.specs.Image.{Image}
+use Rattle.skk_disk.specs.declared.disk.Disk.{Ghosts}
+use Rattle.skk_disk.specs.Image.{Image, empty_image}
 use Rattle.skk_disk.specs.declared.which.Which.TheVariants.{B}
 use Rattle.skk_journal.specs.declared.live.Doubt.TheVariants as doubts
 use Rattle.skk_journal.specs.declared.live.Idle.TheVariants as idles
@@ -156,17 +157,27 @@ store = record {
   limit = 64;
 }
 
-now : opening_now (λ disk. disk) (λ (disk : ℕ). 5) store
+-- a disk whose time is its number, and five of whose calls failed
+abbrev aged : Ghosts ℕ
+aged = record {
+  tells = ⊥;
+  faults = λ disk. 5;
+  time = λ disk. disk;
+  seen = λ disk. empty_image;
+  left_since = λ disk since image. ⊥;
+}
+
+now : opening_now aged store
     ≡ record { files = (row_a ∷ []) ∷ []; state = other; end = 12; limit = 64; time = 7; faults = 5 }
 now = refl
 
-note : opening_note (opening_now (λ disk. disk) (λ (disk : ℕ). 5) store)
+note : opening_note (opening_now aged store)
     ≡ Opened ((row_a ∷ []) ∷ []) other 12 64 7 5
 note = refl
 
 -- a tally counts answers, and no rows
-counts : Counts (opening_now (λ disk. disk) (λ (disk : ℕ). 5) store) (opened ∷ []) empty_tally
-    × Counts (opening_now (λ disk. disk) (λ (disk : ℕ). 5) store)
+counts : Counts (opening_now aged store) (opened ∷ []) empty_tally
+    × Counts (opening_now aged store)
     (opened ∷ entry learned 5 4 ∷ entry (Refused Disk) 6 5 ∷ entry full 6 5 ∷ [])
     (record empty_tally { learned = 1; disk = true; full = true })
 counts = (refl, refl)

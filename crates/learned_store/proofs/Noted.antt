@@ -18,6 +18,7 @@ use Rattle.skk_calls.specs.Histories.{in_doubt, state_after}
 use Rattle.skk_calls.specs.Rows.{Row}
 use Rattle.skk_calls.specs.States.{State}
 use Rattle.skk_calls.specs.Tallies.{Tally, tally_of, tally_with}
+use Rattle.skk_disk.specs.declared.disk.Disk.{Ghosts}
 use Rattle.skk_disk.specs.Image.{Image}
 use Rattle.skk_disk.specs.Moments.{SameImages, Earlier}
 use Rattle.skk_disk.specs.MomentLaws.{passes_on}
@@ -38,32 +39,32 @@ legal-none : (opening : Opening) → IsLegal opening []
 legal-none opening [] entry rest e = absurd (cc)
 legal-none opening (first ∷ prefix) entry rest e = absurd (cc)
 
-module _ {D : Type 0} (time faults : D → ℕ) (left_since : D → ℕ → Image → Type 0) where
+module _ {D : Type 0} (disk : Ghosts D) where
   -- at a time alone, each image is opened as the state that is kept
-  now : (store : OpenStore D) → Keeps time left_since store.journal store.state None
-      → (moment : ℕ) (image : Image) → time store.journal.disk ≤ moment → moment ≤ time store.journal.disk
-      → left_since store.journal.disk moment image
-      → RecoversBy store.state (opening_note (opening_now time faults store) ∷ []) moment image
+  now : (store : OpenStore D) → Keeps disk store.journal store.state None
+      → (moment : ℕ) (image : Image) → disk.time store.journal.disk ≤ moment → moment ≤ disk.time store.journal.disk
+      → disk.left_since store.journal.disk moment image
+      → RecoversBy store.state (opening_note (opening_now disk store) ∷ []) moment image
   now store keeps moment image from to left =
-      let here : moment ≡ time store.journal.disk = omega (arith, from, to) in
+      let here : moment ≡ disk.time store.journal.disk = omega (arith, from, to) in
       record {
-        front = opening_note (opening_now time faults store) ∷ [];
+        front = opening_note (opening_now disk store) ∷ [];
         back = [];
         is = refl;
         later = All-nil (λ (note : Noted). moment < time_of note);
-        recovers = opened_now time left_since store.journal store.state None keeps image
-            (subst (λ m. left_since store.journal.disk m image) here left);
+        recovers = opened_now disk store.journal store.state None keeps image
+            (subst (λ m. disk.left_since store.journal.disk m image) here left);
       }
 
   pub stands_begun : (opening : Opening) (past : ℕ → Image → Type 0) (store : OpenStore D)
-      → opening ≡ opening_now time faults store → SameImages past (left_since store.journal.disk)
-      → Keeps time left_since store.journal store.state None
-      → Stands time faults left_since opening past (opening_note opening ∷ []) store
+      → opening ≡ opening_now disk store → SameImages past (disk.left_since store.journal.disk)
+      → Keeps disk store.journal store.state None
+      → Stands disk opening past (opening_note opening ∷ []) store
   stands_begun opening past store is same keeps =
-      subst (λ (o : Opening). Stands time faults left_since o past (opening_note o ∷ []) store) (sym is) (record {
+      subst (λ (o : Opening). Stands disk o past (opening_note o ∷ []) store) (sym is) (record {
         begun = refl;
-        legal = (refl, legal-none (opening_now time faults store));
-        fits = had-none (opening_now time faults store);
+        legal = (refl, legal-none (opening_now disk store));
+        fits = had-none (opening_now disk store);
         files = refl;
         limit = refl;
         state = refl;
@@ -97,15 +98,15 @@ cause before number time faults call (Refused Memory) rose = tt
 cause before number time faults call (Refused Disk) rose = rose refl
 cause before number time faults call (Refused (JournalFull told needs most)) rose = tt
 
-module _ {D : Type 0} (time faults : D → ℕ) (left_since : D → ℕ → Image → Type 0) (opening : Opening)
+module _ {D : Type 0} (disk : Ghosts D) (opening : Opening)
     (past : ℕ → Image → Type 0) (notes : List Noted) (old new : OpenStore D) (number : ℕ) (call : Call) (given : Answer)
-    (stands : Stands time faults left_since opening past notes old) where
-  pub stands_more : Earlier (left_since new.journal.disk)
-      → Serves time faults left_since old new call given
-      → Stands time faults left_since opening past
-      (notes ++ Entered number call given (time new.journal.disk) (faults new.journal.disk) ∷ []) new
+    (stands : Stands disk opening past notes old) where
+  pub stands_more : Earlier (disk.left_since new.journal.disk)
+      → Serves disk old new call given
+      → Stands disk opening past
+      (notes ++ Entered number call given (disk.time new.journal.disk) (disk.faults new.journal.disk) ∷ []) new
   stands_more earlier serves =
-      let note : Noted = Entered number call given (time new.journal.disk) (faults new.journal.disk) in
+      let note : Noted = Entered number call given (disk.time new.journal.disk) (disk.faults new.journal.disk) in
       let entry : Entry = record { number = number; call = call; answer = given } in
       let history = history_of notes in
       let before : State = state_after opening.state history in
@@ -115,13 +116,14 @@ module _ {D : Type 0} (time faults : D → ℕ) (left_since : D → ℕ → Imag
       let later = serves.after doubt kept in
       let legal_here : IsLegalAnswer LacksRoom opening before call given =
       subst (λ (s : State). IsLegalAnswer LacksRoom opening s call given) stands.state
-      (legal-over (opening_now time faults old) opening old.state call given stands.files stands.limit
+      (legal-over (opening_now disk old) opening old.state call given stands.files stands.limit
       serves.legal) in
       let state_here : new.state ≡ state_after opening.state (history_of (notes ++ note ∷ [])) =
       serves.state ∙ ap (λ (s : State). after_answer s call given) stands.state
       ∙ sym (ap (state_after opening.state) more ∙ state-more opening.state history entry) in
       let among : IsOneOf later.0 (left_behind opening.state (notes ++ note ∷ [])) =
-      doubt-left opening notes number (time new.journal.disk) (faults new.journal.disk) call given doubt later.0
+      doubt-left opening notes number (disk.time new.journal.disk) (disk.faults new.journal.disk) call given doubt
+      later.0
       legal_here stands.keeps.1 (subst (λ (s : State). DoubtAfter s doubt call given later.0) stands.state later.1) in
       record {
         begun = begun-more notes note refl stands.begun;
@@ -137,13 +139,15 @@ module _ {D : Type 0} (time faults : D → ℕ) (left_since : D → ℕ → Imag
         limit = serves.limit ∙ stands.limit;
         state = state_here;
         calm = λ none.
-            calm-more time left_since old.journal new.journal old.state new.state (in_doubt [] history) call doubt
+            calm-more disk old.journal new.journal old.state new.state (in_doubt [] history) call doubt
             later.0 kept later.2 stands.calm given later.1
             (sym (ap (in_doubt []) more ∙ doubt-more [] history entry) ∙ none);
         keeps = (later.0, among, later.2);
-        moments = stands_over-more opening.state (time old.journal.disk) (time new.journal.disk)
-            (left_since old.journal.disk) (left_since new.journal.disk) notes note earlier serves.past refl
-            (λ image left. within-left opening notes number (time new.journal.disk) (faults new.journal.disk) call given
+        moments = stands_over-more opening.state (disk.time old.journal.disk) (disk.time new.journal.disk)
+            (disk.left_since old.journal.disk) (disk.left_since new.journal.disk) notes note earlier
+            serves.advances.past refl
+            (λ image left. within-left opening notes number (disk.time new.journal.disk) (disk.faults new.journal.disk)
+            call given
             doubt stands.keeps.1 image
             (subst (λ (s : State). RecoversOneOf (states_within s doubt call given) image) stands.state
             (serves.images doubt kept image left)))
@@ -153,14 +157,17 @@ module _ {D : Type 0} (time faults : D → ℕ) (left_since : D → ℕ → Imag
             (doubt-among (state_after opening.state (history_of (notes ++ note ∷ []))) later.0
             (map (after (state_after opening.state (history_of (notes ++ note ∷ []))))
             (in_doubt [] (history_of (notes ++ note ∷ [])))) among)) image
-            (opened_now time left_since new.journal new.state later.0 later.2 image left))
+            (opened_now disk new.journal new.state later.0 later.2 image left))
             opening.time (goes_on-start opening.time opening.faults notes _ _ stands.goes_on) stands.moments;
-        goes_on = goes_on-more opening.time opening.faults notes (time old.journal.disk) (faults old.journal.disk) note
-            stands.goes_on serves.past.later serves.counted
-            (cause (faults old.journal.disk) number (time new.journal.disk) (faults new.journal.disk) call given
+        goes_on = goes_on-more opening.time opening.faults notes (disk.time old.journal.disk)
+            (disk.faults old.journal.disk) note
+            stands.goes_on serves.advances.past.later serves.advances.counted
+            (cause (disk.faults old.journal.disk) number (disk.time new.journal.disk) (disk.faults new.journal.disk)
+            call given
             serves.failed);
-        passes = passes_on opening.time (time old.journal.disk) (time new.journal.disk) past
-            (left_since old.journal.disk) (left_since new.journal.disk) stands.passes serves.past earlier;
+        passes = passes_on opening.time (disk.time old.journal.disk) (disk.time new.journal.disk) past
+            (disk.left_since old.journal.disk) (disk.left_since new.journal.disk) stands.passes serves.advances.past
+            earlier;
       }
 
 -- a tally counts one answer more

@@ -4,6 +4,7 @@ use Rattle.std.proofs.lemmas.Bool.{cases_lt}
 use Rattle.std.proofs.lemmas.List.Elements.{All-cons, All-nil, All-weaker}
 use Rattle.skk_calls.specs.declared.chronicle.Noted.{Noted}
 use Rattle.skk_calls.specs.Histories.{Opening}
+use Rattle.skk_disk.specs.declared.disk.Disk.{Ghosts}
 use Rattle.skk_disk.specs.Image.{Image}
 use Rattle.learned_store.specs.Stores.{OpenStore, Recovers}
 use Rattle.learned_store.specs.Stands.{time_of, faults_of, RecoversBy, StandsOver, GoOn, Stands}
@@ -17,16 +18,17 @@ made-after early time faults (first ∷ notes) last_time last_faults before on =
     All-cons (λ (note : Noted). early < time_of note) first notes here
     (made-after early (time_of first) (faults_of first) notes last_time last_faults here on.3)
 
-module _ {D : Type 0} (time faults : D → ℕ) (left_since : D → ℕ → Image → Type 0) (opening : Opening)
+module _ {D : Type 0} (disk : Ghosts D) (opening : Opening)
     (past : ℕ → Image → Type 0) (notes : List Noted) (store : OpenStore D)
-    (stands : Stands time faults left_since opening past notes store) where
+    (stands : Stands disk opening past notes store) where
   before : (moment : ℕ) (image : Image) → moment < opening.time → Recovers opening.state image
       → RecoversBy opening.state notes moment image
   before moment image early is = record {
     front = [];
     back = notes;
     is = refl;
-    later = made-after moment opening.time opening.faults notes (time store.journal.disk) (faults store.journal.disk)
+    later = made-after moment opening.time opening.faults notes (disk.time store.journal.disk)
+        (disk.faults store.journal.disk)
         early stands.goes_on;
     recovers = (opening.state, (0, omega arith, refl), is);
   }
@@ -46,7 +48,7 @@ module _ {D : Type 0} (time faults : D → ℕ) (left_since : D → ℕ → Imag
   pub stands_since : (start : ℕ)
       → ((moment : ℕ) (image : Image) → start ≤ moment → moment ≤ opening.time → past moment image
       → Recovers opening.state image)
-      → StandsOver opening.state notes start (time store.journal.disk) (left_since store.journal.disk)
+      → StandsOver opening.state notes start (disk.time store.journal.disk) (disk.left_since store.journal.disk)
   stands_since start opened moment image from to left =
       elim (cases_lt moment opening.time) [
         | inr later ↦ stands.moments moment image later to left

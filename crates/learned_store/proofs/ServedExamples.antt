@@ -10,7 +10,8 @@ use Rattle.skk_calls.specs.declared.chronicle.Noted.{Noted}
 use Rattle.skk_calls.specs.declared.chronicle.Noted.TheVariants.{Entered}
 use Rattle.skk_calls.specs.Histories.{Opening}
 use Rattle.skk_calls.specs.States.{State, empty_state}
-use Rattle.skk_disk.specs.Image.{Image}
+use Rattle.skk_disk.specs.declared.disk.Disk.{Ghosts}
+use Rattle.skk_disk.specs.Image.{empty_image}
 use Rattle.skk_disk.specs.declared.which.Which.TheVariants.{A}
 use Rattle.skk_journal.specs.declared.live.Doubt.{Doubt}
 use Rattle.skk_journal.specs.declared.live.Doubt.TheVariants as doubts
@@ -20,15 +21,15 @@ use Rattle.learned_store.specs.Stands.{NotedStore, NotesCall, Stands, opening_no
 use Rattle.learned_store.specs.Stores.{OpenStore}
 use Rattle.learned_store.proofs.SmallFiles.{row_a, state, learn}
 
--- a disk of so many faults, which nothing is left of
-abbrev time : ℕ → ℕ
-time disk = 5
-
-abbrev faults : ℕ → ℕ
-faults disk = disk
-
-abbrev left_since : ℕ → ℕ → Image → Type 0
-left_since disk since image = ⊥
+-- a disk of so many faults, which tells nothing and which nothing is left of
+abbrev silent : Ghosts ℕ
+silent = record {
+  tells = ⊥;
+  faults = λ disk. disk;
+  time = λ disk. 5;
+  seen = λ disk. empty_image;
+  left_since = λ disk since image. ⊥;
+}
 
 -- a store of a state, whose live file ends here, after so many faults
 abbrev store : State → ℕ → ℕ → Doubt → ℕ → OpenStore ℕ
@@ -67,7 +68,7 @@ abbrev books_of : State → ℕ
 books_of kept = length kept.books
 
 abbrev ServesBy : OpenStore ℕ → OpenStore ℕ → Call → Answer → Type 0
-ServesBy = Serves time faults left_since
+ServesBy = Serves silent
 
 -- a change that was done had room, leaves the state after it, and the live file ends behind it
 done_not : (¬ ServesBy (old 47) (new 48 47 2) learn learned) × (¬ ServesBy (old 48) (still 48 2) learn learned)
@@ -79,7 +80,7 @@ done_not = (
   λ is. omega (arith, ap books_of is.state),
   λ is. omega (arith, is.end refl),
   λ is. omega (arith, is.limit),
-  λ is. omega (arith, is.counted),
+  λ is. omega (arith, is.advances.counted),
 )
 
 -- a disk that failed a change had room for it, where nothing was in doubt, and a fault more; and it changed no state
@@ -135,32 +136,33 @@ memory = record {
   memory = λ want. refl;
   images = λ doubt keeps image none. absurd none;
   after = λ doubt keeps. (doubt, refl, keeps);
-  past = record {
-    later = lit≤ tt;
-    goes_on = λ since image within none. absurd none;
-    keeps = λ since image within none. absurd none;
+  advances = record {
+    past = record {
+      later = lit≤ tt;
+      goes_on = λ since image within none. absurd none;
+      keeps = λ since image within none. absurd none;
+    };
+    counted = lit≤ tt;
   };
-  counted = lit≤ tt;
 }
 
 -- a noted store gets the entry of each call, with the time and the faults of the disk as they are now
 abbrev noted : OpenStore ℕ → NotedStore ℕ
 noted store = record { store = store; notes = [] }
 
-noted_call : NotesCall time faults left_since (noted (old 0))
+noted_call : NotesCall silent (noted (old 0))
     (record { store = old 0; notes = Entered 7 learn (Refused Memory) 5 2 ∷ [] }) 7 learn (Refused Memory)
 noted_call = record {
   notes = refl;
   may = refl;
   fits = λ changed. cc;
   room = λ disk. cc;
-  past = memory.past;
-  counted = lit≤ tt;
+  advances = memory.advances;
 }
 
-noted_not : (¬ NotesCall time faults left_since (noted (old 47)) (noted (new 48 47 2)) 7 learn learned)
-    × (¬ NotesCall time faults left_since (noted (old 47)) (noted (still 47 3)) 7 learn (Refused Disk))
-    × (¬ NotesCall time faults left_since (noted (old 48)) (noted (old 48)) 7 look_up (Refused Disk))
+noted_not : (¬ NotesCall silent (noted (old 47)) (noted (new 48 47 2)) 7 learn learned)
+    × (¬ NotesCall silent (noted (old 47)) (noted (still 47 3)) 7 learn (Refused Disk))
+    × (¬ NotesCall silent (noted (old 48)) (noted (old 48)) 7 look_up (Refused Disk))
 unfolding lib.Utf8.encode
 noted_not = (
   λ is. omega (arith, is.fits refl),
@@ -181,7 +183,7 @@ entered given disk = Entered 7 learn given 5 disk
 
 abbrev StandsBy : ℕ → List Noted → OpenStore ℕ → Type 0
 StandsBy limit notes store =
-    Stands time faults left_since (opening limit) (λ since image. ⊥) notes store
+    Stands silent (opening limit) (λ since image. ⊥) notes store
 
 -- notes begin with an opening; each change had room; the store has the state behind them, and the limit; it is in doubt
 -- only where a change is; and a disk's refusal has its fault, which is noted

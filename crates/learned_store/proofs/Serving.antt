@@ -5,9 +5,9 @@ use Rattle.std.specs.Prelude.{⊤}
 use Rattle.std.proofs.lemmas.Bool.Decides.{nat_tests}
 use Rattle.std.specs.Option.{option_map_or}
 use Rattle.skk_outside.specs.Faults.{Rose}
-use Rattle.skk_disk.specs.Image.{Image}
-use Rattle.skk_disk.specs.MomentLaws.{passes_nothing}
-use Rattle.skk_disk.specs.Moments.{Passes}
+use Rattle.skk_disk.specs.declared.disk.Disk.{Ghosts}
+use Rattle.skk_disk.specs.RunLaws.{advances_nothing}
+use Rattle.skk_disk.specs.Runs.{Advances}
 use Rattle.skk_calls.specs.declared.answer.Answer.{Answer}
 use Rattle.skk_calls.specs.declared.answer.Answer.TheVariants.{Done, Refused}
 use Rattle.skk_calls.specs.declared.answer.Refusal.{Refusal}
@@ -92,12 +92,12 @@ pub fits_behind : (limit version end first bytes : ℕ) → goes_behind limit ve
     → end + bytes ≤ limit
 fits_behind limit version end first bytes goes = grind (arith, nat_tests)
 
-module _ {D : Type 0} (time faults : D → ℕ) (left_since : D → ℕ → Image → Type 0) where
+module _ {D : Type 0} (disk : Ghosts D) where
   -- where nothing is done to a store
   pub quiet : (store : OpenStore D) (call : Call) (given : Answer)
-      → IsLegalAnswer LacksRoom (opening_now time faults store) store.state call given
+      → IsLegalAnswer LacksRoom (opening_now disk store) store.state call given
       → may_answer call given ≡ true → IsQuiet store.state call given
-      → Serves time faults left_since store store call given
+      → Serves disk store store call given
   quiet store call (Done reply) legal may still =
       let none : is_change reply ≡ false = ap is_change legal ∙ change_is_told store.files store.state call ∙ still in
       record {
@@ -116,10 +116,9 @@ module _ {D : Type 0} (time faults : D → ℕ) (left_since : D → ℕ → Imag
         images = λ doubt keeps image left.
             subst (λ (b : Bool). RecoversOneOf (cond b (with_doubt store.state doubt ++ after store.state call ∷ [])
             (with_doubt store.state doubt)) image)
-            (sym none) (opened_now time left_since store.journal store.state doubt keeps image left);
+            (sym none) (opened_now disk store.journal store.state doubt keeps image left);
         after = λ doubt keeps. (doubt, sym (ap (λ (b : Bool). cond b None doubt) none), keeps);
-        past = passes_nothing (time store.journal.disk) (left_since store.journal.disk);
-        counted = omega arith;
+        advances = advances_nothing disk store.journal.disk;
       }
   quiet store call (Refused Memory) legal may still = record {
     legal = legal;
@@ -134,10 +133,9 @@ module _ {D : Type 0} (time faults : D → ℕ) (left_since : D → ℕ → Imag
     limit = refl;
     still = λ e. refl;
     memory = λ e. refl;
-    images = λ doubt keeps. opened_now time left_since store.journal store.state doubt keeps;
+    images = λ doubt keeps. opened_now disk store.journal store.state doubt keeps;
     after = λ doubt keeps. (doubt, refl, keeps);
-    past = passes_nothing (time store.journal.disk) (left_since store.journal.disk);
-    counted = omega arith;
+    advances = advances_nothing disk store.journal.disk;
   }
   quiet store call (Refused Disk) legal may still = absurd still
   quiet store call (Refused (JournalFull end told limit)) legal may still = absurd still
@@ -146,21 +144,19 @@ module _ {D : Type 0} (time faults : D → ℕ) (left_since : D → ℕ → Imag
   pub unchanged : (journal : OpenJournal D) (state now : State) (files : List (List Row)) (limit : ℕ) (call : Call)
       (reply : Reply) → is_question call ≡ false → moves state call ≡ false → reply ≡ answer files state call
       → now ≡ after state call
-      → Serves time faults left_since
-      (record { journal = journal; state = state; files = files; limit = limit })
+      → Serves disk (record { journal = journal; state = state; files = files; limit = limit })
       (record { journal = journal; state = now; files = files; limit = limit }) call (Done reply)
   unchanged journal state now files limit call reply changes still is leaves =
       let store : OpenStore D = record { journal = journal; state = state; files = files; limit = limit } in
       let same : now ≡ state =
       leaves ∙ ap (λ (b : Bool). cond b (state_moved state call) state) still in
-      subst (λ (s : State). Serves time faults left_since store
+      subst (λ (s : State). Serves disk store
       (record { journal = journal; state = s; files = files; limit = limit }) call (Done reply)) (sym same)
       (quiet store call (Done reply) is (ap (may_reply call) is ∙ may-change files state call changes) still)
 
   module _ (old new : OpenJournal D) (state : State) (files : List (List Row)) (limit : ℕ) (call : Call)
       (written : Record) (changes : is_question call ≡ false) (told : Told state call written)
-      (past : Passes (time old.disk) (time new.disk) (left_since old.disk) (left_since new.disk))
-      (counted : faults old.disk ≤ faults new.disk) where
+      (advances : Advances disk old.disk new.disk) where
     abbrev before : OpenStore D
     before = record { journal = old; state = state; files = files; limit = limit }
 
@@ -206,15 +202,15 @@ module _ {D : Type 0} (time faults : D → ℕ) (left_since : D → ℕ → Imag
 
     module _ (version : ℕ) (known : nat_le written.version version ≡ true)
         (images : (doubt : Option State) → Adds version written.payload state (after state call)
-        → Keeps time left_since old state doubt
-        → Each (left_since new.disk (time old.disk))
+        → Keeps disk old state doubt
+        → Each (disk.left_since new.disk (disk.time old.disk))
         (RecoversOneOf (with_doubt state doubt ++ after state call ∷ []))) where
       -- where the record was added, and the plan was applied
       pub changed : tight state + record_need written.payload ≤ limit
           → new.end ≡ end_added before call → new.live.version ≡ version_added before call
           → ((doubt : Option State) → Adds version written.payload state (after state call)
-          → Keeps time left_since old state doubt → Keeps time left_since new (after state call) None)
-          → Serves time faults left_since before (behind (after state call)) call (Done (answer files state call))
+          → Keeps disk old state doubt → Keeps disk new (after state call) None)
+          → Serves disk before (behind (after state call)) call (Done (answer files state call))
       changed fits end version_is keeps_on =
           let reply = answer files state call in
           let yes : is_change reply ≡ true = change_is_told files state call ∙ told.moved in
@@ -236,17 +232,16 @@ module _ {D : Type 0} (time faults : D → ℕ) (left_since : D → ℕ → Imag
                 (with_doubt state doubt)) image) (sym yes) (images doubt (adds version known) keeps image left);
             after = λ doubt keeps.
                 (None, sym (ap (λ (b : Bool). cond b None doubt) yes), keeps_on doubt (adds version known) keeps);
-            past = past;
-            counted = counted;
+            advances = advances;
           }
 
       -- where the disk failed
       pub failed : (is_in_doubt old.doubt ≡ true) ⊎ (tight state + record_need written.payload ≤ limit)
-          → Rose (faults old.disk) (faults new.disk)
+          → Rose (disk.faults old.disk) (disk.faults new.disk)
           → ((doubt : Option State) → Adds version written.payload state (after state call)
-          → Keeps time left_since old state doubt
-          → KeepsOneOf time left_since new state (doubt ∷ None ∷ Some state ∷ Some (after state call) ∷ []))
-          → Serves time faults left_since before (behind state) call (Refused Disk)
+          → Keeps disk old state doubt
+          → KeepsOneOf disk new state (doubt ∷ None ∷ Some state ∷ Some (after state call) ∷ []))
+          → Serves disk before (behind state) call (Refused Disk)
       failed had rose stands = record {
         legal = told.moved;
         may = may_be_refused call Disk changes;
@@ -263,18 +258,16 @@ module _ {D : Type 0} (time faults : D → ℕ) (left_since : D → ℕ → Imag
         memory = λ same. absurd (cc);
         images = λ doubt keeps. images doubt (adds version known) keeps;
         after = λ doubt keeps. stands doubt (adds version known) keeps;
-        past = past;
-        counted = counted;
+        advances = advances;
       }
 
     -- where no file had room for the record
     pub full : (told_end told_need : ℕ) → told_end ≡ tight state → told_need ≡ record_need written.payload
         → limit < tight state + record_need written.payload
-        → ((doubt : Option State) → Keeps time left_since old state doubt
-        → Each (left_since new.disk (time old.disk)) (RecoversOneOf (with_doubt state doubt)))
-        → ((doubt : Option State) → Keeps time left_since old state doubt → Keeps time left_since new state None)
-        → Serves time faults left_since before (behind state) call
-        (Refused (JournalFull told_end told_need limit))
+        → ((doubt : Option State) → Keeps disk old state doubt
+        → Each (disk.left_since new.disk (disk.time old.disk)) (RecoversOneOf (with_doubt state doubt)))
+        → ((doubt : Option State) → Keeps disk old state doubt → Keeps disk new state None)
+        → Serves disk before (behind state) call (Refused (JournalFull told_end told_need limit))
     full told_end told_need end_is need_is lacks images settled = record {
       legal = (
         told.moved,
@@ -298,6 +291,5 @@ module _ {D : Type 0} (time faults : D → ℕ) (left_since : D → ℕ → Imag
       memory = λ same. absurd (cc);
       images = images;
       after = λ doubt keeps. (None, refl, settled doubt keeps);
-      past = past;
-      counted = counted;
+      advances = advances;
     }

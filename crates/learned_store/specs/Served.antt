@@ -1,8 +1,8 @@
 -- What a call does to a store.
 use Rattle.std.specs.Prelude.{◌≡◌, ◌⊎◌, ℕ, ◌+◌, ◌≤◌, Bool, true, false, if◌then◌else◌, Option}
 use Rattle.skk_outside.specs.Faults.{Rose}
-use Rattle.skk_disk.specs.Image.{Image}
-use Rattle.skk_disk.specs.Moments.{Passes}
+use Rattle.skk_disk.specs.declared.disk.Disk.{Ghosts}
+use Rattle.skk_disk.specs.Runs.{Advances}
 use Rattle.skk_calls.specs.declared.answer.Answer.{Answer}
 use Rattle.skk_calls.specs.declared.answer.Answer.TheVariants.{Refused}
 use Rattle.skk_calls.specs.declared.answer.Refusal.TheVariants.{Memory, Disk}
@@ -35,14 +35,13 @@ version_added store call =
     if is_added_behind store call then store.journal.live.version else store.journal.newest
 
 -- a call with this answer makes this store of that one: each clause of `Store::serve`, by its name
-pub record Serves {D : Type 0} (time faults : D → ℕ) (left_since : D → ℕ → Image → Type 0) (old new : OpenStore D)
-    (call : Call) (answer : Answer) : Type 0 where
-  pub legal : IsLegalAnswer LacksRoom (opening_now time faults old) old.state call answer
+pub record Serves {D : Type 0} (disk : Ghosts D) (old new : OpenStore D) (call : Call) (answer : Answer) : Type 0 where
+  pub legal : IsLegalAnswer LacksRoom (opening_now disk old) old.state call answer
   pub may : may_answer call answer ≡ true
   pub fits : tells_change answer ≡ true → tight old.state + need old.state call ≤ old.limit
   pub room : answer ≡ Refused Disk
       → (is_in_doubt old.journal.doubt ≡ true) ⊎ (tight old.state + need old.state call ≤ old.limit)
-  pub failed : answer ≡ Refused Disk → Rose (faults old.journal.disk) (faults new.journal.disk)
+  pub failed : answer ≡ Refused Disk → Rose (disk.faults old.journal.disk) (disk.faults new.journal.disk)
   pub state : new.state ≡ after_answer old.state call answer
   pub end : tells_change answer ≡ true → new.journal.end ≡ end_added old call
   pub version : tells_change answer ≡ true → new.journal.live.version ≡ version_added old call
@@ -50,12 +49,10 @@ pub record Serves {D : Type 0} (time faults : D → ℕ) (left_since : D → ℕ
   pub limit : new.limit ≡ old.limit
   pub still : moves old.state call ≡ false → new.journal ≡ old.journal
   pub memory : answer ≡ Refused Memory → new.journal ≡ old.journal
-  pub images : (doubt : Option State) → Keeps time left_since old.journal old.state doubt
-      → Each (left_since new.journal.disk (time old.journal.disk))
+  pub images : (doubt : Option State) → Keeps disk old.journal old.state doubt
+      → Each (disk.left_since new.journal.disk (disk.time old.journal.disk))
       (RecoversOneOf (states_within old.state doubt call answer))
-  pub after : (doubt : Option State) → Keeps time left_since old.journal old.state doubt
+  pub after : (doubt : Option State) → Keeps disk old.journal old.state doubt
       → (now : Option State) × DoubtAfter old.state doubt call answer now
-      × Keeps time left_since new.journal new.state now
-  pub past : Passes (time old.journal.disk) (time new.journal.disk)
-      (left_since old.journal.disk) (left_since new.journal.disk)
-  pub counted : faults old.journal.disk ≤ faults new.journal.disk
+      × Keeps disk new.journal new.state now
+  pub advances : Advances disk old.journal.disk new.journal.disk

@@ -14,8 +14,10 @@ use Rattle.skk_calls.specs.Histories.{Opening, need, tells_change, in_doubt, sta
 use Rattle.skk_calls.specs.Openings.{IsLegalOver}
 use Rattle.skk_calls.specs.States.{State}
 use Rattle.skk_calls.specs.Tallies.{Tally, tally_of}
+use Rattle.skk_disk.specs.declared.disk.Disk.{Ghosts}
 use Rattle.skk_disk.specs.Image.{Image}
 use Rattle.skk_disk.specs.Moments.{Passes}
+use Rattle.skk_disk.specs.Runs.{Advances}
 use Rattle.skk_journal.specs.Images.{Each}
 use Rattle.skk_journal.specs.Journal.{OpenJournal, is_in_doubt}
 use Rattle.learned_store.specs.Limits.{AllHadRoom}
@@ -73,15 +75,15 @@ RecoverAmong state states images =
     (doubt : Option State) × IsOneOf doubt states × Each images (RecoversOneOf (with_doubt state doubt))
 
 -- a journal keeps this state, and what is in doubt is one of these
-abbrev pub KeepsAmong : {D : Type 0} → (D → ℕ) → (D → ℕ → Image → Type 0) → OpenJournal D → State → List State → Type 0
-KeepsAmong time left_since journal state states =
-    (doubt : Option State) × IsOneOf doubt states × Keeps time left_since journal state doubt
+abbrev pub KeepsAmong : {D : Type 0} → Ghosts D → OpenJournal D → State → List State → Type 0
+KeepsAmong disk journal state states =
+    (doubt : Option State) × IsOneOf doubt states × Keeps disk journal state doubt
 
 -- the notes of an opening and of what was entered behind it, and the store that they were made over: each answer is
 -- legal and had room, the store has the state behind them, and is in doubt only where a change is, each image of each
 -- moment since the opening is opened as a state that a stop may leave, times and counts of faults go on to those of the
 -- disk, and what a stop before the opening might have left is what it might have left then
-pub record Stands {D : Type 0} (time faults : D → ℕ) (left_since : D → ℕ → Image → Type 0) (opening : Opening)
+pub record Stands {D : Type 0} (disk : Ghosts D) (opening : Opening)
     (past : ℕ → Image → Type 0) (notes : List Noted) (store : OpenStore D) : Type 0 where
   pub begun : is_chronicle notes ≡ true
   pub legal : IsLegalOver opening notes
@@ -90,10 +92,11 @@ pub record Stands {D : Type 0} (time faults : D → ℕ) (left_since : D → ℕ
   pub limit : store.limit ≡ opening.limit
   pub state : store.state ≡ state_after opening.state (history_of notes)
   pub calm : in_doubt [] (history_of notes) ≡ [] → is_in_doubt store.journal.doubt ≡ false
-  pub keeps : KeepsAmong time left_since store.journal store.state (left_behind opening.state notes)
-  pub moments : StandsOver opening.state notes opening.time (time store.journal.disk) (left_since store.journal.disk)
-  pub goes_on : GoOn opening.time opening.faults notes (time store.journal.disk) (faults store.journal.disk)
-  pub passes : Passes opening.time (time store.journal.disk) past (left_since store.journal.disk)
+  pub keeps : KeepsAmong disk store.journal store.state (left_behind opening.state notes)
+  pub moments : StandsOver opening.state notes opening.time (disk.time store.journal.disk)
+      (disk.left_since store.journal.disk)
+  pub goes_on : GoOn opening.time opening.faults notes (disk.time store.journal.disk) (disk.faults store.journal.disk)
+  pub passes : Passes opening.time (disk.time store.journal.disk) past (disk.left_since store.journal.disk)
 
 -- a store and the notes of what it was opened with and answered
 pub record NotedStore (D : Type 0) : Type 0 where
@@ -101,18 +104,17 @@ pub record NotedStore (D : Type 0) : Type 0 where
   pub notes : List Noted
 
 -- a call of a caller with this answer makes this noted store of that one: each clause of `Noting::serve`, by its name
-pub record NotesCall {D : Type 0} (time faults : D → ℕ) (left_since : D → ℕ → Image → Type 0) (old new : NotedStore D)
+pub record NotesCall {D : Type 0} (disk : Ghosts D) (old new : NotedStore D)
     (number : ℕ) (call : Call) (answer : Answer) : Type 0 where
   pub notes : new.notes
-      ≡ old.notes ++ Entered number call answer (time new.store.journal.disk) (faults new.store.journal.disk) ∷ []
+      ≡ old.notes ++ Entered number call answer (disk.time new.store.journal.disk) (disk.faults new.store.journal.disk)
+      ∷ []
   pub may : may_answer call answer ≡ true
   pub fits : tells_change answer ≡ true → tight old.store.state + need old.store.state call ≤ old.store.limit
   pub room : answer ≡ Refused Disk
       → (is_in_doubt old.store.journal.doubt ≡ true)
       ⊎ (tight old.store.state + need old.store.state call ≤ old.store.limit)
-  pub past : Passes (time old.store.journal.disk) (time new.store.journal.disk)
-      (left_since old.store.journal.disk) (left_since new.store.journal.disk)
-  pub counted : faults old.store.journal.disk ≤ faults new.store.journal.disk
+  pub advances : Advances disk old.store.journal.disk new.store.journal.disk
 
 -- the note of an opening
 abbrev pub opening_note : Opening → Noted

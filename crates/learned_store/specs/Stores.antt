@@ -9,6 +9,7 @@ use Rattle.skk_calls.specs.Dictionary.{after, is_change}
 use Rattle.skk_calls.specs.Histories.{Opening}
 use Rattle.skk_calls.specs.Rows.{Row}
 use Rattle.skk_calls.specs.States.{State}
+use Rattle.skk_disk.specs.declared.disk.Disk.{Ghosts}
 use Rattle.skk_disk.specs.Image.{Image}
 use Rattle.skk_journal.specs.Contents.{Contents, with_record}
 use Rattle.skk_journal.specs.Journal.{OpenJournal, Rests, Doubts}
@@ -24,14 +25,14 @@ pub record OpenStore (D : Type 0) : Type 0 where
   pub limit : ℕ
 
 -- what a history of a store stands over that begins now
-abbrev pub opening_now : {D : Type 0} → (D → ℕ) → (D → ℕ) → OpenStore D → Opening
-opening_now time faults store = record {
+abbrev pub opening_now : {D : Type 0} → Ghosts D → OpenStore D → Opening
+opening_now disk store = record {
   files = store.files;
   state = store.state;
   end = store.journal.end;
   limit = store.limit;
-  time = time store.journal.disk;
-  faults = faults store.journal.disk;
+  time = disk.time store.journal.disk;
+  faults = disk.faults store.journal.disk;
 }
 
 -- an image is opened as a state
@@ -44,19 +45,18 @@ RecoversOneOf states image = (state : State) × Contains states state × Recover
 
 -- what the live file of a journal has leaves a state. Where another state is in doubt, other contents leave that, which
 -- may count: a record more stands behind some gate, or the other file is filled and its own gate may be open
-abbrev pub Keeps : {D : Type 0} → (D → ℕ) → (D → ℕ → Image → Type 0) → OpenJournal D → State → Option State → Type 0
-Keeps time left_since journal state None =
+abbrev pub Keeps : {D : Type 0} → Ghosts D → OpenJournal D → State → Option State → Type 0
+Keeps disk journal state None =
     (journal.newest ≡ newest_version) × (contents : Contents) × Leave contents state
-    × Rests time left_since journal contents
-Keeps time left_since journal state (Some doubted) =
+    × Rests disk journal contents
+Keeps disk journal state (Some doubted) =
     (journal.newest ≡ newest_version) × (contents : Contents) × (others : Contents) × Leave contents state
-    × Leave others doubted × Doubts time left_since journal contents others
+    × Leave others doubted × Doubts disk journal contents others
 
 -- a journal keeps a state, and what is in doubt is one of these
-abbrev pub KeepsOneOf : {D : Type 0} → (D → ℕ) → (D → ℕ → Image → Type 0) → OpenJournal D → State
-    → List (Option State) → Type 0
-KeepsOneOf time left_since journal state doubts =
-    (doubt : Option State) × Contains doubts doubt × Keeps time left_since journal state doubt
+abbrev pub KeepsOneOf : {D : Type 0} → Ghosts D → OpenJournal D → State → List (Option State) → Type 0
+KeepsOneOf disk journal state doubts =
+    (doubt : Option State) × Contains doubts doubt × Keeps disk journal state doubt
 
 -- in a file of a version, behind records that leave a state one of this payload leaves that one
 abbrev pub Adds : ℕ → List ℕ → State → State → Type 0

@@ -37,8 +37,8 @@ impl<D: Disk, N: LearnedName> Model for Alone<D, N> {
 impl<D: Disk, N: LearnedName> Alone<D, N> {
     /// The caller of a store in which nothing is in doubt, which has made no call. Takes constant memory.
     pub fn new(alloc: Global, store: Store<D>) -> Result<Alone<D, N>, NoDesk<D>>
-        requires calm { Keeps D.time D.left_since store.journal store.state None }
-        requires named { N.opening ≡ opening_now D.time D.faults store }
+        requires calm { Keeps D.Disk store.journal store.state None }
+        requires named { N.opening ≡ opening_now D.Disk store }
         requires past { SameImages N.past (D.left_since store.journal.disk) }
         ensures store { IfOk result (λ alone. alone.store ≡ store) }
         ensures notes { IfOk result (λ alone. alone.notes ≡ opening_note N.opening ∷ []) }
@@ -53,7 +53,7 @@ impl<D: Disk, N: LearnedName> Alone<D, N> {
         ensures disk { result.disk ≡ self.store.journal.disk }
         ensures chronicle { result.chronicle ≡ self.notes }
         ensures tally { result.tally ≡ tally_of N.opening.state (history_of self.notes) }
-        ensures stands { Stands D.time D.faults D.left_since N.opening N.past self.notes self.store }
+        ensures stands { Stands D.Disk N.opening N.past self.notes self.store }
         ensures now { RecoverAmong self.store.state (left_behind N.opening.state self.notes)
             (D.left_since self.store.journal.disk (D.time self.store.journal.disk)) }
         ensures since { (start : ℕ) →

@@ -34,7 +34,7 @@ pub(crate) fn change<D: Disk>(
     requires change { is_question call.now ≡ false }
     requires fit { is_fit call.now ≡ true }
     requires tight { tight index.old.state ≤ journal.old.end }
-    ensures serves { (files : List (List Row)) → Serves D.time D.faults D.left_since
+    ensures serves { (files : List (List Row)) → Serves D.Disk
         (record { journal = journal.old; state = index.old.state; files = files; limit = limit })
         (record { journal = journal.new; state = index.new.state; files = files; limit = limit }) call.now result }
     ensures tight { tight index.new.state ≤ journal.new.end }
@@ -77,7 +77,7 @@ fn write_and_apply<D: Disk>(
     requires room { HasRoom index.old planned.plan }
     requires told { TellsOf index.old.state call.now planned.plan planned.record }
     requires tight { tight index.old.state ≤ journal.old.end }
-    ensures serves { (files : List (List Row)) → Serves D.time D.faults D.left_since
+    ensures serves { (files : List (List Row)) → Serves D.Disk
         (record { journal = journal.old; state = index.old.state; files = files; limit = limit })
         (record { journal = journal.new; state = index.new.state; files = files; limit = limit }) call.now result }
     ensures tight { tight index.new.state ≤ journal.new.end }
@@ -102,26 +102,24 @@ fn write<D: Disk>(
     journal: &mut Journal<D>,
     index: &Index,
     limit: u64,
-    record: &Record,
+    change: &Record,
 ) -> Result<(), Refusal>
-    requires sized { IsSized record.now.payload }
+    requires sized { IsSized change.now.payload }
     requires tight { tight index.now.state ≤ journal.old.end }
     ensures serves { (files : List (List Row)) (call : call_value) → is_question call ≡ false
-        → Told index.now.state call record.now → MatchResult result
-        (λ _. Serves D.time D.faults D.left_since
-        (record { journal = journal.old; state = index.now.state; files = files; limit = limit })
+        → Told index.now.state call change.now → MatchResult result
+        (λ _. Serves D.Disk (record { journal = journal.old; state = index.now.state; files = files; limit = limit })
         (record { journal = journal.new; state = after index.now.state call; files = files; limit = limit }) call
-        (Done (answer files index.now.state call)))
-        (λ refusal. Serves D.time D.faults D.left_since
+        (Done (answer files index.now.state call))) (λ refusal. Serves D.Disk
         (record { journal = journal.old; state = index.now.state; files = files; limit = limit })
         (record { journal = journal.new; state = index.now.state; files = files; limit = limit }) call
         (Refused refusal)) }
     ensures tight { MatchResult result
-        (λ _. tight index.now.state + need record.now.payload ≤ journal.new.end)
+        (λ _. tight index.now.state + need change.now.payload ≤ journal.new.end)
         (λ _. tight index.now.state ≤ journal.new.end) }
 {
-    let payload = record.payload.as_slice();
-    match room_for(alloc, index, journal, limit, record) {
+    let payload = change.payload.as_slice();
+    match room_for(alloc, index, journal, limit, change) {
         Ok(Room::Behind) => unless_disk(commit(journal, limit, payload)),
         Ok(Room::Compacted(records)) => {
             unless_disk(commit_compacted(journal, limit, records.as_slice(), payload))

@@ -2,7 +2,7 @@ ghost use Rattle.std.specs.Prelude.{◌≡◌, ◌⊎◌, ◌+◌, ◌≤◌, �
 ghost use Rattle.std.specs.Prelude.{OnOk, OnErr, MatchResult};
 ghost use Rattle.skk_outside.specs.Faults.{Rose};
 ghost use Rattle.skk_calls.specs.States.{State};
-ghost use Rattle.skk_disk.specs.Moments.{Passes};
+ghost use Rattle.skk_disk.specs.Runs.{Advances};
 ghost use Rattle.skk_journal.specs.Images.{Each};
 ghost use Rattle.skk_journal.specs.Journal.{is_in_doubt};
 ghost use Rattle.skk_journal.specs.Records.{IsSized, first_place, need};
@@ -29,21 +29,19 @@ pub(crate) fn commit<D: Disk>(
     // What each image is opened as afterwards, and at each moment.
     ensures ok { OnOk result ((state after : State) (doubt : Option State)
         → Adds journal.old.live.version payload.now state after →
-        Keeps D.time D.left_since journal.old state doubt → Keeps D.time D.left_since journal.new after None) }
+        Keeps D.Disk journal.old state doubt → Keeps D.Disk journal.new after None) }
     ensures err { OnErr result ((state after : State) (doubt : Option State)
         → Adds journal.old.live.version payload.now state after →
-        Keeps D.time D.left_since journal.old state doubt →
-        KeepsOneOf D.time D.left_since journal.new state (doubt ∷ None ∷ Some state ∷ Some after ∷ [])) }
+        Keeps D.Disk journal.old state doubt →
+        KeepsOneOf D.Disk journal.new state (doubt ∷ None ∷ Some state ∷ Some after ∷ [])) }
     ensures images { (state after : State) (doubt : Option State)
         → Adds journal.old.live.version payload.now state after →
-        Keeps D.time D.left_since journal.old state doubt →
+        Keeps D.Disk journal.old state doubt →
         Each (D.left_since journal.new.disk (D.time journal.old.disk))
         (RecoversOneOf (with_doubt state doubt ++ after ∷ [])) }
 
-    ensures past { Passes (D.time journal.old.disk) (D.time journal.new.disk)
-        (D.left_since journal.old.disk) (D.left_since journal.new.disk) }
+    ensures advances { Advances D.Disk journal.old.disk journal.new.disk }
     ensures failed { OnErr result (Rose (D.faults journal.old.disk) (D.faults journal.new.disk)) }
-    ensures counted { D.faults journal.old.disk ≤ D.faults journal.new.disk }
 {
     settle(journal)?;
     add(journal, limit, payload)
@@ -69,22 +67,20 @@ pub(crate) fn commit_compacted<D: Disk>(
     ensures ok { OnOk result ((state after : State) (doubt : Option State)
         → Adds newest_version payload.now state after →
         IsCompaction state compacted.now →
-        Keeps D.time D.left_since journal.old state doubt → Keeps D.time D.left_since journal.new after None) }
+        Keeps D.Disk journal.old state doubt → Keeps D.Disk journal.new after None) }
     ensures err { OnErr result ((state after : State) (doubt : Option State)
         → Adds newest_version payload.now state after →
         IsCompaction state compacted.now →
-        Keeps D.time D.left_since journal.old state doubt →
-        KeepsOneOf D.time D.left_since journal.new state (doubt ∷ None ∷ Some state ∷ Some after ∷ [])) }
+        Keeps D.Disk journal.old state doubt →
+        KeepsOneOf D.Disk journal.new state (doubt ∷ None ∷ Some state ∷ Some after ∷ [])) }
     ensures images { (state after : State) (doubt : Option State) → Adds newest_version payload.now state after →
         IsCompaction state compacted.now →
-        Keeps D.time D.left_since journal.old state doubt →
+        Keeps D.Disk journal.old state doubt →
         Each (D.left_since journal.new.disk (D.time journal.old.disk))
         (RecoversOneOf (with_doubt state doubt ++ after ∷ [])) }
 
-    ensures past { Passes (D.time journal.old.disk) (D.time journal.new.disk)
-        (D.left_since journal.old.disk) (D.left_since journal.new.disk) }
+    ensures advances { Advances D.Disk journal.old.disk journal.new.disk }
     ensures failed { OnErr result (Rose (D.faults journal.old.disk) (D.faults journal.new.disk)) }
-    ensures counted { D.faults journal.old.disk ≤ D.faults journal.new.disk }
 {
     settle(journal)?;
     shrink(journal, compacted)?;
@@ -99,17 +95,13 @@ pub(crate) fn settle<D: Disk>(journal: &mut Journal<D>) -> Result<(), Failed>
     ensures version { journal.new.live.version ≡ journal.old.live.version }
     ensures newest { journal.new.newest ≡ journal.old.newest }
 
-    ensures keeps { (state : State) (doubt : Option State) → Keeps D.time D.left_since journal.old state doubt →
-        MatchResult result
-        (λ _. Keeps D.time D.left_since journal.new state None)
-        (λ _. Keeps D.time D.left_since journal.new state doubt) }
-    ensures images { (state : State) (doubt : Option State) → Keeps D.time D.left_since journal.old state doubt →
+    ensures keeps { (state : State) (doubt : Option State) → Keeps D.Disk journal.old state doubt →
+        MatchResult result (λ _. Keeps D.Disk journal.new state None) (λ _. Keeps D.Disk journal.new state doubt) }
+    ensures images { (state : State) (doubt : Option State) → Keeps D.Disk journal.old state doubt →
         Each (D.left_since journal.new.disk (D.time journal.old.disk)) (RecoversOneOf (with_doubt state doubt)) }
 
-    ensures past { Passes (D.time journal.old.disk) (D.time journal.new.disk)
-        (D.left_since journal.old.disk) (D.left_since journal.new.disk) }
+    ensures advances { Advances D.Disk journal.old.disk journal.new.disk }
     ensures failed { OnErr result (Rose (D.faults journal.old.disk) (D.faults journal.new.disk)) }
-    ensures counted { D.faults journal.old.disk ≤ D.faults journal.new.disk }
 {
     journal.repair()
 }
@@ -123,18 +115,15 @@ fn shrink<D: Disk>(journal: &mut Journal<D>, compacted: &[u8]) -> Result<(), Fai
     ensures version { OnOk result (journal.new.live.version ≡ journal.old.newest) }
 
     ensures keeps { (state : State) → IsCompaction state compacted.now →
-        Keeps D.time D.left_since journal.old state None →
+        Keeps D.Disk journal.old state None →
         MatchResult result
-        (λ _. Keeps D.time D.left_since journal.new state None)
-        (λ _. KeepsOneOf D.time D.left_since journal.new state (None ∷ Some state ∷ [])) }
+        (λ _. Keeps D.Disk journal.new state None) (λ _. KeepsOneOf D.Disk journal.new state (None ∷ Some state ∷ [])) }
     ensures images { (state : State) → IsCompaction state compacted.now →
-        Keeps D.time D.left_since journal.old state None →
+        Keeps D.Disk journal.old state None →
         Each (D.left_since journal.new.disk (D.time journal.old.disk)) (RecoversOneOf (state ∷ [])) }
 
-    ensures past { Passes (D.time journal.old.disk) (D.time journal.new.disk)
-        (D.left_since journal.old.disk) (D.left_since journal.new.disk) }
+    ensures advances { Advances D.Disk journal.old.disk journal.new.disk }
     ensures failed { OnErr result (Rose (D.faults journal.old.disk) (D.faults journal.new.disk)) }
-    ensures counted { D.faults journal.old.disk ≤ D.faults journal.new.disk }
 {
     journal.compact(compacted)
 }
@@ -150,18 +139,16 @@ fn add<D: Disk>(journal: &mut Journal<D>, limit: u64, payload: &[u8]) -> Result<
     ensures version { journal.new.live.version ≡ journal.old.live.version }
 
     ensures ok { OnOk result ((state after : State) → Adds journal.old.live.version payload.now state after →
-        Keeps D.time D.left_since journal.old state None → Keeps D.time D.left_since journal.new after None) }
+        Keeps D.Disk journal.old state None → Keeps D.Disk journal.new after None) }
     ensures err { OnErr result ((state after : State) → Adds journal.old.live.version payload.now state after →
-        Keeps D.time D.left_since journal.old state None →
-        KeepsOneOf D.time D.left_since journal.new state (None ∷ Some after ∷ [])) }
+        Keeps D.Disk journal.old state None →
+        KeepsOneOf D.Disk journal.new state (None ∷ Some after ∷ [])) }
     ensures images { (state after : State) → Adds journal.old.live.version payload.now state after →
-        Keeps D.time D.left_since journal.old state None →
+        Keeps D.Disk journal.old state None →
         Each (D.left_since journal.new.disk (D.time journal.old.disk)) (RecoversOneOf (state ∷ after ∷ [])) }
 
-    ensures past { Passes (D.time journal.old.disk) (D.time journal.new.disk)
-        (D.left_since journal.old.disk) (D.left_since journal.new.disk) }
+    ensures advances { Advances D.Disk journal.old.disk journal.new.disk }
     ensures failed { OnErr result (Rose (D.faults journal.old.disk) (D.faults journal.new.disk)) }
-    ensures counted { D.faults journal.old.disk ≤ D.faults journal.new.disk }
 {
     match journal.append(limit, payload) {
         Ok(()) => Ok(()),

@@ -97,6 +97,6 @@ pub fn changes_keep_the_tight_end()
 /// Where a journal keeps a state, each image that a stop now may leave is opened as that state, or as the one in doubt.
 pub fn kept_states_are_recovered<D: Disk>()
     ensures { (journal : OpenJournal D) (state : State) (doubt : Option State)
-        → Keeps D.time D.left_since journal state doubt
+        → Keeps D.Disk journal state doubt
         → Each (D.left_since journal.disk (D.time journal.disk)) (RecoversOneOf (with_doubt state doubt)) }
 {}

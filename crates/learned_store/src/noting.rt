@@ -1,6 +1,7 @@
 ghost use Rattle.std.specs.Prelude.{◌≡◌, ◌⊎◌, ◌≤◌, ◌+◌, ◌∷◌, [], ◌++◌, ℕ, None, true, IfOk, IfErr, IfSome};
 ghost use Rattle.skk_disk.specs.Image.{Image};
-ghost use Rattle.skk_disk.specs.Moments.{Passes, SameImages};
+ghost use Rattle.skk_disk.specs.Moments.{SameImages};
+ghost use Rattle.skk_disk.specs.Runs.{Advances};
 ghost use Rattle.skk_calls.specs.declared.answer.Refusal.TheVariants as refusals;
 ghost use Rattle.skk_calls.specs.declared.chronicle.Noted.TheVariants.{Entered};
 ghost use Rattle.skk_calls.specs.Chronicles.{history_of};
@@ -48,15 +49,15 @@ impl<D: Disk, N: LearnedName> Model for Noting<D, N> {
 
     ghost view = { λ n. record { store = n.store; notes = n.trace } };
 
-    ghost invariant = { λ n. Stands D.time D.faults D.left_since N.opening N.past n.trace n.store
+    ghost invariant = { λ n. Stands D.Disk N.opening N.past n.trace n.store
         × Counts N.opening n.trace n.tally };
 }
 
 impl<D: Disk, N: LearnedName> Noting<D, N> {
     /// Begins the history of a store in which nothing is in doubt. Takes constant memory.
     pub fn new(alloc: Global, store: Store<D>) -> Result<Noting<D, N>, NoDesk<D>>
-        requires calm { Keeps D.time D.left_since store.journal store.state None }
-        requires named { N.opening ≡ opening_now D.time D.faults store }
+        requires calm { Keeps D.Disk store.journal store.state None }
+        requires named { N.opening ≡ opening_now D.Disk store }
         requires past { SameImages N.past (D.left_since store.journal.disk) }
         ensures store { IfOk result (λ noting. noting.store ≡ store) }
         ensures notes { IfOk result (λ noting. noting.notes ≡ opening_note N.opening ∷ []) }
@@ -85,9 +86,7 @@ impl<D: Disk, N: LearnedName> Noting<D, N> {
             tight self.old.store.state + need self.old.store.state call.now ≤ self.old.store.limit }
         ensures room { result ≡ Answer.Refused refusals.Disk → (is_in_doubt self.old.store.journal.doubt ≡ true)
             ⊎ (tight self.old.store.state + need self.old.store.state call.now ≤ self.old.store.limit) }
-        ensures past { Passes (D.time self.old.store.journal.disk) (D.time self.new.store.journal.disk)
-            (D.left_since self.old.store.journal.disk) (D.left_since self.new.store.journal.disk) }
-        ensures counted { D.faults self.old.store.journal.disk ≤ D.faults self.new.store.journal.disk }
+        ensures advances { Advances D.Disk self.old.store.journal.disk self.new.store.journal.disk }
     {
         self.serve_over(alloc, number, None, call)
     }
@@ -102,7 +101,7 @@ impl<D: Disk, N: LearnedName> Noting<D, N> {
     ) -> Answer
         requires fit { is_fit call.now ≡ true }
         requires found { IfSome found (AreFileRows N.opening.files call.now) }
-        ensures { NotesCall D.time D.faults D.left_since self.old self.new number call.now result }
+        ensures { NotesCall D.Disk self.old self.new number call.now result }
     {
         counting_comes_to_the_tally();
         let answer = self.store.serve_over(alloc, found, call);
@@ -119,7 +118,7 @@ impl<D: Disk, N: LearnedName> Noting<D, N> {
     /// The store. Takes no memory.
     pub fn store(&self) -> &Store<D>
         ensures value { result.now ≡ self.now.store }
-        ensures stands { Stands D.time D.faults D.left_since N.opening N.past self.now.notes self.now.store }
+        ensures stands { Stands D.Disk N.opening N.past self.now.notes self.now.store }
     {
         &self.store
     }
@@ -129,7 +128,7 @@ impl<D: Disk, N: LearnedName> Noting<D, N> {
         ensures disk { result.disk ≡ self.store.journal.disk }
         ensures chronicle { result.chronicle ≡ self.notes }
         ensures tally { result.tally ≡ tally_of N.opening.state (history_of self.notes) }
-        ensures stands { Stands D.time D.faults D.left_since N.opening N.past self.notes self.store }
+        ensures stands { Stands D.Disk N.opening N.past self.notes self.store }
         ensures now { RecoverAmong self.store.state (left_behind N.opening.state self.notes)
             (D.left_since self.store.journal.disk (D.time self.store.journal.disk)) }
         ensures since { (start : ℕ) →
@@ -165,7 +164,7 @@ impl<D: Disk> Shows<Noted> for OpeningNote<'_, D> {
     ghost use Rattle.learned_store.specs.Stands.{opening_note};
     ghost use Rattle.learned_store.specs.Stores.{opening_now};
 
-    ghost shows = { λ opening. opening_note (opening_now D.time D.faults opening.store.now) };
+    ghost shows = { λ opening. opening_note (opening_now D.Disk opening.store.now) };
 }
 
 // That a store, which is as it is since, answered a caller.

@@ -1,6 +1,6 @@
-ghost use Rattle.std.specs.Prelude.{◌≡◌, ◌≢◌, ◌↔◌, ◌≤◌, [], None, IfOk, IfErr, MatchResult};
+ghost use Rattle.std.specs.Prelude.{◌≡◌, ◌≢◌, ◌↔◌, [], None, IfOk, IfErr, MatchResult};
 ghost use Rattle.skk_outside.specs.Faults.{Rose};
-ghost use Rattle.skk_disk.specs.Moments.{Passes};
+ghost use Rattle.skk_disk.specs.Runs.{Advances};
 ghost use Rattle.skk_disk.specs.Image.{Image};
 ghost use Rattle.skk_calls.specs.States.{State};
 ghost use Rattle.skk_journal.specs.declared.choice.LiveChoice.TheVariants.{NoLive, LiveIn};
@@ -38,7 +38,7 @@ impl<D: Disk> Store<D> {
         ensures limit { IfOk result (λ store. store.limit ≡ limit) }
 
         // What each image has afterwards, also where a file was filled.
-        ensures keeps { IfOk result (λ store. Keeps D.time D.left_since store.journal store.state None) }
+        ensures keeps { IfOk result (λ store. Keeps D.Disk store.journal store.state None) }
         ensures anew { D.tells → choice newest_version (D.seen disk) ≡ NoLive → IfOk result (λ store.
             Each (D.left_since store.journal.disk (D.time store.journal.disk)) (IsNew newest_version)) }
 
@@ -56,16 +56,10 @@ impl<D: Disk> Store<D> {
         ensures seen { D.tells → choice newest_version (D.seen disk) ≢ NoLive → MatchResult result
             (λ store. D.seen store.journal.disk ≡ D.seen disk)
             (λ unopened. UnlessDisk unopened.why (D.seen unopened.disk ≡ D.seen disk)) }
-        ensures past { MatchResult result
-            (λ store. Passes (D.time disk) (D.time store.journal.disk)
-            (D.left_since disk) (D.left_since store.journal.disk))
-            (λ unopened. Passes (D.time disk) (D.time unopened.disk)
-            (D.left_since disk) (D.left_since unopened.disk)) }
+        ensures advances { MatchResult result (λ store. Advances D.Disk disk store.journal.disk)
+            (λ unopened. Advances D.Disk disk unopened.disk) }
         ensures failed { IfErr result (λ unopened. unopened.why ≡ OpenFault.Disk →
             Rose (D.faults disk) (D.faults unopened.disk)) }
-        ensures counted { MatchResult result
-            (λ store. D.faults disk ≤ D.faults store.journal.disk)
-            (λ unopened. D.faults disk ≤ D.faults unopened.disk) }
     {
         let Ok(kept) = KeptAnswers::new(alloc) else {
             return Err(Unopened {

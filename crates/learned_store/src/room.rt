@@ -28,16 +28,16 @@ pub(crate) fn room_for<D>(
     index: &Index,
     journal: &Journal<D>,
     limit: u64,
-    record: &Record,
+    change: &Record,
 ) -> Result<Room, Memory>
     requires tight { tight index.now.state ≤ journal.now.end }
     ensures { IfOk result (IsRoom index.now.state
-        (goes_behind limit journal.now.live.version journal.now.end record.now.version (need record.now.payload))
-        limit (need record.now.payload)) }
+        (goes_behind limit journal.now.live.version journal.now.end change.now.version (need change.now.payload))
+        limit (need change.now.payload)) }
 {
-    let need = record_need(record.payload.as_slice());
+    let need = record_need(change.payload.as_slice());
     let end = journal.end();
-    if goes_behind(limit, journal.version(), end, record.version, need) {
+    if goes_behind(limit, journal.version(), end, change.version, need) {
         return Ok(Room::Behind);
     }
     let least = tight_end(index);

@@ -1,7 +1,7 @@
 ghost use Rattle.std.specs.Prelude.{◌≡◌, ◌⊎◌, ◌≤◌, ◌+◌, ℕ, if◌then◌else◌, min, true, false, Option, IfOk, IfSome};
 ghost use Rattle.skk_text.specs.Counts.{last_count};
 ghost use Rattle.skk_outside.specs.Faults.{Rose};
-ghost use Rattle.skk_disk.specs.Moments.{Passes};
+ghost use Rattle.skk_disk.specs.Runs.{Advances};
 ghost use Rattle.skk_calls.specs.Dictionary.{answer, is_fit, may_answer, may_reply, moves, speaks_of};
 ghost use Rattle.skk_calls.specs.Histories.{after_answer, need, tells_change, tight, IsLegalAnswer, LacksRoom};
 ghost use Rattle.skk_calls.specs.Rows.{RowKey as key_value, same_key};
@@ -111,8 +111,7 @@ impl<D: Disk> Store<D> {
         requires { is_fit call.now ≡ true }
 
         // The answer is that of a dictionary of one thread, or a refusal with its cause.
-        ensures legal { IsLegalAnswer LacksRoom (opening_now D.time D.faults self.old) self.old.state
-            call.now result }
+        ensures legal { IsLegalAnswer LacksRoom (opening_now D.Disk self.old) self.old.state call.now result }
         ensures may { may_answer call.now result ≡ true }
         ensures fits { tells_change result ≡ true →
             tight self.old.state + need self.old.state call.now ≤ self.old.limit }
@@ -133,17 +132,15 @@ impl<D: Disk> Store<D> {
 
         // What each image is opened as at each moment, and what is kept and in doubt afterwards.
         ensures images { (doubt : Option State) →
-            Keeps D.time D.left_since self.old.journal self.old.state doubt →
+            Keeps D.Disk self.old.journal self.old.state doubt →
             Each (D.left_since self.new.journal.disk (D.time self.old.journal.disk))
             (RecoversOneOf (states_within self.old.state doubt call.now result)) }
         ensures after { (doubt : Option State) →
-            Keeps D.time D.left_since self.old.journal self.old.state doubt →
+            Keeps D.Disk self.old.journal self.old.state doubt →
             (now : Option State) × DoubtAfter self.old.state doubt call.now result now
-            × Keeps D.time D.left_since self.new.journal self.new.state now }
+            × Keeps D.Disk self.new.journal self.new.state now }
 
-        ensures past { Passes (D.time self.old.journal.disk) (D.time self.new.journal.disk)
-            (D.left_since self.old.journal.disk) (D.left_since self.new.journal.disk) }
-        ensures counted { D.faults self.old.journal.disk ≤ D.faults self.new.journal.disk }
+        ensures advances { Advances D.Disk self.old.journal.disk self.new.journal.disk }
     {
         self.serve_over(alloc, None, call)
     }
@@ -152,7 +149,7 @@ impl<D: Disk> Store<D> {
     pub fn serve_over(&mut self, alloc: Global, found: Option<FileRows>, call: &Call) -> Answer
         requires fit { is_fit call.now ≡ true }
         requires found { IfSome found (AreFileRows self.old.files call.now) }
-        ensures { Serves D.time D.faults D.left_since self.old self.new call.now result }
+        ensures { Serves D.Disk self.old self.new call.now result }
     {
         match call {
             Call::Lookup { .. } | Call::Complete { .. } => self.answer(alloc, found, call),
@@ -169,7 +166,7 @@ impl<D: Disk> Store<D> {
         requires fit { is_fit call.now ≡ true }
         requires key { (book : ℕ) (other : key_value) → speaks_of call.now book other ≡ true
             → same_key key.now other ≡ true }
-        ensures { Serves D.time D.faults D.left_since self.old self.new call.now result }
+        ensures { Serves D.Disk self.old self.new call.now result }
     {
         changes_leave_what_is_found_of_other_keys();
         self.kept.forget(key);
@@ -180,7 +177,7 @@ impl<D: Disk> Store<D> {
     fn answer(&mut self, alloc: Global, found: Option<FileRows>, call: &Call) -> Answer
         requires question { is_question call.now ≡ true }
         requires found { IfSome found (AreFileRows self.old.files call.now) }
-        ensures { Serves D.time D.faults D.left_since self.old self.new call.now result }
+        ensures { Serves D.Disk self.old self.new call.now result }
     {
         match self.reply(alloc, found, call) {
             Ok(reply) => Answer::Done(reply),

@@ -6,7 +6,7 @@ use crate::side_by_side::Meeting;
 use crate::statuses::status_in_threads;
 use expectations::{same, same_at};
 use skk_disk::{Disk, MemDisk, Which};
-use skk_outside::{Count, Failed, Gate, MemLink, MemListener, MemSink, Open, Outside};
+use skk_outside::{Count, Failed, Gate, MemLink, MemListener, MemSink, Open};
 use std::alloc::Global;
 use std::process::Abort;
 use std::sync::Wait;
@@ -280,12 +280,10 @@ fn begin(watch: &Watch) -> Result<(), Failed> {
     Ok(())
 }
 
-impl Outside for Watched<'_> {
-    ghost faults = { λ d. d.faults };
-}
-
 impl Disk for Watched<'_> {
     ghost tells = { ⊥ };
+
+    ghost faults = { λ d. d.faults };
 
     ghost time = { λ d. 0 };
 

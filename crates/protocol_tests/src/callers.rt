@@ -55,7 +55,7 @@ fn told_on<R: Abort, D: Disk + Drop>(
 
 // Opens the learned file of a disk over the dictionary.
 pub(crate) fn opened<R: Abort, D: Disk + Drop>(rt: &R, alloc: Global, disk: D) -> Store<D>
-    ensures { Keeps D.time D.left_since result.journal result.state None }
+    ensures { Keeps D.Disk result.journal result.state None }
 {
     let system = system(rt, alloc);
     match Store::open(alloc, disk, system, FAR) {
@@ -79,8 +79,8 @@ fn told_over<N: LearnedName, R: Abort, D: Disk + Drop>(
     way: Way,
     coming: Coming,
 ) -> Vec<u8>
-    requires calm { Keeps D.time D.left_since store.journal store.state None }
-    requires named { N.opening ≡ opening_now D.time D.faults store }
+    requires calm { Keeps D.Disk store.journal store.state None }
+    requires named { N.opening ≡ opening_now D.Disk store }
     requires past { SameImages N.past (D.left_since store.journal.disk) }
 {
     let Ok(mut caller) = Alone::<D, N>::new(alloc, store) else {

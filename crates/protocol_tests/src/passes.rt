@@ -60,8 +60,8 @@ fn told_over<
     one: Coming,
     two: Coming,
 ) -> (Vec<u8>, Vec<u8>)
-    requires calm { Keeps D.time D.left_since store.journal store.state None }
-    requires named { N.opening ≡ opening_now D.time D.faults store }
+    requires calm { Keeps D.Disk store.journal store.state None }
+    requires named { N.opening ≡ opening_now D.Disk store }
     requires past { SameImages N.past (D.left_since store.journal.disk) }
     requires history { made.0 ≡ N.table }
     requires pen { made.1 ≡ record { table = made.0; seen = []; ended = []; roll = None } }

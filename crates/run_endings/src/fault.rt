@@ -40,7 +40,7 @@ pub enum RunFault {
 /// disk. Takes no memory.
 pub fn end_run<D, E: Sink>(run: Run<D>, err: &mut E) -> Finish<D>
     ensures finish { result ≡ finish_of run }
-    ensures told { Tells (run_message run.ended) (moved_sink E.written E.faults err.old err.new) }
+    ensures told { Tells (run_message run.ended) (moved_sink E.Outside err.old err.new) }
     ensures counted { E.faults err.old ≤ E.faults err.new }
 {
     let Run {
@@ -60,7 +60,7 @@ pub fn end_run<D, E: Sink>(run: Run<D>, err: &mut E) -> Finish<D>
 /// Tells a fault on `err`, and answers the status. Takes no memory.
 pub fn tell_end<E: Sink>(ended: Result<(), RunFault>, err: &mut E) -> u8
     ensures status { result ≡ run_status ended }
-    ensures told { Tells (run_message ended) (moved_sink E.written E.faults err.old err.new) }
+    ensures told { Tells (run_message ended) (moved_sink E.Outside err.old err.new) }
     ensures counted { E.faults err.old ≤ E.faults err.new }
 {
     match ended {
@@ -92,7 +92,7 @@ impl RunFault {
 
     // Writes the line on standard error.
     fn tell<E: Sink>(self, err: &mut E) -> Result<(), Failed>
-        ensures { Writes (message_of self) result (moved_sink E.written E.faults err.old err.new) }
+        ensures { Writes (message_of self) result (moved_sink E.Outside err.old err.new) }
     {
         self.tell_head(err)?;
         write(err, b"\n")
@@ -100,7 +100,7 @@ impl RunFault {
 
     // Writes the line up to its LF.
     fn tell_head<E: Sink>(self, err: &mut E) -> Result<(), Failed>
-        ensures { Writes (codes "skk: " ++ fault_words self) result (moved_sink E.written E.faults err.old err.new) }
+        ensures { Writes (codes "skk: " ++ fault_words self) result (moved_sink E.Outside err.old err.new) }
     {
         write(err, b"skk: ")?;
         self.tell_words(err)
@@ -108,7 +108,7 @@ impl RunFault {
 
     // Writes the words of the line.
     fn tell_words<E: Sink>(self, err: &mut E) -> Result<(), Failed>
-        ensures { Writes (fault_words self) result (moved_sink E.written E.faults err.old err.new) }
+        ensures { Writes (fault_words self) result (moved_sink E.Outside err.old err.new) }
     {
         match self {
             RunFault::Words => write(err, b"words"),
@@ -126,7 +126,7 @@ impl RunFault {
 
 // Writes the words of a file and of its flaw.
 fn tell_refused<E: Sink>(file: RunFile, flaw: Flaw, err: &mut E) -> Result<(), Failed>
-    ensures { Writes (file_words file flaw ++ flaw_words flaw) result (moved_sink E.written E.faults err.old err.new) }
+    ensures { Writes (file_words file flaw ++ flaw_words flaw) result (moved_sink E.Outside err.old err.new) }
 {
     tell_file(file, flaw, err)?;
     tell_flaw(flaw, err)
@@ -134,7 +134,7 @@ fn tell_refused<E: Sink>(file: RunFile, flaw: Flaw, err: &mut E) -> Result<(), F
 
 // Writes the words that name a file in front of its flaw.
 fn tell_file<E: Sink>(file: RunFile, flaw: Flaw, err: &mut E) -> Result<(), Failed>
-    ensures { Writes (file_words file flaw) result (moved_sink E.written E.faults err.old err.new) }
+    ensures { Writes (file_words file flaw) result (moved_sink E.Outside err.old err.new) }
 {
     match (file, flaw) {
         (RunFile::Script, Flaw::Line { number: _ }) => write(err, b""),
@@ -147,7 +147,7 @@ fn tell_file<E: Sink>(file: RunFile, flaw: Flaw, err: &mut E) -> Result<(), Fail
 // Writes the words that name the dictionary of a number.
 fn tell_dictionary<E: Sink>(number: usize, err: &mut E) -> Result<(), Failed>
     ensures { Writes (codes "dictionary " ++ decimal number ++ codes " ") result
-        (moved_sink E.written E.faults err.old err.new) }
+        (moved_sink E.Outside err.old err.new) }
 {
     write_numbered(err, b"dictionary ", number as u64)?;
     write(err, b" ")
@@ -156,7 +156,7 @@ fn tell_dictionary<E: Sink>(number: usize, err: &mut E) -> Result<(), Failed>
 // Writes the words that name a file of the learned dictionary, and behind them what is wrong with it, with a number.
 fn tell_learned<E: Sink>(file: u8, wrong: &[u8], number: u64, err: &mut E) -> Result<(), Failed>
     ensures { Writes (learned_words file ++ (wrong.now ++ decimal number)) result
-        (moved_sink E.written E.faults err.old err.new) }
+        (moved_sink E.Outside err.old err.new) }
 {
     name_learned(file, err)?;
     write_numbered(err, wrong, number)
@@ -164,7 +164,7 @@ fn tell_learned<E: Sink>(file: u8, wrong: &[u8], number: u64, err: &mut E) -> Re
 
 // Writes the words that name a file of the learned dictionary.
 fn name_learned<E: Sink>(file: u8, err: &mut E) -> Result<(), Failed>
-    ensures { Writes (learned_words file) result (moved_sink E.written E.faults err.old err.new) }
+    ensures { Writes (learned_words file) result (moved_sink E.Outside err.old err.new) }
 {
     if file == 0 {
         write(err, b"learned file ")
@@ -175,7 +175,7 @@ fn name_learned<E: Sink>(file: u8, err: &mut E) -> Result<(), Failed>
 
 // Writes the words of a flaw.
 fn tell_flaw<E: Sink>(flaw: Flaw, err: &mut E) -> Result<(), Failed>
-    ensures { Writes (flaw_words flaw) result (moved_sink E.written E.faults err.old err.new) }
+    ensures { Writes (flaw_words flaw) result (moved_sink E.Outside err.old err.new) }
 {
     match flaw {
         Flaw::TooLong => write(err, b"too long"),
@@ -186,7 +186,7 @@ fn tell_flaw<E: Sink>(flaw: Flaw, err: &mut E) -> Result<(), Failed>
 
 /// Writes bytes, and behind them a number in decimal.
 pub fn write_numbered<E: Sink>(err: &mut E, before: &[u8], number: u64) -> Result<(), Failed>
-    ensures { Writes (before.now ++ decimal number) result (moved_sink E.written E.faults err.old err.new) }
+    ensures { Writes (before.now ++ decimal number) result (moved_sink E.Outside err.old err.new) }
 {
     write(err, before)?;
     write(err, Buffer::new().format(number).as_bytes())

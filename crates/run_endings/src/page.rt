@@ -14,21 +14,21 @@ const PAGE: usize = 65536;
 
 /// Writes bytes.
 pub fn write<O: Sink>(out: &mut O, bytes: &[u8]) -> Result<(), Failed>
-    ensures { Writes bytes.now result (moved_sink O.written O.faults out.old out.new) }
+    ensures { Writes bytes.now result (moved_sink O.Outside out.old out.new) }
 {
     write_all(out, bytes)
 }
 
 /// Writes a page.
 pub fn print<O: Sink>(out: &mut O, page: &Text) -> Result<(), Failed>
-    ensures { Writes (encode_utf8_all page.now) result (moved_sink O.written O.faults out.old out.new) }
+    ensures { Writes (encode_utf8_all page.now) result (moved_sink O.Outside out.old out.new) }
 {
     write(out, page.as_str().as_bytes())
 }
 
 /// Writes bytes, and all that waits to be written.
 pub fn write_through<O: Sink>(out: &mut O, bytes: &[u8]) -> Result<(), Failed>
-    ensures { Writes bytes.now result (moved_sink O.written O.faults out.old out.new) }
+    ensures { Writes bytes.now result (moved_sink O.Outside out.old out.new) }
 {
     write(out, bytes)?;
     out.flush()
@@ -36,14 +36,14 @@ pub fn write_through<O: Sink>(out: &mut O, bytes: &[u8]) -> Result<(), Failed>
 
 /// Writes a page, and all that waits to be written.
 pub fn print_through<O: Sink>(out: &mut O, page: &Text) -> Result<(), Failed>
-    ensures { Writes (encode_utf8_all page.now) result (moved_sink O.written O.faults out.old out.new) }
+    ensures { Writes (encode_utf8_all page.now) result (moved_sink O.Outside out.old out.new) }
 {
     write_through(out, page.as_str().as_bytes())
 }
 
 /// Prints a text: writes it, and all that waits to be written.
 pub fn print_text<O: Sink>(out: &mut O, text: &Text) -> Result<(), RunFault>
-    ensures { LeavesPrinted (encode_utf8_all text.now) result (moved_sink O.written O.faults out.old out.new) }
+    ensures { LeavesPrinted (encode_utf8_all text.now) result (moved_sink O.Outside out.old out.new) }
 {
     print_through(out, text)?;
     Ok(())

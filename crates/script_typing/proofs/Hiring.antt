@@ -10,6 +10,8 @@ use Rattle.std.specs.BTreeMap.{insert_entry}
 use Rattle.std.specs.List.{list_all}
 use Rattle.std.specs.Ordering.{nat_cmp}
 use Rattle.romaji_rules.specs.declared.rule.Rule.{Rule}
+use Rattle.skk_calls.specs.declared.caller.Caller.{Ghosts as CallerGhosts}
+use Rattle.skk_calls.specs.declared.caller.Kept.{Ghosts as KeptGhosts}
 use Rattle.skk_calls.specs.InteractionLaws.{asked-none}
 use Rattle.skk_calls.specs.Interactions.{Dialog, ends, asked, answers_of, calls_of, Leads}
 use Rattle.skk_text.specs.declared.memory.Memory.{Memory}
@@ -30,13 +32,13 @@ Pairwise R [] [] = Unit {0}
 Pairwise R (x ∷ xs) (y ∷ ys) = R x y × Pairwise R xs ys
 Pairwise R xs ys = ⊥
 
-module _ {C : Type 0} (number_of : C → ℕ) (said_by : C → Dialog) where
+module _ {C : Type 0} (callers : CallerGhosts C) where
   -- one worker more for one task more
   pub hired-more : (first : ℕ) (tasks : Tasks) (workers : List (Worker C)) (task : ℕ × List Line) (worker : Worker C)
-      → AreHired number_of said_by first tasks workers → length workers ≡ length tasks
-      → IsNew task.0 task.1 worker → number_of worker.caller ≡ first + length workers
-      → said_by worker.caller ≡ []
-      → AreHired number_of said_by first (tasks ++ task ∷ []) (workers ++ worker ∷ [])
+      → AreHired callers first tasks workers → length workers ≡ length tasks
+      → IsNew task.0 task.1 worker → callers.number worker.caller ≡ first + length workers
+      → callers.said worker.caller ≡ []
+      → AreHired callers first (tasks ++ task ∷ []) (workers ++ worker ∷ [])
   hired-more first [] [] task worker hired same new number said = (new, omega (arith, number), said, tt)
   hired-more first [] (one ∷ others) task worker hired same new number said = absurd (omega (arith, same))
   hired-more first (task' ∷ tasks) [] task worker hired same new number said = absurd (omega (arith, same))
@@ -49,25 +51,25 @@ module _ {C : Type 0} (number_of : C → ℕ) (said_by : C → Dialog) where
 
   -- workers that are hired for the first of tasks are so for all
   pub hired-front : (first : ℕ) (tasks more : Tasks) (workers : List (Worker C))
-      → AreHired number_of said_by first tasks workers → AreHired number_of said_by first (tasks ++ more) workers
+      → AreHired callers first tasks workers → AreHired callers first (tasks ++ more) workers
   hired-front first tasks more [] hired = tt
   hired-front first [] more (one ∷ others) hired = absurd hired
   hired-front first (task ∷ tasks) more (one ∷ others) hired =
       (hired.0, hired.1, hired.2, hired-front (first + 1) tasks more others hired.3)
 
   -- new workers have asked nothing
-  pub hired-asked : {S : Type 0} (slip_number : S → ℕ) (slip_said : S → Dialog) (table : List Rule) (first : ℕ)
+  pub hired-asked : {S : Type 0} (kept : KeptGhosts S) (table : List Rule) (first : ℕ)
       (tasks : Tasks) (workers : List (Worker C)) (slips : List S)
-      → AreHired number_of said_by first tasks workers
-      → AreRested number_of said_by slip_number slip_said workers slips
-      → CountFrom first (map slip_number slips) × HaveAsked table tasks (map slip_said slips)
-  hired-asked slip_number slip_said table first tasks [] [] hired rested = (tt, tt)
-  hired-asked slip_number slip_said table first tasks [] (slip ∷ slips) hired rested = absurd rested
-  hired-asked slip_number slip_said table first tasks (one ∷ others) [] hired rested = absurd rested
-  hired-asked slip_number slip_said table first [] (one ∷ others) (slip ∷ slips) hired rested = absurd hired
-  hired-asked slip_number slip_said table first (task ∷ tasks) (one ∷ others) (slip ∷ slips) hired rested =
-      let rest = hired-asked slip_number slip_said table (first + 1) tasks others slips hired.3 rested.2 in
-      let silent : slip_said slip ≡ [] = rested.1 ∙ hired.2 in (
+      → AreHired callers first tasks workers
+      → AreRested callers kept workers slips
+      → CountFrom first (map kept.number slips) × HaveAsked table tasks (map kept.said slips)
+  hired-asked kept table first tasks [] [] hired rested = (tt, tt)
+  hired-asked kept table first tasks [] (slip ∷ slips) hired rested = absurd rested
+  hired-asked kept table first tasks (one ∷ others) [] hired rested = absurd rested
+  hired-asked kept table first [] (one ∷ others) (slip ∷ slips) hired rested = absurd hired
+  hired-asked kept table first (task ∷ tasks) (one ∷ others) (slip ∷ slips) hired rested =
+      let rest = hired-asked kept table (first + 1) tasks others slips hired.3 rested.2 in
+      let silent : kept.said slip ≡ [] = rested.1 ∙ hired.2 in (
         (rested.0 ∙ hired.1, rest.0),
         (
           subst (λ (d : Dialog). asked (task_typing table task) (answers_of d) ≡ calls_of d) (sym silent)
@@ -78,10 +80,10 @@ module _ {C : Type 0} (number_of : C → ℕ) (said_by : C → Dialog) where
 
   -- what a worker that has run for a task has asked
   ran-asked : (table : List Rule) (task : ℕ × List Line) (before after : Worker C) → IsNew task.0 task.1 before
-      → said_by before.caller ≡ [] → HasRun number_of said_by table before after
-      → asked (task_typing table task) (answers_of (said_by after.caller)) ≡ calls_of (said_by after.caller)
+      → callers.said before.caller ≡ [] → HasRun callers table before after
+      → asked (task_typing table task) (answers_of (callers.said after.caller)) ≡ calls_of (callers.said after.caller)
   ran-asked table task before after new silent ran =
-      let said : said_by after.caller ≡ ran.leaves.dialog =
+      let said : callers.said after.caller ≡ ran.leaves.dialog =
       ran.leaves.grows ∙ ap (λ s. s ++ ran.leaves.dialog) silent in
       subst (λ (d : Dialog). asked (task_typing table task) (answers_of d) ≡ calls_of d) (sym said)
       (subst (λ (s : Session). asked (own_typing table s task.1) (answers_of ran.leaves.dialog)
@@ -96,9 +98,9 @@ module _ {C : Type 0} (number_of : C → ℕ) (said_by : C → Dialog) where
 
   -- what is left of a task whose worker has run
   ran-done : (table : List Rule) (whole : Bool) (task : ℕ × List Line) (before after : Worker C)
-      → IsNew task.0 task.1 before → said_by before.caller ≡ []
-      → HasRun number_of said_by table before after → (whole ≡ true → is_whole after.ended ≡ true)
-      → IsDone table task (said_by after.caller) after.pages after.session whole
+      → IsNew task.0 task.1 before → callers.said before.caller ≡ []
+      → HasRun callers table before after → (whole ≡ true → is_whole after.ended ≡ true)
+      → IsDone table task (callers.said after.caller) after.pages after.session whole
   ran-done table whole task before after new silent ran all = record {
     rest = ran.leaves.rest;
     asks = ran-asked table task before after new silent ran;
@@ -120,26 +122,26 @@ module _ {C : Type 0} (number_of : C → ℕ) (said_by : C → Dialog) where
         (ends after.session)) (all w) ran.leaves.leads)));
   }
     where
-      said : said_by after.caller ≡ ran.leaves.dialog
+      said : callers.said after.caller ≡ ran.leaves.dialog
       said = ran.leaves.grows ∙ ap (λ s. s ++ ran.leaves.dialog) silent
 
   -- what all workers that have run have asked
-  pub all-asked : {S : Type 0} (slip_number : S → ℕ) (slip_said : S → Dialog) (table : List Rule) (first : ℕ)
+  pub all-asked : {S : Type 0} (kept : KeptGhosts S) (table : List Rule) (first : ℕ)
       (tasks : Tasks) (before after : List (Worker C)) (slips : List S)
-      → AreHired number_of said_by first tasks before → Pairwise (HasRun number_of said_by table) before after
-      → AreRested number_of said_by slip_number slip_said after slips
-      → CountFrom first (map slip_number slips) × HaveAsked table tasks (map slip_said slips)
-  all-asked slip_number slip_said table first tasks [] [] [] hired ran rested = (tt, tt)
-  all-asked slip_number slip_said table first tasks [] [] (slip ∷ slips) hired ran rested = absurd rested
-  all-asked slip_number slip_said table first tasks [] (one ∷ after) slips hired ran rested = absurd ran
-  all-asked slip_number slip_said table first tasks (one ∷ before) [] slips hired ran rested = absurd ran
-  all-asked slip_number slip_said table first tasks (one ∷ before) (now ∷ after) [] hired ran rested = absurd rested
-  all-asked slip_number slip_said table first [] (one ∷ before) (now ∷ after) (slip ∷ slips) hired ran rested =
+      → AreHired callers first tasks before → Pairwise (HasRun callers table) before after
+      → AreRested callers kept after slips
+      → CountFrom first (map kept.number slips) × HaveAsked table tasks (map kept.said slips)
+  all-asked kept table first tasks [] [] [] hired ran rested = (tt, tt)
+  all-asked kept table first tasks [] [] (slip ∷ slips) hired ran rested = absurd rested
+  all-asked kept table first tasks [] (one ∷ after) slips hired ran rested = absurd ran
+  all-asked kept table first tasks (one ∷ before) [] slips hired ran rested = absurd ran
+  all-asked kept table first tasks (one ∷ before) (now ∷ after) [] hired ran rested = absurd rested
+  all-asked kept table first [] (one ∷ before) (now ∷ after) (slip ∷ slips) hired ran rested =
       absurd hired
-  all-asked slip_number slip_said table first (task ∷ tasks) (one ∷ before) (now ∷ after) (slip ∷ slips) hired ran
+  all-asked kept table first (task ∷ tasks) (one ∷ before) (now ∷ after) (slip ∷ slips) hired ran
       rested =
       let rest =
-      all-asked slip_number slip_said table (first + 1) tasks before after slips hired.3 ran.1 rested.2 in (
+      all-asked kept table (first + 1) tasks before after slips hired.3 ran.1 rested.2 in (
         (rested.0 ∙ ran.0.stays.1 ∙ hired.1, rest.0),
         (
           subst (λ (d : Dialog). asked (task_typing table task) (answers_of d) ≡ calls_of d) (sym rested.1)
@@ -149,55 +151,55 @@ module _ {C : Type 0} (number_of : C → ℕ) (said_by : C → Dialog) where
       )
 
   -- what is left of all tasks, where each has a worker that has run
-  pub all-done : {S : Type 0} (slip_number : S → ℕ) (slip_said : S → Dialog) (table : List Rule) (whole : Bool)
+  pub all-done : {S : Type 0} (kept : KeptGhosts S) (table : List Rule) (whole : Bool)
       (first : ℕ) (tasks : Tasks) (before after : List (Worker C)) (slips : List S)
-      → AreHired number_of said_by first tasks before → length before ≡ length tasks
-      → Pairwise (HasRun number_of said_by table) before after
-      → AreRested number_of said_by slip_number slip_said after slips
+      → AreHired callers first tasks before → length before ≡ length tasks
+      → Pairwise (HasRun callers table) before after
+      → AreRested callers kept after slips
       → (whole ≡ true → list_all (λ (w : Worker C). is_whole w.ended) after ≡ true)
-      → AreDone table whole tasks (map slip_said slips) (map (λ (w : Worker C). (w.number, w.pages)) after)
+      → AreDone table whole tasks (map kept.said slips) (map (λ (w : Worker C). (w.number, w.pages)) after)
       (map (λ (w : Worker C). (w.number, w.session)) after)
-  all-done slip_number slip_said table whole first [] [] [] [] hired same ran rested all = tt
-  all-done slip_number slip_said table whole first (task ∷ tasks) [] after slips hired same ran rested all =
+  all-done kept table whole first [] [] [] [] hired same ran rested all = tt
+  all-done kept table whole first (task ∷ tasks) [] after slips hired same ran rested all =
       absurd (omega (arith, same))
-  all-done slip_number slip_said table whole first [] (one ∷ before) after slips hired same ran rested all =
+  all-done kept table whole first [] (one ∷ before) after slips hired same ran rested all =
       absurd hired
-  all-done slip_number slip_said table whole first tasks [] (now ∷ after) slips hired same ran rested all = absurd ran
-  all-done slip_number slip_said table whole first tasks (one ∷ before) [] slips hired same ran rested all = absurd ran
-  all-done slip_number slip_said table whole first [] [] [] (slip ∷ slips) hired same ran rested all = absurd rested
-  all-done slip_number slip_said table whole first tasks (one ∷ before) (now ∷ after) [] hired same ran rested all =
+  all-done kept table whole first tasks [] (now ∷ after) slips hired same ran rested all = absurd ran
+  all-done kept table whole first tasks (one ∷ before) [] slips hired same ran rested all = absurd ran
+  all-done kept table whole first [] [] [] (slip ∷ slips) hired same ran rested all = absurd rested
+  all-done kept table whole first tasks (one ∷ before) (now ∷ after) [] hired same ran rested all =
       absurd rested
-  all-done slip_number slip_said table whole first (task ∷ tasks) (one ∷ before) (now ∷ after) (slip ∷ slips) hired
+  all-done kept table whole first (task ∷ tasks) (one ∷ before) (now ∷ after) (slip ∷ slips) hired
       same ran rested all = (
         ran.0.stays.0 ∙ hired.0.0,
         ran.0.stays.0 ∙ hired.0.0,
         subst (λ (d : Dialog). IsDone table task d now.pages now.session whole) (sym rested.1)
             (ran-done table whole task one now hired.0 hired.2 ran.0 (λ w.
             (and_parts (is_whole now.ended) (list_all (λ (x : Worker C). is_whole x.ended) after) (all w)).0)),
-        all-done slip_number slip_said table whole (first + 1) tasks before after slips hired.3 (omega (arith, same))
+        all-done kept table whole (first + 1) tasks before after slips hired.3 (omega (arith, same))
             ran.1 rested.2 (λ w.
             (and_parts (is_whole now.ended) (list_all (λ (x : Worker C). is_whole x.ended) after) (all w)).1),
       )
 
   -- by what the workers left
-  pub all-done-left : {S : Type 0} (slip_number : S → ℕ) (slip_said : S → Dialog) (table : List Rule) (first : ℕ)
+  pub all-done-left : {S : Type 0} (kept : KeptGhosts S) (table : List Rule) (first : ℕ)
       (tasks : Tasks) (before after : List (Worker C)) (slips : List S) (typed : Result Typed Memory)
-      → AreHired number_of said_by first tasks before → length before ≡ length tasks
-      → Pairwise (HasRun number_of said_by table) before after
-      → AreRested number_of said_by slip_number slip_said after slips → IfOk typed (IsLeftOf after)
-      → IfOk typed (λ t. AreDone table t.whole tasks (map slip_said slips) t.pages.entries t.sessions.entries)
-  all-done-left slip_number slip_said table first tasks before after slips (Err memory) hired same ran rested left =
+      → AreHired callers first tasks before → length before ≡ length tasks
+      → Pairwise (HasRun callers table) before after
+      → AreRested callers kept after slips → IfOk typed (IsLeftOf after)
+      → IfOk typed (λ t. AreDone table t.whole tasks (map kept.said slips) t.pages.entries t.sessions.entries)
+  all-done-left kept table first tasks before after slips (Err memory) hired same ran rested left =
       search rules
-  all-done-left slip_number slip_said table first tasks before after slips (Ok typed) hired same ran rested left =
-      subst (λ es. AreDone table typed.whole tasks (map slip_said slips) es typed.sessions.entries) (sym left.pages)
-      (subst (λ (es : SessionMap). AreDone table typed.whole tasks (map slip_said slips)
+  all-done-left kept table first tasks before after slips (Ok typed) hired same ran rested left =
+      subst (λ es. AreDone table typed.whole tasks (map kept.said slips) es typed.sessions.entries) (sym left.pages)
+      (subst (λ (es : SessionMap). AreDone table typed.whole tasks (map kept.said slips)
       (map (λ (w : Worker C). (w.number, w.pages)) after) es) (sym left.sessions)
-      (all-done slip_number slip_said table typed.whole first tasks before after slips hired same ran rested
+      (all-done kept table typed.whole first tasks before after slips hired same ran rested
       (λ whole. sym left.whole ∙ whole)))
 
   -- the numbers of workers that have run ascend as those of their tasks do
   above-ran : (table : List Rule) (low first : ℕ) (tasks : Tasks) (before after : List (Worker C))
-      → AreHired number_of said_by first tasks before → Pairwise (HasRun number_of said_by table) before after
+      → AreHired callers first tasks before → Pairwise (HasRun callers table) before after
       → AreAbove low tasks → AreAbove low (map (λ (w : Worker C). (w.number, w.session)) after)
   above-ran table low first tasks [] [] hired ran above = tt
   above-ran table low first tasks [] (now ∷ after) hired ran above = absurd ran
@@ -209,7 +211,7 @@ module _ {C : Type 0} (number_of : C → ℕ) (said_by : C → Dialog) where
   )
 
   pub ascend-ran : (table : List Rule) (first : ℕ) (tasks : Tasks) (before after : List (Worker C))
-      → AreHired number_of said_by first tasks before → Pairwise (HasRun number_of said_by table) before after
+      → AreHired callers first tasks before → Pairwise (HasRun callers table) before after
       → Ascend tasks → Ascend (map (λ (w : Worker C). (w.number, w.session)) after)
   ascend-ran table first tasks [] [] hired ran ascend = tt
   ascend-ran table first tasks [] (now ∷ after) hired ran ascend = absurd ran
@@ -224,7 +226,7 @@ module _ {C : Type 0} (number_of : C → ℕ) (said_by : C → Dialog) where
 
   -- the numbers of new workers ascend as those of their tasks do
   above-hired : (low first : ℕ) (tasks : Tasks) (workers : List (Worker C))
-      → AreHired number_of said_by first tasks workers → AreAbove low tasks
+      → AreHired callers first tasks workers → AreAbove low tasks
       → AreAbove low (map (λ (w : Worker C). (w.number, w.session)) workers)
   above-hired low first tasks [] hired above = tt
   above-hired low first [] (one ∷ others) hired above = absurd hired
@@ -234,7 +236,7 @@ module _ {C : Type 0} (number_of : C → ℕ) (said_by : C → Dialog) where
   )
 
   pub ascend-hired : (first : ℕ) (tasks : Tasks) (workers : List (Worker C))
-      → AreHired number_of said_by first tasks workers → Ascend tasks
+      → AreHired callers first tasks workers → Ascend tasks
       → Ascend (map (λ (w : Worker C). (w.number, w.session)) workers)
   ascend-hired first tasks [] hired ascend = tt
   ascend-hired first [] (one ∷ others) hired ascend = absurd hired
@@ -248,7 +250,7 @@ module _ {C : Type 0} (number_of : C → ℕ) (said_by : C → Dialog) where
   pub record IsHiring (first drawn : ℕ) (tasks left : Tasks) (workers : List (Worker C)) : Type 0 where
     pub begun : Tasks
     pub parts : tasks ≡ begun ++ left
-    pub hired : AreHired number_of said_by first begun workers
+    pub hired : AreHired callers first begun workers
     pub same : length workers ≡ length begun
     pub counted : drawn ≡ first + length workers
 
@@ -257,14 +259,14 @@ module _ {C : Type 0} (number_of : C → ℕ) (said_by : C → Dialog) where
   hiring-start first tasks workers none = record {
     begun = [];
     parts = refl;
-    hired = subst (AreHired number_of said_by first []) (sym none) tt;
+    hired = subst (AreHired callers first []) (sym none) tt;
     same = ap length none;
     counted = omega (arith, ap length none);
   }
 
   pub hiring-more : (first drawn drawn' : ℕ) (tasks left : Tasks) (number : ℕ) (lines : List Line)
       (workers : List (Worker C)) (worker : Worker C) → IsHiring first drawn tasks ((number, lines) ∷ left) workers
-      → IsNew number lines worker → number_of worker.caller ≡ drawn → said_by worker.caller ≡ []
+      → IsNew number lines worker → callers.number worker.caller ≡ drawn → callers.said worker.caller ≡ []
       → drawn' ≡ drawn + 1 → IsHiring first drawn' tasks left (workers ++ worker ∷ [])
   hiring-more first drawn drawn' tasks left number lines workers worker hiring new numbered silent more = record {
     begun = hiring.begun ++ (number, lines) ∷ [];
@@ -282,9 +284,9 @@ module _ {C : Type 0} (number_of : C → ℕ) (said_by : C → Dialog) where
   }
 
   pub hiring-front : (first drawn : ℕ) (tasks left : Tasks) (workers : List (Worker C))
-      → IsHiring first drawn tasks left workers → AreHired number_of said_by first tasks workers
+      → IsHiring first drawn tasks left workers → AreHired callers first tasks workers
   hiring-front first drawn tasks left workers hiring =
-      subst (λ (ts : Tasks). AreHired number_of said_by first ts workers) (sym hiring.parts)
+      subst (λ (ts : Tasks). AreHired callers first ts workers) (sym hiring.parts)
       (hired-front first hiring.begun left workers hiring.hired)
 
   pub hiring-few : (first drawn : ℕ) (tasks left : Tasks) (workers : List (Worker C))
@@ -305,25 +307,25 @@ module _ {C : Type 0} (number_of : C → ℕ) (said_by : C → Dialog) where
   )
 
   -- one worker more that is rested
-  pub rested-more : {S : Type 0} (slip_number : S → ℕ) (slip_said : S → Dialog) (workers : List (Worker C))
+  pub rested-more : {S : Type 0} (kept : KeptGhosts S) (workers : List (Worker C))
       (slips : List S) (worker : Worker C) (slip : S)
-      → AreRested number_of said_by slip_number slip_said workers slips
-      → slip_number slip ≡ number_of worker.caller → slip_said slip ≡ said_by worker.caller
-      → AreRested number_of said_by slip_number slip_said (workers ++ worker ∷ []) (slips ++ slip ∷ [])
-  rested-more slip_number slip_said [] [] worker slip rested numbered said = (numbered, said, tt)
-  rested-more slip_number slip_said [] (one ∷ slips) worker slip rested numbered said = absurd rested
-  rested-more slip_number slip_said (one ∷ workers) [] worker slip rested numbered said = absurd rested
-  rested-more slip_number slip_said (one ∷ workers) (first ∷ slips) worker slip rested numbered said =
-      (rested.0, rested.1, rested-more slip_number slip_said workers slips worker slip rested.2 numbered said)
+      → AreRested callers kept workers slips
+      → kept.number slip ≡ callers.number worker.caller → kept.said slip ≡ callers.said worker.caller
+      → AreRested callers kept (workers ++ worker ∷ []) (slips ++ slip ∷ [])
+  rested-more kept [] [] worker slip rested numbered said = (numbered, said, tt)
+  rested-more kept [] (one ∷ slips) worker slip rested numbered said = absurd rested
+  rested-more kept (one ∷ workers) [] worker slip rested numbered said = absurd rested
+  rested-more kept (one ∷ workers) (first ∷ slips) worker slip rested numbered said =
+      (rested.0, rested.1, rested-more kept workers slips worker slip rested.2 numbered said)
 
-  pub rested-length : {S : Type 0} (slip_number : S → ℕ) (slip_said : S → Dialog) (workers : List (Worker C))
-      (slips : List S) → AreRested number_of said_by slip_number slip_said workers slips
+  pub rested-length : {S : Type 0} (kept : KeptGhosts S) (workers : List (Worker C))
+      (slips : List S) → AreRested callers kept workers slips
       → length slips ≡ length workers
-  rested-length slip_number slip_said [] [] rested = refl
-  rested-length slip_number slip_said [] (one ∷ slips) rested = absurd rested
-  rested-length slip_number slip_said (one ∷ workers) [] rested = absurd rested
-  rested-length slip_number slip_said (one ∷ workers) (first ∷ slips) rested =
-      omega (arith, rested-length slip_number slip_said workers slips rested.2)
+  rested-length kept [] [] rested = refl
+  rested-length kept [] (one ∷ slips) rested = absurd rested
+  rested-length kept (one ∷ workers) [] rested = absurd rested
+  rested-length kept (one ∷ workers) (first ∷ slips) rested =
+      omega (arith, rested-length kept workers slips rested.2)
 
 -- What workers leave
 

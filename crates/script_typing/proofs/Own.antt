@@ -5,20 +5,22 @@ use Rattle.std.proofs.Common.{◌∷◌, ◌++◌, append_assoc, length, drop, g
 use Rattle.std.proofs.lemmas.List.{append-nil, at_drop_more, map-append}
 use Rattle.romaji_rules.specs.declared.rule.Rule.{Rule}
 use Rattle.skk_calls.specs.declared.answer.Answer.{Answer}
-use Rattle.skk_calls.specs.InteractionLaws.{begins-followed, begins-leads, comes-begins, comes-followed, leads-on}
+use Rattle.skk_calls.specs.declared.caller.Caller.{Ghosts as CallerGhosts}
+use Rattle.skk_calls.specs.InteractionLaws.{begins-followed, begins-leads, comes-followed, leads-on}
 use Rattle.skk_calls.specs.InteractionLaws.{led-asked}
-use Rattle.skk_calls.specs.Interactions.{Interaction, ends, asks, prints, Dialog, Comes, Leads, here, answers_of}
-use Rattle.skk_text.specs.declared.key.Key.{Key}
+use Rattle.skk_calls.specs.Interactions.{Interaction, ends, asks, prints, followed_by, Dialog, Comes, Leads, here}
+use Rattle.skk_calls.specs.Interactions.{answers_of}
 use Rattle.skk_text.specs.declared.memory.Memory.{Memory}
 use Rattle.key_scripts.specs.declared.line.Line.{Line}
 use Rattle.key_scripts.specs.declared.line.Line.TheVariants.{Keys, Opening}
-use Rattle.session_machine.specs.Pressed.{all_pressed}
-use Rattle.session_machine.specs.Session.{Session, new_session}
+use Rattle.session_machine.specs.Said.{Says, spoken}
+use Rattle.session_machine.specs.Session.{Session}
 use Rattle.script_typing.specs.declared.worker.Worker.{Worker}
-use Rattle.script_typing.specs.Printing.{output_line}
+use Rattle.script_typing.specs.LineLaws.{says-lost}
+use Rattle.script_typing.specs.Lines.{line_played}
 use Rattle.script_typing.specs.Woven.{own_typing, taken}
 use Rattle.script_typing.specs.Pages.{PageList}
-use Rattle.script_typing.specs.Workers.{own_pages, TypesOwnLine, BeginsOwnLine, LeavesOwnLine, LeavesOwnLines}
+use Rattle.script_typing.specs.Workers.{own_pages, pages_printed, TypesOwnLine, LeavesOwnLines}
 
 -- what an interaction comes to is taken from the head of its answers, and the rest is left
 pub taken-comes : {S : Type 0} (interaction : Interaction S) (dialog : Dialog) (end : S)
@@ -39,163 +41,121 @@ answers-behind dialog behind more =
     ∙ append_assoc (answers_of dialog) (answers_of behind) more
 
 -- a caller has said a dialog, and pages were printed, that lead from own lines to those that are left
-pub record ReachesOwn {C : Type 0} (said_by : C → Dialog) (rules : List Rule) (lines rest : List Line)
+pub record ReachesOwn {C : Type 0} (callers : CallerGhosts C) (rules : List Rule) (lines rest : List Line)
     (before now : Worker C) : Type 0 where
   pub dialog : Dialog
   pub new : PageList
-  pub grows : said_by now.caller ≡ said_by before.caller ++ dialog
+  pub grows : callers.said now.caller ≡ callers.said before.caller ++ dialog
   pub leads : Leads (own_typing rules before.session lines) dialog [] (own_typing rules now.session rest)
   pub paged : now.pages ≡ before.pages ++ new
   pub printed : (more : List Answer)
       → own_pages rules before.number before.session lines (answers_of dialog ++ more)
       ≡ new ++ own_pages rules before.number now.session rest more
 
-module _ {C : Type 0} (said_by : C → Dialog) (table : List Rule) where
+module _ {C : Type 0} (callers : CallerGhosts C) (table : List Rule) where
   -- at the start nothing was said or printed
-  pub own-start : (lines : List Line) (worker : Worker C) → ReachesOwn said_by table lines lines worker worker
+  pub own-start : (lines : List Line) (worker : Worker C) → ReachesOwn callers table lines lines worker worker
   own-start lines worker = record {
     dialog = [];
     new = [];
-    grows = sym (append-nil (said_by worker.caller));
+    grows = sym (append-nil (callers.said worker.caller));
     leads = here _;
     paged = sym (append-nil worker.pages);
     printed = λ more. refl;
   }
 
-  -- a line that was typed leads to those behind it
-  typed-leads : (line : Line) (rest : List Line) (number : ℕ) (session after : Session) (dialog : Dialog)
-      (pages pages' : PageList) → TypesOwnLine table number line session after dialog pages pages'
-      → Leads (own_typing table session (line ∷ rest)) dialog [] (own_typing table after rest)
-  typed-leads (Keys named ks) rest number session after dialog pages pages' typed =
-      comes-followed (all_pressed table session ks) dialog after (λ a. own_typing table a rest) typed.0
-  typed-leads (Opening named typist book) rest number session after dialog pages pages' typed =
-      subst (λ (d : Dialog). Leads (own_typing table (new_session typist book) rest) d []
-      (own_typing table after rest)) (sym typed.1)
-      (subst (λ (a : Session). Leads (own_typing table (new_session typist book) rest) [] []
-      (own_typing table a rest)) (sym typed.0) (here _))
+  module _ (lines : List Line) (line : Line) (rest : List Line) (before now after : Worker C)
+      (reached : ReachesOwn callers table lines (line ∷ rest) before now) where
+    -- what the line asks, and then those behind it
+    abbrev first : Interaction Session
+    first = line_played table now.session line
 
-  -- and its page stands in front of theirs
-  typed-pages : (line : Line) (rest : List Line) (number : ℕ) (session after : Session) (dialog : Dialog)
-      (pages pages' : PageList) → TypesOwnLine table number line session after dialog pages pages'
-      → (new : PageList) × (pages' ≡ pages ++ new)
-      × ((more : List Answer) → own_pages table number session (line ∷ rest) (answers_of dialog ++ more)
-      ≡ new ++ own_pages table number after rest more)
-  typed-pages (Keys named ks) rest number session after dialog pages pages' typed = (
-    output_line number after ∷ [],
-    typed.1,
-    λ more.
-        ap (λ t. elim t [
-          | None ↦ []
-          | Some (a, left) ↦ output_line number a ∷ own_pages table number a rest left
-        ]) (taken-comes (all_pressed table session ks) dialog after typed.0 more),
-  )
-  typed-pages (Opening named typist book) rest number session after dialog pages pages' typed = (
-    [],
-    typed.2 ∙ sym (append-nil pages),
-    λ more.
-        ap (λ (d : Dialog). own_pages table number (new_session typist book) rest (answers_of d ++ more)) typed.1
-        ∙ ap (λ (a : Session). own_pages table number a rest more) (sym typed.0),
-  )
+    abbrev behind : Session → Interaction Session
+    behind session = own_typing table session rest
 
-  module _ (lines : List Line) (line : Line) (rest : List Line) (before now : Worker C)
-      (reached : ReachesOwn said_by table lines (line ∷ rest) before now) where
+    first-own : (l : Line) → own_typing table now.session (l ∷ rest)
+        ≡ followed_by (line_played table now.session l) behind
+    first-own (Keys named ks) = refl
+    first-own (Opening named typist book) = refl
+
     -- one line more
-    pub own-line : (after : Worker C) → now.number ≡ before.number
-        → LeavesOwnLine said_by table line (Ok tt) now after → ReachesOwn said_by table lines rest before after
-    own-line after same leaves = record {
-      dialog = reached.dialog ++ leaves.dialog;
-      new = reached.new ++ pages.0;
-      grows = leaves.grows ∙ ap (λ s. s ++ leaves.dialog) reached.grows
-          ∙ append_assoc (said_by before.caller) reached.dialog leaves.dialog;
+    pub own-line : now.number ≡ before.number
+        → TypesOwnLine callers table line (Ok tt) now after → ReachesOwn callers table lines rest before after
+    own-line same types = record {
+      dialog = reached.dialog ++ types.says.dialog;
+      new = reached.new ++ page;
+      grows = types.says.grows ∙ ap (λ s. s ++ types.says.dialog) reached.grows
+          ∙ append_assoc (callers.said before.caller) reached.dialog types.says.dialog;
       leads = leads-on reached.leads
-          (typed-leads line rest now.number now.session after.session leaves.dialog now.pages after.pages
-          leaves.ok);
-      paged = pages.1 ∙ ap (λ ps. ps ++ pages.0) reached.paged
-          ∙ append_assoc before.pages reached.new pages.0;
+          (subst (λ i. Leads i types.says.dialog [] (own_typing table after.session rest)) (sym (first-own line))
+          (comes-followed first types.says.dialog after.session behind types.says.ok));
+      paged = types.paged ∙ ap (λ ps. ps ++ page) reached.paged ∙ append_assoc before.pages reached.new page;
       printed = λ more.
-          ap (own_pages table before.number before.session lines) (answers-behind reached.dialog leaves.dialog more)
-          ∙ reached.printed (answers_of leaves.dialog ++ more)
-          ∙ ap (λ ps. reached.new ++ ps) (own more)
-          ∙ sym (append_assoc reached.new pages.0 (own_pages table before.number after.session rest more));
+          ap (own_pages table before.number before.session lines) (answers-behind reached.dialog types.says.dialog more)
+          ∙ reached.printed (answers_of types.says.dialog ++ more)
+          ∙ ap (λ ps. reached.new ++ ps)
+          (ap (λ t. elim t [
+            | None ↦ []
+            | Some (a, left) ↦ pages_printed before.number line a ++ own_pages table before.number a rest left
+          ]) (taken-comes first types.says.dialog after.session types.says.ok more)
+          ∙ ap (λ n. pages_printed n line after.session ++ own_pages table before.number after.session rest more)
+          (sym same))
+          ∙ sym (append_assoc reached.new page (own_pages table before.number after.session rest more));
     }
       where
-        pages : (new : PageList) × (after.pages ≡ now.pages ++ new)
-            × ((more : List Answer) → own_pages table now.number now.session (line ∷ rest)
-            (answers_of leaves.dialog ++ more) ≡ new ++ own_pages table now.number after.session rest more)
-        pages =
-            typed-pages line rest now.number now.session after.session leaves.dialog now.pages
-            after.pages leaves.ok
-
-        own : (more : List Answer) → own_pages table before.number now.session (line ∷ rest)
-            (answers_of leaves.dialog ++ more) ≡ pages.0 ++ own_pages table before.number after.session rest more
-        own more =
-            subst (λ n. own_pages table n now.session (line ∷ rest) (answers_of leaves.dialog ++ more)
-            ≡ pages.0 ++ own_pages table n after.session rest more) same (pages.2 more)
+        page : PageList
+        page = pages_printed now.number line after.session
 
     -- a line for which memory is out
-    pub own-broken : (after : Worker C) (ended : Result (Unit {0}) Memory) (P : Memory → Type 0) → IsErrAnd ended P
-        → (memory : Memory) → LeavesOwnLine said_by table line (Err memory) now after
-        → LeavesOwnLines said_by table lines ended before after
-    own-broken after (Ok done) P lacks memory leaves = absurd (search (rules, lacks))
-    own-broken after (Err lost) P lacks memory leaves = record {
-      dialog = reached.dialog ++ leaves.dialog;
+    pub own-broken : (ended : Result (Unit {0}) Memory) (P : Memory → Type 0) → IsErrAnd ended P
+        → (memory : Memory) → TypesOwnLine callers table line (Err memory) now after
+        → LeavesOwnLines callers table lines ended before after
+    own-broken (Ok done) P lacks memory types = absurd (search (rules, lacks))
+    own-broken (Err lost) P lacks memory types = record {
+      dialog = reached.dialog ++ types.says.dialog;
       new = reached.new;
-      rest = own_pages table before.number now.session (line ∷ rest) (answers_of leaves.dialog ++ []);
-      grows = leaves.grows ∙ ap (λ s. s ++ leaves.dialog) reached.grows
-          ∙ append_assoc (said_by before.caller) reached.dialog leaves.dialog;
-      asks = led-asked (leads-on reached.leads begun.1);
-      paged = leaves.memory.1 ∙ reached.paged;
+      rest = own_pages table before.number now.session (line ∷ rest) (answers_of types.says.dialog ++ []);
+      grows = types.says.grows ∙ ap (λ s. s ++ types.says.dialog) reached.grows
+          ∙ append_assoc (callers.said before.caller) reached.dialog types.says.dialog;
+      asks = led-asked (leads-on reached.leads
+          (subst (λ i. Leads i types.says.dialog [] begun.0) (sym (first-own line)) begun.1));
+      paged = types.unpaged ∙ reached.paged;
       printed =
           ap (own_pages table before.number before.session lines)
-          (sym (append-nil (answers_of (reached.dialog ++ leaves.dialog)))
-          ∙ answers-behind reached.dialog leaves.dialog [])
-          ∙ reached.printed (answers_of leaves.dialog ++ []);
+          (sym (append-nil (answers_of (reached.dialog ++ types.says.dialog)))
+          ∙ answers-behind reached.dialog types.says.dialog [])
+          ∙ reached.printed (answers_of types.says.dialog ++ []);
       whole = tt;
       leads = tt;
     }
       where
-        begun : (to : Interaction Session)
-            × Leads (own_typing table now.session (line ∷ rest)) leaves.dialog [] to
-        begun = by line leaves.memory.0
-          where
-            by : (l : Line) → BeginsOwnLine table l now.session leaves.dialog
-                → (to : Interaction Session) × Leads (own_typing table now.session (l ∷ rest)) leaves.dialog [] to
-            by (Keys named ks) begins =
-                begins-leads (own_typing table now.session (Keys named ks ∷ rest)) leaves.dialog
-                (begins-followed (all_pressed table now.session ks) leaves.dialog
-                (λ a. own_typing table a rest) begins)
-            by (Opening named typist book) none = (
-              own_typing table (new_session typist book) rest,
-              subst (λ (d : Dialog). Leads (own_typing table (new_session typist book) rest) d []
-                  (own_typing table (new_session typist book) rest)) (sym none) (here _),
-            )
+        begun : (to : Interaction Session) × Leads (followed_by first behind) types.says.dialog [] to
+        begun =
+            begins-leads (followed_by first behind) types.says.dialog
+            (begins-followed first types.says.dialog behind types.says.memory)
 
-  -- keys that came to a session, for which memory was out then
-  pub own-lost : (named : ℕ) (ks : List Key) (next : Session) (before after : Worker C)
-      (ended : Result (Unit {0}) Memory) (P : Memory → Type 0) → IsErrAnd ended P → (dialog : Dialog)
-      → said_by after.caller ≡ said_by before.caller ++ dialog
-      → Comes (all_pressed table before.session ks) dialog next → after.pages ≡ before.pages
-      → LeavesOwnLine said_by table (Keys named ks) ended before after
-  own-lost named ks next before after (Ok done) P lacks dialog grows comes same = absurd (search (rules, lacks))
-  own-lost named ks next before after (Err memory) P lacks dialog grows comes same = record {
-    dialog = dialog;
-    grows = grows;
-    ok = tt;
-    memory = (comes-begins (all_pressed table before.session ks) dialog next comes, same);
-  }
+  -- a line that was played, for whose page memory was out then
+  pub own-lost : (line : Line) (end : Session) (before after : Worker C)
+      (ended : Result (Unit {0}) Memory) (P : Memory → Type 0) → IsErrAnd ended P → after.number ≡ before.number
+      → Says (line_played table before.session line) (Ok end) (spoken callers.number callers.said before.caller)
+      (spoken callers.number callers.said after.caller) → after.pages ≡ before.pages
+      → TypesOwnLine callers table line ended before after
+  own-lost line end before after (Ok done) P lacks number says same = absurd (search (rules, lacks))
+  own-lost line end before after (Err lost) P lacks number says same =
+      record { number = number; says = says-lost lost says; paged = tt; unpaged = same }
 
   -- the lines left begin with the one at its place
   pub own-next : (lines : List Line) (place : ℕ) (line : Line) (before now : Worker C) → place < length lines
-      → line ≡ get_or lines place line → ReachesOwn said_by table lines (drop place lines) before now
-      → ReachesOwn said_by table lines (line ∷ drop (place + 1) lines) before now
+      → line ≡ get_or lines place line → ReachesOwn callers table lines (drop place lines) before now
+      → ReachesOwn callers table lines (line ∷ drop (place + 1) lines) before now
   own-next lines place line before now within is reached =
-      subst (λ (rest : List Line). ReachesOwn said_by table lines rest before now)
+      subst (λ (rest : List Line). ReachesOwn callers table lines rest before now)
       (at_drop_more (λ (ls : List Line). ls) lines place line within
       ∙ ap (λ l. l ∷ drop (place + 1) lines) (sym is)) reached
 
   -- all lines were typed
-  pub own-typed : (lines : List Line) (before now : Worker C) → ReachesOwn said_by table lines [] before now
-      → LeavesOwnLines said_by table lines (Ok tt) before now
+  pub own-typed : (lines : List Line) (before now : Worker C) → ReachesOwn callers table lines [] before now
+      → LeavesOwnLines callers table lines (Ok tt) before now
   own-typed lines before now reached = record {
     dialog = reached.dialog;
     new = reached.new;

@@ -1,4 +1,6 @@
 pub mod Callers
+pub mod LineLaws
+pub mod Lines
 pub mod MapLaws
 pub mod Pages
 pub mod Playing

@@ -1,16 +1,12 @@
 -- Maps by number, one entry after another.
-use Rattle.std.proofs.Common.{◌≡◌, subst, refl, ℕ, ◌<◌, ◌==◌, false, None, Some, Less}
+use Rattle.std.proofs.Common.{◌≡◌, subst, refl, ℕ, ◌<◌, ◌==◌, false, None, Some}
 use Rattle.std.proofs.Common.{Equal, List, [], ◌∷◌, ◌++◌, ◌+◌, ◌≤◌, length, map, arith}
 use Rattle.std.specs.BTreeMap.{insert_entry, is_at}
 use Rattle.std.specs.Bool.{⊤}
 use Rattle.std.specs.Cmp.{nat_cmp_total}
-use Rattle.std.specs.List.Sorted.{IsStrictlySortedBy}
-use Rattle.std.specs.Map.{keys_of, lookup, set_value}
+use Rattle.std.specs.Map.{lookup, set_value}
 use Rattle.std.specs.Ordering.{nat_cmp, is_eq}
 use Rattle.std.proofs.lemmas.Cmp.{tied_itself}
-use Rattle.std.proofs.lemmas.Map.{lookup-none}
-use Rattle.std.proofs.lemmas.Map.Entries.{none_below_head}
-use Rattle.std.proofs.lemmas.Map.Keys.{sorted_tail}
 
 -- a number compares to itself as equal
 itself : (number : ℕ) → nat_cmp number number ≡ Equal
@@ -56,21 +52,6 @@ module _ {A : Type 0} where
   there-unset [] number value other differ = refl
   there-unset (entry ∷ entries) number value other differ =
       grind (arith, apart other number differ, there-unset entries number value other differ)
-
-  -- a value that is set in the place of a number is put there, where there was one and the keys ascend
-  pub set_put : (entries : List (ℕ × A)) (number : ℕ) (before value : A)
-      → IsStrictlySortedBy nat_cmp (keys_of entries) → lookup (is_at (nat_cmp number)) entries ≡ Some before
-      → set_value (is_at (nat_cmp number)) entries value ≡ insert_entry nat_cmp entries number value
-  set_put [] number before value ascend is = absurd (cc is)
-  set_put (entry ∷ entries) number before value ascend is =
-      grind (
-        arith,
-        is,
-        λ (less : nat_cmp number entry.0 ≡ Less).
-            lookup-none (is_at (nat_cmp number)) (entry ∷ entries)
-            (none_below_head nat_cmp_total number entry entries ascend less),
-        set_put entries number before value (sorted_tail nat_cmp entry.0 (keys_of entries) ascend),
-      )
 
   -- the keys of a map are greater than a number
   abbrev pub AreAbove : ℕ → List (ℕ × A) → Type 0

@@ -6,31 +6,37 @@ use Rattle.std.specs.List.{list_all}
 use Rattle.std.specs.Ordering.{nat_cmp}
 use Rattle.romaji_rules.specs.declared.rule.Rule.{Rule}
 use Rattle.skk_calls.specs.declared.answer.Answer.{Answer}
-use Rattle.skk_calls.specs.Interactions.{ends, asked, Dialog, Comes, Begins, Leads, calls_of, answers_of}
+use Rattle.skk_calls.specs.declared.caller.Caller.{Ghosts as CallerGhosts}
+use Rattle.skk_calls.specs.declared.caller.Kept.{Ghosts as KeptGhosts}
+use Rattle.skk_calls.specs.Interactions.{ends, asked, Dialog, Leads, calls_of, answers_of}
 use Rattle.skk_text.specs.declared.memory.Memory.{Memory}
 use Rattle.key_scripts.specs.declared.line.Line.{Line}
 use Rattle.key_scripts.specs.declared.line.Line.TheVariants.{Keys, Opening}
-use Rattle.session_machine.specs.Pressed.{all_pressed}
+use Rattle.session_machine.specs.Said.{Says, spoken, after as session_after}
 use Rattle.session_machine.specs.Session.{Session, new_session}
 use Rattle.script_typing.specs.declared.typed.Typed.{Typed}
 use Rattle.script_typing.specs.declared.worker.Worker.{Worker}
 use Rattle.script_typing.specs.Pages.{PageList, PageMap, woven_pages, text_of_pages}
 use Rattle.script_typing.specs.Callers.{CountFrom, HaveAsked}
+use Rattle.script_typing.specs.Lines.{line_played}
 use Rattle.script_typing.specs.Printing.{output_line}
 use Rattle.script_typing.specs.Sessions.{SessionMap}
 use Rattle.script_typing.specs.Typed.{closing_lines}
 use Rattle.script_typing.specs.Woven.{Tasks, Given, own_typing, task_typing, taken, woven, numbers_printed}
 
+-- the page that a line prints: keys the output line of their session, and an opening line none
+abbrev pub pages_printed : ℕ → Line → Session → PageList
+pages_printed number (Keys named ks) session = output_line number session ∷ []
+pages_printed number (Opening named typist book) session = []
+
 -- the output lines of a session's own lines that are taken whole, where it takes its answers from the head of these
 abbrev pub own_pages : List Rule → ℕ → Session → List Line → List Answer → PageList
 own_pages rules number session [] answers = []
-own_pages rules number session (Keys named ks ∷ lines) answers =
-    elim (taken (all_pressed rules session ks) answers) [
+own_pages rules number session (line ∷ lines) answers =
+    elim (taken (line_played rules session line) answers) [
       | None ↦ []
-      | Some (after, rest) ↦ output_line number after ∷ own_pages rules number after lines rest
+      | Some (after, rest) ↦ pages_printed number line after ++ own_pages rules number after lines rest
     ]
-own_pages rules number session (Opening named typist book ∷ lines) answers =
-    own_pages rules number (new_session typist book) lines answers
 
 -- Workers
 
@@ -40,42 +46,30 @@ IsNew number lines worker =
     (worker.number ≡ number) × (worker.lines ≡ lines) × (worker.session ≡ new_session number number)
     × (worker.pages ≡ []) × (worker.ended ≡ Ok tt)
 
--- what the typing of a line comes to: what its keys ask was said, and it printed a page; or it opens a session
-abbrev pub TypesOwnLine : List Rule → ℕ → Line → Session → Session → Dialog → PageList → PageList → Type 0
-TypesOwnLine rules number (Keys named ks) session after dialog pages pages' =
-    Comes (all_pressed rules session ks) dialog after × (pages' ≡ pages ++ output_line number after ∷ [])
-TypesOwnLine rules number (Opening named typist book) session after dialog pages pages' =
-    (after ≡ new_session typist book) × (dialog ≡ []) × (pages' ≡ pages)
-
--- the first of what a line asks was said
-abbrev pub BeginsOwnLine : List Rule → Line → Session → Dialog → Type 0
-BeginsOwnLine rules (Keys named ks) session dialog = Begins (all_pressed rules session ks) dialog
-BeginsOwnLine rules (Opening named typist book) session dialog = dialog ≡ []
-
 -- what a step of a worker leaves alone
-abbrev pub StaysOwn : {C : Type 0} → (C → ℕ) → Worker C → Worker C → Type 0
-StaysOwn number_of before after =
-    (after.number ≡ before.number) × (number_of after.caller ≡ number_of before.caller)
+abbrev pub StaysOwn : {C : Type 0} → CallerGhosts C → Worker C → Worker C → Type 0
+StaysOwn callers before after =
+    (after.number ≡ before.number) × (callers.number after.caller ≡ callers.number before.caller)
 
--- what the typing of a line makes of a worker
-pub record LeavesOwnLine {C : Type 0} (said_by : C → Dialog) (rules : List Rule) (line : Line)
+-- what the typing of a line makes of a worker: the line was played in its session, as far as memory was there, and
+-- where that was typed whole its page is there, if it prints one
+pub record TypesOwnLine {C : Type 0} (callers : CallerGhosts C) (rules : List Rule) (line : Line)
     (ended : Result (Unit {0}) Memory) (before after : Worker C) : Type 0 where
-  pub dialog : Dialog
-  pub grows : said_by after.caller ≡ said_by before.caller ++ dialog
-  pub ok : OnOk ended (TypesOwnLine rules before.number line before.session after.session dialog before.pages
-      after.pages)
-  pub memory : OnErr ended (BeginsOwnLine rules line before.session dialog
-      × (after.pages ≡ before.pages))
+  pub number : after.number ≡ before.number
+  pub says : Says (line_played rules before.session line) (session_after ended after.session)
+      (spoken callers.number callers.said before.caller) (spoken callers.number callers.said after.caller)
+  pub paged : OnOk ended (after.pages ≡ before.pages ++ pages_printed before.number line after.session)
+  pub unpaged : OnErr ended (after.pages ≡ before.pages)
 
 -- what the typing of a session's own lines makes of a worker: its caller has said what the lines ask, and pages were
 -- printed of those that are taken whole; where it was not out of memory the session is the one behind all lines, and
 -- all was said and printed
-pub record LeavesOwnLines {C : Type 0} (said_by : C → Dialog) (rules : List Rule) (lines : List Line)
+pub record LeavesOwnLines {C : Type 0} (callers : CallerGhosts C) (rules : List Rule) (lines : List Line)
     (ended : Result (Unit {0}) Memory) (before after : Worker C) : Type 0 where
   pub dialog : Dialog
   pub new : PageList
   pub rest : PageList
-  pub grows : said_by after.caller ≡ said_by before.caller ++ dialog
+  pub grows : callers.said after.caller ≡ callers.said before.caller ++ dialog
   pub asks : asked (own_typing rules before.session lines) (answers_of dialog) ≡ calls_of dialog
   pub paged : after.pages ≡ before.pages ++ new
   pub printed : own_pages rules before.number before.session lines (answers_of dialog) ≡ new ++ rest
@@ -83,28 +77,27 @@ pub record LeavesOwnLines {C : Type 0} (said_by : C → Dialog) (rules : List Ru
   pub leads : OnOk ended (Leads (own_typing rules before.session lines) dialog [] (ends after.session))
 
 -- what a run of a worker leaves
-pub record HasRun {C : Type 0} (number_of : C → ℕ) (said_by : C → Dialog) (rules : List Rule)
-    (before after : Worker C) : Type 0 where
-  pub stays : StaysOwn number_of before after
-  pub leaves : LeavesOwnLines said_by rules before.lines after.ended before after
+pub record HasRun {C : Type 0} (callers : CallerGhosts C) (rules : List Rule) (before after : Worker C) : Type 0 where
+  pub stays : StaysOwn callers before after
+  pub leaves : LeavesOwnLines callers rules before.lines after.ended before after
 
 -- new workers have the first of some tasks, each with a caller that has said nothing, and the numbers of these callers
 -- count on from the first
-abbrev pub AreHired : {C : Type 0} → (C → ℕ) → (C → Dialog) → ℕ → Tasks → List (Worker C) → Type 0
-AreHired number_of said_by first tasks [] = ⊤
-AreHired number_of said_by first [] (worker ∷ workers) = ⊥
-AreHired number_of said_by first (task ∷ tasks) (worker ∷ workers) =
-    IsNew task.0 task.1 worker × (number_of worker.caller ≡ first) × (said_by worker.caller ≡ [])
-    × AreHired number_of said_by (first + 1) tasks workers
+abbrev pub AreHired : {C : Type 0} → CallerGhosts C → ℕ → Tasks → List (Worker C) → Type 0
+AreHired callers first tasks [] = ⊤
+AreHired callers first [] (worker ∷ workers) = ⊥
+AreHired callers first (task ∷ tasks) (worker ∷ workers) =
+    IsNew task.0 task.1 worker × (callers.number worker.caller ≡ first) × (callers.said worker.caller ≡ [])
+    × AreHired callers (first + 1) tasks workers
 
 -- slips are what is left of the callers of workers, in their order
-abbrev pub AreRested : {C S : Type 0} → (C → ℕ) → (C → Dialog) → (S → ℕ) → (S → Dialog) → List (Worker C) → List S
+abbrev pub AreRested : {C S : Type 0} → CallerGhosts C → KeptGhosts S → List (Worker C) → List S
     → Type 0
-AreRested number_of said_by slip_number slip_said [] [] = ⊤
-AreRested number_of said_by slip_number slip_said (worker ∷ workers) (slip ∷ slips) =
-    (slip_number slip ≡ number_of worker.caller) × (slip_said slip ≡ said_by worker.caller)
-    × AreRested number_of said_by slip_number slip_said workers slips
-AreRested number_of said_by slip_number slip_said workers slips = ⊥
+AreRested callers kept [] [] = ⊤
+AreRested callers kept (worker ∷ workers) (slip ∷ slips) =
+    (kept.number slip ≡ callers.number worker.caller) × (kept.said slip ≡ callers.said worker.caller)
+    × AreRested callers kept workers slips
+AreRested callers kept workers slips = ⊥
 
 -- What is left of tasks
 

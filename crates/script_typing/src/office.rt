@@ -70,7 +70,7 @@ fn hire_all<W: Office<Pass: Drop>>(
     requires opens { All (λ lines. list_all opens_well lines ≡ true) (values_of tasks.entries) }
     requires none { workers.old.items ≡ [] }
     requires room { length tasks.entries ≤ vec_capacity workers.old }
-    ensures hired { AreHired W.Pass.number W.Pass.said (W.drawn roll.old) tasks.entries workers.new.items }
+    ensures hired { AreHired W.Pass.Caller (W.drawn roll.old) tasks.entries workers.new.items }
     ensures all { OnOk result (length workers.new.items ≡ length tasks.entries) }
     ensures few { length workers.new.items ≤ length tasks.entries }
     ensures drawn { W.drawn roll.new ≡ W.drawn roll.old + length workers.new.items }
@@ -94,8 +94,7 @@ fn run_all<R: Threads + Sync, C: Caller + Send, G: Gate + Sync>(
 )
     ensures same { length workers.new.items ≡ length workers.old.items }
     ensures each { (i : ℕ) (d : _) → i < length workers.old.items
-        → HasRun C.number C.said rules.now (slice_index_or workers.old.items i d)
-        (slice_index_or workers.new.items i d) }
+        → HasRun C.Caller rules.now (slice_index_or workers.old.items i d) (slice_index_or workers.new.items i d) }
 {
     if workers.is_empty() {
         return;
@@ -119,7 +118,7 @@ fn rest_all<W: Office<Pass: Drop>>(
     requires none { slips.old.items ≡ [] }
     requires room { length workers.items ≤ vec_capacity slips.old }
     requires ascend { Ascend (map (λ worker. (worker.number, worker.session)) workers.items) }
-    ensures rested { AreRested W.Pass.number W.Pass.said W.Slip.number W.Slip.said workers.items slips.new.items }
+    ensures rested { AreRested W.Pass.Caller W.Slip.Kept workers.items slips.new.items }
     ensures left { IfOk result (IsLeftOf workers.items) }
 {
     let mut typed = Ok(Typed::new(alloc));

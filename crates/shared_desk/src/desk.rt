@@ -45,8 +45,8 @@ impl<D: Disk, N: DeskName + LearnedName, R: Wait + Copy> Desk<D, N, R> {
         pen: Pen,
         roll: RollSeat,
     ) -> Result<(Desk<D, N, R>, Roll<N>), NoDesk<D>>
-        requires calm { Keeps D.time D.left_since store.journal store.state None }
-        requires named { N.opening ≡ opening_now D.time D.faults store }
+        requires calm { Keeps D.Disk store.journal store.state None }
+        requires named { N.opening ≡ opening_now D.Disk store }
         requires past { SameImages N.past (D.left_since store.journal.disk) }
         requires history { history ≡ N.table }
         requires pen { pen ≡ record { table = history; seen = []; ended = []; roll = None } }
@@ -83,7 +83,7 @@ impl<D: Disk, N: DeskName + LearnedName, R: Wait + Copy> Desk<D, N, R> {
 
         // What the history and the disk stand for.
         ensures stands { (store : OpenStore _) × (result.disk ≡ store.journal.disk)
-            × Stands D.time D.faults D.left_since N.opening N.past result.chronicle store }
+            × Stands D.Disk N.opening N.past result.chronicle store }
         ensures now { RecoverAmong (state_after N.opening.state (history_of result.chronicle))
             (left_behind N.opening.state result.chronicle) (D.left_since result.disk (D.time result.disk)) }
         ensures since { (start : ℕ) →

@@ -5,6 +5,8 @@ pub mod MadeCallLaws
 pub mod MadeCalls
 pub mod MomentLaws
 pub mod Moments
+pub mod RunLaws
+pub mod Runs
 pub mod StepLaws
 pub mod Steps
 pub mod SyncLaws

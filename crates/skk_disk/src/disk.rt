@@ -7,15 +7,18 @@ ghost use Rattle.skk_disk.specs.Steps.{placed, PartlyWritten, PartlyCut, InFile,
 ghost use Rattle.skk_disk.specs.Moments.{Passes, SameImages, Earlier, Apart};
 
 use crate::which::Which;
-use skk_outside::{Failed, Outside};
+use skk_outside::Failed;
 
 /// A device with two files. A type of disk tells what it holds, or tells nothing of it.
 ///
 /// An image is what a stop might leave of both files. A write, a cut or a sync that fails may have done any part of its
 /// work, and what stands after it is said as of one that went well, by the images since the call's start.
-pub trait Disk: Outside {
+pub trait Disk {
     /// Whether disks of this type tell what they hold.
     ghost tells: { Type 0 };
+
+    /// How many of its calls failed, up to 2^64 - 1. It never falls.
+    ghost faults: { Self → ℕ };
 
     /// The time, a number that never falls.
     ghost time: { Self → ℕ };
@@ -32,8 +35,8 @@ pub trait Disk: Outside {
         ensures seen { seen self.new ≡ seen self.old }
         ensures time { time self.new ≡ time self.old }
         ensures images { SameImages (left_since self.old) (left_since self.new) }
-        ensures failed { OnErr result (Rose (Self.faults self.old) (Self.faults self.new)) }
-        ensures counted { Self.faults self.old ≤ Self.faults self.new };
+        ensures failed { OnErr result (Rose (faults self.old) (faults self.new)) }
+        ensures counted { faults self.old ≤ faults self.new };
 
     /// Reads bytes of a file from a place on into the head of `into`, and answers how many: 0 only where
     /// the file ends by then, or where `into` has no room.
@@ -43,8 +46,8 @@ pub trait Disk: Outside {
         ensures seen { seen self.new ≡ seen self.old }
         ensures time { time self.new ≡ time self.old }
         ensures images { SameImages (left_since self.old) (left_since self.new) }
-        ensures failed { OnErr result (Rose (Self.faults self.old) (Self.faults self.new)) }
-        ensures counted { Self.faults self.old ≤ Self.faults self.new };
+        ensures failed { OnErr result (Rose (faults self.old) (faults self.new)) }
+        ensures counted { faults self.old ≤ faults self.new };
 
     /// Writes bytes at a place of a file. Until the file's next sync a stop may leave any bytes in their
     /// range.
@@ -57,8 +60,8 @@ pub trait Disk: Outside {
             (left_since self.old (time self.old)) (left_since self.new (time self.old)) }
         ensures past { Passes (time self.old) (time self.new) (left_since self.old) (left_since self.new) }
         ensures later { OnOk result (tells → time self.old < time self.new) }
-        ensures failed { OnErr result (Rose (Self.faults self.old) (Self.faults self.new)) }
-        ensures counted { Self.faults self.old ≤ Self.faults self.new };
+        ensures failed { OnErr result (Rose (faults self.old) (faults self.new)) }
+        ensures counted { faults self.old ≤ faults self.new };
 
     /// Cuts a file to a length, where it is longer.
     fn cut(&mut self, file: Which, len: u64) -> Result<(), Failed>
@@ -69,8 +72,8 @@ pub trait Disk: Outside {
             (left_since self.old (time self.old)) (left_since self.new (time self.old)) }
         ensures past { Passes (time self.old) (time self.new) (left_since self.old) (left_since self.new) }
         ensures later { OnOk result (tells → time self.old < time self.new) }
-        ensures failed { OnErr result (Rose (Self.faults self.old) (Self.faults self.new)) }
-        ensures counted { Self.faults self.old ≤ Self.faults self.new };
+        ensures failed { OnErr result (Rose (faults self.old) (faults self.new)) }
+        ensures counted { faults self.old ≤ faults self.new };
 
     /// Makes a file durable: after it a stop leaves of the file what a read gives.
     fn sync(&mut self, file: Which) -> Result<(), Failed>
@@ -81,8 +84,8 @@ pub trait Disk: Outside {
             left_since self.old (time self.old) image }
         ensures past { Passes (time self.old) (time self.new) (left_since self.old) (left_since self.new) }
         ensures later { OnOk result (tells → time self.old < time self.new) }
-        ensures failed { OnErr result (Rose (Self.faults self.old) (Self.faults self.new)) }
-        ensures counted { Self.faults self.old ≤ Self.faults self.new };
+        ensures failed { OnErr result (Rose (faults self.old) (faults self.new)) }
+        ensures counted { faults self.old ≤ faults self.new };
 
     /// What a stop since a moment might have left, one since an earlier moment might have left.
     ghost earlier: { (disk : Self) → Earlier (left_since disk) };

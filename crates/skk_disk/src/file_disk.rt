@@ -6,7 +6,7 @@ ghost use Rattle.skk_disk.specs.Image.{empty_image};
 use crate::disk::Disk;
 use crate::host_file::HostFile;
 use crate::which::Which;
-use skk_outside::{Count, Failed, Outside};
+use skk_outside::{Count, Failed};
 use skk_text::Text;
 use std::fs::{File, Files};
 use std::io;
@@ -27,7 +27,7 @@ pub struct FileDisk<R: Files<File = File>> {
 impl<R: Files<File = File>> FileDisk<R> {
     /// The two files of these names that the runtime opens. Takes no memory.
     pub fn new(files: R, a: Text, b: Text) -> FileDisk<R>
-        ensures { ⟦<FileDisk<R> as Outside>⟧.faults result ≡ 0 }
+        ensures { ⟦<FileDisk<R> as Disk>⟧.faults result ≡ 0 }
     {
         FileDisk {
             files,
@@ -38,12 +38,10 @@ impl<R: Files<File = File>> FileDisk<R> {
     }
 }
 
-impl<R: Files<File = File>> Outside for FileDisk<R> {
-    ghost faults = { λ d. d.faults };
-}
-
 impl<R: Files<File = File>> Disk for FileDisk<R> {
     ghost tells = { ⊥ };
+
+    ghost faults = { λ d. d.faults };
 
     ghost time = { λ d. 0 };
 

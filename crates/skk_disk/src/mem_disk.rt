@@ -14,7 +14,7 @@ use crate::call_record::CallRecord;
 use crate::disk::Disk;
 use crate::made_call::MadeCall;
 use crate::which::Which;
-use skk_outside::{Calls, Failed, Outside, copy_what_fits};
+use skk_outside::{Calls, Failed, copy_what_fits};
 use std::alloc::Global;
 use std::marker::Model;
 
@@ -112,12 +112,10 @@ impl MemDisk {
     }
 }
 
-impl Outside for MemDisk {
-    ghost faults = { λ m. m.count.faults };
-}
-
 impl Disk for MemDisk {
     ghost tells = { ⊤ };
+
+    ghost faults = { λ m. m.count.faults };
 
     ghost time = { λ m. length m.made };
 

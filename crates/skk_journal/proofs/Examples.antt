@@ -9,6 +9,7 @@ use Rattle.exact_readers.specs.ExactLaws.{whole-complete}
 use Rattle.exact_readers.specs.Formats.{then_at, taken, whole}
 use Rattle.exact_readers.specs.Numbers.{number_bytes, number_of, number_step}
 use Rattle.exact_readers.specs.NumberLaws.{number-exact, told_32}
+use Rattle.skk_disk.specs.declared.disk.Disk.{Ghosts}
 use Rattle.skk_disk.specs.Image.{Image}
 use Rattle.skk_disk.specs.declared.which.Which.{Which}
 use Rattle.skk_disk.specs.declared.which.Which.TheVariants.{A, B}
@@ -757,13 +758,22 @@ steps_to_blank : map nearer (idles.Blank ∷ idles.Loose ∷ idles.Stray ∷ [])
     ≡ idles.Blank ∷ idles.Blank ∷ idles.Loose ∷ []
 steps_to_blank = refl
 
--- on a disk of which a stop leaves one image, a new journal rests with no records: at their end alone, and only where
--- nothing is in doubt
+-- a disk of which a stop leaves one image, and which tells nothing else
+abbrev always : Image → Ghosts ℕ
+always left = record {
+  tells = ⊥;
+  faults = λ n. 0;
+  time = λ n. n;
+  seen = λ n. left;
+  left_since = λ n t image. image ≡ left;
+}
+
+-- on such a disk a new journal rests with no records: at their end alone, and only where nothing is in doubt
 abbrev new_image : Image
 new_image = record { a = front 1 (in_one []) ++ 0 ∷ []; b = [] }
 
 abbrev rests_with : OpenJournal ℕ → Type 0
-rests_with journal = Rests (λ n. n) (λ n t image. image ≡ new_image) journal (in_one [])
+rests_with journal = Rests (always new_image) journal (in_one [])
 
 rested : rests_with new_journal × rests_with (record new_journal { newest = 2 })
     × (¬ rests_with (record new_journal { end = 17 }))
@@ -794,8 +804,7 @@ abbrev turned_image : Image
 turned_image = record { a = learnt_file; b = versioned_by 2 1 ++ 2 ∷ 0 ∷ 0 ∷ 0 ∷ 0 ∷ 0 ∷ 0 ∷ 0 ∷ 0 ∷ [] }
 
 abbrev doubts_with : OpenJournal ℕ → Type 0
-doubts_with journal =
-    Doubts (λ n. n) (λ n t image. image ≡ turned_image) journal (in_one (learning ∷ [])) (in_two [])
+doubts_with journal = Doubts (always turned_image) journal (in_one (learning ∷ [])) (in_two [])
 
 abbrev turned_journal : OpenJournal ℕ
 turned_journal = record {

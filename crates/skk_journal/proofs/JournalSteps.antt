@@ -1,6 +1,7 @@
 -- What the steps of an open journal leave of both files, in each image.
 use Rattle.std.proofs.Common.{◌≡◌, inl, ℕ, ◌+◌, List, true, false, sym, ◌∙◌, ap, subst, arith, refl}
 use Rattle.std.specs.Prelude.{Some, All}
+use Rattle.skk_disk.specs.declared.disk.Disk.{Ghosts}
 use Rattle.skk_disk.specs.Image.{Image, part, other}
 use Rattle.skk_disk.specs.Moments.{Passes}
 use Rattle.skk_disk.specs.MomentLaws.{each_within}
@@ -187,24 +188,24 @@ module _ (newest start mid end : ℕ) (first second third : ℕ → Image → Ty
       (ready_filled newest live contents others _ right small sized
       (filling_ends newest live contents others file is _ _ idle bytes same readies each)))
 
-module _ {D : Type 0} (time : D → ℕ) (left_since : D → ℕ → Image → Type 0) (inside viewed : OpenJournal D)
+module _ {D : Type 0} (disk : Ghosts D) (inside viewed : OpenJournal D)
     (doubt : Doubt) (is : inside.doubt ≡ doubt) where
   -- what each image has where this is in doubt
-  pub doubted : (contents others : Contents) → inside ≡ viewed → Doubts time left_since viewed contents others
+  pub doubted : (contents others : Contents) → inside ≡ viewed → Doubts disk viewed contents others
       → (inside.end ≡ end_of contents.records) × (inside.live.version ≡ contents.version)
-      × Each (left_since inside.disk (time inside.disk))
+      × Each (disk.left_since inside.disk (disk.time inside.disk))
       (HoldsDoubt inside.newest inside.live inside.idle doubt contents others)
   doubted contents others same in_doubt =
-      let start = subst (λ (j : OpenJournal D). Doubts time left_since j contents others) (sym same) in_doubt in (
+      let start = subst (λ (j : OpenJournal D). Doubts disk j contents others) (sym same) in_doubt in (
         start.end,
         start.version,
-        subst (λ (d : Doubt). Each (left_since inside.disk (time inside.disk))
+        subst (λ (d : Doubt). Each (disk.left_since inside.disk (disk.time inside.disk))
             (HoldsDoubt inside.newest inside.live inside.idle d contents others)) is start.images,
       )
 
   -- a journal that rests has no doubt
   pub no_doubt : (contents : Contents) → inside ≡ viewed → is_in_doubt doubt ≡ true
-      → Rests time left_since viewed contents → ⊥
+      → Rests disk viewed contents → ⊥
   no_doubt contents same some rests =
-      let start = subst (λ (j : OpenJournal D). Rests time left_since j contents) (sym same) rests in
+      let start = subst (λ (j : OpenJournal D). Rests disk j contents) (sym same) rests in
       let both : true ≡ false = sym some ∙ sym (ap is_in_doubt is) ∙ start.calm in cc

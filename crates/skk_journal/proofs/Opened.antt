@@ -1,7 +1,8 @@
 -- What is known of both files by the choice that was read.
 use Rattle.std.proofs.Common.{◌≡◌, ℕ, List, [], Result, Ok, Err, IfOk, refl, sym, ◌∙◌, ap, subst}
 use Rattle.skk_disk.specs.Image.{Image, part, other}
-use Rattle.skk_disk.specs.Moments.{SameImages}
+use Rattle.skk_disk.specs.declared.disk.Disk.{Ghosts}
+use Rattle.skk_disk.specs.Runs.{OnlyReads}
 use Rattle.skk_disk.specs.Steps.{InFile, ComeFrom}
 use Rattle.skk_disk.specs.StepLaws.{no_step, then}
 use Rattle.skk_disk.specs.declared.which.Which.{Which}
@@ -93,68 +94,62 @@ pub each_same : (images : Image → Type 0) (seen : Image) (P : Image → Type 0
     → P seen → Each images P
 each_same images seen P same is image left = subst P (sym (same image left)) is
 
-module _ {D : Type 0} (time : D → ℕ) (left_since : D → ℕ → Image → Type 0) (start new : D)
-    (same : SameImages (left_since start) (left_since new)) where
+module _ {D : Type 0} (disk : Ghosts D) (start new : D) (reads : OnlyReads disk start new) where
   -- what each image had before a read
-  pub each_since : (P : Image → Type 0) → Each (left_since start (time start)) P → Each (left_since new (time start)) P
-  each_since P each image left = each image (same.no_more (time start) image left)
+  pub each_since : (P : Image → Type 0) → Each (disk.left_since start (disk.time start)) P
+      → Each (disk.left_since new (disk.time start)) P
+  each_since P each image left = each image (reads.images.no_more (disk.time start) image left)
 
-  pub each_now : (P : Image → Type 0) → time new ≡ time start → Each (left_since start (time start)) P
-      → Each (left_since new (time new)) P
-  each_now P then each image left =
-      each image (subst (λ (t : ℕ). left_since start t image) then (same.no_more (time new) image left))
+  pub each_now : (P : Image → Type 0) → Each (disk.left_since start (disk.time start)) P
+      → Each (disk.left_since new (disk.time new)) P
+  each_now P each image left =
+      each image (subst (λ (t : ℕ). disk.left_since start t image) reads.time (reads.images.no_more (disk.time new)
+      image left))
 
   -- what each image is opened with, where there was one, it is opened with after a read
   pub read_opens : (newest : ℕ) (seen : Image) (contents : Contents)
-      → Each (left_since start (time start)) (λ image. image ≡ seen) → Opens newest contents seen
-      → Each (left_since new (time start)) (StillOpens newest seen contents)
+      → Each (disk.left_since start (disk.time start)) (λ image. image ≡ seen) → Opens newest contents seen
+      → Each (disk.left_since new (disk.time start)) (StillOpens newest seen contents)
   read_opens newest seen contents one opens =
       each_since (StillOpens newest seen contents)
       (each_same _ seen (StillOpens newest seen contents) one (still_opens newest seen contents opens))
 
   -- a read changes no file
-  pub read_alone : ComeFrom (InFile A Anyhow) (left_since start (time start)) (left_since new (time start))
-  read_alone = no_step A Anyhow _ _ (λ bytes. tt) (λ image left. same.no_more (time start) image left)
+  pub read_alone : ComeFrom (InFile A Anyhow) (disk.left_since start (disk.time start))
+      (disk.left_since new (disk.time start))
+  read_alone = no_step A Anyhow _ _ (λ bytes. tt) (λ image left. reads.images.no_more (disk.time start) image left)
 
   -- a step in the first file behind it changes that one alone
-  pub read_step : (last : ℕ → Image → Type 0) → time new ≡ time start
-      → ComeFrom (InFile A Anyhow) (left_since new (time new)) (last (time new))
-      → ComeFrom (InFile A Anyhow) (left_since start (time start)) (last (time start))
-  read_step last no_later step =
-      then A Anyhow Anyhow Anyhow (left_since start (time start)) (left_since new (time start)) (last (time start))
-      (λ old between new one two. tt) read_alone
-      (subst (λ (t : ℕ). ComeFrom (InFile A Anyhow) (left_since new t) (last t)) no_later step)
+  pub read_step : (last : ℕ → Image → Type 0)
+      → ComeFrom (InFile A Anyhow) (disk.left_since new (disk.time new)) (last (disk.time new))
+      → ComeFrom (InFile A Anyhow) (disk.left_since start (disk.time start)) (last (disk.time start))
+  read_step last step =
+      then A Anyhow Anyhow Anyhow (disk.left_since start (disk.time start)) (disk.left_since new (disk.time start))
+      (last (disk.time start)) (λ old between new one two. tt) read_alone
+      (subst (λ (t : ℕ). ComeFrom (InFile A Anyhow) (disk.left_since new t) (last t)) reads.time step)
 
-  module _ (newest : ℕ) (seen : Image) (one : Each (left_since start (time start)) (λ image. image ≡ seen))
-      (no_later : time new ≡ time start) (chosen : Chosen) (is : choice newest seen ≡ NoLive)
+  module _ (newest : ℕ) (seen : Image) (one : Each (disk.left_since start (disk.time start)) (λ image. image ≡ seen))
+      (chosen : Chosen) (is : choice newest seen ≡ NoLive)
       (first : chosen.first ≡ idle_of seen.a) (second : chosen.second ≡ idle_of seen.b) where
     -- where none is live, both files of each image are known to be fresh
-    pub none_each : Each (left_since new (time new))
+    pub none_each : Each (disk.left_since new (disk.time new))
         (Sides A (IsFreshAs newest chosen.first) (IsFreshAs newest chosen.second))
-    none_each = each_now _ no_later (each_same _ seen _ one (none_sides newest seen chosen is first second))
+    none_each = each_now _ (each_same _ seen _ one (none_sides newest seen chosen is first second))
 
     -- a filling by which each image is opened with no records leaves it opened so
     pub none_fills : (last : ℕ → Image → Type 0) (contents : Contents)
-        → (Each (left_since new (time new))
+        → (Each (disk.left_since new (disk.time new))
         (Sides A (IsFreshAs newest chosen.first) (IsFreshAs newest chosen.second))
-        → Each (last (time new)) (OpensRecords newest []))
-        → Opens newest contents seen → Each (last (time start)) (StillOpens newest seen contents)
+        → Each (last (disk.time new)) (OpensRecords newest []))
+        → Opens newest contents seen → Each (last (disk.time start)) (StillOpens newest seen contents)
     none_fills last contents fills opens image left =
         let none = none_there newest seen contents is opens in
         record {
           records =
               subst (λ (c : Contents). OpensRecords newest c.records image) (sym none)
-              (fills none_each image (subst (λ (t : ℕ). last t image) (sym no_later) left));
+              (fills none_each image (subst (λ (t : ℕ). last t image) (sym reads.time) left));
           live = λ some. absurd (some is);
         }
-
--- one read and then another one
-pub reads_on : (first second third : ℕ → Image → Type 0) → SameImages first second → SameImages second third
-    → SameImages first third
-reads_on first second third one two = record {
-  no_more = λ t image left. one.no_more t image (two.no_more t image left);
-  no_fewer = λ t image left. two.no_fewer t image (one.no_fewer t image left);
-}
 
 -- an image with both files of another one is that
 pub same_image : (c d : Image) → c.a ≡ d.a → c.b ≡ d.b → c ≡ d

@@ -1,5 +1,5 @@
 -- Each image is opened in some way.
-use Rattle.std.proofs.Common.{◌≡◌, inl, inr, ℕ, List, [], ◌++◌, drop, refl, sym, ◌∙◌, ap, subst}
+use Rattle.std.proofs.Common.{◌≡◌, inl, inr, ℕ, List, ◌++◌, drop, refl, sym, ◌∙◌, ap, subst}
 use Rattle.exact_readers.specs.Formats.{taken}
 use Rattle.exact_readers.specs.ManyLaws.{taken-sound}
 use Rattle.skk_disk.specs.Image.{Image, part}

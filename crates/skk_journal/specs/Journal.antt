@@ -1,5 +1,6 @@
 -- An open journal, and what each image of its disk has.
 use Rattle.std.specs.Prelude.{◌≡◌, ℕ, Bool, true, false, Some, List, All}
+use Rattle.skk_disk.specs.declared.disk.Disk.{Ghosts}
 use Rattle.skk_disk.specs.Image.{Image}
 use Rattle.skk_journal.specs.declared.live.Live.{Live}
 use Rattle.skk_journal.specs.declared.live.Idle.{Idle}
@@ -48,12 +49,11 @@ Holds newest live idle contents =
     Sides live.file (HasContents newest live.generation contents) (IsKnown newest (Some live) idle)
 
 -- nothing is in doubt, and each image that a stop now may leave has these contents
-pub record Rests {D : Type 0} (time : D → ℕ) (left_since : D → ℕ → Image → Type 0) (journal : OpenJournal D)
-    (contents : Contents) : Type 0 where
+pub record Rests {D : Type 0} (disk : Ghosts D) (journal : OpenJournal D) (contents : Contents) : Type 0 where
   pub calm : is_in_doubt journal.doubt ≡ false
   pub version : journal.live.version ≡ contents.version
   pub end : journal.end ≡ end_of contents.records
-  pub images : Each (left_since journal.disk (time journal.disk))
+  pub images : Each (disk.left_since journal.disk (disk.time journal.disk))
       (Holds journal.newest journal.live journal.idle contents)
 
 -- both files of an image, where others may count than these contents: a record stands behind some gate of the live
@@ -66,10 +66,9 @@ HoldsDoubt newest live idle doubts.Idle contents others image =
     Sides live.file (HasContents newest live.generation contents) (IsFilled newest live others) image
 
 -- others may count than these contents, in each image that a stop now may leave
-pub record Doubts {D : Type 0} (time : D → ℕ) (left_since : D → ℕ → Image → Type 0) (journal : OpenJournal D)
-    (contents others : Contents) : Type 0 where
+pub record Doubts {D : Type 0} (disk : Ghosts D) (journal : OpenJournal D) (contents others : Contents) : Type 0 where
   pub doubt : is_in_doubt journal.doubt ≡ true
   pub version : journal.live.version ≡ contents.version
   pub end : journal.end ≡ end_of contents.records
-  pub images : Each (left_since journal.disk (time journal.disk))
+  pub images : Each (disk.left_since journal.disk (disk.time journal.disk))
       (HoldsDoubt journal.newest journal.live journal.idle journal.doubt contents others)

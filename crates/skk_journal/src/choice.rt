@@ -1,6 +1,6 @@
-ghost use Rattle.std.specs.Prelude.{◌≡◌, ◌≤◌, length, IfOk, OnErr};
+ghost use Rattle.std.specs.Prelude.{◌≡◌, length, IfOk, OnErr};
 ghost use Rattle.skk_outside.specs.Faults.{Rose};
-ghost use Rattle.skk_disk.specs.Moments.{SameImages};
+ghost use Rattle.skk_disk.specs.Runs.{OnlyReads};
 ghost use Rattle.skk_journal.specs.declared.journal.TheConstants.{PIECE_ROOM};
 ghost use Rattle.skk_journal.specs.Generations.{first_counts};
 ghost use Rattle.skk_journal.specs.Choice.{lives, choice_of, choice, ChoosesVersion};
@@ -109,11 +109,8 @@ pub(crate) fn read_choice<D: Disk>(
     ensures first { D.tells → IfOk result (λ chosen. chosen.first ≡ idle_of (D.seen disk.old).a) }
     ensures second { D.tells → IfOk result (λ chosen. chosen.second ≡ idle_of (D.seen disk.old).b) }
     ensures room { length buffer.new ≡ PIECE_ROOM }
-    ensures seen { D.seen disk.new ≡ D.seen disk.old }
-    ensures time { D.time disk.new ≡ D.time disk.old }
-    ensures images { SameImages (D.left_since disk.old) (D.left_since disk.new) }
+    ensures only_reads { OnlyReads D.Disk disk.old disk.new }
     ensures failed { OnErr result (Rose (D.faults disk.old) (D.faults disk.new)) }
-    ensures counted { D.faults disk.old ≤ D.faults disk.new }
 {
     let first = read_front(disk, Which::A, newest, buffer)?;
     let second = read_front(disk, Which::B, newest, buffer)?;

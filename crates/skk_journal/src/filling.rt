@@ -1,7 +1,7 @@
-ghost use Rattle.std.specs.Prelude.{◌≡◌, ◌≤◌, ◌++◌, ◌∷◌, [], ℕ, OnOk, OnErr};
+ghost use Rattle.std.specs.Prelude.{◌≡◌, ◌++◌, ◌∷◌, [], ℕ, OnOk, OnErr};
 ghost use Rattle.skk_outside.specs.Faults.{Rose};
-ghost use Rattle.skk_disk.specs.Moments.{Passes};
-ghost use Rattle.skk_disk.specs.Steps.{InFile, ComeFrom, Makes};
+ghost use Rattle.skk_disk.specs.Runs.{Advances, ImagesAfter, ImagesWithin};
+ghost use Rattle.skk_disk.specs.Steps.{Makes};
 ghost use Rattle.skk_journal.specs.declared.live.Idle.TheVariants as idles;
 ghost use Rattle.skk_journal.specs.Filling.{IsAged};
 ghost use Rattle.skk_journal.specs.Idle.{IsStray, IsIdle, IsKnown, OtherFirst, FirstIs};
@@ -18,27 +18,22 @@ use skk_outside::Failed;
 
 // Writes another first byte: two calls.
 pub(crate) fn write_first<D: Disk>(disk: &mut D, file: Which, first: u8) -> Result<(), Failed>
-    ensures images { ComeFrom (InFile file OtherFirst)
-        (D.left_since disk.old (D.time disk.old)) (D.left_since disk.new (D.time disk.old)) }
-    ensures ok { OnOk result (ComeFrom (InFile file (FirstIs first))
-        (D.left_since disk.old (D.time disk.old)) (D.left_since disk.new (D.time disk.new))) }
-    ensures past { Passes (D.time disk.old) (D.time disk.new) (D.left_since disk.old) (D.left_since disk.new) }
+    ensures images { ImagesWithin D.Disk file OtherFirst disk.old disk.new }
+    ensures ok { OnOk result (ImagesAfter D.Disk file (FirstIs first) disk.old disk.new) }
+    ensures advances { Advances D.Disk disk.old disk.new }
     ensures failed { OnErr result (Rose (D.faults disk.old) (D.faults disk.new)) }
-    ensures counted { D.faults disk.old ≤ D.faults disk.new }
 {
     write_through(disk, file, 0, &[first])
 }
 
 // Writes this generation and a closed gate behind it into a stray file: two calls.
 fn age<D: Disk>(disk: &mut D, file: Which, generation: u64) -> Result<(), Failed>
-    ensures images { (newest : ℕ) → ComeFrom (InFile file (Makes (IsStray newest) (IsStray newest)))
-        (D.left_since disk.old (D.time disk.old)) (D.left_since disk.new (D.time disk.old)) }
+    ensures images { (newest : ℕ) →
+        ImagesWithin D.Disk file (Makes (IsStray newest) (IsStray newest)) disk.old disk.new }
     ensures ok { OnOk result ((newest : ℕ) →
-        ComeFrom (InFile file (Makes (IsStray newest) (IsAged newest generation)))
-        (D.left_since disk.old (D.time disk.old)) (D.left_since disk.new (D.time disk.new))) }
-    ensures past { Passes (D.time disk.old) (D.time disk.new) (D.left_since disk.old) (D.left_since disk.new) }
+        ImagesAfter D.Disk file (Makes (IsStray newest) (IsAged newest generation)) disk.old disk.new) }
+    ensures advances { Advances D.Disk disk.old disk.new }
     ensures failed { OnErr result (Rose (D.faults disk.old) (D.faults disk.new)) }
-    ensures counted { D.faults disk.old ≤ D.faults disk.new }
 {
     let piece = aged_piece(generation);
     write_through(disk, file, GENERATION_PLACE, &piece)
@@ -52,15 +47,13 @@ fn bring_nearer<D: Disk>(
     idle: &mut Idle,
 ) -> Result<(), Failed>
     ensures images { (newest : ℕ) →
-        ComeFrom (InFile file (Makes (IsKnown newest beside idle.old) (IsIdle newest beside)))
-        (D.left_since disk.old (D.time disk.old)) (D.left_since disk.new (D.time disk.old)) }
+        ImagesWithin D.Disk file (Makes (IsKnown newest beside idle.old) (IsIdle newest beside)) disk.old disk.new }
     ensures known { (newest : ℕ) →
-        ComeFrom (InFile file (Makes (IsKnown newest beside idle.old) (IsKnown newest beside idle.new)))
-        (D.left_since disk.old (D.time disk.old)) (D.left_since disk.new (D.time disk.new)) }
+        ImagesAfter D.Disk file (Makes (IsKnown newest beside idle.old) (IsKnown newest beside idle.new))
+        disk.old disk.new }
     ensures ok { OnOk result (idle.new ≡ nearer idle.old) }
-    ensures past { Passes (D.time disk.old) (D.time disk.new) (D.left_since disk.old) (D.left_since disk.new) }
+    ensures advances { Advances D.Disk disk.old disk.new }
     ensures failed { OnErr result (Rose (D.faults disk.old) (D.faults disk.new)) }
-    ensures counted { D.faults disk.old ≤ D.faults disk.new }
 {
     match *idle {
         Idle::Blank => Ok(()),
@@ -85,15 +78,13 @@ pub(crate) fn blank<D: Disk>(
     idle: &mut Idle,
 ) -> Result<(), Failed>
     ensures images { (newest : ℕ) →
-        ComeFrom (InFile file (Makes (IsKnown newest beside idle.old) (IsIdle newest beside)))
-        (D.left_since disk.old (D.time disk.old)) (D.left_since disk.new (D.time disk.old)) }
+        ImagesWithin D.Disk file (Makes (IsKnown newest beside idle.old) (IsIdle newest beside)) disk.old disk.new }
     ensures known { (newest : ℕ) →
-        ComeFrom (InFile file (Makes (IsKnown newest beside idle.old) (IsKnown newest beside idle.new)))
-        (D.left_since disk.old (D.time disk.old)) (D.left_since disk.new (D.time disk.new)) }
+        ImagesAfter D.Disk file (Makes (IsKnown newest beside idle.old) (IsKnown newest beside idle.new))
+        disk.old disk.new }
     ensures ok { OnOk result (idle.new ≡ idles.Blank) }
-    ensures past { Passes (D.time disk.old) (D.time disk.new) (D.left_since disk.old) (D.left_since disk.new) }
+    ensures advances { Advances D.Disk disk.old disk.new }
     ensures failed { OnErr result (Rose (D.faults disk.old) (D.faults disk.new)) }
-    ensures counted { D.faults disk.old ≤ D.faults disk.new }
 {
     bring_nearer(disk, file, beside, idle)?;
     bring_nearer(disk, file, beside, idle)

@@ -1,8 +1,7 @@
 ghost use Rattle.std.specs.Prelude.{◌≤◌, [], OnOk, OnErr};
 ghost use Rattle.skk_disk.specs.declared.which.Which.TheVariants.{A};
 ghost use Rattle.skk_outside.specs.Faults.{Rose};
-ghost use Rattle.skk_disk.specs.Moments.{Passes};
-ghost use Rattle.skk_disk.specs.Steps.{InFile, ComeFrom};
+ghost use Rattle.skk_disk.specs.Runs.{Advances, ImagesWithin};
 ghost use Rattle.skk_journal.specs.Filling.{IsNew};
 ghost use Rattle.skk_journal.specs.Generations.{first_live};
 ghost use Rattle.skk_journal.specs.Idle.{IsFreshAs};
@@ -35,11 +34,9 @@ pub(crate) fn fill_first<D: Disk>(
     ensures anew { OnOk result (
         Each (D.left_since disk.old (D.time disk.old)) (Sides A (IsFreshAs newest first) (IsFreshAs newest second)) →
         Each (D.left_since disk.new (D.time disk.new)) (IsNew newest)) }
-    ensures first_alone { ComeFrom (InFile A Anyhow)
-        (D.left_since disk.old (D.time disk.old)) (D.left_since disk.new (D.time disk.old)) }
-    ensures past { Passes (D.time disk.old) (D.time disk.new) (D.left_since disk.old) (D.left_since disk.new) }
+    ensures first_alone { ImagesWithin D.Disk A Anyhow disk.old disk.new }
+    ensures advances { Advances D.Disk disk.old disk.new }
     ensures failed { OnErr result (Rose (D.faults disk.old) (D.faults disk.new)) }
-    ensures counted { D.faults disk.old ≤ D.faults disk.new }
 {
     make_ready(disk, Which::A, newest, None, &mut first, &[])?;
     write_first(disk, Which::A, OPEN)

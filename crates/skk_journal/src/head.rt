@@ -3,7 +3,7 @@ ghost use Rattle.std.specs.Int.{w64};
 ghost use Rattle.exact_readers.specs.Numbers.{number};
 ghost use Rattle.skk_outside.specs.Faults.{Rose};
 ghost use Rattle.skk_disk.specs.Image.{part};
-ghost use Rattle.skk_disk.specs.Moments.{SameImages};
+ghost use Rattle.skk_disk.specs.Runs.{OnlyReads};
 ghost use Rattle.skk_journal.specs.declared.journal.TheConstants.{PIECE_ROOM};
 ghost use Rattle.skk_journal.specs.Heads.{is_version as version_test, is_marked as mark_test, version_byte};
 ghost use Rattle.skk_journal.specs.Heads.{headed_by, head_of, HasVersion};
@@ -114,11 +114,8 @@ pub(crate) fn read_front<D: Disk>(
     ensures right { IfOk result (λ front. HasVersion newest front.head) }
     ensures idle { D.tells → IfOk result (λ front. front.idle ≡ idle_of (part file (D.seen disk.old))) }
     ensures room { length buffer.new ≡ PIECE_ROOM }
-    ensures seen { D.seen disk.new ≡ D.seen disk.old }
-    ensures time { D.time disk.new ≡ D.time disk.old }
-    ensures images { SameImages (D.left_since disk.old) (D.left_since disk.new) }
+    ensures only_reads { OnlyReads D.Disk disk.old disk.new }
     ensures failed { OnErr result (Rose (D.faults disk.old) (D.faults disk.new)) }
-    ensures counted { D.faults disk.old ≤ D.faults disk.new }
 {
     let n = read_full(disk, file, 0, &mut buffer[..17])?;
     let head = &buffer[..n];

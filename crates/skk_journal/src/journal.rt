@@ -1,10 +1,9 @@
-ghost use Rattle.std.specs.Prelude.{◌≡◌, ◌≢◌, ◌⊎◌, ◌+◌, ◌≤◌, ◌++◌, ◌∷◌, [], List, ℕ, true, false, length, All};
+ghost use Rattle.std.specs.Prelude.{◌≡◌, ◌≢◌, ◌⊎◌, ◌+◌, ◌≤◌, [], List, ℕ, true, false, length, All};
 ghost use Rattle.std.specs.Prelude.{IfOk, IfErr, OnOk, OnErr, IsOk, IsErrOf, MatchResult};
 ghost use Rattle.skk_outside.specs.Faults.{Rose};
 ghost use Rattle.skk_disk.specs.Image.{Image};
 ghost use Rattle.skk_disk.specs.declared.which.Which.TheVariants.{A};
-ghost use Rattle.skk_disk.specs.Moments.{Passes};
-ghost use Rattle.skk_disk.specs.Steps.{InFile, ComeFrom};
+ghost use Rattle.skk_disk.specs.Runs.{Advances, ImagesWithin};
 ghost use Rattle.skk_journal.specs.declared.choice.LiveChoice.TheVariants.{NoLive, LiveIn};
 ghost use Rattle.skk_journal.specs.Contents.{Contents, with_record};
 ghost use Rattle.skk_journal.specs.Records.{IsSized, IsVersion, need, framed, first_place};
@@ -149,7 +148,7 @@ impl<D: Disk> Journal<D> {
 
         // What each image has afterwards, also where a file was filled.
         ensures rests { IfOk result (λ opened.
-            Rests D.time D.left_since opened.0 (contents_of opened.0.live (payloads opened.1))) }
+            Rests D.Disk opened.0 (contents_of opened.0.live (payloads opened.1))) }
         ensures anew { D.tells → choice newest (D.seen disk) ≡ NoLive → IfOk result (λ opened.
             Each (D.left_since opened.0.disk (D.time opened.0.disk)) (IsNew newest)) }
 
@@ -169,21 +168,13 @@ impl<D: Disk> Journal<D> {
             (λ opened. D.seen opened.0.disk ≡ D.seen disk)
             (λ unopened. UnlessDisk unopened.why (D.seen unopened.disk ≡ D.seen disk)) }
         ensures first_alone { MatchResult result
-            (λ opened. ComeFrom (InFile A Anyhow)
-            (D.left_since disk (D.time disk)) (D.left_since opened.0.disk (D.time disk)))
-            (λ unopened. ComeFrom (InFile A Anyhow)
-            (D.left_since disk (D.time disk)) (D.left_since unopened.disk (D.time disk))) }
+            (λ opened. ImagesWithin D.Disk A Anyhow disk opened.0.disk)
+            (λ unopened. ImagesWithin D.Disk A Anyhow disk unopened.disk) }
 
-        ensures past { MatchResult result
-            (λ opened. Passes (D.time disk) (D.time opened.0.disk)
-            (D.left_since disk) (D.left_since opened.0.disk))
-            (λ unopened. Passes (D.time disk) (D.time unopened.disk)
-            (D.left_since disk) (D.left_since unopened.disk)) }
+        ensures advances { MatchResult result
+            (λ opened. Advances D.Disk disk opened.0.disk) (λ unopened. Advances D.Disk disk unopened.disk) }
         ensures failed { IfErr result (λ unopened. unopened.why ≡ OpenFault.Disk →
             Rose (D.faults disk) (D.faults unopened.disk)) }
-        ensures counted { MatchResult result
-            (λ opened. D.faults disk ≤ D.faults opened.0.disk)
-            (λ unopened. D.faults disk ≤ D.faults unopened.disk) }
     {
         let Ok(mut buffer) = empty_buffer(alloc) else {
             let why = OpenFault::Memory;
@@ -225,18 +216,16 @@ impl<D: Disk> Journal<D> {
         ensures newest { self.new.newest ≡ self.old.newest }
 
         // What each image has afterwards, and at each moment.
-        ensures ok { OnOk result ((contents : Contents) → Rests D.time D.left_since self.old contents →
-            Rests D.time D.left_since self.new (with_record contents payload.now)) }
-        ensures err { OnErr result ((contents : Contents) → Rests D.time D.left_since self.old contents →
-            Rests D.time D.left_since self.new contents
-            ⊎ Doubts D.time D.left_since self.new contents (with_record contents payload.now)) }
-        ensures images { (contents : Contents) → Rests D.time D.left_since self.old contents →
+        ensures ok { OnOk result ((contents : Contents) → Rests D.Disk self.old contents →
+            Rests D.Disk self.new (with_record contents payload.now)) }
+        ensures err { OnErr result ((contents : Contents) → Rests D.Disk self.old contents →
+            Rests D.Disk self.new contents
+            ⊎ Doubts D.Disk self.new contents (with_record contents payload.now)) }
+        ensures images { (contents : Contents) → Rests D.Disk self.old contents →
             Each (D.left_since self.new.disk (D.time self.old.disk))
             (OpensEither self.old.newest contents (with_record contents payload.now)) }
 
-        ensures past { Passes (D.time self.old.disk) (D.time self.new.disk)
-            (D.left_since self.old.disk) (D.left_since self.new.disk) }
-        ensures counted { D.faults self.old.disk ≤ D.faults self.new.disk }
+        ensures advances { Advances D.Disk self.old.disk self.new.disk }
     {
         let end = self.end;
         let need = 5 + payload.len() as u64;
@@ -269,21 +258,18 @@ impl<D: Disk> Journal<D> {
 
         // What each image has afterwards, and at each moment.
         ensures ok { OnOk result ((before : Contents) (compacted : List (List ℕ)) → All IsSized compacted →
-            records.now ≡ framed compacted → Rests D.time D.left_since self.old before →
-            Rests D.time D.left_since self.new (record { version = self.old.newest; records = compacted })) }
+            records.now ≡ framed compacted → Rests D.Disk self.old before →
+            Rests D.Disk self.new (record { version = self.old.newest; records = compacted })) }
         ensures err { OnErr result ((before : Contents) (compacted : List (List ℕ)) → All IsSized compacted →
-            records.now ≡ framed compacted → Rests D.time D.left_since self.old before →
-            Rests D.time D.left_since self.new before
-            ⊎ Doubts D.time D.left_since self.new before
-            (record { version = self.old.newest; records = compacted })) }
+            records.now ≡ framed compacted → Rests D.Disk self.old before →
+            Rests D.Disk self.new before
+            ⊎ Doubts D.Disk self.new before (record { version = self.old.newest; records = compacted })) }
         ensures images { (before : Contents) (compacted : List (List ℕ)) → All IsSized compacted →
-            records.now ≡ framed compacted → Rests D.time D.left_since self.old before →
+            records.now ≡ framed compacted → Rests D.Disk self.old before →
             Each (D.left_since self.new.disk (D.time self.old.disk))
             (OpensEither self.old.newest before (record { version = self.old.newest; records = compacted })) }
 
-        ensures past { Passes (D.time self.old.disk) (D.time self.new.disk)
-            (D.left_since self.old.disk) (D.left_since self.new.disk) }
-        ensures counted { D.faults self.old.disk ≤ D.faults self.new.disk }
+        ensures advances { Advances D.Disk self.old.disk self.new.disk }
     {
         let newest = self.newest;
         let beside = Some(self.live);
@@ -325,18 +311,16 @@ impl<D: Disk> Journal<D> {
 
         // What each image has afterwards, and at each moment.
         ensures ok { OnOk result ((contents others : Contents) →
-            Doubts D.time D.left_since self.old contents others → Rests D.time D.left_since self.new contents) }
+            Doubts D.Disk self.old contents others → Rests D.Disk self.new contents) }
         ensures err { OnErr result ((contents others : Contents) →
-            Doubts D.time D.left_since self.old contents others →
-            Doubts D.time D.left_since self.new contents others) }
-        ensures images { (contents others : Contents) → Doubts D.time D.left_since self.old contents others →
+            Doubts D.Disk self.old contents others →
+            Doubts D.Disk self.new contents others) }
+        ensures images { (contents others : Contents) → Doubts D.Disk self.old contents others →
             Each (D.left_since self.new.disk (D.time self.old.disk)) (OpensEither self.old.newest contents others) }
-        ensures rests { (contents : Contents) → Rests D.time D.left_since self.old contents →
+        ensures rests { (contents : Contents) → Rests D.Disk self.old contents →
             Each (D.left_since self.new.disk (D.time self.old.disk)) (Opens self.old.newest contents) }
 
-        ensures past { Passes (D.time self.old.disk) (D.time self.new.disk)
-            (D.left_since self.old.disk) (D.left_since self.new.disk) }
-        ensures counted { D.faults self.old.disk ≤ D.faults self.new.disk }
+        ensures advances { Advances D.Disk self.old.disk self.new.disk }
     {
         match self.doubt {
             Doubt::Calm => Ok(()),

@@ -2,8 +2,8 @@ ghost use Rattle.std.specs.Prelude.{◌≡◌, ◌≢◌, ◌≤◌, ℕ, length
 ghost use Rattle.skk_outside.specs.Faults.{Rose};
 ghost use Rattle.skk_disk.specs.Image.{Image, part, other};
 ghost use Rattle.skk_disk.specs.declared.which.Which.TheVariants.{A};
-ghost use Rattle.skk_disk.specs.Moments.{Passes, SameImages};
-ghost use Rattle.skk_disk.specs.Steps.{InFile, ComeFrom};
+ghost use Rattle.skk_disk.specs.Moments.{SameImages};
+ghost use Rattle.skk_disk.specs.Runs.{Advances, ImagesWithin, OnlyReads};
 ghost use Rattle.skk_journal.specs.declared.choice.LiveChoice.TheVariants.{NoLive, LiveIn};
 ghost use Rattle.skk_journal.specs.declared.journal.TheConstants.{PIECE_ROOM};
 ghost use Rattle.skk_journal.specs.Contents.{Contents};
@@ -69,11 +69,9 @@ pub(crate) fn open_files<D: Disk>(
     ensures seen { D.tells → choice newest (D.seen disk.old) ≢ NoLive → MatchResult result
         (λ opened. D.seen disk.new ≡ D.seen disk.old)
         (λ why. UnlessDisk why (D.seen disk.new ≡ D.seen disk.old)) }
-    ensures first_alone { ComeFrom (InFile A Anyhow)
-        (D.left_since disk.old (D.time disk.old)) (D.left_since disk.new (D.time disk.old)) }
-    ensures past { Passes (D.time disk.old) (D.time disk.new) (D.left_since disk.old) (D.left_since disk.new) }
+    ensures first_alone { ImagesWithin D.Disk A Anyhow disk.old disk.new }
+    ensures advances { Advances D.Disk disk.old disk.new }
     ensures failed { IsErrOf result OpenFault.Disk → Rose (D.faults disk.old) (D.faults disk.new) }
-    ensures counted { D.faults disk.old ≤ D.faults disk.new }
 {
     sync_both(disk)?;
     open_synced(alloc, disk, newest, buffer)
@@ -84,9 +82,8 @@ fn sync_both<D: Disk>(disk: &mut D) -> Result<(), Failed>
     ensures durable { OnOk result (Each (D.left_since disk.new (D.time disk.new)) (λ image. image ≡ D.seen disk.new)) }
     ensures seen { OnOk result (D.seen disk.new ≡ D.seen disk.old) }
     ensures images { Each (D.left_since disk.new (D.time disk.old)) (D.left_since disk.old (D.time disk.old)) }
-    ensures past { Passes (D.time disk.old) (D.time disk.new) (D.left_since disk.old) (D.left_since disk.new) }
+    ensures advances { Advances D.Disk disk.old disk.new }
     ensures failed { OnErr result (Rose (D.faults disk.old) (D.faults disk.new)) }
-    ensures counted { D.faults disk.old ≤ D.faults disk.new }
 {
     disk.sync(Which::A)?;
     disk.sync(Which::B)
@@ -123,11 +120,9 @@ fn open_synced<D: Disk>(
     ensures kept { D.tells → choice newest (D.seen disk.old) ≢ NoLive →
         SameImages (D.left_since disk.old) (D.left_since disk.new) }
     ensures seen { D.tells → choice newest (D.seen disk.old) ≢ NoLive → D.seen disk.new ≡ D.seen disk.old }
-    ensures first_alone { ComeFrom (InFile A Anyhow)
-        (D.left_since disk.old (D.time disk.old)) (D.left_since disk.new (D.time disk.old)) }
-    ensures past { Passes (D.time disk.old) (D.time disk.new) (D.left_since disk.old) (D.left_since disk.new) }
+    ensures first_alone { ImagesWithin D.Disk A Anyhow disk.old disk.new }
+    ensures advances { Advances D.Disk disk.old disk.new }
     ensures failed { IsErrOf result OpenFault.Disk → Rose (D.faults disk.old) (D.faults disk.new) }
-    ensures counted { D.faults disk.old ≤ D.faults disk.new }
 {
     let chosen = read_choice(disk, newest, buffer)?;
     match chosen.choice {
@@ -182,11 +177,8 @@ fn open_live<D: Disk>(
     ensures places { IfOk result (λ opened. opened.records ≡ found_from first_place (payloads opened.records)) }
     ensures live { IfOk result (λ opened. opened.live ≡ live) }
     ensures end { IfOk result (λ opened. opened.end ≡ end_of (payloads opened.records)) }
-    ensures seen { D.seen disk.new ≡ D.seen disk.old }
-    ensures time { D.time disk.new ≡ D.time disk.old }
-    ensures images { SameImages (D.left_since disk.old) (D.left_since disk.new) }
+    ensures only_reads { OnlyReads D.Disk disk.old disk.new }
     ensures failed { IsErrOf result OpenFault.Disk → Rose (D.faults disk.old) (D.faults disk.new) }
-    ensures counted { D.faults disk.old ≤ D.faults disk.new }
 {
     let len = disk.len(live.file)?;
     if len > FILE_LIMIT {

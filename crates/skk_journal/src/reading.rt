@@ -1,7 +1,7 @@
 ghost use Rattle.std.specs.Prelude.{◌≡◌, ◌≤◌, ◌<◌, ◌+◌, ◌^◌, ◌++◌, length, take, drop, IfOk, OnErr};
 ghost use Rattle.skk_outside.specs.Faults.{Rose};
 ghost use Rattle.skk_disk.specs.Image.{part};
-ghost use Rattle.skk_disk.specs.Moments.{SameImages};
+ghost use Rattle.skk_disk.specs.Runs.{OnlyReads};
 
 use skk_disk::{Disk, Which};
 use skk_outside::Failed;
@@ -17,11 +17,8 @@ pub(crate) fn read_full<D: Disk>(
     ensures bound { IfOk result (λ n. n ≤ length into.new) }
     ensures bytes { D.tells → IfOk result (λ n.
         take n into.new ≡ take (length into.new) (drop at (part file (D.seen disk.old)))) }
-    ensures seen { D.seen disk.new ≡ D.seen disk.old }
-    ensures time { D.time disk.new ≡ D.time disk.old }
-    ensures images { SameImages (D.left_since disk.old) (D.left_since disk.new) }
+    ensures only_reads { OnlyReads D.Disk disk.old disk.new }
     ensures failed { OnErr result (Rose (D.faults disk.old) (D.faults disk.new)) }
-    ensures counted { D.faults disk.old ≤ D.faults disk.new }
 {
     let mut filled = 0;
     while filled < into.len() {
@@ -48,11 +45,8 @@ fn read_more<D: Disk>(
     ensures bytes { D.tells → IfOk result (λ n. take (filled + n) into.new
         ≡ take filled into.old ++ take n (drop (at + filled) (part file (D.seen disk.old)))) }
     ensures end { D.tells → IfOk result (λ n. n ≡ 0 → length (part file (D.seen disk.old)) ≤ at + filled) }
-    ensures seen { D.seen disk.new ≡ D.seen disk.old }
-    ensures time { D.time disk.new ≡ D.time disk.old }
-    ensures images { SameImages (D.left_since disk.old) (D.left_since disk.new) }
+    ensures only_reads { OnlyReads D.Disk disk.old disk.new }
     ensures failed { OnErr result (Rose (D.faults disk.old) (D.faults disk.new)) }
-    ensures counted { D.faults disk.old ≤ D.faults disk.new }
 {
     disk.read_at(file, at + filled as u64, &mut into[filled..])
 }

@@ -1,7 +1,7 @@
-ghost use Rattle.std.specs.Prelude.{◌≡◌, ◌≤◌, ◌<◌, ◌^◌, length, OnOk, OnErr};
+ghost use Rattle.std.specs.Prelude.{◌≡◌, ◌<◌, ◌^◌, length, OnOk, OnErr};
 ghost use Rattle.skk_outside.specs.Faults.{Rose};
-ghost use Rattle.skk_disk.specs.Moments.{Passes};
-ghost use Rattle.skk_disk.specs.Steps.{InFile, ComeFrom, Makes};
+ghost use Rattle.skk_disk.specs.Runs.{Advances, ImagesAfter, ImagesWithin};
+ghost use Rattle.skk_disk.specs.Steps.{Makes};
 ghost use Rattle.skk_journal.specs.declared.live.Idle.TheVariants as idles;
 ghost use Rattle.skk_journal.specs.Filling.{IsReady};
 ghost use Rattle.skk_journal.specs.Generations.{HasGeneration, next_generation};
@@ -22,13 +22,11 @@ fn write_ready<D: Disk>(
     records: &[u8],
 ) -> Result<(), Failed>
     requires { length records.now < 2 ^ 63 }
-    ensures images { ComeFrom (InFile file (Makes IsBlank IsBlank))
-        (D.left_since disk.old (D.time disk.old)) (D.left_since disk.new (D.time disk.old)) }
-    ensures ok { OnOk result (ComeFrom (InFile file (Makes IsBlank (IsReady version generation records.now)))
-        (D.left_since disk.old (D.time disk.old)) (D.left_since disk.new (D.time disk.new))) }
-    ensures past { Passes (D.time disk.old) (D.time disk.new) (D.left_since disk.old) (D.left_since disk.new) }
+    ensures images { ImagesWithin D.Disk file (Makes IsBlank IsBlank) disk.old disk.new }
+    ensures ok { OnOk result (ImagesAfter D.Disk file (Makes IsBlank (IsReady version generation records.now))
+        disk.old disk.new) }
+    ensures advances { Advances D.Disk disk.old disk.new }
     ensures failed { OnErr result (Rose (D.faults disk.old) (D.faults disk.new)) }
-    ensures counted { D.faults disk.old ≤ D.faults disk.new }
 {
     write_behind_first(disk, file, version, generation, records)?;
     disk.sync(file)
@@ -45,20 +43,17 @@ pub(crate) fn make_ready<D: Disk>(
     records: &[u8],
 ) -> Result<(), Failed>
     requires { length records.now < 2 ^ 63 }
-    ensures images { ComeFrom (InFile file (Makes (IsKnown newest beside idle.old) (IsIdle newest beside)))
-        (D.left_since disk.old (D.time disk.old)) (D.left_since disk.new (D.time disk.old)) }
-    ensures known { ComeFrom
-        (InFile file (Makes (IsKnown newest beside idle.old) (IsKnown newest beside idle.new)))
-        (D.left_since disk.old (D.time disk.old)) (D.left_since disk.new (D.time disk.new)) }
+    ensures images { ImagesWithin D.Disk file (Makes (IsKnown newest beside idle.old) (IsIdle newest beside))
+        disk.old disk.new }
+    ensures known { ImagesAfter D.Disk file (Makes (IsKnown newest beside idle.old) (IsKnown newest beside idle.new))
+        disk.old disk.new }
     ensures blank { OnOk result (idle.new ≡ idles.Blank) }
-    ensures ok { OnOk result (ComeFrom
-        (InFile file
-        (Makes (IsKnown newest beside idle.old) (IsReady newest (next_generation beside) records.now)))
-        (D.left_since disk.old (D.time disk.old)) (D.left_since disk.new (D.time disk.new))) }
+    ensures ok { OnOk result (ImagesAfter D.Disk file
+        (Makes (IsKnown newest beside idle.old) (IsReady newest (next_generation beside) records.now))
+        disk.old disk.new) }
     ensures small { HasGeneration beside }
-    ensures past { Passes (D.time disk.old) (D.time disk.new) (D.left_since disk.old) (D.left_since disk.new) }
+    ensures advances { Advances D.Disk disk.old disk.new }
     ensures failed { OnErr result (Rose (D.faults disk.old) (D.faults disk.new)) }
-    ensures counted { D.faults disk.old ≤ D.faults disk.new }
 {
     let generation = generation_beside(beside);
     blank(disk, file, beside, idle)?;

@@ -1,7 +1,7 @@
 ghost use Rattle.std.specs.Prelude.{◌≡◌, ◌≤◌, ◌<◌, ◌+◌, ◌^◌, length, drop, IfOk, IfErr, IsErrOf};
 ghost use Rattle.skk_outside.specs.Faults.{Rose};
 ghost use Rattle.skk_disk.specs.Image.{part};
-ghost use Rattle.skk_disk.specs.Moments.{SameImages};
+ghost use Rattle.skk_disk.specs.Runs.{OnlyReads};
 ghost use Rattle.skk_journal.specs.declared.journal.TheConstants.{PIECE_ROOM};
 ghost use Rattle.skk_journal.specs.Records.{first_place, end_of};
 ghost use Rattle.skk_journal.specs.Found.{payloads, found_from};
@@ -75,11 +75,8 @@ pub(crate) fn read_records<D: Disk>(
     ensures end { IfOk result (λ read. read.end ≡ end_of (payloads read.records)) }
     ensures places { IfOk result (λ read. read.records ≡ found_from first_place (payloads read.records)) }
     ensures bad { D.tells → IfErr result (BreakOff (drop first_place (part file (D.seen disk.old)))) }
-    ensures seen { D.seen disk.new ≡ D.seen disk.old }
-    ensures time { D.time disk.new ≡ D.time disk.old }
-    ensures images { SameImages (D.left_since disk.old) (D.left_since disk.new) }
+    ensures only_reads { OnlyReads D.Disk disk.old disk.new }
     ensures failed { IsErrOf result RecordsFault.Disk → Rose (D.faults disk.old) (D.faults disk.new) }
-    ensures counted { D.faults disk.old ≤ D.faults disk.new }
 {
     let mut records = Records::new(alloc);
     let mut at = FIRST_PLACE;
@@ -120,11 +117,8 @@ fn read_part<D: Disk>(
     ensures next { IfOk result (StopsAt D.tells (drop at (part file (D.seen disk.old))) at records.old records.new) }
     ensures within { IfOk result (StopsWithin PIECE_ROOM) }
     ensures no_place { IfErr result TellsNoPlace }
-    ensures seen { D.seen disk.new ≡ D.seen disk.old }
-    ensures time { D.time disk.new ≡ D.time disk.old }
-    ensures images { SameImages (D.left_since disk.old) (D.left_since disk.new) }
+    ensures only_reads { OnlyReads D.Disk disk.old disk.new }
     ensures failed { IsErrOf result RecordsFault.Disk → Rose (D.faults disk.old) (D.faults disk.new) }
-    ensures counted { D.faults disk.old ≤ D.faults disk.new }
 {
     let n = read_full(disk, file, at, buffer)?;
     let stop = read_frames(alloc, &buffer[..n], at, records)?;

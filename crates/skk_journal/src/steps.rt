@@ -1,7 +1,6 @@
-ghost use Rattle.std.specs.Prelude.{◌≡◌, ◌+◌, ◌≤◌, ◌++◌, ◌∷◌, [], List, ℕ, length, OnOk, OnErr};
+ghost use Rattle.std.specs.Prelude.{◌≡◌, ◌+◌, ◌++◌, ◌∷◌, [], List, ℕ, length, OnOk, OnErr};
 ghost use Rattle.skk_outside.specs.Faults.{Rose};
-ghost use Rattle.skk_disk.specs.Moments.{Passes};
-ghost use Rattle.skk_disk.specs.Steps.{InFile, ComeFrom};
+ghost use Rattle.skk_disk.specs.Runs.{Advances, ImagesAfter, ImagesWithin};
 ghost use Rattle.skk_journal.specs.Records.{IsSized, behind_gate, IsAddition};
 ghost use Rattle.skk_journal.specs.declared.journal.TheConstants.{PIECE_ROOM};
 ghost use Rattle.skk_journal.specs.Gating.{KeepsContents, Stages, KeepsStaged, Gates};
@@ -20,14 +19,11 @@ pub(crate) const CLOSED: u8 = 0;
 
 // Writes what stands behind the gate of the first of the added records, and a closed gate behind them: two calls.
 fn write_behind<D: Disk>(disk: &mut D, file: Which, end: u64, piece: &[u8]) -> Result<(), Failed>
-    ensures images { ComeFrom (InFile file (KeepsContents end))
-        (D.left_since disk.old (D.time disk.old)) (D.left_since disk.new (D.time disk.old)) }
+    ensures images { ImagesWithin D.Disk file (KeepsContents end) disk.old disk.new }
     ensures ok { OnOk result ((added : List (List ℕ)) → IsAddition added → piece.now ≡ behind_gate added ++ 0 ∷ [] →
-        ComeFrom (InFile file (Stages end added))
-        (D.left_since disk.old (D.time disk.old)) (D.left_since disk.new (D.time disk.new))) }
-    ensures past { Passes (D.time disk.old) (D.time disk.new) (D.left_since disk.old) (D.left_since disk.new) }
+        ImagesAfter D.Disk file (Stages end added) disk.old disk.new) }
+    ensures advances { Advances D.Disk disk.old disk.new }
     ensures failed { OnErr result (Rose (D.faults disk.old) (D.faults disk.new)) }
-    ensures counted { D.faults disk.old ≤ D.faults disk.new }
 {
     write_through(disk, file, end, piece)
 }
@@ -42,13 +38,10 @@ pub(crate) fn stage_record<D: Disk>(
 ) -> Result<(), Failed>
     requires sized { IsSized payload.now }
     requires room { length buffer.old ≡ PIECE_ROOM }
-    ensures images { ComeFrom (InFile file (KeepsContents end))
-        (D.left_since disk.old (D.time disk.old)) (D.left_since disk.new (D.time disk.old)) }
-    ensures ok { OnOk result (ComeFrom (InFile file (Stages end (payload.now ∷ [])))
-        (D.left_since disk.old (D.time disk.old)) (D.left_since disk.new (D.time disk.new))) }
-    ensures past { Passes (D.time disk.old) (D.time disk.new) (D.left_since disk.old) (D.left_since disk.new) }
+    ensures images { ImagesWithin D.Disk file (KeepsContents end) disk.old disk.new }
+    ensures ok { OnOk result (ImagesAfter D.Disk file (Stages end (payload.now ∷ [])) disk.old disk.new) }
+    ensures advances { Advances D.Disk disk.old disk.new }
     ensures failed { OnErr result (Rose (D.faults disk.old) (D.faults disk.new)) }
-    ensures counted { D.faults disk.old ≤ D.faults disk.new }
 {
     put_together(buffer, payload);
     write_behind(disk, file, end, &buffer[..payload.len() + 5])
@@ -61,13 +54,10 @@ pub(crate) fn write_gate<D: Disk>(
     at: u64,
     gate: u8,
 ) -> Result<(), Failed>
-    ensures images { ComeFrom (InFile file (KeepsStaged at))
-        (D.left_since disk.old (D.time disk.old)) (D.left_since disk.new (D.time disk.old)) }
-    ensures ok { OnOk result (ComeFrom (InFile file (Gates at gate))
-        (D.left_since disk.old (D.time disk.old)) (D.left_since disk.new (D.time disk.new))) }
-    ensures past { Passes (D.time disk.old) (D.time disk.new) (D.left_since disk.old) (D.left_since disk.new) }
+    ensures images { ImagesWithin D.Disk file (KeepsStaged at) disk.old disk.new }
+    ensures ok { OnOk result (ImagesAfter D.Disk file (Gates at gate) disk.old disk.new) }
+    ensures advances { Advances D.Disk disk.old disk.new }
     ensures failed { OnErr result (Rose (D.faults disk.old) (D.faults disk.new)) }
-    ensures counted { D.faults disk.old ≤ D.faults disk.new }
 {
     write_through(disk, file, at, &[gate])
 }

@@ -1,7 +1,7 @@
-ghost use Rattle.std.specs.Prelude.{◌≤◌, length, OnOk, OnErr};
+ghost use Rattle.std.specs.Prelude.{length, OnOk, OnErr};
 ghost use Rattle.skk_outside.specs.Faults.{Rose};
-ghost use Rattle.skk_disk.specs.Steps.{IsPlaced, PartlyWritten, InFile, ComeFrom};
-ghost use Rattle.skk_disk.specs.Moments.{Passes};
+ghost use Rattle.skk_disk.specs.Steps.{IsPlaced, PartlyWritten};
+ghost use Rattle.skk_disk.specs.Runs.{Advances, ImagesAfter, ImagesWithin};
 
 use skk_disk::{Disk, Which};
 use skk_outside::Failed;
@@ -14,13 +14,11 @@ pub(crate) fn write_through<D: Disk>(
     at: u64,
     bytes: &[u8],
 ) -> Result<(), Failed>
-    ensures images { ComeFrom (InFile file (PartlyWritten (record { at = at; count = length bytes.now })))
-        (D.left_since disk.old (D.time disk.old)) (D.left_since disk.new (D.time disk.old)) }
-    ensures placed { OnOk result (ComeFrom (InFile file (IsPlaced at bytes.now))
-        (D.left_since disk.old (D.time disk.old)) (D.left_since disk.new (D.time disk.new))) }
-    ensures past { Passes (D.time disk.old) (D.time disk.new) (D.left_since disk.old) (D.left_since disk.new) }
+    ensures images { ImagesWithin D.Disk file (PartlyWritten (record { at = at; count = length bytes.now }))
+        disk.old disk.new }
+    ensures placed { OnOk result (ImagesAfter D.Disk file (IsPlaced at bytes.now) disk.old disk.new) }
+    ensures advances { Advances D.Disk disk.old disk.new }
     ensures failed { OnErr result (Rose (D.faults disk.old) (D.faults disk.new)) }
-    ensures counted { D.faults disk.old ≤ D.faults disk.new }
 {
     disk.write_at(file, at, bytes)?;
     disk.sync(file)?;

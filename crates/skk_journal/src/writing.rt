@@ -1,8 +1,8 @@
 ghost use Rattle.std.specs.Prelude.{◌≡◌, ◌≤◌, ◌+◌, ◌<◌, ◌^◌, ◌++◌, ◌∷◌, [], length, OnOk, OnErr};
 ghost use Rattle.skk_outside.specs.Faults.{Rose};
 ghost use Rattle.skk_disk.specs.Image.{part};
-ghost use Rattle.skk_disk.specs.Moments.{Passes};
-ghost use Rattle.skk_disk.specs.Steps.{InFile, ComeFrom, Makes};
+ghost use Rattle.skk_disk.specs.Runs.{Advances, ImagesWithin};
+ghost use Rattle.skk_disk.specs.Steps.{Makes};
 ghost use Rattle.skk_journal.specs.Filling.{filled_bytes};
 ghost use Rattle.skk_journal.specs.Idle.{IsBlank};
 ghost use Rattle.std.specs.Int.{w64};
@@ -18,13 +18,11 @@ use skk_outside::Failed;
 // Writes bytes behind those that a read gives of a blank file: one call, or none for no bytes.
 fn write_end<D: Disk>(disk: &mut D, file: Which, at: u64, bytes: &[u8]) -> Result<(), Failed>
     requires { 1 ≤ at }
-    ensures images { ComeFrom (InFile file (Makes IsBlank IsBlank))
-        (D.left_since disk.old (D.time disk.old)) (D.left_since disk.new (D.time disk.old)) }
+    ensures images { ImagesWithin D.Disk file (Makes IsBlank IsBlank) disk.old disk.new }
     ensures ok { OnOk result (D.tells → length (part file (D.seen disk.old)) ≡ at →
         part file (D.seen disk.new) ≡ part file (D.seen disk.old) ++ bytes.now) }
-    ensures past { Passes (D.time disk.old) (D.time disk.new) (D.left_since disk.old) (D.left_since disk.new) }
+    ensures advances { Advances D.Disk disk.old disk.new }
     ensures failed { OnErr result (Rose (D.faults disk.old) (D.faults disk.new)) }
-    ensures counted { D.faults disk.old ≤ D.faults disk.new }
 {
     if bytes.is_empty() {
         return Ok(());
@@ -39,13 +37,11 @@ fn write_head<D: Disk>(
     version: u8,
     generation: u64,
 ) -> Result<(), Failed>
-    ensures images { ComeFrom (InFile file (Makes IsBlank IsBlank))
-        (D.left_since disk.old (D.time disk.old)) (D.left_since disk.new (D.time disk.old)) }
+    ensures images { ImagesWithin D.Disk file (Makes IsBlank IsBlank) disk.old disk.new }
     ensures ok { OnOk result (D.tells → IsBlank (part file (D.seen disk.old)) →
         part file (D.seen disk.new) ≡ 0 ∷ (mark version ++ number_bytes w64 generation)) }
-    ensures past { Passes (D.time disk.old) (D.time disk.new) (D.left_since disk.old) (D.left_since disk.new) }
+    ensures advances { Advances D.Disk disk.old disk.new }
     ensures failed { OnErr result (Rose (D.faults disk.old) (D.faults disk.new)) }
-    ensures counted { D.faults disk.old ≤ D.faults disk.new }
 {
     let head = head_bytes(version, generation);
     disk.cut(file, 1)?;
@@ -55,13 +51,11 @@ fn write_head<D: Disk>(
 // Writes records behind the head of a blank file, and a closed gate: two calls, or one for no records.
 fn write_records<D: Disk>(disk: &mut D, file: Which, records: &[u8]) -> Result<(), Failed>
     requires { length records.now < 2 ^ 63 }
-    ensures images { ComeFrom (InFile file (Makes IsBlank IsBlank))
-        (D.left_since disk.old (D.time disk.old)) (D.left_since disk.new (D.time disk.old)) }
+    ensures images { ImagesWithin D.Disk file (Makes IsBlank IsBlank) disk.old disk.new }
     ensures ok { OnOk result (D.tells → length (part file (D.seen disk.old)) ≡ first_place →
         part file (D.seen disk.new) ≡ (part file (D.seen disk.old) ++ records.now) ++ 0 ∷ []) }
-    ensures past { Passes (D.time disk.old) (D.time disk.new) (D.left_since disk.old) (D.left_since disk.new) }
+    ensures advances { Advances D.Disk disk.old disk.new }
     ensures failed { OnErr result (Rose (D.faults disk.old) (D.faults disk.new)) }
-    ensures counted { D.faults disk.old ≤ D.faults disk.new }
 {
     write_end(disk, file, FIRST_PLACE, records)?;
     write_end(disk, file, FIRST_PLACE + records.len() as u64, &[CLOSED])
@@ -76,13 +70,11 @@ pub(crate) fn write_behind_first<D: Disk>(
     records: &[u8],
 ) -> Result<(), Failed>
     requires { length records.now < 2 ^ 63 }
-    ensures images { ComeFrom (InFile file (Makes IsBlank IsBlank))
-        (D.left_since disk.old (D.time disk.old)) (D.left_since disk.new (D.time disk.old)) }
+    ensures images { ImagesWithin D.Disk file (Makes IsBlank IsBlank) disk.old disk.new }
     ensures ok { OnOk result (D.tells → IsBlank (part file (D.seen disk.old)) →
         part file (D.seen disk.new) ≡ filled_bytes 0 version generation records.now) }
-    ensures past { Passes (D.time disk.old) (D.time disk.new) (D.left_since disk.old) (D.left_since disk.new) }
+    ensures advances { Advances D.Disk disk.old disk.new }
     ensures failed { OnErr result (Rose (D.faults disk.old) (D.faults disk.new)) }
-    ensures counted { D.faults disk.old ≤ D.faults disk.new }
 {
     write_head(disk, file, version, generation)?;
     write_records(disk, file, records)

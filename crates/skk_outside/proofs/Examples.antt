@@ -2,6 +2,8 @@
 use Rattle.std.proofs.Common.{◌≡◌, ℕ, ◌^◌, ◌-◌, true, false, Option, None, Some, Result, Ok, Err, List, [], ◌∷◌, refl}
 use Rattle.std.proofs.Common.{map, codes, arith, lit≤, lit<}
 use Rattle.skk_text.specs.Counts.{one_more}
+use Rattle.skk_outside.specs.declared.outside.Outside.{Ghosts}
+use Rattle.skk_outside.specs.declared.shelf.Shelf.{Ghosts as ShelfGhosts}
 use Rattle.skk_outside.specs.Listeners.{Accepts, out_after}
 use Rattle.skk_outside.specs.Memory.{CallCount, no_call_yet, after_success, after_failure, with_fault, bytes_of_pieces}
 use Rattle.skk_outside.specs.Memory.{first_nonempty_piece, without_first_bytes, names_differ, file_named}
@@ -134,14 +136,23 @@ out : map (out_after 3) results ≡ 4 ∷ 3 ∷ 3 ∷ []
 out = refl
 
 -- things whose states are numbers, which hold their own number and have one fault less: before and after
-source_moved : moved_source (λ s. Some (s ∷ [])) (λ s. s - 1) 7 9
+abbrev numbered_source : Ghosts ℕ
+numbered_source = record { faults = λ s. s - 1; left = λ s. Some (s ∷ []); written = λ s. None; closed = λ s. false }
+
+abbrev numbered_sink : Ghosts ℕ
+numbered_sink = record { faults = λ s. s - 1; left = λ s. None; written = λ s. Some (s ∷ []); closed = λ s. false }
+
+source_moved : moved_source numbered_source 7 9
     ≡ record { left = Some (7 ∷ []); left' = Some (9 ∷ []); faults = 6; faults' = 8 }
 source_moved = refl
 
-sink_moved : moved_sink (λ s. Some (s ∷ [])) (λ s. s - 1) 7 9
+sink_moved : moved_sink numbered_sink 7 9
     ≡ record { written = Some (7 ∷ []); written' = Some (9 ∷ []); faults = 6; faults' = 8 }
 sink_moved = refl
 
-shelf_moved : moved_shelf (λ s name. Some (s ∷ name)) (λ s. s - 1) 7 9
+abbrev numbered_shelf : ShelfGhosts ℕ
+numbered_shelf = record { faults = λ s. s - 1; file = λ s name. Some (s ∷ name) }
+
+shelf_moved : moved_shelf numbered_shelf 7 9
     ≡ record { file = λ name. Some (7 ∷ name); faults = 6; faults' = 8 }
 shelf_moved = refl

@@ -1,6 +1,8 @@
 -- Things of the outside before and after a call, each as one value: what it holds, as far as it tells that, and its
 -- count of faults.
 use Rattle.std.specs.Prelude.{ℕ, List, Option}
+use Rattle.skk_outside.specs.declared.outside.Outside.{Ghosts}
+use Rattle.skk_outside.specs.declared.shelf.Shelf.{Ghosts as ShelfGhosts}
 
 -- bytes, as far as they are told
 abbrev pub Told : Type 0
@@ -27,15 +29,24 @@ pub record MovedShelf : Type 0 where
   pub faults' : ℕ
 
 -- a source by its meanings, before and after
-abbrev pub moved_source : {S : Type 0} → (S → Told) → (S → ℕ) → S → S → MovedSource
-moved_source left faults old new =
-    record { left = left old; left' = left new; faults = faults old; faults' = faults new }
+abbrev pub moved_source : {S : Type 0} → Ghosts S → S → S → MovedSource
+moved_source source old new = record {
+  left = source.left old;
+  left' = source.left new;
+  faults = source.faults old;
+  faults' = source.faults new;
+}
 
 -- a sink by its meanings, before and after
-abbrev pub moved_sink : {S : Type 0} → (S → Told) → (S → ℕ) → S → S → MovedSink
-moved_sink written faults old new =
-    record { written = written old; written' = written new; faults = faults old; faults' = faults new }
+abbrev pub moved_sink : {S : Type 0} → Ghosts S → S → S → MovedSink
+moved_sink sink old new = record {
+  written = sink.written old;
+  written' = sink.written new;
+  faults = sink.faults old;
+  faults' = sink.faults new;
+}
 
 -- a shelf by its meanings, before and after
-abbrev pub moved_shelf : {S : Type 0} → (S → List ℕ → Told) → (S → ℕ) → S → S → MovedShelf
-moved_shelf file faults old new = record { file = file old; faults = faults old; faults' = faults new }
+abbrev pub moved_shelf : {S : Type 0} → ShelfGhosts S → S → S → MovedShelf
+moved_shelf shelf old new =
+    record { file = shelf.file old; faults = shelf.faults old; faults' = shelf.faults new }

@@ -5,7 +5,7 @@ ghost use Rattle.skk_outside.specs.Listeners.{Accepts, out_after};
 
 use crate::count::Count;
 use crate::listener::Listener;
-use crate::outside::{Failed, Outside};
+use crate::outside::Failed;
 use crate::stream_link::StreamLink;
 use std::io::{self, ErrorKind};
 use std::net::{Ipv4Addr, Net, OpenListener, OpenStream, SocketAddr, SocketAddrV4, TcpListener};
@@ -36,7 +36,7 @@ const SHORTAGE_WAIT: u64 = 50;
 impl<R: Net + Clock> HostListener<R> {
     /// A listener on no port yet. Takes no memory.
     pub fn new(rt: R) -> HostListener<R>
-        ensures faults { ⟦<HostListener<R> as Outside>⟧.faults result ≡ 0 }
+        ensures faults { ⟦<HostListener<R> as Listener>⟧.faults result ≡ 0 }
         ensures out { ⟦<HostListener<R> as Listener>⟧.out result ≡ 0 }
         ensures opened { ⟦<HostListener<R> as Listener>⟧.opened result ≡ None }
     {
@@ -71,12 +71,10 @@ fn is_shortage(error: &io::Error) -> bool {
     matches!(error.raw_os_error(), Some(12 | 105 | 23 | 24))
 }
 
-impl<R: Net + Clock> Outside for HostListener<R> {
-    ghost faults = { λ l. l.faults };
-}
-
 impl<R: Net + Clock> Listener for HostListener<R> {
     type Link = StreamLink<R::Stream>;
+
+    ghost faults = { λ l. l.faults };
 
     ghost coming = { λ _. None };
 

@@ -5,7 +5,7 @@ ghost use Rattle.skk_outside.specs.Faults.{Rose};
 ghost use Rattle.skk_outside.specs.Shelves.{ReadsFrom};
 
 use crate::count::Count;
-use crate::outside::{Failed, Outside};
+use crate::outside::Failed;
 use crate::shelf::Shelf;
 use skk_text::Text;
 use std::alloc::Global;
@@ -34,7 +34,7 @@ impl<R: Files> HostShelf<R> {
     /// A shelf of the files that the runtime opens. Takes no memory: the shelf keeps the allocator for
     /// the name of the file that it reads.
     pub fn new(alloc: Global, files: R) -> HostShelf<R>
-        ensures { ⟦<HostShelf<R> as Outside>⟧.faults result ≡ 0 }
+        ensures { ⟦<HostShelf<R> as Shelf>⟧.faults result ≡ 0 }
     {
         HostShelf {
             alloc,
@@ -84,11 +84,9 @@ impl<F> OpenedFile<F> {
     }
 }
 
-impl<R: Files> Outside for HostShelf<R> {
-    ghost faults = { λ s. s.faults };
-}
-
 impl<R: Files> Shelf for HostShelf<R> {
+    ghost faults = { λ s. s.faults };
+
     ghost file = { λ s name. None };
 
     /// A name that has no file, that of a directory, and a file that may not be read are faults, and so
@@ -99,12 +97,12 @@ impl<R: Files> Shelf for HostShelf<R> {
         ensures bytes { ReadsFrom (⟦<HostShelf<R> as Shelf>⟧.file self.old name.now) from result into.new }
         ensures kept { ⟦<HostShelf<R> as Shelf>⟧.file self.new ≡ ⟦<HostShelf<R> as Shelf>⟧.file self.old }
         ensures failed { OnErr result
-            (Rose (⟦<HostShelf<R> as Outside>⟧.faults self.old) (⟦<HostShelf<R> as Outside>⟧.faults self.new)) }
-        ensures counted { ⟦<HostShelf<R> as Outside>⟧.faults self.old ≤ ⟦<HostShelf<R> as Outside>⟧.faults self.new }
+            (Rose (⟦<HostShelf<R> as Shelf>⟧.faults self.old) (⟦<HostShelf<R> as Shelf>⟧.faults self.new)) }
+        ensures counted { ⟦<HostShelf<R> as Shelf>⟧.faults self.old ≤ ⟦<HostShelf<R> as Shelf>⟧.faults self.new }
         ensures no_fault { OnOk result
-            (⟦<HostShelf<R> as Outside>⟧.faults self.new ≡ ⟦<HostShelf<R> as Outside>⟧.faults self.old) }
+            (⟦<HostShelf<R> as Shelf>⟧.faults self.new ≡ ⟦<HostShelf<R> as Shelf>⟧.faults self.old) }
         ensures one_fault { OnErr result
-            (⟦<HostShelf<R> as Outside>⟧.faults self.new ≡ one_more (⟦<HostShelf<R> as Outside>⟧.faults self.old)) }
+            (⟦<HostShelf<R> as Shelf>⟧.faults self.new ≡ one_more (⟦<HostShelf<R> as Shelf>⟧.faults self.old)) }
     {
         match self.read_on(name, from, into) {
             Ok(n) => Ok(n),

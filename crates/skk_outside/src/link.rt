@@ -1,4 +1,4 @@
-ghost use Rattle.std.specs.Prelude.{◌≡◌, Bool, true};
+ghost use Rattle.std.specs.Prelude.{◌≡◌, true};
 
 use crate::outside::Outside;
 use crate::sink::Sink;
@@ -6,12 +6,9 @@ use crate::source::Source;
 
 /// A connection: bytes come from it, and bytes go to it. It has one count of faults for both.
 pub trait Link: Source + Sink {
-    /// It was closed.
-    ghost closed: { Self → Bool };
-
     /// Ends the connection for the peer. Can't fail.
     fn close(&mut self)
-        ensures closed { closed self.new ≡ true }
+        ensures closed { Self.closed self.new ≡ true }
         ensures left { Self.left self.new ≡ Self.left self.old }
         ensures written { Self.written self.new ≡ Self.written self.old }
         ensures faults { Self.faults self.new ≡ Self.faults self.old };

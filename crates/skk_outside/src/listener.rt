@@ -3,12 +3,15 @@ ghost use Rattle.skk_outside.specs.Faults.{Rose};
 ghost use Rattle.skk_outside.specs.Listeners.{Accepts, out_after};
 
 use crate::link::Link;
-use crate::outside::{Failed, Outside};
+use crate::outside::Failed;
 
 /// Where connections come from, and go to when they were served.
-pub trait Listener: Outside {
+pub trait Listener {
     /// A connection.
     type Link: Link;
+
+    /// How many of its calls failed, up to 2^64 - 1. It never falls.
+    ghost faults: { Self → ℕ };
 
     /// The links that are still to come, as they are before any use, where the listener tells them.
     ghost coming: { Self → Option (List Self.Link) };
@@ -29,8 +32,8 @@ pub trait Listener: Outside {
         ensures coming { coming self.new ≡ coming self.old }
         ensures over { over self.new ≡ over self.old }
         ensures out { out self.new ≡ out self.old }
-        ensures failed { OnErr result (Rose (Self.faults self.old) (Self.faults self.new)) }
-        ensures counted { Self.faults self.old ≤ Self.faults self.new };
+        ensures failed { OnErr result (Rose (faults self.old) (faults self.new)) }
+        ensures counted { faults self.old ≤ faults self.new };
 
     /// The next connection, for which it may wait, and none exactly where no more can come: a listener that does not
     /// tell what is to come, as a real one, never gives none.
@@ -39,8 +42,8 @@ pub trait Listener: Outside {
         ensures over { over self.new ≡ over self.old }
         ensures out { out self.new ≡ out_after (out self.old) result }
         ensures opened { opened self.new ≡ opened self.old }
-        ensures failed { OnErr result (Rose (Self.faults self.old) (Self.faults self.new)) }
-        ensures counted { Self.faults self.old ≤ Self.faults self.new };
+        ensures failed { OnErr result (Rose (faults self.old) (faults self.new)) }
+        ensures counted { faults self.old ≤ faults self.new };
 
     /// Takes a connection back that was served. Can't fail.
     fn done(&mut self, link: Self::Link)
@@ -49,5 +52,5 @@ pub trait Listener: Outside {
         ensures opened { opened self.new ≡ opened self.old }
         ensures over { over self.new ≡ option_map (λ links. links ++ link ∷ []) (over self.old) }
         ensures coming { coming self.new ≡ coming self.old }
-        ensures faults { Self.faults self.new ≡ Self.faults self.old };
+        ensures faults { faults self.new ≡ faults self.old };
 }

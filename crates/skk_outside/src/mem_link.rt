@@ -75,6 +75,8 @@ impl Outside for MemLink {
     ghost left = { λ l. Some (bytes_of_pieces l.pieces) };
 
     ghost written = { λ l. Some l.written };
+
+    ghost closed = { λ l. l.closed };
 }
 
 impl Source for MemLink {
@@ -133,8 +135,6 @@ impl Sink for MemLink {
 }
 
 impl Link for MemLink {
-    ghost closed = { λ l. l.closed };
-
     fn close(&mut self)
         ensures { self.new ≡ record self.old { closed = true } }
     {

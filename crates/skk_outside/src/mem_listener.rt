@@ -6,7 +6,7 @@ ghost use Rattle.skk_outside.specs.Memory.{no_call_yet, after_success, after_fai
 use crate::calls::Calls;
 use crate::listener::Listener;
 use crate::mem_link::MemLink;
-use crate::outside::{Failed, Outside};
+use crate::outside::Failed;
 use std::alloc::Global;
 use std::collections::VecDeque;
 use std::marker::Model;
@@ -66,12 +66,10 @@ impl MemListener {
     }
 }
 
-impl Outside for MemListener {
-    ghost faults = { λ l. l.count.faults };
-}
-
 impl Listener for MemListener {
     type Link = MemLink;
+
+    ghost faults = { λ l. l.count.faults };
 
     ghost coming = { λ l. Some l.coming };
 

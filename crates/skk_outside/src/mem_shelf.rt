@@ -9,7 +9,7 @@ ghost use Rattle.skk_outside.specs.Shelves.{ReadsFrom};
 
 use crate::calls::Calls;
 use crate::copying::copy_what_fits;
-use crate::outside::{Failed, Outside};
+use crate::outside::Failed;
 use crate::shelf::Shelf;
 use skk_text::{Bytes, Text};
 use std::marker::Model;
@@ -43,11 +43,9 @@ impl MemShelf {
     }
 }
 
-impl Outside for MemShelf {
-    ghost faults = { λ s. s.count.faults };
-}
-
 impl Shelf for MemShelf {
+    ghost faults = { λ s. s.count.faults };
+
     ghost file = { λ s. file_named s.files };
 
     /// Reads as many bytes as there is room for. A name that no file has is a fault too. Goes over the

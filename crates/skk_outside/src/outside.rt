@@ -1,4 +1,4 @@
-ghost use Rattle.std.specs.Prelude.{ℕ, List, Option, None};
+ghost use Rattle.std.specs.Prelude.{ℕ, Bool, false, List, Option, None};
 
 use thiserror::Error;
 
@@ -17,4 +17,7 @@ pub trait Outside {
 
     /// The bytes that were written to it, where it is a sink and tells them.
     ghost written: { Self → Option (List ℕ) } = { λ _. None };
+
+    /// It was closed, where it is a link.
+    ghost closed: { Self → Bool } = { λ _. false };
 }

@@ -4,13 +4,16 @@ ghost use Rattle.std.specs.Io.{ReadsAtMost};
 ghost use Rattle.skk_outside.specs.Faults.{Rose};
 ghost use Rattle.skk_outside.specs.Shelves.{StandsAt, EndsBy, ReadsFrom};
 
-use crate::outside::{Failed, Outside};
+use crate::outside::Failed;
 use crate::source::{ReadFault, empty_piece};
 use skk_text::{Bytes, Text};
 use std::alloc::Global;
 
 /// Named files, each of which is read from any place.
-pub trait Shelf: Outside {
+pub trait Shelf {
+    /// How many of its calls failed, up to 2^64 - 1. It never falls.
+    ghost faults: { Self → ℕ };
+
     /// The bytes of each named file, where the shelf tells them.
     ghost file: { Self → List ℕ → Option (List ℕ) };
 
@@ -21,8 +24,8 @@ pub trait Shelf: Outside {
         ensures bound { ReadsAtMost result into.new }
         ensures bytes { ReadsFrom (file self.old name.now) from result into.new }
         ensures kept { file self.new ≡ file self.old }
-        ensures failed { OnErr result (Rose (Self.faults self.old) (Self.faults self.new)) }
-        ensures counted { Self.faults self.old ≤ Self.faults self.new };
+        ensures failed { OnErr result (Rose (faults self.old) (faults self.new)) }
+        ensures counted { faults self.old ≤ faults self.new };
 }
 
 /// Reads a whole named file, `PIECE` bytes at a time, if it has at most `limit` bytes. Of a longer

@@ -53,6 +53,8 @@ impl<S: OpenStream> StreamLink<S> {
 
 impl<S> Outside for StreamLink<S> {
     ghost faults = { λ l. l.faults };
+
+    ghost closed = { λ l. is_none l.stream };
 }
 
 impl<S: Read + OpenStream> Source for StreamLink<S> {
@@ -147,8 +149,6 @@ impl<S: Write> Sink for StreamLink<S> {
 }
 
 impl<S: Read + Write + OpenStream + Drop> Link for StreamLink<S> {
-    ghost closed = { λ l. is_none l.stream };
-
     /// Waits for a peer that still sends for at most a second or so, so that what was written reaches it: the system
     /// gives up what is under way where bytes of the peer were not read.
     fn close(&mut self)

@@ -4,14 +4,16 @@ use Rattle.std.proofs.Common.{length, map, slice_set, slice_index_or, refl, sym,
 use Rattle.std.proofs.lemmas.List.Sums.{sum-map}
 use Rattle.std.proofs.lemmas.List.{length-map}
 use Rattle.std.specs.List.{sum}
+use Rattle.skk_outside.specs.declared.outside.Outside.{Ghosts as OutsideGhosts}
 use Rattle.romaji_rules.specs.declared.rule.Rule.{Rule}
+use Rattle.skk_calls.specs.declared.caller.Caller.{Ghosts as CallerGhosts}
 use Rattle.skk_server.specs.declared.end.End.{End}
 use Rattle.skk_server.specs.declared.hall.Hall.{Hall}
 use Rattle.skk_server.specs.declared.promised.Promised.{Promised}
 use Rattle.skk_server.specs.declared.work.Accepted.{Accepted}
 use Rattle.skk_server.specs.declared.work.Accepted.TheVariants.{Running, Done, Refused}
 use Rattle.skk_server.specs.Stages.{JoinsSome}
-use Rattle.skk_server.specs.Visits.{SeenLink, SeenCaller, HasWorked}
+use Rattle.skk_server.specs.Visits.{HasWorked}
 use Rattle.skk_server.specs.Works.{begun, passes_of, passes_under_way, running_of, BeganWith, IsPromised}
 use Rattle.skk_server.specs.Works.{IsUnderWay, AreUnderWay, Joins, AreJoined}
 
@@ -26,7 +28,7 @@ module _ {L C : Type 0} where
 
 -- Single works
 
-module _ {L C : Type 0} (links : SeenLink L) (callers : SeenCaller C) where
+module _ {L C : Type 0} (links : OutsideGhosts L) (callers : CallerGhosts C) where
   -- what a worker hands back is made of what it is told to have begun with
   pub worked-promised : (promise was : Promised L C) (link : L) (pass : C) (end : End) → IsPromised promise was
       → HasWorked links callers promise.rules.value promise.link.value promise.pass.value link pass end
@@ -69,7 +71,7 @@ module _ {L C : Type 0} (links : SeenLink L) (callers : SeenCaller C) where
   joins-again (Refused link was) work' work'' joins again =
       subst (λ w. Joins links callers w work'') joins again ∙ sym joins
 
-module _ {L C : Type 0} (rules : List Rule) (links : SeenLink L) (callers : SeenCaller C) where
+module _ {L C : Type 0} (rules : List Rule) (links : OutsideGhosts L) (callers : CallerGhosts C) where
   -- a work is under way as it was, where nothing came behind it
   way-behind : (number : ℕ) (work : Accepted L C) (behind behind' : List (Accepted L C)) → (behind ≡ [] → behind' ≡ [])
       → IsUnderWay rules links callers number work behind → IsUnderWay rules links callers number work behind'
@@ -97,7 +99,7 @@ module _ {L C : Type 0} (rules : List Rule) (links : SeenLink L) (callers : Seen
 
 -- Works in order
 
-module _ {L C : Type 0} (links : SeenLink L) (callers : SeenCaller C) where
+module _ {L C : Type 0} (links : OutsideGhosts L) (callers : CallerGhosts C) where
   -- works of which none was joined
   pub none-joined : (works : List (Accepted L C)) → AreJoined links callers works works
   none-joined [] = tt
@@ -187,7 +189,7 @@ module _ {L C : Type 0} (links : SeenLink L) (callers : SeenCaller C) where
 
 -- Halls
 
-module _ {L C S : Type 0} {links : SeenLink L} {callers : SeenCaller C} where
+module _ {L C S : Type 0} {links : OutsideGhosts L} {callers : CallerGhosts C} where
   -- none was joined
   pub joins-none : {hall : Hall L C S} → JoinsSome links callers hall hall
   joins-none {hall = hall} = record {

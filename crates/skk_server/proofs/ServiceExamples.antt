@@ -1,11 +1,14 @@
 -- What is said of connections that were served, and of how their serving ended, at some of them.
 use Rattle.std.proofs.Common.{◌≡◌, List, [], ◌∷◌, None, Some, refl, arith, inl, inr}
+use Rattle.skk_outside.specs.declared.outside.Outside.{Ghosts as OutsideGhosts}
+use Rattle.skk_outside.specs.declared.listener.Listener.{Ghosts as ListenerGhosts}
 use Rattle.romaji_rules.specs.declared.rule.Rule.{Rule}
+use Rattle.skk_calls.specs.declared.caller.Kept.{Ghosts as KeptGhosts}
 use Rattle.skk_server.specs.declared.served_end.ServedEnd.TheVariants.{Done, Fault, Memory}
-use Rattle.skk_server.specs.Services.{SeenListener, EndsServing}
-use Rattle.skk_server.specs.Visits.{SeenLink, SeenCaller, Visit, AreServed}
+use Rattle.skk_server.specs.Services.{EndsServing}
+use Rattle.skk_server.specs.Visits.{Visit, AreServed}
 
-module _ {L S : Type 0} (rules : List Rule) (links : SeenLink L) (slips : SeenCaller S) where
+module _ {L S : Type 0} (rules : List Rule) (links : OutsideGhosts L) (slips : KeptGhosts S) where
   -- no connection was served
   pub none-served : AreServed rules links slips 7 [] []
   none-served = tt
@@ -23,7 +26,7 @@ module _ {L S : Type 0} (rules : List Rule) (links : SeenLink L) (slips : SeenCa
   pub no-slip-alone : (slip : S) → AreServed rules links slips 7 [] (slip ∷ []) → ⊥
   no-slip-alone slip are = are
 
-module _ {N L : Type 0} (nets : SeenListener N L) (net net' : N) where
+module _ {N L : Type 0} (nets : ListenerGhosts N L) (net net' : N) where
   -- the serving of none of none is done
   pub none-of-none : EndsServing nets net net' 0 0 0 Done
   none-of-none = (refl, inl refl)

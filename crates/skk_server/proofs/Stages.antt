@@ -6,7 +6,11 @@ use Rattle.std.proofs.lemmas.List.{map-append, length-append, length-map}
 use Rattle.std.proofs.lemmas.List.Sums.{sum_by_push}
 use Rattle.std.specs.Option.{option_map}
 use Rattle.romaji_rules.specs.declared.rule.Rule.{Rule}
+use Rattle.skk_outside.specs.declared.listener.Listener.{Ghosts as ListenerGhosts}
+use Rattle.skk_outside.specs.declared.outside.Outside.{Ghosts as OutsideGhosts}
 use Rattle.skk_outside.specs.Faults.{Rose}
+use Rattle.skk_calls.specs.declared.caller.Caller.{Ghosts as CallerGhosts}
+use Rattle.skk_calls.specs.declared.caller.Kept.{Ghosts as KeptGhosts}
 use Rattle.skk_server.specs.declared.end.End.{End}
 use Rattle.skk_server.specs.declared.end.End.TheVariants.{Memory}
 use Rattle.skk_server.specs.declared.hall.Hall.{Hall}
@@ -17,10 +21,10 @@ use Rattle.skk_server.specs.declared.served_end.ServedEnd.TheVariants as ended
 use Rattle.skk_server.specs.declared.start.Start.{Start}
 use Rattle.skk_server.specs.declared.work.Accepted.{Accepted}
 use Rattle.skk_server.specs.Ends.{Serves, moved_link}
-use Rattle.skk_server.specs.Services.{SeenListener, EndsServing, ServesAll}
+use Rattle.skk_server.specs.Services.{EndsServing, ServesAll}
 use Rattle.skk_server.specs.Stages.{accepted_in, passes_in, CountsStay, Stage, TakesLink, GivesBack}
 use Rattle.skk_server.specs.Stages.{AddsWork, Opens, JoinsSome}
-use Rattle.skk_server.specs.Visits.{SeenLink, SeenCaller, Visit, ServesLink, IsServed, HasWorked, AreServed}
+use Rattle.skk_server.specs.Visits.{Visit, ServesLink, IsServed, HasWorked, AreServed}
 use Rattle.skk_server.specs.Works.{begun, passes_of, passes_under_way, BeganWith, IsClosed, IsUnderWay, AreUnderWay}
 use Rattle.skk_server.proofs.Joins.{begun-all, passes-all, length-all, way-all}
 use Rattle.skk_server.proofs.Turns.{unserved}
@@ -43,9 +47,9 @@ empty [] none = refl
 empty (x ∷ xs) none = absurd (omega (arith, none))
 
 -- a link that was closed has moved nothing
-closed-moved : {L : Type 0} (links : SeenLink L) (link link' : L) → IsClosed links link link'
-    → moved_link links.left links.written links.faults link link
-    ≡ moved_link links.left links.written links.faults link link'
+closed-moved : {L : Type 0} (links : OutsideGhosts L) (link link' : L) → IsClosed links link link'
+    → moved_link links link link
+    ≡ moved_link links link link'
 closed-moved links link link' closed =
     ap (λ x. record {
       left = links.left link;
@@ -73,19 +77,19 @@ closed-moved links link link' closed =
     }) (sym closed.faults_is))
 
 -- a link that was closed, and nothing else, was served as one of which memory was out
-closed-served : {L : Type 0} (rules : List Rule) (links : SeenLink L) (link link' : L) → IsClosed links link link'
+closed-served : {L : Type 0} (rules : List Rule) (links : OutsideGhosts L) (link link' : L) → IsClosed links link link'
     → ServesLink rules links link link' [] [] Memory
 closed-served rules links link link' closed =
     record {
       serves = subst (λ moved. Serves rules moved [] [] Memory) (closed-moved links link link' closed)
-          (unserved rules links.left links.written links.faults link []);
+          (unserved rules links link []);
       is_closed = closed.closed_is;
       counted = omega (arith, closed.faults_is);
     }
 
 -- Counts
 
-module _ {L C S : Type 0} {links : SeenLink L} {callers : SeenCaller C} {hall hall' : Hall L C S} where
+module _ {L C S : Type 0} {links : OutsideGhosts L} {callers : CallerGhosts C} {hall hall' : Hall L C S} where
   -- those of a hall to which a work was added
   pub counts-begin : {rules : List Rule} {drawn drawn' : ℕ} {link : L}
       → AddsWork rules links callers drawn drawn' link hall hall'
@@ -106,8 +110,8 @@ module _ {L C S : Type 0} {links : SeenLink L} {callers : SeenCaller C} {hall ha
       let left = ap (λ passes. length passes.items) joins.passes_stay in
       (omega (arith, works, ends), omega (arith, passes, left))
 
-module _ {N L C S : Type 0} {nets : SeenListener N L} {links : SeenLink L} {callers : SeenCaller C}
-    {slips : SeenCaller S} {start : Start N} where
+module _ {N L C S : Type 0} {nets : ListenerGhosts N L} {links : OutsideGhosts L} {callers : CallerGhosts C}
+    {slips : KeptGhosts S} {start : Start N} where
   -- One begins
 
   -- a hall that has given every connection a pass has done so for those that are over
@@ -374,7 +378,7 @@ module _ {N L C S : Type 0} {nets : SeenListener N L} {links : SeenLink L} {call
       opens.number_is (stage-over stage over few drawn_is ends_so passes_are ends_are count_is)))
 
 -- an end stays where no link came, no call failed, and as many were counted
-ends-by : {N L : Type 0} (nets : SeenListener N L) (first net net' : N) (asked accepted passes : ℕ) (end : ServedEnd)
+ends-by : {N L : Type 0} (nets : ListenerGhosts N L) (first net net' : N) (asked accepted passes : ℕ) (end : ServedEnd)
     → nets.coming net' ≡ nets.coming net → nets.faults net' ≡ nets.faults net
     → EndsServing nets first net asked accepted passes end → EndsServing nets first net' asked accepted passes end
 ends-by nets first net net' asked accepted passes ended.Done coming_is faults_is ends =
@@ -383,7 +387,8 @@ ends-by nets first net net' asked accepted passes ended.Fault coming_is faults_i
     subst (λ faults. (accepted ≡ passes) × (passes < asked) × Rose (nets.faults first) faults) (sym faults_is) ends
 ends-by nets first net net' asked accepted passes ended.Memory coming_is faults_is ends = ends
 
-pub ends-stay : {N L C S : Type 0} (nets : SeenListener N L) (first net net' : N) (hall hall' : Hall L C S) (asked : ℕ)
+pub ends-stay : {N L C S : Type 0} (nets : ListenerGhosts N L) (first net net' : N) (hall hall' : Hall L C S)
+    (asked : ℕ)
     (end : ServedEnd) → nets.coming net' ≡ nets.coming net → nets.faults net' ≡ nets.faults net → CountsStay hall hall'
     → EndsServing nets first net asked (accepted_in hall) (passes_in hall) end
     → EndsServing nets first net' asked (accepted_in hall') (passes_in hall') end
@@ -393,7 +398,7 @@ ends-stay nets first net net' hall hall' asked end coming_is faults_is counts en
     (ends-by nets first net net' asked (accepted_in hall) (passes_in hall) end coming_is faults_is ends))
 
 -- where as many connections were served as were asked for, none, the serving is done, and else memory was out
-ends-none : {N L : Type 0} (nets : SeenListener N L) (net : N) (asked : ℕ) (end : ServedEnd)
+ends-none : {N L : Type 0} (nets : ListenerGhosts N L) (net : N) (asked : ℕ) (end : ServedEnd)
     → (asked ≡ 0 → end ≡ ended.Done) → (0 < asked → end ≡ ended.Memory) → EndsServing nets net net asked 0 0 end
 ends-none nets net zero end done wanting =
     subst (λ e. EndsServing nets net net 0 0 0 e) (sym (done refl)) (refl, inl refl)
@@ -401,8 +406,8 @@ ends-none nets net (suc asked) end done wanting =
     subst (λ e. EndsServing nets net net (suc asked) 0 0 e) (sym (wanting (omega arith))) (omega arith)
 
 -- nothing was accepted, since there is no memory for the first connection
-pub none-serves : {N L S : Type 0} {rules : List Rule} {nets : SeenListener N L} {links : SeenLink L}
-    {slips : SeenCaller S} {asked : ℕ} {net : N} {drawn : ℕ} {answered : Served S} → answered.count ≡ 0
+pub none-serves : {N L S : Type 0} {rules : List Rule} {nets : ListenerGhosts N L} {links : OutsideGhosts L}
+    {slips : KeptGhosts S} {asked : ℕ} {net : N} {drawn : ℕ} {answered : Served S} → answered.count ≡ 0
     → answered.passes.items ≡ [] → answered.ends.items ≡ [] → (asked ≡ 0 → answered.end ≡ ended.Done)
     → (0 < asked → answered.end ≡ ended.Memory) → ServesAll rules nets links slips asked net net drawn drawn answered
 none-serves {rules = rules} {nets = nets} {links = links} {slips = slips} {asked = asked} {net = net} {drawn = drawn}

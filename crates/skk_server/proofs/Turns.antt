@@ -4,6 +4,7 @@ use Rattle.std.proofs.Common.{append-nil, append_assoc, length-append, ◌⊎◌
 use Rattle.std.proofs.KnownBytes.{Appends-nil, Appends-trans, Consumes-nil, Consumes-trans}
 use Rattle.std.specs.Io.KnownBytes.{Appends, Consumes}
 use Rattle.romaji_rules.specs.declared.rule.Rule.{Rule}
+use Rattle.skk_outside.specs.declared.outside.Outside.{Ghosts as OutsideGhosts}
 use Rattle.skk_outside.specs.Faults.{Rose}
 use Rattle.skk_outside.specs.Moved.{Told}
 use Rattle.skk_outside.specs.Written.{IsPrefix}
@@ -268,22 +269,23 @@ sent-behind known sent kept replies less end is =
     (sent-more sent less (kept ++ replies) end is))
 
 -- the connection ends with a part, behind which other bytes may have been read
-pub read-ends : {L : Type 0} (rules : List Rule) (left written : L → Told) (faults : L → ℕ) (first middle last : L)
+pub read-ends : {L : Type 0} (rules : List Rule) (links : OutsideGhosts L) (first middle last : L)
     (said said' said'' : Dialog) (talk talk' : Talk) (kept front part later piece : List ℕ) (end : End)
-    → AnswersRead rules (written first) (written middle) said said' talk talk' kept front
-    → faults first ≤ faults middle
-    → EndsPart rules (moved_link left written faults middle last) said' said'' talk' kept part end
+    → AnswersRead rules (links.written first) (links.written middle) said said' talk talk' kept front
+    → links.faults first ≤ links.faults middle
+    → EndsPart rules (moved_link links middle last) said' said'' talk' kept part end
     → front ++ (part ++ later) ≡ piece
-    → EndsRead rules (moved_link left written faults first last) said said'' talk piece end
-read-ends rules left written faults first middle last said said' said'' talk talk' kept front part later piece end read
+    → EndsRead rules (moved_link links first last) said said'' talk piece end
+read-ends rules links first middle last said said' said'' talk talk' kept front part later piece end read
     few ends' is =
     record {
       dialog = read.dialog ++ ends'.dialog;
       sent = read.sent ++ ends'.sent;
       says = ends'.says ∙ ap (λ d. d ++ ends'.dialog) read.says ∙ append_assoc said read.dialog ends'.dialog;
-      writes = Appends-trans (written first) (written middle) (written last) read.sent ends'.sent read.writes
+      writes = Appends-trans (links.written first) (links.written middle) (links.written last) read.sent ends'.sent
+          read.writes
           ends'.writes;
-      rose = λ same. rose-before (faults first) (faults middle) (faults last) few (ends'.rose same);
+      rose = λ same. rose-before (links.faults first) (links.faults middle) (links.faults last) few (ends'.rose same);
       ends_so = λ bytes known known_sent at.
           subst (λ (b : List ℕ). EndsIn rules end b (known ++ (read.dialog ++ ends'.dialog))
           (known_sent ++ (read.sent ++ ends'.sent)))
@@ -334,32 +336,34 @@ read-unsent rules link middle faults said said' talk talk' kept less piece there
 -- Turns
 
 -- a connection ends in a turn
-pub turn-ends : {L : Type 0} (rules : List Rule) (left written : L → Told) (faults : L → ℕ) (first middle last : L)
+pub turn-ends : {L : Type 0} (rules : List Rule) (links : OutsideGhosts L) (first middle last : L)
     (said said' : Dialog) (talk : Talk) (taken : ℕ) (piece : List ℕ) (end : End) → LeadsThere
-    → EndsRead rules (moved_link left written faults middle last) said said' talk piece end
-    → written middle ≡ written first → faults first ≤ faults middle → Consumes (left first) (left last) piece
+    → EndsRead rules (moved_link links middle last) said said' talk piece end
+    → links.written middle ≡ links.written first → links.faults first ≤ links.faults middle → Consumes
+    (links.left first) (links.left last) piece
     → length piece ≤ longest_piece → taken + length piece ≤ most_bytes
-    → EndsTurn rules (moved_link left written faults first last) said said' talk taken end
-turn-ends rules left written faults first middle last said said' talk taken piece end there ends' kept fewer takes short
+    → EndsTurn rules (moved_link links first last) said said' talk taken end
+turn-ends rules links first middle last said said' talk taken piece end there ends' kept fewer takes short
     few =
     record {
       piece = piece;
       dialog = ends'.dialog;
       sent = ends'.sent;
       takes = takes;
-      writes = subst (λ w. Appends w (written last) ends'.sent) kept ends'.writes;
+      writes = subst (λ w. Appends w (links.written last) ends'.sent) kept ends'.writes;
       says = ends'.says;
       few = few;
       ends_so = λ bytes known known_sent at.
           ends-by end bytes known known_sent at
-          (λ same. rose-before (faults first) (faults middle) (faults last) fewer (ends'.rose same))
+          (λ same. rose-before (links.faults first) (links.faults middle) (links.faults last) fewer (ends'.rose same))
           (ends'.ends_so bytes known known_sent at);
     }
   where
     ends-by : (end' : End) (bytes : List ℕ) (known : Dialog) (known_sent : List ℕ)
-        → StandsAt rules talk bytes known known_sent → (end' ≡ LinkFault → Rose (faults first) (faults last))
+        → StandsAt rules talk bytes known known_sent → (end' ≡ LinkFault → Rose (links.faults first)
+        (links.faults last))
         → EndsIn rules end' (bytes ++ piece) (known ++ ends'.dialog) (known_sent ++ ends'.sent)
-        → EndsBy rules (moved_link left written faults first last) (bytes ++ piece) (known ++ ends'.dialog)
+        → EndsBy rules (moved_link links first last) (bytes ++ piece) (known ++ ends'.dialog)
         (known_sent ++ ends'.sent) end'
     ends-by Closed bytes known known_sent at rose ends_in = inl ends_in
     ends-by LinkFault bytes known known_sent at rose ends_in = (
@@ -385,16 +389,16 @@ turn-ends rules left written faults first middle last said said' talk taken piec
 -- All turns
 
 -- nothing was read yet
-pub so-far-new : {L : Type 0} (rules : List Rule) (left written : L → Told) (faults : L → ℕ) (link : L) (said : Dialog)
+pub so-far-new : {L : Type 0} (rules : List Rule) (links : OutsideGhosts L) (link : L) (said : Dialog)
     (talk : Talk) (taken : ℕ) → talk ≡ New → taken ≡ 0
-    → ServesSoFar rules (moved_link left written faults link link) said said talk taken
-so-far-new rules left written faults link said talk taken new zero =
+    → ServesSoFar rules (moved_link links link link) said said talk taken
+so-far-new rules links link said talk taken new zero =
     record {
       bytes = [];
       dialog = [];
       sent = [];
-      takes = Consumes-nil (left link);
-      writes = Appends-nil (written link);
+      takes = Consumes-nil (links.left link);
+      writes = Appends-nil (links.written link);
       says = sym (append-nil said);
       counted = zero;
       few = omega (arith, zero);
@@ -403,19 +407,21 @@ so-far-new rules left written faults link said talk taken new zero =
     }
 
 -- a turn more
-pub so-far-on : {L : Type 0} (rules : List Rule) (left written : L → Told) (faults : L → ℕ) (first middle last : L)
+pub so-far-on : {L : Type 0} (rules : List Rule) (links : OutsideGhosts L) (first middle last : L)
     (said said' said'' : Dialog) (talk talk' : Talk) (taken taken' : ℕ)
-    → ServesSoFar rules (moved_link left written faults first middle) said said' talk taken
-    → TakesTurn rules (moved_link left written faults middle last) said' said'' talk talk' taken taken'
-    → faults middle ≤ faults last
-    → ServesSoFar rules (moved_link left written faults first last) said said'' talk' taken'
-so-far-on rules left written faults first middle last said said' said'' talk talk' taken taken' so_far turn rose =
+    → ServesSoFar rules (moved_link links first middle) said said' talk taken
+    → TakesTurn rules (moved_link links middle last) said' said'' talk talk' taken taken'
+    → links.faults middle ≤ links.faults last
+    → ServesSoFar rules (moved_link links first last) said said'' talk' taken'
+so-far-on rules links first middle last said said' said'' talk talk' taken taken' so_far turn rose =
     record {
       bytes = so_far.bytes ++ turn.piece;
       dialog = so_far.dialog ++ turn.dialog;
       sent = so_far.sent ++ turn.sent;
-      takes = Consumes-trans (left first) (left middle) (left last) so_far.bytes turn.piece so_far.takes turn.takes;
-      writes = Appends-trans (written first) (written middle) (written last) so_far.sent turn.sent so_far.writes
+      takes = Consumes-trans (links.left first) (links.left middle) (links.left last) so_far.bytes turn.piece
+          so_far.takes turn.takes;
+      writes = Appends-trans (links.written first) (links.written middle) (links.written last) so_far.sent turn.sent
+          so_far.writes
           turn.writes;
       says = turn.says ∙ ap (λ d. d ++ turn.dialog) so_far.says ∙ append_assoc said so_far.dialog turn.dialog;
       counted = omega (arith, turn.counted, so_far.counted, length-append so_far.bytes turn.piece);
@@ -425,33 +431,35 @@ so-far-on rules left written faults first middle last said said' said'' talk tal
     }
 
 -- an end is one of all calls of a link where it is one of the last
-ends-through : {L : Type 0} (rules : List Rule) (left written : L → Told) (faults : L → ℕ) (first middle last : L)
-    (bytes : List ℕ) (dialog : Dialog) (sent : List ℕ) (end : End) → faults first ≤ faults middle
-    → EndsBy rules (moved_link left written faults middle last) bytes dialog sent end
-    → EndsBy rules (moved_link left written faults first last) bytes dialog sent end
-ends-through rules left written faults first middle last bytes dialog sent Closed rose ends_so = ends_so
-ends-through rules left written faults first middle last bytes dialog sent LinkFault rose (some, front, rise) =
-    (some, front, rose-before (faults first) (faults middle) (faults last) rose rise)
-ends-through rules left written faults first middle last bytes dialog sent Limit rose ends_so = ends_so
-ends-through rules left written faults first middle last bytes dialog sent Memory rose ends_so = ends_so
+ends-through : {L : Type 0} (rules : List Rule) (links : OutsideGhosts L) (first middle last : L)
+    (bytes : List ℕ) (dialog : Dialog) (sent : List ℕ) (end : End) → links.faults first ≤ links.faults middle
+    → EndsBy rules (moved_link links middle last) bytes dialog sent end
+    → EndsBy rules (moved_link links first last) bytes dialog sent end
+ends-through rules links first middle last bytes dialog sent Closed rose ends_so = ends_so
+ends-through rules links first middle last bytes dialog sent LinkFault rose (some, front, rise) =
+    (some, front, rose-before (links.faults first) (links.faults middle) (links.faults last) rose rise)
+ends-through rules links first middle last bytes dialog sent Limit rose ends_so = ends_so
+ends-through rules links first middle last bytes dialog sent Memory rose ends_so = ends_so
 
 -- a turn that ends it
-pub so-far-ends : {L : Type 0} (rules : List Rule) (left written : L → Told) (faults : L → ℕ) (first middle last : L)
+pub so-far-ends : {L : Type 0} (rules : List Rule) (links : OutsideGhosts L) (first middle last : L)
     (said said' said'' : Dialog) (talk : Talk) (taken : ℕ) (end : End)
-    → ServesSoFar rules (moved_link left written faults first middle) said said' talk taken
-    → EndsTurn rules (moved_link left written faults middle last) said' said'' talk taken end
-    → Serves rules (moved_link left written faults first last) said said'' end
-so-far-ends rules left written faults first middle last said said' said'' talk taken end so_far turn =
+    → ServesSoFar rules (moved_link links first middle) said said' talk taken
+    → EndsTurn rules (moved_link links middle last) said' said'' talk taken end
+    → Serves rules (moved_link links first last) said said'' end
+so-far-ends rules links first middle last said said' said'' talk taken end so_far turn =
     record {
       bytes = so_far.bytes ++ turn.piece;
       dialog = so_far.dialog ++ turn.dialog;
       sent = so_far.sent ++ turn.sent;
-      takes = Consumes-trans (left first) (left middle) (left last) so_far.bytes turn.piece so_far.takes turn.takes;
+      takes = Consumes-trans (links.left first) (links.left middle) (links.left last) so_far.bytes turn.piece
+          so_far.takes turn.takes;
       few = omega (arith, turn.few, so_far.counted, length-append so_far.bytes turn.piece);
       says = turn.says ∙ ap (λ d. d ++ turn.dialog) so_far.says ∙ append_assoc said so_far.dialog turn.dialog;
-      writes = Appends-trans (written first) (written middle) (written last) so_far.sent turn.sent so_far.writes
+      writes = Appends-trans (links.written first) (links.written middle) (links.written last) so_far.sent turn.sent
+          so_far.writes
           turn.writes;
-      ends_so = ends-through rules left written faults first middle last (so_far.bytes ++ turn.piece)
+      ends_so = ends-through rules links first middle last (so_far.bytes ++ turn.piece)
           (so_far.dialog ++ turn.dialog) (so_far.sent ++ turn.sent) end so_far.faults
           (turn.ends_so so_far.bytes so_far.dialog so_far.sent so_far.stands);
     }
@@ -476,18 +484,18 @@ so-far-limit rules link said said' talk taken there so_far full =
     }
 
 -- memory was out before anything was read
-pub unserved : {L : Type 0} (rules : List Rule) (left written : L → Told) (faults : L → ℕ) (link : L) (said : Dialog)
-    → Serves rules (moved_link left written faults link link) said said Memory
-unserved rules left written faults link said =
+pub unserved : {L : Type 0} (rules : List Rule) (links : OutsideGhosts L) (link : L) (said : Dialog)
+    → Serves rules (moved_link links link link) said said Memory
+unserved rules links link said =
     let nothing = nothing-means rules in
     record {
       bytes = [];
       dialog = [];
       sent = [];
-      takes = Consumes-nil (left link);
+      takes = Consumes-nil (links.left link);
       few = omega (arith);
       says = sym (append-nil said);
-      writes = Appends-nil (written link);
+      writes = Appends-nil (links.written link);
       ends_so = record {
         front = [];
         rest = [];

@@ -3,10 +3,13 @@ use Rattle.std.proofs.Common.{◌≡◌, ◌∙◌, ◌≤◌, ℕ, ◌+◌, Lis
 use Rattle.std.proofs.Common.{Option, None, Some, append_assoc}
 use Rattle.std.proofs.lemmas.List.Sums.{sum_by-cons}
 use Rattle.std.specs.Option.{option_map}
+use Rattle.skk_outside.specs.declared.outside.Outside.{Ghosts as OutsideGhosts}
 use Rattle.romaji_rules.specs.declared.rule.Rule.{Rule}
+use Rattle.skk_calls.specs.declared.caller.Caller.{Ghosts as CallerGhosts}
+use Rattle.skk_calls.specs.declared.caller.Kept.{Ghosts as KeptGhosts}
 use Rattle.skk_server.specs.declared.work.Accepted.{Accepted}
 use Rattle.skk_server.specs.declared.work.Accepted.TheVariants.{Running, Done, Refused}
-use Rattle.skk_server.specs.Visits.{SeenLink, SeenCaller, Visit, IsServed, HasNoPass, AreServed}
+use Rattle.skk_server.specs.Visits.{Visit, IsServed, HasNoPass, AreServed}
 use Rattle.skk_server.specs.Works.{passes_of, passes_under_way, IsUnderWay, AreUnderWay}
 
 -- Links that are told
@@ -29,7 +32,7 @@ more-over (Some before) known link over over' so_far one =
 
 -- Connections that were served
 
-module _ {L S : Type 0} (rules : List Rule) (links : SeenLink L) (slips : SeenCaller S) where
+module _ {L S : Type 0} (rules : List Rule) (links : OutsideGhosts L) (slips : KeptGhosts S) where
   -- one more, with what is left of its caller
   pub served-more : (first : ℕ) (visits : List (Visit L)) (left : List S) (visit : Visit L) (slip : S)
       → AreServed rules links slips first visits left → length left ≡ length visits → IsServed rules links visit
@@ -79,7 +82,7 @@ module _ {L C : Type 0} where
       let one = pass-few work in
       let few = passes-few works in omega (arith, one, few, sum_by-cons passes_of work works)
 
-module _ {L C : Type 0} (rules : List Rule) (links : SeenLink L) (callers : SeenCaller C) where
+module _ {L C : Type 0} (rules : List Rule) (links : OutsideGhosts L) (callers : CallerGhosts C) where
   -- a work with a pass is under way whatever is behind it
   pass-anyhow : (number : ℕ) (work : Accepted L C) (behind others : List (Accepted L C)) → passes_of work ≡ 1
       → IsUnderWay rules links callers number work behind → IsUnderWay rules links callers number work others

@@ -2,6 +2,7 @@
 use Rattle.std.specs.Prelude.{◌≡◌, ◌⊎◌, ◌≤◌, ◌++◌, ℕ, List, length}
 use Rattle.std.specs.Io.KnownBytes.{Appends, Consumes, IsAtEnd}
 use Rattle.romaji_rules.specs.declared.rule.Rule.{Rule}
+use Rattle.skk_outside.specs.declared.outside.Outside.{Ghosts as OutsideGhosts}
 use Rattle.skk_outside.specs.Faults.{Rose}
 use Rattle.skk_outside.specs.Moved.{Told}
 use Rattle.skk_outside.specs.Written.{IsPrefix}
@@ -29,16 +30,15 @@ pub record MovedLink : Type 0 where
   pub faults' : ℕ
 
 -- a link by its meanings, before and after
-abbrev pub moved_link : {L : Type 0} → (L → Told) → (L → Told) → (L → ℕ) → L → L → MovedLink
-moved_link left written faults old new =
-    record {
-      left = left old;
-      left' = left new;
-      written = written old;
-      written' = written new;
-      faults = faults old;
-      faults' = faults new;
-    }
+abbrev pub moved_link : {L : Type 0} → OutsideGhosts L → L → L → MovedLink
+moved_link links old new = record {
+  left = links.left old;
+  left' = links.left new;
+  written = links.written old;
+  written' = links.written new;
+  faults = links.faults old;
+  faults' = links.faults new;
+}
 
 -- all that bytes ask was asked, with all that is sent for it, and the connection then stands so
 abbrev pub AnswersAll : List Rule → List ℕ → Dialog → List ℕ → Stand → Type 0

@@ -3,14 +3,17 @@ use Rattle.std.specs.Prelude.{◌≡◌, ◌<◌, ◌≤◌, ℕ, ◌+◌, Some,
 use Rattle.std.specs.Prelude.{vec_len, vec_capacity}
 use Rattle.std.specs.VecDeque.{deque_len, deque_capacity}
 use Rattle.romaji_rules.specs.declared.rule.Rule.{Rule}
+use Rattle.skk_outside.specs.declared.listener.Listener.{Ghosts as ListenerGhosts}
+use Rattle.skk_outside.specs.declared.outside.Outside.{Ghosts as OutsideGhosts}
 use Rattle.skk_outside.specs.Faults.{Rose}
+use Rattle.skk_calls.specs.declared.caller.Caller.{Ghosts as CallerGhosts}
+use Rattle.skk_calls.specs.declared.caller.Kept.{Ghosts as KeptGhosts}
 use Rattle.skk_server.specs.declared.hall.Hall.{Hall}
 use Rattle.skk_server.specs.declared.served_end.ServedEnd.{ServedEnd}
 use Rattle.skk_server.specs.declared.served_end.ServedEnd.TheVariants.{Done, Fault, Memory}
 use Rattle.skk_server.specs.declared.start.Start.{Start}
 use Rattle.skk_server.specs.declared.work.Accepted.{Accepted}
-use Rattle.skk_server.specs.Services.{SeenListener}
-use Rattle.skk_server.specs.Visits.{SeenLink, SeenCaller, Visit, AreServed}
+use Rattle.skk_server.specs.Visits.{Visit, AreServed}
 use Rattle.skk_server.specs.Works.{begun, passes_of, passes_under_way, running_in, IsUnderWay, AreUnderWay, AreJoined}
 
 -- the most workers at once
@@ -56,15 +59,15 @@ abbrev pub CountsStay : {L C S : Type 0} → Hall L C S → Hall L C S → Type 
 CountsStay hall hall' = (accepted_in hall' ≡ accepted_in hall) × (passes_in hall' ≡ passes_in hall)
 
 -- workers that have ended were joined, and nothing else is another in a hall
-pub record JoinsSome {L C S : Type 0} (links : SeenLink L) (callers : SeenCaller C) (hall hall' : Hall L C S) : Type 0
-  where
-    pub joined : AreJoined links callers hall.works.items hall'.works.items
-    pub passes_stay : hall'.passes ≡ hall.passes
-    pub ends_stay : hall'.ends ≡ hall.ends
+pub record JoinsSome {L C S : Type 0} (links : OutsideGhosts L) (callers : CallerGhosts C)
+    (hall hall' : Hall L C S) : Type 0 where
+  pub joined : AreJoined links callers hall.works.items hall'.works.items
+  pub passes_stay : hall'.passes ≡ hall.passes
+  pub ends_stay : hall'.ends ≡ hall.ends
 
 -- of the connections that were accepted from the start on, the first ones were served, and the others are under way
-pub record Stage {N L C S : Type 0} (nets : SeenListener N L) (links : SeenLink L) (callers : SeenCaller C)
-    (slips : SeenCaller S) (start : Start N) (net : N) (hall : Hall L C S) : Type 0 where
+pub record Stage {N L C S : Type 0} (nets : ListenerGhosts N L) (links : OutsideGhosts L) (callers : CallerGhosts C)
+    (slips : KeptGhosts S) (start : Start N) (net : N) (hall : Hall L C S) : Type 0 where
   pub visits : List (Visit L)
   pub served : AreServed start.rules.value links slips start.first visits hall.passes.items
   pub under_way : AreUnderWay start.rules.value links callers (start.first + length hall.passes.items) hall.works.items
@@ -79,7 +82,7 @@ pub record Stage {N L C S : Type 0} (nets : SeenListener N L) (links : SeenLink 
   pub level : 0 < length hall.works.items → length hall.passes.items ≡ length visits
 
 -- a link was accepted
-pub record TakesLink {N L : Type 0} (nets : SeenListener N L) (net net' : N) (link : L) : Type 0 where
+pub record TakesLink {N L : Type 0} (nets : ListenerGhosts N L) (net net' : N) (link : L) : Type 0 where
   pub comes : nets.coming net ≡ option_map (λ rest. link ∷ rest) (nets.coming net')
   pub over_is : nets.over net' ≡ nets.over net
   pub out_is : nets.out net' ≡ nets.out net + 1
@@ -87,13 +90,13 @@ pub record TakesLink {N L : Type 0} (nets : SeenListener N L) (net net' : N) (li
   pub counted : nets.faults net ≤ nets.faults net'
 
 -- why no link was accepted, by the end that this is: none can come, or the listener failed
-abbrev pub NoneCame : {N L : Type 0} → SeenListener N L → N → N → ServedEnd → Type 0
+abbrev pub NoneCame : {N L : Type 0} → ListenerGhosts N L → N → N → ServedEnd → Type 0
 NoneCame nets net net' Done = nets.coming net' ≡ Some []
 NoneCame nets net net' Fault = Rose (nets.faults net) (nets.faults net')
 NoneCame nets net net' Memory = ⊥
 
 -- no link was accepted
-pub record TakesNone {N L : Type 0} (nets : SeenListener N L) (net net' : N) (end : ServedEnd) : Type 0 where
+pub record TakesNone {N L : Type 0} (nets : ListenerGhosts N L) (net net' : N) (end : ServedEnd) : Type 0 where
   pub coming_is : nets.coming net' ≡ nets.coming net
   pub over_is : nets.over net' ≡ nets.over net
   pub out_is : nets.out net' ≡ nets.out net
@@ -102,7 +105,7 @@ pub record TakesNone {N L : Type 0} (nets : SeenListener N L) (net net' : N) (en
   pub why : NoneCame nets net net' end
 
 -- a link was given back
-pub record GivesBack {N L : Type 0} (nets : SeenListener N L) (net net' : N) (link : L) : Type 0 where
+pub record GivesBack {N L : Type 0} (nets : ListenerGhosts N L) (net net' : N) (link : L) : Type 0 where
   pub over_is : nets.over net' ≡ option_map (λ links. links ++ link ∷ []) (nets.over net)
   pub out_is : nets.out net' + 1 ≡ nets.out net
   pub opened_is : nets.opened net' ≡ nets.opened net
@@ -110,7 +113,7 @@ pub record GivesBack {N L : Type 0} (nets : SeenListener N L) (net net' : N) (li
   pub faults_is : nets.faults net' ≡ nets.faults net
 
 -- a link was added to the works of a hall, with the roll's next pass or with none: its count before and after
-pub record AddsWork {L C S : Type 0} (rules : List Rule) (links : SeenLink L) (callers : SeenCaller C)
+pub record AddsWork {L C S : Type 0} (rules : List Rule) (links : OutsideGhosts L) (callers : CallerGhosts C)
     (drawn drawn' : ℕ) (link : L) (hall hall' : Hall L C S) : Type 0 where
   pub work : Accepted L C
   pub works_are : hall'.works.items ≡ hall.works.items ++ work ∷ []
@@ -121,6 +124,6 @@ pub record AddsWork {L C S : Type 0} (rules : List Rule) (links : SeenLink L) (c
   pub ends_stay : hall'.ends ≡ hall.ends
 
 -- how the taking of connections ended: none came and none was taken in, or memory was out, and none got a pass
-abbrev pub EndsTaking : {N L C S : Type 0} → SeenListener N L → N → N → Hall L C S → Hall L C S → ServedEnd → Type 0
+abbrev pub EndsTaking : {N L C S : Type 0} → ListenerGhosts N L → N → N → Hall L C S → Hall L C S → ServedEnd → Type 0
 EndsTaking nets net net' hall hall' Memory = passes_in hall' ≡ passes_in hall
 EndsTaking nets net net' hall hall' end = CountsStay hall hall' × NoneCame nets net net' end

@@ -1,32 +1,13 @@
 -- Connections that were served, each as one value.
-use Rattle.std.specs.Prelude.{◌≡◌, ◌≤◌, ⊤, ℕ, ◌+◌, Bool, true, List, [], ◌∷◌}
+use Rattle.std.specs.Prelude.{◌≡◌, ◌≤◌, ⊤, ℕ, ◌+◌, true, List, [], ◌∷◌}
 use Rattle.romaji_rules.specs.declared.rule.Rule.{Rule}
-use Rattle.skk_outside.specs.Moved.{Told}
+use Rattle.skk_outside.specs.declared.outside.Outside.{Ghosts as OutsideGhosts}
+use Rattle.skk_calls.specs.declared.caller.Caller.{Ghosts as CallerGhosts}
+use Rattle.skk_calls.specs.declared.caller.Kept.{Ghosts as KeptGhosts}
 use Rattle.skk_calls.specs.Interactions.{Dialog}
 use Rattle.skk_server.specs.declared.end.End.{End}
 use Rattle.skk_server.specs.declared.end.End.TheVariants.{Memory}
 use Rattle.skk_server.specs.Ends.{Serves, moved_link}
-
--- how contracts see a link
-pub record SeenLink (L : Type 0) : Type 0 where
-  pub left : L → Told
-  pub written : L → Told
-  pub faults : L → ℕ
-  pub closed : L → Bool
-
--- a link by its meanings
-abbrev pub seen_link : {L : Type 0} → (L → Told) → (L → Told) → (L → ℕ) → (L → Bool) → SeenLink L
-seen_link left written faults closed =
-    record { left = left; written = written; faults = faults; closed = closed }
-
--- how contracts see a caller, or what is left of one
-pub record SeenCaller (C : Type 0) : Type 0 where
-  pub number : C → ℕ
-  pub said : C → Dialog
-
--- a caller, or what is left of one, by its meanings
-abbrev pub seen_caller : {C : Type 0} → (C → ℕ) → (C → Dialog) → SeenCaller C
-seen_caller number said = record { number = number; said = said }
 
 -- a connection: its link as it was accepted and as it was given back, what its caller said, and its end
 pub record Visit (L : Type 0) : Type 0 where
@@ -36,24 +17,24 @@ pub record Visit (L : Type 0) : Type 0 where
   pub end : End
 
 -- a connection was served up to its end and closed: its link and what its caller said, before and after
-pub record ServesLink {L : Type 0} (rules : List Rule) (links : SeenLink L) (link link' : L) (said said' : Dialog)
+pub record ServesLink {L : Type 0} (rules : List Rule) (links : OutsideGhosts L) (link link' : L) (said said' : Dialog)
     (end : End) : Type 0 where
-  pub serves : Serves rules (moved_link links.left links.written links.faults link link') said said' end
+  pub serves : Serves rules (moved_link links link link') said said' end
   pub is_closed : links.closed link' ≡ true
   pub counted : links.faults link ≤ links.faults link'
 
 -- what a worker hands back was made of the link and the caller that it began with
-abbrev pub HasWorked : {L C : Type 0} → SeenLink L → SeenCaller C → List Rule → L → C → L → C → End → Type 0
+abbrev pub HasWorked : {L C : Type 0} → OutsideGhosts L → CallerGhosts C → List Rule → L → C → L → C → End → Type 0
 HasWorked links callers rules link caller link' caller' end =
     ServesLink rules links link link' (callers.said caller) (callers.said caller') end
     × (callers.number caller' ≡ callers.number caller)
 
 -- a connection was served up to its end and closed, by a caller that had said nothing before
-abbrev pub IsServed : {L : Type 0} → List Rule → SeenLink L → Visit L → Type 0
+abbrev pub IsServed : {L : Type 0} → List Rule → OutsideGhosts L → Visit L → Type 0
 IsServed rules links visit = ServesLink rules links visit.link visit.link' [] visit.said visit.end
 
 -- this is left of the caller of a connection
-abbrev pub HasSlip : {L S : Type 0} → SeenCaller S → ℕ → Visit L → S → Type 0
+abbrev pub HasSlip : {L S : Type 0} → KeptGhosts S → ℕ → Visit L → S → Type 0
 HasSlip slips number visit slip = (slips.number slip ≡ number) × (slips.said slip ≡ visit.said)
 
 -- a connection had no caller, for want of memory
@@ -61,7 +42,8 @@ abbrev pub HasNoPass : {L : Type 0} → Visit L → Type 0
 HasNoPass visit = (visit.said ≡ []) × (visit.end ≡ Memory)
 
 -- connections were served, with callers whose numbers count on from the first; only the last may have had none
-abbrev pub AreServed : {L S : Type 0} → List Rule → SeenLink L → SeenCaller S → ℕ → List (Visit L) → List S → Type 0
+abbrev pub AreServed : {L S : Type 0} → List Rule → OutsideGhosts L → KeptGhosts S → ℕ → List (Visit L) → List S
+    → Type 0
 AreServed rules links slips first [] [] = ⊤
 AreServed rules links slips first [] (slip ∷ left) = ⊥
 AreServed rules links slips first (visit ∷ visits) (slip ∷ left) =

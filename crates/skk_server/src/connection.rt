@@ -54,11 +54,11 @@ impl Connection {
         requires left { self.old.taken < most_bytes }
         ensures ready { IsReady self.new }
         ensures ok { OnOk result (TakesTurn service.now.rules.now
-            (moved_link K.left K.written K.faults link.old link.new) (C.said caller.old) (C.said caller.new)
-            self.old.responder.talk self.new.responder.talk self.old.taken self.new.taken) }
+            (moved_link K.Outside link.old link.new) (C.said caller.old) (C.said caller.new) self.old.responder.talk
+            self.new.responder.talk self.old.taken self.new.taken) }
         ensures err { IfErr result (EndsTurn service.now.rules.now
-            (moved_link K.left K.written K.faults link.old link.new) (C.said caller.old) (C.said caller.new)
-            self.old.responder.talk self.old.taken) }
+            (moved_link K.Outside link.old link.new) (C.said caller.old) (C.said caller.new) self.old.responder.talk
+            self.old.taken) }
         ensures number { C.number caller.new ≡ C.number caller.old }
         ensures counted { K.faults link.old ≤ K.faults link.new }
     {
@@ -81,7 +81,7 @@ impl Connection {
         ensures ok { IfOk result (λ n. (0 < n) × (n ≤ longest_piece) × (self.new.taken ≡ self.old.taken + n)
             × (n ≤ vec_len self.new.room) × (self.new.taken ≤ most_bytes)
             × Consumes (K.left link.old) (K.left link.new) (take n self.new.room.items)) }
-        ensures err { IfErr result (λ end. StopsReading (moved_link K.left K.written K.faults link.old link.new) end) }
+        ensures err { IfErr result (λ end. StopsReading (moved_link K.Outside link.old link.new) end) }
         ensures written { K.written link.new ≡ K.written link.old }
         ensures counted { K.faults link.old ≤ K.faults link.new }
     {

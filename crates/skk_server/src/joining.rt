@@ -1,6 +1,5 @@
 ghost use Rattle.std.specs.Prelude.{◌≡◌, ◌≤◌, ◌<◌, length};
 ghost use Rattle.skk_server.specs.Stages.{HasPlaces, JoinsSome, most_workers};
-ghost use Rattle.skk_server.specs.Visits.{seen_link, seen_caller};
 
 use crate::ended::Ended;
 use crate::hall::{Hall, WORKERS};
@@ -14,8 +13,7 @@ impl<L: Link, C: Caller, S> Hall<L, C, S> {
     /// it waits until one of them ends.
     pub(crate) fn join_ended<R: Threads + Wait>(&mut self, rt: &R, ended: &Ended)
         requires places { HasPlaces self.old }
-        ensures joins { JoinsSome (seen_link L.left L.written L.faults L.closed) (seen_caller C.number C.said)
-            self.old self.new }
+        ensures joins { JoinsSome L.Outside C.Caller self.old self.new }
         ensures places { HasPlaces self.new }
         ensures room { self.new.running < most_workers }
     {
@@ -26,8 +24,7 @@ impl<L: Link, C: Caller, S> Hall<L, C, S> {
     // Joins the workers that have told their end.
     fn join_told<R: Threads + Wait>(&mut self, rt: &R, ended: &Ended)
         requires places { HasPlaces self.old }
-        ensures joins { JoinsSome (seen_link L.left L.written L.faults L.closed) (seen_caller C.number C.said)
-            self.old self.new }
+        ensures joins { JoinsSome L.Outside C.Caller self.old self.new }
         ensures places { HasPlaces self.new }
     {
         for _ in 0..WORKERS {
@@ -41,8 +38,7 @@ impl<L: Link, C: Caller, S> Hall<L, C, S> {
     // Joins the workers that end next, until there are fewer than may be.
     fn join_next<R: Threads + Wait>(&mut self, rt: &R, ended: &Ended)
         requires places { HasPlaces self.old }
-        ensures joins { JoinsSome (seen_link L.left L.written L.faults L.closed) (seen_caller C.number C.said)
-            self.old self.new }
+        ensures joins { JoinsSome L.Outside C.Caller self.old self.new }
         ensures places { HasPlaces self.new }
         ensures room { self.new.running < most_workers }
     {
@@ -60,8 +56,7 @@ impl<L: Link, C: Caller, S> Hall<L, C, S> {
     // Joins the worker of a connection, where it has one, and keeps in its place what that hands back.
     fn join<R: Threads>(&mut self, rt: &R, number: usize)
         requires places { HasPlaces self.old }
-        ensures joins { JoinsSome (seen_link L.left L.written L.faults L.closed) (seen_caller C.number C.said)
-            self.old self.new }
+        ensures joins { JoinsSome L.Outside C.Caller self.old self.new }
         ensures places { HasPlaces self.new }
     {
         let Some(place) = number.checked_sub(self.ends.len()) else {

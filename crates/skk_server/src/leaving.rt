@@ -1,9 +1,7 @@
 ghost use Rattle.std.specs.Prelude.{◌≡◌, ◌≤◌, ◌<◌, ◌+◌, ◌++◌, [], ◌∷◌};
 ghost use Rattle.std.specs.Prelude.{vec_len, vec_capacity};
 ghost use Rattle.std.specs.VecDeque.{deque_len, deque_capacity};
-ghost use Rattle.skk_server.specs.Services.{seen_listener};
 ghost use Rattle.skk_server.specs.Stages.{GivesBack, HasPlaces, CountsStay, Stage};
-ghost use Rattle.skk_server.specs.Visits.{seen_link, seen_caller};
 
 use crate::end::End;
 use crate::hall::Hall;
@@ -24,16 +22,12 @@ impl<L: Link, C: Caller, S: Kept> Hall<L, C, S> {
         start: &Start<N>,
     )
         requires places { HasPlaces self.old }
-        requires stage { Stage (seen_listener N.coming N.over N.out N.opened N.faults)
-            (seen_link L.left L.written L.faults L.closed) (seen_caller C.number C.said) (seen_caller S.number S.said)
-            start.now net.old self.old }
+        requires stage { Stage N.Listener L.Outside C.Caller S.Kept start.now net.old self.old }
         ensures none { deque_len self.new.works ≡ 0 }
         ensures counts { CountsStay self.old self.new }
         ensures coming { N.coming net.new ≡ N.coming net.old }
         ensures faults { N.faults net.new ≡ N.faults net.old }
-        ensures stage { Stage (seen_listener N.coming N.over N.out N.opened N.faults)
-            (seen_link L.left L.written L.faults L.closed) (seen_caller C.number C.said) (seen_caller S.number S.said)
-            start.now net.new self.new }
+        ensures stage { Stage N.Listener L.Outside C.Caller S.Kept start.now net.new self.new }
     {
         for _ in 0..self.works.len() {
             self.see_oldest_off(server, net, start);
@@ -48,17 +42,13 @@ impl<L: Link, C: Caller, S: Kept> Hall<L, C, S> {
         G,
     >(&mut self, server: &Server<'_, R, W, G>, net: &mut N, start: &Start<N>)
         requires places { HasPlaces self.old }
-        requires stage { Stage (seen_listener N.coming N.over N.out N.opened N.faults)
-            (seen_link L.left L.written L.faults L.closed) (seen_caller C.number C.said) (seen_caller S.number S.said)
-            start.now net.old self.old }
+        requires stage { Stage N.Listener L.Outside C.Caller S.Kept start.now net.old self.old }
         ensures places { HasPlaces self.new }
         ensures running { self.new.running ≤ self.old.running }
         ensures counts { CountsStay self.old self.new }
         ensures coming { N.coming net.new ≡ N.coming net.old }
         ensures faults { N.faults net.new ≡ N.faults net.old }
-        ensures stage { Stage (seen_listener N.coming N.over N.out N.opened N.faults)
-            (seen_link L.left L.written L.faults L.closed) (seen_caller C.number C.said) (seen_caller S.number S.said)
-            start.now net.new self.new }
+        ensures stage { Stage N.Listener L.Outside C.Caller S.Kept start.now net.new self.new }
     {
         for _ in 0..self.works.len() {
             match self.works.front() {
@@ -77,18 +67,14 @@ impl<L: Link, C: Caller, S: Kept> Hall<L, C, S> {
     >(&mut self, server: &Server<'_, R, W, G>, net: &mut N, start: &Start<N>)
         requires some { 0 < deque_len self.old.works }
         requires places { HasPlaces self.old }
-        requires stage { Stage (seen_listener N.coming N.over N.out N.opened N.faults)
-            (seen_link L.left L.written L.faults L.closed) (seen_caller C.number C.said) (seen_caller S.number S.said)
-            start.now net.old self.old }
+        requires stage { Stage N.Listener L.Outside C.Caller S.Kept start.now net.old self.old }
         ensures one_less { deque_len self.new.works + 1 ≡ deque_len self.old.works }
         ensures running { self.new.running ≤ self.old.running }
         ensures places { HasPlaces self.new }
         ensures counts { CountsStay self.old self.new }
         ensures coming { N.coming net.new ≡ N.coming net.old }
         ensures faults { N.faults net.new ≡ N.faults net.old }
-        ensures stage { Stage (seen_listener N.coming N.over N.out N.opened N.faults)
-            (seen_link L.left L.written L.faults L.closed) (seen_caller C.number C.said) (seen_caller S.number S.said)
-            start.now net.new self.new }
+        ensures stage { Stage N.Listener L.Outside C.Caller S.Kept start.now net.new self.new }
     {
         let Some(work) = self.works.pop_front() else {
             unreachable!();
@@ -118,8 +104,7 @@ impl<L: Link, C: Caller, S: Kept> Hall<L, C, S> {
         ensures slip { (slip : _) × (self.new.passes.items ≡ self.old.passes.items ++ slip ∷ [])
             × (S.number slip ≡ C.number worked.pass) × (S.said slip ≡ C.said worked.pass) }
         ensures ends { self.new.ends.items ≡ self.old.ends.items ++ worked.end ∷ [] }
-        ensures gives_back { GivesBack (seen_listener N.coming N.over N.out N.opened N.faults)
-            net.old net.new worked.link }
+        ensures gives_back { GivesBack N.Listener net.old net.new worked.link }
         ensures works { self.new.works ≡ self.old.works }
         ensures running { self.new.running ≡ self.old.running }
         ensures passes_kept { vec_capacity self.new.passes ≡ vec_capacity self.old.passes }
@@ -135,7 +120,7 @@ impl<L: Link, C: Caller, S: Kept> Hall<L, C, S> {
         requires out { 0 < N.out net.old }
         requires fits { vec_len self.old.ends < vec_capacity self.old.ends }
         ensures ends { self.new.ends.items ≡ self.old.ends.items ++ end ∷ [] }
-        ensures gives_back { GivesBack (seen_listener N.coming N.over N.out N.opened N.faults) net.old net.new link }
+        ensures gives_back { GivesBack N.Listener net.old net.new link }
         ensures works { self.new.works ≡ self.old.works }
         ensures running { self.new.running ≡ self.old.running }
         ensures passes { self.new.passes ≡ self.old.passes }

@@ -22,8 +22,8 @@ pub(crate) struct Promised<L, C> {
 }
 
 impl<L: Link, C: Caller> Promise<WorkerResult<L, C>> for Promised<L, C> {
-    ghost use Rattle.skk_server.specs.Visits.{HasWorked, seen_link, seen_caller};
+    ghost use Rattle.skk_server.specs.Visits.{HasWorked};
 
-    ghost kept_by = { λ p w. HasWorked (seen_link L.left L.written L.faults L.closed) (seen_caller C.number C.said)
+    ghost kept_by = { λ p w. HasWorked L.Outside C.Caller
         p.rules.value p.link.value p.pass.value w.link w.pass w.end };
 }

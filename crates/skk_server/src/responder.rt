@@ -53,8 +53,7 @@ impl Responder {
         ensures ok { OnOk result (AnswersRead service.now.rules.now (K.written link.old) (K.written link.new)
             (C.said caller.old) (C.said caller.new) self.old.talk self.new.talk [] bytes.now) }
         ensures err { IfErr result (EndsRead service.now.rules.now
-            (moved_link K.left K.written K.faults link.old link.new) (C.said caller.old) (C.said caller.new)
-            self.old.talk bytes.now) }
+            (moved_link K.Outside link.old link.new) (C.said caller.old) (C.said caller.new) self.old.talk bytes.now) }
         ensures left { K.left link.new ≡ K.left link.old }
         ensures number { C.number caller.new ≡ C.number caller.old }
         ensures counted { K.faults link.old ≤ K.faults link.new }
@@ -77,8 +76,7 @@ impl Responder {
         ensures ok { OnOk result (AnswersRead service.now.rules.now (K.written link.old) (K.written link.new)
             (C.said caller.old) (C.said caller.new) self.old.talk self.new.talk self.new.page.bytes.items bytes.now) }
         ensures err { IfErr result (EndsRead service.now.rules.now
-            (moved_link K.left K.written K.faults link.old link.new) (C.said caller.old) (C.said caller.new)
-            self.old.talk bytes.now) }
+            (moved_link K.Outside link.old link.new) (C.said caller.old) (C.said caller.new) self.old.talk bytes.now) }
         ensures quiet { OnErr result (self.new.page.bytes.items ≡ []) }
         ensures left { K.left link.new ≡ K.left link.old }
         ensures number { C.number caller.new ≡ C.number caller.old }
@@ -105,8 +103,8 @@ impl Responder {
             (C.said caller.old) (C.said caller.new) self.old.talk self.new.talk
             self.old.page.bytes.items self.new.page.bytes.items part.now) }
         ensures err { IfErr result (EndsPart service.now.rules.now
-            (moved_link K.left K.written K.faults link.old link.new) (C.said caller.old) (C.said caller.new)
-            self.old.talk self.old.page.bytes.items part.now) }
+            (moved_link K.Outside link.old link.new) (C.said caller.old) (C.said caller.new) self.old.talk
+            self.old.page.bytes.items part.now) }
         ensures quiet { OnErr result (self.new.page.bytes.items ≡ []) }
         ensures left { K.left link.new ≡ K.left link.old }
         ensures number { C.number caller.new ≡ C.number caller.old }

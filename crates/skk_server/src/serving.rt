@@ -21,8 +21,8 @@ pub fn serve_connection<K: Link, C: Caller, G: Gate>(
     caller: &mut C,
     gate: &G,
 ) -> End
-    ensures serves { Serves rules.now (moved_link K.left K.written K.faults link.old link.new)
-        (C.said caller.old) (C.said caller.new) result }
+    ensures serves { Serves rules.now (moved_link K.Outside link.old link.new) (C.said caller.old) (C.said caller.new)
+        result }
     ensures closed { K.closed link.new ≡ true }
     ensures number { C.number caller.new ≡ C.number caller.old }
     ensures counted { K.faults link.old ≤ K.faults link.new }
@@ -39,8 +39,8 @@ fn serve_turns<K: Link, C: Caller, G: Gate>(
     link: &mut K,
     caller: &mut C,
 ) -> End
-    ensures serves { Serves service.now.rules.now (moved_link K.left K.written K.faults link.old link.new)
-        (C.said caller.old) (C.said caller.new) result }
+    ensures serves { Serves service.now.rules.now (moved_link K.Outside link.old link.new) (C.said caller.old)
+        (C.said caller.new) result }
     ensures number { C.number caller.new ≡ C.number caller.old }
     ensures counted { K.faults link.old ≤ K.faults link.new }
 {

@@ -1,7 +1,6 @@
 ghost use Rattle.std.specs.Prelude.{◌≡◌, ◌<◌, ◌≤◌, ◌+◌, []};
-ghost use Rattle.skk_server.specs.Services.{ServesAll, seen_listener};
+ghost use Rattle.skk_server.specs.Services.{ServesAll};
 ghost use Rattle.skk_server.specs.Stages.{Opens};
-ghost use Rattle.skk_server.specs.Visits.{seen_link, seen_caller};
 
 use crate::ended::Ended;
 use crate::hall::Hall;
@@ -41,9 +40,8 @@ pub fn serve_all<
 ) -> Served<W::Slip>
     requires owns { W.owns office.now roll.old }
     requires few { W.drawn roll.old + connections ≤ 4294967295 }
-    ensures serves { ServesAll rules.now (seen_listener N.coming N.over N.out N.opened N.faults)
-        (seen_link N.Link.left N.Link.written N.Link.faults N.Link.closed) (seen_caller W.Slip.number W.Slip.said)
-        connections net.old net.new (W.drawn roll.old) (W.drawn roll.new) result }
+    ensures serves { ServesAll rules.now N.Listener N.Link.Outside W.Slip.Kept connections net.old net.new
+        (W.drawn roll.old) (W.drawn roll.new) result }
     ensures owned { W.owns office.now roll.new }
 {
     let start = Start {
@@ -88,8 +86,7 @@ fn serve_from<
     requires few { W.drawn roll.old + server.now.connections ≤ 4294967295 }
     requires opens { Opens server.now.service.now.rules.now net.old (W.drawn roll.old) start hall }
     ensures serves { ServesAll server.now.service.now.rules.now
-        (seen_listener N.coming N.over N.out N.opened N.faults) (seen_link L.left L.written L.faults L.closed)
-        (seen_caller S.number S.said) server.now.connections net.old net.new (W.drawn roll.old) (W.drawn roll.new)
+        N.Listener L.Outside S.Kept server.now.connections net.old net.new (W.drawn roll.old) (W.drawn roll.new)
         result }
     ensures owned { W.owns server.now.office.now roll.new }
 {
@@ -103,8 +100,7 @@ fn serve_from<
             ensures same { (result.0.ghost_name ≡ net.entry.ghost_name)
                 × (result.1.ghost_name ≡ roll.entry.ghost_name) }
             ensures serves { ServesAll server.entry.now.service.now.rules.now
-                (seen_listener N.coming N.over N.out N.opened N.faults) (seen_link L.left L.written L.faults L.closed)
-                (seen_caller S.number S.said) server.entry.now.connections net.entry.now result.0.now
+                N.Listener L.Outside S.Kept server.entry.now.connections net.entry.now result.0.now
                 (W.drawn roll.entry.now) (W.drawn result.1.now) result.2 }
             ensures owned { W.owns server.entry.now.office.now result.1.now }
         {
@@ -163,8 +159,7 @@ fn serve_in<
     requires few { W.drawn roll.old + server.now.connections ≤ 4294967295 }
     requires opens { Opens server.now.service.now.rules.now net.old (W.drawn roll.old) start hall }
     ensures serves { ServesAll server.now.service.now.rules.now
-        (seen_listener N.coming N.over N.out N.opened N.faults) (seen_link L.left L.written L.faults L.closed)
-        (seen_caller S.number S.said) server.now.connections net.old net.new (W.drawn roll.old) (W.drawn roll.new)
+        N.Listener L.Outside S.Kept server.now.connections net.old net.new (W.drawn roll.old) (W.drawn roll.new)
         result }
     ensures owned { W.owns server.now.office.now roll.new }
 {

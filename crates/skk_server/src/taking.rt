@@ -1,8 +1,7 @@
 ghost use Rattle.std.specs.Prelude.{◌≡◌, ◌≤◌, ◌<◌, ◌+◌, OnOk, IfOk, IfErr};
-ghost use Rattle.skk_server.specs.Services.{EndsServing, seen_listener};
+ghost use Rattle.skk_server.specs.Services.{EndsServing};
 ghost use Rattle.skk_server.specs.Stages.{accepted_in, passes_in, HasPlaces, HasPlace, CountsStay, Stage, AddsWork};
 ghost use Rattle.skk_server.specs.Stages.{TakesLink, TakesNone, EndsTaking};
-ghost use Rattle.skk_server.specs.Visits.{seen_link, seen_caller};
 
 use crate::hall::Hall;
 use crate::served_end::ServedEnd;
@@ -37,18 +36,14 @@ impl<'s, L: Link + Send + Drop + 's, C: Caller + Send + Drop + 's, S: Kept> Hall
         requires drawn { W.drawn roll.old ≡ start.now.first + passes_in self.old }
         requires none { (accepted_in self.old ≡ 0) × (passes_in self.old ≡ 0) }
         requires places { HasPlaces self.old }
-        requires stage { Stage (seen_listener N.coming N.over N.out N.opened N.faults)
-            (seen_link L.left L.written L.faults L.closed) (seen_caller C.number C.said) (seen_caller S.number S.said)
-            start.now net.old self.old }
+        requires stage { Stage N.Listener L.Outside C.Caller S.Kept start.now net.old self.old }
         ensures owned { W.owns server.now.office.now roll.new }
         ensures drawn { W.drawn roll.new ≡ start.now.first + passes_in self.new }
         ensures few { accepted_in self.new ≤ server.now.connections }
-        ensures ends { EndsServing (seen_listener N.coming N.over N.out N.opened N.faults) start.now.net.value net.new
-            server.now.connections (accepted_in self.new) (passes_in self.new) result }
+        ensures ends { EndsServing N.Listener start.now.net.value net.new server.now.connections (accepted_in self.new)
+            (passes_in self.new) result }
         ensures places { HasPlaces self.new }
-        ensures stage { Stage (seen_listener N.coming N.over N.out N.opened N.faults)
-            (seen_link L.left L.written L.faults L.closed) (seen_caller C.number C.said) (seen_caller S.number S.said)
-            start.now net.new self.new }
+        ensures stage { Stage N.Listener L.Outside C.Caller S.Kept start.now net.new self.new }
     {
         for _ in 0..server.connections {
             if let Err(end) = self.take_one(scope, server, net, roll, start) {
@@ -80,20 +75,15 @@ impl<'s, L: Link + Send + Drop + 's, C: Caller + Send + Drop + 's, S: Kept> Hall
         requires drawn { W.drawn roll.old ≡ start.now.first + passes_in self.old }
         requires level { passes_in self.old ≡ accepted_in self.old }
         requires places { HasPlaces self.old }
-        requires stage { Stage (seen_listener N.coming N.over N.out N.opened N.faults)
-            (seen_link L.left L.written L.faults L.closed) (seen_caller C.number C.said) (seen_caller S.number S.said)
-            start.now net.old self.old }
+        requires stage { Stage N.Listener L.Outside C.Caller S.Kept start.now net.old self.old }
         ensures owned { W.owns server.now.office.now roll.new }
         ensures drawn { W.drawn roll.new ≡ start.now.first + passes_in self.new }
         ensures one_more { accepted_in self.new ≤ accepted_in self.old + 1 }
         ensures ok { OnOk result ((accepted_in self.new ≡ accepted_in self.old + 1)
             × (passes_in self.new ≡ passes_in self.old + 1)) }
-        ensures err { IfErr result (λ end. EndsTaking (seen_listener N.coming N.over N.out N.opened N.faults)
-            net.old net.new self.old self.new end) }
+        ensures err { IfErr result (λ end. EndsTaking N.Listener net.old net.new self.old self.new end) }
         ensures places { HasPlaces self.new }
-        ensures stage { Stage (seen_listener N.coming N.over N.out N.opened N.faults)
-            (seen_link L.left L.written L.faults L.closed) (seen_caller C.number C.said) (seen_caller S.number S.said)
-            start.now net.new self.new }
+        ensures stage { Stage N.Listener L.Outside C.Caller S.Kept start.now net.new self.new }
     {
         if let Err(Memory) = self.make_place(server, net, start) {
             return Err(ServedEnd::Memory);
@@ -112,17 +102,13 @@ impl<'s, L: Link + Send + Drop + 's, C: Caller + Send + Drop + 's, S: Kept> Hall
         start: &Start<N>,
     ) -> Result<(), Memory>
         requires places { HasPlaces self.old }
-        requires stage { Stage (seen_listener N.coming N.over N.out N.opened N.faults)
-            (seen_link L.left L.written L.faults L.closed) (seen_caller C.number C.said) (seen_caller S.number S.said)
-            start.now net.old self.old }
+        requires stage { Stage N.Listener L.Outside C.Caller S.Kept start.now net.old self.old }
         ensures ok { OnOk result (HasPlace self.new) }
         ensures places { HasPlaces self.new }
         ensures counts { CountsStay self.old self.new }
         ensures coming { N.coming net.new ≡ N.coming net.old }
         ensures faults { N.faults net.new ≡ N.faults net.old }
-        ensures stage { Stage (seen_listener N.coming N.over N.out N.opened N.faults)
-            (seen_link L.left L.written L.faults L.closed) (seen_caller C.number C.said) (seen_caller S.number S.said)
-            start.now net.new self.new }
+        ensures stage { Stage N.Listener L.Outside C.Caller S.Kept start.now net.new self.new }
     {
         self.join_ended(server.rt, server.ended);
         self.see_ended_off(server, net, start);
@@ -145,9 +131,8 @@ impl<'s, L: Link + Send + Drop + 's, C: Caller + Send + Drop + 's, S: Kept> Hall
         requires room { W.drawn roll.old < 4294967295 }
         requires place { HasPlace self.old }
         ensures owned { W.owns server.now.office.now roll.new }
-        ensures adds { AddsWork server.now.service.now.rules.now
-            (seen_link L.left L.written L.faults L.closed) (seen_caller C.number C.said)
-            (W.drawn roll.old) (W.drawn roll.new) link self.old self.new }
+        ensures adds { AddsWork server.now.service.now.rules.now L.Outside C.Caller (W.drawn roll.old)
+            (W.drawn roll.new) link self.old self.new }
         ensures ok { OnOk result (W.drawn roll.new ≡ W.drawn roll.old + 1) }
         ensures err { IfErr result (λ end. (end ≡ ServedEnd.Memory) × (W.drawn roll.new ≡ W.drawn roll.old)) }
         ensures places { HasPlaces self.new }
@@ -170,10 +155,8 @@ impl<'s, L: Link + Send + Drop + 's, C: Caller + Send + Drop + 's, S: Kept> Hall
 
 // Accepts a link. An end is told as an error.
 fn accept<N: Listener>(net: &mut N) -> Result<N::Link, ServedEnd>
-    ensures ok { IfOk result (λ link. TakesLink (seen_listener N.coming N.over N.out N.opened N.faults)
-        net.old net.new link) }
-    ensures err { IfErr result (λ end. TakesNone (seen_listener N.coming N.over N.out N.opened N.faults)
-        net.old net.new end) }
+    ensures ok { IfOk result (λ link. TakesLink N.Listener net.old net.new link) }
+    ensures err { IfErr result (λ end. TakesNone N.Listener net.old net.new end) }
 {
     match net.accept() {
         Ok(Some(link)) => Ok(link),

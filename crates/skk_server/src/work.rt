@@ -1,5 +1,5 @@
 ghost use Rattle.std.specs.Prelude.{◌≡◌, []};
-ghost use Rattle.skk_server.specs.Visits.{HasWorked, seen_link, seen_caller};
+ghost use Rattle.skk_server.specs.Visits.{HasWorked};
 ghost use Rattle.skk_server.specs.Works.{begun, passes_of, running_of, IsUnderWay, Joins};
 
 use crate::ended::Ended;
@@ -39,14 +39,13 @@ impl<L: Link, C: Caller> Accepted<L, C> {
 
     /// Waits until its worker has ended, if there is one, and keeps what that hands back.
     pub(crate) fn join<R: Threads>(&mut self, rt: &R)
-        ensures { Joins (seen_link L.left L.written L.faults L.closed) (seen_caller C.number C.said)
-            self.old self.new }
+        ensures { Joins L.Outside C.Caller self.old self.new }
     {
         replace_with(self, (), |work, ()| (work.joined(rt), ()))
     }
 
     fn joined<R: Threads>(self, rt: &R) -> Accepted<L, C>
-        ensures { Joins (seen_link L.left L.written L.faults L.closed) (seen_caller C.number C.said) self result }
+        ensures { Joins L.Outside C.Caller self result }
     {
         match self {
             Accepted::Running(handle, was) => Accepted::Done(handle.join(rt), was),
@@ -75,7 +74,7 @@ pub(crate) fn begin<
 ) -> Accepted<L, C>
     requires new { C.said pass ≡ [] }
     ensures under_way { IsUnderWay server.now.service.now.rules.now
-        (seen_link L.left L.written L.faults L.closed) (seen_caller C.number C.said) (C.number pass) result [] }
+        L.Outside C.Caller (C.number pass) result [] }
     ensures begun { begun result ≡ link }
     ensures one { passes_of result ≡ 1 }
 {
@@ -91,8 +90,7 @@ pub(crate) fn begin<
 
 /// Closes a link for which there is no caller.
 pub(crate) fn refuse<L: Link, C: Caller>(mut link: L) -> Accepted<L, C>
-    ensures under_way { (rules : _) (number : _) → IsUnderWay rules (seen_link L.left L.written L.faults L.closed)
-        (seen_caller C.number C.said) number result [] }
+    ensures under_way { (rules : _) (number : _) → IsUnderWay rules L.Outside C.Caller number result [] }
     ensures begun { begun result ≡ link }
     ensures none { passes_of result ≡ 0 }
     ensures idle { running_of result ≡ 0 }
@@ -124,8 +122,7 @@ fn serve<R: Wait, L: Link, C: Caller, G: Gate>(
     mut link: L,
     mut pass: C,
 ) -> WorkerResult<L, C>
-    ensures { HasWorked (seen_link L.left L.written L.faults L.closed) (seen_caller C.number C.said)
-        service.now.rules.now link pass result.link result.pass result.end }
+    ensures { HasWorked L.Outside C.Caller service.now.rules.now link pass result.link result.pass result.end }
 {
     let end = serve_connection(
         service.alloc,

@@ -1,8 +1,9 @@
 -- What follows of how a script's typing began.
-use Rattle.std.proofs.Common.{◌≡◌, subst, rules, ℕ, List, Result, Ok, Err, IfErr, IfOk}
+use Rattle.std.proofs.Common.{◌≡◌, subst, rules, List, Result, Ok, Err, IfErr, IfOk}
 use Rattle.romaji_rules.specs.declared.rule.Rule.{Rule}
 use Rattle.skk_outside.specs.Moved.{MovedSink}
 use Rattle.key_scripts.specs.declared.line.Line.{Line}
+use Rattle.skk_disk.specs.declared.disk.Disk.{Ghosts}
 use Rattle.learned_store.specs.Stores.{OpenStore, opening_now}
 use Rattle.caller_work.specs.Disks.{DiskNow}
 use Rattle.skk_top.specs.TypeCommand.{LeavesBegun, Manner}
@@ -25,12 +26,12 @@ if_err (Ok x) p follows = search rules
 if_err (Err e) p follows = follows e p
 
 -- what was typed over a store and by rules was so over these that are the same
-pub begun-typed : {D : Type 0} (Lines : Manner D) (time faults : D → ℕ) (begun store : OpenStore D)
+pub begun-typed : {D : Type 0} (Lines : Manner D) (ghosts : Ghosts D) (begun store : OpenStore D)
     (table rules' : List Rule) (lines : List Line) (run : Run D) (out : MovedSink) (disk : DiskNow)
     → table ≡ rules' → begun ≡ store
-    → LeavesBegun Lines (opening_now time faults begun) table lines run out disk
-    → LeavesBegun Lines (opening_now time faults store) rules' lines run out disk
-begun-typed {D = D} Lines time faults begun store table rules' lines run out disk same_rules same_store typed =
-    subst (λ (s : OpenStore D). LeavesBegun Lines (opening_now time faults s) rules' lines run out disk) same_store
-    (subst (λ (r : List Rule). LeavesBegun Lines (opening_now time faults begun) r lines run out disk) same_rules
+    → LeavesBegun Lines (opening_now ghosts begun) table lines run out disk
+    → LeavesBegun Lines (opening_now ghosts store) rules' lines run out disk
+begun-typed {D = D} Lines ghosts begun store table rules' lines run out disk same_rules same_store typed =
+    subst (λ (s : OpenStore D). LeavesBegun Lines (opening_now ghosts s) rules' lines run out disk) same_store
+    (subst (λ (r : List Rule). LeavesBegun Lines (opening_now ghosts begun) r lines run out disk) same_rules
     typed)

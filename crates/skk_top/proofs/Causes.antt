@@ -308,16 +308,16 @@ module _ {D : Type 0} (run : Run D) (shelf : MovedShelf) (input : MovedSource) (
   caused-typed options =
       let files = typed_files shelf input options in
       script-caused TypesLines options (λ opening rules lines limit counted left.
-      called files false opening left.chronicle.legal (ap Some limit) counted left.kept.goes_on left.typed left.ends
-      (printed files left.typed left.prints.stopped))
+      called files false opening left.chronicle.legal (ap Some limit) counted left.kept.goes_on left.ended left.ends
+      (printed files left.ended left.prints.stopped))
 
   caused-woven : (options : TypeOptions) → LeavesTyped WeavesLines options run shelf input out disk
       → CausedBy (typed_files shelf input options)
   caused-woven options =
       let files = typed_files shelf input options in
       script-caused WeavesLines options (λ opening rules lines limit counted left.
-      called files false opening left.chronicle.legal (ap Some limit) counted left.kept.goes_on left.typed left.ends
-      (printed files left.typed left.stopped))
+      called files false opening left.chronicle.legal (ap Some limit) counted left.kept.goes_on left.ended left.ends
+      (printed files left.ended left.prints.stopped))
 
   -- the file of `check`
   caused-checked : (name : List ℕ) → LeavesChecked name run shelf out → CausedBy (checked_file shelf name)

@@ -1,11 +1,13 @@
 -- What runs leave of the disk, of what their parts leave.
-use Rattle.std.proofs.Common.{◌≡◌, ◌≢◌, sym, subst, refl, ℕ, ◌≤◌, List}
+use Rattle.std.proofs.Common.{◌≡◌, ◌≢◌, sym, subst, refl, ℕ, List}
 use Rattle.std.proofs.Common.{[]}
 use Rattle.skk_calls.specs.declared.chronicle.Noted.{Noted}
 use Rattle.skk_calls.specs.Rows.{Row}
 use Rattle.skk_calls.specs.States.{State, empty_state}
+use Rattle.skk_disk.specs.declared.disk.Disk.{Ghosts}
 use Rattle.skk_disk.specs.Image.{Image}
-use Rattle.skk_disk.specs.Moments.{Passes, SameImages, Earlier}
+use Rattle.skk_disk.specs.Moments.{SameImages, Earlier}
+use Rattle.skk_disk.specs.Runs.{Advances}
 use Rattle.skk_journal.specs.Images.{Each}
 use Rattle.skk_journal.specs.Choice.{choice}
 use Rattle.skk_journal.specs.Contents.{no_records}
@@ -46,30 +48,28 @@ stands-untouched disk earlier same state start all recovers time image from to l
     behind-nothing state time image
     (subst (Recovers state) (sym (all image (earlier disk.before.time time image from there))) recovers)
 
-module _ {D : Type 0} (tells : Type 0) (seen : D → Image) (time faults : D → ℕ) (left_since : D → ℕ → Image → Type 0)
-    (earlier : (disk : D) → Earlier (left_since disk))
-    (reads_image : (disk : D) → tells → left_since disk (time disk) (seen disk))
-    (tells_images : (disk : D) (t : ℕ) (image : Image) → left_since disk t image → tells)
+module _ {D : Type 0} (ghosts : Ghosts D) (earlier : (disk : D) → Earlier (ghosts.left_since disk))
+    (reads_image : (disk : D) → ghosts.tells → ghosts.left_since disk (ghosts.time disk) (ghosts.seen disk))
+    (tells_images : (disk : D) (t : ℕ) (image : Image) → ghosts.left_since disk t image → ghosts.tells)
     (one_way : (image : Image) (one two : Recovery) → IsRecovered image one → IsRecovered image two → one ≡ two)
     (old mid new : D) (opened : State) (chronicle : List Noted) where
   -- the learned dictionary was opened, and a run went on
-  pub stands-opened : {end : ℕ} → IsOpenedWith tells (seen old) opened end
-      → Passes (time old) (time mid) (left_since old) (left_since mid)
-      → ((state : State) (start : Image) → Each (left_since old (time old)) (λ image. image ≡ start)
-      → Recovers state start → Each (left_since mid (time old)) (Recovers state))
-      → RunsOver opened chronicle (disk_now time faults left_since mid) (disk_now time faults left_since new)
-      → StandsSince chronicle (moved_disk tells seen time faults left_since old new)
-  stands-opened {end} is passes opens runs state start same recovers moment image from to left =
+  pub stands-opened : {end : ℕ} → IsOpenedWith ghosts.tells (ghosts.seen old) opened end
+      → Advances ghosts old mid
+      → ((state : State) (start : Image) → Each (ghosts.left_since old (ghosts.time old)) (λ image. image ≡ start)
+      → Recovers state start → Each (ghosts.left_since mid (ghosts.time old)) (Recovers state))
+      → RunsOver opened chronicle (disk_now ghosts mid) (disk_now ghosts new)
+      → StandsSince chronicle (moved_disk ghosts old new)
+  stands-opened {end} is advances opens runs state start same recovers moment image from to left =
       let told = tells_images new moment image left in
-      let here : seen old ≡ start = same (seen old) (reads_image old told) in
+      let here : ghosts.seen old ≡ start = same (ghosts.seen old) (reads_image old told) in
       let one : with_state opened ≡ with_state state =
       one_way start (with_state opened) (with_state state)
       (subst (λ (i : Image). Recovers opened i) here (is.contents, is.told told, is.leave)) recovers in
       let equal : opened ≡ state = cc one in
-      subst (λ (s : State). RecoversBy s chronicle moment image) equal
-      (runs.since (time old) passes.later
+      subst (λ (s : State). RecoversBy s chronicle moment image) equal (runs.since (ghosts.time old) advances.past.later
       (λ t i start_at end there. subst (λ (s : State). Recovers s i) (sym equal)
-      (opens state start same recovers i (earlier mid (time old) t i start_at there)))
+      (opens state start same recovers i (earlier mid (ghosts.time old) t i start_at there)))
       moment image from to left)
 
 module _ (one_way : (image : Image) (one two : Recovery) → IsRecovered image one → IsRecovered image two → one ≡ two)
@@ -103,53 +103,50 @@ module _ (one_way : (image : Image) (one two : Recovery) → IsRecovered image o
         ((why.0, why.1, why.2, refl), record { seen = seen told live; images = images told live })
     refuses-learned disk opening.Memory is failed images seen = tt
 
-module _ {D : Type 0} (tells : Type 0) (seen : D → Image) (time faults : D → ℕ)
-    (left_since : D → ℕ → Image → Type 0) where
+module _ {D : Type 0} (ghosts : Ghosts D) where
   -- a run that made no call, on a disk that it did not touch
-  pub stands-quiet : (disk : D) → Earlier (left_since disk) → (ended : Ended) (run : Run D)
+  pub stands-quiet : (disk : D) → Earlier (ghosts.left_since disk) → (ended : Ended) (run : Run D)
       → run ≡ record { ended = ended; chronicle = []; disk = disk }
-      → StandsSince run.chronicle (moved_disk tells seen time faults left_since disk run.disk)
+      → StandsSince run.chronicle (moved_disk ghosts disk run.disk)
   stands-quiet disk earlier ended run is =
-      subst (λ (r : Run D). StandsSince r.chronicle (moved_disk tells seen time faults left_since disk r.disk)) (sym is)
-      (stands-untouched (moved_disk tells seen time faults left_since disk disk) earlier
+      subst (λ (r : Run D). StandsSince r.chronicle (moved_disk ghosts disk r.disk)) (sym is)
+      (stands-untouched (moved_disk ghosts disk disk) earlier
       (record { no_more = λ t image left. left; no_fewer = λ t image left. left }))
 
   -- and one whose learned file was not opened
-  pub stands-refused : (old new : D) → Earlier (left_since new) → (ended : Ended) (run : Run D)
+  pub stands-refused : (old new : D) → Earlier (ghosts.left_since new) → (ended : Ended) (run : Run D)
       → run ≡ record { ended = ended; chronicle = []; disk = new }
-      → ((state : State) (start : Image) → Each (left_since old (time old)) (λ image. image ≡ start)
-      → Recovers state start → Each (left_since new (time old)) (Recovers state))
-      → StandsSince run.chronicle (moved_disk tells seen time faults left_since old run.disk)
+      → ((state : State) (start : Image) → Each (ghosts.left_since old (ghosts.time old)) (λ image. image ≡ start)
+      → Recovers state start → Each (ghosts.left_since new (ghosts.time old)) (Recovers state))
+      → StandsSince run.chronicle (moved_disk ghosts old run.disk)
   stands-refused old new earlier ended run is opens =
-      subst (λ (r : Run D). StandsSince r.chronicle (moved_disk tells seen time faults left_since old r.disk)) (sym is)
-      (stands-unopened (moved_disk tells seen time faults left_since old new) earlier opens)
+      subst (λ (r : Run D). StandsSince r.chronicle (moved_disk ghosts old r.disk)) (sym is)
+      (stands-unopened (moved_disk ghosts old new) earlier opens)
 
   -- a run is told and finishes
   pub stands-finish : (old : D) (run : Run D) (finish : Finish D) → finish ≡ finish_of run
-      → StandsSince run.chronicle (moved_disk tells seen time faults left_since old run.disk)
-      → StandsSince finish.chronicle (moved_disk tells seen time faults left_since old finish.disk)
+      → StandsSince run.chronicle (moved_disk ghosts old run.disk)
+      → StandsSince finish.chronicle (moved_disk ghosts old finish.disk)
   stands-finish old run finish is stands =
-      subst (λ (f : Finish D). StandsSince f.chronicle (moved_disk tells seen time faults left_since old f.disk))
-      (sym is) stands
+      subst (λ (f : Finish D). StandsSince f.chronicle (moved_disk ghosts old f.disk)) (sym is) stands
 
   pub runs-quiet : (opened : State) (disk : D) (ended : Ended) (run : Run D)
       → run ≡ record { ended = ended; chronicle = []; disk = disk }
-      → RunsOver opened run.chronicle (disk_now time faults left_since disk) (disk_now time faults left_since run.disk)
+      → RunsOver opened run.chronicle (disk_now ghosts disk) (disk_now ghosts run.disk)
   runs-quiet opened disk ended run is =
-      subst (λ (r : Run D). RunsOver opened r.chronicle (disk_now time faults left_since disk)
-      (disk_now time faults left_since r.disk)) (sym is) (runs-nothing opened (disk_now time faults left_since disk))
+      subst (λ (r : Run D). RunsOver opened r.chronicle (disk_now ghosts disk)
+      (disk_now ghosts r.disk)) (sym is) (runs-nothing opened (disk_now ghosts disk))
 
   -- a learned file was opened so
   pub opened-so : (old new : D) (store : OpenStore D) (books : List (List Row)) (most : ℕ) → store.files ≡ books
-      → store.limit ≡ most → IsOpenedWith tells (seen old) store.state store.journal.end
-      → Passes (time old) (time store.journal.disk) (left_since old) (left_since store.journal.disk)
-      → faults old ≤ faults store.journal.disk
-      → IsOpening (moved_disk tells seen time faults left_since old new) books most (opening_now time faults store)
-  opened-so old new store books most files limit is passes counted =
+      → store.limit ≡ most → IsOpenedWith ghosts.tells (ghosts.seen old) store.state store.journal.end
+      → Advances ghosts old store.journal.disk
+      → IsOpening (moved_disk ghosts old new) books most (opening_now ghosts store)
+  opened-so old new store books most files limit is advances =
       record {
         files = files;
         limit = limit;
         opened = is;
-        later = passes.later;
-        counted = counted;
+        later = advances.past.later;
+        counted = advances.counted;
       }

@@ -4,11 +4,10 @@ mod Causes
 mod CheckExamples
 pub mod Dictionaries
 mod Examples
-pub mod KeyLines
 mod LoadExamples
+pub mod LinesWork
 pub mod LoadInput
 pub mod Loads
-pub mod PlayedLines
 pub mod PrintedChecks
 mod RelationExamples
 mod RunExamples

@@ -4,7 +4,6 @@ use Rattle.std.proofs.Common.{unwrap_or, Option, None, IsSome}
 use Rattle.std.proofs.Common.{Some, Result, Ok, Err, OnOk, OnErr, List, [], ◌∷◌, ◌++◌, min, encode_utf8_all, arith}
 use Rattle.std.proofs.lemmas.Bool.{and_parts, eqb-true}
 use Rattle.std.proofs.lemmas.List.Sums.{sum_by-cons}
-use Rattle.std.proofs.lemmas.Result.{on_ok_weaker}
 use Rattle.std.specs.Io.KnownBytes.{Appends, Keeps}
 use Rattle.std.specs.List.{cons_option, list_all, sum_by}
 use Rattle.skk_outside.specs.Moved.{MovedSink}
@@ -17,7 +16,7 @@ use Rattle.skk_calls.specs.declared.entry.Entry.{Entry}
 use Rattle.skk_calls.specs.Chronicles.{history_of}
 use Rattle.skk_calls.specs.Dictionary.{after}
 use Rattle.skk_calls.specs.Histories.{Opening, dialog}
-use Rattle.skk_calls.specs.InteractionLaws.{led-end}
+use Rattle.skk_calls.specs.InteractionLaws.{led-asked, led-end}
 use Rattle.skk_calls.specs.Interactions.{Interaction, ends, Dialog, Leads}
 use Rattle.skk_calls.specs.Interactions.{answers_of, asked, calls_of, end_of}
 use Rattle.skk_calls.specs.Openings.{IsLegalOver, said_in, are_of_one, are_served}
@@ -29,13 +28,15 @@ use Rattle.script_typing.specs.Sessions.{SessionMap}
 use Rattle.command_line.specs.declared.command.LoadOptions.{LoadOptions}
 use Rattle.caller_work.specs.Disks.{DiskNow, KeepsDisk}
 use Rattle.skk_top.specs.LoadCommand.{load_lines, loaded_from, number_line, summed, LoadsLines}
-use Rattle.run_endings.specs.Page.{LeavesPrinted, StopsPrinting}
-use Rattle.skk_top.specs.Playing.{PlaysLines}
+use Rattle.run_endings.specs.Page.{LeavesPrinted}
+use Rattle.script_typing.specs.LineLaws.{runs-alone}
+use Rattle.script_typing.specs.Lines.{PlaysLines}
+use Rattle.skk_top.specs.TypeCommand.{KeepsChronicle}
 use Rattle.run_endings.specs.Status.{Ended, ended_by}
 use Rattle.run_endings.specs.declared.fault.RunFault.TheVariants.{Memory}
 use Rattle.skk_top.proofs.PrintedChecks.{more}
-use Rattle.skk_top.proofs.Served.{answered_alone, where_done}
-use Rattle.skk_top.proofs.Weaves.{keeps-appends}
+use Rattle.skk_top.proofs.LinesWork.{always, work-closed, work-lost}
+use Rattle.skk_top.proofs.Served.{answered_alone}
 
 -- Numbers
 
@@ -102,113 +103,77 @@ of-one (entry ∷ history) one = by (entry.number == 0) refl (of-one history one
 
 -- What is left
 
--- what holds, holds where a run is done
-pub always : (ended : Ended) {P : Type 0} → P → OnOk ended P
-always (Ok done) p = p
-always (Err fault) p = tt
+-- lines that were played by one caller that is closed then, by how they were played
+pub loads-closed : {D : Type 0} (options : LoadOptions) (opening : Opening) (chronicle : List Noted) (left : D)
+    (tally : Tally) (sessions : SessionMap) (out : MovedSink) (disk : DiskNow) → IsLegalOver opening chronicle
+    → are_of_one chronicle ≡ true → KeepsDisk opening chronicle disk
+    → tally ≡ tally_of opening.state (history_of chronicle)
+    → (played : Result (Unit {0}) no_memory) (ended : Ended)
+    → PlaysLines standard (load_lines options) played [] sessions [] (said_in chronicle 0)
+    → OnOk played (LeavesPrinted (encode_utf8_all (summed options tally sessions)) ended out)
+    → OnErr played ((ended ≡ Err Memory) × Keeps out.written out.written') → out.faults ≤ out.faults'
+    → LoadsLines options opening (record { ended = ended_by ended tally; chronicle = chronicle; disk = left }) out disk
+loads-closed options opening chronicle left tally sessions out disk legal one keeps counts played ended plays some none
+    counted =
+    by played plays some none
+  where
+    lines : Interaction SessionMap
+    lines = playing standard [] (load_lines options)
 
-module _ {D : Type 0} (options : LoadOptions) (opening : Opening) (chronicle : List Noted) (left : D) (tally : Tally)
-    (sessions : SessionMap) (out : MovedSink) (disk : DiskNow) (legal : IsLegalOver opening chronicle)
-    (one : are_of_one chronicle ≡ true) (keeps : KeepsDisk opening chronicle disk)
-    (counts : tally ≡ tally_of opening.state (history_of chronicle)) where
-  abbrev lines : Interaction SessionMap
-  lines = playing standard [] (load_lines options)
+    said : Dialog
+    said = said_in chronicle 0
 
-  abbrev said : Dialog
-  said = said_in chronicle 0
+    text : SessionMap → List ℕ
+    text behind = summed options (tally_of opening.state (history_of chronicle)) behind
 
-  abbrev Left : Ended → Type 0
-  Left ended =
-      LoadsLines options opening (record { ended = ended_by ended tally; chronicle = chronicle; disk = left }) out
-      disk
+    -- what was printed is what is printed where the dictionary of one thread answers
+    alone : Leads lines said [] (ends sessions) → (ended : Ended)
+        → LeavesPrinted (encode_utf8_all (text sessions)) ended out → OnOk ended (are_served chronicle ≡ true
+        → Appends out.written out.written' (loaded_from opening.files opening.state options))
+    alone led (Ok done) prints = λ all.
+        let both =
+        led-alone sessions opening.files opening.state led
+        (answered_alone opening (history_of chronicle) legal.1 all one) in
+        subst (Appends out.written out.written')
+        (ap₂ (λ (h : List Entry) (s : SessionMap). encode_utf8_all (summed options (tally_of opening.state h) s))
+        (of-one (history_of chronicle) one ∙ sym both.0) (sym both.1)) prints.whole
+    alone led (Err fault) prints = tt
 
-  served : (ended : Ended) → OnOk (ended_by ended (tally_of opening.state (history_of chronicle)))
-      (are_served chronicle ≡ true)
-  served (Ok done) = where_done (history_of chronicle) opening.state
-  served (Err fault) = tt
-
-  -- lines that were played to their end, of which the summary was printed
-  played-whole : (ended : Ended) → asked lines (answers_of said) ≡ calls_of said → Leads lines said [] (ends sessions)
-      → LeavesPrinted (encode_utf8_all (summed options tally sessions)) ended out
-      → Left ended
-  played-whole ended asks leads prints = record {
-    ended = ended;
-    ends = ap (ended_by ended) counts;
-    chronicle = record { legal = legal; one = one; asks = asks };
-    kept = keeps;
-    taken = always ended (subst (λ (o : Option SessionMap). IsSome o) (sym is) is_there);
-    prints = subst (λ (t : Tally). LeavesPrinted (encode_utf8_all (summed options t
-        (sessions_behind standard (load_lines options) (answers_of said)))) ended out) counts
-        (subst (λ (s : SessionMap). LeavesPrinted (encode_utf8_all (summed options tally s)) ended out)
-        (sym (ap (λ o. unwrap_or o []) is)) prints);
-    served = subst (λ (t : Tally). OnOk (ended_by ended t) (are_served chronicle ≡ true)) (sym counts) (served ended);
-    alone = subst (λ (t : Tally). OnOk (ended_by ended t)
-        (Appends out.written out.written' (loaded_from opening.files opening.state options))) (sym counts)
-        (alone ended prints);
-  }
-    where
-      is : end_of lines (answers_of said) ≡ Some sessions
-      is = led-end leads
-
-      is_there : IsSome (Some sessions)
-      is_there = search rules
-
-      -- what was printed is what is printed where the dictionary of one thread answers
-      same : are_served chronicle ≡ true
-          → encode_utf8_all (summed options tally sessions) ≡ loaded_from opening.files opening.state options
-      same all =
-          let both =
-          led-alone sessions opening.files opening.state leads
-          (answered_alone opening (history_of chronicle) legal.1 all one) in
-          ap (λ (t : Tally). encode_utf8_all (summed options t sessions)) counts
-          ∙ ap₂ (λ (h : List Entry) (s : SessionMap). encode_utf8_all (summed options (tally_of opening.state h) s))
-          (of-one (history_of chronicle) one ∙ sym both.0) (sym both.1)
-
-      alone : (ended : Ended) → LeavesPrinted (encode_utf8_all (summed options tally sessions)) ended out
-          → OnOk (ended_by ended (tally_of opening.state (history_of chronicle)))
-          (Appends out.written out.written' (loaded_from opening.files opening.state options))
-      alone (Ok done) prints =
-          on_ok_weaker (ended_by (Ok done) (tally_of opening.state (history_of chronicle)))
-          (λ all. subst (Appends out.written out.written') (same all) prints.whole)
-          (where_done (history_of chronicle) opening.state)
-      alone (Err fault) prints = tt
-
-  -- lines for which memory was out, of which nothing was printed
-  played-cut : (ended : Ended) → asked lines (answers_of said) ≡ calls_of said → ended ≡ Err Memory
-      → Keeps out.written out.written' → out.faults ≤ out.faults'
-      → Left ended
-  played-cut (Ok done) asks is unwritten counted = absurd (cc is)
-  played-cut (Err fault) asks is unwritten counted =
-      let text = encode_utf8_all (summed options (tally_of opening.state (history_of chronicle))
-      (sessions_behind standard (load_lines options) (answers_of said))) in
-      let memory : fault ≡ Memory = cc is in
-      record {
-        ended = Err fault;
-        ends = refl;
-        chronicle = record { legal = legal; one = one; asks = asks };
-        kept = keeps;
-        taken = tt;
-        prints = record {
-          whole = tt;
-          prefix = ([], (text, refl), keeps-appends out.written out.written' unwritten);
-          stopped = subst (StopsPrinting out) (sym memory) tt;
-          counted = counted;
-        };
-        served = tt;
-        alone = tt;
-      }
-
-  -- by how the lines were played
-  pub loads-closed : (played : Result (Unit {0}) no_memory) (ended : Ended)
-      → PlaysLines standard (load_lines options) played sessions [] said
-      → OnOk played (LeavesPrinted (encode_utf8_all (summed options tally sessions)) ended out)
-      → OnErr played ((ended ≡ Err Memory) × Keeps out.written out.written') → out.faults ≤ out.faults'
-      → Left ended
-  loads-closed (Ok done) ended plays some none counted =
-      let grown : plays.dialog ≡ said = sym plays.grows in
-      played-whole ended (subst (λ (d : Dialog). asked lines (answers_of d) ≡ calls_of d) grown plays.calls)
-      (subst (λ (d : Dialog). Leads lines d [] (ends sessions)) grown plays.leads) some
-  loads-closed (Err lost) ended plays some none counted =
-      let grown : plays.dialog ≡ said = sym plays.grows in
-      played-cut ended (subst (λ (d : Dialog). asked lines (answers_of d) ≡ calls_of d) grown plays.calls) none.0 none.1
-      counted
+    by : (played : Result (Unit {0}) no_memory)
+        → PlaysLines standard (load_lines options) played [] sessions [] said
+        → OnOk played (LeavesPrinted (encode_utf8_all (summed options tally sessions)) ended out)
+        → OnErr played ((ended ≡ Err Memory) × Keeps out.written out.written')
+        → LoadsLines options opening (record { ended = ended_by ended tally; chronicle = chronicle; disk = left }) out
+        disk
+    by (Ok done) plays some none =
+        let ran = runs-alone {E = no_memory} (playing standard) (load_lines options) (Ok tt) [] sessions plays in
+        let (to, is, way) = ran.led tt in
+        let led : Leads lines said [] (ends sessions) =
+        subst (λ (d : Dialog). Leads lines d [] (ends sessions)) (sym ran.grows)
+        (subst (λ t. Leads lines ran.dialog t (ends sessions)) ran.put
+        (subst (λ i. Leads lines ran.dialog ran.text i) is way)) in
+        let behind : end_of lines (answers_of said) ≡ Some sessions = led-end led in
+        let is_there : IsSome (Some sessions) = search rules in
+        let prints = subst (λ (t : Tally). LeavesPrinted (encode_utf8_all (summed options t sessions)) ended out) counts
+        some in
+        work-closed opening chronicle left tally out disk keeps counts (KeepsChronicle opening lines chronicle)
+        (IsSome (end_of lines (answers_of said)))
+        (text (sessions_behind standard (load_lines options) (answers_of said)))
+        (Appends out.written out.written' (loaded_from opening.files opening.state options)) ended
+        (record { legal = legal; one = one; asks = led-asked led })
+        (always ended (subst (λ (o : Option SessionMap). IsSome o) (sym behind) is_there))
+        (subst (λ (s : SessionMap). LeavesPrinted (encode_utf8_all (text s)) ended out)
+        (sym (ap (λ o. unwrap_or o []) behind)) prints)
+        (alone led ended prints)
+    by (Err lost) plays some none =
+        let ran = runs-alone {E = no_memory} (playing standard) (load_lines options) (Err lost) [] sessions plays in
+        let (to, any, way) = ran.led tt in
+        work-lost opening chronicle left tally out disk keeps counts (KeepsChronicle opening lines chronicle)
+        (IsSome (end_of lines (answers_of said)))
+        (text (sessions_behind standard (load_lines options) (answers_of said)))
+        (Appends out.written out.written' (loaded_from opening.files opening.state options)) ended
+        (record {
+          legal = legal;
+          one = one;
+          asks = subst (λ (d : Dialog). asked lines (answers_of d) ≡ calls_of d) (sym ran.grows) (led-asked way);
+        }) none.0 none.1 counted

@@ -1,26 +1,32 @@
 -- What runs leave, of what their parts leave.
-use Rattle.std.proofs.Common.{◌≡◌, sym, ap, subst, refl, rules, ℕ, Some, None, List, []}
+use Rattle.std.proofs.Common.{◌≡◌, ◌∙◌, sym, ap, subst, refl, rules, ℕ, Some, None, List, [], append-nil}
 use Rattle.std.proofs.Common.{Ok, Err, OnOk, IfSome, true, encode_utf8_all, arith}
 use Rattle.std.specs.Io.KnownBytes.{Appends, Keeps}
 use Rattle.std.proofs.KnownBytes.{Consumes-nil}
-use Rattle.std.proofs.lemmas.Result.{on_ok_weaker}
+use Rattle.std.proofs.lemmas.Str.{encodes-append}
 use Rattle.skk_outside.specs.Taken.{TakesAtMost}
+use Rattle.skk_outside.specs.Written.{AppendsPrefix}
 use Rattle.romaji_rules.specs.declared.rule.Rule.{Rule}
 use Rattle.skk_outside.specs.Moved.{Told, MovedSink}
 use Rattle.skk_calls.specs.declared.chronicle.Noted.{Noted}
 use Rattle.skk_calls.specs.Chronicles.{history_of}
 use Rattle.skk_calls.specs.Histories.{Opening}
-use Rattle.skk_calls.specs.InteractionLaws.{printed-answered_alone}
-use Rattle.skk_calls.specs.Interactions.{asked, answers_of, calls_of, IsAnsweredAlone}
+use Rattle.skk_calls.specs.InteractionLaws.{led-asked, led-end, led-printed, printed-answered_alone}
+use Rattle.skk_calls.specs.Interactions.{Dialog, Leads, ends, asked, printed, end_of, answers_of, calls_of}
+use Rattle.skk_calls.specs.Runs.{Runs}
 use Rattle.skk_calls.specs.Openings.{IsLegalOver, said_in, are_of_one, are_served}
 use Rattle.skk_calls.specs.Tallies.{Tally, tally_of}
 use Rattle.caller_work.specs.Disks.{DiskNow, KeepsDisk}
 use Rattle.run_endings.specs.Status.{Ended, ended_by}
-use Rattle.skk_top.specs.TypeCommand.{Prints, TypesLines}
-use Rattle.script_typing.specs.Typed.{typing, typed_alone}
-use Rattle.skk_top.specs.Typing.{LeavesLines}
+use Rattle.run_endings.specs.Page.{LeavesPrinted}
+use Rattle.run_endings.specs.PageLaws.{AppendsPrefix-more, printed-fault}
+use Rattle.skk_top.specs.TypeCommand.{KeepsChronicle, TypesLines}
+use Rattle.script_typing.specs.Lines.{at_if_done}
+use Rattle.script_typing.specs.Typed.{Asking, typing, typed_alone}
+use Rattle.skk_top.specs.Typing.{TypesOut}
 use Rattle.key_scripts.specs.declared.line.Line.{Line}
-use Rattle.skk_top.proofs.Served.{answered_alone, where_done}
+use Rattle.skk_top.proofs.LinesWork.{work-closed}
+use Rattle.skk_top.proofs.Served.{answered_alone}
 
 -- what is known of bytes that are told
 pub each_some : {P Q : List ℕ → Type 0} (known : Told) → ((bytes : List ℕ) → P bytes → Q bytes) → IfSome known P
@@ -38,58 +44,68 @@ takes-none known most = ([], omega arith, Consumes-nil known)
 
 pub ruleset untouched = (Keeps-self, takes-none)
 
--- what was printed where every call was answered as by the dictionary of one thread is what is printed where that
--- answers
-printed-alone : (opening : Opening) (rules : List Rule) (lines : List Line) (chronicle : List Noted) (out : MovedSink)
-    → asked (typing rules [] lines) (answers_of (said_in chronicle 0)) ≡ calls_of (said_in chronicle 0)
-    → Prints (typing rules [] lines) (answers_of (said_in chronicle 0)) (Ok tt) out
-    → IsAnsweredAlone opening.files opening.state (said_in chronicle 0)
-    → Appends out.written out.written' (typed_alone opening rules lines)
-printed-alone opening rules lines chronicle out asks prints alone =
-    subst (λ text. Appends out.written out.written' (encode_utf8_all text))
-    (printed-answered_alone (typing rules [] lines) (said_in chronicle 0) tt opening.files opening.state asks
-    prints.taken alone) prints.whole
+-- what the typing of what asks and prints has asked, whether that is all of it, and what it has printed
+out-told : (asking : Asking) (ended : Ended) {said : Dialog} {out : MovedSink}
+    → Runs (λ (all : Unit {0}). asking) (at_if_done ended (λ all. ends tt)) [] said
+    (λ text. LeavesPrinted (encode_utf8_all text) ended out)
+    → (asked asking (answers_of said) ≡ calls_of said) × OnOk ended (end_of asking (answers_of said) ≡ Some tt)
+    × LeavesPrinted (encode_utf8_all (printed asking (answers_of said))) ended out
+out-told asking ended {said = said} {out = out} ran =
+    subst (λ (d : Dialog). (asked asking (answers_of d) ≡ calls_of d)
+    × OnOk ended (end_of asking (answers_of d) ≡ Some tt)
+    × LeavesPrinted (encode_utf8_all (printed asking (answers_of d))) ended out) (sym ran.grows) (by ended ran)
+  where
+    by : (ended : Ended) (ran : Runs (λ (all : Unit {0}). asking) (at_if_done ended (λ all. ends tt)) [] said
+        (λ text. LeavesPrinted (encode_utf8_all text) ended out))
+        → (asked asking (answers_of ran.dialog) ≡ calls_of ran.dialog)
+        × OnOk ended (end_of asking (answers_of ran.dialog) ≡ Some tt)
+        × LeavesPrinted (encode_utf8_all (printed asking (answers_of ran.dialog))) ended out
+    by (Ok done) ran =
+        let (to, is, way) = ran.led tt in
+        let led = subst (λ i. Leads asking ran.dialog ran.text i) is way in (
+          led-asked led,
+          led-end led,
+          subst (λ t. LeavesPrinted (encode_utf8_all t) (Ok tt) out) (sym (led-printed led ∙ append-nil ran.text))
+              ran.put,
+        )
+    by (Err fault) ran =
+        let (to, any, way) = ran.led tt in
+        let rest = encode_utf8_all (printed to []) in (
+          led-asked way,
+          tt,
+          printed-fault (encode_utf8_all (printed asking (answers_of ran.dialog))) (Err fault) fault out refl
+              (subst (AppendsPrefix out.written out.written')
+              (sym (ap encode_utf8_all (led-printed way) ∙ encodes-append ran.text (printed to [])))
+              (AppendsPrefix-more out.written out.written' (encode_utf8_all ran.text) rest ran.put.prefix))
+              ran.put.stopped ran.put.counted,
+        )
 
--- lines that were typed by a caller, which is closed then
-pub types-closed : {D : Type 0} (opening : Opening) (rules : List Rule) (lines : List Line) (typed : Ended)
+-- lines that were typed by a caller, which is closed then: what was printed where every call was answered as by the
+-- dictionary of one thread is what is printed where that answers
+pub types-closed : {D : Type 0} (opening : Opening) (rules : List Rule) (lines : List Line) (ended : Ended)
     (chronicle : List Noted) (left : D) (tally : Tally) (out : MovedSink) (disk : DiskNow)
-    → LeavesLines (typing rules [] lines) typed [] (said_in chronicle 0) out → IsLegalOver opening chronicle
+    → TypesOut rules lines ended [] (said_in chronicle 0) out → IsLegalOver opening chronicle
     → are_of_one chronicle ≡ true → KeepsDisk opening chronicle disk
     → tally ≡ tally_of opening.state (history_of chronicle)
     → TypesLines opening rules lines
-    (record { ended = ended_by typed tally; chronicle = chronicle; disk = left }) out disk
-types-closed {D} opening rules lines typed chronicle left tally out disk leaves legal one keeps counts =
-    let grown : leaves.dialog ≡ said_in chronicle 0 = sym leaves.grows in
-    let prints = subst (λ d. Prints (typing rules [] lines) (answers_of d) typed out) grown leaves.prints in
-    let asks = subst (λ d. asked (typing rules [] lines) (answers_of d) ≡ calls_of d) grown leaves.asks in
-    record {
-      typed = typed;
-      ends = ap (ended_by typed) counts;
-      chronicle = record { legal = legal; one = one; asks = asks };
-      kept = keeps;
-      prints = prints;
-      served = subst (λ (t : Tally). OnOk (ended_by typed t) (are_served chronicle ≡ true)) (sym counts)
-          (served typed prints);
-      alone = subst (λ (t : Tally). OnOk (ended_by typed t)
-          (Appends out.written out.written' (typed_alone opening rules lines))) (sym counts)
-          (alone typed asks prints);
-    }
+    (record { ended = ended_by ended tally; chronicle = chronicle; disk = left }) out disk
+types-closed opening rules lines ended chronicle left tally out disk types legal one keeps counts =
+    let asking = typing rules [] lines in
+    let said = said_in chronicle 0 in
+    let told = out-told asking ended types in
+    work-closed opening chronicle left tally out disk keeps counts (KeepsChronicle opening asking chronicle)
+    (end_of asking (answers_of said) ≡ Some tt) (printed asking (answers_of said))
+    (Appends out.written out.written' (typed_alone opening rules lines)) ended
+    (record { legal = legal; one = one; asks = told.0 }) told.1 told.2 (alone ended told.1 told.0 told.2)
   where
-    answered : are_served chronicle ≡ true → IsAnsweredAlone opening.files opening.state (said_in chronicle 0)
-    answered all = answered_alone opening (history_of chronicle) legal.1 all one
-
-    served : (typed : Ended) → Prints (typing rules [] lines) (answers_of (said_in chronicle 0)) typed out
-        → OnOk (ended_by typed (tally_of opening.state (history_of chronicle))) (are_served chronicle ≡ true)
-    served (Ok done) prints = where_done (history_of chronicle) opening.state
-    served (Err fault) prints = tt
-
-    alone : (typed : Ended)
+    alone : (ended : Ended)
+        → OnOk ended (end_of (typing rules [] lines) (answers_of (said_in chronicle 0)) ≡ Some tt)
         → asked (typing rules [] lines) (answers_of (said_in chronicle 0)) ≡ calls_of (said_in chronicle 0)
-        → Prints (typing rules [] lines) (answers_of (said_in chronicle 0)) typed out
-        → OnOk (ended_by typed (tally_of opening.state (history_of chronicle)))
-        (Appends out.written out.written' (typed_alone opening rules lines))
-    alone (Ok done) asks prints =
-        on_ok_weaker (ended_by (Ok done) (tally_of opening.state (history_of chronicle)))
-        (λ all. printed-alone opening rules lines chronicle out asks prints (answered all))
-        (where_done (history_of chronicle) opening.state)
-    alone (Err fault) asks prints = tt
+        → LeavesPrinted (encode_utf8_all (printed (typing rules [] lines) (answers_of (said_in chronicle 0)))) ended out
+        → OnOk ended (are_served chronicle ≡ true
+        → Appends out.written out.written' (typed_alone opening rules lines))
+    alone (Ok done) taken asks prints = λ all.
+        subst (λ text. Appends out.written out.written' (encode_utf8_all text))
+        (printed-answered_alone (typing rules [] lines) (said_in chronicle 0) tt opening.files opening.state asks taken
+        (answered_alone opening (history_of chronicle) legal.1 all one)) prints.whole
+    alone (Err fault) taken asks prints = tt

@@ -3,12 +3,13 @@ use Rattle.std.proofs.Common.{◌≡◌, ap, ℕ, None, Some, Ok, Err, List, [],
 use Rattle.std.proofs.Common.{true}
 use Rattle.std.proofs.Common.{false, lit≤, arith}
 use Rattle.std.specs.Fmt.{digits}
+use Rattle.skk_outside.specs.declared.outside.Outside.{Ghosts as OutsideGhosts}
 use Rattle.skk_outside.specs.Moved.{MovedSink}
 use Rattle.romaji_rules.specs.declared.rule.Rule.{Rule}
 use Rattle.skk_calls.specs.Interactions.{Dialog}
 use Rattle.skk_calls.specs.Tallies.{Tally}
 use Rattle.skk_server.specs.declared.end.End.TheVariants as endings
-use Rattle.skk_server.specs.Visits.{SeenLink, Visit}
+use Rattle.skk_server.specs.Visits.{Visit}
 use Rattle.skk_top.specs.ServeCommand.{MovedListener, ready_line, served_line, serve_lines, LacksPort, StopsServing}
 use Rattle.skk_top.specs.ServeCommand.{ServesVisits, AreServedFrom, wants_memory}
 use Rattle.run_endings.specs.Status.{Ended, ended_by, with_want}
@@ -49,7 +50,7 @@ causes : (ended_by done (with_want true (tally true true true)) ≡ Err Outside)
     × (ended_by (Err Memory) (with_want false (tally true false true)) ≡ Err Memory)
 causes = (refl, refl, refl, refl, refl, refl, refl)
 
-module _ {L : Type 0} (links : SeenLink L) (one two one' two' : L) where
+module _ {L : Type 0} (links : OutsideGhosts L) (one two one' two' : L) where
   -- a listener on port 7 of two links, of which the first came and was given back, with these counts of faults
   abbrev net : ℕ → ℕ → MovedListener L
   net faults faults' = record {

@@ -3,7 +3,6 @@ use Rattle.std.proofs.Common.{◌≡◌, ◌≤◌, ◌+◌, ◌∙◌, ap, ap�
 use Rattle.std.proofs.Common.{Option, Some}
 use Rattle.std.proofs.Common.{Result, Ok, Err, IfOk, OnOk, OnErr, List, [], ◌∷◌, length, map, encode_utf8_all, arith}
 use Rattle.std.proofs.lemmas.List.{length-map}
-use Rattle.std.proofs.lemmas.Result.{on_ok_weaker}
 use Rattle.std.specs.Io.KnownBytes.{Appends, Keeps}
 use Rattle.skk_outside.specs.Moved.{MovedSink}
 use Rattle.romaji_rules.specs.Standard.{standard}
@@ -27,12 +26,12 @@ use Rattle.script_typing.specs.declared.typed.Typed.{Typed}
 use Rattle.command_line.specs.declared.command.LoadOptions.{LoadOptions}
 use Rattle.caller_work.specs.Disks.{DiskNow, KeepsDisk}
 use Rattle.skk_top.specs.LoadCommand.{load_lines, loaded_from, summed, LoadsTasks}
-use Rattle.run_endings.specs.Page.{LeavesPrinted, StopsPrinting}
+use Rattle.run_endings.specs.Page.{LeavesPrinted}
 use Rattle.run_endings.specs.Status.{Ended, ended_by}
 use Rattle.run_endings.specs.declared.fault.RunFault.TheVariants.{Memory}
-use Rattle.skk_top.proofs.Served.{where_done}
-use Rattle.skk_top.proofs.Loads.{always}
-use Rattle.skk_top.proofs.Weaves.{asked-few, keeps-appends}
+use Rattle.skk_top.specs.WeaveCommand.{KeepsCallers}
+use Rattle.skk_top.proofs.LinesWork.{always, work-closed, work-lost}
+use Rattle.skk_top.proofs.Weaves.{asked-few}
 
 -- the sessions that are left of tasks are those that what their callers have said leads to
 sessions-done : (table : List Rule) (said : ℕ → Dialog) (place : ℕ) (tasks : Tasks) (numbers : List ℕ) (pages : PageMap)
@@ -59,6 +58,9 @@ module _ {D : Type 0} (options : LoadOptions) (opening : Opening) (chronicle : L
   abbrev said : ℕ → Dialog
   said = said_in chronicle
 
+  abbrev text : SessionMap → List ℕ
+  text sessions = summed options (tally_of opening.state (history_of chronicle)) sessions
+
   abbrev Left : Ended → Type 0
   Left ended =
       LoadsTasks options opening (record { ended = ended_by ended tally; chronicle = chronicle; disk = left }) out disk
@@ -74,82 +76,47 @@ module _ {D : Type 0} (options : LoadOptions) (opening : Opening) (chronicle : L
       × (tally_of opening.state (history_of chronicle)
       ≡ tally_of opening.state (history_alone opening.files opening.state lines))
 
-  served : (ended : Ended) → OnOk (ended_by ended tally) (are_served chronicle ≡ true)
-  served ended = subst (λ (t : Tally). OnOk (ended_by ended t) (are_served chronicle ≡ true)) (sym counts) (by ended)
-    where
-      by : (ended : Ended) → OnOk (ended_by ended (tally_of opening.state (history_of chronicle)))
-          (are_served chronicle ≡ true)
-      by (Ok done) = where_done (history_of chronicle) opening.state
-      by (Err fault) = tt
-
   module _ (asks : AskFrom standard said 0 tasks) (strangers : (number : ℕ) → length tasks ≤ number → said number ≡ [])
       (plays_alone : PlaysAlone) where
+    kept : KeepsCallers opening standard tasks chronicle
+    kept = record { legal = legal; asks = asks; strangers = strangers }
+
+    -- what was printed is also what is printed where the dictionary of one thread answers
+    alone : LeadFrom standard said 0 tasks → (ended : Ended)
+        → LeavesPrinted (encode_utf8_all (text (sessions_from standard said 0 tasks))) ended out
+        → OnOk ended (are_served chronicle ≡ true
+        → Appends out.written out.written' (loaded_from opening.files opening.state options))
+    alone leads (Ok done) prints = λ no_refusal.
+        let both = plays_alone strangers no_refusal leads in
+        subst (Appends out.written out.written')
+        (ap₂ (λ (t : Tally) (s : SessionMap). encode_utf8_all (summed options t s)) both.1 both.0) prints.whole
+    alone leads (Err fault) prints = tt
+
     -- tasks that were done whole, of which the summary was printed
     shared-whole : (ended : Ended) (pages : PageMap) (sessions : SessionMap)
         → AreDone standard true tasks dialogs pages sessions
         → LeadFrom standard said 0 tasks × EndFrom standard said 0 tasks
         → LeavesPrinted (encode_utf8_all (summed options tally sessions)) ended out → Left ended
-    shared-whole ended pages sessions done all prints = record {
-      ended = ended;
-      ends = ap (ended_by ended) counts;
-      chronicle = record { legal = legal; asks = asks; strangers = strangers };
-      kept = keeps;
-      taken = always ended all.1;
-      prints = subst (λ (t : Tally). LeavesPrinted (encode_utf8_all (summed options t
-          (sessions_from standard said 0 tasks))) ended out) counts
-          (subst (λ (s : SessionMap). LeavesPrinted (encode_utf8_all (summed options tally s)) ended out)
-          (sym done_so) prints);
-      served = served ended;
-      alone = subst (λ (t : Tally). OnOk (ended_by ended t)
-          (Appends out.written out.written' (loaded_from opening.files opening.state options))) (sym counts)
-          (alone ended prints);
-    }
-      where
-        done_so : sessions_from standard said 0 tasks ≡ sessions
-        done_so =
-            sessions-done standard said 0 tasks numbers pages sessions callers.counted
-            (subst (λ (ds : List Dialog). AreDone standard true tasks ds pages sessions) callers.said_by done)
-
-        -- what was printed is also what is printed where the dictionary of one thread answers
-        same : are_served chronicle ≡ true
-            → encode_utf8_all (summed options tally sessions) ≡ loaded_from opening.files opening.state options
-        same no_refusal =
-            let both = plays_alone strangers no_refusal all.0 in
-            ap₂ (λ (t : Tally) (s : SessionMap). encode_utf8_all (summed options t s)) (counts ∙ both.1)
-            (sym done_so ∙ both.0)
-
-        alone : (ended : Ended) → LeavesPrinted (encode_utf8_all (summed options tally sessions)) ended out
-            → OnOk (ended_by ended (tally_of opening.state (history_of chronicle)))
-            (Appends out.written out.written' (loaded_from opening.files opening.state options))
-        alone (Ok done) prints =
-            on_ok_weaker (ended_by (Ok done) (tally_of opening.state (history_of chronicle)))
-            (λ no_refusal. subst (Appends out.written out.written') (same no_refusal) prints.whole)
-            (where_done (history_of chronicle) opening.state)
-        alone (Err fault) prints = tt
+    shared-whole ended pages sessions done all prints =
+        let done_so : sessions_from standard said 0 tasks ≡ sessions =
+        sessions-done standard said 0 tasks numbers pages sessions callers.counted
+        (subst (λ (ds : List Dialog). AreDone standard true tasks ds pages sessions) callers.said_by done) in
+        let printed = subst (λ (t : Tally). LeavesPrinted (encode_utf8_all (summed options t
+        (sessions_from standard said 0 tasks))) ended out) counts
+        (subst (λ (s : SessionMap). LeavesPrinted (encode_utf8_all (summed options tally s)) ended out) (sym done_so)
+        prints) in
+        work-closed opening chronicle left tally out disk keeps counts (KeepsCallers opening standard tasks chronicle)
+        (EndFrom standard said 0 tasks) (text (sessions_from standard said 0 tasks))
+        (Appends out.written out.written' (loaded_from opening.files opening.state options)) ended kept
+        (always ended all.1) printed (alone all.0 ended printed)
 
     -- tasks for which memory was out, of which nothing was printed
     shared-cut : (ended : Ended) → ended ≡ Err Memory → Keeps out.written out.written' → out.faults ≤ out.faults'
         → Left ended
-    shared-cut (Ok done) is unwritten counted = absurd (cc is)
-    shared-cut (Err fault) is unwritten counted =
-        let text = encode_utf8_all (summed options (tally_of opening.state (history_of chronicle))
-        (sessions_from standard said 0 tasks)) in
-        let memory : fault ≡ Memory = cc is in
-        record {
-          ended = Err fault;
-          ends = refl;
-          chronicle = record { legal = legal; asks = asks; strangers = strangers };
-          kept = keeps;
-          taken = tt;
-          prints = record {
-            whole = tt;
-            prefix = ([], (text, refl), keeps-appends out.written out.written' unwritten);
-            stopped = subst (StopsPrinting out) (sym memory) tt;
-            counted = counted;
-          };
-          served = tt;
-          alone = tt;
-        }
+    shared-cut ended =
+        work-lost opening chronicle left tally out disk keeps counts (KeepsCallers opening standard tasks chronicle)
+        (EndFrom standard said 0 tasks) (text (sessions_from standard said 0 tasks))
+        (Appends out.written out.written' (loaded_from opening.files opening.state options)) ended kept
 
     -- by how the work ended
     shared-by : (typed : Result Typed no_memory) (ended : Ended)

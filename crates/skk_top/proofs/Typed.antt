@@ -1,175 +1,160 @@
--- How far the typing of lines has come, and what it leaves, by how it ends.
-use Rattle.std.proofs.Common.{◌≡◌, ◌<◌, ◌+◌, ◌∙◌, ap, sym, subst, ℕ, List, [], ◌∷◌, ◌++◌}
-use Rattle.std.proofs.Common.{append_assoc, length, drop, get_or, Ok, Err, IsErrAnd, encode_utf8_all, rules, refl}
-use Rattle.std.proofs.lemmas.List.{append-nil, at_drop_more}
-use Rattle.std.proofs.lemmas.Str.{encodes-append}
-use Rattle.std.specs.Io.KnownBytes.{Appends}
+-- What the typing of lines prints, and what it leaves then.
+use Rattle.std.proofs.Common.{◌≡◌, ◌≤◌, sym, subst, refl, rules, arith, ℕ, List, [], ◌++◌, append_assoc}
+use Rattle.std.proofs.Common.{Ok, Err, IfSome, IsErrAnd, encode_utf8_all}
 use Rattle.skk_outside.specs.Moved.{Told, MovedSink}
 use Rattle.skk_outside.specs.Written.{AppendsPrefix}
+use Rattle.skk_outside.specs.declared.outside.Failed.{Failed}
 use Rattle.romaji_rules.specs.declared.rule.Rule.{Rule}
-use Rattle.skk_calls.specs.InteractionLaws.{leads-on, leads-prints, led-asked, led-end, led-printed}
-use Rattle.skk_calls.specs.Interactions.{ends, printed, Dialog, Leads, here, answers_of}
-use Rattle.run_endings.specs.Page.{Printed, StopsPrinting}
-use Rattle.script_typing.specs.Sessions.{SessionMap}
-use Rattle.run_endings.specs.Status.{Ended}
-use Rattle.script_typing.specs.Typed.{Asking, typing, closing_lines}
-use Rattle.skk_top.specs.Typing.{Reaches, Breaks, LeavesLines}
-use Rattle.run_endings.specs.declared.fault.RunFault.{RunFault}
+use Rattle.skk_calls.specs.Interactions.{ends, Dialog}
+use Rattle.skk_calls.specs.Runs.{Runs, at}
+use Rattle.skk_calls.specs.RunLaws.{runs-print, runs-then}
+use Rattle.key_scripts.specs.Script.{session_of}
 use Rattle.key_scripts.specs.declared.line.Line.{Line}
-use Rattle.run_endings.specs.PageLaws.{Appends-none, AppendsPrefix-more, AppendsPrefix-whole, Printed-prefix}
-use Rattle.run_endings.specs.PageLaws.{Printed-prefix_of_page, Printed-whole, Printed-written}
-use Rattle.skk_top.proofs.PrintedChecks.{Printed-longer}
+use Rattle.session_machine.specs.Session.{Session}
+use Rattle.script_typing.specs.LineLaws.{runs-alone, runs-put}
+use Rattle.script_typing.specs.Lines.{at_if_done, line_printed, RunsThrough}
+use Rattle.script_typing.specs.MapLaws.{there-put}
+use Rattle.script_typing.specs.Sessions.{SessionMap, session_at, with_session}
+use Rattle.script_typing.specs.Typed.{Asking, typing, closing_lines}
+use Rattle.run_endings.specs.Page.{LeavesPrinted, Printed, StopsPrinting, Writes}
+use Rattle.run_endings.specs.PageLaws.{Appends-none, Printed-prefix_of_page, Printed-whole, Printed-written}
+use Rattle.run_endings.specs.PageLaws.{printed-fault}
+use Rattle.run_endings.specs.Status.{Ended}
+use Rattle.run_endings.specs.declared.fault.RunFault.{RunFault}
+use Rattle.run_endings.specs.declared.fault.RunFault.TheVariants.{Memory, Outside}
+use Rattle.skk_top.specs.Typing.{PrintsPage}
+use Rattle.skk_top.proofs.PrintedChecks.{Printed-longer, stops-behind}
 
 -- a sink that was written this before and that by now, with its counts of faults
 abbrev pub sink : Told → Told → ℕ → ℕ → MovedSink
 sink old new faults faults' = record { written = old; written' = new; faults = faults; faults' = faults' }
 
--- what is left of lines begins with the one at its place
-pub at-line : {Y : Type 0} (F : List Line → Y) (lines : List Line) (place : ℕ) (line : Line) → place < length lines
-    → line ≡ get_or lines place line → F (drop place lines) ≡ F (line ∷ drop (place + 1) lines)
-at-line F lines place line within is =
-    at_drop_more F lines place line within ∙ ap (λ l. F (l ∷ drop (place + 1) lines)) (sym is)
+-- Pages
 
--- at the start nothing was said or printed
-pub reaches-start : (from : Asking) (said : Dialog) (page : List ℕ) {old : Told} {faults faults' : ℕ}
-    → page ≡ [] → Reaches from from said said (sink old old faults faults') page
-reaches-start from said page {old = old} empty = record {
-  dialog = [];
-  text = [];
-  grows = sym (append-nil said);
-  leads = here from;
-  printed = ([], Appends-none old, ap (λ p. p ++ []) empty);
+-- nothing was printed yet
+pub page-start : (page : List ℕ) {old : Told} {faults : ℕ}
+    → PrintsPage (page ++ []) page (Ok tt) (sink old old faults faults)
+page-start page {old = old} =
+    record { ok = ([], Appends-none old, refl); err = tt; stopped = tt; counted = omega arith }
+
+-- a prefix was written, with the cause
+pub page-stopped : (text page : List ℕ) (ended : Ended) (fault : RunFault) {out : MovedSink}
+    → IsErrAnd ended (λ handed. handed ≡ fault) → AppendsPrefix out.written out.written' (encode_utf8_all text)
+    → StopsPrinting out fault → out.faults ≤ out.faults' → PrintsPage text page ended out
+page-stopped text page (Ok done) fault is front stops counted = absurd (search (rules, is))
+page-stopped text page (Err handed) fault {out = out} is front stops counted =
+    record { ok = tt; err = front; stopped = subst (StopsPrinting out) (sym is) stops; counted = counted }
+
+-- the same where the fault is handed on
+pub page-handed : (text page page' : List ℕ) (ended : Ended) (fault : RunFault) {out : MovedSink}
+    → IsErrAnd ended (λ handed. handed ≡ fault) → PrintsPage text page (Err fault) out → PrintsPage text page' ended out
+page-handed text page page' ended fault is prints =
+    page-stopped text page' ended fault is prints.err prints.stopped prints.counted
+
+-- nothing was, for want of memory
+pub page-kept : (text page : List ℕ) (ended : Ended) {old : Told} {faults : ℕ}
+    → IsErrAnd ended (λ handed. handed ≡ Memory) → PrintsPage text page ended (sink old old faults faults)
+page-kept text page ended {old = old} is =
+    page-stopped text page ended Memory is ([], (encode_utf8_all text, refl), Appends-none old) tt (omega arith)
+
+-- a page that was full was written
+pub page-full : (text page left : List ℕ) {out : MovedSink} → page ≡ text
+    → Printed out.written out.written' left [] page → out.faults ≤ out.faults' → PrintsPage text left (Ok tt) out
+page-full text page left {out = out} is printed counted = record {
+  ok = subst (Printed out.written out.written' left []) is printed;
+  err = tt;
+  stopped = tt;
+  counted = counted;
 }
 
--- the lines left begin with the one at its place
-pub reaches-next : {from : Asking} {said said' : Dialog} {out : MovedSink} {page : List ℕ} (table : List Rule)
-    (sessions : SessionMap) (lines : List Line) (place : ℕ) (line : Line)
-    → place < length lines → line ≡ get_or lines place line
-    → Reaches from (typing table sessions (drop place lines)) said said' out page
-    → Reaches from (typing table sessions (line ∷ drop (place + 1) lines)) said said' out page
-reaches-next {from = from} {said = said} {said' = said'} {out = out} {page = page} table sessions lines place line
-    within is reached =
-    subst (λ (i : Asking). Reaches from i said said' out page)
-    (at-line (typing table sessions) lines place line within is) reached
+-- more was printed behind a page
+pub page-then : (front one two page page' : List ℕ) (ended : Ended) {old mid new : Told} {faults middle faults' : ℕ}
+    → PrintsPage (front ++ one) page (Ok tt) (sink old mid faults middle)
+    → PrintsPage (page ++ two) page' ended (sink mid new middle faults')
+    → PrintsPage (front ++ (one ++ two)) page' ended (sink old new faults faults')
+page-then front one two page page' ended {old = old} {mid = mid} {new = new} {faults = faults} {middle = middle}
+    {faults' = faults'} first then =
+    subst (λ text. PrintsPage text page' ended (sink old new faults faults')) (append_assoc front one two)
+    (by ended then)
+  where
+    longer : Printed old mid (page ++ two) [] ((front ++ one) ++ two)
+    longer = Printed-longer old mid page (front ++ one) two (page ++ two) refl first.ok
 
--- a way more, whose text goes to the page
-pub reaches-pushed : {from middle to : Asking} {said said' : Dialog} {out : MovedSink} {page : List ℕ}
-    → Reaches from middle said said' out page
-    → (said'' dialog : Dialog) (text page' : List ℕ) → said'' ≡ said' ++ dialog → Leads middle dialog text to
-    → page' ≡ page ++ text → Reaches from to said said'' out page'
-reaches-pushed {said = said} {out = out} {page = page} reached said'' dialog text page' grows leads pushed = record {
-  dialog = reached.dialog ++ dialog;
-  text = reached.text ++ text;
-  grows = grows ∙ ap (λ s. s ++ dialog) reached.grows ∙ append_assoc said reached.dialog dialog;
-  leads = leads-on reached.leads leads;
-  printed = Printed-longer out.written out.written' page reached.text text page' pushed reached.printed;
-}
-
--- a way more, on which nothing is printed
-pub reaches-said : {from middle to : Asking} {said said' : Dialog} {out : MovedSink} {page : List ℕ}
-    → Reaches from middle said said' out page
-    → (said'' dialog : Dialog) → said'' ≡ said' ++ dialog → Leads middle dialog [] to
-    → Reaches from to said said'' out page
-reaches-said {page = page} reached said'' dialog grows leads =
-    reaches-pushed reached said'' dialog [] page grows leads (sym (append-nil page))
-
--- the closing lines go to the page, and then all is typed
-pub reaches-closed : {from : Asking} {said said' : Dialog} {out : MovedSink} {page : List ℕ}
-    (table : List Rule) (sessions : SessionMap)
-    → Reaches from (typing table sessions []) said said' out page
-    → Reaches from (ends tt) said said' out (page ++ closing_lines sessions)
-reaches-closed {said' = said'} {page = page} table sessions reached =
-    reaches-pushed reached said' [] (closing_lines sessions) (page ++ closing_lines sessions) (sym (append-nil said'))
-    (leads-prints (closing_lines sessions) (here _)) refl
-
--- what was printed on a way is printed by its answers
-along : {from to : Asking} {dialog : Dialog} {text : List ℕ} (old new : Told) → Leads from dialog text to
-    → AppendsPrefix old new (encode_utf8_all text)
-    → AppendsPrefix old new (encode_utf8_all (printed from (answers_of dialog)))
-along {to = to} {text = text} old new leads front =
-    subst (AppendsPrefix old new) (sym (ap encode_utf8_all (led-printed leads) ∙ encodes-append text (printed to [])))
-    (AppendsPrefix-more old new (encode_utf8_all text) (encode_utf8_all (printed to [])) front)
-
--- a way breaks off where it came to
-pub breaks-reached : {from to : Asking} {said said' : Dialog} {out : MovedSink} {page : List ℕ}
-    → Reaches from to said said' out page → Breaks from said said' out
-breaks-reached {out = out} {page = page} reached = record {
-  dialog = reached.dialog;
-  grows = reached.grows;
-  asks = led-asked reached.leads;
-  prefix =
-      along out.written out.written' reached.leads
-      (Printed-prefix out.written out.written' page [] reached.text reached.printed);
-}
-
--- some of the page is written
-pub reaches-written : {from to : Asking} {said said' : Dialog} {old mid : Told} {page : List ℕ}
-    {faults middle : ℕ} (faults' : ℕ) → Reaches from to said said' (sink old mid faults middle) page
-    → (new : Told) (left : List ℕ) → Printed mid new left [] page
-    → Reaches from to said said' (sink old new faults faults') left
-reaches-written {old = old} {mid = mid} {page = page} faults' reached new left written = record {
-  dialog = reached.dialog;
-  text = reached.text;
-  grows = reached.grows;
-  leads = reached.leads;
-  printed = Printed-written old mid new page left [] reached.text reached.printed written;
-}
-
--- what was written so far, where a prefix of the page is written as well
-front-written : {from to : Asking} {said said' : Dialog} {old mid : Told} {page : List ℕ} {faults middle : ℕ}
-    (reached : Reaches from to said said' (sink old mid faults middle) page)
-    → (new : Told) → AppendsPrefix mid new (encode_utf8_all page)
-    → AppendsPrefix old new (encode_utf8_all (printed from (answers_of reached.dialog)))
-front-written {old = old} {mid = mid} {page = page} reached new front =
-    along old new reached.leads (Printed-prefix_of_page old mid new page [] reached.text reached.printed front)
-
--- a way breaks off where a write of its page fails
-pub breaks-unwritten : {from to : Asking} {said said' : Dialog} {old mid : Told} {page : List ℕ}
-    {faults middle : ℕ} (faults' : ℕ) → Reaches from to said said' (sink old mid faults middle) page
-    → (new : Told) → AppendsPrefix mid new (encode_utf8_all page) → Breaks from said said' (sink old new faults faults')
-breaks-unwritten faults' reached new front = record {
-  dialog = reached.dialog;
-  grows = reached.grows;
-  asks = led-asked reached.leads;
-  prefix = front-written reached new front;
-}
-
--- What is left then
-
--- with a fault
-pub leaves-broken : {from : Asking} {said said' : Dialog} {out : MovedSink} (ended : Ended) (fault : RunFault)
-    → IsErrAnd ended (λ handed. handed ≡ fault)
-    → Breaks from said said' out → StopsPrinting out fault → LeavesLines from ended said said' out
-leaves-broken (Ok done) fault is breaks stops = absurd (search (rules, is))
-leaves-broken {out = out} (Err handed) fault is breaks stops = record {
-  dialog = breaks.dialog;
-  grows = breaks.grows;
-  asks = breaks.asks;
-  prints = record {
-    taken = tt;
-    whole = tt;
-    prefix = breaks.prefix;
-    stopped = subst (StopsPrinting out) (sym is) stops;
-  };
-}
-
--- with all of it written
-pub leaves-whole : {from : Asking} {said said' : Dialog} {old mid : Told} {page : List ℕ} {faults middle : ℕ}
-    (faults' : ℕ) → Reaches from (ends tt) said said' (sink old mid faults middle) page
-    → (new : Told) → Appends mid new (encode_utf8_all page)
-    → LeavesLines from (Ok tt) said said' (sink old new faults faults')
-leaves-whole {from = from} {old = old} {mid = mid} {page = page} faults' reached new written =
-    let whole =
-    subst (λ t. Appends old new (encode_utf8_all t)) (sym (led-printed reached.leads ∙ append-nil reached.text))
-    (Printed-whole old mid new page reached.text reached.printed written) in
-    record {
-      dialog = reached.dialog;
-      grows = reached.grows;
-      asks = led-asked reached.leads;
-      prints = record {
-        taken = led-end reached.leads;
-        whole = whole;
-        prefix = AppendsPrefix-whole old new (encode_utf8_all (printed from (answers_of reached.dialog))) whole;
-        stopped = tt;
-      };
+    by : (ended : Ended) → PrintsPage (page ++ two) page' ended (sink mid new middle faults')
+        → PrintsPage ((front ++ one) ++ two) page' ended (sink old new faults faults')
+    by (Ok done) then = record {
+      ok = Printed-written old mid new (page ++ two) page' [] ((front ++ one) ++ two) longer then.ok;
+      err = tt;
+      stopped = tt;
+      counted = omega (arith, first.counted, then.counted);
     }
+    by (Err fault) then = record {
+      ok = tt;
+      err = Printed-prefix_of_page old mid new (page ++ two) [] ((front ++ one) ++ two) longer then.err;
+      stopped = stops-behind fault old mid new faults middle faults' first.counted then.stopped;
+      counted = omega (arith, first.counted, then.counted);
+    }
+
+-- the page was written
+pub page-written : (text page : List ℕ) {old mid new : Told} {faults middle faults' : ℕ}
+    → PrintsPage text page (Ok tt) (sink old mid faults middle)
+    → Writes (encode_utf8_all page) (Ok tt) (sink mid new middle faults')
+    → LeavesPrinted (encode_utf8_all text) (Ok tt) (sink old new faults faults')
+page-written text page {old = old} {mid = mid} {new = new} prints writes = record {
+  whole = Printed-whole old mid new page text prints.ok writes.whole;
+  prefix = tt;
+  stopped = tt;
+  counted = omega (arith, prints.counted, writes.counted);
+}
+
+-- or a write failed
+pub page-unwritten : (text page : List ℕ) (ended : Ended) (failed : Failed) {old mid new : Told}
+    {faults middle faults' : ℕ} → IsErrAnd ended (λ handed. handed ≡ Outside)
+    → PrintsPage text page (Ok tt) (sink old mid faults middle)
+    → Writes (encode_utf8_all page) (Err failed) (sink mid new middle faults')
+    → LeavesPrinted (encode_utf8_all text) ended (sink old new faults faults')
+page-unwritten text page ended failed {old = old} {mid = mid} {new = new} {faults = faults} {faults' = faults'} is
+    prints writes =
+    printed-fault (encode_utf8_all text) ended Outside (sink old new faults faults') is
+    (Printed-prefix_of_page old mid new page [] text prints.ok writes.prefix)
+    (omega (arith, prints.counted, writes.failed)) (omega (arith, prints.counted, writes.counted))
+
+-- printing ended with a fault
+pub page-lost : (text page : List ℕ) (ended : Ended) (fault : RunFault) (out : MovedSink)
+    → IsErrAnd ended (λ handed. handed ≡ fault) → PrintsPage text page (Err fault) out
+    → LeavesPrinted (encode_utf8_all text) ended out
+page-lost text page ended fault out is prints =
+    printed-fault (encode_utf8_all text) ended fault out is prints.err prints.stopped prints.counted
+
+-- Lines
+
+-- the output line of a line that was played went to the page
+pub line-pushed : (line : Line) (sessions sessions' : SessionMap) (session : Session) (page page' : List ℕ)
+    → sessions' ≡ with_session sessions (session_of line) session
+    → IfSome (session_at sessions' (session_of line)) (λ found. page' ≡ page ++ line_printed line found)
+    → page' ≡ page ++ line_printed line session
+line-pushed line sessions sessions' session page page' put pushed =
+    rw (put, there-put sessions (session_of line) session) at pushed
+
+-- what was typed from the start on
+pub typed-start : (table : List Rule) (lines : List Line) (ended : Ended) {sessions : SessionMap}
+    (sessions' : SessionMap) {page : List ℕ} (page' : List ℕ) {said said' : Dialog} (out : MovedSink)
+    → sessions ≡ [] → page ≡ []
+    → RunsThrough (typing table) lines ended sessions sessions' said said'
+    (λ text. PrintsPage (page ++ text) page' ended out)
+    → Runs (λ (all : Unit {0}). typing table [] lines) (λ all. at_if_done ended (typing table sessions') []) said said'
+    (λ text. PrintsPage text page' ended out)
+typed-start table lines ended {sessions = sessions} sessions' page' {said = said} {said' = said'} out none bare types =
+    subst (λ (map : SessionMap). Runs (λ (all : Unit {0}). typing table map lines)
+    (λ all. at_if_done ended (typing table sessions') []) said said' (λ text. PrintsPage text page' ended out)) none
+    (runs-put (λ text prints. subst (λ p. PrintsPage (p ++ text) page' ended out) bare prints)
+    (runs-alone (typing table) lines ended sessions sessions' types))
+
+-- and the closing lines come behind it
+pub typed-closed : (table : List Rule) (sessions : SessionMap) {from : Unit {0} → Asking} {said said' : Dialog}
+    {First Both : List ℕ → Type 0} → ((one : List ℕ) → First one → Both (one ++ closing_lines sessions))
+    → Runs from (at (λ all. typing table sessions [])) said said' First
+    → Runs from (at (λ all. ends tt)) said said' Both
+typed-closed table sessions {Both = Both} puts ran =
+    runs-then (λ one two first is. subst (λ text. Both (one ++ text)) (sym is) (puts one first)) ran
+    (runs-print (closing_lines sessions) (λ all. ends tt) refl refl)

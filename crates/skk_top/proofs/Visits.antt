@@ -9,11 +9,14 @@ use Rattle.std.specs.Io.KnownBytes.{Appends, Keeps}
 use Rattle.std.specs.List.{list_all, list_any}
 use Rattle.std.specs.Option.{option_map}
 use Rattle.romaji_rules.specs.declared.rule.Rule.{Rule}
+use Rattle.skk_outside.specs.declared.listener.Listener.{Ghosts as ListenerGhosts}
+use Rattle.skk_outside.specs.declared.outside.Outside.{Ghosts as OutsideGhosts}
 use Rattle.skk_outside.specs.Faults.{Rose}
 use Rattle.skk_outside.specs.Moved.{Told, MovedSink}
 use Rattle.skk_outside.specs.Written.{AppendsPrefix}
 use Rattle.skk_calls.specs.declared.chronicle.Noted.{Noted}
 use Rattle.skk_calls.specs.declared.entry.Entry.{Entry}
+use Rattle.skk_calls.specs.declared.caller.Kept.{Ghosts as KeptGhosts}
 use Rattle.skk_calls.specs.Chronicles.{history_of}
 use Rattle.skk_calls.specs.Histories.{Opening, dialog}
 use Rattle.skk_calls.specs.Openings.{IsLegalOver, said_in, are_served, is_reply}
@@ -22,8 +25,8 @@ use Rattle.skk_calls.specs.Tallies.{Tally, tally_of, has_answer, lacks_disk}
 use Rattle.skk_server.specs.declared.served.Served.{Served}
 use Rattle.skk_server.specs.declared.served_end.ServedEnd.{ServedEnd}
 use Rattle.skk_server.specs.declared.served_end.ServedEnd.TheVariants as stages
-use Rattle.skk_server.specs.Services.{SeenListener, EndsServing, ServesAll}
-use Rattle.skk_server.specs.Visits.{SeenLink, SeenCaller, seen_caller, Visit, AreServed}
+use Rattle.skk_server.specs.Services.{EndsServing, ServesAll}
+use Rattle.skk_server.specs.Visits.{Visit, AreServed}
 use Rattle.desk_history.specs.Seats.{CallerState}
 use Rattle.shared_desk.specs.Told.{Stood}
 use Rattle.caller_work.specs.Disks.{DiskNow, KeepsDisk}
@@ -59,8 +62,8 @@ stops-serving out net Outside rose = inl rose
 stops-serving out net Memory wanted = tt
 stops-serving out net fault none = absurd none
 
-module _ {N L S : Type 0} (table : List Rule) (nets : SeenListener N L) (links : SeenLink L) (slips : SeenCaller S)
-    (service : Service) (drawn : ℕ) (old new : N) where
+module _ {N L S : Type 0} (table : List Rule) (nets : ListenerGhosts N L) (links : OutsideGhosts L)
+    (slips : KeptGhosts S) (service : Service) (drawn : ℕ) (old new : N) where
   -- the port could not be opened
   pub office-unopened : (outcome : Outcome S) (out : MovedSink) → outcome.ended ≡ Err Outside
       → outcome.slips.items ≡ [] → outcome.ends.items ≡ [] → nets.coming new ≡ nets.coming old
@@ -201,7 +204,7 @@ module _ {L : Type 0} (service : Service) (visits : List (Visit L)) (net : Moved
       }
 
 -- why serving ended, since the port was asked for
-cause-since : {N L : Type 0} (nets : SeenListener N L) (links : SeenLink L) (old mid new : N) (asked passes : ℕ)
+cause-since : {N L : Type 0} (nets : ListenerGhosts N L) (links : OutsideGhosts L) (old mid new : N) (asked passes : ℕ)
     (visits : List (Visit L)) (end : ServedEnd) → nets.faults old ≤ nets.faults mid
     → EndsServing nets mid new asked (length visits) passes end
     → IsCause asked visits (moved_listener nets links old new) end
@@ -212,8 +215,8 @@ cause-since nets links old mid new asked passes visits stages.Done counted ends 
 cause-since nets links old mid new asked passes visits stages.Fault counted ends = omega (arith, counted, ends.2)
 cause-since nets links old mid new asked passes visits stages.Memory counted ends = tt
 
-module _ {N L S : Type 0} (table : List Rule) (nets : SeenListener N L) (links : SeenLink L) (slips : SeenCaller S)
-    (service : Service) (drawn drawn' : ℕ) (old mid new : N) where
+module _ {N L S : Type 0} (table : List Rule) (nets : ListenerGhosts N L) (links : OutsideGhosts L)
+    (slips : KeptGhosts S) (service : Service) (drawn drawn' : ℕ) (old mid new : N) where
   -- the port was opened and told, and its connections were served
   pub office-served : (answered : Served S) (outcome : Outcome S) (before between after : Told)
       (faults middle faults' : ℕ)
@@ -251,7 +254,7 @@ module _ {N L S : Type 0} (table : List Rule) (nets : SeenListener N L) (links :
 -- The chronicle
 
 -- no more callers were there than connections
-slips-few : {L S : Type 0} (table : List Rule) (links : SeenLink L) (slips : SeenCaller S) (first : ℕ)
+slips-few : {L S : Type 0} (table : List Rule) (links : OutsideGhosts L) (slips : KeptGhosts S) (first : ℕ)
     (visits : List (Visit L)) (left : List S) → AreServed table links slips first visits left
     → length left ≤ length visits
 slips-few table links slips first [] [] are = omega arith
@@ -261,11 +264,11 @@ slips-few table links slips first (visit ∷ visits) (slip ∷ left) are =
     let few = slips-few table links slips (first + 1) visits left are.2 in omega (arith, few)
 
 -- how a desk sees the slips of its callers
-abbrev pub desk_slips : SeenCaller CallerState
-desk_slips = seen_caller (λ (slip : CallerState). slip.number) (λ (slip : CallerState). slip.mine)
+abbrev pub desk_slips : KeptGhosts CallerState
+desk_slips = record { number = λ slip. slip.number; said = λ slip. slip.mine }
 
 -- what a history tells of connections, by what is left of their callers
-served-from : {L : Type 0} (table : List Rule) (links : SeenLink L) (history : List Entry) (first : ℕ)
+served-from : {L : Type 0} (table : List Rule) (links : OutsideGhosts L) (history : List Entry) (first : ℕ)
     (visits : List (Visit L)) (left : List CallerState) → AreServed table links desk_slips first visits left
     → All (Stood history) left
     → ((number : ℕ) → first + length left ≤ number → dialog history number ≡ [])

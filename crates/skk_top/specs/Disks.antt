@@ -5,6 +5,7 @@ use Rattle.skk_calls.specs.declared.chronicle.Noted.{Noted}
 use Rattle.skk_calls.specs.Histories.{Opening}
 use Rattle.skk_calls.specs.Rows.{Row}
 use Rattle.skk_calls.specs.States.{State}
+use Rattle.skk_disk.specs.declared.disk.Disk.{Ghosts}
 use Rattle.skk_disk.specs.Image.{Image}
 use Rattle.skk_journal.specs.declared.fault.OpenFault.TheVariants as opening
 use Rattle.skk_journal.specs.Images.{Each}
@@ -27,14 +28,13 @@ pub record MovedDisk : Type 1 where
   pub is_untouched : Type 0
 
 -- a disk by its meanings, before and after
-abbrev pub moved_disk : {D : Type 0} → Type 0 → (D → Image) → (D → ℕ) → (D → ℕ) → (D → ℕ → Image → Type 0) → D → D
-    → MovedDisk
-moved_disk tells seen time faults left_since old new = record {
-  tells = tells;
-  seen = seen old;
-  seen' = seen new;
-  before = disk_now time faults left_since old;
-  after = disk_now time faults left_since new;
+abbrev pub moved_disk : {D : Type 0} → Ghosts D → D → D → MovedDisk
+moved_disk disk old new = record {
+  tells = disk.tells;
+  seen = disk.seen old;
+  seen' = disk.seen new;
+  before = disk_now disk old;
+  after = disk_now disk new;
   is_untouched = new ≡ old;
 }
 

@@ -6,9 +6,9 @@ pub mod Dictionaries
 pub mod Disks
 pub mod DumpCommand
 pub mod Failures
+pub mod LinesWork
 pub mod LoadCommand
 pub mod NamedFiles
-pub mod Playing
 pub mod RunFiles
 pub mod RunRules
 pub mod ServeCommand

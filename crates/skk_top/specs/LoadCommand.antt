@@ -1,5 +1,5 @@
 -- What a run of `load` leaves.
-use Rattle.std.specs.Prelude.{◌≡◌, ◌⊎◌, ◌*◌, ℕ, true, min, sum_by, List, [], ◌∷◌, ◌++◌, IsSome, OnOk, codes}
+use Rattle.std.specs.Prelude.{◌≡◌, ◌⊎◌, ◌*◌, ℕ, min, sum_by, List, [], ◌∷◌, ◌++◌, IsSome, codes}
 use Rattle.std.specs.Prelude.{encode_utf8_all}
 use Rattle.std.specs.Fmt.{decimal}
 use Rattle.std.specs.Io.KnownBytes.{Appends}
@@ -11,7 +11,7 @@ use Rattle.romaji_rules.specs.Standard.{standard}
 use Rattle.skk_calls.specs.Chronicles.{history_of}
 use Rattle.skk_calls.specs.Histories.{Opening}
 use Rattle.skk_calls.specs.Interactions.{end_of, answers_of}
-use Rattle.skk_calls.specs.Openings.{said_in, are_served}
+use Rattle.skk_calls.specs.Openings.{said_in}
 use Rattle.skk_calls.specs.Rows.{Row}
 use Rattle.skk_calls.specs.States.{State, empty_state}
 use Rattle.skk_calls.specs.Tallies.{Tally, tally_of}
@@ -24,11 +24,10 @@ use Rattle.script_typing.specs.Playing.{playing, sessions_behind, sessions_from,
 use Rattle.script_typing.specs.Sessions.{SessionMap}
 use Rattle.script_typing.specs.Woven.{tasks_of}
 use Rattle.command_line.specs.declared.command.LoadOptions.{LoadOptions}
-use Rattle.caller_work.specs.Disks.{DiskNow, KeepsDisk}
+use Rattle.caller_work.specs.Disks.{DiskNow}
 use Rattle.skk_top.specs.Disks.{MovedDisk, RefusesLearned, IsOpening}
 use Rattle.run_endings.specs.Finishes.{EndsUnbegun}
-use Rattle.run_endings.specs.Page.{LeavesPrinted}
-use Rattle.run_endings.specs.Status.{Ended, ended_by}
+use Rattle.skk_top.specs.LinesWork.{LeavesWork}
 use Rattle.skk_top.specs.TypeCommand.{KeepsChronicle}
 use Rattle.skk_top.specs.WeaveCommand.{KeepsCallers}
 use Rattle.run_endings.specs.declared.fault.RunFault.TheVariants.{Memory}
@@ -79,34 +78,26 @@ loaded_from files state options =
 abbrev pub loaded : LoadOptions → List ℕ
 loaded options = loaded_from load_files empty_state options
 
--- what one caller leaves that plays the lines: how that ended by itself decides what was printed, and with what its
--- calls came to how the run ends; where that is done no call was refused, and what was printed is also what is printed
--- where the dictionary of one thread answers
-pub record LoadsLines {D : Type 0} (options : LoadOptions) (opening : Opening) (run : Run D) (out : MovedSink)
-    (disk : DiskNow) : Type 0 where
-  pub ended : Ended
-  pub ends : run.ended ≡ ended_by ended (tally_of opening.state (history_of run.chronicle))
-  pub chronicle : KeepsChronicle opening (playing standard [] (load_lines options)) run.chronicle
-  pub kept : KeepsDisk opening run.chronicle disk
-  pub taken : OnOk ended
-      (IsSome (end_of (playing standard [] (load_lines options)) (answers_of (said_in run.chronicle 0))))
-  pub prints : LeavesPrinted (encode_utf8_all (summed options (tally_of opening.state (history_of run.chronicle))
-      (sessions_behind standard (load_lines options) (answers_of (said_in run.chronicle 0))))) ended out
-  pub served : OnOk run.ended (are_served run.chronicle ≡ true)
-  pub alone : OnOk run.ended (Appends out.written out.written' (loaded_from opening.files opening.state options))
+-- what one caller leaves that plays the lines: it asks what they ask, the summary of that was printed, and that is also
+-- what is printed where the dictionary of one thread answers
+abbrev pub LoadsLines : {D : Type 0} → LoadOptions → Opening → Run D → MovedSink → DiskNow → Type 0
+LoadsLines options opening run out disk =
+    let answers = answers_of (said_in run.chronicle 0) in
+    LeavesWork opening (KeepsChronicle opening (playing standard [] (load_lines options)) run.chronicle)
+    (IsSome (end_of (playing standard [] (load_lines options)) answers))
+    (summed options (tally_of opening.state (history_of run.chronicle))
+    (sessions_behind standard (load_lines options) answers))
+    (Appends out.written out.written' (loaded_from opening.files opening.state options)) run out disk
 
 -- what callers leave of which each plays the lines of one session: as above
-pub record LoadsTasks {D : Type 0} (options : LoadOptions) (opening : Opening) (run : Run D) (out : MovedSink)
-    (disk : DiskNow) : Type 0 where
-  pub ended : Ended
-  pub ends : run.ended ≡ ended_by ended (tally_of opening.state (history_of run.chronicle))
-  pub chronicle : KeepsCallers opening standard (tasks_of (load_lines options)) run.chronicle
-  pub kept : KeepsDisk opening run.chronicle disk
-  pub taken : OnOk ended (EndFrom standard (said_in run.chronicle) 0 (tasks_of (load_lines options)))
-  pub prints : LeavesPrinted (encode_utf8_all (summed options (tally_of opening.state (history_of run.chronicle))
-      (sessions_from standard (said_in run.chronicle) 0 (tasks_of (load_lines options))))) ended out
-  pub served : OnOk run.ended (are_served run.chronicle ≡ true)
-  pub alone : OnOk run.ended (Appends out.written out.written' (loaded_from opening.files opening.state options))
+abbrev pub LoadsTasks : {D : Type 0} → LoadOptions → Opening → Run D → MovedSink → DiskNow → Type 0
+LoadsTasks options opening run out disk =
+    let said = said_in run.chronicle in
+    LeavesWork opening (KeepsCallers opening standard (tasks_of (load_lines options)) run.chronicle)
+    (EndFrom standard said 0 (tasks_of (load_lines options)))
+    (summed options (tally_of opening.state (history_of run.chronicle))
+    (sessions_from standard said 0 (tasks_of (load_lines options))))
+    (Appends out.written out.written' (loaded_from opening.files opening.state options)) run out disk
 
 -- what the loading leaves in some manner, over an opening
 abbrev pub Loading : Type 0 → Type 1

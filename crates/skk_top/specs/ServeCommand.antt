@@ -4,11 +4,14 @@ use Rattle.std.specs.Prelude.{[], ◌∷◌, ◌++◌, length, map, codes, IfErr
 use Rattle.std.specs.Fmt.{decimal}
 use Rattle.std.specs.Io.KnownBytes.{Appends, Keeps}
 use Rattle.std.specs.List.{list_any}
+use Rattle.skk_outside.specs.declared.listener.Listener.{Ghosts as ListenerGhosts}
+use Rattle.skk_outside.specs.declared.outside.Outside.{Ghosts as OutsideGhosts}
 use Rattle.skk_outside.specs.Faults.{Rose}
 use Rattle.skk_outside.specs.Moved.{MovedShelf, MovedSink}
 use Rattle.skk_outside.specs.Written.{AppendsPrefix}
 use Rattle.romaji_rules.specs.declared.rule.Rule.{Rule}
 use Rattle.skk_calls.specs.declared.chronicle.Noted.{Noted}
+use Rattle.skk_calls.specs.declared.caller.Kept.{Ghosts as KeptGhosts}
 use Rattle.skk_calls.specs.Chronicles.{history_of}
 use Rattle.skk_calls.specs.Histories.{Opening}
 use Rattle.skk_calls.specs.Interactions.{Dialog}
@@ -20,8 +23,7 @@ use Rattle.skk_server.specs.declared.end.End.{End}
 use Rattle.skk_server.specs.declared.end.End.TheVariants as endings
 use Rattle.skk_server.specs.declared.served_end.ServedEnd.{ServedEnd}
 use Rattle.skk_server.specs.declared.served_end.ServedEnd.TheVariants as stages
-use Rattle.skk_server.specs.Services.{SeenListener}
-use Rattle.skk_server.specs.Visits.{SeenLink, SeenCaller, Visit, IsServed, AreServed}
+use Rattle.skk_server.specs.Visits.{Visit, IsServed, AreServed}
 use Rattle.command_line.specs.Command.{limit_of}
 use Rattle.command_line.specs.declared.command.ServeOptions.{ServeOptions}
 use Rattle.skk_top.specs.Dictionaries.{AreRowsOf}
@@ -41,7 +43,7 @@ use Rattle.skk_top.specs.declared.serving.Service.{Service}
 -- a listener to which such links come, before and after: how its links are seen, those that are still to come, those
 -- that were taken back, how many are out, the port that was opened, its counts of faults, and whether it is as it was
 pub record MovedListener (L : Type 0) : Type 1 where
-  pub links : SeenLink L
+  pub links : OutsideGhosts L
   pub coming : Option (List L)
   pub coming' : Option (List L)
   pub over : Option (List L)
@@ -55,7 +57,7 @@ pub record MovedListener (L : Type 0) : Type 1 where
   pub is_untouched : Type 0
 
 -- a listener by its meanings, before and after
-abbrev pub moved_listener : {N L : Type 0} → SeenListener N L → SeenLink L → N → N → MovedListener L
+abbrev pub moved_listener : {N L : Type 0} → ListenerGhosts N L → OutsideGhosts L → N → N → MovedListener L
 moved_listener nets links old new = record {
   links = links;
   coming = nets.coming old;
@@ -133,14 +135,14 @@ LeavesPort service visits ended out net = LacksPort visits ended out net ⊎ Ser
 
 -- connections were served from a place on, each up to its end, and closed: the caller whose number is its place has
 -- said what was said for it
-abbrev pub AreServedFrom : {L : Type 0} → List Rule → SeenLink L → (ℕ → Dialog) → ℕ → List (Visit L) → Type 0
+abbrev pub AreServedFrom : {L : Type 0} → List Rule → OutsideGhosts L → (ℕ → Dialog) → ℕ → List (Visit L) → Type 0
 AreServedFrom rules links said place [] = ⊤
 AreServedFrom rules links said place (visit ∷ visits) =
     IsServed rules links visit × (visit.said ≡ said place) × AreServedFrom rules links said (place + 1) visits
 
 -- a chronicle is legal over its opening; it has what was said for each connection, in their order; and no entry has
 -- another number
-pub record KeepsVisits {L : Type 0} (opening : Opening) (rules : List Rule) (links : SeenLink L)
+pub record KeepsVisits {L : Type 0} (opening : Opening) (rules : List Rule) (links : OutsideGhosts L)
     (visits : List (Visit L)) (chronicle : List Noted) : Type 0 where
   pub legal : IsLegalOver opening chronicle
   pub served : AreServedFrom rules links (said_in chronicle) 0 visits
@@ -203,7 +205,7 @@ LeavesServed options run shelf out net disk =
 -- The office
 
 -- what the serving of a port by callers that an office admits leaves: what is left of these tells of each connection
-pub record ServesByOffice {L S : Type 0} (service : Service) (rules : List Rule) (slips : SeenCaller S)
+pub record ServesByOffice {L S : Type 0} (service : Service) (rules : List Rule) (slips : KeptGhosts S)
     (drawn drawn' : ℕ)
     (outcome : Outcome S) (out : MovedSink) (net : MovedListener L) : Type 0 where
   pub visits : List (Visit L)

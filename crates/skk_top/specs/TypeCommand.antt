@@ -1,32 +1,26 @@
 -- What a run of `type` leaves.
-use Rattle.std.specs.Prelude.{◌≡◌, ◌⊎◌, ◌≤◌, ◌<◌, ℕ, true, Some, List, [], IfErr, IfSome, OnOk, length}
-use Rattle.std.specs.Prelude.{encode_utf8_all}
+use Rattle.std.specs.Prelude.{◌≡◌, ◌⊎◌, ◌≤◌, ◌<◌, ℕ, true, Some, List, [], IfSome, length}
 use Rattle.std.specs.Io.KnownBytes.{Appends, IsAtEnd, Keeps}
 use Rattle.skk_outside.specs.Moved.{MovedShelf, MovedSource, MovedSink}
-use Rattle.skk_outside.specs.Written.{AppendsPrefix}
 use Rattle.romaji_rules.specs.declared.rule.Rule.{Rule}
-use Rattle.skk_calls.specs.declared.answer.Answer.{Answer}
 use Rattle.skk_calls.specs.declared.chronicle.Noted.{Noted}
-use Rattle.skk_calls.specs.Chronicles.{history_of}
 use Rattle.skk_calls.specs.Histories.{Opening}
 use Rattle.skk_calls.specs.Interactions.{Interaction, asked, printed, end_of, answers_of, calls_of}
-use Rattle.skk_calls.specs.Openings.{IsLegalOver, said_in, are_of_one, are_served}
+use Rattle.skk_calls.specs.Openings.{IsLegalOver, said_in, are_of_one}
 use Rattle.skk_calls.specs.Rows.{Row}
-use Rattle.skk_calls.specs.Tallies.{tally_of}
 use Rattle.skk_text.specs.Lines.{lines_of}
 use Rattle.command_line.specs.Command.{limit_of}
 use Rattle.command_line.specs.declared.command.TypeOptions.{TypeOptions}
 use Rattle.skk_top.specs.Dictionaries.{AreRowsOf}
-use Rattle.caller_work.specs.Disks.{DiskNow, KeepsDisk}
+use Rattle.caller_work.specs.Disks.{DiskNow}
 use Rattle.skk_top.specs.Disks.{MovedDisk, RefusesLearned, IsOpening}
+use Rattle.skk_top.specs.LinesWork.{LeavesWork}
 use Rattle.run_endings.specs.Finishes.{EndsUnbegun}
 use Rattle.skk_top.specs.NamedFiles.{rules_named, dictionaries_named, RefusesNamed}
-use Rattle.run_endings.specs.Page.{StopsPrinting}
 use Rattle.skk_top.specs.RunFiles.{RefusesFile}
 use Rattle.skk_top.specs.RunRules.{AreRules}
 use Rattle.key_scripts.specs.Script.{IsScript, IsFirstBad, script_limit}
-use Rattle.run_endings.specs.Status.{Ended, ended_by}
-use Rattle.script_typing.specs.Typed.{Asking, typed_alone, typing}
+use Rattle.script_typing.specs.Typed.{typed_alone, typing}
 use Rattle.run_endings.specs.declared.fault.RunFault.{RunFault}
 use Rattle.run_endings.specs.declared.fault.RunFault.TheVariants.{Memory}
 use Rattle.run_endings.specs.declared.finish.Run.{Run}
@@ -57,28 +51,16 @@ pub record KeepsChronicle {S : Type 0} (opening : Opening) (asking : Interaction
     pub one : are_of_one chronicle ≡ true
     pub asks : asked asking (answers_of (said_in chronicle 0)) ≡ calls_of (said_in chronicle 0)
 
--- What is printed
+-- What typing leaves
 
--- what an interaction prints by these answers was written: all of it, up to its end, where the run is done, and else a
--- prefix, with the cause
-pub record Prints (asking : Asking) (answers : List Answer) (ended : Ended) (out : MovedSink) : Type 0 where
-  pub taken : OnOk ended (end_of asking answers ≡ Some tt)
-  pub whole : OnOk ended (Appends out.written out.written' (encode_utf8_all (printed asking answers)))
-  pub prefix : AppendsPrefix out.written out.written' (encode_utf8_all (printed asking answers))
-  pub stopped : IfErr ended (StopsPrinting out)
-
--- what the typing of lines by some rules leaves: how it ended by itself decides what was printed, and with what its
--- calls came to how the run ends; where that is done no call was refused, and what was printed is also what is printed
--- where the dictionary of one thread answers
-pub record TypesLines {D : Type 0} (opening : Opening) (rules : List Rule) (lines : List Line) (run : Run D)
-    (out : MovedSink) (disk : DiskNow) : Type 0 where
-  pub typed : Ended
-  pub ends : run.ended ≡ ended_by typed (tally_of opening.state (history_of run.chronicle))
-  pub chronicle : KeepsChronicle opening (typing rules [] lines) run.chronicle
-  pub kept : KeepsDisk opening run.chronicle disk
-  pub prints : Prints (typing rules [] lines) (answers_of (said_in run.chronicle 0)) typed out
-  pub served : OnOk run.ended (are_served run.chronicle ≡ true)
-  pub alone : OnOk run.ended (Appends out.written out.written' (typed_alone opening rules lines))
+-- what the typing of lines by some rules leaves where one caller makes all calls: they are asked one by one, what is
+-- printed by their answers was printed, and that is also what is printed where the dictionary of one thread answers
+abbrev pub TypesLines : {D : Type 0} → Opening → List Rule → List Line → Run D → MovedSink → DiskNow → Type 0
+TypesLines opening rules lines run out disk =
+    let answers = answers_of (said_in run.chronicle 0) in
+    LeavesWork opening (KeepsChronicle opening (typing rules [] lines) run.chronicle)
+    (end_of (typing rules [] lines) answers ≡ Some tt) (printed (typing rules [] lines) answers)
+    (Appends out.written out.written' (typed_alone opening rules lines)) run out disk
 
 -- what the typing of lines leaves in some manner, over an opening and by some rules
 abbrev pub Manner : Type 0 → Type 1

@@ -1,16 +1,16 @@
--- How far the typing of a line, and of lines, has come in what they come to.
-use Rattle.std.specs.Prelude.{◌≡◌, ◌≤◌, ℕ, Result, List, [], ◌∷◌, ◌++◌, OnOk, OnErr, encode_utf8_all}
+-- How far the typing of lines has come in what they come to, and what it leaves.
+use Rattle.std.specs.Prelude.{◌≤◌, ℕ, List, [], ◌++◌, OnOk, OnErr, IfErr, encode_utf8_all}
 use Rattle.skk_outside.specs.Moved.{MovedSink}
 use Rattle.skk_outside.specs.Written.{AppendsPrefix}
 use Rattle.romaji_rules.specs.declared.rule.Rule.{Rule}
-use Rattle.skk_calls.specs.Interactions.{printed, asked, Dialog, Begins, Leads, calls_of, answers_of}
-use Rattle.skk_text.specs.declared.memory.Memory.{Memory}
-use Rattle.run_endings.specs.Page.{Printed}
-use Rattle.script_typing.specs.Sessions.{SessionMap}
-use Rattle.run_endings.specs.Status.{Ended}
-use Rattle.skk_top.specs.TypeCommand.{Prints}
-use Rattle.script_typing.specs.Typed.{Asking, typing}
+use Rattle.skk_calls.specs.Interactions.{Dialog, ends}
+use Rattle.skk_calls.specs.Runs.{Runs}
 use Rattle.key_scripts.specs.declared.line.Line.{Line}
+use Rattle.script_typing.specs.Lines.{RunsThrough, at_if_done}
+use Rattle.script_typing.specs.Sessions.{SessionMap}
+use Rattle.script_typing.specs.Typed.{typing}
+use Rattle.run_endings.specs.Page.{LeavesPrinted, Printed, StopsPrinting}
+use Rattle.run_endings.specs.Status.{Ended}
 
 -- what is typed so far: the sessions, a page that is not written yet, and what a caller has said
 pub record Stand : Type 0 where
@@ -22,43 +22,23 @@ pub record Stand : Type 0 where
 abbrev pub stand : SessionMap → List ℕ → Dialog → Stand
 stand sessions page said = record { sessions = sessions; page = page; said = said }
 
--- what the typing of a line makes of what is typed so far, by how it ends: of what the line comes to with any lines
--- behind it, it leads to what those come to, or, where memory is out, it is the beginning
-pub record TypesLine (rules : List Rule) (line : Line) (ended : Result (Unit {0}) Memory)
-    (before after : Stand) : Type 0 where
-  pub dialog : Dialog
-  pub text : List ℕ
-  pub grows : after.said ≡ before.said ++ dialog
-  pub ok : OnOk ended ((after.page ≡ before.page ++ text)
-      × ((lines : List Line)
-      → Leads (typing rules before.sessions (line ∷ lines)) dialog text (typing rules after.sessions lines)))
-  pub memory : OnErr ended ((lines : List Line) → Begins (typing rules before.sessions (line ∷ lines)) dialog)
+-- what printing leaves in a sink and a page, by how it ends: what was written and the page are the text, or a prefix of
+-- it was written, with the cause
+pub record PrintsPage (text page : List ℕ) (ended : Ended) (out : MovedSink) : Type 0 where
+  pub ok : OnOk ended (Printed out.written out.written' page [] text)
+  pub err : OnErr ended (AppendsPrefix out.written out.written' (encode_utf8_all text))
+  pub stopped : IfErr ended (StopsPrinting out)
+  pub counted : out.faults ≤ out.faults'
 
--- a caller has said a dialog, and a sink and a page have a text, that lead from one interaction to another
-pub record Reaches (from to : Asking) (said said' : Dialog) (out : MovedSink) (page : List ℕ) : Type 0 where
-  pub dialog : Dialog
-  pub text : List ℕ
-  pub grows : said' ≡ said ++ dialog
-  pub leads : Leads from dialog text to
-  pub printed : Printed out.written out.written' page [] text
-
--- a caller has said the first of what an interaction asks,
--- and a sink was written a prefix of what is printed by its answers
-pub record Breaks (from : Asking) (said said' : Dialog) (out : MovedSink) : Type 0 where
-  pub dialog : Dialog
-  pub grows : said' ≡ said ++ dialog
-  pub asks : asked from (answers_of dialog) ≡ calls_of dialog
-  pub prefix : AppendsPrefix out.written out.written' (encode_utf8_all (printed from (answers_of dialog)))
-
--- what the typing of what asks and prints leaves in a sink and with a caller, by how it ends
-pub record LeavesLines (asking : Asking) (ended : Ended) (said said' : Dialog)
-    (out : MovedSink) : Type 0 where
-  pub dialog : Dialog
-  pub grows : said' ≡ said ++ dialog
-  pub asks : asked asking (answers_of dialog) ≡ calls_of dialog
-  pub prints : Prints asking (answers_of dialog) ended out
+-- what the typing of lines makes of what is typed so far, by how it ends: what they come to was said, and printed
+-- behind the page, or the first of it
+abbrev pub TypesThrough : List Rule → List Line → Ended → Stand → Stand → MovedSink → Type 0
+TypesThrough rules lines ended before after out =
+    RunsThrough (typing rules) lines ended before.sessions after.sessions before.said after.said
+    (λ text. PrintsPage (before.page ++ text) after.page ended out)
 
 -- what the typing of a script's lines by some rules leaves in a sink and with a caller, by how it ends
 abbrev pub TypesOut : List Rule → List Line → Ended → Dialog → Dialog → MovedSink → Type 0
 TypesOut rules lines ended said said' out =
-    LeavesLines (typing rules [] lines) ended said said' out × (out.faults ≤ out.faults')
+    Runs (λ (all : Unit {0}). typing rules [] lines) (at_if_done ended (λ all. ends tt)) said said'
+    (λ text. LeavesPrinted (encode_utf8_all text) ended out)

@@ -38,28 +38,24 @@ pub fn run_alone<H: Shelf, D: Disk, I: Source, O: Sink, E: Sink>(
     requires { IsAloneInRange command.now }
     // The status is made of how the run ended, and so is what is told on standard error.
     ensures status { result.status ≡ run_status result.ended }
-    ensures told { Tells (run_message result.ended) (moved_sink E.written E.faults err.old err.new) }
+    ensures told { Tells (run_message result.ended) (moved_sink E.Outside err.old err.new) }
 
     // What the command leaves.
-    ensures leaves { LeavesAlone command.now (run_of result) (moved_shelf H.file H.faults shelf.old shelf.new)
-        (moved_source I.left I.faults input.old input.new) (moved_sink O.written O.faults out.old out.new)
-        (moved_disk D.tells D.seen D.time D.faults D.left_since disk result.disk) }
+    ensures leaves { LeavesAlone command.now (run_of result) (moved_shelf H.Shelf shelf.old shelf.new)
+        (moved_source I.Outside input.old input.new) (moved_sink O.Outside out.old out.new)
+        (moved_disk D.Disk disk result.disk) }
     ensures taken { TakesAtMost (I.left input.old) (I.left input.new) (script_limit + PIECE) }
 
     // A call on the outside failed where the run ended so.
     ensures outside { IsErrOf result.ended RunFault.Outside → HasFailed
-        (moved_shelf H.file H.faults shelf.old shelf.new) (moved_source I.left I.faults input.old input.new)
-        (moved_sink O.written O.faults out.old out.new)
-        (moved_disk D.tells D.seen D.time D.faults D.left_since disk result.disk) }
+        (moved_shelf H.Shelf shelf.old shelf.new) (moved_source I.Outside input.old input.new)
+        (moved_sink O.Outside out.old out.new) (moved_disk D.Disk disk result.disk) }
 
     // Any fault that the run ended with had its cause: where no cause is there, the run is done or out of memory.
-    ensures caused { IfErr result.ended (HasRunCause
-        (files_of (moved_shelf H.file H.faults shelf.old shelf.new)
-        (moved_source I.left I.faults input.old input.new) (Alone command.now))
-        (moved_disk D.tells D.seen D.time D.faults D.left_since disk result.disk)
-        (HasFailed (moved_shelf H.file H.faults shelf.old shelf.new)
-        (moved_source I.left I.faults input.old input.new) (moved_sink O.written O.faults out.old out.new)
-        (moved_disk D.tells D.seen D.time D.faults D.left_since disk result.disk)) result.chronicle) }
+    ensures caused { IfErr result.ended (HasRunCause (files_of (moved_shelf H.Shelf shelf.old shelf.new)
+        (moved_source I.Outside input.old input.new) (Alone command.now)) (moved_disk D.Disk disk result.disk)
+        (HasFailed (moved_shelf H.Shelf shelf.old shelf.new) (moved_source I.Outside input.old input.new)
+        (moved_sink O.Outside out.old out.new) (moved_disk D.Disk disk result.disk)) result.chronicle) }
 
     // No count of faults falls.
     ensures shelf_counted { H.faults shelf.old ≤ H.faults shelf.new }
@@ -69,8 +65,7 @@ pub fn run_alone<H: Shelf, D: Disk, I: Source, O: Sink, E: Sink>(
     ensures err_counted { E.faults err.old ≤ E.faults err.new }
 
     // What a stop at any moment of the run leaves of the disk.
-    ensures stands { StandsSince result.chronicle
-        (moved_disk D.tells D.seen D.time D.faults D.left_since disk result.disk) }
+    ensures stands { StandsSince result.chronicle (moved_disk D.Disk disk result.disk) }
 {
     end_run(run_command(alloc, command, shelf, disk, input, out), err)
 }
@@ -86,16 +81,15 @@ fn run_command<H: Shelf, D: Disk, I: Source, O: Sink>(
     out: &mut O,
 ) -> Run<D>
     requires { IsAloneInRange command.now }
-    ensures leaves { LeavesAlone command.now result (moved_shelf H.file H.faults shelf.old shelf.new)
-        (moved_source I.left I.faults input.old input.new) (moved_sink O.written O.faults out.old out.new)
-        (moved_disk D.tells D.seen D.time D.faults D.left_since disk result.disk) }
+    ensures leaves { LeavesAlone command.now result (moved_shelf H.Shelf shelf.old shelf.new)
+        (moved_source I.Outside input.old input.new) (moved_sink O.Outside out.old out.new)
+        (moved_disk D.Disk disk result.disk) }
     ensures taken { TakesAtMost (I.left input.old) (I.left input.new) (script_limit + PIECE) }
     ensures shelf_counted { H.faults shelf.old ≤ H.faults shelf.new }
     ensures disk_counted { D.faults disk ≤ D.faults result.disk }
     ensures input_counted { I.faults input.old ≤ I.faults input.new }
     ensures out_counted { O.faults out.old ≤ O.faults out.new }
-    ensures stands { StandsSince result.chronicle
-        (moved_disk D.tells D.seen D.time D.faults D.left_since disk result.disk) }
+    ensures stands { StandsSince result.chronicle (moved_disk D.Disk disk result.disk) }
 {
     match command {
         AloneCommand::TypeScript(options) => run_by_one(alloc, options, shelf, disk, input, out),

@@ -55,11 +55,10 @@ pub fn run_by_each<
     input: &mut I,
     out: &mut O,
 ) -> Run<D>
-    ensures leaves { LeavesTyped WeavesLines options.now result (moved_shelf H.file H.faults shelf.old shelf.new)
-        (moved_source I.left I.faults input.old input.new) (moved_sink O.written O.faults out.old out.new)
-        (moved_disk D.tells D.seen D.time D.faults D.left_since disk result.disk) }
-    ensures stands { StandsSince result.chronicle
-        (moved_disk D.tells D.seen D.time D.faults D.left_since disk result.disk) }
+    ensures leaves { LeavesTyped WeavesLines options.now result (moved_shelf H.Shelf shelf.old shelf.new)
+        (moved_source I.Outside input.old input.new) (moved_sink O.Outside out.old out.new)
+        (moved_disk D.Disk disk result.disk) }
+    ensures stands { StandsSince result.chronicle (moved_disk D.Disk disk result.disk) }
     ensures taken { TakesAtMost (I.left input.old) (I.left input.new) (script_limit + PIECE) }
     ensures shelf_counted { H.faults shelf.old ≤ H.faults shelf.new }
     ensures disk_counted { D.faults disk ≤ D.faults result.disk }
@@ -80,13 +79,12 @@ fn type_by_each<
     R: Threads + Wait + Copy + Send + Sync,
     G: Gate + Sync,
 >(host: &Host<'_, R, G>, begun: ScriptToType<D>, out: &mut O) -> Run<D>
-    requires calm { Keeps D.time D.left_since begun.store.journal begun.store.state None }
-    ensures leaves { LeavesBegun WeavesLines (opening_now D.time D.faults begun.store) begun.rules begun.script result
-        (moved_sink O.written O.faults out.old out.new) (disk_now D.time D.faults D.left_since result.disk) }
+    requires calm { Keeps D.Disk begun.store.journal begun.store.state None }
+    ensures leaves { LeavesBegun WeavesLines (opening_now D.Disk begun.store) begun.rules begun.script result
+        (moved_sink O.Outside out.old out.new) (disk_now D.Disk result.disk) }
     ensures counted { O.faults out.old ≤ O.faults out.new }
     ensures runs { RunsOver begun.store.state result.chronicle
-        (disk_now D.time D.faults D.left_since begun.store.journal.disk)
-        (disk_now D.time D.faults D.left_since result.disk) }
+        (disk_now D.Disk begun.store.journal.disk) (disk_now D.Disk result.disk) }
 {
     callers_have_asked();
     callers_have_ended();
@@ -131,8 +129,7 @@ fn print_typed<O: Sink>(
     typed: Result<Typed, Memory>,
     out: &mut O,
 ) -> Result<(), RunFault>
-    ensures some { IfOk typed (λ left. LeavesPages order.now left result
-        (moved_sink O.written O.faults out.old out.new)) }
+    ensures some { IfOk typed (λ left. LeavesPages order.now left result (moved_sink O.Outside out.old out.new)) }
     ensures none { OnErr typed ((result ≡ Err RunFault.Memory) × keeps_bytes (O.written out.old) (O.written out.new)) }
     ensures counted { O.faults out.old ≤ O.faults out.new }
 {

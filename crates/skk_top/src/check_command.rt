@@ -19,7 +19,7 @@ pub fn run_check<H: Shelf, D, O: Sink>(
     out: &mut O,
 ) -> Run<D>
     ensures leaves { LeavesChecked name.now result
-        (moved_shelf H.file H.faults shelf.old shelf.new) (moved_sink O.written O.faults out.old out.new) }
+        (moved_shelf H.Shelf shelf.old shelf.new) (moved_sink O.Outside out.old out.new) }
     ensures uncalled { result.chronicle ≡ [] }
     ensures disk { result.disk ≡ disk }
     ensures shelf_counted { H.faults shelf.old ≤ H.faults shelf.new }

@@ -14,7 +14,7 @@ use std::alloc::Global;
 
 /// Prints the bad lines of a file, and the counts of what it lists.
 pub fn print_listed<O: Sink>(alloc: Global, listed: &Listed, out: &mut O) -> Result<(), RunFault>
-    ensures { LeavesPrinted (checked listed.now) result (moved_sink O.written O.faults out.old out.new) }
+    ensures { LeavesPrinted (checked listed.now) result (moved_sink O.Outside out.old out.new) }
 {
     let mut page = Text::new(alloc);
     print_bad_lines(alloc, listed.bad.as_slice(), &mut page, out)?;
@@ -34,7 +34,7 @@ fn print_bad_lines<O: Sink>(
     ensures ok { OnOk result (Printed (O.written out.old) (O.written out.new) page.new [] (bad_lines bad.now)) }
     ensures err { OnErr result
         (AppendsPrefix (O.written out.old) (O.written out.new) (encode_utf8_all (bad_lines bad.now))) }
-    ensures stopped { IfErr result (StopsPrinting (moved_sink O.written O.faults out.old out.new)) }
+    ensures stopped { IfErr result (StopsPrinting (moved_sink O.Outside out.old out.new)) }
     ensures counted { O.faults out.old ≤ O.faults out.new }
 {
     for line in bad {

@@ -23,11 +23,10 @@ pub fn run_dump<D: Disk, O: Sink>(
     out: &mut O,
 ) -> Run<D>
     requires { options.now.book ≤ 65535 }
-    ensures leaves { LeavesDumped options.now result (moved_sink O.written O.faults out.old out.new)
-        (moved_disk D.tells D.seen D.time D.faults D.left_since disk result.disk) }
+    ensures leaves { LeavesDumped options.now result (moved_sink O.Outside out.old out.new)
+        (moved_disk D.Disk disk result.disk) }
     ensures uncalled { result.chronicle ≡ [] }
-    ensures stands { StandsSince result.chronicle
-        (moved_disk D.tells D.seen D.time D.faults D.left_since disk result.disk) }
+    ensures stands { StandsSince result.chronicle (moved_disk D.Disk disk result.disk) }
     ensures disk_counted { D.faults disk ≤ D.faults result.disk }
     ensures out_counted { O.faults out.old ≤ O.faults out.new }
 {
@@ -52,7 +51,7 @@ fn print_book<D, O: Sink>(
     out: &mut O,
 ) -> Result<(), RunFault>
     ensures { LeavesPrinted (encode_utf8_all (printed_file (rows_of store.now.state number))) result
-        (moved_sink O.written O.faults out.old out.new) }
+        (moved_sink O.Outside out.old out.new) }
 {
     let text = store.dump(alloc, number)?;
     print_text(out, &text)

@@ -23,7 +23,6 @@ mod load_opening;
 mod manner;
 mod one_caller;
 mod opening;
-mod playing;
 mod rule_file;
 mod run_file;
 mod serve_command;

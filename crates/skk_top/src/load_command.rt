@@ -12,7 +12,6 @@ ghost use Rattle.skk_top.specs.LoadCommand.{load_lines, summed, LeavesLoaded, Lo
 ghost use Rattle.run_endings.specs.Page.{LeavesPrinted};
 
 use crate::load_opening::open_load;
-use crate::playing::play_lines;
 use crate::summary::print_summary;
 use caller_work::{Work, with_caller};
 use command_line::LoadOptions;
@@ -21,6 +20,7 @@ use learned_store::Store;
 use load_input::draw_lines;
 use romaji_rules::Rules;
 use run_endings::{Run, RunFault, end_by};
+use script_typing::play_lines;
 use session_machine::Session;
 use skk_calls::{Caller, Tally};
 use skk_disk::Disk;
@@ -45,10 +45,9 @@ pub fn run_load_by_one<D: Disk, O: Sink>(
     out: &mut O,
 ) -> Run<D>
     requires { IsLoadInRange options }
-    ensures leaves { LeavesLoaded (LoadsLines options) result (moved_sink O.written O.faults out.old out.new)
-        (moved_disk D.tells D.seen D.time D.faults D.left_since disk result.disk) }
-    ensures stands { StandsSince result.chronicle
-        (moved_disk D.tells D.seen D.time D.faults D.left_since disk result.disk) }
+    ensures leaves { LeavesLoaded (LoadsLines options) result (moved_sink O.Outside out.old out.new)
+        (moved_disk D.Disk disk result.disk) }
+    ensures stands { StandsSince result.chronicle (moved_disk D.Disk disk result.disk) }
     ensures disk_counted { D.faults disk ≤ D.faults result.disk }
     ensures out_counted { O.faults out.old ≤ O.faults out.new }
 {
@@ -67,14 +66,13 @@ fn load_by_one<D: Disk, O: Sink>(
 ) -> Run<D>
     requires sessions { options.sessions ≤ 64 }
     requires lines { options.lines ≤ 20000 }
-    requires calm { Keeps D.time D.left_since store.journal store.state None }
-    ensures leaves { EndsUnbegun (λ fault. fault ≡ RunFault.Memory) result
-        (moved_sink O.written O.faults out.old out.new)
-        ⊎ LoadsLines options (opening_now D.time D.faults store) result
-        (moved_sink O.written O.faults out.old out.new) (disk_now D.time D.faults D.left_since result.disk) }
+    requires calm { Keeps D.Disk store.journal store.state None }
+    ensures leaves { EndsUnbegun (λ fault. fault ≡ RunFault.Memory) result (moved_sink O.Outside out.old out.new)
+        ⊎ LoadsLines options (opening_now D.Disk store) result (moved_sink O.Outside out.old out.new)
+        (disk_now D.Disk result.disk) }
     ensures counted { O.faults out.old ≤ O.faults out.new }
     ensures runs { RunsOver store.state result.chronicle
-        (disk_now D.time D.faults D.left_since store.journal.disk) (disk_now D.time D.faults D.left_since result.disk) }
+        (disk_now D.Disk store.journal.disk) (disk_now D.Disk result.disk) }
 {
     let Ok(load) = draw_load(alloc, options) else {
         return Run::without_calls(Err(RunFault::Memory), store.close());
@@ -113,16 +111,16 @@ struct PlayedLines {
 }
 
 impl<'a> Work<()> for Playing<'a> {
-    ghost use Rattle.std.specs.Prelude.{◌≡◌, true};
+    ghost use Rattle.std.specs.Prelude.{◌≡◌, [], true};
     ghost use Rattle.std.specs.List.{list_all};
     ghost use Rattle.key_scripts.specs.Script.{opens_well};
-    ghost use Rattle.skk_top.specs.Playing.{PlaysLines};
+    ghost use Rattle.script_typing.specs.Lines.{PlaysLines};
 
     type Left = PlayedLines;
 
     ghost fits = { λ work. list_all opens_well work.lines.now ≡ true };
 
-    ghost leaves = { λ work old new said said' left. PlaysLines work.rules.now work.lines.now left.ended
+    ghost leaves = { λ work old new said said' left. PlaysLines work.rules.now work.lines.now left.ended []
         left.sessions.entries said said' };
 
     fn work<C: Caller>(self, alloc: Global, caller: &mut C, _outside: &mut ()) -> PlayedLines {
@@ -156,7 +154,7 @@ fn sum_up<O: Sink>(
     requires lines { options.now.lines ≤ 20000 }
     ensures some { OnOk played (LeavesPrinted
         (encode_utf8_all (summed options.now tally.now sessions.now.entries)) result
-        (moved_sink O.written O.faults out.old out.new)) }
+        (moved_sink O.Outside out.old out.new)) }
     ensures none { OnErr played ((result ≡ Err RunFault.Memory) × keeps_bytes (O.written out.old) (O.written out.new)) }
     ensures counted { O.faults out.old ≤ O.faults out.new }
 {

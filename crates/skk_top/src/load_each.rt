@@ -56,10 +56,9 @@ pub fn run_load_by_each<
     G: Gate + Sync,
 >(host: &Host<'_, R, G>, options: LoadOptions, disk: D, out: &mut O) -> Run<D>
     requires range { IsLoadInRange options }
-    ensures leaves { LeavesLoaded (LoadsTasks options) result (moved_sink O.written O.faults out.old out.new)
-        (moved_disk D.tells D.seen D.time D.faults D.left_since disk result.disk) }
-    ensures stands { StandsSince result.chronicle
-        (moved_disk D.tells D.seen D.time D.faults D.left_since disk result.disk) }
+    ensures leaves { LeavesLoaded (LoadsTasks options) result (moved_sink O.Outside out.old out.new)
+        (moved_disk D.Disk disk result.disk) }
+    ensures stands { StandsSince result.chronicle (moved_disk D.Disk disk result.disk) }
     ensures disk_counted { D.faults disk ≤ D.faults result.disk }
     ensures out_counted { O.faults out.old ≤ O.faults out.new }
 {
@@ -78,14 +77,13 @@ fn load_by_each<
 >(host: &Host<'_, R, G>, options: LoadOptions, store: Store<D>, out: &mut O) -> Run<D>
     requires sessions { options.sessions ≤ 64 }
     requires lines { options.lines ≤ 20000 }
-    requires calm { Keeps D.time D.left_since store.journal store.state None }
-    ensures leaves { EndsUnbegun (λ fault. fault ≡ RunFault.Memory) result
-        (moved_sink O.written O.faults out.old out.new)
-        ⊎ LoadsTasks options (opening_now D.time D.faults store) result
-        (moved_sink O.written O.faults out.old out.new) (disk_now D.time D.faults D.left_since result.disk) }
+    requires calm { Keeps D.Disk store.journal store.state None }
+    ensures leaves { EndsUnbegun (λ fault. fault ≡ RunFault.Memory) result (moved_sink O.Outside out.old out.new)
+        ⊎ LoadsTasks options (opening_now D.Disk store) result (moved_sink O.Outside out.old out.new)
+        (disk_now D.Disk result.disk) }
     ensures counted { O.faults out.old ≤ O.faults out.new }
     ensures runs { RunsOver store.state result.chronicle
-        (disk_now D.time D.faults D.left_since store.journal.disk) (disk_now D.time D.faults D.left_since result.disk) }
+        (disk_now D.Disk store.journal.disk) (disk_now D.Disk result.disk) }
 {
     callers_have_asked();
     callers_have_ended();
@@ -135,7 +133,7 @@ fn sum_up_typed<O: Sink>(
     requires lines { options.now.lines ≤ 20000 }
     ensures whole { IfOk typed (λ left. left.whole ≡ true → LeavesPrinted
         (encode_utf8_all (summed options.now tally.now left.sessions.entries)) result
-        (moved_sink O.written O.faults out.old out.new)) }
+        (moved_sink O.Outside out.old out.new)) }
     ensures cut { IfOk typed (λ left. left.whole ≡ false
         → (result ≡ Err RunFault.Memory) × keeps_bytes (O.written out.old) (O.written out.new)) }
     ensures none { OnErr typed ((result ≡ Err RunFault.Memory) × keeps_bytes (O.written out.old) (O.written out.new)) }

@@ -21,16 +21,14 @@ use std::alloc::Global;
 /// Opens the learned file of a load over its dictionary, with the greatest limit.
 pub fn open_load<D: Disk>(alloc: Global, disk: D) -> Result<Store<D>, Run<D>>
     ensures opened { IfOk result (λ store. (run : run_value _) → IsOpening
-        (moved_disk D.tells D.seen D.time D.faults D.left_since disk run.disk) load_files 268435456
-        (opening_now D.time D.faults store)) }
+        (moved_disk D.Disk disk run.disk) load_files 268435456 (opening_now D.Disk store)) }
     ensures ends { IfErr result (λ run. (out : MovedSink) → keeps_bytes out.written out.written'
-        → EndsUnbegun (RefusesLearned (moved_disk D.tells D.seen D.time D.faults D.left_since disk run.disk)) run out) }
+        → EndsUnbegun (RefusesLearned (moved_disk D.Disk disk run.disk)) run out) }
     ensures stands { IfOk result (λ store. (run : run_value _) → RunsOver store.state run.chronicle
-        (disk_now D.time D.faults D.left_since store.journal.disk) (disk_now D.time D.faults D.left_since run.disk)
-        → StandsSince run.chronicle (moved_disk D.tells D.seen D.time D.faults D.left_since disk run.disk)) }
-    ensures ended_stands { IfErr result (λ run. StandsSince run.chronicle
-        (moved_disk D.tells D.seen D.time D.faults D.left_since disk run.disk)) }
-    ensures calm { IfOk result (λ store. Keeps D.time D.left_since store.journal store.state None) }
+        (disk_now D.Disk store.journal.disk) (disk_now D.Disk run.disk)
+        → StandsSince run.chronicle (moved_disk D.Disk disk run.disk)) }
+    ensures ended_stands { IfErr result (λ run. StandsSince run.chronicle (moved_disk D.Disk disk run.disk)) }
+    ensures calm { IfOk result (λ store. Keeps D.Disk store.journal store.state None) }
     ensures counted { IfOk result (λ store. D.faults disk ≤ D.faults store.journal.disk) }
     ensures ended_counted { IfErr result (λ run. D.faults disk ≤ D.faults run.disk) }
 {

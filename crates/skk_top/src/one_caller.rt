@@ -37,11 +37,10 @@ pub fn run_by_one<H: Shelf, D: Disk, I: Source, O: Sink>(
     input: &mut I,
     out: &mut O,
 ) -> Run<D>
-    ensures leaves { LeavesTyped TypesLines options.now result (moved_shelf H.file H.faults shelf.old shelf.new)
-        (moved_source I.left I.faults input.old input.new) (moved_sink O.written O.faults out.old out.new)
-        (moved_disk D.tells D.seen D.time D.faults D.left_since disk result.disk) }
-    ensures stands { StandsSince result.chronicle
-        (moved_disk D.tells D.seen D.time D.faults D.left_since disk result.disk) }
+    ensures leaves { LeavesTyped TypesLines options.now result (moved_shelf H.Shelf shelf.old shelf.new)
+        (moved_source I.Outside input.old input.new) (moved_sink O.Outside out.old out.new)
+        (moved_disk D.Disk disk result.disk) }
+    ensures stands { StandsSince result.chronicle (moved_disk D.Disk disk result.disk) }
     ensures taken { TakesAtMost (I.left input.old) (I.left input.new) (script_limit + PIECE) }
     ensures shelf_counted { H.faults shelf.old ≤ H.faults shelf.new }
     ensures disk_counted { D.faults disk ≤ D.faults result.disk }
@@ -56,13 +55,12 @@ pub fn run_by_one<H: Shelf, D: Disk, I: Source, O: Sink>(
 
 // Types a script by one caller. A run of which a call was refused ends so where nothing else ended it before.
 fn type_by_one<D: Disk, O: Sink>(alloc: Global, begun: ScriptToType<D>, out: &mut O) -> Run<D>
-    requires calm { Keeps D.time D.left_since begun.store.journal begun.store.state None }
-    ensures leaves { LeavesBegun TypesLines (opening_now D.time D.faults begun.store) begun.rules begun.script result
-        (moved_sink O.written O.faults out.old out.new) (disk_now D.time D.faults D.left_since result.disk) }
+    requires calm { Keeps D.Disk begun.store.journal begun.store.state None }
+    ensures leaves { LeavesBegun TypesLines (opening_now D.Disk begun.store) begun.rules begun.script result
+        (moved_sink O.Outside out.old out.new) (disk_now D.Disk result.disk) }
     ensures counted { O.faults out.old ≤ O.faults out.new }
     ensures runs { RunsOver begun.store.state result.chronicle
-        (disk_now D.time D.faults D.left_since begun.store.journal.disk)
-        (disk_now D.time D.faults D.left_since result.disk) }
+        (disk_now D.Disk begun.store.journal.disk) (disk_now D.Disk result.disk) }
 {
     let ScriptToType {
         rules,
@@ -100,7 +98,7 @@ impl<'a, O: Sink> Work<O> for ScriptTyping<'a> {
     ghost fits = { λ work. ⊤ };
 
     ghost leaves = { λ work out out' said said' ended. TypesOut work.rules.now work.script.now ended said said'
-        (moved_sink O.written O.faults out out') };
+        (moved_sink O.Outside out out') };
 
     fn work<C: Caller>(self, alloc: Global, caller: &mut C, out: &mut O) -> Result<(), RunFault> {
         type_script(alloc, self.rules, self.script.lines(), caller, out)

@@ -38,11 +38,11 @@ pub fn read_table<H: Shelf>(
     shelf: &mut H,
 ) -> Result<Table, RunFault>
     ensures rules { IfOk result
-        (λ table. AreRules (rules_named rules.now (moved_shelf H.file H.faults shelf.old shelf.new)) table.rules) }
+        (λ table. AreRules (rules_named rules.now (moved_shelf H.Shelf shelf.old shelf.new)) table.rules) }
     ensures rows { IfOk result (λ table. AreRowsOf table.system
-        (dictionaries_named dictionaries.now.items (moved_shelf H.file H.faults shelf.old shelf.new))) }
+        (dictionaries_named dictionaries.now.items (moved_shelf H.Shelf shelf.old shelf.new))) }
     ensures refused { IfErr result
-        (RefusesNamed rules.now dictionaries.now.items (moved_shelf H.file H.faults shelf.old shelf.new)) }
+        (RefusesNamed rules.now dictionaries.now.items (moved_shelf H.Shelf shelf.old shelf.new)) }
     ensures counted { H.faults shelf.old ≤ H.faults shelf.new }
 {
     let rules = read_rules(alloc, shelf, rules)?;
@@ -54,8 +54,7 @@ pub fn read_table<H: Shelf>(
 /// Ends a run that has not touched its disk, and made no call.
 pub fn end_unopened<D: Disk>(fault: RunFault, disk: D) -> Run<D>
     ensures run { result ≡ record { ended = Err fault; chronicle = []; disk = disk } }
-    ensures stands { StandsSince result.chronicle
-        (moved_disk D.tells D.seen D.time D.faults D.left_since disk result.disk) }
+    ensures stands { StandsSince result.chronicle (moved_disk D.Disk disk result.disk) }
 {
     Run::without_calls(Err(fault), disk)
 }
@@ -69,19 +68,15 @@ pub fn open_learned<D: Disk>(
     limit: u64,
 ) -> Result<Store<D>, Run<D>>
     ensures opened { IfOk result (λ store. (run : run_value _) → IsOpening
-        (moved_disk D.tells D.seen D.time D.faults D.left_since disk run.disk) system limit
-        (opening_now D.time D.faults store)) }
+        (moved_disk D.Disk disk run.disk) system limit (opening_now D.Disk store)) }
     ensures stands { IfOk result (λ store. (run : run_value _) → RunsOver store.state run.chronicle
-        (disk_now D.time D.faults D.left_since store.journal.disk)
-        (disk_now D.time D.faults D.left_since run.disk)
-        → StandsSince run.chronicle (moved_disk D.tells D.seen D.time D.faults D.left_since disk run.disk)) }
-    ensures calm { IfOk result (λ store. Keeps D.time D.left_since store.journal store.state None) }
+        (disk_now D.Disk store.journal.disk) (disk_now D.Disk run.disk)
+        → StandsSince run.chronicle (moved_disk D.Disk disk run.disk)) }
+    ensures calm { IfOk result (λ store. Keeps D.Disk store.journal store.state None) }
     ensures counted { IfOk result (λ store. D.faults disk ≤ D.faults store.journal.disk) }
-    ensures refused { IfErr result (λ run. IsErrAnd run.ended
-        (RefusesLearned (moved_disk D.tells D.seen D.time D.faults D.left_since disk run.disk))) }
+    ensures refused { IfErr result (λ run. IsErrAnd run.ended (RefusesLearned (moved_disk D.Disk disk run.disk))) }
     ensures uncalled { IfErr result (λ run. run.chronicle ≡ []) }
-    ensures ended_stands { IfErr result (λ run. StandsSince run.chronicle
-        (moved_disk D.tells D.seen D.time D.faults D.left_since disk run.disk)) }
+    ensures ended_stands { IfErr result (λ run. StandsSince run.chronicle (moved_disk D.Disk disk run.disk)) }
     ensures ended_counted { IfErr result (λ run. D.faults disk ≤ D.faults run.disk) }
 {
     files_are_recovered_in_one_way();

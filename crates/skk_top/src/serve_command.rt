@@ -2,8 +2,6 @@ ghost use Rattle.std.specs.Prelude.{◌≡◌, ◌⊎◌, ◌≤◌, [], None};
 ghost use Rattle.learned_store.specs.Stores.{opening_now, Keeps};
 ghost use Rattle.skk_disk.specs.Moments.{SameImages};
 ghost use Rattle.skk_outside.specs.Moved.{moved_shelf, moved_sink};
-ghost use Rattle.skk_server.specs.Services.{seen_listener};
-ghost use Rattle.skk_server.specs.Visits.{seen_link};
 ghost use Rattle.command_line.specs.Command.{limit_of};
 ghost use Rattle.command_line.specs.Ranges.{LiesFrom};
 ghost use Rattle.caller_work.specs.Disks.{disk_now, RunsOver};
@@ -45,13 +43,10 @@ pub fn run_serve<
 ) -> Run<D>
     requires port { LiesFrom 1 65535 options.now.port }
     requires connections { LiesFrom 1 1000000 options.now.connections }
-    ensures leaves { LeavesServed options.now result (moved_shelf H.file H.faults shelf.old shelf.new)
-        (moved_sink O.written O.faults out.old out.new)
-        (moved_listener (seen_listener P.coming P.over P.out P.opened P.faults)
-        (seen_link P.Link.left P.Link.written P.Link.faults P.Link.closed) net.old net.new)
-        (moved_disk D.tells D.seen D.time D.faults D.left_since disk result.disk) }
-    ensures stands { StandsSince result.chronicle
-        (moved_disk D.tells D.seen D.time D.faults D.left_since disk result.disk) }
+    ensures leaves { LeavesServed options.now result (moved_shelf H.Shelf shelf.old shelf.new)
+        (moved_sink O.Outside out.old out.new) (moved_listener P.Listener P.Link.Outside net.old net.new)
+        (moved_disk D.Disk disk result.disk) }
+    ensures stands { StandsSince result.chronicle (moved_disk D.Disk disk result.disk) }
     ensures shelf_counted { H.faults shelf.old ≤ H.faults shelf.new }
     ensures disk_counted { D.faults disk ≤ D.faults result.disk }
     ensures out_counted { O.faults out.old ≤ O.faults out.new }
@@ -81,18 +76,12 @@ fn serve_learned<
     requires port { LiesFrom 1 65535 options.now.port }
     requires connections { LiesFrom 1 1000000 options.now.connections }
     ensures leaves { EndsUnasked
-        (RefusesLearned (moved_disk D.tells D.seen D.time D.faults D.left_since disk result.disk)) result
-        (moved_sink O.written O.faults out.old out.new)
-        (moved_listener (seen_listener P.coming P.over P.out P.opened P.faults)
-        (seen_link P.Link.left P.Link.written P.Link.faults P.Link.closed) net.old net.new)
+        (RefusesLearned (moved_disk D.Disk disk result.disk)) result (moved_sink O.Outside out.old out.new)
+        (moved_listener P.Listener P.Link.Outside net.old net.new)
         ⊎ ServesOpened (record { port = options.now.port; connections = options.now.connections })
-        (limit_of options.now.limit) table.system table.rules result
-        (moved_sink O.written O.faults out.old out.new)
-        (moved_listener (seen_listener P.coming P.over P.out P.opened P.faults)
-        (seen_link P.Link.left P.Link.written P.Link.faults P.Link.closed) net.old net.new)
-        (moved_disk D.tells D.seen D.time D.faults D.left_since disk result.disk) }
-    ensures stands { StandsSince result.chronicle
-        (moved_disk D.tells D.seen D.time D.faults D.left_since disk result.disk) }
+        (limit_of options.now.limit) table.system table.rules result (moved_sink O.Outside out.old out.new)
+        (moved_listener P.Listener P.Link.Outside net.old net.new) (moved_disk D.Disk disk result.disk) }
+    ensures stands { StandsSince result.chronicle (moved_disk D.Disk disk result.disk) }
     ensures disk_counted { D.faults disk ≤ D.faults result.disk }
     ensures out_counted { O.faults out.old ≤ O.faults out.new }
     ensures net_counted { P.faults net.old ≤ P.faults net.new }
@@ -120,19 +109,14 @@ fn serve_store<
     G: Gate + Sync,
 >(host: &Host<'_, R, G>, serving: &Serving<'_>, store: Store<D>, out: &mut O, net: &mut P) -> Run<D>
     requires connections { LiesFrom 1 1000000 serving.now.service.connections }
-    requires calm { Keeps D.time D.left_since store.journal store.state None }
+    requires calm { Keeps D.Disk store.journal store.state None }
     ensures leaves { EndsUnasked (λ fault. fault ≡ RunFault.Memory) result
-        (moved_sink O.written O.faults out.old out.new)
-        (moved_listener (seen_listener P.coming P.over P.out P.opened P.faults)
-        (seen_link P.Link.left P.Link.written P.Link.faults P.Link.closed) net.old net.new)
-        ⊎ ServesConnections serving.now.service (opening_now D.time D.faults store) serving.now.rules.now result
-        (moved_sink O.written O.faults out.old out.new)
-        (moved_listener (seen_listener P.coming P.over P.out P.opened P.faults)
-        (seen_link P.Link.left P.Link.written P.Link.faults P.Link.closed) net.old net.new)
-        (disk_now D.time D.faults D.left_since result.disk) }
+        (moved_sink O.Outside out.old out.new) (moved_listener P.Listener P.Link.Outside net.old net.new)
+        ⊎ ServesConnections serving.now.service (opening_now D.Disk store) serving.now.rules.now result
+        (moved_sink O.Outside out.old out.new) (moved_listener P.Listener P.Link.Outside net.old net.new)
+        (disk_now D.Disk result.disk) }
     ensures runs { RunsOver store.state result.chronicle
-        (disk_now D.time D.faults D.left_since store.journal.disk)
-        (disk_now D.time D.faults D.left_since result.disk) }
+        (disk_now D.Disk store.journal.disk) (disk_now D.Disk result.disk) }
     ensures out_counted { O.faults out.old ≤ O.faults out.new }
     ensures net_counted { P.faults net.old ≤ P.faults net.new }
 {
@@ -161,24 +145,19 @@ fn serve_over<
     net: &mut P,
 ) -> Run<D>
     requires connections { LiesFrom 1 1000000 serving.now.service.connections }
-    requires calm { Keeps D.time D.left_since store.journal store.state None }
-    requires named { N.opening ≡ opening_now D.time D.faults store }
+    requires calm { Keeps D.Disk store.journal store.state None }
+    requires named { N.opening ≡ opening_now D.Disk store }
     requires past { SameImages N.past (D.left_since store.journal.disk) }
     requires history { made.0 ≡ N.table }
     requires pen { made.1 ≡ record { table = made.0; seen = []; ended = []; roll = None } }
     requires roll { made.2 ≡ record { table = made.0; drawn = 0 } }
     ensures leaves { EndsUnasked (λ fault. fault ≡ RunFault.Memory) result
-        (moved_sink O.written O.faults out.old out.new)
-        (moved_listener (seen_listener P.coming P.over P.out P.opened P.faults)
-        (seen_link P.Link.left P.Link.written P.Link.faults P.Link.closed) net.old net.new)
+        (moved_sink O.Outside out.old out.new) (moved_listener P.Listener P.Link.Outside net.old net.new)
         ⊎ ServesConnections serving.now.service N.opening serving.now.rules.now result
-        (moved_sink O.written O.faults out.old out.new)
-        (moved_listener (seen_listener P.coming P.over P.out P.opened P.faults)
-        (seen_link P.Link.left P.Link.written P.Link.faults P.Link.closed) net.old net.new)
-        (disk_now D.time D.faults D.left_since result.disk) }
+        (moved_sink O.Outside out.old out.new) (moved_listener P.Listener P.Link.Outside net.old net.new)
+        (disk_now D.Disk result.disk) }
     ensures runs { RunsOver N.opening.state result.chronicle
-        (disk_now D.time D.faults D.left_since store.journal.disk)
-        (disk_now D.time D.faults D.left_since result.disk) }
+        (disk_now D.Disk store.journal.disk) (disk_now D.Disk result.disk) }
     ensures out_counted { O.faults out.old ≤ O.faults out.new }
     ensures net_counted { P.faults net.old ≤ P.faults net.new }
 {

@@ -1,8 +1,6 @@
 ghost use Rattle.std.specs.Prelude.{◌≡◌, ◌≤◌, ◌+◌, [], Err};
 ghost use Rattle.std.specs.List.{list_any};
 ghost use Rattle.skk_outside.specs.Moved.{moved_sink};
-ghost use Rattle.skk_server.specs.Services.{seen_listener};
-ghost use Rattle.skk_server.specs.Visits.{seen_link, seen_caller};
 ghost use Rattle.run_endings.specs.Page.{LeavesPrinted, Writes};
 ghost use Rattle.skk_top.specs.ServeCommand.{ServesByOffice, TellsEnd, moved_listener, ready_line, served_line};
 ghost use Rattle.skk_top.specs.ServeCommand.{wants_memory};
@@ -94,10 +92,9 @@ pub fn serve_port<
 ) -> Outcome<W::Slip>
     requires owns { W.owns office.now roll.old }
     requires few { W.drawn roll.old + serving.now.service.connections ≤ 4294967295 }
-    ensures serves { ServesByOffice serving.now.service serving.now.rules.now (seen_caller W.Slip.number W.Slip.said)
-        (W.drawn roll.old) (W.drawn roll.new) result (moved_sink O.written O.faults out.old out.new)
-        (moved_listener (seen_listener P.coming P.over P.out P.opened P.faults)
-        (seen_link P.Link.left P.Link.written P.Link.faults P.Link.closed) net.old net.new) }
+    ensures serves { ServesByOffice serving.now.service serving.now.rules.now W.Slip.Kept (W.drawn roll.old)
+        (W.drawn roll.new) result (moved_sink O.Outside out.old out.new)
+        (moved_listener P.Listener P.Link.Outside net.old net.new) }
     ensures out_counted { O.faults out.old ≤ O.faults out.new }
     ensures net_counted { P.faults net.old ≤ P.faults net.new }
     ensures owned { W.owns office.now roll.new }
@@ -132,7 +129,7 @@ pub fn serve_port<
 
 // Tells that the port is open.
 fn print_ready<O: Sink>(out: &mut O) -> Result<(), RunFault>
-    ensures { LeavesPrinted ready_line result (moved_sink O.written O.faults out.old out.new) }
+    ensures { LeavesPrinted ready_line result (moved_sink O.Outside out.old out.new) }
 {
     write_through(out, b"ready\n")?;
     Ok(())
@@ -141,7 +138,7 @@ fn print_ready<O: Sink>(out: &mut O) -> Result<(), RunFault>
 // Tells how many connections were accepted, where their serving is done.
 #[tactic(auto, using(crate::proofs::Runs::untouched))]
 fn end_serving<O: Sink>(end: ServedEnd, count: u32, out: &mut O) -> Result<(), RunFault>
-    ensures tells { TellsEnd end count result (moved_sink O.written O.faults out.old out.new) }
+    ensures tells { TellsEnd end count result (moved_sink O.Outside out.old out.new) }
     ensures counted { O.faults out.old ≤ O.faults out.new }
 {
     match end {
@@ -153,7 +150,7 @@ fn end_serving<O: Sink>(end: ServedEnd, count: u32, out: &mut O) -> Result<(), R
 
 // Tells how many connections were accepted.
 fn print_served<O: Sink>(count: u32, out: &mut O) -> Result<(), RunFault>
-    ensures { LeavesPrinted (served_line count) result (moved_sink O.written O.faults out.old out.new) }
+    ensures { LeavesPrinted (served_line count) result (moved_sink O.Outside out.old out.new) }
 {
     write_served(count, out)?;
     Ok(())
@@ -161,7 +158,7 @@ fn print_served<O: Sink>(count: u32, out: &mut O) -> Result<(), RunFault>
 
 // Writes how many connections were accepted, and all that waits to be written.
 fn write_served<O: Sink>(count: u32, out: &mut O) -> Result<(), Failed>
-    ensures { Writes (served_line count) result (moved_sink O.written O.faults out.old out.new) }
+    ensures { Writes (served_line count) result (moved_sink O.Outside out.old out.new) }
 {
     write_numbered(out, b"served ", count as u64)?;
     write_through(out, b"\n")

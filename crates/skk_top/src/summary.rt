@@ -24,7 +24,7 @@ pub fn print_summary<O: Sink>(
     requires sessions { options.now.sessions ≤ 64 }
     requires lines { options.now.lines ≤ 20000 }
     ensures { LeavesPrinted (encode_utf8_all (summed options.now tally.now sessions.now.entries)) result
-        (moved_sink O.written O.faults out.old out.new) }
+        (moved_sink O.Outside out.old out.new) }
 {
     let mut page = Text::new(alloc);
     push_summary(&mut page, options, tally, text_bytes(sessions))?;

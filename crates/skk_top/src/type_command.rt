@@ -47,22 +47,18 @@ pub fn begin<M: Manner<D>, H: Shelf, D: Disk, I: Source>(
     input: &mut I,
 ) -> Result<ScriptToType<D>, Run<D>>
     ensures leaves { IfOk result (λ begun. (run : run_value _) (out : MovedSink)
-        → LeavesBegun M.leaves (opening_now D.time D.faults begun.store) begun.rules begun.script run out
-        (disk_now D.time D.faults D.left_since run.disk)
-        → LeavesTyped M.leaves options.now run (moved_shelf H.file H.faults shelf.old shelf.new)
-        (moved_source I.left I.faults input.old input.new) out
-        (moved_disk D.tells D.seen D.time D.faults D.left_since disk run.disk)) }
+        → LeavesBegun M.leaves (opening_now D.Disk begun.store) begun.rules begun.script run out
+        (disk_now D.Disk run.disk)
+        → LeavesTyped M.leaves options.now run (moved_shelf H.Shelf shelf.old shelf.new)
+        (moved_source I.Outside input.old input.new) out (moved_disk D.Disk disk run.disk)) }
     ensures ends { IfErr result (λ run. (out : MovedSink) → keeps_bytes out.written out.written'
-        → LeavesTyped M.leaves options.now run (moved_shelf H.file H.faults shelf.old shelf.new)
-        (moved_source I.left I.faults input.old input.new) out
-        (moved_disk D.tells D.seen D.time D.faults D.left_since disk run.disk)) }
+        → LeavesTyped M.leaves options.now run (moved_shelf H.Shelf shelf.old shelf.new)
+        (moved_source I.Outside input.old input.new) out (moved_disk D.Disk disk run.disk)) }
     ensures stands { IfOk result (λ begun. (run : run_value _) → RunsOver begun.store.state run.chronicle
-        (disk_now D.time D.faults D.left_since begun.store.journal.disk)
-        (disk_now D.time D.faults D.left_since run.disk)
-        → StandsSince run.chronicle (moved_disk D.tells D.seen D.time D.faults D.left_since disk run.disk)) }
-    ensures ended_stands { IfErr result (λ run. StandsSince run.chronicle
-        (moved_disk D.tells D.seen D.time D.faults D.left_since disk run.disk)) }
-    ensures calm { IfOk result (λ begun. Keeps D.time D.left_since begun.store.journal begun.store.state None) }
+        (disk_now D.Disk begun.store.journal.disk) (disk_now D.Disk run.disk)
+        → StandsSince run.chronicle (moved_disk D.Disk disk run.disk)) }
+    ensures ended_stands { IfErr result (λ run. StandsSince run.chronicle (moved_disk D.Disk disk run.disk)) }
+    ensures calm { IfOk result (λ begun. Keeps D.Disk begun.store.journal begun.store.state None) }
     ensures taken { TakesAtMost (I.left input.old) (I.left input.new) (script_limit + PIECE) }
     ensures shelf_counted { H.faults shelf.old ≤ H.faults shelf.new }
     ensures disk_counted { IfOk result (λ begun. D.faults disk ≤ D.faults begun.store.journal.disk) }
@@ -84,22 +80,18 @@ fn begin_learned<M: Manner<D>, D: Disk, I: Source>(
     input: &mut I,
 ) -> Result<ScriptToType<D>, Run<D>>
     ensures leaves { IfOk result (λ begun. (run : run_value _) (out : MovedSink)
-        → LeavesBegun M.leaves (opening_now D.time D.faults begun.store) begun.rules begun.script run out
-        (disk_now D.time D.faults D.left_since run.disk)
+        → LeavesBegun M.leaves (opening_now D.Disk begun.store) begun.rules begun.script run out
+        (disk_now D.Disk run.disk)
         → LeavesLearned M.leaves limit table.system table.rules run
-        (moved_source I.left I.faults input.old input.new) out
-        (moved_disk D.tells D.seen D.time D.faults D.left_since disk run.disk)) }
+        (moved_source I.Outside input.old input.new) out (moved_disk D.Disk disk run.disk)) }
     ensures ends { IfErr result (λ run. (out : MovedSink) → keeps_bytes out.written out.written'
         → LeavesLearned M.leaves limit table.system table.rules run
-        (moved_source I.left I.faults input.old input.new) out
-        (moved_disk D.tells D.seen D.time D.faults D.left_since disk run.disk)) }
+        (moved_source I.Outside input.old input.new) out (moved_disk D.Disk disk run.disk)) }
     ensures stands { IfOk result (λ begun. (run : run_value _) → RunsOver begun.store.state run.chronicle
-        (disk_now D.time D.faults D.left_since begun.store.journal.disk)
-        (disk_now D.time D.faults D.left_since run.disk)
-        → StandsSince run.chronicle (moved_disk D.tells D.seen D.time D.faults D.left_since disk run.disk)) }
-    ensures ended_stands { IfErr result (λ run. StandsSince run.chronicle
-        (moved_disk D.tells D.seen D.time D.faults D.left_since disk run.disk)) }
-    ensures calm { IfOk result (λ begun. Keeps D.time D.left_since begun.store.journal begun.store.state None) }
+        (disk_now D.Disk begun.store.journal.disk) (disk_now D.Disk run.disk)
+        → StandsSince run.chronicle (moved_disk D.Disk disk run.disk)) }
+    ensures ended_stands { IfErr result (λ run. StandsSince run.chronicle (moved_disk D.Disk disk run.disk)) }
+    ensures calm { IfOk result (λ begun. Keeps D.Disk begun.store.journal begun.store.state None) }
     ensures taken { TakesAtMost (I.left input.old) (I.left input.new) (script_limit + PIECE) }
     ensures disk_counted { IfOk result (λ begun. D.faults disk ≤ D.faults begun.store.journal.disk) }
     ensures ended_counted { IfErr result (λ run. D.faults disk ≤ D.faults run.disk) }
@@ -120,16 +112,14 @@ fn begin_script<M: Manner<D>, D: Disk, I: Source>(
     input: &mut I,
 ) -> Result<ScriptToType<D>, Run<D>>
     ensures leaves { IfOk result (λ begun. (run : run_value _) (out : MovedSink)
-        → LeavesBegun M.leaves (opening_now D.time D.faults store) rules begun.script run out
-        (disk_now D.time D.faults D.left_since run.disk)
-        → LeavesScript M.leaves (opening_now D.time D.faults store) rules run
-        (moved_source I.left I.faults input.old input.new) out (disk_now D.time D.faults D.left_since run.disk)) }
+        → LeavesBegun M.leaves (opening_now D.Disk store) rules begun.script run out (disk_now D.Disk run.disk)
+        → LeavesScript M.leaves (opening_now D.Disk store) rules run (moved_source I.Outside input.old input.new) out
+        (disk_now D.Disk run.disk)) }
     ensures ends { IfErr result (λ run. (out : MovedSink) → keeps_bytes out.written out.written'
-        → LeavesScript M.leaves (opening_now D.time D.faults store) rules run
-        (moved_source I.left I.faults input.old input.new) out (disk_now D.time D.faults D.left_since run.disk)) }
+        → LeavesScript M.leaves (opening_now D.Disk store) rules run (moved_source I.Outside input.old input.new) out
+        (disk_now D.Disk run.disk)) }
     ensures runs { IfErr result (λ run. RunsOver store.state run.chronicle
-        (disk_now D.time D.faults D.left_since store.journal.disk)
-        (disk_now D.time D.faults D.left_since run.disk)) }
+        (disk_now D.Disk store.journal.disk) (disk_now D.Disk run.disk)) }
     ensures rules { IfOk result (λ begun. begun.rules ≡ rules) }
     ensures store { IfOk result (λ begun. begun.store ≡ store) }
     ensures taken { TakesAtMost (I.left input.old) (I.left input.new) (script_limit + PIECE) }
@@ -149,7 +139,7 @@ fn begin_script<M: Manner<D>, D: Disk, I: Source>(
 fn read_script<I: Source>(alloc: Global, input: &mut I) -> Result<Script, RunFault>
     ensures script { IfOk result (λ lines. IfSome (I.left input.old) (λ bytes. IsScript bytes lines)) }
     ensures at_end { OnOk result (IsAtEnd (I.left input.new)) }
-    ensures refused { IfErr result (RefusesScript (moved_source I.left I.faults input.old input.new)) }
+    ensures refused { IfErr result (RefusesScript (moved_source I.Outside input.old input.new)) }
     ensures taken { TakesAtMost (I.left input.old) (I.left input.new) (script_limit + PIECE) }
     ensures counted { I.faults input.old ≤ I.faults input.new }
 {

@@ -44,15 +44,14 @@ pub fn type_by_callers<
     tasks: BTreeMap<u8, Sequence<Line>>,
     store: Store<D>,
 ) -> Result<TypedTasks<D>, D>
-    requires calm { Keeps D.time D.left_since store.journal store.state None }
+    requires calm { Keeps D.Disk store.journal store.state None }
     requires ascend { Ascend tasks.entries }
     requires few { length tasks.entries ≤ 256 }
     requires opens { All (λ lines. list_all opens_well lines ≡ true) (values_of tasks.entries) }
-    ensures types { IfOk result (λ left. TypesTasks (opening_now D.time D.faults store) rules.now tasks.entries left
-        (disk_now D.time D.faults D.left_since left.closed.disk)) }
+    ensures types { IfOk result (λ left. TypesTasks (opening_now D.Disk store) rules.now tasks.entries left
+        (disk_now D.Disk left.closed.disk)) }
     ensures runs { IfOk result (λ left. RunsOver store.state left.closed.chronicle
-        (disk_now D.time D.faults D.left_since store.journal.disk)
-        (disk_now D.time D.faults D.left_since left.closed.disk)) }
+        (disk_now D.Disk store.journal.disk) (disk_now D.Disk left.closed.disk)) }
     ensures back { IfErr result (λ disk. disk ≡ store.journal.disk) }
 {
     match History::new(host.alloc) {
@@ -75,8 +74,8 @@ fn type_over<
     made: (History, Pen, RollSeat),
     store: Store<D>,
 ) -> Result<TypedTasks<D>, D>
-    requires calm { Keeps D.time D.left_since store.journal store.state None }
-    requires named { N.opening ≡ opening_now D.time D.faults store }
+    requires calm { Keeps D.Disk store.journal store.state None }
+    requires named { N.opening ≡ opening_now D.Disk store }
     requires past { SameImages N.past (D.left_since store.journal.disk) }
     requires history { made.0 ≡ N.table }
     requires pen { made.1 ≡ record { table = made.0; seen = []; ended = []; roll = None } }
@@ -85,10 +84,9 @@ fn type_over<
     requires few { length tasks.entries ≤ 256 }
     requires opens { All (λ lines. list_all opens_well lines ≡ true) (values_of tasks.entries) }
     ensures types { IfOk result (λ left. TypesTasks N.opening rules.now tasks.entries left
-        (disk_now D.time D.faults D.left_since left.closed.disk)) }
+        (disk_now D.Disk left.closed.disk)) }
     ensures runs { IfOk result (λ left. RunsOver N.opening.state left.closed.chronicle
-        (disk_now D.time D.faults D.left_since store.journal.disk)
-        (disk_now D.time D.faults D.left_since left.closed.disk)) }
+        (disk_now D.Disk store.journal.disk) (disk_now D.Disk left.closed.disk)) }
     ensures back { IfErr result (λ disk. disk ≡ store.journal.disk) }
 {
     let (history, pen, roll) = made;

@@ -4,8 +4,6 @@ ghost use Rattle.skk_outside.specs.Moved.{moved_shelf, moved_source, moved_sink}
 ghost use Rattle.skk_outside.specs.Taken.{TakesAtMost};
 ghost use Rattle.skk_outside.specs.declared.source.TheConstants.{PIECE};
 ghost use Rattle.key_scripts.specs.Script.{script_limit};
-ghost use Rattle.skk_server.specs.Services.{seen_listener};
-ghost use Rattle.skk_server.specs.Visits.{seen_link};
 ghost use Rattle.command_line.specs.Ranges.{IsWaitingInRange};
 ghost use Rattle.command_line.specs.declared.command.Command.TheVariants.{Waiting};
 ghost use Rattle.run_endings.specs.Finishes.{run_of};
@@ -54,31 +52,25 @@ pub fn run<
     requires { IsWaitingInRange command.now }
     // The status is made of how the run ended, and so is what is told on standard error.
     ensures status { result.status ≡ run_status result.ended }
-    ensures told { Tells (run_message result.ended) (moved_sink E.written E.faults err.old err.new) }
+    ensures told { Tells (run_message result.ended) (moved_sink E.Outside err.old err.new) }
 
     // What the command leaves.
-    ensures leaves { LeavesWaiting command.now (run_of result) (moved_shelf H.file H.faults shelf.old shelf.new)
-        (moved_source I.left I.faults input.old input.new) (moved_sink O.written O.faults out.old out.new)
-        (moved_listener (seen_listener N.coming N.over N.out N.opened N.faults)
-        (seen_link N.Link.left N.Link.written N.Link.faults N.Link.closed) net.old net.new)
-        (moved_disk D.tells D.seen D.time D.faults D.left_since disk result.disk) }
+    ensures leaves { LeavesWaiting command.now (run_of result) (moved_shelf H.Shelf shelf.old shelf.new)
+        (moved_source I.Outside input.old input.new) (moved_sink O.Outside out.old out.new)
+        (moved_listener N.Listener N.Link.Outside net.old net.new) (moved_disk D.Disk disk result.disk) }
     ensures taken { TakesAtMost (I.left input.old) (I.left input.new) (script_limit + PIECE) }
 
     // A call on the outside failed where the run ended so.
     ensures outside { IsErrOf result.ended RunFault.Outside → HasFailed
-        (moved_shelf H.file H.faults shelf.old shelf.new) (moved_source I.left I.faults input.old input.new)
-        (moved_sink O.written O.faults out.old out.new)
-        (moved_disk D.tells D.seen D.time D.faults D.left_since disk result.disk)
+        (moved_shelf H.Shelf shelf.old shelf.new) (moved_source I.Outside input.old input.new)
+        (moved_sink O.Outside out.old out.new) (moved_disk D.Disk disk result.disk)
         ⊎ Rose (N.faults net.old) (N.faults net.new) }
 
     // Any fault that the run ended with had its cause: where no cause is there, the run is done or out of memory.
-    ensures caused { IfErr result.ended (HasRunCause
-        (files_of (moved_shelf H.file H.faults shelf.old shelf.new)
-        (moved_source I.left I.faults input.old input.new) (Waiting command.now))
-        (moved_disk D.tells D.seen D.time D.faults D.left_since disk result.disk)
-        (HasFailed (moved_shelf H.file H.faults shelf.old shelf.new)
-        (moved_source I.left I.faults input.old input.new) (moved_sink O.written O.faults out.old out.new)
-        (moved_disk D.tells D.seen D.time D.faults D.left_since disk result.disk)
+    ensures caused { IfErr result.ended (HasRunCause (files_of (moved_shelf H.Shelf shelf.old shelf.new)
+        (moved_source I.Outside input.old input.new) (Waiting command.now)) (moved_disk D.Disk disk result.disk)
+        (HasFailed (moved_shelf H.Shelf shelf.old shelf.new) (moved_source I.Outside input.old input.new)
+        (moved_sink O.Outside out.old out.new) (moved_disk D.Disk disk result.disk)
         ⊎ Rose (N.faults net.old) (N.faults net.new)) result.chronicle) }
 
     // No count of faults falls.
@@ -90,8 +82,7 @@ pub fn run<
     ensures net_counted { N.faults net.old ≤ N.faults net.new }
 
     // What a stop at any moment of the run leaves of the disk.
-    ensures stands { StandsSince result.chronicle
-        (moved_disk D.tells D.seen D.time D.faults D.left_since disk result.disk) }
+    ensures stands { StandsSince result.chronicle (moved_disk D.Disk disk result.disk) }
 {
     let host = Host { rt, alloc, gate };
     let run = run_command(&host, command, shelf, disk, input, out, net);
@@ -118,19 +109,16 @@ fn run_command<
     net: &mut N,
 ) -> Run<D>
     requires { IsWaitingInRange command.now }
-    ensures leaves { LeavesWaiting command.now result (moved_shelf H.file H.faults shelf.old shelf.new)
-        (moved_source I.left I.faults input.old input.new) (moved_sink O.written O.faults out.old out.new)
-        (moved_listener (seen_listener N.coming N.over N.out N.opened N.faults)
-        (seen_link N.Link.left N.Link.written N.Link.faults N.Link.closed) net.old net.new)
-        (moved_disk D.tells D.seen D.time D.faults D.left_since disk result.disk) }
+    ensures leaves { LeavesWaiting command.now result (moved_shelf H.Shelf shelf.old shelf.new)
+        (moved_source I.Outside input.old input.new) (moved_sink O.Outside out.old out.new)
+        (moved_listener N.Listener N.Link.Outside net.old net.new) (moved_disk D.Disk disk result.disk) }
     ensures taken { TakesAtMost (I.left input.old) (I.left input.new) (script_limit + PIECE) }
     ensures shelf_counted { H.faults shelf.old ≤ H.faults shelf.new }
     ensures disk_counted { D.faults disk ≤ D.faults result.disk }
     ensures input_counted { I.faults input.old ≤ I.faults input.new }
     ensures out_counted { O.faults out.old ≤ O.faults out.new }
     ensures net_counted { N.faults net.old ≤ N.faults net.new }
-    ensures stands { StandsSince result.chronicle
-        (moved_disk D.tells D.seen D.time D.faults D.left_since disk result.disk) }
+    ensures stands { StandsSince result.chronicle (moved_disk D.Disk disk result.disk) }
 {
     match command {
         WaitingCommand::TypeScript(options) => {

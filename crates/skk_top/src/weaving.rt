@@ -1,8 +1,7 @@
-ghost use Rattle.std.specs.Prelude.{◌≡◌, ◌≤◌, [], OnOk, OnErr, IfErr, encode_utf8_all};
+ghost use Rattle.std.specs.Prelude.{◌≡◌, []};
 ghost use Rattle.skk_outside.specs.Moved.{moved_sink};
-ghost use Rattle.skk_outside.specs.Written.{AppendsPrefix};
 ghost use Rattle.script_typing.specs.Pages.{text_of_pages, woven_pages};
-ghost use Rattle.run_endings.specs.Page.{Printed, StopsPrinting};
+ghost use Rattle.skk_top.specs.Typing.{PrintsPage};
 ghost use Rattle.skk_top.specs.WeaveCommand.{LeavesPages};
 
 use crate::typing::close_sessions;
@@ -20,8 +19,7 @@ pub fn print_woven<O: Sink>(
     typed: Typed,
     out: &mut O,
 ) -> Result<(), RunFault>
-    ensures leaves { LeavesPages order.now typed result (moved_sink O.written O.faults out.old out.new) }
-    ensures counted { O.faults out.old ≤ O.faults out.new }
+    ensures { LeavesPages order.now typed result (moved_sink O.Outside out.old out.new) }
 {
     let mut typed = typed;
     let mut page = Text::new(alloc);
@@ -44,12 +42,8 @@ fn print_pages<O: Sink>(
     out: &mut O,
 ) -> Result<(), RunFault>
     requires { page.old ≡ [] }
-    ensures ok { OnOk result (Printed (O.written out.old) (O.written out.new) page.new []
-        (text_of_pages (woven_pages order.now typed.old.pages.entries))) }
-    ensures err { OnErr result (AppendsPrefix (O.written out.old) (O.written out.new)
-        (encode_utf8_all (text_of_pages (woven_pages order.now typed.old.pages.entries)))) }
-    ensures stopped { IfErr result (StopsPrinting (moved_sink O.written O.faults out.old out.new)) }
-    ensures counted { O.faults out.old ≤ O.faults out.new }
+    ensures prints { PrintsPage (text_of_pages (woven_pages order.now typed.old.pages.entries)) page.new result
+        (moved_sink O.Outside out.old out.new) }
     ensures sessions { typed.new.sessions.entries ≡ typed.old.sessions.entries }
     ensures whole { typed.new.whole ≡ typed.old.whole }
 {

@@ -21,7 +21,7 @@ pub fn command_or_end<'a, E: Sink>(
     ensures ranges { IfOk result HasNumbersInRange }
     ensures quiet { OnOk result (err.new ≡ err.old) }
     ensures ended { IfErr result (λ status. EndsUnread (command_of words.entry.now) status
-        (moved_sink E.written E.faults err.old err.new)) }
+        (moved_sink E.Outside err.old err.new)) }
     ensures counted { E.faults err.old ≤ E.faults err.new }
 {
     match read_command(alloc, words) {

@@ -3,7 +3,7 @@ use Rattle.caller_work.proofs.working.with_caller.Given as goal
 
 -- the store is named as it was just opened
 abbrev pub ghosts-with_name-N-OpeningName : goal.ghosts-with_name-N-OpeningName
-ghosts-with_name-N-OpeningName g a = record { opening = opening_now g.D.Disk.time g.D.Outside.faults a.store }
+ghosts-with_name-N-OpeningName g a = record { opening = opening_now g.D.Disk a.store }
 
 abbrev pub ghosts-with_name-N-LearnedName : goal.ghosts-with_name-N-LearnedName
 ghosts-with_name-N-LearnedName g a = record { past = g.D.Disk.left_since a.store.journal.disk }

@@ -11,8 +11,7 @@ returns-in-Ok-clause-closes g c =
     let close = c.close-closed.ensures in
     let left = c.work-left.new.caller in
     let opening = g.N.OpeningName.opening in
-    rw (close.chronicle, close.disk)
-    (closes D.time g.D.Outside.faults D.left_since opening g.N.LearnedName.past c.args.store left.store left.notes
+    rw (close.chronicle, close.disk) (closes D opening g.N.LearnedName.past c.args.store left.store left.notes
     c.close-closed.result.tally c.requires.named c.requires.past close.stands
     (subst (λ (s : State). RecoverAmong s (left_behind opening.state left.notes)
     (D.left_since left.store.journal.disk (D.time left.store.journal.disk))) close.stands.state close.now)

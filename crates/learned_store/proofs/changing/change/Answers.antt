@@ -19,9 +19,9 @@ returns-in_default-clause-serves g c files =
       files = files;
       limit = c.args.limit;
     } in
-    subst (λ (s : State). Serves D.Disk.time D.Outside.faults D.Disk.left_since store (record store { state = s })
+    subst (λ (s : State). Serves D.Disk store (record store { state = s })
     c.args.call.now (Refused Memory)) (sym c.plan.ensures.state)
-    (quiet D.Disk.time D.Outside.faults D.Disk.left_since store c.args.call.now (Refused Memory) tt refl tt)
+    (quiet D.Disk store c.args.call.now (Refused Memory) tt refl tt)
 
 pub returns-in_default-planned_record-clause-serves : goal.returns-in_default-planned_record-clause-serves
 returns-in_default-planned_record-clause-serves g c files =
@@ -32,9 +32,9 @@ returns-in_default-planned_record-clause-serves g c files =
       files = files;
       limit = c.args.limit;
     } in
-    subst (λ (s : State). Serves D.Disk.time D.Outside.faults D.Disk.left_since store (record store { state = s })
+    subst (λ (s : State). Serves D.Disk store (record store { state = s })
     c.args.call.now (Refused Memory)) (sym c.plan.ensures.state)
-    (quiet D.Disk.time D.Outside.faults D.Disk.left_since store c.args.call.now (Refused Memory) tt refl tt)
+    (quiet D.Disk store c.args.call.now (Refused Memory) tt refl tt)
 
 pub returns-in-None-clause-serves : goal.returns-in-None-clause-serves
 returns-in-None-clause-serves g c files =
@@ -47,9 +47,8 @@ returns-in-None-clause-serves g c files =
     let none = subst (IsRecordOf c.plan.new.self.state call plan) c.in-None.is c.in-Ok-planned_record.ensures in
     let still = subst (λ (s : State). moves s call ≡ false) c.plan.ensures.state
     (unrecorded c.plan.new.self.state call plan made none) in
-    unchanged D.Disk.time D.Outside.faults D.Disk.left_since c.args.journal.now state c.apply.new.self.state files
-    c.args.limit call c.apply.result c.requires.change still
-    (c.apply.ensures.reply files call c.requires.change made
+    unchanged D.Disk c.args.journal.now state c.apply.new.self.state files c.args.limit call c.apply.result
+    c.requires.change still (c.apply.ensures.reply files call c.requires.change made
     ∙ ap (λ (s : State). answer files s call) c.plan.ensures.state)
     (c.apply.ensures.state call c.in-Ok.ensures.valid made ∙ ap (λ (s : State). after s call) c.plan.ensures.state)
 
@@ -57,7 +56,7 @@ pub returns-in-Some-clause-serves : goal.returns-in-Some-clause-serves
 returns-in-Some-clause-serves g c files =
     let D = g.D in
     let call = c.args.call.now in
-    subst (λ (s : State). Serves D.Disk.time D.Outside.faults D.Disk.left_since
+    subst (λ (s : State). Serves D.Disk
     (record { journal = c.args.journal.now; state = s; files = files; limit = c.args.limit })
     (record {
       journal = c.write_and_apply.new.journal;

@@ -47,8 +47,8 @@ pub commit-requires-clause-room : goal.commit-requires-clause-room
 commit-requires-clause-room g c =
     let old = c.args.journal.now in
     let payload = c.as_slice-payload.result.now in
-    fits_behind c.args.limit old.live.version old.end c.args.record.now.version (need payload)
-    (still_room c.args.record.now payload c.as_slice-payload.ensures c.args.index.now.state c.args.limit
+    fits_behind c.args.limit old.live.version old.end c.args.change.now.version (need payload)
+    (still_room c.args.change.now payload c.as_slice-payload.ensures c.args.index.now.state c.args.limit
     old.live.version old.end _ _ c.in-Ok-Behind.field-0-is c.in-Ok-Behind.ensures)
 
 pub returns-in-Ok-Behind-clause-serves : goal.returns-in-Ok-Behind-clause-serves
@@ -58,12 +58,12 @@ returns-in-Ok-Behind-clause-serves g c files call changes told =
     let old = c.args.journal.now in
     let limit = c.args.limit in
     let payload = c.as_slice-payload.result.now in
-    let written : Record = record c.args.record.now { payload = payload } in
-    let tells = still_told c.args.record.now payload c.as_slice-payload.ensures state call told in
+    let written : Record = record c.args.change.now { payload = payload } in
+    let tells = still_told c.args.change.now payload c.as_slice-payload.ensures state call told in
     let done = c.commit.result in
     let new = c.commit.new.journal in
     let does = c.commit.ensures in
-    let room = still_room c.args.record.now payload c.as_slice-payload.ensures state limit old.live.version old.end
+    let room = still_room c.args.change.now payload c.as_slice-payload.ensures state limit old.live.version old.end
     _ _ c.in-Ok-Behind.field-0-is c.in-Ok-Behind.ensures in
     let known = known_behind limit old.live.version old.end written.version (need payload) room in
     let ends : old.end + need payload ≤ limit =
@@ -71,17 +71,13 @@ returns-in-Ok-Behind-clause-serves g c files call changes told =
     let fits : tight state + need payload ≤ limit = omega (arith, ends, c.requires.tight) in
     let images = does.images state (after state call) in
     unless_disk _ _ done c.unless_disk.result c.unless_disk.ensures
-    (on_ok_weaker done
-    (λ both. changed D.time g.D.Outside.faults D.left_since old new state files limit call written changes tells
-    does.past does.counted old.live.version known images fits
-    (end_behind D.time g.D.Outside.faults D.left_since old new state files limit call written changes tells does.past
-    does.counted room both.0)
-    (version_behind D.time g.D.Outside.faults D.left_since old new state files limit call written changes tells
-    does.past does.counted room does.version) (both.1 state (after state call)))
-    (on_ok_both _ _ done does.end does.ok))
-    (on_err_weaker done
-    (λ both. failed D.time g.D.Outside.faults D.left_since old new state files limit call written changes tells
-    does.past does.counted old.live.version known images (inr fits) both.0 (both.1 state (after state call)))
+    (on_ok_weaker done (λ both. changed D old new state files limit call written changes tells does.advances
+    old.live.version known images fits
+    (end_behind D old new state files limit call written changes tells does.advances room both.0)
+    (version_behind D old new state files limit call written changes tells does.advances
+    room does.version) (both.1 state (after state call))) (on_ok_both _ _ done does.end does.ok))
+    (on_err_weaker done (λ both. failed D old new state files limit call written changes tells does.advances
+    old.live.version known images (inr fits) both.0 (both.1 state (after state call)))
     (on_err_both _ _ done does.failed does.err))
 
 -- it fits behind the records of a compaction
@@ -90,7 +86,7 @@ pub commit_compacted-requires-clause-room : goal.commit_compacted-requires-claus
 commit_compacted-requires-clause-room g c =
     let state = c.args.index.now.state in
     let old = c.args.journal.now in
-    let room = still_room c.args.record.now c.as_slice-payload.result.now c.as_slice-payload.ensures state c.args.limit
+    let room = still_room c.args.change.now c.as_slice-payload.result.now c.as_slice-payload.ensures state c.args.limit
     old.live.version old.end _ _ c.in-Ok-Compacted.field-0-is c.in-Ok-Compacted.ensures in
     omega (arith, compacted_bytes state c.as_slice.result.now (c.as_slice.ensures ∙ room.2), room.1)
 
@@ -101,35 +97,32 @@ returns-in-Ok-Compacted-clause-serves g c files call changes told =
     let old = c.args.journal.now in
     let limit = c.args.limit in
     let payload = c.as_slice-payload.result.now in
-    let written : Record = record c.args.record.now { payload = payload } in
-    let tells = still_told c.args.record.now payload c.as_slice-payload.ensures state call told in
+    let written : Record = record c.args.change.now { payload = payload } in
+    let tells = still_told c.args.change.now payload c.as_slice-payload.ensures state call told in
     let records = c.as_slice.result.now in
     let done = c.commit_compacted.result in
     let new = c.commit_compacted.new.journal in
     let does = c.commit_compacted.ensures in
-    let room = still_room c.args.record.now payload c.as_slice-payload.ensures state limit old.live.version old.end
+    let room = still_room c.args.change.now payload c.as_slice-payload.ensures state limit old.live.version old.end
     _ _ c.in-Ok-Compacted.field-0-is c.in-Ok-Compacted.ensures in
     let is = c.as_slice.ensures ∙ room.2 in
     let known = known_newest state call written tells in
-    let compacts = kept_compaction state records is D.time D.left_since old in
+    let compacts = kept_compaction state records is D old in
     let images : (doubt : Option State) → Adds newest_version payload state (after state call)
-    → Keeps D.time D.left_since old state doubt
+    → Keeps D old state doubt
     → Each (D.left_since new.disk (D.time old.disk))
     (RecoversOneOf (with_doubt state doubt ++ after state call ∷ [])) =
     λ doubt adds keeps. does.images state (after state call) doubt adds (compacts doubt keeps) keeps in
     unless_disk _ _ done c.unless_disk-in-Ok-Compacted.result c.unless_disk-in-Ok-Compacted.ensures
-    (on_ok_weaker done
-    (λ all. changed D.time g.D.Outside.faults D.left_since old new state files limit call written changes tells
-    does.past does.counted newest_version known images room.1
-    (end_compacted D.time g.D.Outside.faults D.left_since old new state files limit call written changes tells does.past
-    does.counted room.0 (omega (arith, all.0, compacted_bytes state records is)))
-    (version_compacted D.time g.D.Outside.faults D.left_since old new state files limit call written changes tells
-    does.past does.counted room.0 all.1.0)
+    (on_ok_weaker done (λ all. changed D old new state files limit call written changes tells does.advances
+    newest_version known images room.1
+    (end_compacted D old new state files limit call written changes tells does.advances room.0
+    (omega (arith, all.0, compacted_bytes state records is)))
+    (version_compacted D old new state files limit call written changes tells does.advances room.0 all.1.0)
     (λ doubt adds keeps. all.1.1 state (after state call) doubt adds (compacts doubt keeps) keeps))
     (on_ok_both _ _ done does.end (on_ok_both _ _ done does.version does.ok)))
-    (on_err_weaker done
-    (λ both. failed D.time g.D.Outside.faults D.left_since old new state files limit call written changes tells
-    does.past does.counted newest_version known images (inr room.1) both.0
+    (on_err_weaker done (λ both. failed D old new state files limit call written changes tells does.advances
+    newest_version known images (inr room.1) both.0
     (λ doubt adds keeps. both.1 state (after state call) doubt adds (compacts doubt keeps) keeps))
     (on_err_both _ _ done does.failed does.err))
 
@@ -140,7 +133,7 @@ returns-in-Ok-Compacted-clause-tight g c =
     let done = c.commit_compacted.result in
     let does = c.commit_compacted.ensures in
     let same = ap need c.as_slice-payload.ensures in
-    let room = still_room c.args.record.now c.as_slice-payload.result.now c.as_slice-payload.ensures state c.args.limit
+    let room = still_room c.args.change.now c.as_slice-payload.result.now c.as_slice-payload.ensures state c.args.limit
     old.live.version old.end _ _ c.in-Ok-Compacted.field-0-is c.in-Ok-Compacted.ensures in
     let bytes = compacted_bytes state c.as_slice.result.now (c.as_slice.ensures ∙ room.2) in
     unless_disk _ _ done c.unless_disk-in-Ok-Compacted.result c.unless_disk-in-Ok-Compacted.ensures
@@ -159,13 +152,12 @@ returns-in-Ok-clause-serves g c files call changes told =
     let new = c.settle.new.journal in
     let does = c.settle.ensures in
     let payload = c.as_slice-payload.result.now in
-    let written : Record = record c.args.record.now { payload = payload } in
-    let tells = still_told c.args.record.now payload c.as_slice-payload.ensures state call told in
-    let room = still_room c.args.record.now payload c.as_slice-payload.ensures state c.args.limit old.live.version
+    let written : Record = record c.args.change.now { payload = payload } in
+    let tells = still_told c.args.change.now payload c.as_slice-payload.ensures state call told in
+    let room = still_room c.args.change.now payload c.as_slice-payload.ensures state c.args.limit old.live.version
     old.end _ _ c.in-Ok-Full.field-0-is c.in-Ok-Full.ensures in
-    full D.time g.D.Outside.faults D.left_since old new state files c.args.limit call written changes tells
-    does.past does.counted c.in-Ok-Full.end c.record_need-need.result room.1 c.record_need-need.ensures room.2
-    (does.images state) (c.in-Ok.ensures.keeps state)
+    full D old new state files c.args.limit call written changes tells does.advances c.in-Ok-Full.end
+    c.record_need-need.result room.1 c.record_need-need.ensures room.2 (does.images state) (c.in-Ok.ensures.keeps state)
 
 pub returns-in-Err-settle-clause-serves : goal.returns-in-Err-settle-clause-serves
 returns-in-Err-settle-clause-serves g c files call changes told =
@@ -175,17 +167,16 @@ returns-in-Err-settle-clause-serves g c files call changes told =
     let old = c.args.journal.now in
     let new = c.settle.new.journal in
     let does = c.settle.ensures in
-    failed D.time g.D.Outside.faults D.left_since old new state files c.args.limit call c.args.record.now changes told
-    does.past does.counted newest_version (known_newest state call c.args.record.now told)
+    failed D old new state files c.args.limit call c.args.change.now changes told does.advances newest_version
+    (known_newest state call c.args.change.now told)
     (λ doubt adds keeps image left. doubt_more state now doubt image (does.images state doubt keeps image left))
     (inl c.in-Err-settle.ensures.stands) c.in-Err-settle.ensures.failed
-    (λ doubt adds keeps. doubt_stays D.time D.left_since new state now doubt
-    (c.in-Err-settle.ensures.keeps state doubt keeps))
+    (λ doubt adds keeps. doubt_stays D new state now doubt (c.in-Err-settle.ensures.keeps state doubt keeps))
 
 -- memory was out before that was known
 pub returns-in-Err-clause-serves : goal.returns-in-Err-clause-serves
 returns-in-Err-clause-serves g c files call changes told =
     let D = g.D.Disk in
-    quiet D.time g.D.Outside.faults D.left_since
+    quiet D
     (record { journal = c.args.journal.now; state = c.args.index.now.state; files = files; limit = c.args.limit }) call
     (Refused refusals.Memory) tt (may_be_refused call refusals.Memory changes) tt

@@ -29,7 +29,7 @@ returns-in-Ok-clause-serves g c files =
     let tells = told state call valid c.requires.typed later c.args.planned.plan c.args.planned.record
     c.requires.planned c.requires.told in
     let serves = c.in-Ok.ensures.serves files call changes tells in
-    subst (λ (s : State). Serves D.time g.D.Outside.faults D.left_since
+    subst (λ (s : State). Serves D
     (record { journal = c.args.journal.now; state = state; files = files; limit = c.args.limit })
     (record { journal = c.write.new.journal; state = s; files = files; limit = c.args.limit }) call
     (Done c.apply.result)) (sym (c.apply.ensures.state call c.requires.typed c.requires.planned))

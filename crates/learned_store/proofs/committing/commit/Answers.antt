@@ -7,8 +7,7 @@ use Rattle.learned_store.proofs.committing.commit.Goals as goal
 
 pub returns-in_err-settle-clause-err : goal.returns-in_err-settle-clause-err
 returns-in_err-settle-clause-err g c = on_err c.from_residual.result (λ state after doubt adds keeps.
-    doubt_stays g.D.Disk.time g.D.Disk.left_since c.settle.new.journal state after doubt
-    (c.in_err-settle.ensures.keeps state doubt keeps))
+    doubt_stays g.D.Disk c.settle.new.journal state after doubt (c.in_err-settle.ensures.keeps state doubt keeps))
 
 pub returns-in_err-settle-clause-images : goal.returns-in_err-settle-clause-images
 returns-in_err-settle-clause-images g c state after doubt adds keeps image left =
@@ -24,14 +23,14 @@ returns-clause-ok g c = on_ok_weaker c.add.result
 pub returns-clause-err : goal.returns-clause-err
 returns-clause-err g c = on_err_weaker c.add.result
     (λ keeps_on. λ state after doubt adds keeps.
-    doubt_is_after g.D.Disk.time g.D.Disk.left_since c.add.new.journal state after doubt
+    doubt_is_after g.D.Disk c.add.new.journal state after doubt
     (keeps_on state after (adds_at c.args.payload.now state after c.in_ok-settle.ensures.version adds)
     (c.in_ok-settle.ensures.keeps state doubt keeps)))
     c.add.ensures.err
 
 pub returns-clause-images : goal.returns-clause-images
 returns-clause-images g c state after doubt adds keeps =
-    each_within _ _ _ _ _ _ c.in_ok-settle.ensures.past c.add.ensures.past
+    each_within _ _ _ _ _ _ c.in_ok-settle.ensures.advances.past c.add.ensures.advances.past
     (RecoversOneOf (with_doubt state doubt ++ after ∷ []))
     (λ image left. doubt_more state after doubt image (c.in_ok-settle.ensures.images state doubt keeps image left))
     (λ image left. either_more state after doubt image

@@ -1,6 +1,7 @@
 use Rattle.std.proofs.Common.{[], ◌∷◌, ◌++◌, ◌∙◌}
 use Rattle.std.proofs.lemmas.Result.{on_ok_weaker, on_err_weaker}
-use Rattle.skk_disk.specs.MomentLaws.{each_within, passes_on}
+use Rattle.skk_disk.specs.MomentLaws.{each_within}
+use Rattle.skk_disk.specs.RunLaws.{advances_on}
 use Rattle.learned_store.specs.Stores.{RecoversOneOf, with_doubt}
 use Rattle.learned_store.proofs.DoubtedStates.{on_err, adds_at, doubt_more, state_more, either_more}
 use Rattle.learned_store.proofs.DoubtedStates.{doubt_stays, doubt_is_state, doubt_is_after}
@@ -8,8 +9,7 @@ use Rattle.learned_store.proofs.committing.commit_compacted.Goals as goal
 
 pub returns-in_err-settle-clause-err : goal.returns-in_err-settle-clause-err
 returns-in_err-settle-clause-err g c = on_err c.from_residual.result (λ state after doubt adds is keeps.
-    doubt_stays g.D.Disk.time g.D.Disk.left_since c.settle.new.journal state after doubt
-    (c.in_err-settle.ensures.keeps state doubt keeps))
+    doubt_stays g.D.Disk c.settle.new.journal state after doubt (c.in_err-settle.ensures.keeps state doubt keeps))
 
 pub returns-in_err-settle-clause-images : goal.returns-in_err-settle-clause-images
 returns-in_err-settle-clause-images g c state after doubt adds is keeps image left =
@@ -17,12 +17,12 @@ returns-in_err-settle-clause-images g c state after doubt adds is keeps image le
 
 pub returns-in_err-shrink-clause-err : goal.returns-in_err-shrink-clause-err
 returns-in_err-shrink-clause-err g c = on_err c.from_residual-in_err-shrink.result (λ state after doubt adds is keeps.
-    doubt_is_state g.D.Disk.time g.D.Disk.left_since c.shrink.new.journal state after doubt
+    doubt_is_state g.D.Disk c.shrink.new.journal state after doubt
     (c.in_err-shrink.ensures.keeps state is (c.in_ok-settle.ensures.keeps state doubt keeps)))
 
 pub returns-in_err-shrink-clause-images : goal.returns-in_err-shrink-clause-images
 returns-in_err-shrink-clause-images g c state after doubt adds is keeps =
-    each_within _ _ _ _ _ _ c.in_ok-settle.ensures.past c.shrink.ensures.past
+    each_within _ _ _ _ _ _ c.in_ok-settle.ensures.advances.past c.shrink.ensures.advances.past
     (RecoversOneOf (with_doubt state doubt ++ after ∷ []))
     (λ image left. doubt_more state after doubt image (c.in_ok-settle.ensures.images state doubt keeps image left))
     (λ image left. state_more state after doubt image
@@ -40,7 +40,7 @@ pub returns-clause-err : goal.returns-clause-err
 returns-clause-err g c = on_err_weaker c.add.result
     (λ keeps_on. λ state after doubt adds is keeps.
     let settled = c.in_ok-settle.ensures.keeps state doubt keeps in
-    doubt_is_after g.D.Disk.time g.D.Disk.left_since c.add.new.journal state after doubt
+    doubt_is_after g.D.Disk c.add.new.journal state after doubt
     (keeps_on state after (adds_at c.args.payload.now state after (c.in_ok-shrink.ensures.version ∙ settled.0) adds)
     (c.in_ok-shrink.ensures.keeps state is settled)))
     c.add.ensures.err
@@ -48,11 +48,10 @@ returns-clause-err g c = on_err_weaker c.add.result
 pub returns-clause-images : goal.returns-clause-images
 returns-clause-images g c state after doubt adds is keeps =
     let settled = c.in_ok-settle.ensures.keeps state doubt keeps in
-    each_within _ _ _ _ _ _
-    (passes_on _ _ _ _ _ _ c.in_ok-settle.ensures.past c.in_ok-shrink.ensures.past
-    (g.met.D.Disk.earlier c.shrink.new.journal.disk)) c.add.ensures.past
+    each_within _ _ _ _ _ _ (advances_on g.D.Disk _ _ _ c.in_ok-settle.ensures.advances c.in_ok-shrink.ensures.advances
+    (g.met.D.Disk.earlier c.shrink.new.journal.disk)).past c.add.ensures.advances.past
     (RecoversOneOf (with_doubt state doubt ++ after ∷ []))
-    (each_within _ _ _ _ _ _ c.in_ok-settle.ensures.past c.in_ok-shrink.ensures.past
+    (each_within _ _ _ _ _ _ c.in_ok-settle.ensures.advances.past c.in_ok-shrink.ensures.advances.past
     (RecoversOneOf (with_doubt state doubt ++ after ∷ []))
     (λ image left. doubt_more state after doubt image (c.in_ok-settle.ensures.images state doubt keeps image left))
     (λ image left. state_more state after doubt image

@@ -16,7 +16,7 @@ returns-clause-keeps g c state None (newest, contents, left, rests) =
       c.repair.ensures.newest ∙ newest,
       contents,
       left,
-      subst (λ (j : OpenJournal _). Rests D.time D.left_since j contents) (sym calm.1) rests,
+      subst (λ (j : OpenJournal _). Rests D j contents) (sym calm.1) rests,
     ))
     (never_err _ c.repair.result calm.0)
 returns-clause-keeps g c state (Some doubted) (newest, contents, others, left, leave, in_doubt) =

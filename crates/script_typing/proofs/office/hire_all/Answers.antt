@@ -11,7 +11,7 @@ use Rattle.script_typing.proofs.office.hire_all.Goals as goal
 -- the workers so far are hired for the first of all tasks
 pub returns-in_err-caller-clause-hired : goal.returns-in_err-caller-clause-hired
 returns-in_err-caller-clause-hired g c =
-    hiring-front g.W.Pass.Caller.number g.W.Pass.Caller.said _ _ _ _ _ c.loop-number.invariant.hiring
+    hiring-front g.W.Pass.Caller _ _ _ _ _ c.loop-number.invariant.hiring
 
 pub loop-number-preserved : goal.loop-number-preserved
 loop-number-preserved g c =
@@ -27,12 +27,10 @@ loop-number-preserved g c =
     record {
       owns = admitted.owned;
       hiring =
-          subst (IsHiring g.W.Pass.Caller.number g.W.Pass.Caller.said first drawn' tasks left)
-          (sym c.push_reserved.ensures.items)
-          (hiring-more g.W.Pass.Caller.number g.W.Pass.Caller.said first drawn drawn' tasks left c.in-Some.number
-          c.in-Some.lines workers c.new.result
-          (subst (λ (ts : Tasks). IsHiring g.W.Pass.Caller.number g.W.Pass.Caller.said first drawn tasks ts workers)
-          removal kept.hiring)
+          subst (IsHiring g.W.Pass.Caller first drawn' tasks left) (sym c.push_reserved.ensures.items)
+          (hiring-more g.W.Pass.Caller first drawn drawn' tasks left c.in-Some.number c.in-Some.lines workers
+          c.new.result
+          (subst (λ (ts : Tasks). IsHiring g.W.Pass.Caller first drawn tasks ts workers) removal kept.hiring)
           c.new.ensures.new (ap g.W.Pass.Caller.number c.new.ensures.caller ∙ admitted.number)
           (ap g.W.Pass.Caller.said c.new.ensures.caller ∙ admitted.said) admitted.drawn);
       room = subst (λ n. length tasks ≤ n) (sym c.push_reserved.ensures.capacity) kept.room;

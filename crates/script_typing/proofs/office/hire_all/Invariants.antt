@@ -9,7 +9,7 @@ use Rattle.script_typing.proofs.office.hire_all.Given as goal
 abbrev pub invariant-loop-number : goal.invariant-loop-number
 invariant-loop-number g l = record {
   owns : g.W.Office.owns l.office l.roll;
-  hiring : IsHiring g.W.Pass.Caller.number g.W.Pass.Caller.said (g.W.Office.drawn l.fn.roll) (g.W.Office.drawn l.roll)
+  hiring : IsHiring g.W.Pass.Caller (g.W.Office.drawn l.fn.roll) (g.W.Office.drawn l.roll)
       l.fn.tasks.entries l.tasks.entries l.workers.items;
   room : length l.fn.tasks.entries ≤ vec_capacity l.workers;
   opens : All (λ lines. list_all opens_well lines ≡ true) (values_of l.tasks.entries);

@@ -14,7 +14,7 @@ rest-typed-requires g c =
       room = omega (
         arith,
         kept.room,
-        rested-length g.W.Pass.Caller.number g.W.Pass.Caller.said g.W.Slip.Kept.number g.W.Slip.Kept.said
+        rested-length g.W.Pass.Caller g.W.Slip.Kept
             c.loop-worker.yielded c.loop-worker.slips.items kept.rested,
         ap length kept.parts,
         ap length steps.0,
@@ -33,9 +33,8 @@ loop-worker-preserved g c =
     record {
       parts = append_assoc front (worker ∷ []) rest ∙ parts;
       rested =
-          subst (AreRested g.W.Pass.Caller.number g.W.Pass.Caller.said g.W.Slip.Kept.number g.W.Slip.Kept.said
-          (front ++ worker ∷ [])) (sym slip.1)
-          (rested-more g.W.Pass.Caller.number g.W.Pass.Caller.said g.W.Slip.Kept.number g.W.Slip.Kept.said front
+          subst (AreRested g.W.Pass.Caller g.W.Slip.Kept
+          (front ++ worker ∷ [])) (sym slip.1) (rested-more g.W.Pass.Caller g.W.Slip.Kept front
           c.loop-worker.slips.items worker slip.0 kept.rested slip.2 slip.3);
       room = subst (λ n. length c.args.workers.items ≤ n) (sym c.rest-typed.ensures.room) kept.room;
       left =

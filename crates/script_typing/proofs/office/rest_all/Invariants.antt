@@ -6,7 +6,7 @@ use Rattle.script_typing.proofs.office.rest_all.Given as goal
 abbrev pub invariant-loop-worker : goal.invariant-loop-worker
 invariant-loop-worker g l = record {
   parts : l.yielded ++ l.worker-iterator.rest.items ≡ l.fn.workers.items;
-  rested : AreRested g.W.Pass.Caller.number g.W.Pass.Caller.said g.W.Slip.Kept.number g.W.Slip.Kept.said l.yielded
+  rested : AreRested g.W.Pass.Caller g.W.Slip.Kept l.yielded
       l.slips.items;
   room : length l.fn.workers.items ≤ vec_capacity l.slips;
   left : IfOk l.typed (IsLeftOf l.yielded);

@@ -37,7 +37,7 @@ returns-in_err-age-in-Stray-clause-known g c newest =
     weaker _ _ _ _ _ (λ old new stray known.
     subst (λ (idle : Idle). IsKnown newest c.args.beside idle new) (sym c.in-Stray.is)
     (stray (subst (λ (idle : Idle). IsKnown newest c.args.beside idle old) c.in-Stray.is known)))
-    (at_end _ _ _ _ _ c.age.ensures.past (g.met.D.Disk.earlier c.age.new.disk) _ (c.age.ensures.images newest))
+    (at_end _ _ _ _ _ c.age.ensures.advances.past (g.met.D.Disk.earlier c.age.new.disk) _ (c.age.ensures.images newest))
 
 pub returns-in_ok-age-in-Stray-clause-known : goal.returns-in_ok-age-in-Stray-clause-known
 returns-in_ok-age-in-Stray-clause-known g c newest =

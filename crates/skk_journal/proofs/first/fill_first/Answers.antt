@@ -1,7 +1,7 @@
 use Rattle.std.proofs.Common.{◌≡◌, List, ℕ, []}
 use Rattle.std.proofs.lemmas.Result.{on_ok_weaker}
 use Rattle.std.specs.Prelude.{None, Some}
-use Rattle.skk_disk.specs.MomentLaws.{passes_on}
+use Rattle.skk_disk.specs.RunLaws.{advances_on}
 use Rattle.skk_disk.specs.StepLaws.{weaker, within, then}
 use Rattle.skk_disk.specs.Image.{Image}
 use Rattle.skk_disk.specs.Steps.{InFile, ComeFrom, Makes}
@@ -42,7 +42,8 @@ returns-clause-images g c each image left =
     let newest = c.args.newest in
     let one = c.in_ok-make_ready.ensures in
     let sides = sides_on _ _ _ _ _ _ (IsIdle newest None) (λ old new step is. step is)
-    (within _ _ _ _ _ _ _ one.past c.write_first.ensures.past _ _ _ (λ old new. IsFreshAs newest c.args.first old
+    (within _ _ _ _ _ _ _ one.advances.past c.write_first.ensures.advances.past _ _ _
+    (λ old new. IsFreshAs newest c.args.first old
     → IsIdle newest None new)
     (λ old new makes is. makes (fresh_known newest None c.args.first old is))
     (λ old between new makes other is. first_torn_idle newest c.requires between new other
@@ -50,9 +51,9 @@ returns-clause-images g c each image left =
     one.images one.ok c.write_first.ensures.images) each image left in
     none_open newest image sides.this (fresh_as newest c.args.second image.b sides.that)
 
-pub returns-clause-past : goal.returns-clause-past
-returns-clause-past g c =
-    passes_on _ _ _ _ _ _ c.make_ready.ensures.past c.write_first.ensures.past
+pub returns-clause-advances : goal.returns-clause-advances
+returns-clause-advances g c =
+    advances_on g.D.Disk _ _ _ c.make_ready.ensures.advances c.write_first.ensures.advances
     (g.met.D.Disk.earlier c.write_first.new.disk)
 
 pub returns-clause-ok : goal.returns-clause-ok
@@ -80,5 +81,5 @@ returns-in_err-make_ready-clause-first_alone g c =
 pub returns-clause-first_alone : goal.returns-clause-first_alone
 returns-clause-first_alone g c =
     let one = c.make_ready.ensures in
-    within _ _ _ _ _ _ _ one.past c.write_first.ensures.past _ _ _ Anyhow (λ old new makes. tt)
+    within _ _ _ _ _ _ _ one.advances.past c.write_first.ensures.advances.past _ _ _ Anyhow (λ old new makes. tt)
     (λ old between new known other. tt) one.images one.known c.write_first.ensures.images

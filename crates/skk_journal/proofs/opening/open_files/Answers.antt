@@ -28,7 +28,8 @@ returns-clause-images g c contents start same opens =
     let old = c.args.disk.now in
     let mid = c.sync_both.new.disk in
     let end = c.open_synced.new.disk in
-    each_within _ _ _ _ _ _ c.sync_both.ensures.past c.open_synced.ensures.past (StillOpens newest start contents)
+    each_within _ _ _ _ _ _ c.sync_both.ensures.advances.past c.open_synced.ensures.advances.past
+    (StillOpens newest start contents)
     (λ image left. subst (StillOpens newest start contents) (sym (same image (c.sync_both.ensures.images image left)))
     (still_opens newest start contents opens))
     (λ image left.
@@ -45,10 +46,11 @@ returns-clause-kept g c tells some =
     let old = c.args.disk.now in
     let mid = c.sync_both.new.disk in
     let still = subst (λ (s : Image). choice c.args.newest s ≢ NoLive) (sym c.in_ok-sync_both.ensures.seen) some in
-    each_within _ _ _ _ _ _ c.sync_both.ensures.past c.open_synced.ensures.past (D.left_since old (D.time old))
+    each_within _ _ _ _ _ _ c.sync_both.ensures.advances.past c.open_synced.ensures.advances.past
+    (D.left_since old (D.time old))
     c.sync_both.ensures.images
     (λ image left. c.sync_both.ensures.images image
-    (laws.earlier mid (D.time old) (D.time mid) image c.sync_both.ensures.past.later
+    (laws.earlier mid (D.time old) (D.time mid) image c.sync_both.ensures.advances.past.later
     ((c.open_synced.ensures.kept tells still).no_more (D.time mid) image left)))
 
 pub returns-clause-first_alone : goal.returns-clause-first_alone
@@ -56,8 +58,9 @@ returns-clause-first_alone g c =
     let mid = c.sync_both.new.disk in
     let one = c.sync_both.ensures in
     let none = no_step _ Anyhow _ _ (λ bytes. tt) one.images in
-    within _ _ _ _ _ _ _ one.past c.open_synced.ensures.past Anyhow Anyhow Anyhow Anyhow (λ old new way. tt)
-    (λ old between new way other. tt) none (at_end _ _ _ _ _ one.past (g.met.D.Disk.earlier mid) Anyhow none)
+    within _ _ _ _ _ _ _ one.advances.past c.open_synced.ensures.advances.past Anyhow Anyhow Anyhow Anyhow
+    (λ old new way. tt)
+    (λ old between new way other. tt) none (at_end _ _ _ _ _ one.advances.past (g.met.D.Disk.earlier mid) Anyhow none)
     c.open_synced.ensures.first_alone
 
 pub returns-clause-live : goal.returns-clause-live

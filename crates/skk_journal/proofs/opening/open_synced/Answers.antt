@@ -1,4 +1,5 @@
 use Rattle.std.proofs.Common.{◌≡◌, ℕ, List, Result, Ok, Err, IfOk, IfErr, sym, ◌∙◌, subst}
+use Rattle.skk_disk.specs.RunLaws.{reads_on}
 use Rattle.skk_disk.specs.Image.{Image, part, other}
 use Rattle.skk_journal.specs.declared.choice.LiveChoice.TheVariants.{LiveIn}
 use Rattle.skk_journal.specs.declared.found.FoundRecord.{FoundRecord}
@@ -13,7 +14,7 @@ use Rattle.skk_journal.specs.Journal.{Holds}
 use Rattle.skk_journal.specs.Opening.{with_contents, contents_of, IsOpened}
 use Rattle.skk_journal.specs.Causes.{IsRefused}
 use Rattle.skk_journal.proofs.Opened.{none_refused, cut_refused, none_opened, beside_is, none_each, none_fills}
-use Rattle.skk_journal.proofs.Opened.{no_live, each_now, read_opens, read_alone, read_step, reads_on, read_holds}
+use Rattle.skk_journal.proofs.Opened.{no_live, each_now, read_opens, read_alone, read_step, read_holds}
 use Rattle.skk_journal.proofs.opening.open_synced.Goals as goal
 
 pub returns-in-NoneBy-clause-refused : goal.returns-in-NoneBy-clause-refused
@@ -28,30 +29,30 @@ returns-in-CutShortIn-clause-refused g c tells =
 
 pub returns-in_err-chosen-clause-images : goal.returns-in_err-chosen-clause-images
 returns-in_err-chosen-clause-images g c contents same opens =
-    read_opens g.D.Disk.time g.D.Disk.left_since c.args.disk.now c.read_choice.new.disk c.read_choice.ensures.images _ _
+    read_opens g.D.Disk c.args.disk.now c.read_choice.new.disk c.read_choice.ensures.only_reads _ _
     contents same opens
 
 pub returns-in_err-chosen-clause-first_alone : goal.returns-in_err-chosen-clause-first_alone
 returns-in_err-chosen-clause-first_alone g c =
-    read_alone g.D.Disk.time g.D.Disk.left_since c.args.disk.now c.read_choice.new.disk c.read_choice.ensures.images
+    read_alone g.D.Disk c.args.disk.now c.read_choice.new.disk c.read_choice.ensures.only_reads
 
 pub returns-in-NoneBy-clause-images : goal.returns-in-NoneBy-clause-images
 returns-in-NoneBy-clause-images g c contents same opens =
-    read_opens g.D.Disk.time g.D.Disk.left_since c.args.disk.now c.read_choice.new.disk c.read_choice.ensures.images _ _
+    read_opens g.D.Disk c.args.disk.now c.read_choice.new.disk c.read_choice.ensures.only_reads _ _
     contents same opens
 
 pub returns-in-NoneBy-clause-first_alone : goal.returns-in-NoneBy-clause-first_alone
 returns-in-NoneBy-clause-first_alone g c =
-    read_alone g.D.Disk.time g.D.Disk.left_since c.args.disk.now c.read_choice.new.disk c.read_choice.ensures.images
+    read_alone g.D.Disk c.args.disk.now c.read_choice.new.disk c.read_choice.ensures.only_reads
 
 pub returns-in-CutShortIn-clause-images : goal.returns-in-CutShortIn-clause-images
 returns-in-CutShortIn-clause-images g c contents same opens =
-    read_opens g.D.Disk.time g.D.Disk.left_since c.args.disk.now c.read_choice.new.disk c.read_choice.ensures.images _ _
+    read_opens g.D.Disk c.args.disk.now c.read_choice.new.disk c.read_choice.ensures.only_reads _ _
     contents same opens
 
 pub returns-in-CutShortIn-clause-first_alone : goal.returns-in-CutShortIn-clause-first_alone
 returns-in-CutShortIn-clause-first_alone g c =
-    read_alone g.D.Disk.time g.D.Disk.left_since c.args.disk.now c.read_choice.new.disk c.read_choice.ensures.images
+    read_alone g.D.Disk c.args.disk.now c.read_choice.new.disk c.read_choice.ensures.only_reads
 
 pub returns-in_err-fill_first-in-NoLive-clause-images : goal.returns-in_err-fill_first-in-NoLive-clause-images
 returns-in_err-fill_first-in-NoLive-clause-images g c contents same opens image left =
@@ -59,15 +60,15 @@ returns-in_err-fill_first-in-NoLive-clause-images g c contents same opens image 
     let start = c.args.disk.now in
     let told = g.met.D.Disk.tells_images c.fill_first.new.disk (D.time start) image left in
     let read = c.in_ok-chosen.ensures in
-    none_fills D.time D.left_since start c.read_choice.new.disk read.images c.args.newest (D.seen start) same read.time
+    none_fills D start c.read_choice.new.disk read.only_reads c.args.newest (D.seen start) same
     c.in_ok-chosen.chosen (sym (read.choice told) ∙ c.in-NoLive.is) (read.first told) (read.second told)
     (D.left_since c.fill_first.new.disk) contents c.fill_first.ensures.images opens image left
 
 pub returns-in_err-fill_first-in-NoLive-clause-first_alone : goal.returns-in_err-fill_first-in-NoLive-clause-first_alone
 returns-in_err-fill_first-in-NoLive-clause-first_alone g c =
     let D = g.D.Disk in
-    read_step D.time D.left_since c.args.disk.now c.read_choice.new.disk c.read_choice.ensures.images
-    (D.left_since c.fill_first.new.disk) c.read_choice.ensures.time c.fill_first.ensures.first_alone
+    read_step D c.args.disk.now c.read_choice.new.disk c.read_choice.ensures.only_reads
+    (D.left_since c.fill_first.new.disk) c.fill_first.ensures.first_alone
 
 pub returns-in_err-fill_first-in-NoLive-clause-kept : goal.returns-in_err-fill_first-in-NoLive-clause-kept
 returns-in_err-fill_first-in-NoLive-clause-kept g c tells some =
@@ -83,15 +84,15 @@ returns-in_ok-fill_first-in-NoLive-clause-images g c contents same opens image l
     let start = c.args.disk.now in
     let told = g.met.D.Disk.tells_images c.fill_first.new.disk (D.time start) image left in
     let read = c.in_ok-chosen.ensures in
-    none_fills D.time D.left_since start c.read_choice.new.disk read.images c.args.newest (D.seen start) same read.time
+    none_fills D start c.read_choice.new.disk read.only_reads c.args.newest (D.seen start) same
     c.in_ok-chosen.chosen (sym (read.choice told) ∙ c.in-NoLive.is) (read.first told) (read.second told)
     (D.left_since c.fill_first.new.disk) contents c.fill_first.ensures.images opens image left
 
 pub returns-in_ok-fill_first-in-NoLive-clause-first_alone : goal.returns-in_ok-fill_first-in-NoLive-clause-first_alone
 returns-in_ok-fill_first-in-NoLive-clause-first_alone g c =
     let D = g.D.Disk in
-    read_step D.time D.left_since c.args.disk.now c.read_choice.new.disk c.read_choice.ensures.images
-    (D.left_since c.fill_first.new.disk) c.read_choice.ensures.time c.fill_first.ensures.first_alone
+    read_step D c.args.disk.now c.read_choice.new.disk c.read_choice.ensures.only_reads
+    (D.left_since c.fill_first.new.disk) c.fill_first.ensures.first_alone
 
 pub returns-in_ok-fill_first-in-NoLive-clause-kept : goal.returns-in_ok-fill_first-in-NoLive-clause-kept
 returns-in_ok-fill_first-in-NoLive-clause-kept g c tells some =
@@ -119,8 +120,8 @@ returns-in_ok-fill_first-in-NoLive-clause-now g c same image left =
     let read = c.in_ok-chosen.ensures in
     let chosen = c.in_ok-chosen.chosen in
     let newest = c.args.newest in
-    let sides = none_each D.time D.left_since start c.read_choice.new.disk read.images newest (D.seen start) same
-    read.time chosen (sym (read.choice told) ∙ c.in-NoLive.is) (read.first told) (read.second told) in
+    let sides = none_each D start c.read_choice.new.disk read.only_reads newest (D.seen start) same
+    chosen (sym (read.choice told) ∙ c.in-NoLive.is) (read.first told) (read.second told) in
     subst (λ (l : List FoundRecord).
     Holds newest (first_live newest) chosen.second (contents_of (first_live newest) (payloads l)) image)
     (sym c.new-in-NoLive.ensures) (c.in_ok-fill_first-in-NoLive.ensures.ok sides image left)
@@ -131,34 +132,34 @@ returns-in_ok-fill_first-in-NoLive-clause-anew g c told none same =
     let start = c.args.disk.now in
     let read = c.in_ok-chosen.ensures in
     c.in_ok-fill_first-in-NoLive.ensures.anew
-    (none_each D.time D.left_since start c.read_choice.new.disk read.images c.args.newest (D.seen start) same read.time
+    (none_each D start c.read_choice.new.disk read.only_reads c.args.newest (D.seen start) same
     c.in_ok-chosen.chosen (sym (read.choice told) ∙ c.in-NoLive.is) (read.first told) (read.second told))
 
 pub returns-in-LiveIn-clause-images : goal.returns-in-LiveIn-clause-images
 returns-in-LiveIn-clause-images g c contents same opens =
-    read_opens g.D.Disk.time g.D.Disk.left_since c.args.disk.now c.open_live.new.disk
-    (reads_on _ _ _ c.read_choice.ensures.images c.open_live.ensures.images) _ _ contents same opens
+    read_opens g.D.Disk c.args.disk.now c.open_live.new.disk
+    (reads_on g.D.Disk _ _ _ c.read_choice.ensures.only_reads c.open_live.ensures.only_reads) _ _ contents same opens
 
 pub returns-in-LiveIn-clause-first_alone : goal.returns-in-LiveIn-clause-first_alone
 returns-in-LiveIn-clause-first_alone g c =
-    read_alone g.D.Disk.time g.D.Disk.left_since c.args.disk.now c.open_live.new.disk
-    (reads_on _ _ _ c.read_choice.ensures.images c.open_live.ensures.images)
+    read_alone g.D.Disk c.args.disk.now c.open_live.new.disk
+    (reads_on g.D.Disk _ _ _ c.read_choice.ensures.only_reads c.open_live.ensures.only_reads)
 
 pub returns-in-LiveIn-clause-opened : goal.returns-in-LiveIn-clause-opened
 returns-in-LiveIn-clause-opened g c tells =
     let is = sym (c.in_ok-chosen.ensures.choice tells) ∙ c.in-LiveIn.is in
     let here = subst (λ (s : Image). choice c.args.newest s ≡ LiveIn c.in-LiveIn.live)
-    (sym c.read_choice.ensures.seen) is in
+    (sym c.read_choice.ensures.only_reads.seen) is in
     subst (λ (s : Image). IfOk c.open_live.result (λ opened.
     IsOpened c.args.newest s (with_contents (contents_of opened.live (payloads opened.records)))))
-    c.read_choice.ensures.seen (c.open_live.ensures.opened c.args.newest tells here)
+    c.read_choice.ensures.only_reads.seen (c.open_live.ensures.opened c.args.newest tells here)
 
 pub returns-in-LiveIn-clause-refused : goal.returns-in-LiveIn-clause-refused
 returns-in-LiveIn-clause-refused g c tells =
     let is = sym (c.in_ok-chosen.ensures.choice tells) ∙ c.in-LiveIn.is in
     let here = subst (λ (s : Image). choice c.args.newest s ≡ LiveIn c.in-LiveIn.live)
-    (sym c.read_choice.ensures.seen) is in
-    subst (λ (s : Image). IfErr c.open_live.result (IsRefused c.args.newest s)) c.read_choice.ensures.seen
+    (sym c.read_choice.ensures.only_reads.seen) is in
+    subst (λ (s : Image). IfErr c.open_live.result (IsRefused c.args.newest s)) c.read_choice.ensures.only_reads.seen
     (c.open_live.ensures.refused c.args.newest tells here)
 
 pub returns-in-LiveIn-clause-anew : goal.returns-in-LiveIn-clause-anew
@@ -172,23 +173,22 @@ returns-in-LiveIn-clause-now g c =
     let end = c.open_live.new.disk in
     let live = c.in-LiveIn.live in
     let chosen = c.in_ok-chosen.chosen in
-    let reads = reads_on _ _ _ c.read_choice.ensures.images c.open_live.ensures.images in
-    let time = c.open_live.ensures.time ∙ c.read_choice.ensures.time in
+    let reads = reads_on g.D.Disk _ _ _ c.read_choice.ensures.only_reads c.open_live.ensures.only_reads in
     let newest = c.args.newest in
     read_holds newest c.open_live.result D.tells _ (D.left_since end (D.time end)) (D.seen start)
     (λ tells.
     let is = sym (c.in_ok-chosen.ensures.choice tells) ∙ c.in-LiveIn.is in
     let known = c.beside-idle.ensures ∙ beside_is (D.seen start) live.file chosen
     (c.in_ok-chosen.ensures.first tells) (c.in_ok-chosen.ensures.second tells) in
-    let seen = sym c.read_choice.ensures.seen in
+    let seen = sym c.read_choice.ensures.only_reads.seen in
     subst (λ (s : Image). IfOk c.open_live.result (λ opened.
     Holds newest opened.live opened.idle (contents_of opened.live (payloads opened.records)) s))
-    c.read_choice.ensures.seen
+    c.read_choice.ensures.only_reads.seen
     (c.open_live.ensures.holds newest tells (subst (λ (s : Image). choice c.args.newest s ≡ LiveIn live) seen is)
     (subst (λ (s : Image). c.beside-idle.result ≡ idle_of (part (other live.file) s)) seen known)))
     (λ same image left. (
       g.met.D.Disk.tells_images end (D.time end) image left,
-      each_now D.time D.left_since start end reads (λ now. now ≡ D.seen start) time same image left,
+      each_now D start end reads (λ now. now ≡ D.seen start) same image left,
     ))
 
 pub returns-in-LiveIn-clause-right : goal.returns-in-LiveIn-clause-right

@@ -1,4 +1,5 @@
-use Rattle.std.proofs.Common.{◌≡◌, ◌+◌, ◌++◌, ◌∙◌, take, drop, subst, arith}
+use Rattle.std.proofs.Common.{◌≡◌, ◌+◌, ◌++◌, take, drop, subst}
+use Rattle.skk_disk.specs.RunLaws.{reads_on}
 use Rattle.skk_disk.specs.Image.{Image, part}
 use Rattle.skk_journal.proofs.ReadingOn.{read_so_far}
 use Rattle.skk_journal.proofs.reading.read_full.Goals as goal
@@ -16,12 +17,6 @@ loop-filled-preserved g c =
           (part file (g.D.Disk.seen c.args.disk.now)) (so_far.bytes tells)
           (subst (λ (s : Image). take (filled + c.in_ok-n.n) c.read_more.new.into
           ≡ take filled c.loop-filled.into ++ take c.in_ok-n.n (drop (c.args.at + filled) (part file s)))
-          so_far.seen (more.bytes tells));
-      seen = more.seen ∙ so_far.seen;
-      time = more.time ∙ so_far.time;
-      images = record {
-        no_more = λ t i left. so_far.images.no_more t i (more.images.no_more t i left);
-        no_fewer = λ t i left. more.images.no_fewer t i (so_far.images.no_fewer t i left);
-      };
-      counted = omega (arith, so_far.counted, more.counted);
+          so_far.reads.seen (more.bytes tells));
+      reads = reads_on g.D.Disk _ _ _ so_far.reads more.only_reads;
     }

@@ -1,6 +1,6 @@
 use Rattle.std.proofs.Common.{◌≡◌, ◌≤◌, ◌-◌, length, take, drop}
 use Rattle.skk_disk.specs.Image.{part}
-use Rattle.skk_disk.specs.Moments.{SameImages}
+use Rattle.skk_disk.specs.Runs.{OnlyReads}
 use Rattle.skk_journal.proofs.reading.read_full.Given as goal
 
 -- the head of the room has what the file has from the place on
@@ -8,10 +8,7 @@ abbrev pub invariant-loop-filled : goal.invariant-loop-filled
 invariant-loop-filled g l = record {
   within : l.filled ≤ length l.into;
   bytes : g.D.Disk.tells → take l.filled l.into ≡ take l.filled (drop l.at (part l.file (g.D.Disk.seen l.fn.disk)));
-  seen : g.D.Disk.seen l.disk ≡ g.D.Disk.seen l.fn.disk;
-  time : g.D.Disk.time l.disk ≡ g.D.Disk.time l.fn.disk;
-  images : SameImages (g.D.Disk.left_since l.fn.disk) (g.D.Disk.left_since l.disk);
-  counted : g.D.Outside.faults l.fn.disk ≤ g.D.Outside.faults l.disk;
+  reads : OnlyReads g.D.Disk l.fn.disk l.disk;
 }
 
 abbrev pub decreases-loop-filled : goal.decreases-loop-filled

@@ -1,4 +1,5 @@
-use Rattle.std.proofs.Common.{◌≡◌, [], ℕ, List, drop, ◌∙◌, subst, arith}
+use Rattle.std.proofs.Common.{◌≡◌, [], ℕ, List, drop, subst, arith}
+use Rattle.skk_disk.specs.RunLaws.{reads_on}
 use Rattle.skk_disk.specs.Image.{Image, part}
 use Rattle.skk_disk.specs.declared.which.Which.{Which}
 use Rattle.skk_journal.specs.declared.found.FoundRecord.{FoundRecord}
@@ -24,7 +25,7 @@ loop-at-preserved g c =
     let at = c.loop-at.at in
     let from = c.in-Else.from in
     let new = c.read_part.new.records in
-    let read = stop_is c.args.file _ _ _ _ _ _ _ _ so_far.seen c.in-Else.is more.next in
+    let read = stop_is c.args.file _ _ _ _ _ _ _ _ so_far.reads.seen c.in-Else.is more.next in
     let within = subst (StopsWithin 131077) c.in-Else.is more.within in
     record {
       behind_head = omega (arith, so_far.behind_head);
@@ -33,13 +34,7 @@ loop-at-preserved g c =
       taken = takes_more D.tells (part c.args.file
           (D.seen c.args.disk.now)) at from [] c.loop-at.records new so_far.behind_head
           so_far.taken read.0;
-      seen = more.seen ∙ so_far.seen;
-      time = more.time ∙ so_far.time;
-      images = record {
-        no_more = λ t i left. so_far.images.no_more t i (more.images.no_more t i left);
-        no_fewer = λ t i left. more.images.no_fewer t i (so_far.images.no_fewer t i left);
-      };
-      counted = omega (arith, so_far.counted, more.counted);
+      reads = reads_on g.D.Disk _ _ _ so_far.reads more.only_reads;
     }
 
 pub returns-in-End-clause-records : goal.returns-in-End-clause-records
@@ -48,7 +43,7 @@ returns-in-End-clause-records g c =
     read_at g.D.Disk.tells (part c.args.file
     (g.D.Disk.seen c.args.disk.now)) c.loop-at.at c.in-End.from c.loop-at.records
     c.read_part.new.records so_far.behind_head so_far.taken
-    (stop_is c.args.file _ _ _ _ _ _ _ _ so_far.seen c.in-End.is c.in_ok-from.ensures.next)
+    (stop_is c.args.file _ _ _ _ _ _ _ _ so_far.reads.seen c.in-End.is c.in_ok-from.ensures.next)
 
 pub returns-in-End-clause-end : goal.returns-in-End-clause-end
 returns-in-End-clause-end g c =
@@ -56,7 +51,7 @@ returns-in-End-clause-end g c =
     end_at g.D.Disk.tells (part c.args.file
     (g.D.Disk.seen c.args.disk.now)) c.loop-at.at c.in-End.from c.loop-at.records
     c.read_part.new.records so_far.behind_head so_far.taken
-    (stop_is c.args.file _ _ _ _ _ _ _ _ so_far.seen c.in-End.is c.in_ok-from.ensures.next)
+    (stop_is c.args.file _ _ _ _ _ _ _ _ so_far.reads.seen c.in-End.is c.in_ok-from.ensures.next)
 
 pub returns-in-End-clause-places : goal.returns-in-End-clause-places
 returns-in-End-clause-places g c =
@@ -64,7 +59,7 @@ returns-in-End-clause-places g c =
     places_at g.D.Disk.tells (part c.args.file
     (g.D.Disk.seen c.args.disk.now)) c.loop-at.at c.in-End.from c.loop-at.records
     c.read_part.new.records so_far.behind_head so_far.taken
-    (stop_is c.args.file _ _ _ _ _ _ _ _ so_far.seen c.in-End.is c.in_ok-from.ensures.next)
+    (stop_is c.args.file _ _ _ _ _ _ _ _ so_far.reads.seen c.in-End.is c.in_ok-from.ensures.next)
 
 pub returns-then-from-eq0-clause-bad : goal.returns-then-from-eq0-clause-bad
 returns-then-from-eq0-clause-bad g c =
@@ -72,7 +67,7 @@ returns-then-from-eq0-clause-bad g c =
     bad_at g.D.Disk.tells (part c.args.file
     (g.D.Disk.seen c.args.disk.now)) c.loop-at.at c.in-Else.from c.loop-at.records
     c.read_part.new.records so_far.behind_head so_far.taken
-    (stop_is c.args.file _ _ _ _ _ _ _ _ so_far.seen c.in-Else.is c.in_ok-from.ensures.next) c.if-from-eq0.true
+    (stop_is c.args.file _ _ _ _ _ _ _ _ so_far.reads.seen c.in-Else.is c.in_ok-from.ensures.next) c.if-from-eq0.true
 
 pub returns-clause-bad : goal.returns-clause-bad
 returns-clause-bad g c tells =

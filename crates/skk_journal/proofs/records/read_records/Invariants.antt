@@ -1,6 +1,6 @@
 use Rattle.std.proofs.Common.{◌≡◌, ◌≤◌, ◌+◌, ◌-◌, ◌^◌, [], length, drop}
 use Rattle.skk_disk.specs.Image.{part}
-use Rattle.skk_disk.specs.Moments.{SameImages}
+use Rattle.skk_disk.specs.Runs.{OnlyReads}
 use Rattle.skk_journal.specs.declared.journal.TheConstants.{PIECE_ROOM}
 use Rattle.skk_journal.specs.Records.{first_place}
 use Rattle.skk_journal.specs.Reading.{Takes}
@@ -15,10 +15,7 @@ invariant-loop-at g l = record {
   taken :
       Takes g.D.Disk.tells (drop first_place (part l.fn.file (g.D.Disk.seen l.fn.disk))) first_place
       (l.at - first_place) [] l.records;
-  seen : g.D.Disk.seen l.disk ≡ g.D.Disk.seen l.fn.disk;
-  time : g.D.Disk.time l.disk ≡ g.D.Disk.time l.fn.disk;
-  images : SameImages (g.D.Disk.left_since l.fn.disk) (g.D.Disk.left_since l.disk);
-  counted : g.D.Outside.faults l.fn.disk ≤ g.D.Outside.faults l.disk;
+  reads : OnlyReads g.D.Disk l.fn.disk l.disk;
 }
 
 abbrev pub decreases-loop-at : goal.decreases-loop-at

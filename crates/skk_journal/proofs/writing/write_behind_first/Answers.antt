@@ -1,4 +1,4 @@
-use Rattle.skk_disk.specs.MomentLaws.{passes_on}
+use Rattle.skk_disk.specs.RunLaws.{advances_on}
 use Rattle.std.proofs.Common.{List, ℕ, length, ◌∷◌, ◌++◌, [], ◌∙◌, ap}
 use Rattle.std.proofs.lemmas.Result.{on_ok_weaker}
 use Rattle.skk_journal.proofs.Ends.{length-head}
@@ -8,12 +8,12 @@ use Rattle.skk_journal.proofs.writing.write_behind_first.Goals as goal
 
 pub returns-clause-images : goal.returns-clause-images
 returns-clause-images g c =
-    both_blank _ _ _ _ _ _ _ c.write_head.ensures.past c.write_records.ensures.past
+    both_blank _ _ _ _ _ _ _ c.write_head.ensures.advances.past c.write_records.ensures.advances.past
     (g.met.D.Disk.earlier c.write_head.new.disk) c.write_head.ensures.images c.write_records.ensures.images
 
-pub returns-clause-past : goal.returns-clause-past
-returns-clause-past g c =
-    passes_on _ _ _ _ _ _ c.write_head.ensures.past c.write_records.ensures.past
+pub returns-clause-advances : goal.returns-clause-advances
+returns-clause-advances g c =
+    advances_on g.D.Disk _ _ _ c.write_head.ensures.advances c.write_records.ensures.advances
     (g.met.D.Disk.earlier c.write_records.new.disk)
 
 pub returns-clause-ok : goal.returns-clause-ok

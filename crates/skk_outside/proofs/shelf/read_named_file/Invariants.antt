@@ -10,6 +10,6 @@ invariant-loop g l = record {
   fits : vec_len l.bytes ≤ l.limit;
   head : StandsAt (g.H.Shelf.file l.fn.shelf l.name) 0 l.bytes.items;
   kept : g.H.Shelf.file l.shelf ≡ g.H.Shelf.file l.fn.shelf;
-  counted : g.H.Outside.faults l.fn.shelf ≤ g.H.Outside.faults l.shelf;
+  counted : g.H.Shelf.faults l.fn.shelf ≤ g.H.Shelf.faults l.shelf;
   room : vec_len l.piece ≡ PIECE;
 }

@@ -6,9 +6,8 @@ use Rattle.skk_server.proofs.serving.serve_turns.Given as goal
 -- it was served so far, and is ready to read
 abbrev pub invariant-loop-connection : goal.invariant-loop-connection
 invariant-loop-connection g l =
-    ServesSoFar l.service.rules.now
-    (moved_link g.K.Outside.left g.K.Outside.written g.K.Outside.faults l.fn.link l.link)
-    (g.C.Caller.said l.fn.caller) (g.C.Caller.said l.caller) l.connection.responder.talk l.connection.taken
+    ServesSoFar l.service.rules.now (moved_link g.K.Outside l.fn.link l.link) (g.C.Caller.said l.fn.caller)
+    (g.C.Caller.said l.caller) l.connection.responder.talk l.connection.taken
     × IsReady l.connection × (g.C.Caller.number l.caller ≡ g.C.Caller.number l.fn.caller)
 
 abbrev pub decreases-loop-connection : goal.decreases-loop-connection

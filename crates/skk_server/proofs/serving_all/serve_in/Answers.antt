@@ -1,5 +1,4 @@
 use Rattle.std.proofs.Common.{refl, arith}
-use Rattle.skk_server.specs.Services.{seen_listener}
 use Rattle.skk_server.proofs.serving_all.serve_in.Goals as goal
 use Rattle.skk_server.proofs.Stages.{stage-new, stage-served, ends-stay}
 
@@ -8,8 +7,7 @@ take_all-end-requires-clause-stage g c κs within = stage-new c.requires.opens
 
 pub returns-clause-serves : goal.returns-clause-serves
 returns-clause-serves g c =
-    let nets = seen_listener g.N.Listener.coming g.N.Listener.over g.N.Listener.out g.N.Listener.opened
-    g.N.Outside.faults in
+    let nets = g.N.Listener in
     let taken = c.take_all-end.ensures in
     let seen_off = c.see_all_off.ensures in
     let hall = c.see_all_off.new.self in

@@ -11,11 +11,9 @@ pub returns-clause-caused : goal.returns-clause-caused
 returns-clause-caused g c =
     let D = g.D.Disk in
     rw c.end_run.ensures.finish
-    (caused-alone c.run_command.result
-    (moved_shelf g.H.Shelf.file g.H.Outside.faults c.args.shelf.now c.run_command.new.shelf)
-    (moved_source g.I.Outside.left g.I.Outside.faults c.args.input.now c.run_command.new.input)
-    (moved_sink g.O.Outside.written g.O.Outside.faults c.args.out.now c.run_command.new.out)
-    (moved_disk D.tells D.seen D.time g.D.Outside.faults D.left_since c.args.disk c.run_command.result.disk) _
+    (caused-alone c.run_command.result (moved_shelf g.H.Shelf c.args.shelf.now c.run_command.new.shelf)
+    (moved_source g.I.Outside c.args.input.now c.run_command.new.input)
+    (moved_sink g.O.Outside c.args.out.now c.run_command.new.out) (moved_disk D c.args.disk c.run_command.result.disk) _
     (λ failed. failed) c.args.command.now c.run_command.ensures.leaves)
 
 pub returns-clause-outside : goal.returns-clause-outside
@@ -24,5 +22,5 @@ returns-clause-outside g c is = caused-outside _ c.end_run.result.ended is (retu
 pub returns-clause-stands : goal.returns-clause-stands
 returns-clause-stands g c =
     let D = g.D.Disk in
-    stands-finish D.tells D.seen D.time g.D.Outside.faults D.left_since c.args.disk c.run_command.result
-    c.end_run.result c.end_run.ensures.finish c.run_command.ensures.stands
+    stands-finish D c.args.disk c.run_command.result c.end_run.result c.end_run.ensures.finish
+    c.run_command.ensures.stands

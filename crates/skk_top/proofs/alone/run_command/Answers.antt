@@ -6,8 +6,7 @@ pub returns-in-Check-clause-stands : goal.returns-in-Check-clause-stands
 returns-in-Check-clause-stands g c =
     let D = g.D.Disk in
     let run = c.run_check.result in
-    stands-quiet D.tells D.seen D.time g.D.Outside.faults D.left_since c.args.disk (g.met.D.Disk.earlier c.args.disk)
-    run.ended run (λ i. record {
+    stands-quiet D c.args.disk (g.met.D.Disk.earlier c.args.disk) run.ended run (λ i. record {
       ended = run.ended;
       chronicle = c.run_check.ensures.uncalled i;
       disk = c.run_check.ensures.disk i;

@@ -18,22 +18,22 @@ returns-in-Ok-type_by_callers-clause-leaves g c =
     let D = g.D.Disk in
     let table = c.args.begun.rules in
     let lines = c.args.begun.script in
-    let opening = opening_now D.time g.D.Outside.faults c.args.begun.store in
+    let opening = opening_now D c.args.begun.store in
     let cut = c.in-Ok.ensures.cut in
     let types = c.in-Ok-type_by_callers.ensures.types in
     let closed = c.in-Ok-type_by_callers.left.closed in
     let typed = c.in-Ok-type_by_callers.left.typed in
     let said = dialog (history_of closed.chronicle) in
     let ended = c.print_typed-ended.result in
-    let out = moved_sink g.O.Outside.written g.O.Outside.faults c.args.out.now c.print_typed-ended.new.out in
-    let disk = disk_now D.time g.D.Outside.faults D.left_since closed.disk in
+    let out = moved_sink g.O.Outside c.args.out.now c.print_typed-ended.new.out in
+    let disk = disk_now D closed.disk in
     let worked = subst (λ (ts : Tasks). WorkedBy table ts 0 typed types.numbers types.dialogs) cut.tasks_is
     types.worked in
     let prints = prints-woven table lines said out typed ended types.numbers types.dialogs types.callers worked
     (subst (λ (order : List ℕ). IfOk typed (λ left. LeavesPages order left ended out))
     (c.as_slice.ensures.value ∙ cut.order_is)
     c.print_typed-ended.ensures.some)
-    c.print_typed-ended.ensures.none
+    c.print_typed-ended.ensures.none c.print_typed-ended.ensures.counted
     (λ whole pages sessions done. c.pages_are_woven.ensures table lines said types.numbers types.dialogs whole pages
     sessions types.callers done)
     (λ pages sessions done. c.callers_have_ended.ensures table (tasks_of lines) said types.numbers types.dialogs pages
@@ -51,15 +51,13 @@ returns-in-Ok-type_by_callers-clause-leaves g c =
 pub returns-in_default-clause-runs : goal.returns-in_default-clause-runs
 returns-in_default-clause-runs g c =
     let D = g.D.Disk in
-    runs-quiet D.tells D.seen D.time g.D.Outside.faults D.left_since c.args.begun.store.state
-    c.args.begun.store.journal.disk _ c.without_calls.result
+    runs-quiet D c.args.begun.store.state c.args.begun.store.journal.disk _ c.without_calls.result
     (c.without_calls.ensures
     ∙ ap (λ (d : g.row.D.Denot). record { ended = _; chronicle = []; disk = d }) c.close.ensures)
 
 pub returns-clause-runs : goal.returns-clause-runs
 returns-clause-runs g c =
     let D = g.D.Disk in
-    runs-quiet D.tells D.seen D.time g.D.Outside.faults D.left_since c.args.begun.store.state
-    c.args.begun.store.journal.disk _ c.without_calls-in-Err.result
+    runs-quiet D c.args.begun.store.state c.args.begun.store.journal.disk _ c.without_calls-in-Err.result
     (c.without_calls-in-Err.ensures
     ∙ ap (λ (d : g.row.D.Denot). record { ended = _; chronicle = []; disk = d }) c.in-Err.ensures.back)

@@ -13,7 +13,7 @@ pub returns-in_err-print_bad_lines : goal.returns-in_err-print_bad_lines
 returns-in_err-print_bad_lines g c =
     let bad = bad_lines c.args.listed.now.bad in
     let counts = counts_line c.args.listed.now in
-    let out = moved_sink g.O.Outside.written g.O.Outside.faults c.args.out.now c.print_bad_lines.new.out in
+    let out = moved_sink g.O.Outside c.args.out.now c.print_bad_lines.new.out in
     printed-fault (checked c.args.listed.now) c.from_residual.result c.in_err-print_bad_lines.field-0.0 out
     c.from_residual.ensures.1
     (subst (AppendsPrefix _ _) (sym (encodes-append bad counts)) (AppendsPrefix-more _ _ (encode_utf8_all bad)
@@ -24,7 +24,7 @@ pub returns-in_err-push_counts : goal.returns-in_err-push_counts
 returns-in_err-push_counts g c =
     let bad = bad_lines c.args.listed.now.bad in
     let counts = counts_line c.args.listed.now in
-    let out = moved_sink g.O.Outside.written g.O.Outside.faults c.args.out.now c.print_bad_lines.new.out in
+    let out = moved_sink g.O.Outside c.args.out.now c.print_bad_lines.new.out in
     printed-fault (checked c.args.listed.now) c.from_residual-in_err-push_counts.result Memory out
     c.from_residual-in_err-push_counts.ensures.1
     (subst (AppendsPrefix _ _) (sym (encodes-append bad counts))
@@ -36,7 +36,7 @@ pub returns-in_err-print_through : goal.returns-in_err-print_through
 returns-in_err-print_through g c =
     let bad = bad_lines c.args.listed.now.bad in
     let counts = counts_line c.args.listed.now in
-    let out = moved_sink g.O.Outside.written g.O.Outside.faults c.args.out.now c.print_through.new.out in
+    let out = moved_sink g.O.Outside c.args.out.now c.print_through.new.out in
     printed-fault (checked c.args.listed.now) c.from_residual-in_err-print_through.result Outside out
     c.from_residual-in_err-print_through.ensures.1 (Printed-prefix_of_page _ _ _ c.push_counts.new.page _ _
     (Printed-longer _ _ c.print_bad_lines.new.page bad counts c.push_counts.new.page c.in_ok-push_counts.ensures

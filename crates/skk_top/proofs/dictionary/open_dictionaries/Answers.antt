@@ -51,13 +51,13 @@ returns-in_err-file-clause-refused g c =
     let name = get_or names k c.name-item.result in
     let item : c.name-item.result ≡ name = c.name-item.is in
     let fault = c.in_err-file.field-0.0 in
-    let middle = g.H.Outside.faults c.loop-name.shelf in
-    let after = g.H.Outside.faults c.open_dictionary.new.shelf in
+    let middle = g.H.Shelf.faults c.loop-name.shelf in
+    let after = g.H.Shelf.faults c.open_dictionary.new.shelf in
     let refused =
     told-before (λ told. RefusesFile (Dictionary (c.len.result + 1)) HasDictionaryFlaw told middle after fault) name
     c.name-item.result (g.H.Shelf.file c.loop-name.shelf) tells item c.loop-name.invariant.kept
     c.in_err-file.ensures.refused in
-    handed-on (RefusesDictionaries (map tells names) (g.H.Outside.faults c.args.shelf.now) after) c.from_residual.result
+    handed-on (RefusesDictionaries (map tells names) (g.H.Shelf.faults c.args.shelf.now) after) c.from_residual.result
     fault c.from_residual.ensures.1
     (refuses-first tells c.loop-name.files names c.name-item.result k (c.len.result + 1) fault _ middle after
     c.loop-name-test.true c.loop-name.invariant.count (ap (λ n. n + 1) c.len.ensures) c.loop-name.invariant.rows

@@ -8,5 +8,5 @@ invariant-loop-name g l = record {
   rows : AreRowsOf l.files (map (g.H.Shelf.file l.fn.shelf) (take l.name-index l.names));
   count : length l.files ≡ l.name-index;
   kept : g.H.Shelf.file l.shelf ≡ g.H.Shelf.file l.fn.shelf;
-  counted : g.H.Outside.faults l.fn.shelf ≤ g.H.Outside.faults l.shelf;
+  counted : g.H.Shelf.faults l.fn.shelf ≤ g.H.Shelf.faults l.shelf;
 }

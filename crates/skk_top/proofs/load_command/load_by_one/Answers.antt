@@ -7,7 +7,7 @@ use Rattle.skk_calls.specs.Openings.{said_in}
 use Rattle.learned_store.specs.Stores.{opening_now}
 use Rattle.caller_work.specs.Disks.{disk_now}
 use Rattle.skk_top.specs.LoadCommand.{load_lines}
-use Rattle.skk_top.specs.Playing.{PlaysLines}
+use Rattle.script_typing.specs.Lines.{PlaysLines}
 use Rattle.skk_top.proofs.Disks.{runs-quiet}
 use Rattle.skk_top.proofs.LoadInput.{drawn-open_well}
 use Rattle.skk_top.proofs.Loads.{loads-closed}
@@ -28,31 +28,27 @@ returns-in-Ok-with_caller-clause-leaves g c =
     let worked = c.in-Ok-with_caller.ensures in
     let said = said_in closed.chronicle 0 in
     let summed = c.sum_up-summed.ensures in
-    let plays : PlaysLines standard (load_lines options) left.ended left.sessions.entries [] said =
-    subst (λ (r : List Rule). PlaysLines r (load_lines options) left.ended left.sessions.entries [] said)
+    let plays : PlaysLines standard (load_lines options) left.ended [] left.sessions.entries [] said =
+    subst (λ (r : List Rule). PlaysLines r (load_lines options) left.ended [] left.sessions.entries [] said)
     c.in-Ok.ensures.rules
-    (subst (λ (ls : List Line). PlaysLines load.rules ls left.ended left.sessions.entries [] said)
+    (subst (λ (ls : List Line). PlaysLines load.rules ls left.ended [] left.sessions.entries [] said)
     (c.as_slice.ensures ∙ c.in-Ok.ensures.lines) worked.leaves) in
     inr (rw c.end_by.ensures
-    (loads-closed options (opening_now D.time g.D.Outside.faults c.args.store) closed.chronicle closed.disk closed.tally
-    left.sessions.entries
-    (moved_sink g.O.Outside.written g.O.Outside.faults c.args.out.now c.sum_up-summed.new.out)
-    (disk_now D.time g.D.Outside.faults D.left_since closed.disk) worked.closes.legal worked.one worked.closes.kept
-    worked.closes.tally_is left.ended c.sum_up-summed.result plays summed.some summed.none summed.counted))
+    (loads-closed options (opening_now D c.args.store) closed.chronicle closed.disk closed.tally left.sessions.entries
+    (moved_sink g.O.Outside c.args.out.now c.sum_up-summed.new.out) (disk_now D closed.disk) worked.closes.legal
+    worked.one worked.closes.kept worked.closes.tally_is left.ended c.sum_up-summed.result plays summed.some
+    summed.none summed.counted))
 
 -- memory was out
 pub returns-in_default-clause-runs : goal.returns-in_default-clause-runs
 returns-in_default-clause-runs g c =
     let D = g.D.Disk in
-    runs-quiet D.tells D.seen D.time g.D.Outside.faults D.left_since c.args.store.state c.args.store.journal.disk _
-    c.without_calls.result
-    (c.without_calls.ensures
+    runs-quiet D c.args.store.state c.args.store.journal.disk _ c.without_calls.result (c.without_calls.ensures
     ∙ ap (λ (d : g.row.D.Denot). record { ended = _; chronicle = []; disk = d }) c.close.ensures)
 
 pub returns-clause-runs : goal.returns-clause-runs
 returns-clause-runs g c =
     let D = g.D.Disk in
-    runs-quiet D.tells D.seen D.time g.D.Outside.faults D.left_since c.args.store.state c.args.store.journal.disk _
-    c.without_calls-in-Err.result
+    runs-quiet D c.args.store.state c.args.store.journal.disk _ c.without_calls-in-Err.result
     (c.without_calls-in-Err.ensures
     ∙ ap (λ (d : g.row.D.Denot). record { ended = _; chronicle = []; disk = d }) c.in-Err.ensures.back)

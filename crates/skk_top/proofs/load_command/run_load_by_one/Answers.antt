@@ -8,7 +8,7 @@ use Rattle.skk_top.proofs.load_command.run_load_by_one.Goals as goal
 pub returns-in-Ok-clause-leaves : goal.returns-in-Ok-clause-leaves
 returns-in-Ok-clause-leaves g c =
     inr (record {
-      opening = opening_now g.D.Disk.time g.D.Outside.faults c.in-Ok.store;
+      opening = opening_now g.D.Disk c.in-Ok.store;
       opened = c.in-Ok.ensures.opened c.load_by_one.result;
       played = c.load_by_one.ensures.leaves;
     })
@@ -19,5 +19,5 @@ returns-in-Ok-clause-stands g c = c.in-Ok.ensures.stands c.load_by_one.result c.
 -- a learned file that was refused
 pub returns-in-Err-clause-leaves : goal.returns-in-Err-clause-leaves
 returns-in-Err-clause-leaves g c =
-    let out = moved_sink g.O.Outside.written g.O.Outside.faults c.args.out.now c.args.out.now in
+    let out = moved_sink g.O.Outside c.args.out.now c.args.out.now in
     inl (c.in-Err.ensures.ends out (Keeps-self _))

@@ -22,15 +22,15 @@ returns-in-Ok-type_by_callers-clause-leaves g c =
     let options = c.args.options in
     let lines = load_lines options in
     let tasks = tasks_of lines in
-    let opening = opening_now D.time g.D.Outside.faults c.args.store in
+    let opening = opening_now D c.args.store in
     let types = c.in-Ok-type_by_callers.ensures.types in
     let closed = c.in-Ok-type_by_callers.left.closed in
     let typed = c.in-Ok-type_by_callers.left.typed in
     let history = history_of closed.chronicle in
     let ended = c.sum_up_typed-ended.result in
     let summed = c.sum_up_typed-ended.ensures in
-    let out = moved_sink g.O.Outside.written g.O.Outside.faults c.args.out.now c.sum_up_typed-ended.new.out in
-    let disk = disk_now D.time g.D.Outside.faults D.left_since closed.disk in
+    let out = moved_sink g.O.Outside c.args.out.now c.sum_up_typed-ended.new.out in
+    let disk = disk_now D closed.disk in
     let worked = subst (λ (r : List Rule). WorkedBy r tasks 0 typed types.numbers types.dialogs)
     c.in-Ok.ensures.rules
     (subst (λ (ts : Tasks). WorkedBy c.in-Ok.shared.rules ts 0 typed types.numbers types.dialogs)
@@ -53,15 +53,12 @@ returns-in-Ok-type_by_callers-clause-leaves g c =
 pub returns-in_default-clause-runs : goal.returns-in_default-clause-runs
 returns-in_default-clause-runs g c =
     let D = g.D.Disk in
-    runs-quiet D.tells D.seen D.time g.D.Outside.faults D.left_since c.args.store.state c.args.store.journal.disk _
-    c.without_calls.result
-    (c.without_calls.ensures
+    runs-quiet D c.args.store.state c.args.store.journal.disk _ c.without_calls.result (c.without_calls.ensures
     ∙ ap (λ (d : g.row.D.Denot). record { ended = _; chronicle = []; disk = d }) c.close.ensures)
 
 pub returns-clause-runs : goal.returns-clause-runs
 returns-clause-runs g c =
     let D = g.D.Disk in
-    runs-quiet D.tells D.seen D.time g.D.Outside.faults D.left_since c.args.store.state c.args.store.journal.disk _
-    c.without_calls-in-Err.result
+    runs-quiet D c.args.store.state c.args.store.journal.disk _ c.without_calls-in-Err.result
     (c.without_calls-in-Err.ensures
     ∙ ap (λ (d : g.row.D.Denot). record { ended = _; chronicle = []; disk = d }) c.in-Err.ensures.back)

@@ -9,5 +9,4 @@ returns-in-Ok-clause-stands g c = c.in-Ok.ensures.stands c.type_by_one.result c.
 -- and one that was not
 pub returns-in-Err-clause-leaves : goal.returns-in-Err-clause-leaves
 returns-in-Err-clause-leaves g c =
-    c.in-Err.ensures.ends (moved_sink g.O.Outside.written g.O.Outside.faults c.args.out.now c.args.out.now)
-    (Keeps-self _)
+    c.in-Err.ensures.ends (moved_sink g.O.Outside c.args.out.now c.args.out.now) (Keeps-self _)

@@ -12,18 +12,15 @@ returns-in-Ok-clause-leaves g c =
     let D = g.D.Disk in
     let closed = c.in-Ok.worked.closed in
     let worked = c.in-Ok.ensures in
-    inr (rw c.end_by.ensures
-    (types-closed (opening_now D.time g.D.Outside.faults c.args.begun.store) c.args.begun.rules c.args.begun.script
+    inr (rw c.end_by.ensures (types-closed (opening_now D c.args.begun.store) c.args.begun.rules c.args.begun.script
     c.in-Ok.worked.left closed.chronicle closed.disk closed.tally
-    (moved_sink g.O.Outside.written g.O.Outside.faults c.args.out.now c.with_caller.new.outside)
-    (disk_now D.time g.D.Outside.faults D.left_since closed.disk) worked.leaves.0 worked.closes.legal worked.one
-    worked.closes.kept worked.closes.tally_is))
+    (moved_sink g.O.Outside c.args.out.now c.with_caller.new.outside) (disk_now D closed.disk) worked.leaves
+    worked.closes.legal worked.one worked.closes.kept worked.closes.tally_is))
 
 -- and one for which there was no memory
 pub returns-clause-runs : goal.returns-clause-runs
 returns-clause-runs g c =
     let D = g.D.Disk in
-    runs-quiet D.tells D.seen D.time g.D.Outside.faults D.left_since c.args.begun.store.state
-    c.args.begun.store.journal.disk _ c.without_calls.result
+    runs-quiet D c.args.begun.store.state c.args.begun.store.journal.disk _ c.without_calls.result
     (c.without_calls.ensures
     ∙ ap (λ (d : g.row.D.Denot). record { ended = _; chronicle = []; disk = d }) c.in-Err.ensures.back)

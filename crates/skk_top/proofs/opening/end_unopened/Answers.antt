@@ -4,5 +4,4 @@ use Rattle.skk_top.proofs.opening.end_unopened.Goals as goal
 pub returns-clause-stands : goal.returns-clause-stands
 returns-clause-stands g c =
     let D = g.D.Disk in
-    stands-quiet D.tells D.seen D.time g.D.Outside.faults D.left_since c.args.disk (g.met.D.Disk.earlier c.args.disk) _
-    c.without_calls.result c.without_calls.ensures
+    stands-quiet D c.args.disk (g.met.D.Disk.earlier c.args.disk) _ c.without_calls.result c.without_calls.ensures

@@ -8,27 +8,25 @@ use Rattle.skk_top.proofs.opening.open_learned.Goals as goal
 pub returns-in-Ok-clause-opened : goal.returns-in-Ok-clause-opened
 returns-in-Ok-clause-opened g c run =
     let D = g.D.Disk in
-    opened-so D.tells D.seen D.time g.D.Outside.faults D.left_since c.args.disk run.disk c.in-Ok.store c.args.system
-    c.args.limit c.in-Ok.ensures.files c.in-Ok.ensures.limit c.in-Ok.ensures.opened c.in-Ok.ensures.past
-    c.in-Ok.ensures.counted
+    opened-so D c.args.disk run.disk c.in-Ok.store c.args.system c.args.limit c.in-Ok.ensures.files
+    c.in-Ok.ensures.limit c.in-Ok.ensures.opened c.in-Ok.ensures.advances
 
 pub returns-in-Ok-clause-stands : goal.returns-in-Ok-clause-stands
 returns-in-Ok-clause-stands g c run runs =
     let D = g.D.Disk in
     let laws = g.met.D.Disk in
     let store = c.in-Ok.store in
-    stands-opened D.tells D.seen D.time g.D.Outside.faults D.left_since laws.earlier laws.reads_image
-    laws.tells_images c.files_are_recovered_in_one_way.ensures.image c.args.disk store.journal.disk
-    run.disk store.state run.chronicle c.in-Ok.ensures.opened c.in-Ok.ensures.past c.in-Ok.ensures.images runs
+    stands-opened D laws.earlier laws.reads_image laws.tells_images c.files_are_recovered_in_one_way.ensures.image
+    c.args.disk store.journal.disk run.disk store.state run.chronicle c.in-Ok.ensures.opened c.in-Ok.ensures.advances
+    c.in-Ok.ensures.images runs
 
 -- the learned file was refused
 pub returns-in-Err-clause-refused : goal.returns-in-Err-clause-refused
 returns-in-Err-clause-refused g c =
     let D = g.D.Disk in
-    let disk = moved_disk D.tells D.seen D.time g.D.Outside.faults D.left_since c.args.disk c.in-Err.unopened.disk in
+    let disk = moved_disk D c.args.disk c.in-Err.unopened.disk in
     subst (λ (r : Run g.row.D.Denot). IsErrAnd r.ended
-    (RefusesLearned (moved_disk D.tells D.seen D.time g.D.Outside.faults D.left_since c.args.disk r.disk)))
-    (sym c.without_calls.ensures)
+    (RefusesLearned (moved_disk D c.args.disk r.disk))) (sym c.without_calls.ensures)
     (subst (RefusesLearned disk) (sym c.from.ensures)
     (refuses-learned c.files_are_recovered_in_one_way.ensures.image disk c.in-Err.unopened.why c.in-Err.ensures.refused
     c.in-Err.ensures.failed c.in-Err.ensures.kept c.in-Err.ensures.seen))
@@ -36,6 +34,5 @@ returns-in-Err-clause-refused g c =
 pub returns-in-Err-clause-ended_stands : goal.returns-in-Err-clause-ended_stands
 returns-in-Err-clause-ended_stands g c =
     let D = g.D.Disk in
-    stands-refused D.tells D.seen D.time g.D.Outside.faults D.left_since c.args.disk c.in-Err.unopened.disk
-    (g.met.D.Disk.earlier c.in-Err.unopened.disk) _ c.without_calls.result c.without_calls.ensures
-    c.in-Err.ensures.images
+    stands-refused D c.args.disk c.in-Err.unopened.disk (g.met.D.Disk.earlier c.in-Err.unopened.disk) _
+    c.without_calls.result c.without_calls.ensures c.in-Err.ensures.images

@@ -1,7 +1,5 @@
 use Rattle.std.proofs.Common.{subst, sym, refl, inl, inr}
 use Rattle.skk_outside.specs.Moved.{moved_shelf, moved_sink}
-use Rattle.skk_server.specs.Services.{seen_listener}
-use Rattle.skk_server.specs.Visits.{seen_link}
 use Rattle.skk_top.specs.Disks.{moved_disk}
 use Rattle.skk_top.specs.ServeCommand.{LeavesServed, moved_listener}
 use Rattle.run_endings.specs.declared.finish.Run.{Run}
@@ -14,13 +12,11 @@ returns-in-Ok-clause-leaves g c =
     let D = g.D.Disk in
     let table = c.in-Ok.table in
     let run = c.serve_learned.result in
-    let out = moved_sink g.O.Outside.written g.O.Outside.faults c.args.out.now c.serve_learned.new.out in
+    let out = moved_sink g.O.Outside c.args.out.now c.serve_learned.new.out in
     let net =
-    moved_listener (seen_listener g.P.Listener.coming g.P.Listener.over g.P.Listener.out g.P.Listener.opened
-    g.P.Outside.faults)
-    (seen_link g.P.Link.Outside.left g.P.Link.Outside.written g.P.Link.Outside.faults g.P.Link.Link.closed)
-    c.args.net.now c.serve_learned.new.net in
-    let disk = moved_disk D.tells D.seen D.time g.D.Outside.faults D.left_since c.args.disk run.disk in
+    moved_listener g.P.Listener g.P.Link.Outside c.args.net.now c.serve_learned.new.net
+    in
+    let disk = moved_disk D c.args.disk run.disk in
     inr (record {
       rules = table.rules;
       books = table.system;
@@ -33,14 +29,11 @@ returns-in-Ok-clause-leaves g c =
 pub returns-in-Err-clause-leaves : goal.returns-in-Err-clause-leaves
 returns-in-Err-clause-leaves g c =
     let D = g.D.Disk in
-    let shelf = moved_shelf g.H.Shelf.file g.H.Outside.faults c.args.shelf.now c.read_table.new.shelf in
-    let out = moved_sink g.O.Outside.written g.O.Outside.faults c.args.out.now c.args.out.now in
+    let shelf = moved_shelf g.H.Shelf c.args.shelf.now c.read_table.new.shelf in
+    let out = moved_sink g.O.Outside c.args.out.now c.args.out.now in
     let net =
-    moved_listener (seen_listener g.P.Listener.coming g.P.Listener.over g.P.Listener.out g.P.Listener.opened
-    g.P.Outside.faults)
-    (seen_link g.P.Link.Outside.left g.P.Link.Outside.written g.P.Link.Outside.faults g.P.Link.Link.closed)
-    c.args.net.now c.args.net.now in
+    moved_listener g.P.Listener g.P.Link.Outside c.args.net.now c.args.net.now
+    in
     subst (λ (r : Run g.row.D.Denot). LeavesServed c.args.options.now r shelf out net
-    (moved_disk D.tells D.seen D.time g.D.Outside.faults D.left_since c.args.disk r.disk))
-    (sym c.end_unopened.ensures.run)
+    (moved_disk D c.args.disk r.disk)) (sym c.end_unopened.ensures.run)
     (inl ((record { cause = c.in-Err.ensures.refused; uncalled = refl; unwritten = Keeps-self _ }, refl), refl))

@@ -7,11 +7,11 @@ use Rattle.skk_top.proofs.serve_command.serve_learned.Goals as goal
 pub returns-in-Ok-clause-leaves : goal.returns-in-Ok-clause-leaves
 returns-in-Ok-clause-leaves g c =
     let D = g.D.Disk in
-    let opening = opening_now D.time g.D.Outside.faults c.in-Ok.store in
+    let opening = opening_now D c.in-Ok.store in
     let run = c.serve_store.result in
     inr (record {
       opening = opening;
-      opened = subst (λ (n : ℕ). IsOpening (moved_disk D.tells D.seen D.time g.D.Outside.faults D.left_since c.args.disk
+      opened = subst (λ (n : ℕ). IsOpening (moved_disk D c.args.disk
           run.disk) c.args.table.system n opening) c.limit.ensures (c.in-Ok.ensures.opened run);
       served = c.serve_store.ensures.leaves;
     })

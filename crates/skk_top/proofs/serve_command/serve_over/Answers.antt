@@ -1,8 +1,6 @@
 use Rattle.std.proofs.Common.{◌≡◌, ◌∙◌, All, List, [], ap, inr, sym, subst}
 use Rattle.skk_calls.specs.Chronicles.{history_of}
 use Rattle.skk_outside.specs.Moved.{moved_sink}
-use Rattle.skk_server.specs.Services.{seen_listener}
-use Rattle.skk_server.specs.Visits.{seen_link}
 use Rattle.desk_history.specs.Seats.{CallerState}
 use Rattle.learned_store.specs.Stores.{OpenStore}
 use Rattle.shared_desk.specs.Told.{Stood}
@@ -25,41 +23,36 @@ returns-in-Ok-clause-leaves g c =
     let history = history_of chronicle in
     let closed = c.close-closed.ensures in
     let outcome = c.serve_port-outcome.result in
-    let out = moved_sink g.O.Outside.written g.O.Outside.faults c.args.out.now c.serve_port-outcome.new.out in
+    let out = moved_sink g.O.Outside c.args.out.now c.serve_port-outcome.new.out in
     let net =
-    moved_listener (seen_listener g.P.Listener.coming g.P.Listener.over g.P.Listener.out g.P.Listener.opened
-    g.P.Outside.faults)
-    (seen_link g.P.Link.Outside.left g.P.Link.Outside.written g.P.Link.Outside.faults g.P.Link.Link.closed)
-    c.args.net.now c.serve_port-outcome.new.net in
+    moved_listener g.P.Listener g.P.Link.Outside c.args.net.now c.serve_port-outcome.new.net
+    in
     let serves = subst (λ n. ServesByOffice service table desk_slips n c.serve_port-outcome.new.roll outcome out net)
     c.in-Ok.ensures.roll c.serve_port-outcome.ensures.serves in
     let stood = subst (λ (slips : List CallerState). All (Stood history) slips) c.of.ensures closed.slips in
-    let closes = closes-at D.time g.D.Outside.faults D.left_since opening g.N.LearnedName.past c.args.store chronicle
+    let closes = closes-at D opening g.N.LearnedName.past c.args.store chronicle
     c.close-closed.result.tally c.close-closed.result.disk c.requires.named c.requires.past closed.stands closed.now
     closed.since closed.tally in
     inr (subst (λ (e : Ended). ServesConnections service opening table
     (record { ended = e; chronicle = chronicle; disk = c.close-closed.result.disk }) out net
-    (disk_now D.time g.D.Outside.faults D.left_since c.close-closed.result.disk)) (sym c.end_wanting.ensures)
+    (disk_now D c.close-closed.result.disk)) (sym c.end_wanting.ensures)
     (serves-closed service opening table chronicle c.close-closed.result.disk c.close-closed.result.tally
     c.wants_memory-wanted.result c.serve_port-outcome.new.roll outcome out net
-    (disk_now D.time g.D.Outside.faults D.left_since c.close-closed.result.disk) serves stood closed.strangers
-    closes.legal closes.kept closed.tally c.wants_memory-wanted.ensures))
+    (disk_now D c.close-closed.result.disk) serves stood closed.strangers closes.legal closes.kept
+    closed.tally c.wants_memory-wanted.ensures))
 
 pub returns-in-Ok-clause-runs : goal.returns-in-Ok-clause-runs
 returns-in-Ok-clause-runs g c =
     let D = g.D.Disk in
     let left = c.close-closed.result in
     let closed = c.close-closed.ensures in
-    (closes-at D.time g.D.Outside.faults D.left_since g.N.OpeningName.opening g.N.LearnedName.past c.args.store
-    left.chronicle left.tally left.disk c.requires.named c.requires.past closed.stands closed.now closed.since
-    closed.tally).runs
+    (closes-at D g.N.OpeningName.opening g.N.LearnedName.past c.args.store left.chronicle left.tally left.disk
+    c.requires.named c.requires.past closed.stands closed.now closed.since closed.tally).runs
 
 pub returns-in-Err-clause-runs : goal.returns-in-Err-clause-runs
 returns-in-Err-clause-runs g c =
     let D = g.D.Disk in
     let disk : c.close.result ≡ c.args.store.journal.disk =
     c.close.ensures ∙ ap (λ (s : OpenStore g.row.D.Denot). s.journal.disk) c.in-Err.ensures.back in
-    runs-quiet D.tells D.seen D.time g.D.Outside.faults D.left_since g.N.OpeningName.opening.state
-    c.args.store.journal.disk _
-    c.without_calls.result
+    runs-quiet D g.N.OpeningName.opening.state c.args.store.journal.disk _ c.without_calls.result
     (c.without_calls.ensures ∙ ap (λ (d : g.row.D.Denot). record { ended = _; chronicle = []; disk = d }) disk)

@@ -5,7 +5,5 @@ use Rattle.skk_top.proofs.serve_command.serve_store.Goals as goal
 pub returns-in-Err-clause-runs : goal.returns-in-Err-clause-runs
 returns-in-Err-clause-runs g c =
     let D = g.D.Disk in
-    runs-quiet D.tells D.seen D.time g.D.Outside.faults D.left_since c.args.store.state c.args.store.journal.disk _
-    c.without_calls.result
-    (c.without_calls.ensures
+    runs-quiet D c.args.store.state c.args.store.journal.disk _ c.without_calls.result (c.without_calls.ensures
     ∙ ap (λ (d : g.row.D.Denot). record { ended = _; chronicle = []; disk = d }) c.close.ensures)

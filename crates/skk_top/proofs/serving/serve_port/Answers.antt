@@ -1,7 +1,5 @@
 use Rattle.std.proofs.Common.{refl}
 use Rattle.skk_outside.specs.Moved.{moved_sink}
-use Rattle.skk_server.specs.Services.{seen_listener}
-use Rattle.skk_server.specs.Visits.{seen_link, seen_caller}
 use Rattle.skk_top.proofs.Runs.{Keeps-self}
 use Rattle.skk_top.proofs.Visits.{office-unopened, office-untold, office-served}
 use Rattle.skk_top.proofs.serving.serve_port.Goals as goal
@@ -12,12 +10,9 @@ returns-in-Err-clause-serves g c =
     let none = c.of_none.ensures in
     let opens = c.open.ensures in
     office-unopened c.args.serving.now.rules.now
-    (seen_listener g.P.Listener.coming g.P.Listener.over g.P.Listener.out g.P.Listener.opened g.P.Outside.faults)
-    (seen_link g.P.Link.Outside.left g.P.Link.Outside.written g.P.Link.Outside.faults g.P.Link.Link.closed)
-    (seen_caller g.W.Slip.Kept.number g.W.Slip.Kept.said) c.args.serving.now.service
-    (g.W.Office.drawn c.args.roll.now) c.args.net.now c.open.new.self c.of_none.result
-    (moved_sink g.O.Outside.written g.O.Outside.faults c.args.out.now c.args.out.now) none.ended none.slips none.ends
-    opens.coming opens.over opens.out c.in-Err.ensures.stays c.in-Err.ensures.failed (Keeps-self _)
+    g.P.Listener g.P.Link.Outside g.W.Slip.Kept c.args.serving.now.service (g.W.Office.drawn c.args.roll.now)
+    c.args.net.now c.open.new.self c.of_none.result (moved_sink g.O.Outside c.args.out.now c.args.out.now) none.ended
+    none.slips none.ends opens.coming opens.over opens.out c.in-Err.ensures.stays c.in-Err.ensures.failed (Keeps-self _)
 
 -- that it is open could not be told
 pub returns-in-Err-print_ready-clause-serves : goal.returns-in-Err-print_ready-clause-serves
@@ -25,13 +20,10 @@ returns-in-Err-print_ready-clause-serves g c =
     let none = c.of_none-in-Err-print_ready.ensures in
     let opens = c.open.ensures in
     office-untold c.args.serving.now.rules.now
-    (seen_listener g.P.Listener.coming g.P.Listener.over g.P.Listener.out g.P.Listener.opened g.P.Outside.faults)
-    (seen_link g.P.Link.Outside.left g.P.Link.Outside.written g.P.Link.Outside.faults g.P.Link.Link.closed)
-    (seen_caller g.W.Slip.Kept.number g.W.Slip.Kept.said) c.args.serving.now.service
-    (g.W.Office.drawn c.args.roll.now) c.args.net.now c.open.new.self c.of_none-in-Err-print_ready.result
-    c.in-Err-print_ready.fault
-    (moved_sink g.O.Outside.written g.O.Outside.faults c.args.out.now c.print_ready.new.out) none.ended none.slips
-    none.ends opens.coming opens.over opens.out c.in_default.ensures.opened c.in-Err-print_ready.ensures.prefix
+    g.P.Listener g.P.Link.Outside g.W.Slip.Kept c.args.serving.now.service (g.W.Office.drawn c.args.roll.now)
+    c.args.net.now c.open.new.self c.of_none-in-Err-print_ready.result c.in-Err-print_ready.fault
+    (moved_sink g.O.Outside c.args.out.now c.print_ready.new.out) none.ended none.slips none.ends opens.coming
+    opens.over opens.out c.in_default.ensures.opened c.in-Err-print_ready.ensures.prefix
     c.in-Err-print_ready.ensures.stopped
 
 -- its connections were served
@@ -41,12 +33,9 @@ returns-clause-serves g c =
     let written = g.O.Outside.written in
     let faults = g.O.Outside.faults in
     office-served c.args.serving.now.rules.now
-    (seen_listener g.P.Listener.coming g.P.Listener.over g.P.Listener.out g.P.Listener.opened g.P.Outside.faults)
-    (seen_link g.P.Link.Outside.left g.P.Link.Outside.written g.P.Link.Outside.faults g.P.Link.Link.closed)
-    (seen_caller g.W.Slip.Kept.number g.W.Slip.Kept.said) c.args.serving.now.service
-    (g.W.Office.drawn c.args.roll.now) (g.W.Office.drawn c.serve_all-count.new.roll) c.args.net.now c.open.new.self
-    c.serve_all-count.new.net c.serve_all-count.result
-    (record {
+    g.P.Listener g.P.Link.Outside g.W.Slip.Kept c.args.serving.now.service (g.W.Office.drawn c.args.roll.now)
+    (g.W.Office.drawn c.serve_all-count.new.roll) c.args.net.now c.open.new.self c.serve_all-count.new.net
+    c.serve_all-count.result (record {
       ended = c.end_serving.result;
       slips = c.serve_all-count.result.passes;
       ends = c.serve_all-count.result.ends;

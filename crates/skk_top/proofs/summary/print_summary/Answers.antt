@@ -10,7 +10,7 @@ use Rattle.skk_top.proofs.summary.print_summary.Goals as goal
 pub returns-in_err-push_summary : goal.returns-in_err-push_summary
 returns-in_err-push_summary g c =
     let text = encode_utf8_all (summed c.args.options.now c.args.tally.now c.args.sessions.now.entries) in
-    let out = moved_sink g.O.Outside.written g.O.Outside.faults c.args.out.now c.args.out.now in
+    let out = moved_sink g.O.Outside c.args.out.now c.args.out.now in
     printed-fault text c.from_residual.result Memory out c.from_residual.ensures.1
     ([], (text, refl), Appends-none (g.O.Outside.written c.args.out.now)) tt (omega arith)
 
@@ -24,4 +24,4 @@ returns g c =
     c.text_bytes.result) c.new-page.ensures
     ∙ ap (summary (options.sessions * options.lines) tally.learned tally.restored tally.rows) c.text_bytes.ensures in
     subst (λ (text : List ℕ). LeavesPrinted (encode_utf8_all text) c.print_text.result
-    (moved_sink g.O.Outside.written g.O.Outside.faults c.args.out.now c.print_text.new.out)) page c.print_text.ensures
+    (moved_sink g.O.Outside c.args.out.now c.print_text.new.out)) page c.print_text.ensures

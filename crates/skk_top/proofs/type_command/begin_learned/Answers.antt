@@ -12,9 +12,9 @@ returns-in-Ok-clause-leaves g c =
     let script = c.begin_script.ensures in
     if_ok3 c.begin_script.result script.leaves script.rules script.store (λ begun leaves rules same run out typed.
     inr (record {
-      opening = opening_now D.time g.D.Outside.faults store;
+      opening = opening_now D store;
       opened = c.in-Ok.ensures.opened run;
-      typed = leaves run out (begun-typed g.M.Manner.leaves D.time g.D.Outside.faults begun.store store begun.rules
+      typed = leaves run out (begun-typed g.M.Manner.leaves D begun.store store begun.rules
           c.args.table.rules begun.script run out _ rules same typed);
     }))
 
@@ -33,7 +33,7 @@ returns-in-Ok-clause-ends g c =
     let store = c.in-Ok.store in
     if_err c.begin_script.result c.begin_script.ensures.ends (λ run ends out keeps.
     inr (record {
-      opening = opening_now g.D.Disk.time g.D.Outside.faults store;
+      opening = opening_now g.D.Disk store;
       opened = c.in-Ok.ensures.opened run;
       typed = ends out keeps;
     }))

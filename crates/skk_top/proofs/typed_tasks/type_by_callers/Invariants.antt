@@ -6,7 +6,7 @@ abbrev pub ghosts-type_over-N-DeskName : goal.ghosts-type_over-N-DeskName
 ghosts-type_over-N-DeskName g a = record { table = a.made.0 }
 
 abbrev pub ghosts-type_over-N-OpeningName : goal.ghosts-type_over-N-OpeningName
-ghosts-type_over-N-OpeningName g a = record { opening = opening_now g.D.Disk.time g.D.Outside.faults a.store }
+ghosts-type_over-N-OpeningName g a = record { opening = opening_now g.D.Disk a.store }
 
 abbrev pub ghosts-type_over-N-LearnedName : goal.ghosts-type_over-N-LearnedName
 ghosts-type_over-N-LearnedName g a = record { past = g.D.Disk.left_since a.store.journal.disk }

@@ -23,7 +23,7 @@ returns-in-Ok-clause-types g c =
     let worked = subst (λ n. WorkedBy c.args.rules.now c.args.tasks.entries n typed numbers dialogs)
     c.in-Ok.ensures.roll
     tasked.worked in
-    let closes = closes-at D.time g.D.Outside.faults D.left_since g.N.OpeningName.opening g.N.LearnedName.past
+    let closes = closes-at D g.N.OpeningName.opening g.N.LearnedName.past
     c.args.store chronicle c.close-closed.result.tally c.close-closed.result.disk c.requires.named c.requires.past
     closed.stands closed.now closed.since closed.tally in
     record {
@@ -44,9 +44,8 @@ returns-in-Ok-clause-runs g c =
     let D = g.D.Disk in
     let left = c.close-closed.result in
     let closed = c.close-closed.ensures in
-    (closes-at D.time g.D.Outside.faults D.left_since g.N.OpeningName.opening g.N.LearnedName.past c.args.store
-    left.chronicle left.tally left.disk c.requires.named c.requires.past closed.stands closed.now closed.since
-    closed.tally).runs
+    (closes-at D g.N.OpeningName.opening g.N.LearnedName.past c.args.store left.chronicle left.tally left.disk
+    c.requires.named c.requires.past closed.stands closed.now closed.since closed.tally).runs
 
 pub returns-in-Err-clause-back : goal.returns-in-Err-clause-back
 returns-in-Err-clause-back g c =

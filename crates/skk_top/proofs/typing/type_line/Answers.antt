@@ -1,15 +1,44 @@
-use Rattle.std.proofs.Common.{◌∙◌, ap, refl}
-use Rattle.script_typing.specs.Sessions.{with_session}
-use Rattle.skk_top.proofs.KeyLines.{types-nothing, types-opening}
+use Rattle.std.proofs.Common.{◌∙◌, ◌++◌, ap, subst, sym, encode_utf8_all}
+use Rattle.skk_outside.specs.Written.{AppendsPrefix}
+use Rattle.skk_calls.specs.RunLaws.{runs-begun}
+use Rattle.run_endings.specs.declared.fault.RunFault.TheVariants.{Outside}
+use Rattle.script_typing.specs.LineLaws.{runs-lost, runs-put, typed-begun, typed-first}
+use Rattle.skk_top.proofs.Typed.{line-pushed, page-full, page-kept, page-stopped}
 use Rattle.skk_top.proofs.typing.type_line.Goals as goal
 
-pub returns-in_err-put_session-in-Opening : goal.returns-in_err-put_session-in-Opening
-returns-in_err-put_session-in-Opening g c =
-    types-nothing c.args.rules.now c.args.line.now c.from_residual.result _ _ _ c.from_residual.ensures.1 refl
+pub returns-in_err-play_line : goal.returns-in_err-play_line
+returns-in_err-play_line g c =
+    runs-lost _ c.from_residual.result _ c.from_residual.ensures.1
+    (runs-put (λ text begun. page-kept (c.args.page.now ++ text) _ c.from_residual.result c.from_residual.ensures.1)
+    (typed-begun c.args.rules.now c.args.line.now _ c.in_err-play_line.ensures))
 
-pub returns-in_ok-put_session-in-Opening : goal.returns-in_ok-put_session-in-Opening
-returns-in_ok-put_session-in-Opening g c =
-    rw c.in-Opening.is
-    (types-opening c.args.rules.now c.in-Opening.session c.in-Opening.typist c.in-Opening.book _ _ _ _
-    (c.in_ok-put_session-in-Opening.ensures.put
-    ∙ ap (with_session c.args.sessions.now.entries c.in-Opening.session) c.new.ensures))
+pub returns-in_err-push_printed : goal.returns-in_err-push_printed
+returns-in_err-push_printed g c =
+    runs-lost _ c.from_residual-in_err-push_printed.result _ c.from_residual-in_err-push_printed.ensures.1
+    (runs-put (λ text begun. page-kept (c.args.page.now ++ text) _ c.from_residual-in_err-push_printed.result
+    c.from_residual-in_err-push_printed.ensures.1)
+    (typed-begun c.args.rules.now c.args.line.now _ c.in_ok-play_line.ensures))
+
+pub returns-in_err-print_full : goal.returns-in_err-print_full
+returns-in_err-print_full g c =
+    let plays = c.in_ok-play_line.ensures in
+    let full = c.in_err-print_full.ensures in
+    let pushed = line-pushed c.args.line.now c.args.sessions.now.entries c.play_line.new.sessions.entries plays.session
+    c.args.page.now c.push_printed.new.page plays.put c.in_ok-push_printed.ensures in
+    runs-lost _ c.from_residual-in_err-print_full.result _ c.from_residual-in_err-print_full.ensures.1
+    (runs-put (λ text is. page-stopped (c.args.page.now ++ text) _ c.from_residual-in_err-print_full.result Outside
+    c.from_residual-in_err-print_full.ensures.1
+    (subst (λ t. AppendsPrefix (g.O.Outside.written c.args.out.now) (g.O.Outside.written c.print_full.new.out)
+    (encode_utf8_all t)) (pushed ∙ ap (λ t. c.args.page.now ++ t) (sym is)) full.err)
+    full.failed full.counted)
+    (runs-begun (typed-first c.args.rules.now c.args.line.now plays)))
+
+pub returns : goal.returns
+returns g c =
+    let plays = c.in_ok-play_line.ensures in
+    let full = c.in_ok-print_full.ensures in
+    let pushed = line-pushed c.args.line.now c.args.sessions.now.entries c.play_line.new.sessions.entries plays.session
+    c.args.page.now c.push_printed.new.page plays.put c.in_ok-push_printed.ensures in
+    runs-put (λ text is. page-full (c.args.page.now ++ text) c.push_printed.new.page c.print_full.new.page
+    (pushed ∙ ap (λ t. c.args.page.now ++ t) (sym is)) full.ok full.counted)
+    (typed-first c.args.rules.now c.args.line.now plays)

@@ -1,7 +1,5 @@
 use Rattle.std.proofs.Common.{inl, inr}
 use Rattle.skk_outside.specs.Moved.{moved_shelf, moved_source, moved_sink}
-use Rattle.skk_server.specs.Services.{seen_listener}
-use Rattle.skk_server.specs.Visits.{seen_link}
 use Rattle.skk_top.specs.Disks.{moved_disk}
 use Rattle.skk_top.specs.ServeCommand.{moved_listener}
 use Rattle.skk_top.proofs.Causes.{caused-waiting, caused-outside}
@@ -16,15 +14,11 @@ returns-clause-caused g c =
     let D = g.D.Disk in
     let new = c.run_command-run.new in
     rw c.end_run.ensures.finish
-    (caused-waiting c.run_command-run.result
-    (moved_shelf g.H.Shelf.file g.H.Outside.faults c.args.shelf.now new.shelf)
-    (moved_source g.I.Outside.left g.I.Outside.faults c.args.input.now new.input)
-    (moved_sink g.O.Outside.written g.O.Outside.faults c.args.out.now new.out)
-    (moved_disk D.tells D.seen D.time g.D.Outside.faults D.left_since c.args.disk c.run_command-run.result.disk) _ inl
-    (moved_listener (seen_listener g.N.Listener.coming g.N.Listener.over g.N.Listener.out g.N.Listener.opened
-    g.N.Outside.faults)
-    (seen_link g.N.Link.Outside.left g.N.Link.Outside.written g.N.Link.Outside.faults g.N.Link.Link.closed)
-    c.args.net.now new.net) inr c.args.command.now c.run_command-run.ensures.leaves)
+    (caused-waiting c.run_command-run.result (moved_shelf g.H.Shelf c.args.shelf.now new.shelf)
+    (moved_source g.I.Outside c.args.input.now new.input) (moved_sink g.O.Outside c.args.out.now new.out)
+    (moved_disk D c.args.disk c.run_command-run.result.disk) _ inl (moved_listener g.N.Listener g.N.Link.Outside
+    c.args.net.now
+    new.net) inr c.args.command.now c.run_command-run.ensures.leaves)
 
 pub returns-clause-outside : goal.returns-clause-outside
 returns-clause-outside g c is = caused-outside _ c.end_run.result.ended is (returns-clause-caused g c)
@@ -32,5 +26,5 @@ returns-clause-outside g c is = caused-outside _ c.end_run.result.ended is (retu
 pub returns-clause-stands : goal.returns-clause-stands
 returns-clause-stands g c =
     let D = g.D.Disk in
-    stands-finish D.tells D.seen D.time g.D.Outside.faults D.left_since c.args.disk c.run_command-run.result
-    c.end_run.result c.end_run.ensures.finish c.run_command-run.ensures.stands
+    stands-finish D c.args.disk c.run_command-run.result c.end_run.result c.end_run.ensures.finish
+    c.run_command-run.ensures.stands

@@ -9,8 +9,8 @@ returns-clause-since g c start opened =
     let opening = g.N.OpeningName.opening in
     subst (λ (n : NotedStore g.row.D.Denot). StandsOver opening.state n.notes start
     (g.D.Disk.time n.store.journal.disk) (g.D.Disk.left_since n.store.journal.disk)) c.self.view_is
-    (stands_since g.D.Disk.time g.D.Outside.faults g.D.Disk.left_since opening g.N.LearnedName.past c.self.inside.trace
-    c.self.inside.store c.self.invariant.0 start opened)
+    (stands_since g.D.Disk opening g.N.LearnedName.past c.self.inside.trace c.self.inside.store c.self.invariant.0
+    start opened)
 
 pub returns-clause-now : goal.returns-clause-now
 returns-clause-now g c =
@@ -20,6 +20,6 @@ returns-clause-now g c =
     (g.D.Disk.left_since n.store.journal.disk (g.D.Disk.time n.store.journal.disk))) c.self.view_is (
       keeps.0,
       keeps.1,
-      opened_now g.D.Disk.time g.D.Disk.left_since c.self.inside.store.journal
+      opened_now g.D.Disk c.self.inside.store.journal
           c.self.inside.store.state keeps.0 keeps.2,
     )

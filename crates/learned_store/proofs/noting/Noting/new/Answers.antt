@@ -13,10 +13,9 @@ invariant_of-result g c =
     let notes : c.in-Ok.trace ≡ opening_note opening ∷ [] =
     c.in-Ok.ensures ∙ ap (λ (o : Opening). opening_note o ∷ []) (sym c.requires.named) in (
       subst (λ (n : List Noted).
-          Stands g.D.Disk.time g.D.Outside.faults g.D.Disk.left_since opening g.N.LearnedName.past n c.args.store)
-          (sym notes)
-          (stands_begun g.D.Disk.time g.D.Outside.faults g.D.Disk.left_since opening g.N.LearnedName.past c.args.store
-          c.requires.named c.requires.past c.requires.calm),
+          Stands g.D.Disk opening g.N.LearnedName.past n c.args.store) (sym notes)
+          (stands_begun g.D.Disk opening g.N.LearnedName.past c.args.store c.requires.named
+          c.requires.past c.requires.calm),
       c.none.ensures ∙ sym (c.counting_comes_to_the_tally.ensures.none opening.state)
           ∙ ap (λ (n : List Noted). record (tally_of opening.state (history_of n)) { rows = 0 }) (sym notes),
     )

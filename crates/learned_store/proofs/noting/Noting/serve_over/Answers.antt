@@ -14,14 +14,14 @@ invariant_of-self g c =
     let call = c.args.call.now in
     let given = c.serve_over-answer.result in
     let stands =
-    stands_more g.D.Disk.time g.D.Outside.faults g.D.Disk.left_since opening g.N.LearnedName.past c.self.inside.trace
-    old new number call given c.self.invariant.0 (g.met.D.Disk.earlier new.journal.disk) does in
+    stands_more g.D.Disk opening g.N.LearnedName.past c.self.inside.trace old new number call given c.self.invariant.0
+    (g.met.D.Disk.earlier new.journal.disk) does in
     let counts =
     counts_more opening c.self.inside.trace number (g.D.Disk.time new.journal.disk)
-    (g.D.Outside.faults new.journal.disk) call given c.self.inside.tally c.count.new.self
+    (g.D.Disk.faults new.journal.disk) call given c.self.inside.tally c.count.new.self
     c.counting_comes_to_the_tally.ensures.more c.self.invariant.1 c.count.ensures in
     subst (λ (n : List Noted).
-    Stands g.D.Disk.time g.D.Outside.faults g.D.Disk.left_since opening g.N.LearnedName.past n new
+    Stands g.D.Disk opening g.N.LearnedName.past n new
     × Counts opening n c.count.new.self)
     (sym c.note.ensures) (stands, counts)
 
@@ -33,14 +33,13 @@ returns g c =
     let given = c.serve_over-answer.result in
     let now : NotedStore g.row.D.Denot =
     record { store = c.serve_over-answer.new.self; notes = c.note.new.self } in
-    let notes : NotesCall g.D.Disk.time g.D.Outside.faults g.D.Disk.left_since
+    let notes : NotesCall g.D.Disk
     (record { store = c.self.inside.store; notes = c.self.inside.trace }) now number call given = record {
       notes = c.note.ensures;
       may = does.may;
       fits = does.fits;
       room = does.room;
-      past = does.past;
-      counted = does.counted;
+      advances = does.advances;
     } in
-    subst (λ (s : NotedStore g.row.D.Denot). NotesCall g.D.Disk.time g.D.Outside.faults g.D.Disk.left_since s now
-    number call given) c.self.view_is notes
+    subst (λ (s : NotedStore g.row.D.Denot). NotesCall g.D.Disk s now number call
+    given) c.self.view_is notes

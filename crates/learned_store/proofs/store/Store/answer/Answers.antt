@@ -11,9 +11,8 @@ returns-in-Ok g c =
     let D = g.D in
     let store = c.args.self.now in
     let call = c.args.call.now in
-    subst (λ (s : OpenStore _). Serves D.Disk.time D.Outside.faults D.Disk.left_since store s call (Done c.in-Ok.reply))
-    (sym c.reply.ensures.same)
-    (quiet D.Disk.time D.Outside.faults D.Disk.left_since store call (Done c.in-Ok.reply) c.in-Ok.ensures.value
+    subst (λ (s : OpenStore _). Serves D.Disk store s call (Done c.in-Ok.reply)) (sym c.reply.ensures.same)
+    (quiet D.Disk store call (Done c.in-Ok.reply) c.in-Ok.ensures.value
     c.in-Ok.ensures.may (question_still store.state call c.requires.question))
 
 pub returns-in-Err : goal.returns-in-Err
@@ -21,6 +20,5 @@ returns-in-Err g c =
     let D = g.D in
     let store = c.args.self.now in
     let call = c.args.call.now in
-    subst (λ (s : OpenStore _). Serves D.Disk.time D.Outside.faults D.Disk.left_since store s call (Refused Memory))
-    (sym c.reply.ensures.same)
-    (quiet D.Disk.time D.Outside.faults D.Disk.left_since store call (Refused Memory) tt refl tt)
+    subst (λ (s : OpenStore _). Serves D.Disk store s call (Refused Memory)) (sym c.reply.ensures.same)
+    (quiet D.Disk store call (Refused Memory) tt refl tt)

@@ -26,5 +26,5 @@ returns g c =
       files = c.self.inside.system;
       limit = c.self.inside.limit;
     } in
-    subst (λ (s : OpenStore _). Serves D.Disk.time D.Outside.faults D.Disk.left_since s now c.args.call.now
+    subst (λ (s : OpenStore _). Serves D.Disk s now c.args.call.now
     c.change.result) c.self.view_is (c.change.ensures.serves c.self.inside.system)

@@ -19,7 +19,7 @@ returns-clause-stands g c =
     let store = c.noting.inside.noting.store in (
       store,
       c.close.ensures.disk,
-      subst (λ (n : List Noted). Stands g.D.Disk.time g.D.Outside.faults g.D.Disk.left_since
+      subst (λ (n : List Noted). Stands g.D.Disk
           g.N.OpeningName.opening g.N.LearnedName.past n store) (sym c.close.ensures.chronicle)
           c.close.ensures.stands,
     )

@@ -16,7 +16,7 @@ invariant_of-self g c =
     let call = c.args.call.now in
     let given = c.serve_over-answer.result in
     let time = g.D.Disk.time disk in
-    let faults = g.D.Outside.faults disk in
+    let faults = g.D.Disk.faults disk in
     let note : Noted = Entered c.args.seat.now.number call given time faults in
     let entry : Entry = record { number = c.args.seat.now.number; call = call; answer = given } in
     let noted : c.serve_over-answer.new.self.notes ≡ notes ++ note ∷ [] =

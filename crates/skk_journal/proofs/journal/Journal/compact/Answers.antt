@@ -47,7 +47,7 @@ returns-in_err-write_first-clause-err g c = rw (← c.self.view_is) (on_err c.fr
       version = start.version;
       end = start.end;
       images = turning_keeps _ inside.live before others _ idle _ _
-          (at_end _ _ _ _ _ c.write_first.ensures.past (g.met.D.Disk.earlier c.write_first.new.disk) _
+          (at_end _ _ _ _ _ c.write_first.ensures.advances.past (g.met.D.Disk.earlier c.write_first.new.disk) _
           c.write_first.ensures.images)
           (ready_filled _ inside.live before others _ right c.make_ready.ensures.small sized ready);
     })))
@@ -55,7 +55,8 @@ returns-in_err-write_first-clause-err g c = rw (← c.self.view_is) (on_err c.fr
 pub returns-in_err-write_first-clause-images : goal.returns-in_err-write_first-clause-images
 returns-in_err-write_first-clause-images g c = rw (← c.self.view_is) (λ before compacted sized is start.
     let inside = c.self.inside in
-    turning_over _ _ _ _ _ _ _ c.in_ok-make_ready.ensures.past c.write_first.ensures.past inside.live _ before
+    turning_over _ _ _ _ _ _ _ c.in_ok-make_ready.ensures.advances.past c.write_first.ensures.advances.past inside.live
+    _ before
     start.images (filled inside.newest compacted) _ c.other_file-file.ensures
     (newest_right inside.newest inside.live.version c.self.invariant.2) c.make_ready.ensures.small sized
     c.args.records.now is c.in_ok-make_ready.ensures.images c.in_ok-make_ready.ensures.ok
@@ -64,7 +65,8 @@ returns-in_err-write_first-clause-images g c = rw (← c.self.view_is) (λ befor
 pub returns-clause-images : goal.returns-clause-images
 returns-clause-images g c = rw (← c.self.view_is) (λ before compacted sized is start.
     let inside = c.self.inside in
-    turning_over _ _ _ _ _ _ _ c.in_ok-make_ready.ensures.past c.write_first.ensures.past inside.live _ before
+    turning_over _ _ _ _ _ _ _ c.in_ok-make_ready.ensures.advances.past c.write_first.ensures.advances.past inside.live
+    _ before
     start.images (filled inside.newest compacted) _ c.other_file-file.ensures
     (newest_right inside.newest inside.live.version c.self.invariant.2) c.make_ready.ensures.small sized
     c.args.records.now is c.in_ok-make_ready.ensures.images c.in_ok-make_ready.ensures.ok

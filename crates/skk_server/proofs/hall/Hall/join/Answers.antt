@@ -1,6 +1,5 @@
 use Rattle.std.proofs.Common.{◌<◌, ap, length, arith, refl}
 use Rattle.std.proofs.lemmas.List.Sums.{get_or-le-sum_by, sum_by-set}
-use Rattle.skk_server.specs.Visits.{seen_link, seen_caller}
 use Rattle.skk_server.specs.Works.{running_of}
 use Rattle.skk_server.proofs.hall.Hall.join.Goals as goal
 use Rattle.skk_server.proofs.Joins.{joins-none, joined-at, running-joined}
@@ -23,9 +22,9 @@ overflow_sub-self g c =
 pub returns-clause-joins : goal.returns-clause-joins
 returns-clause-joins g c =
     record {
-      joined = joined-at (seen_link g.L.Outside.left g.L.Outside.written g.L.Outside.faults g.L.Link.closed)
-          (seen_caller g.C.Caller.number g.C.Caller.said) c.args.self.now.works.items c.in-Some.place
-          c.in-Some-get_mut.work.now c.join.new.self c.in-Some-get_mut.ensures.value c.join.ensures;
+      joined = joined-at g.L.Outside
+          g.C.Caller c.args.self.now.works.items c.in-Some.place c.in-Some-get_mut.work.now c.join.new.self
+          c.in-Some-get_mut.ensures.value c.join.ensures;
       passes_stay = refl;
       ends_stay = refl;
     }
@@ -38,8 +37,8 @@ returns-clause-places g c =
     omega (arith, c.in-Some-get_mut.ensures.variant.0 refl) in
     let all = sum_by-set running_of c.args.self.now.works.items c.in-Some.place c.join.new.self work there in
     let same = ap running_of c.in-Some-get_mut.ensures.value in
-    let none = running-joined (seen_link g.L.Outside.left g.L.Outside.written g.L.Outside.faults g.L.Link.closed)
-    (seen_caller g.C.Caller.number g.C.Caller.said) work c.join.new.self c.join.ensures in
+    let none = running-joined g.L.Outside
+    g.C.Caller work c.join.new.self c.join.ensures in
     record {
       few = omega (arith, places.few);
       running_is = omega (arith, all, same, none, c.running-running.ensures, places.running_is);

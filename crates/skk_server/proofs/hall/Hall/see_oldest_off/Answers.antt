@@ -1,5 +1,4 @@
 use Rattle.std.proofs.Common.{◌∙◌, ◌+◌, ◌∷◌, ap, length, subst, refl}
-use Rattle.skk_server.specs.Visits.{seen_link, seen_caller}
 use Rattle.skk_server.specs.Works.{AreUnderWay}
 use Rattle.skk_server.proofs.hall.Hall.see_oldest_off.Goals as goal
 use Rattle.skk_server.proofs.Joins.{worked-promised}
@@ -7,8 +6,8 @@ use Rattle.skk_server.proofs.Stages.{stage-worked, stage-refused}
 
 pub returns-in-Running-clause-stage : goal.returns-in-Running-clause-stage
 returns-in-Running-clause-stage g c =
-    let links = seen_link g.L.Outside.left g.L.Outside.written g.L.Outside.faults g.L.Link.closed in
-    let callers = seen_caller g.C.Caller.number g.C.Caller.said in
+    let links = g.L.Outside in
+    let callers = g.C.Caller in
     let start = c.args.start.now in
     let was = c.in-Running._was in
     let worked = c.join.result in
@@ -23,8 +22,8 @@ returns-in-Running-clause-stage g c =
 
 pub returns-in-Done-clause-stage : goal.returns-in-Done-clause-stage
 returns-in-Done-clause-stage g c =
-    let links = seen_link g.L.Outside.left g.L.Outside.written g.L.Outside.faults g.L.Link.closed in
-    let callers = seen_caller g.C.Caller.number g.C.Caller.said in
+    let links = g.L.Outside in
+    let callers = g.C.Caller in
     let start = c.args.start.now in
     let worked = c.in-Done.worked in
     let parts = c.part_from-in-Done.ensures in
@@ -36,8 +35,8 @@ returns-in-Done-clause-stage g c =
 
 pub returns-in-Refused-clause-stage : goal.returns-in-Refused-clause-stage
 returns-in-Refused-clause-stage g c =
-    let links = seen_link g.L.Outside.left g.L.Outside.written g.L.Outside.faults g.L.Link.closed in
-    let callers = seen_caller g.C.Caller.number g.C.Caller.said in
+    let links = g.L.Outside in
+    let callers = g.C.Caller in
     let start = c.args.start.now in
     let back = c.give_back.ensures in
     let is = c.in-Some.ensures.items ∙ ap (λ work. work ∷ c.pop_front.new.self.items) c.in-Refused.is in

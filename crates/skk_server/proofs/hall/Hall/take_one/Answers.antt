@@ -1,8 +1,6 @@
 use Rattle.std.proofs.Common.{sym, subst, arith}
 use Rattle.std.proofs.lemmas.Result.{on_ok_weaker, MatchResult-weaker}
-use Rattle.skk_server.specs.Services.{seen_listener}
 use Rattle.skk_server.specs.Stages.{AddsWork, EndsTaking}
-use Rattle.skk_server.specs.Visits.{seen_link, seen_caller}
 use Rattle.skk_server.proofs.hall.Hall.take_one.Goals as goal
 use Rattle.skk_server.proofs.Stages.{counts-begin, stage-begins}
 
@@ -27,8 +25,7 @@ returns-in-Ok-clause-ok g c =
 
 pub returns-in-Ok-clause-err : goal.returns-in-Ok-clause-err
 returns-in-Ok-clause-err g c =
-    let nets = seen_listener g.N.Listener.coming g.N.Listener.over g.N.Listener.out g.N.Listener.opened
-    g.N.Outside.faults in
+    let nets = g.N.Listener in
     let counts = counts-begin c.welcome.ensures.adds in
     MatchResult-weaker c.welcome.result c.welcome.ensures.err (λ done nothing. nothing)
     (λ end told. subst (EndsTaking nets c.args.net.now c.accept.new.net c.args.self.now c.welcome.new.self)
@@ -36,8 +33,8 @@ returns-in-Ok-clause-err g c =
 
 pub returns-in-Ok-clause-stage : goal.returns-in-Ok-clause-stage
 returns-in-Ok-clause-stage g c =
-    let links = seen_link g.L.Outside.left g.L.Outside.written g.L.Outside.faults g.L.Link.closed in
-    let callers = seen_caller g.C.Caller.number g.C.Caller.said in
+    let links = g.L.Outside in
+    let callers = g.C.Caller in
     let drawn = g.W.Office.drawn in
     stage-begins c.make_place.ensures.stage
     (omega (arith, c.requires.level, c.make_place.ensures.counts.0, c.make_place.ensures.counts.1)) c.in-Ok.ensures.ok

@@ -1,6 +1,5 @@
 use Rattle.std.proofs.Common.{◌∙◌, [], ap, length, refl, subst, arith}
 use Rattle.std.proofs.lemmas.List.Sums.{sum_by_push}
-use Rattle.skk_server.specs.Visits.{seen_link, seen_caller}
 use Rattle.skk_server.specs.Works.{IsUnderWay, running_in, running_of}
 use Rattle.skk_server.proofs.hall.Hall.welcome.Goals as goal
 use Rattle.skk_server.proofs.Joins.{running-few}
@@ -11,9 +10,8 @@ returns-in-Ok-clause-adds g c = record {
   works_are = c.push_back_reserved.ensures.items;
   begun_is = c.begin-work.ensures.begun;
   under_way = subst (λ n. IsUnderWay c.args.server.now.service.now.rules.now
-      (seen_link g.L.Outside.left g.L.Outside.written g.L.Outside.faults g.L.Link.closed)
-      (seen_caller g.C.Caller.number g.C.Caller.said) n c.begin-work.result []) c.in-Ok.ensures.number
-      c.begin-work.ensures.under_way;
+      g.L.Outside g.C.Caller n c.begin-work.result
+      []) c.in-Ok.ensures.number c.begin-work.ensures.under_way;
   drawn_is = omega (arith, c.in-Ok.ensures.drawn, c.begin-work.ensures.one);
   passes_stay = refl;
   ends_stay = refl;

@@ -14,7 +14,7 @@ returns-in_err-send-clause-err g c =
     let said = g.C.Caller.said in
     let written = g.K.Outside.written in
     let faults = g.K.Outside.faults in
-    let link = moved_link g.K.Outside.left written faults c.args.link.now c.send.new.link in
+    let link = moved_link g.K.Outside c.args.link.now c.send.new.link in
     let kept = c.answer_parts.new.self.page.bytes.items in
     let some = written-some c.send.result (written c.answer_parts.new.link) (written c.send.new.link) kept
     c.send.ensures.ok c.send.ensures.err in

@@ -13,7 +13,7 @@ returns-in_err-send-in-Ok-More-2-clause-err g c =
     let rules = c.args.service.now.rules.now in
     let said = g.C.Caller.said in
     let written = g.K.Outside.written in
-    let link = moved_link g.K.Outside.left written g.K.Outside.faults c.args.link.now c.send.new.link in
+    let link = moved_link g.K.Outside c.args.link.now c.send.new.link in
     let out = c.args.self.now.page.bytes.items in
     let out' = c.answer.new.page.bytes.items in
     let part = c.args.part.now in
@@ -32,7 +32,7 @@ returns-in_err-send-in-Ok-Over-clause-err g c =
     let rules = c.args.service.now.rules.now in
     let said = g.C.Caller.said in
     let written = g.K.Outside.written in
-    let link = moved_link g.K.Outside.left written g.K.Outside.faults c.args.link.now c.send-in-Ok-Over.new.link in
+    let link = moved_link g.K.Outside c.args.link.now c.send-in-Ok-Over.new.link in
     let out = c.args.self.now.page.bytes.items in
     let out' = c.answer.new.page.bytes.items in
     let part = c.args.part.now in
@@ -54,9 +54,8 @@ returns-in_ok-send-in-Ok-Over-clause-err g c =
     let out' = c.answer.new.page.bytes.items in
     let before = heard said c.args.caller.now out in
     let after = heard said c.answer.new.caller out' in
-    part-over rules
-    (moved_link g.K.Outside.left g.K.Outside.written g.K.Outside.faults c.args.link.now c.send-in-Ok-Over.new.link)
-    (said c.args.caller.now) (said c.answer.new.caller) c.args.self.now.talk c.answer.new.self c.args.part.now out out'
+    part-over rules (moved_link g.K.Outside c.args.link.now c.send-in-Ok-Over.new.link) (said c.args.caller.now)
+    (said c.answer.new.caller) c.args.self.now.talk c.answer.new.self c.args.part.now out out'
     (subst (Answers rules c.args.part.now c.args.self.now.talk c.answer.new.self before after)
     c.in-Ok-Over.field-0-is c.in-Ok-Over.ensures.ok)
     c.in_ok-send-in-Ok-Over.ensures.ok
@@ -67,7 +66,7 @@ returns-in-Err-clause-err g c =
     let rules = c.args.service.now.rules.now in
     let said = g.C.Caller.said in
     let written = g.K.Outside.written in
-    let link = moved_link g.K.Outside.left written g.K.Outside.faults c.args.link.now c.send-sent.new.link in
+    let link = moved_link g.K.Outside c.args.link.now c.send-sent.new.link in
     let out' = c.answer.new.page.bytes.items in
     let some = written-some c.send-sent.result (written c.args.link.now) (written c.send-sent.new.link) out'
     c.send-sent.ensures.ok c.send-sent.ensures.err in

@@ -28,13 +28,13 @@ returns-in_err-answer_part-clause-err g c =
     let (front, whole, read) = c.loop-rest.invariant.front in
     let part = c.split_at.result.0.now in
     let later = c.split_at.result.1.now in
-    if_err (EndsRead rules (moved_link left written faults c.args.link.now c.answer_part.new.link)
-    (said c.args.caller.now) (said c.answer_part.new.caller) c.args.self.now.talk c.args.bytes.now)
-    c.from_residual.result c.in_err-answer_part.field-0.0 c.from_residual.ensures.1
-    (read-ends rules left written faults c.args.link.now c.loop-rest.link c.answer_part.new.link
-    (said c.args.caller.now) (said c.loop-rest.caller) (said c.answer_part.new.caller) c.args.self.now.talk
-    c.loop-rest.self.talk c.loop-rest.self.page.bytes.items front part later c.args.bytes.now
-    c.in_err-answer_part.field-0.0 read c.loop-rest.invariant.counted c.in_err-answer_part.ensures.err
+    if_err (EndsRead rules (moved_link g.K.Outside c.args.link.now c.answer_part.new.link) (said c.args.caller.now)
+    (said c.answer_part.new.caller) c.args.self.now.talk c.args.bytes.now) c.from_residual.result
+    c.in_err-answer_part.field-0.0 c.from_residual.ensures.1
+    (read-ends rules g.K.Outside c.args.link.now c.loop-rest.link c.answer_part.new.link (said c.args.caller.now)
+    (said c.loop-rest.caller) (said c.answer_part.new.caller) c.args.self.now.talk c.loop-rest.self.talk
+    c.loop-rest.self.page.bytes.items front part later c.args.bytes.now c.in_err-answer_part.field-0.0 read
+    c.loop-rest.invariant.counted c.in_err-answer_part.ensures.err
     (ap (λ rest. front ++ rest) (sym c.split_at.ensures.by_index.0) ∙ whole))
 
 pub loop-rest-preserved : goal.loop-rest-preserved
