@@ -8,6 +8,7 @@ use skk_disk::{Disk, FileDisk, MemDisk};
 use skk_outside::{HostListener, HostShelf, Open, ReaderSource, WriterSink};
 use skk_text::{Memory, Text};
 use skk_top::{RunFault, command_or_end, run, run_alone, tell_end};
+use std::fs::{self, File};
 use std::io::ErrorKind;
 use std::process::ExitCode;
 use std::sync::Wait;
@@ -15,12 +16,25 @@ use std::thread::Threads;
 use std::{env, io};
 
 fn main(rt: HostRuntime) -> ExitCode {
+    let _kept = closed_places(&rt);
     match texts(&rt) {
         Ok(texts) => run_texts(&rt, rt, &texts),
         Err(fault) if fault.kind() == ErrorKind::OutOfMemory => end(&rt, RunFault::Memory),
         // A word that is not UTF-8 is in no command.
         Err(_) => end(&rt, RunFault::Words),
     }
+}
+
+// Takes the places of the standard streams that were closed when the program began. The system gives a place that is
+// free to the next file that is opened: without this, what is printed would be written over a learned file. The root
+// folder can be neither read nor written, so that a stream at its place fails as a closed one does.
+fn closed_places(rt: &HostRuntime) -> [Option<File>; 3] {
+    [root_folder(rt), root_folder(rt), root_folder(rt)]
+}
+
+// The root folder, opened.
+fn root_folder(rt: &HostRuntime) -> Option<File> {
+    fs::open(rt, "/").ok()
 }
 
 // Ends with a fault before anything was run.
