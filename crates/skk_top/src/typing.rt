@@ -18,6 +18,13 @@ use skk_text::{Memory, Text};
 use std::alloc::Global;
 use std::collections::BTreeMap;
 
+// How far typing has come: the sessions, and a page that is not written yet.
+#[derive(Drop)]
+struct Progress {
+    sessions: BTreeMap<u8, Session>,
+    page: Text,
+}
+
 /// Types the lines of a script by the rules, asks the caller what their keys ask, and prints an output line for
 /// each key line and the closing lines.
 pub fn type_script<C: Caller, O: Sink>(
@@ -31,9 +38,12 @@ pub fn type_script<C: Caller, O: Sink>(
     ensures { TypesOut rules.now lines.now result (C.said caller.old) (C.said caller.new)
         (moved_sink O.Outside out.old out.new) }
 {
-    let mut sessions = BTreeMap::new(alloc);
-    let mut page = Text::new(alloc);
-    type_lines(alloc, rules, lines, &mut sessions, &mut page, caller, out)?;
+    let mut progress = Progress {
+        sessions: BTreeMap::new(alloc),
+        page: Text::new(alloc),
+    };
+    type_lines(alloc, rules, lines, &mut progress, caller, out)?;
+    let Progress { sessions, mut page } = progress;
     close_sessions(alloc, &sessions, &mut page, out)?;
     print_through(out, &page)?;
     Ok(())
@@ -44,19 +54,18 @@ fn type_lines<C: Caller, O: Sink>(
     alloc: Global,
     rules: &Rules,
     lines: &[Line],
-    sessions: &mut BTreeMap<u8, Session>,
-    page: &mut Text,
+    progress: &mut Progress,
     caller: &mut C,
     out: &mut O,
 ) -> Result<(), RunFault>
     requires { list_all opens_well lines.now ≡ true }
     ensures { TypesThrough rules.now lines.now result
-        (stand sessions.old.entries page.old (C.said caller.old))
-        (stand sessions.new.entries page.new (C.said caller.new))
+        (stand progress.old.sessions.entries progress.old.page (C.said caller.old))
+        (stand progress.new.sessions.entries progress.new.page (C.said caller.new))
         (moved_sink O.Outside out.old out.new) }
 {
     for line in lines {
-        type_line(alloc, rules, line, sessions, page, caller, out)?;
+        type_line(alloc, rules, line, progress, caller, out)?;
     }
     Ok(())
 }
@@ -66,20 +75,19 @@ fn type_line<C: Caller, O: Sink>(
     alloc: Global,
     rules: &Rules,
     line: &Line,
-    sessions: &mut BTreeMap<u8, Session>,
-    page: &mut Text,
+    progress: &mut Progress,
     caller: &mut C,
     out: &mut O,
 ) -> Result<(), RunFault>
     requires { opens_well line.now ≡ true }
     ensures { TypesThrough rules.now (line.now ∷ []) result
-        (stand sessions.old.entries page.old (C.said caller.old))
-        (stand sessions.new.entries page.new (C.said caller.new))
+        (stand progress.old.sessions.entries progress.old.page (C.said caller.old))
+        (stand progress.new.sessions.entries progress.new.page (C.said caller.new))
         (moved_sink O.Outside out.old out.new) }
 {
-    play_line(alloc, rules, line, sessions, caller)?;
-    push_printed(alloc, line, sessions, page)?;
-    print_full(alloc, out, page)?;
+    play_line(alloc, rules, line, &mut progress.sessions, caller)?;
+    push_printed(alloc, line, &progress.sessions, &mut progress.page)?;
+    print_full(alloc, out, &mut progress.page)?;
     Ok(())
 }
 
