@@ -4,7 +4,7 @@ use Rattle.dict_complete.specs.Joined.{completions_among, with_more}
 
 -- two books and two files that share readings: each reading comes once, where it comes first. What a file has that
 -- does not go on from the prefix, and the prefix itself, do not come
-joined : completions_among (codes "ad" ∷ codes "ab" ∷ []) (codes "ac" ∷ codes "ad" ∷ [])
+joined : completions_among ((codes "ad" ∷ codes "ab" ∷ []) ∷ (codes "ac" ∷ codes "ad" ∷ []) ∷ [])
     ((codes "a" ∷ codes "ab" ∷ codes "ae" ∷ codes "b" ∷ []) ∷ (codes "aa" ∷ codes "ac" ∷ codes "ae" ∷ []) ∷ [])
     (codes "a")
     ≡ codes "ad" ∷ codes "ab" ∷ codes "ac" ∷ codes "ae" ∷ codes "aa" ∷ []

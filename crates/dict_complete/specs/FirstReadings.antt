@@ -2,7 +2,8 @@
 -- the limit says are enough.
 use Rattle.std.proofs.Common.{◌≡◌, ℕ, zero, suc, ◌+◌, ◌≤◌, true, false, cond, nat_lt, List, [], ◌∷◌, ◌++◌}
 use Rattle.std.proofs.Common.{length, map, take, refl, sym, ap, ◌∙◌, arith, length-append}
-use Rattle.std.specs.List.{filter, fold, flat_map}
+use Rattle.std.specs.List.{filter, fold, flat_map, list_all}
+use Rattle.std.proofs.lemmas.Bool.{and_parts}
 use Rattle.std.proofs.lemmas.Bool.Decides.{nat_tests}
 use Rattle.std.proofs.lemmas.List.{take-append-le, take_all}
 use Rattle.std.proofs.lemmas.List.Sums.{fold-append}
@@ -13,7 +14,7 @@ use Rattle.skk_calls.specs.Rows.{has_text, texts_differ}
 pub use Rattle.word_sets.specs.FirstLaws.{first_of_each-all}
 use Rattle.word_sets.specs.FirstLaws.{first_of_each-fold, first_unseen, same_equal, same_other, texts_stay}
 use Rattle.word_sets.specs.Firsts.{with_new}
-use Rattle.dict_complete.specs.Joined.{completions_among, with_more}
+use Rattle.dict_complete.specs.Joined.{completions_among, readings_in, with_more}
 
 module _ (limit : ℕ) where
   -- where there are fewer than the limit says, one more is added if it is a new one
@@ -129,29 +130,34 @@ module _ (limit : ℕ) where
   limit_enough readings more differ = enough limit readings more differ (omega (arith, known_all readings more))
 
 -- what is joined is added one after another
-pub among_added : (newest shared : List (List ℕ)) (files : List (List (List ℕ))) (prefix : List ℕ)
-    → completions_among newest shared files prefix
-    ≡ fold (with_more completion_limit)
-    (fold (with_more completion_limit) (fold (with_more completion_limit) [] newest) shared)
+pub among_added : (lists files : List (List (List ℕ))) (prefix : List ℕ)
+    → completions_among lists files prefix
+    ≡ fold (with_more completion_limit) (fold (with_more completion_limit) [] (readings_in lists))
     (flat_map (filter (goes_on_from prefix)) files)
-among_added newest shared files prefix =
-    let more = with_more completion_limit in
+among_added lists files prefix =
     let filed = flat_map (filter (goes_on_from prefix)) files in
-    first_added completion_limit (newest ++ shared ++ filed)
-    ∙ fold-append more [] (newest ++ shared) filed
-    ∙ ap (λ readings. fold more readings filed) (fold-append more [] newest shared)
+    first_added completion_limit (readings_in lists ++ filed)
+    ∙ fold-append (with_more completion_limit) [] (readings_in lists) filed
 
--- of readings of books, which differ in each, as many are enough as are given at most
-pub first_enough : (newest shared : List (List ℕ)) (files : List (List (List ℕ))) (prefix : List ℕ)
-    → texts_differ newest ≡ true → texts_differ shared ≡ true
-    → completions_among (take completion_limit newest) (take completion_limit shared) files prefix
-    ≡ completions_among newest shared files prefix
-first_enough newest shared files prefix differ others =
+-- of the readings of lists, which differ in each, as many of each are enough as are given at most
+each_enough : (readings : List (List ℕ)) (lists : List (List (List ℕ))) → list_all texts_differ lists ≡ true
+    → fold (with_more completion_limit) readings (readings_in (map (take completion_limit) lists))
+    ≡ fold (with_more completion_limit) readings (readings_in lists)
+each_enough readings [] differ = refl
+each_enough readings (list ∷ lists) differ =
     let more = with_more completion_limit in
-    let filed = flat_map (filter (goes_on_from prefix)) files in
-    among_added (take completion_limit newest) (take completion_limit shared) files prefix
-    ∙ ap (λ readings. fold more (fold more readings (take completion_limit shared)) filed)
-    (limit_enough completion_limit [] newest differ)
-    ∙ ap (λ readings. fold more readings filed)
-    (limit_enough completion_limit (fold more [] newest) shared others)
-    ∙ sym (among_added newest shared files prefix)
+    let parts = and_parts (texts_differ list) (list_all texts_differ lists) differ in
+    fold-append more readings (take completion_limit list) (readings_in (map (take completion_limit) lists))
+    ∙ ap (λ those. fold more those (readings_in (map (take completion_limit) lists)))
+    (limit_enough completion_limit readings list parts.0)
+    ∙ each_enough (fold more readings list) lists parts.1
+    ∙ sym (fold-append more readings list (readings_in lists))
+
+-- so they are for what is joined
+pub first_enough : (lists files : List (List (List ℕ))) (prefix : List ℕ) → list_all texts_differ lists ≡ true
+    → completions_among (map (take completion_limit) lists) files prefix ≡ completions_among lists files prefix
+first_enough lists files prefix differ =
+    among_added (map (take completion_limit) lists) files prefix
+    ∙ ap (λ readings. fold (with_more completion_limit) readings (flat_map (filter (goes_on_from prefix)) files))
+    (each_enough [] lists differ)
+    ∙ sym (among_added lists files prefix)

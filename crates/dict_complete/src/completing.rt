@@ -6,29 +6,32 @@ ghost use Rattle.dict_complete.specs.Joined.{completions_among, with_more};
 
 use crate::prefixes::begins_with;
 use skk_calls::Walk;
-use skk_text::{Copies, Memory, Text, Texts};
+use skk_text::{Copies, Memory, Sequence, Text, Texts};
 use std::alloc::Global;
 use word_sets::WordSet;
 
 /// The most readings that a completion gives.
 pub const COMPLETION_LIMIT: usize = 256;
 
-/// The completions of a prefix: the readings of the typist's book and of the shared one, which are given in their
-/// order, and those of each system file that go on from the prefix, the first of each. Takes time in the readings that
-/// it goes over, and a step of the walk for each of a file, but none once there are as many as are given.
+/// Lists of readings in order.
+pub type TextLists = Sequence<Texts>;
+
+/// The completions of a prefix: the readings of books, which are given in their order, and those of each system file
+/// that go on from the prefix, the first of each. Takes time in the readings that it goes over, and a step of the walk
+/// for each of a file, but none once there are as many as are given.
 pub fn complete<W: Walk>(
     alloc: Global,
-    newest: &Texts,
-    shared: &Texts,
+    lists: &TextLists,
     system: &W,
     prefix: &Text,
 ) -> Result<Texts, Memory>
     ensures { IfOk result
-        (λ readings. readings ≡ completions_among newest.now shared.now (W.files system.now) prefix.now) }
+        (λ readings. readings ≡ completions_among lists.now (W.files system.now) prefix.now) }
 {
     let mut readings = WordSet::new(alloc);
-    add_readings(alloc, &mut readings, newest.as_slice())?;
-    add_readings(alloc, &mut readings, shared.as_slice())?;
+    for list in lists.as_slice() {
+        add_readings(alloc, &mut readings, list.as_slice())?;
+    }
     for file in 0..system.files() {
         add_file(alloc, &mut readings, system, file, prefix)?;
     }

@@ -3,21 +3,23 @@ use Rattle.std.specs.Bool.{⊤}
 use Rattle.std.proofs.Common.{◌≡◌, ℕ, Bool, true, false, cond, ◌&&◌, ◌||◌, ◌==◌, not, None, Some, List, []}
 use Rattle.std.proofs.Common.{◌∷◌, ◌++◌, refl, sym, subst, ap, ◌∙◌}
 use Rattle.std.proofs.lemmas.Bool.{and_parts, eqb-true, not-true}
-use Rattle.std.specs.List.{cons_option, list_all}
+use Rattle.std.specs.List.{cons_option, filter, list_all}
 use Rattle.skk_calls.specs.declared.answer.Answer.{Answer}
 use Rattle.skk_calls.specs.declared.answer.Answer.TheVariants.{Done, Refused}
 use Rattle.skk_calls.specs.declared.call.Call.{Call}
-use Rattle.skk_calls.specs.Dictionary.{answer, after}
+use Rattle.skk_calls.specs.BookLists.{has_number}
+use Rattle.skk_calls.specs.Dictionary.{answer, after, is_share}
 use Rattle.skk_calls.specs.declared.entry.Entry.{Entry}
 use Rattle.skk_calls.specs.Histories.{Opening, LacksRoom, IsLegalAnswer, IsLegal, after_answer, after_entry}
 use Rattle.skk_calls.specs.Histories.{state_after, after_calls, dialog}
 use Rattle.skk_calls.specs.Interactions.{Dialog, IsAnsweredAlone, calls_of}
 use Rattle.skk_calls.specs.Openings.{is_reply}
 use Rattle.skk_calls.specs.Rows.{Row}
-use Rattle.skk_calls.specs.States.{State}
+use Rattle.skk_calls.specs.States.{State, books_read, shared_books}
 use Rattle.dict_laws.specs.OwnBooks.{owner, is_own, LookAlike, gives_own, GivesOwn, is_own_entry, is_apart}
 use Rattle.dict_laws.specs.OwnBookLaws.{look_alike_too, own_answered_alike, own_leaves_alike, others_leave_alike}
 use Rattle.dict_laws.specs.OwnBookLaws.{answer_gives_own}
+use Rattle.dict_laws.proofs.KeptLists.{lists_after}
 
 -- Replies of a history
 
@@ -64,14 +66,22 @@ module _ (typist : ℕ) (state alone : State) (call : Call) (alike : LookAlike t
   own_entry_leaves (Done reply) own is = own_leaves_alike state alone typist call alike own
   own_entry_leaves (Refused refusal) own is = cc
 
-  -- what is answered to another typist leaves a state that looks like the one alone
-  other_entry_leaves : (given : Answer) → (owner call == typist) ≡ false → (owner call == 0) ≡ false
+  -- what is answered to another, who has a book that the typist does not read, leaves a state that looks like the one
+  -- alone
+  other_entry_leaves : (given : Answer) → is_share call ≡ false
+      → has_number (books_read state typist) (owner call) ≡ false
       → LookAlike typist (after_answer state call given) alone
-  other_entry_leaves (Done reply) others shared =
-      look_alike_too typist state alone (after state call) alike (others_leave_alike state typist call others shared)
-  other_entry_leaves (Refused refusal) others shared = alike
+  other_entry_leaves (Done reply) e unread =
+      look_alike_too typist state alone (after state call) alike (others_leave_alike state typist call e unread)
+  other_entry_leaves (Refused refusal) e unread = alike
 
-module _ (files : List (List Row)) (typist_of : ℕ → ℕ) (number : ℕ) where
+-- a call that gives no list leaves the lists, whatever it is answered
+lists_left : (state : State) (call : Call) (given : Answer) → is_share call ≡ false
+    → (after_answer state call given).lists ≡ state.lists
+lists_left state call (Done reply) e = lists_after state call e
+lists_left state call (Refused refusal) e = refl
+
+module _ (files : List (List Row)) (start : State) (typist_of : ℕ → ℕ) (number : ℕ) where
   -- what a caller of a history said is answered alone, where the replies are the dictionary's; and the state after it
   -- looks like the one after the history
   abbrev IsAlone : State → State → List Entry → Dialog → Type 0
@@ -79,25 +89,37 @@ module _ (files : List (List Row)) (typist_of : ℕ → ℕ) (number : ℕ) wher
       (AreRepliesOf files state history → IsAnsweredAlone files alone said)
       × LookAlike (typist_of number) (state_after state history) (after_calls alone (calls_of said))
 
-  pub each_alone : (state alone : State) (history : List Entry) → LookAlike (typist_of number) state alone
-      → list_all (is_own_entry typist_of) history ≡ true → list_all (is_apart typist_of number) history ≡ true
+  pub each_alone : (state alone : State) (history : List Entry) → state.lists ≡ start.lists
+      → LookAlike (typist_of number) state alone → list_all (is_own_entry typist_of) history ≡ true
+      → list_all (is_apart start typist_of number) history ≡ true
       → list_all (λ pair. is_reply pair.1) (dialog history number) ≡ true
       → IsAlone state alone history (dialog history number)
-  each_alone state alone [] alike own apart served = (λ replies. tt, alike)
-  each_alone state alone (entry ∷ history) alike own apart served =
+  each_alone state alone [] lists alike own apart served = (λ replies. tt, alike)
+  each_alone state alone (entry ∷ history) lists alike own apart served =
       let owns = and_parts (is_own_entry typist_of entry) (list_all (is_own_entry typist_of) history) own in
-      let aparts = and_parts (is_apart typist_of number entry) (list_all (is_apart typist_of number) history) apart in
+      let aparts =
+      and_parts (is_apart start typist_of number entry) (list_all (is_apart start typist_of number) history) apart in
       by (entry.number == number) refl owns.0 aparts.0 served
-      (λ next next_alone like replied. each_alone next next_alone history like owns.1 aparts.1 replied)
+      (λ next next_alone left like replied. each_alone next next_alone history left like owns.1 aparts.1 replied)
     where
       -- what the caller said from this entry on, where that is the caller's or not
       said : Bool → Dialog
       said mine = cons_option (cond mine (Some (entry.call, entry.answer)) None) (dialog history number)
 
+      -- an own call gives no list, and is its typist's
+      own_parts : is_own_entry typist_of entry ≡ true → (not (is_share entry.call) ≡ true)
+          × ((owner entry.call == typist_of entry.number) ≡ true)
+      own_parts own = and_parts (not (is_share entry.call)) (owner entry.call == typist_of entry.number) own
+
+      -- so the lists stay
+      kept : is_own_entry typist_of entry ≡ true → (after_entry state entry).lists ≡ start.lists
+      kept own =
+          lists_left state entry.call entry.answer (not-true (is_share entry.call) (own_parts own).0) ∙ lists
+
       by : (mine : Bool) → (entry.number == number) ≡ mine → is_own_entry typist_of entry ≡ true
-          → (mine || (not (typist_of entry.number == typist_of number) && not (typist_of entry.number == 0))) ≡ true
+          → (mine || not (has_number (books_read start (typist_of number)) (typist_of entry.number))) ≡ true
           → list_all (λ pair. is_reply pair.1) (said mine) ≡ true
-          → ((next next_alone : State) → LookAlike (typist_of number) next next_alone
+          → ((next next_alone : State) → next.lists ≡ start.lists → LookAlike (typist_of number) next next_alone
           → list_all (λ pair. is_reply pair.1) (dialog history number) ≡ true
           → IsAlone next next_alone history (dialog history number))
           → IsAlone state alone (entry ∷ history) (said mine)
@@ -107,7 +129,7 @@ module _ (files : List (List Row)) (typist_of : ℕ → ℕ) (number : ℕ) wher
           let is : is_own (typist_of number) entry.call ≡ true =
           subst (λ n. is_own (typist_of n) entry.call ≡ true) (eqb-true entry.number number e) own in
           let behind =
-          rest (after_entry state entry) (after alone entry.call)
+          rest (after_entry state entry) (after alone entry.call) (kept own)
           (own_entry_leaves (typist_of number) state alone entry.call alike entry.answer is replies.0) replies.1 in (
             λ told. (
               own_reply (typist_of number) state alone entry.call alike files entry.answer is replies.0
@@ -117,15 +139,17 @@ module _ (files : List (List Row)) (typist_of : ℕ → ℕ) (number : ℕ) wher
             behind.1,
           )
       by false e own other replied rest =
-          let differ =
-          and_parts (not (typist_of entry.number == typist_of number)) (not (typist_of entry.number == 0)) other in
+          let parts = own_parts own in
           let owned : owner entry.call ≡ typist_of entry.number =
-          eqb-true (owner entry.call) (typist_of entry.number) own in
+          eqb-true (owner entry.call) (typist_of entry.number) parts.1 in
           let behind =
-          rest (after_entry state entry) alone
+          rest (after_entry state entry) alone (kept own)
           (other_entry_leaves (typist_of number) state alone entry.call alike entry.answer
-          (ap (λ n. n == typist_of number) owned ∙ not-true (typist_of entry.number == typist_of number) differ.0)
-          (ap (λ n. n == 0) owned ∙ not-true (typist_of entry.number == 0) differ.1)) replied in
+          (not-true (is_share entry.call) parts.0)
+          (ap (λ n. has_number (books_read state (typist_of number)) n) owned
+          ∙ ap (λ l. has_number (books_read (record state { lists = l }) (typist_of number)) (typist_of entry.number))
+          lists
+          ∙ not-true (has_number (books_read start (typist_of number)) (typist_of entry.number)) other)) replied in
           (λ told. behind.0 (replies_rest files state entry history told), behind.1)
 
 -- What own calls are given

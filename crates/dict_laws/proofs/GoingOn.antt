@@ -1,5 +1,5 @@
 -- Every completion goes on from its prefix.
-use Rattle.std.proofs.Common.{◌≡◌, ◌∙◌, ℕ, Bool, true, false, cond, ◌&&◌, ◌==◌, List, [], ◌++◌, refl, map, not}
+use Rattle.std.proofs.Common.{◌≡◌, ◌∙◌, ℕ, true, ◌&&◌, List, map, not}
 use Rattle.std.specs.List.{filter, flat_map, list_all}
 use Rattle.std.proofs.lemmas.Bool.{and_parts, and_from}
 use Rattle.std.proofs.lemmas.List.Folds.{list_all-append, list_all-map}
@@ -13,7 +13,7 @@ use Rattle.ordered_lists.specs.OrderLaws.{list_all-sort_by}
 use Rattle.ordered_lists.specs.Orders.{sort_by}
 use Rattle.skk_calls.specs.Orders.{is_newer, text_less}
 use Rattle.skk_calls.specs.Rows.{Row, same_part}
-use Rattle.skk_calls.specs.States.{State, rows_of}
+use Rattle.skk_calls.specs.States.{State, books_read, rows_of}
 use Rattle.dict_laws.proofs.Seen.{list_all-flat_map}
 
 -- the reading of a row that completes goes on from the prefix
@@ -50,15 +50,10 @@ pub all_readings_go_on : (files : List (List Row)) (state : State) (who : ℕ) (
     → list_all (goes_on_from prefix) (all_readings files state who prefix) ≡ true
 all_readings_go_on files state who prefix =
     let test = goes_on_from prefix in
-    let own = newest_readings prefix (rows_of state who) in
-    let shared = cond (who == 0) [] (newest_readings prefix (rows_of state 0)) in
+    let own = flat_map (λ number. newest_readings prefix (rows_of state number)) (books_read state who) in
     let filed = flat_map (ascending_readings prefix) files in
-    list_all-append test (own ++ shared) filed
-    ∙ and_from (list_all test (own ++ shared)) (list_all test filed)
-    (list_all-append test own shared
-    ∙ and_from (list_all test own) (list_all test shared) (newest_go_on prefix (rows_of state who)) (by (who == 0)))
+    list_all-append test own filed
+    ∙ and_from (list_all test own) (list_all test filed)
+    (list_all-flat_map test (λ number. newest_readings prefix (rows_of state number))
+    (λ number. newest_go_on prefix (rows_of state number)) (books_read state who))
     (list_all-flat_map test (ascending_readings prefix) (ascending_go_on prefix) files)
-  where
-    by : (b : Bool) → list_all (goes_on_from prefix) (cond b [] (newest_readings prefix (rows_of state 0))) ≡ true
-    by true = refl
-    by false = newest_go_on prefix (rows_of state 0)

@@ -1,17 +1,21 @@
 -- A call leaves the rows alone that it does not speak of.
-use Rattle.std.proofs.Common.{◌≡◌, ℕ, ◌+◌, Bool, true, false, ◌&&◌, ◌==◌, Some, Option, List, refl, sym, ◌∙◌, ap}
+use Rattle.std.proofs.Common.{◌≡◌, ℕ, ◌+◌, ◌++◌, Bool, true, false, ◌&&◌, ◌==◌, Some, Option, List, refl, sym, ◌∙◌, ap}
+use Rattle.std.proofs.Common.{get_or}
+use Rattle.std.specs.List.{filter_map}
 use Rattle.std.proofs.lemmas.Bool.{and_parts, eqb-true}
 use Rattle.skk_calls.specs.KeyLaws.{same_key_itself}
 use Rattle.skk_calls.specs.declared.book.NumberedBook.{NumberedBook}
 use Rattle.skk_calls.specs.declared.call.Call.{Call}
-use Rattle.skk_calls.specs.declared.call.Call.TheVariants.{Lookup, Complete, Learn, Purge, Annotate, Unlearn}
-use Rattle.skk_calls.specs.Dictionary.{after, moves, state_moved, is_call, is_row_or_none, speaks_of}
-use Rattle.skk_calls.specs.Found.{found}
+use Rattle.skk_calls.specs.declared.call.Call.TheVariants.{Lookup, Complete, Learn, Purge, Annotate, Share, Unlearn}
+use Rattle.skk_calls.specs.Dictionary.{after, moves, state_moved, is_call, is_row_or_none, is_share, speaks_of}
+use Rattle.skk_calls.specs.Found.{found, merged}
 use Rattle.skk_calls.specs.Learning.{learnt, purged, annotated, unlearnt, is_valid_learned}
 use Rattle.skk_calls.specs.Rows.{RowKey, Row, same_key, is_row_key}
-use Rattle.skk_calls.specs.States.{State, row_in, book_rows, book_count, row_at, count_of, state_with}
+use Rattle.skk_calls.specs.States.{State, books_read, row_in, book_rows, book_count, row_at, count_of, state_with}
 use Rattle.dict_laws.specs.ChangedStates.{after_moved, before_has_key, has_key}
 use Rattle.dict_laws.specs.OtherRows.{row_at_other_key, book_at_other}
+use Rattle.dict_laws.specs.Filtered.{filter_map_alike}
+use Rattle.dict_laws.proofs.KeptLists.{lists_after}
 use Rattle.dict_laws.proofs.TakenBack.{after_unmoved}
 
 -- of two parts of a test that fails, the second fails where the first does not
@@ -65,6 +69,7 @@ moved_leaves state (Annotate number key cand) book other typed e =
     let stamp = count_of state number + 1 in
     other_row state number stamp key (Some (annotated (row_at state number key) key cand stamp)) book other
     (same_key_itself key) e
+moved_leaves state (Share who books) book other typed e = refl
 moved_leaves state (Unlearn learned) book other typed e =
     other_row state learned.book (count_of state learned.book) learned.key (unlearnt learned) book other
     (before_has_key learned.key learned.stamp learned.before
@@ -84,10 +89,16 @@ leaves_alone state call book other typed e = by (moves state call) refl
 
 -- and what is found of a key of which it speaks no row
 pub leaves_found : (files : List (List Row)) (state : State) (call : Call) (who : ℕ) (key : RowKey)
-    (okuri : Option (List ℕ)) → is_call call ≡ true → ((book : ℕ) → speaks_of call book key ≡ false)
+    (okuri : Option (List ℕ)) → is_call call ≡ true → is_share call ≡ false
+    → ((book : ℕ) → speaks_of call book key ≡ false)
     → found files (after state call) who key okuri ≡ found files state who key okuri
-leaves_found files state call who key okuri typed silent =
-    rw (leaves_alone state call who key typed (silent who), leaves_alone state call 0 key typed (silent 0)) refl
+leaves_found files state call who key okuri typed lists silent =
+    ap (λ own. merged (own ++ filter_map (row_in key) files) okuri)
+    (ap (λ l. filter_map (λ number. row_at (after state call) number key)
+    (books_read (record state { lists = l }) who)) (lists_after state call lists)
+    ∙ filter_map_alike (λ number. row_at (after state call) number key) (λ number. row_at state number key)
+    (books_read state who) (λ k d lt. leaves_alone state call (get_or (books_read state who) k d) key typed
+    (silent (get_or (books_read state who) k d))))
 
 -- a call that is made leaves the count of a book of which it speaks no row
 moved_counts : (state : State) (call : Call) (book : ℕ) → ((key : RowKey) → speaks_of call book key ≡ false)
@@ -103,6 +114,7 @@ moved_counts state (Purge number key word) book silent =
 moved_counts state (Annotate number key cand) book silent =
     let stamp = count_of state number + 1 in
     other_count state number stamp key (Some (annotated (row_at state number key) key cand stamp)) book (silent key)
+moved_counts state (Share who books) book silent = refl
 moved_counts state (Unlearn learned) book silent =
     other_count state learned.book (count_of state learned.book) learned.key (unlearnt learned) book
     (silent learned.key)

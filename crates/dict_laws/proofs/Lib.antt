@@ -5,6 +5,7 @@ pub mod Counting
 pub mod FirstLayer
 pub mod GoingOn
 pub mod Keeping
+pub mod KeptLists
 pub mod LearntRows
 pub mod LearntTwice
 pub mod LeftAlone

@@ -129,7 +129,7 @@ abbrev pub row_of : List (List ℕ) → Row
 row_of texts = record { key = a_key; cands = map plain texts; blocks = []; hides = []; stamp = 1 }
 
 abbrev pub state_of : List (List ℕ) → State
-state_of texts = record { books = record { number = 1; count = 1; rows = row_of texts ∷ [] } ∷ [] }
+state_of texts = record { books = record { number = 1; count = 1; rows = row_of texts ∷ [] } ∷ []; lists = [] }
 
 -- a word of 4,095 bytes that is written as it is
 abbrev pub is_long : List ℕ → Bool

@@ -3,7 +3,7 @@ use Rattle.std.proofs.Common.{◌≡◌, Bool, true, false, cond, List, [], ◌�
 use Rattle.skk_calls.specs.declared.answer.Answer.{Answer}
 use Rattle.skk_calls.specs.declared.answer.Answer.TheVariants.{Done, Refused}
 use Rattle.skk_calls.specs.declared.call.Call.{Call}
-use Rattle.skk_calls.specs.declared.call.Call.TheVariants.{Lookup, Complete, Learn, Purge, Annotate, Unlearn}
+use Rattle.skk_calls.specs.declared.call.Call.TheVariants.{Lookup, Complete, Learn, Purge, Annotate, Share, Unlearn}
 use Rattle.skk_calls.specs.declared.entry.Entry.{Entry}
 use Rattle.skk_calls.specs.Dictionary.{answer, is_change, moves, after}
 use Rattle.skk_calls.specs.Histories.{Opening, LacksRoom, IsLegalAnswer, IsLegal, tells_change, after_answer}
@@ -20,6 +20,7 @@ files_have_no_say files state (Complete who prefix) = refl
 files_have_no_say files state (Learn book key okuri cand) = refl
 files_have_no_say files state (Purge book key word) = refl
 files_have_no_say files state (Annotate book key cand) = refl
+files_have_no_say files state (Share who books) = refl
 files_have_no_say files state (Unlearn learned) = refl
 
 -- a call with a legal answer makes another state exactly where the answer tells of a change

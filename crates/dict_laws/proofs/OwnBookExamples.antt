@@ -1,17 +1,20 @@
 -- Whose calls are a typist's own, which states look alike, and which interactions ask own calls alone.
-use Rattle.std.proofs.Common.{◌≡◌, ℕ, true, false, List, [], ◌∷◌, ◌==◌, ap, codes, refl, map, None, zero, suc}
+use Rattle.std.proofs.Common.{◌≡◌, ℕ, true, false, List, [], ◌∷◌, ◌==◌, All, ap, codes, refl, map, None, zero, suc}
 use Rattle.std.proofs.lemmas.Bool.{false≢true}
+use Rattle.std.proofs.lemmas.List.Elements.{All-cons, All-head, All-nil, All-tail}
 use Rattle.skk_calls.specs.declared.answer.Answer.{Answer}
 use Rattle.skk_calls.specs.declared.answer.Answer.TheVariants.{Done, Refused}
 use Rattle.skk_calls.specs.declared.answer.Refusal.TheVariants.{Memory}
 use Rattle.skk_calls.specs.declared.answer.Reply.TheVariants as replies
 use Rattle.skk_calls.specs.declared.call.Call.{Call}
-use Rattle.skk_calls.specs.declared.call.Call.TheVariants.{Lookup, Complete, Learn, Purge, Annotate, Unlearn}
+use Rattle.skk_calls.specs.declared.call.Call.TheVariants.{Lookup, Complete, Learn, Purge, Annotate, Share, Unlearn}
 use Rattle.skk_calls.specs.declared.part.Part.TheVariants.{Nasi}
 use Rattle.skk_calls.specs.declared.entry.Entry.{Entry}
+use Rattle.skk_calls.specs.BookLists.{same_numbers}
 use Rattle.skk_calls.specs.Interactions.{Interaction, ends, asks, prints}
 use Rattle.skk_calls.specs.Rows.{RowKey, Cand, Row, Learned}
 use Rattle.skk_calls.specs.States.{State}
+use Rattle.dict_laws.specs.ReadBooks.{SameRows}
 use Rattle.dict_laws.specs.OwnBooks.{owner, is_own, LookAlike, is_own_entry, is_apart, gives_own, GivesOwn, AsksOwn}
 
 -- Calls
@@ -32,6 +35,13 @@ calls typist =
     Lookup typist key None ∷ Complete typist [] ∷ Learn typist key None cand ∷ Purge typist key []
     ∷ Annotate typist key cand ∷ Unlearn (learned typist)
     ∷ []
+
+-- a list of books is the typist's, and no call of its own gives it
+list_of_books : map (λ typist. is_own typist (Share 3 (7 ∷ 0 ∷ []))) (3 ∷ 7 ∷ 0 ∷ []) ≡ false ∷ false ∷ false ∷ []
+list_of_books = refl
+
+owner_of_list : owner (Share 3 (7 ∷ 0 ∷ [])) ≡ 3
+owner_of_list = refl
 
 owners_of_calls : map owner (calls 3) ≡ 3 ∷ 3 ∷ 3 ∷ 3 ∷ 3 ∷ 3 ∷ []
 owners_of_calls = refl
@@ -58,28 +68,55 @@ with_books shared_count shared number count rows =
       books =
           record { number = 0; count = shared_count; rows = shared }
           ∷ record { number = number; count = count; rows = rows } ∷ [];
+      lists = [];
     }
+
+-- the same where the typist of a number has a list of books
+abbrev with_books_listed : ℕ → List ℕ → State → State
+with_books_listed typist books st = record st { lists = record { typist = typist; books = books } ∷ [] }
+
+-- what two books have
+alike_in : (P : ℕ → Type 0) → (number other : ℕ) → P number → P other → All P (number ∷ other ∷ [])
+alike_in P number other one two =
+    All-cons P number (other ∷ []) one (All-cons P other [] two (All-nil P))
 
 abbrev state : State
 state = with_books 4 (row ∷ []) 1 2 (row ∷ [])
 
 -- the count of the shared book makes no difference
 other_shared_count : LookAlike 1 state (with_books 5 (row ∷ []) 1 2 (row ∷ []))
-other_shared_count = (refl, refl, refl)
+other_shared_count = (refl, refl, alike_in (SameRows state (with_books 5 (row ∷ []) 1 2 (row ∷ []))) 1 0 refl refl)
 
 -- nor do books of others
 other_book : LookAlike 2 state (with_books 4 (row ∷ []) 3 1 [])
-other_book = (refl, refl, refl)
+other_book = (refl, refl, alike_in (SameRows state (with_books 4 (row ∷ []) 3 1 [])) 2 0 refl refl)
 
 -- the count of the typist's book does, and so do its rows and those of the shared book
 other_count : LookAlike 1 state (with_books 4 (row ∷ []) 1 3 (row ∷ [])) → ⊥
 other_count alike = false≢true (ap (λ n. n == 2) alike.0)
 
 other_rows : LookAlike 1 state (with_books 4 (row ∷ []) 1 2 []) → ⊥
-other_rows alike = let e : [] ≡ row ∷ [] = alike.1 in absurd (cc)
+other_rows alike =
+    let e : [] ≡ row ∷ [] = All-head (SameRows state (with_books 4 (row ∷ []) 1 2 [])) 1 (0 ∷ []) alike.2 in absurd (cc)
 
 other_shared : LookAlike 1 state (with_books 4 [] 1 2 (row ∷ [])) → ⊥
-other_shared alike = let e : [] ≡ row ∷ [] = alike.2 in absurd (cc)
+other_shared alike =
+    let same = SameRows state (with_books 4 [] 1 2 (row ∷ [])) in
+    let e : [] ≡ row ∷ [] = All-head same 0 [] (All-tail same 1 (0 ∷ []) alike.2) in absurd (cc)
+
+-- where the typist's list lacks the shared book its rows make none
+unread_shared : LookAlike 1 (with_books_listed 1 (7 ∷ []) state)
+    (with_books_listed 1 (7 ∷ []) (with_books 4 [] 1 2 (row ∷ [])))
+unread_shared = (
+  refl,
+  refl,
+  alike_in (SameRows (with_books_listed 1 (7 ∷ []) state)
+      (with_books_listed 1 (7 ∷ []) (with_books 4 [] 1 2 (row ∷ [])))) 1 7 refl refl,
+)
+
+-- but another list makes one
+other_list : LookAlike 1 state (with_books_listed 1 (7 ∷ []) state) → ⊥
+other_list alike = false≢true (ap (λ books. same_numbers books (0 ∷ [])) alike.1)
 
 -- to the typist of the shared book its count makes a difference too
 shared_typist : LookAlike 0 state (with_books 5 (row ∷ []) 1 2 (row ∷ [])) → ⊥
@@ -102,9 +139,15 @@ own_entries : map (is_own_entry typist_of) (asking 0 1 ∷ asking 1 2 ∷ asking
     ≡ true ∷ true ∷ false ∷ false ∷ true ∷ []
 own_entries = refl
 
-apart_entries : map (is_apart typist_of 0) (asking 0 1 ∷ asking 1 2 ∷ asking 2 1 ∷ asking 3 0 ∷ [])
+apart_entries : map (is_apart state typist_of 0) (asking 0 1 ∷ asking 1 2 ∷ asking 2 1 ∷ asking 3 0 ∷ [])
     ≡ true ∷ true ∷ false ∷ false ∷ []
 apart_entries = refl
+
+-- where the first typist reads the book of the second, and not the shared one
+apart_by_lists : map (is_apart (with_books_listed 1 (2 ∷ []) state) typist_of 0)
+    (asking 0 1 ∷ asking 1 2 ∷ asking 2 1 ∷ asking 3 0 ∷ [])
+    ≡ true ∷ false ∷ false ∷ true ∷ []
+apart_by_lists = refl
 
 -- Interactions
 

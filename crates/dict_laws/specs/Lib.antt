@@ -4,5 +4,5 @@ pub mod Filtered
 pub mod OtherRows
 pub mod OwnBookLaws
 pub mod OwnBooks
-pub mod TwoBooks
+pub mod ReadBooks
 pub mod ValidStates

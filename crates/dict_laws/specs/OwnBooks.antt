@@ -1,34 +1,38 @@
 -- Which calls are a typist's own, and which states look alike to a typist.
-use Rattle.std.specs.Prelude.{◌≡◌, ⊤, ℕ, Bool, true, ◌&&◌, ◌||◌, ◌==◌, not, [], ◌∷◌}
+use Rattle.std.specs.Prelude.{◌≡◌, ⊤, ℕ, Bool, true, ◌&&◌, ◌||◌, ◌==◌, not, All, [], ◌∷◌}
 use Rattle.skk_calls.specs.declared.answer.Answer.{Answer}
 use Rattle.skk_calls.specs.declared.answer.Answer.TheVariants.{Done}
 use Rattle.skk_calls.specs.declared.answer.Reply.TheVariants as replies
 use Rattle.skk_calls.specs.declared.call.Call.{Call}
-use Rattle.skk_calls.specs.declared.call.Call.TheVariants.{Lookup, Complete, Learn, Purge, Annotate, Unlearn}
+use Rattle.skk_calls.specs.declared.call.Call.TheVariants.{Lookup, Complete, Learn, Purge, Annotate, Share, Unlearn}
 use Rattle.skk_calls.specs.declared.entry.Entry.{Entry}
 use Rattle.skk_calls.specs.Interactions.{Interaction, ends, asks, prints, Dialog}
-use Rattle.skk_calls.specs.States.{State, rows_of, count_of}
+use Rattle.skk_calls.specs.BookLists.{has_number}
+use Rattle.skk_calls.specs.Dictionary.{is_share}
+use Rattle.skk_calls.specs.States.{State, books_read, count_of, shared_books}
+use Rattle.dict_laws.specs.ReadBooks.{SameRows}
 
--- whose call a call is: the typist's that it is made for, or whose book it changes
+-- whose call a call is: the typist's that it is made for, or whose book it changes; a list of books is the typist's
 abbrev pub owner : Call → ℕ
 owner (Lookup who key okuri) = who
 owner (Complete who prefix) = who
 owner (Learn book key okuri cand) = book
 owner (Purge book key word) = book
 owner (Annotate book key cand) = book
+owner (Share who books) = who
 owner (Unlearn learned) = learned.book
 
--- a call is a typist's own: it is made for the typist, or it changes the typist's book
+-- a call is a typist's own: it is made for the typist, or it changes the typist's book, and it gives no list of books
 abbrev pub is_own : ℕ → Call → Bool
-is_own typist call = owner call == typist
+is_own typist call = not (is_share call) && owner call == typist
 
--- two states look alike to a typist: the typist's book has the same count and the same rows in both, and the shared
--- book the same rows
+-- two states look alike to a typist: the typist's book has the same count in both, the typist has the same list of
+-- books, and each book that the typist reads has the same rows
 abbrev pub LookAlike : ℕ → State → State → Type 0
 LookAlike typist state other =
     (count_of other typist ≡ count_of state typist)
-    × (rows_of other typist ≡ rows_of state typist)
-    × (rows_of other 0 ≡ rows_of state 0)
+    × (shared_books other typist ≡ shared_books state typist)
+    × All (SameRows state other) (books_read state typist)
 
 -- Histories, where each caller's number has a typist
 
@@ -36,10 +40,10 @@ LookAlike typist state other =
 abbrev pub is_own_entry : (ℕ → ℕ) → Entry → Bool
 is_own_entry typist_of entry = is_own (typist_of entry.number) entry.call
 
--- an entry is of the caller of a number, or its typist is another than this caller's, and has not the shared book
-abbrev pub is_apart : (ℕ → ℕ) → ℕ → Entry → Bool
-is_apart typist_of number entry =
-    entry.number == number || (not (typist_of entry.number == typist_of number) && not (typist_of entry.number == 0))
+-- an entry is of the caller of a number, or its typist has a book that this caller's typist does not read in a state
+abbrev pub is_apart : State → (ℕ → ℕ) → ℕ → Entry → Bool
+is_apart state typist_of number entry =
+    entry.number == number || not (has_number (books_read state (typist_of number)) (typist_of entry.number))
 
 -- Interactions
 

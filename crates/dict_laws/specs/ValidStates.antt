@@ -1,6 +1,6 @@
 -- What the books of a valid state keep, and that it stays valid where a row that may stand in a book changes there.
-use Rattle.std.proofs.Common.{◌≡◌, ℕ, Bool, true, not, ◌&&◌, ◌||◌, ◌==◌, nat_lt, nat_le, None, Some, Option}
-use Rattle.std.proofs.Common.{List, refl, sym, subst, arith}
+use Rattle.std.proofs.Common.{◌≡◌, ℕ, Bool, true, false, not, ◌&&◌, ◌||◌, ◌==◌, nat_lt, nat_le, None, Some, Option}
+use Rattle.std.proofs.Common.{List, refl, sym, subst, ap, arith, cond}
 use Rattle.std.proofs.lemmas.Bool.Decides.{nat_tests}
 use Rattle.std.specs.List.{list_all}
 use Rattle.std.proofs.lemmas.Bool.{and_from, and_parts, not-true}
@@ -11,12 +11,16 @@ use Rattle.skk_calls.specs.KeyLaws.{same_key_equal, same_key_other}
 use Rattle.skk_calls.specs.declared.book.NumberedBook.{NumberedBook}
 use Rattle.skk_calls.specs.Canonical.{is_good}
 use Rattle.ordered_lists.specs.OrderLaws.{insert_ascends, list_all-insert_by, order_read}
+use Rattle.ordered_lists.specs.Orders.{insert_by}
 use Rattle.skk_calls.specs.OrderLaws.{key_order, keys_apart}
 use Rattle.skk_calls.specs.Orders.{key_less}
 use Rattle.skk_calls.specs.Rows.{RowKey, Row, same_key, is_row}
 use Rattle.skk_calls.specs.States.{State, book_at, book_rows, book_count, rows_of, row_at, count_of, without_row}
 use Rattle.skk_calls.specs.States.{with_row, without_book, with_book, state_with, rows_ascend, has_stamp, fits_count}
-use Rattle.skk_calls.specs.States.{is_book, books_ascend, is_valid}
+use Rattle.skk_calls.specs.BookLists.{is_book_list, same_numbers, shared_alone}
+use Rattle.skk_calls.specs.declared.book_list.TypistList.{TypistList}
+use Rattle.skk_calls.specs.States.{is_book, books_ascend, is_kept_list, is_valid, lists_ascend}
+use Rattle.skk_calls.specs.States.{state_listed, with_list, without_list}
 use Rattle.dict_laws.specs.ChangedStates.{has_key, changed_book}
 
 -- Rows
@@ -80,10 +84,31 @@ book_parts book e =
     let rest = and_parts (rows_ascend book.rows) (list_all (fits_count book.count) book.rows) parts.1 in
     record { count = parts.0; ascend = rest.0; fit = rest.1 }
 
+-- States
+
+-- what a valid state keeps
+pub record ValidParts (state : State) : Type 0 where
+  pub ascend : books_ascend state.books ≡ true
+  pub books : list_all is_book state.books ≡ true
+  pub lists : (lists_ascend state.lists && list_all is_kept_list state.lists) ≡ true
+
+valid_parts : (state : State) → is_valid state ≡ true → ValidParts state
+valid_parts state valid =
+    let kept = lists_ascend state.lists && list_all is_kept_list state.lists in
+    let first = and_parts (books_ascend state.books) (list_all is_book state.books && kept) valid in
+    let rest = and_parts (list_all is_book state.books) kept first.1 in
+    record { ascend = first.0; books = rest.0; lists = rest.1 }
+
+valid_from : (state : State) → ValidParts state → is_valid state ≡ true
+valid_from state parts =
+    let kept = lists_ascend state.lists && list_all is_kept_list state.lists in
+    and_from (books_ascend state.books) (list_all is_book state.books && kept) parts.ascend
+    (and_from (list_all is_book state.books) kept parts.books parts.lists)
+
 module _ (state : State) (number : ℕ) (valid : is_valid state ≡ true) where
   -- the books of a valid state may be
   state_books : list_all is_book state.books ≡ true
-  state_books = (and_parts (books_ascend state.books) (list_all is_book state.books) valid).1
+  state_books = (valid_parts state valid).books
 
   -- each book of a valid state has its parts
   pub parts_at : (book : NumberedBook) → book_at state number ≡ Some book → BookParts book
@@ -157,9 +182,61 @@ module _ (state : State) (number count : ℕ) (key : RowKey) (row : Option Row) 
   pub is_valid_changed : is_valid (state_with state number count key row) ≡ true
   is_valid_changed =
       let book = changed_book state number count key row in
-      let parts = and_parts (books_ascend state.books) (list_all is_book state.books) valid in
-      and_from (books_ascend (with_book book state.books)) (list_all is_book (with_book book state.books))
-      (books_ascend_with_book book state.books parts.0)
-      (list_all-insert_by (λ (b other : NumberedBook). nat_lt b.number other.number) is_book book
-      (without_book number state.books) changed_is_book
-      (list_all-filter is_book (λ (b : NumberedBook). not (b.number == number)) state.books parts.1))
+      let parts = valid_parts state valid in
+      valid_from (state_with state number count key row) (record {
+        ascend = books_ascend_with_book book state.books parts.ascend;
+        books =
+            list_all-insert_by (λ (b other : NumberedBook). nat_lt b.number other.number) is_book book
+            (without_book number state.books) changed_is_book
+            (list_all-filter is_book (λ (b : NumberedBook). not (b.number == number)) state.books parts.books);
+        lists = parts.lists;
+      })
+
+module _ (typist : ℕ) (books : List ℕ) (is : is_book_list books ≡ true) where
+  -- the lists of a state stay what they may be where a typist is given one
+  lists_with_list : (lists : List TypistList) → (lists_ascend lists && list_all is_kept_list lists) ≡ true
+      → (lists_ascend (with_list typist books lists) && list_all is_kept_list (with_list typist books lists)) ≡ true
+  lists_with_list lists kept = by (same_numbers books shared_alone) refl
+    where
+      others : List TypistList
+      others = without_list typist lists
+
+      less : TypistList → TypistList → Bool
+      less list other = nat_lt list.typist other.typist
+
+      given : TypistList
+      given = record { typist = typist; books = books }
+
+      ascend : lists_ascend others ≡ true
+      ascend =
+          all_pairs-filter less (λ (l : TypistList). not (l.typist == typist)) lists
+          (and_parts (lists_ascend lists) (list_all is_kept_list lists) kept).0
+
+      fit : list_all is_kept_list others ≡ true
+      fit =
+          list_all-filter is_kept_list (λ (l : TypistList). not (l.typist == typist)) lists
+          (and_parts (lists_ascend lists) (list_all is_kept_list lists) kept).1
+
+      by : (b : Bool) → same_numbers books shared_alone ≡ b
+          → (lists_ascend (cond b others (insert_by less given others))
+          && list_all is_kept_list (cond b others (insert_by less given others))) ≡ true
+      by true e = and_from (lists_ascend others) (list_all is_kept_list others) ascend fit
+      by false e =
+          and_from (lists_ascend (insert_by less given others)) (list_all is_kept_list (insert_by less given others))
+          (insert_ascends less (IsStrictWeakOrder-by_number (λ (l : TypistList). l.typist)) given others
+          (list_all-weaker (λ (other : TypistList). not (other.typist == typist))
+          (λ (other : TypistList). less given other || less other given)
+          (λ (other : TypistList). numbers_apart typist other.typist) others
+          (list_all_kept (λ (other : TypistList). not (other.typist == typist)) lists)) ascend)
+          (list_all-insert_by less is_kept_list given others
+          (and_from (is_book_list books) (not (same_numbers books shared_alone)) is (ap not e)) fit)
+
+  -- a valid state stays valid where a typist is given a list
+  pub is_valid_listed : (state : State) → is_valid state ≡ true → is_valid (state_listed state typist books) ≡ true
+  is_valid_listed state valid =
+      let parts = valid_parts state valid in
+      valid_from (state_listed state typist books) (record {
+        ascend = parts.ascend;
+        books = parts.books;
+        lists = lists_with_list state.lists parts.lists;
+      })

@@ -1,5 +1,5 @@
 ghost use Rattle.std.specs.Prelude.{◌≡◌, ◌≢◌, ◌≤◌, ◌+◌, ℕ, List, [], ◌∷◌, ◌++◌, Option, Some, None, length, not, true};
-ghost use Rattle.std.specs.Prelude.{false, if◌then◌else◌};
+ghost use Rattle.std.specs.Prelude.{All, false, if◌then◌else◌};
 ghost use Rattle.std.specs.List.{list_all};
 ghost use Rattle.std.specs.Option.{IfSome};
 ghost use Rattle.skk_calls.specs.declared.call.Call.{Call};
@@ -8,7 +8,7 @@ ghost use Rattle.skk_calls.specs.declared.answer.Reply.TheVariants.{Learned as l
 ghost use Rattle.skk_calls.specs.declared.entry.Entry.{Entry};
 ghost use Rattle.skk_calls.specs.Completions.{completions, completion_limit, goes_on_from};
 ghost use Rattle.skk_calls.specs.Dictionary.{answer, after, is_call, is_fit, is_okuri_or_none, is_row_or_none};
-ghost use Rattle.skk_calls.specs.Dictionary.{is_stamped, speaks_of};
+ghost use Rattle.skk_calls.specs.Dictionary.{is_share, is_stamped, speaks_of};
 ghost use Rattle.skk_calls.specs.Found.{found, merged, note_of, ordered};
 ghost use Rattle.skk_calls.specs.Histories.{Opening, IsLegal, state_after, changes, after_calls};
 ghost use Rattle.skk_calls.specs.Learning.{learnt, purged, purge_changes, annotated, annotation_changes};
@@ -16,7 +16,8 @@ ghost use Rattle.skk_calls.specs.Learning.{is_own_note, row_or_empty};
 ghost use Rattle.skk_calls.specs.Orders.{text_less};
 ghost use Rattle.skk_calls.specs.Rows.{RowKey, Cand, Row, Learned, has_text, same_text, texts_differ, words_of};
 ghost use Rattle.skk_calls.specs.Rows.{is_cand, is_row, is_row_key};
-ghost use Rattle.skk_calls.specs.States.{State, rows_of, row_at, count_of, is_valid};
+ghost use Rattle.skk_calls.specs.States.{State, books_read, count_of, is_valid, row_at, rows_of, shared_books};
+ghost use Rattle.dict_laws.specs.ReadBooks.{SameRows};
 ghost use Rattle.skk_calls.specs.Tallies.{empty_tally, tally_with, tally_of};
 ghost use Rattle.skk_calls.specs.Walks.{texts_ascend, next_above, is_least_above};
 
@@ -35,10 +36,10 @@ pub fn changes_leave_other_rows()
         row_at (after state call) book key ≡ row_at state book key }
 {}
 
-/// What is found of a key stays as it was after a call that speaks of no row of it.
+/// What is found of a key stays as it was after a call that speaks of no row of it and gives no list of books.
 pub fn changes_leave_what_is_found_of_other_keys()
     ensures { (files : List (List Row)) (state : State) (call : Call) (who : ℕ) (key : RowKey) (okuri : Option (List ℕ))
-        → is_call call ≡ true → ((book : ℕ) → speaks_of call book key ≡ false) →
+        → is_call call ≡ true → is_share call ≡ false → ((book : ℕ) → speaks_of call book key ≡ false) →
         found files (after state call) who key okuri ≡ found files state who key okuri }
 {}
 
@@ -133,15 +134,15 @@ pub fn no_row_hides_its_own_words()
         (rest : List Cand) × (merged (row ∷ below) okuri ≡ ordered row okuri ++ rest) }
 {}
 
-/// What a typist's look-up and completion are answered depends on the rows of the typist's book and of the shared one,
-/// and on the system files, alone.
-pub fn answers_depend_on_two_books()
+/// What a typist's look-up and completion are answered depends on the rows of the books that the typist reads, and on
+/// the system files, alone: who does not read a book is not answered from it.
+pub fn answers_depend_on_the_books_read()
     ensures lookup { (files : List (List Row)) (state other : State) (who : ℕ) →
-        rows_of other who ≡ rows_of state who → rows_of other 0 ≡ rows_of state 0 →
+        shared_books other who ≡ shared_books state who → All (SameRows state other) (books_read state who) →
         (key : RowKey) (okuri : Option (List ℕ)) →
         answer files other (Lookup who key okuri) ≡ answer files state (Lookup who key okuri) }
     ensures complete { (files : List (List Row)) (state other : State) (who : ℕ) →
-        rows_of other who ≡ rows_of state who → rows_of other 0 ≡ rows_of state 0 →
+        shared_books other who ≡ shared_books state who → All (SameRows state other) (books_read state who) →
         (prefix : List ℕ) → answer files other (Complete who prefix) ≡ answer files state (Complete who prefix) }
 {}
 

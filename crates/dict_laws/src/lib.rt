@@ -11,7 +11,7 @@ mod own_books;
 
 pub use laws::{
     annotations_are_told_to_change_what_they_change, annotations_keep_the_order,
-    answers_depend_on_two_books, changed_rows_are_rows, changes_keep_states_valid,
+    answers_depend_on_the_books_read, changed_rows_are_rows, changes_keep_states_valid,
     changes_leave_other_rows, changes_leave_what_is_found_of_other_keys, changes_make_states,
     completions_go_on_and_differ, counting_comes_to_the_tally, found_words_differ,
     learning_keeps_own_notes, learning_twice_is_learning_once, no_row_hides_its_own_words,

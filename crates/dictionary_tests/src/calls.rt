@@ -146,7 +146,7 @@ impl Shows<Noted> for AnyOpening {
     ghost use Rattle.std.specs.Prelude.{[]};
     ghost use Rattle.skk_calls.specs.declared.chronicle.Noted.TheVariants.{Opened};
 
-    ghost shows = { λ _. Opened [] (record { books = [] }) 0 16777216 0 0 };
+    ghost shows = { λ _. Opened [] (record { books = []; lists = [] }) 0 16777216 0 0 };
 }
 
 #[test]

@@ -1,6 +1,6 @@
 use crate::learning::{add_texts, run};
 use crate::making::{files_of, text};
-use dict_complete::complete;
+use dict_complete::{TextLists, complete};
 use expectations::{same, same_at};
 use skk_text::Texts;
 use std::alloc::Global;
@@ -111,24 +111,33 @@ fn readings_are_joined(rt: HostRuntime) {
 
 fn expect_joined(rt: &impl Abort, alloc: Global, row: &Joined) {
     let (newest, shared, file, other, prefix, wanted) = *row;
-    let books = (texts(rt, alloc, newest), texts(rt, alloc, shared));
-    let given = given_of(rt, alloc, &books, file, other, prefix);
+    let lists = lists_of(rt, alloc, &[newest, shared]);
+    let given = given_of(rt, alloc, &lists, file, other, prefix);
     let mut told = String::new(alloc);
     add_texts(rt, &mut told, &given);
     same_at(told.trim(), wanted, row).expect(rt, "as wanted");
 }
 
-// What is given of the readings of two books and two files.
+// The readings of books, of each by the words of a line.
+fn lists_of(rt: &impl Abort, alloc: Global, books: &[&str]) -> TextLists {
+    let mut lists = TextLists::new(alloc);
+    for words in books {
+        lists.push(texts(rt, alloc, words)).expect(rt, "memory");
+    }
+    lists
+}
+
+// What is given of the readings of books and two files.
 fn given_of(
     rt: &impl Abort,
     alloc: Global,
-    (newest, shared): &(Texts, Texts),
+    lists: &TextLists,
     file: &str,
     other: &str,
     prefix: &str,
 ) -> Texts {
     let system = files_of(rt, alloc, &[file, other]);
-    complete(alloc, newest, shared, &system, &text(rt, alloc, prefix)).expect(rt, "memory")
+    complete(alloc, lists, &system, &text(rt, alloc, prefix)).expect(rt, "memory")
 }
 
 #[test]
@@ -140,9 +149,10 @@ fn readings_are_256_at_most(rt: HostRuntime) {
 
 fn expect_counted(rt: &impl Abort, alloc: Global, row: &Counted) {
     let (in_book, in_file, count, last) = *row;
-    let newest = texts(rt, alloc, &numbered(rt, alloc, in_book, " "));
+    let words = numbered(rt, alloc, in_book, " ");
+    let lists = lists_of(rt, alloc, &[words.as_str()]);
     let file = numbered(rt, alloc, in_file, " /亜/\n");
-    let given = given_of(rt, alloc, &(newest, Texts::new(alloc)), &file, "", "あ");
+    let given = given_of(rt, alloc, &lists, &file, "", "あ");
     expect_last(rt, &given, count, last);
 }
 

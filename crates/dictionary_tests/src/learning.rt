@@ -10,11 +10,40 @@ use dict_layers::System;
 use dict_rows::line_length;
 use expectations::same_at;
 use learn_index::{Index, KeptRow};
-use skk_calls::{Block, Blocks, Book, Books, Call, Cand, Cands, Learned, Part, Reply, Row, RowKey};
+use skk_calls::{
+    Block, Blocks, Book, BookList, Books, Call, Cand, Cands, Learned, Part, Reply, Row, RowKey,
+};
 use skk_text::{Copies, Text, Texts};
 use std::alloc::Global;
 use std::mem::swap;
 use std::process::Abort;
+
+// The books of lists: their order, the typist's own book first and once, a list that stands already, and a typist
+// without one.
+const LISTS: &str = "
+learn 7 かき 柿 = learned 1 after 0
+learn 7 かい 貝 = learned 2 after 0
+learn 0 かき 牡蠣 = learned 1 after 0
+learn 2 かき 下記 = learned 1 after 0
+find 2 かき = 下記 牡蠣
+share 2 7 = shared
+find 2 かき = 下記 柿
+share 2 7 = unchanged
+share 2 0,7 = shared
+find 2 かき = 下記 牡蠣 柿
+share 2 7,2,0 = shared
+find 2 かき = 下記 柿 牡蠣
+complete 2 か = かき かい
+find 1 かき = 牡蠣
+share 2 0 = shared
+share 2 0 = unchanged
+find 2 かき = 下記 牡蠣
+complete 2 か = かき
+share 0 7 = shared
+find 0 かき = 牡蠣 柿
+count 2 = 1
+count 7 = 2
+";
 
 // Two typists' books, the shared book and a system file.
 const LAYERS: &str = "
@@ -150,8 +179,9 @@ row 7 か = none
 count 7 = 5
 ";
 
-static SCRIPTS: [&str; 7] = [
+static SCRIPTS: [&str; 8] = [
     LAYERS,
+    LISTS,
     TAKEN_BACK,
     PURGES,
     NOTES,
@@ -226,7 +256,7 @@ impl PlainDesk {
     // Runs a command, and gives what it tells.
     fn run(&mut self, rt: &impl Abort, alloc: Global, line: &LearnLine) -> String {
         match line.command {
-            "learn" | "purge" | "note" | "find" | "complete" => self.ask(
+            "learn" | "purge" | "note" | "find" | "complete" | "share" => self.ask(
                 rt,
                 alloc,
                 call_of(rt, alloc, line),
@@ -383,6 +413,7 @@ fn call_of(rt: &impl Abort, alloc: Global, line: &LearnLine) -> Call
         "learn" => learning(rt, alloc, line),
         "purge" => purging(rt, alloc, line),
         "note" => annotating(rt, alloc, line),
+        "share" => sharing(rt, alloc, line),
         "find" => finding(rt, alloc, line),
         _ => completing(rt, alloc, line),
     }
@@ -420,6 +451,21 @@ fn annotating(rt: &impl Abort, alloc: Global, line: &LearnLine) -> Call
     }
 }
 
+// The giving of a list of books, whose numbers a comma stands between.
+fn sharing(rt: &impl Abort, alloc: Global, line: &LearnLine) -> Call
+    ensures { is_fit result ≡ true }
+{
+    let mut books = Vec::new(alloc);
+    for number in line.reading.split(',') {
+        let number = number.parse().expect(rt, "a number");
+        books.push(number).expect(rt, "memory");
+    }
+    Call::Share {
+        who: line.number,
+        books: BookList::new(&books).expect(rt, "a list of books"),
+    }
+}
+
 fn finding(rt: &impl Abort, alloc: Global, line: &LearnLine) -> Call
     ensures { is_fit result ≡ true }
 {
@@ -452,6 +498,7 @@ fn reply_text(rt: &impl Abort, alloc: Global, reply: &Reply) -> String {
         Reply::Unchanged => told.push_str("unchanged").expect(rt, "memory"),
         Reply::Restored => told.push_str("restored").expect(rt, "memory"),
         Reply::Annotated => told.push_str("annotated").expect(rt, "memory"),
+        Reply::Shared => told.push_str("shared").expect(rt, "memory"),
         Reply::StampsEnd => told.push_str("stamps end").expect(rt, "memory"),
     }
     told

@@ -126,9 +126,9 @@ module _ (all : State) (rows : ℕ) (keeps : IsKept all rows) where
 
   -- what is kept with one book more, or in the place of that of its number
   pub kept_with : (book : NumberedBook) (count : ℕ) → has_count book ≡ true → is_held book ≡ true
-      → is_valid (changed (record { books = with_book book all.books })) ≡ true
-      → count ≡ count_rows (record { books = with_book book all.books })
-      → IsKept (record { books = with_book book all.books }) count
+      → is_valid (changed (record all { books = with_book book all.books })) ≡ true
+      → count ≡ count_rows (record all { books = with_book book all.books })
+      → IsKept (record all { books = with_book book all.books }) count
   kept_with book count counts held valid counted = record {
     ascend = books_ascend_with_book book all.books keeps.ascend;
     valid = valid;

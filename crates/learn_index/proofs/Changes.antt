@@ -16,6 +16,7 @@ use Rattle.ordered_lists.specs.KeyOrders.{number_keys}
 use Rattle.ordered_lists.specs.Orders.{passes, IsPlace}
 use Rattle.ordered_lists.specs.PlaceLaws.{found_put, item_at, point_made, put_insert, put_set}
 use Rattle.skk_calls.specs.declared.book.NumberedBook.{NumberedBook}
+use Rattle.skk_calls.specs.declared.book_list.TypistList.{TypistList}
 use Rattle.skk_calls.specs.Rows.{RowKey, Row}
 use Rattle.skk_calls.specs.States.{State, book_rows, rows_of, with_book, with_row, state_with, books_ascend, is_valid}
 use Rattle.skk_calls.specs.Tallies.{count_rows}
@@ -24,6 +25,10 @@ use Rattle.learn_index.specs.Index.{Index, Spare, changes_of, spare_of}
 use Rattle.learn_index.specs.Kept.{numbered, kept, has_changed, changed, room_of, spare, keeps_book, IsKept}
 use Rattle.learn_index.specs.Records.{state_counted}
 use Rattle.learn_index.proofs.Books.{book_changed, kept_with, rows_changed}
+
+-- an index of these books
+abbrev pub index_of : State → List LearnedBook → ℕ → Index
+index_of state books free = record { state = state; spare = map spare books; spare_lists = free }
 
 -- the book of a number stands at a place
 pub record IsAt (items : List LearnedBook) (number place : ℕ) (book : LearnedBook) : Type 0 where
@@ -69,12 +74,13 @@ inserted_found p [] (suc i) x e = grind arith
 inserted_found p (y ∷ ys) (suc i) x e = grind (arith, inserted_found p ys i x e)
 
 -- books in memory ascend by their numbers
-pub numbers_ascend : (items : List LearnedBook) → books_ascend (kept items).books ≡ true
+pub numbers_ascend : (items : List LearnedBook) → books_ascend (map numbered items) ≡ true
     → all_pairs (λ (book other : LearnedBook). nat_lt book.number other.number) items ≡ true
 numbers_ascend items ascend =
     sym (all_pairs-map numbered (λ (book other : NumberedBook). nat_lt book.number other.number) items) ∙ ascend
 
-module _ (items : List LearnedBook) (number place : ℕ) (ascend : books_ascend (kept items).books ≡ true)
+module _ (items : List LearnedBook) (lists : List TypistList) (number place : ℕ)
+    (ascend : books_ascend (map numbered items) ≡ true)
     (point : IsPlace (λ (book : LearnedBook). book.number) number_keys number items place) where
   -- the book of the number is the one at the place
   pub found : find (λ (book : LearnedBook). book.number == number) items
@@ -84,32 +90,34 @@ module _ (items : List LearnedBook) (number place : ℕ) (ascend : books_ascend 
       (numbers_ascend items ascend) point
 
   -- a book that is there stands at the place
-  pub stands : (state : State) → keeps_book (record { state = state; spare = map spare items }) number ≡ true
+  pub stands : (state : State) (free : ℕ) → keeps_book (index_of state items free) number ≡ true
       → passes (λ (book : LearnedBook). book.number == number) (slice_get items place) ≡ true
-  stands state there = grind (arith, found, find-map spare (λ (s : Spare). s.number == number) items)
+  stands state free there = grind (arith, found, find-map spare (λ (s : Spare). s.number == number) items)
 
   -- and is the one that is read there
-  pub stands_at : (state : State) (book : LearnedBook)
-      → keeps_book (record { state = state; spare = map spare items }) number ≡ true → book ≡ get_or items place book
+  pub stands_at : (state : State) (free : ℕ) (book : LearnedBook)
+      → keeps_book (index_of state items free) number ≡ true → book ≡ get_or items place book
       → IsAt items number place book
-  stands_at state book there read =
-      let both = read_at (λ (b : LearnedBook). b.number == number) items place book (stands state there) read in
+  stands_at state free book there read =
+      let both = read_at (λ (b : LearnedBook). b.number == number) items place book (stands state free there) read in
       record { here = both.0; has = both.1 }
 
   -- a book that stands at the place is there
-  pub there_by : (state : State) → passes (λ (book : LearnedBook). book.number == number) (slice_get items place) ≡ true
-      → keeps_book (record { state = state; spare = map spare items }) number ≡ true
-  there_by state there = grind (arith, found, find-map spare (λ (s : Spare). s.number == number) items)
+  pub there_by : (state : State) (free : ℕ) → passes (λ (book : LearnedBook). book.number == number)
+      (slice_get items place) ≡ true
+      → keeps_book (index_of state items free) number ≡ true
+  there_by state free there = grind (arith, found, find-map spare (λ (s : Spare). s.number == number) items)
 
   -- a book that has not changed, put where its number is not there
-  module _ (rows : ℕ) (keeps : IsKept (kept items) rows) (new : LearnedBook) (same : new.number ≡ number)
+  module _ (rows : ℕ) (keeps : IsKept (kept items lists) rows) (new : LearnedBook) (same : new.number ≡ number)
       (unchanged : new.count ≡ 0) (empty : new.rows.items ≡ [])
       (within : place ≤ length items)
       (missing : passes (λ (book : LearnedBook). book.number == number) (slice_get items place) ≡ false) where
-    kept_insert : kept (insert items place new) ≡ record { books = with_book (numbered new) (kept items).books }
+    kept_insert : kept (insert items place new) lists
+        ≡ record { books = with_book (numbered new) (map numbered items); lists = lists }
     kept_insert =
         let low = point_made numbered (λ (b : NumberedBook). nat_lt b.number number) items place within point in
-        ap (λ (books : List NumberedBook). record { books = books })
+        ap (λ (books : List NumberedBook). record { books = books; lists = lists })
         (map_insert numbered items place new
         ∙ sym (put_insert (λ (b : NumberedBook). b.number) number_keys (numbered new)
         (map numbered items) place (omega (arith, within, length-map items numbered)) ascend
@@ -125,21 +133,21 @@ module _ (items : List LearnedBook) (number place : ℕ) (ascend : books_ascend 
         passed (x ∷ xs) (suc i) e = passed xs i e
 
     -- leaves the state
-    pub state_insert : changed (kept (insert items place new)) ≡ changed (kept items)
+    pub state_insert : changed (kept (insert items place new) lists) ≡ changed (kept items lists)
     state_insert =
-        ap (λ (books : List NumberedBook). record { books = filter has_changed books })
+        ap (λ (books : List NumberedBook). record { books = filter has_changed books; lists = lists })
         (map_insert numbered items place new)
-        ∙ ap (λ (books : List NumberedBook). record { books = books })
+        ∙ ap (λ (books : List NumberedBook). record { books = books; lists = lists })
         (filter_insert has_changed (map numbered items) place (numbered new) (ap (λ n. nat_lt 0 n) unchanged))
 
     -- and what is kept
-    pub kept_new : number < 2 ^ 16 → IsKept (kept (insert items place new)) rows
+    pub kept_new : number < 2 ^ 16 → IsKept (kept (insert items place new) lists) rows
     kept_new small =
         let none : length new.rows.items ≡ 0 = ap length empty in
         let sum = sum_by-insert (λ (b : NumberedBook). length b.rows) (map numbered items) place (numbered new) in
         let moved = ap (sum_by (λ (b : NumberedBook). length b.rows)) (map_insert numbered items place new) in
         subst (λ (all : State). IsKept all rows) (sym kept_insert)
-        (kept_with (kept items) rows keeps (numbered new) rows
+        (kept_with (kept items lists) rows keeps (numbered new) rows
         (ap (λ n. nat_lt 0 new.count || nat_lt n 1) none ∙ or_right (nat_lt 0 new.count) true refl)
         (and_from (nat_lt new.number (2 ^ 16)) (nat_lt (length new.rows.items) (2 ^ 64))
         (lt-ltb new.number (2 ^ 16) (subst (λ n. n < 2 ^ 16) (sym same) small)) (ap (λ n. nat_lt n (2 ^ 64)) none))
@@ -151,13 +159,13 @@ module _ (items : List LearnedBook) (number place : ℕ) (ascend : books_ascend 
             ≡ sum_by (λ (b : NumberedBook). length b.rows) (map numbered items) + length new.rows.items
             → sum_by (λ (b : NumberedBook). length b.rows) (map numbered (insert items place new))
             ≡ sum_by (λ (b : NumberedBook). length b.rows) (insert (map numbered items) place (numbered new))
-            → rows ≡ count_rows (kept (insert items place new))
+            → rows ≡ count_rows (kept (insert items place new) lists)
         equal none sum moved = omega (arith, keeps.counted, none, sum, moved)
 
     -- and the book is there
-    pub new_there : (state : State)
-        → keeps_book (record { state = state; spare = map spare (insert items place new) }) number ≡ true
-    new_there state =
+    pub new_there : (state : State) (free : ℕ)
+        → keeps_book (index_of state (insert items place new) free) number ≡ true
+    new_there state free =
         ap (λ spares. is_some (find (λ s. s.number == number) spares)) (map_insert spare items place new)
         ∙ inserted_found (λ s. s.number == number) (map spare items) place (spare new) (eq-eqb new.number number same)
 
@@ -168,24 +176,24 @@ module _ (items : List LearnedBook) (number place : ℕ) (ascend : books_ascend 
         ∙ ap (λ b. cond b (Some book) None) at.has
 
     -- its rows
-    pub rows_here : rows_of (kept items) number ≡ book.rows.items
+    pub rows_here : rows_of (kept items lists) number ≡ book.rows.items
     rows_here =
         ap book_rows (find-map numbered (λ (b : NumberedBook). b.number == number) items
         ∙ ap (option_map numbered) found_here)
 
     -- and its room
-    pub room_here : (state : State) → 0 < spare_of (record { state = state; spare = map spare items }) number
+    pub room_here : (state : State) (free : ℕ) → 0 < spare_of (index_of state items free) number
         → 0 < room_of book
-    room_here state room =
+    room_here state free room =
         let same = ap changes_of (find-map spare (λ s. s.number == number) items ∙ ap (option_map spare) found_here) in
         omega (arith, room, same)
 
     -- what a book with more room leaves as it was
     module _ (after : LearnedBook) (number_same : after.number ≡ book.number) (count_same : after.count ≡ book.count)
         (rows_same : after.rows.items ≡ book.rows.items) where
-      pub kept_grown : kept (set items place after) ≡ kept items
+      pub kept_grown : kept (set items place after) lists ≡ kept items lists
       kept_grown =
-          ap (λ (books : List NumberedBook). record { books = books })
+          ap (λ (books : List NumberedBook). record { books = books; lists = lists })
           (map-set numbered items place after ∙ ap (set (map numbered items) place) same_numbered
           ∙ set_same items place at.here)
         where
@@ -203,9 +211,9 @@ module _ (items : List LearnedBook) (number place : ℕ) (ascend : books_ascend 
           set_same (x ∷ xs) (suc i) e = ap (λ bs. numbered x ∷ bs) (set_same xs i e)
 
       -- and the room that it has
-      pub room_grown : (state : State) → 0 < room_of after
-          → 0 < spare_of (record { state = state; spare = map spare (set items place after) }) number
-      room_grown state room =
+      pub room_grown : (state : State) (free : ℕ) → 0 < room_of after
+          → 0 < spare_of (index_of state (set items place after) free) number
+      room_grown state free room =
           let within = place_within (λ (b : LearnedBook). b.number == number) items place
           (ap (passes (λ (b : LearnedBook). b.number == number)) at.here ∙ at.has) in
           let there = found_put (λ (b : LearnedBook). b.number) number_keys number after items
@@ -214,18 +222,18 @@ module _ (items : List LearnedBook) (number place : ℕ) (ascend : books_ascend 
           (find-map spare (λ s. s.number == number) (set items place after) ∙ ap (option_map spare) there) in
           omega (arith, room, same)
 
-    module _ (rows : ℕ) (keeps : IsKept (kept items) rows) where
+    module _ (rows : ℕ) (keeps : IsKept (kept items lists) rows) where
       -- the row count never falls below the rows of the book
       pub rows_below : length book.rows.items ≤ rows
       rows_below =
           let none = counted_nothing in
           omega (arith, keeps.counted, none)
         where
-          counted_nothing : length book.rows.items ≤ count_rows (kept items)
+          counted_nothing : length book.rows.items ≤ count_rows (kept items lists)
           counted_nothing = of_book items place at.here
             where
               of_book : (xs : List LearnedBook) (i : ℕ) → slice_get xs i ≡ Some book
-                  → length book.rows.items ≤ count_rows (kept xs)
+                  → length book.rows.items ≤ count_rows (kept xs lists)
               of_book [] i e = cc
               of_book (x ∷ xs) zero e =
                   let one : length x.rows.items ≡ length book.rows.items =
@@ -242,13 +250,14 @@ module _ (items : List LearnedBook) (number place : ℕ) (ascend : books_ascend 
 
       module _ (after : LearnedBook) (same : after.number ≡ number) where
         -- the books with another in its place
-        pub kept_set : kept (set items place after) ≡ record { books = with_book (numbered after) (kept items).books }
+        pub kept_set : kept (set items place after) lists
+            ≡ record { books = with_book (numbered after) (map numbered items); lists = lists }
         kept_set =
             let within = place_within (λ (b : LearnedBook). b.number == number) items place
             (ap (passes (λ (b : LearnedBook). b.number == number)) at.here ∙ at.has) in
             let low = point_made numbered (λ (b : NumberedBook). nat_lt b.number number) items place
             (omega (arith, within)) point in
-            ap (λ (books : List NumberedBook). record { books = books })
+            ap (λ (books : List NumberedBook). record { books = books; lists = lists })
             (map-set numbered items place after
             ∙ sym (put_set (λ (b : NumberedBook). b.number) number_keys (numbered after)
             (map numbered items) place ascend
@@ -265,8 +274,8 @@ module _ (items : List LearnedBook) (number place : ℕ) (ascend : books_ascend 
             passed (x ∷ xs) (suc i) e = passed xs i e
 
         -- how many rows there are then
-        pub counted_set : count_rows (kept (set items place after)) + length book.rows.items
-            ≡ count_rows (kept items) + length after.rows.items
+        pub counted_set : count_rows (kept (set items place after) lists) + length book.rows.items
+            ≡ count_rows (kept items lists) + length after.rows.items
         counted_set =
             let within = place_within (λ (b : LearnedBook). b.number == number) items place
             (ap (passes (λ (b : LearnedBook). b.number == number)) at.here ∙ at.has) in
@@ -281,44 +290,50 @@ module _ (items : List LearnedBook) (number place : ℕ) (ascend : books_ascend 
         module _ (changes : has_changed (numbered after) ≡ true) where
           -- the state with the book changed
           state_set : (left : List Row) → after.rows.items ≡ left
-              → changed (kept (set items place after)) ≡ record {
+              → changed (kept (set items place after) lists) ≡ record {
                 books =
                     with_book (record { number = number; count = after.count; rows = left })
-                    (changed (kept items)).books;
+                    (changed (kept items lists)).books;
+                lists = lists;
               }
           state_set left e =
-              ap changed kept_set ∙ ap (λ (books : List NumberedBook). record { books = books })
-              (sym (book_changed (kept items) rows keeps (numbered after) changes))
+              ap changed kept_set ∙ ap (λ (books : List NumberedBook). record { books = books; lists = lists })
+              (sym (book_changed (kept items lists) rows keeps (numbered after) changes))
               ∙ ap (λ n. with_left n after.rows.items) same ∙ ap (with_left number) e
             where
               with_left : ℕ → List Row → State
               with_left n rows = record {
                 books =
-                    with_book (record { number = n; count = after.count; rows = rows }) (changed (kept items)).books;
+                    with_book (record { number = n; count = after.count; rows = rows })
+                    (changed (kept items lists)).books;
+                lists = lists;
               }
 
           -- where a row of it changes
           pub state_row : (key : RowKey) (row : Option Row) → after.rows.items ≡ with_row key row book.rows.items
-              → changed (kept (set items place after)) ≡ state_with (changed (kept items)) number after.count key row
+              → changed (kept (set items place after) lists) ≡ state_with (changed (kept items lists)) number
+              after.count key row
           state_row key row e =
-              state_set (with_row key row (rows_of (changed (kept items)) number))
-              (e ∙ ap (with_row key row) (sym (rows_changed (kept items) rows keeps number ∙ rows_here)))
+              state_set (with_row key row (rows_of (changed (kept items lists)) number))
+              (e ∙ ap (with_row key row) (sym (rows_changed (kept items lists) rows keeps number ∙ rows_here)))
 
           -- and where its count alone does
           pub state_count : after.rows.items ≡ book.rows.items
-              → changed (kept (set items place after)) ≡ state_counted (changed (kept items)) number after.count
+              → changed (kept (set items place after) lists) ≡ state_counted (changed (kept items lists)) number
+              after.count
           state_count e =
-              state_set (rows_of (changed (kept items)) number)
-              (e ∙ sym (rows_changed (kept items) rows keeps number ∙ rows_here))
-              ∙ sym (ap (λ b. cond b (changed (kept items)) counted) (some after.count changes))
+              state_set (rows_of (changed (kept items lists)) number)
+              (e ∙ sym (rows_changed (kept items lists) rows keeps number ∙ rows_here))
+              ∙ sym (ap (λ b. cond b (changed (kept items lists)) counted) (some after.count changes))
             where
               counted : State
               counted = record {
                 books = with_book (record {
                   number = number;
                   count = after.count;
-                  rows = rows_of (changed (kept items)) number;
-                }) (changed (kept items)).books;
+                  rows = rows_of (changed (kept items lists)) number;
+                }) (changed (kept items lists)).books;
+                lists = lists;
               }
 
               some : (n : ℕ) → nat_lt 0 n ≡ true → (n == 0) ≡ false
@@ -327,11 +342,12 @@ module _ (items : List LearnedBook) (number place : ℕ) (ascend : books_ascend 
           -- what is kept then
           pub kept_after : (count : ℕ) → number < 2 ^ 16 → length after.rows.items < 2 ^ 64
               → count + length book.rows.items ≡ rows + length after.rows.items
-              → is_valid (changed (kept (set items place after))) ≡ true → IsKept (kept (set items place after)) count
+              → is_valid (changed (kept (set items place after) lists)) ≡ true
+              → IsKept (kept (set items place after) lists) count
           kept_after count small short counted valid =
               let sum = counted_set in
               subst (λ (all : State). IsKept all count) (sym kept_set)
-              (kept_with (kept items) rows keeps (numbered after) count
+              (kept_with (kept items lists) rows keeps (numbered after) count
               (ap (λ b. b || nat_lt (length after.rows.items) 1) changes)
               (and_from (nat_lt after.number (2 ^ 16)) (nat_lt (length after.rows.items) (2 ^ 64))
               (lt-ltb after.number (2 ^ 16) (subst (λ n. n < 2 ^ 16) (sym same) small))
@@ -339,7 +355,7 @@ module _ (items : List LearnedBook) (number place : ℕ) (ascend : books_ascend 
               (ap (λ (all : State). is_valid (changed all)) (sym kept_set) ∙ valid)
               (equal sum ∙ ap count_rows kept_set))
             where
-              equal : count_rows (kept (set items place after)) + length book.rows.items
-                  ≡ count_rows (kept items) + length after.rows.items
-                  → count ≡ count_rows (kept (set items place after))
+              equal : count_rows (kept (set items place after) lists) + length book.rows.items
+                  ≡ count_rows (kept items lists) + length after.rows.items
+                  → count ≡ count_rows (kept (set items place after) lists)
               equal sum = omega (arith, keeps.counted, counted, sum)

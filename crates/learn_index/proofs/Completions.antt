@@ -1,9 +1,10 @@
 -- What a completion is answered: the readings of books, of which the newest are enough, and of the walks over files.
-use Rattle.std.proofs.Common.{◌≡◌, ◌==◌, ℕ, Bool, true, false, cond, List, [], ◌∷◌, ◌++◌, map, take}
-use Rattle.std.proofs.Common.{refl, ap, ◌∙◌, arith}
+use Rattle.std.proofs.Common.{◌≡◌, ℕ, true, List, [], ◌∷◌, ◌++◌, map, take}
+use Rattle.std.proofs.Common.{refl, sym, ap, ◌∙◌, arith}
+use Rattle.std.proofs.lemmas.Simd.{map-map}
 use Rattle.std.specs.List.{filter, flat_map, list_all}
 use Rattle.std.proofs.lemmas.Bool.{and_from, and_parts}
-use Rattle.std.proofs.lemmas.List.Folds.{list_all-append, list_all-map}
+use Rattle.std.proofs.lemmas.List.Folds.{flat_map-map, list_all-append, list_all-map}
 use Rattle.skk_text.specs.PairsLaws.{list_all-take, list_all-weaker}
 use Rattle.ordered_lists.specs.OrderLaws.{list_all-sort_by}
 use Rattle.ordered_lists.specs.Orders.{sort_by}
@@ -14,8 +15,8 @@ use Rattle.skk_calls.specs.Dictionary.{is_plain_reading}
 use Rattle.skk_calls.specs.Found.{first_of_each}
 use Rattle.skk_calls.specs.KeyLaws.{same_part_equal}
 use Rattle.skk_calls.specs.Orders.{is_newer, text_less}
-use Rattle.skk_calls.specs.Rows.{Row, is_row, keys_differ}
-use Rattle.skk_calls.specs.States.{State, count_of, fits_count, is_valid, rows_of}
+use Rattle.skk_calls.specs.Rows.{Row, is_row, keys_differ, texts_differ}
+use Rattle.skk_calls.specs.States.{State, books_read, count_of, fits_count, is_valid, rows_of}
 use Rattle.dict_laws.specs.ValidStates.{rows_of_ascend, rows_of_fit}
 use Rattle.dict_files.specs.Files.{is_file}
 use Rattle.dict_files.specs.Walked.{walked_readings}
@@ -37,35 +38,36 @@ walked_on prefix same (rows ∷ files) valid = grind (arith, same rows, walked_o
 -- The readings of the books
 
 module _ (files : List (List Row)) (state : State) (who : ℕ) (prefix : List ℕ) where
-  -- the newest readings of the typist's book, and of the shared one where that is another
-  abbrev own : List (List ℕ)
-  own = newest_readings prefix (rows_of state who)
+  -- the newest readings of a book
+  abbrev newest_of : ℕ → List (List ℕ)
+  newest_of number = newest_readings prefix (rows_of state number)
 
-  abbrev shared : List (List ℕ)
-  shared = cond (who == 0) [] (newest_readings prefix (rows_of state 0))
+  -- the newest readings of each book differ
+  each_differ : is_valid state ≡ true → (numbers : List ℕ) → list_all texts_differ (map newest_of numbers) ≡ true
+  each_differ valid [] = refl
+  each_differ valid (number ∷ numbers) =
+      and_from (texts_differ (newest_of number)) (list_all texts_differ (map newest_of numbers))
+      (newest_differ prefix (rows_of state number) (rows_of_ascend state number valid)) (each_differ valid numbers)
 
-  -- the first of them are enough
+  -- so the first of them are enough
   pub joined : is_valid state ≡ true → list_all is_file files ≡ true
       → ((rows : List Row) → keys_differ rows ≡ true
       → filter (goes_on_from prefix) (walked_readings rows) ≡ ascending_readings prefix rows)
-      → completions_among (take completion_limit own)
-      (cond (who == 0) [] (take completion_limit (newest_readings prefix (rows_of state 0))))
+      → completions_among
+      (map (λ number. take completion_limit (newest_readings prefix (rows_of state number))) (books_read state who))
       (map walked_readings files) prefix
       ≡ completions files state who prefix
   joined valid filed same =
-      ap (λ readings. completions_among (take completion_limit own) readings (map walked_readings files) prefix)
-      (first_shared (who == 0))
-      ∙ first_enough own shared (map walked_readings files) prefix
-      (newest_differ prefix (rows_of state who) (rows_of_ascend state who valid))
-      (grind (arith, newest_differ prefix (rows_of state 0) (rows_of_ascend state 0 valid)))
-      ∙ ap (λ readings. take completion_limit (first_of_each (λ reading. reading) [] (own ++ shared ++ readings)))
-      (walked_on prefix same files filed)
+      let books = books_read state who in
+      ap (λ lists. completions_among lists (map walked_readings files) prefix)
+      (sym (map-map (take completion_limit) newest_of books))
+      ∙ first_enough (map newest_of books) (map walked_readings files) prefix (each_differ valid books)
+      ∙ ap (λ readings. firsts (readings ++ flat_map (filter (goes_on_from prefix)) (map walked_readings files)))
+      (flat_map-map (λ (readings : List (List ℕ)). readings) newest_of books)
+      ∙ ap (λ readings. firsts (flat_map newest_of books ++ readings)) (walked_on prefix same files filed)
     where
-      first_shared : (b : Bool)
-          → cond b [] (take completion_limit (newest_readings prefix (rows_of state 0)))
-          ≡ take completion_limit (cond b [] (newest_readings prefix (rows_of state 0)))
-      first_shared true = refl
-      first_shared false = refl
+      firsts : List (List ℕ) → List (List ℕ)
+      firsts readings = take completion_limit (first_of_each (λ reading. reading) [] readings)
 
 -- Valid readings
 
@@ -112,21 +114,28 @@ rows_valid state number valid =
     list_all-weaker (fits_count (count_of state number)) is_row
     (λ row e. (and_parts (is_row row) _ e).0) (rows_of state number) (rows_of_fit state number valid)
 
+-- the readings of books of a valid state are valid
+books_plain : (state : State) (prefix : List ℕ) → is_valid state ≡ true → (numbers : List ℕ)
+    → list_all is_plain_reading (flat_map (λ number. newest_readings prefix (rows_of state number)) numbers) ≡ true
+books_plain state prefix valid [] = refl
+books_plain state prefix valid (number ∷ numbers) =
+    let own = newest_readings prefix (rows_of state number) in
+    let others = flat_map (λ other. newest_readings prefix (rows_of state other)) numbers in
+    list_all-append is_plain_reading own others
+    ∙ and_from (list_all is_plain_reading own) (list_all is_plain_reading others)
+    (newest_plain prefix (rows_of state number) (rows_valid state number valid))
+    (books_plain state prefix valid numbers)
+
 -- all that a completion gives is valid
 pub completions_plain : (files : List (List Row)) (state : State) (who : ℕ) (prefix : List ℕ)
     → is_valid state ≡ true → list_all is_file files ≡ true
     → list_all is_plain_reading (completions files state who prefix) ≡ true
 completions_plain files state who prefix valid filed =
-    let own = newest_readings prefix (rows_of state who) in
-    let shared = cond (who == 0) [] (newest_readings prefix (rows_of state 0)) in
+    let own = flat_map (λ number. newest_readings prefix (rows_of state number)) (books_read state who) in
     let behind = flat_map (ascending_readings prefix) files in
     list_all-take is_plain_reading completion_limit
     (first_of_each (λ reading. reading) [] (all_readings files state who prefix))
     (first_of_each-all (λ reading. reading) is_plain_reading (all_readings files state who prefix)
-    (list_all-append is_plain_reading (own ++ shared) behind
-    ∙ and_from (list_all is_plain_reading (own ++ shared)) (list_all is_plain_reading behind)
-    (list_all-append is_plain_reading own shared
-    ∙ and_from (list_all is_plain_reading own) (list_all is_plain_reading shared)
-    (newest_plain prefix (rows_of state who) (rows_valid state who valid))
-    (grind (arith, newest_plain prefix (rows_of state 0) (rows_valid state 0 valid))))
-    (filed_plain prefix files filed)))
+    (list_all-append is_plain_reading own behind
+    ∙ and_from (list_all is_plain_reading own) (list_all is_plain_reading behind)
+    (books_plain state prefix valid (books_read state who)) (filed_plain prefix files filed)))

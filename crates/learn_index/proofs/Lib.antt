@@ -6,6 +6,7 @@ mod Examples
 mod FoundBook
 mod FoundPlaces
 mod LastRows
+mod Lists
 mod NewestFirst
 mod Planned
 mod Rooms

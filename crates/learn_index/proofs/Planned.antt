@@ -11,22 +11,22 @@ use Rattle.skk_calls.specs.declared.answer.Reply.{Reply}
 use Rattle.skk_calls.specs.declared.answer.Reply.TheVariants.{Learned, Purged, Unchanged, Restored, Annotated}
 use Rattle.skk_calls.specs.declared.answer.Reply.TheVariants.{Overtaken, TooBig, StampsEnd}
 use Rattle.skk_calls.specs.declared.call.Call.{Call}
-use Rattle.skk_calls.specs.declared.call.Call.TheVariants.{Lookup, Complete, Learn, Purge, Annotate, Unlearn}
+use Rattle.skk_calls.specs.declared.call.Call.TheVariants.{Lookup, Complete, Learn, Purge, Annotate, Share, Unlearn}
 use Rattle.skk_calls.specs.declared.part.Part.TheVariants.{Nasi}
 use Rattle.skk_calls.specs.Canonical.{is_good, line_limit}
-use Rattle.skk_calls.specs.Dictionary.{answer, after, state_moved, speaks_of, is_change, is_call, is_fit}
+use Rattle.skk_calls.specs.Dictionary.{answer, after, moves, state_moved, speaks_of, is_change, is_call, is_fit}
 use Rattle.skk_calls.specs.Dictionary.{is_row_or_none, is_stamped, stamp_of, line_length, change_reply}
 use Rattle.skk_calls.specs.KeyLaws.{same_key_equal, same_key_itself}
 use Rattle.skk_calls.specs.Learning.{learnt, purged, purge_changes, annotated, annotation_changes, is_row_before}
 use Rattle.skk_calls.specs.Learning.{is_valid_learned}
 use Rattle.skk_calls.specs.Rows.{RowKey, Cand, Row, Learned as LearnedRow, same_key, is_row_key, is_row}
 use Rattle.skk_calls.specs.States.{State, row_in, rows_of, row_at, count_of, without_row, with_book, state_with}
-use Rattle.skk_calls.specs.States.{has_stamp, fits_count, is_valid}
+use Rattle.skk_calls.specs.States.{has_stamp, fits_count, is_valid, state_listed}
 use Rattle.dict_laws.specs.ChangedStates.{after_moved, before_has_key, book_at_changed, changed_book, count_of_changed}
 use Rattle.dict_laws.specs.ChangedStates.{has_key, number_itself, row_at_changed, row_in_has_key}
 use Rattle.dict_laws.specs.ValidStates.{fits_after, fits_row_at, is_valid_changed, parts_at, rows_of_fit}
 use Rattle.learn_index.specs.declared.plan.Plan.{Plan}
-use Rattle.learn_index.specs.declared.plan.Plan.TheVariants.{Still, Move}
+use Rattle.learn_index.specs.declared.plan.Plan.TheVariants.{Still, Move, Lists}
 use Rattle.learn_index.specs.Plans.{IsPlanned, IsMade}
 use Rattle.learn_index.specs.Records.{state_counted}
 
@@ -68,6 +68,7 @@ move_is state (Annotate number own cand) book count key row reply typed planned 
     same_change state (after state (Annotate number own cand)) number stamp own
     (Some (annotated (row_at state number own) own cand stamp)) book count key row (same_key_itself own)
     planned.2 (after_moved state (Annotate number own cand) planned.0) planned.3 planned.4
+move_is state (Share who books) book count key row reply typed planned = let speaks = planned.2 in cc
 move_is state (Unlearn learned) book count key row reply typed planned =
     let valid = (and_parts (is_valid_learned learned) (is_row_or_none learned.before)
     (and_parts (is_row_key learned.key) (is_valid_learned learned && is_row_or_none learned.before) typed).1).0 in
@@ -75,6 +76,13 @@ move_is state (Unlearn learned) book count key row reply typed planned =
     learned.before book count key row
     (before_has_key learned.key learned.stamp learned.before valid) planned.2
     (after_moved state (Unlearn learned) planned.0) planned.3 planned.4
+
+-- and so is what a plan of a list leaves
+pub list_is : (state : State) (call : Call) (who : ℕ) (list : List ℕ) (reply : Reply)
+    → IsPlanned state call (Lists who list reply) → after state call ≡ state_listed state who list
+list_is state call who list reply planned =
+    ap (after state) planned.2
+    ∙ after_moved state (Share who list) (ap (moves state) (sym planned.2) ∙ planned.0)
 
 module _ (state : State) (book count : ℕ) (key : RowKey) (row : Option Row) (reply : Reply)
     (made : IsMade state (Move book count key row reply)) where
@@ -138,14 +146,16 @@ pub count_valid : (state : State) (book count : ℕ) → is_valid state ≡ true
     → nat_le (count_of state book) count ≡ true → is_valid (state_counted state book count) ≡ true
 count_valid state book count valid some later =
     ap is_valid
-    (ap (λ b. cond b state counted) (not_none count some) ∙ ap (λ (rows : List Row). record {
+    (ap (λ b. cond b state counted) (not_none count some) ∙ ap (λ (rows : List Row). record state {
       books = with_book (record { number = book; count = count; rows = rows }) state.books;
     }) (sym (none_there state book valid)))
     ∙ drop_valid state book count no_key valid some later
   where
     counted : State
     counted =
-        record { books = with_book (record { number = book; count = count; rows = rows_of state book }) state.books }
+        record state {
+          books = with_book (record { number = book; count = count; rows = rows_of state book }) state.books;
+        }
 
     not_none : (n : ℕ) → 0 < n → (n == 0) ≡ false
     not_none n e = grind (arith, nat_tests)

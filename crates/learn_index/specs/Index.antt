@@ -1,4 +1,5 @@
--- What contracts see of an index: the state that it stands for, and for how many changes each book has room.
+-- What contracts see of an index: the state that it stands for, for how many changes each book has room, and for how
+-- many lists more there is room.
 use Rattle.std.specs.Prelude.{ℕ, ◌==◌, Option, None, Some, List, find}
 use Rattle.skk_calls.specs.States.{State}
 
@@ -7,10 +8,11 @@ pub record Spare : Type 0 where
   pub number : ℕ
   pub changes : ℕ
 
--- a state, and the room of its books
+-- a state, the room of its books, and for how many lists more there is room
 pub record Index : Type 0 where
   pub state : State
   pub spare : List Spare
+  pub spare_lists : ℕ
 
 -- the room that was found, none where there is none
 abbrev pub changes_of : Option Spare → ℕ

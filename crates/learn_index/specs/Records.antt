@@ -8,7 +8,7 @@ abbrev pub state_counted : State → ℕ → ℕ → State
 state_counted state number count =
     if count == 0
     then state
-    else record {
+    else record state {
       books = with_book (record { number = number; count = count; rows = rows_of state number }) state.books;
     }
 

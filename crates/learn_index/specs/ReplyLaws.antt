@@ -3,7 +3,7 @@ use Rattle.std.proofs.Common.{◌≡◌, refl, arith, ℕ, ◌+◌, true, false,
 use Rattle.skk_calls.specs.declared.answer.Reply.{Reply}
 use Rattle.skk_calls.specs.declared.answer.Reply.TheVariants as replies
 use Rattle.skk_calls.specs.declared.call.Call.{Call}
-use Rattle.skk_calls.specs.declared.call.Call.TheVariants.{Lookup, Complete, Learn, Purge, Annotate, Unlearn}
+use Rattle.skk_calls.specs.declared.call.Call.TheVariants.{Lookup, Complete, Learn, Purge, Annotate, Share, Unlearn}
 use Rattle.skk_calls.specs.Dictionary.{answer, change_reply, line_length, may_reply}
 use Rattle.skk_calls.specs.Learning.{learnt, purged, annotated}
 use Rattle.skk_calls.specs.Rows.{Row}
@@ -37,4 +37,5 @@ may-change files state (Annotate book key cand) other =
           (annotated (row_at state book key) key cand (count_of state book + 1)) replies.Annotated (λ n. refl) refl
           refl,
     )
+may-change files state (Share who books) other = grind arith
 may-change files state (Unlearn learned) other = grind arith

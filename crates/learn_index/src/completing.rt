@@ -10,14 +10,13 @@ ghost use Rattle.skk_calls.specs.Completions.{completes, completion_limit, compl
 ghost use Rattle.skk_calls.specs.Dictionary.{is_plain_reading};
 ghost use Rattle.skk_calls.specs.Orders.{is_newer, key_less, plain_key, sort_by};
 ghost use Rattle.skk_calls.specs.Rows.{same_part};
-ghost use Rattle.skk_calls.specs.States.{rows_ascend, rows_of};
+ghost use Rattle.skk_calls.specs.States.{books_read, rows_ascend, rows_of};
 ghost use Rattle.learn_index.specs.Ages.{oldest_first};
 
 use crate::aged_row::AgedRow;
 use crate::index::Index;
 use crate::kept_row::KeptRow;
-use crate::layering::SHARED;
-use dict_complete::{COMPLETION_LIMIT, begins_with, complete};
+use dict_complete::{COMPLETION_LIMIT, TextLists, begins_with, complete};
 use dict_files::walks_go_over_completions;
 use dict_layers::System;
 use ordered_lists::{order_bytes, place_of};
@@ -26,8 +25,8 @@ use skk_text::{Copies, Memory, Text, Texts};
 use std::alloc::Global;
 use std::cmp::Ordering;
 
-/// The readings that complete a prefix for a typist: of the typist's book, of the shared one where that is another, and
-/// of the system files.
+/// The readings that complete a prefix for a typist: of each book that the typist reads, the typist's own first, and of
+/// the system files.
 pub fn completions(
     index: &Index,
     alloc: Global,
@@ -41,26 +40,45 @@ pub fn completions(
     walks_go_over_completions();
     // What is counted tells that each file has rows of which no two have one key.
     let _files = system.file_count();
-    let newest = newest_readings(alloc, index.rows_of(who), index.rows_by_stamp(who), prefix)?;
-    let shared = shared_readings(index, alloc, who, prefix)?;
-    complete(alloc, &newest, &shared, system, prefix)
+    // What is counted tells that the state is valid.
+    let _count = index.count(who);
+    let lists = readings_of_books(index, alloc, who, prefix)?;
+    complete(alloc, &lists, system, prefix)
 }
 
-// The newest readings of the shared book, where that is not the typist's.
-fn shared_readings(index: &Index, alloc: Global, who: u16, prefix: &Text) -> Result<Texts, Memory>
-    ensures { IfOk result (λ readings. readings ≡ (if who == 0 then []
-        else take completion_limit (newest_readings prefix.now (rows_of index.now.state 0)))) }
+// The newest readings of each book that a typist reads, the typist's own first, then those of the list without it.
+fn readings_of_books(
+    index: &Index,
+    alloc: Global,
+    who: u16,
+    prefix: &Text,
+) -> Result<TextLists, Memory>
+    ensures { IfOk result (λ lists. lists
+        ≡ map (λ number. take completion_limit (newest_readings prefix.now (rows_of index.now.state number)))
+        (books_read index.now.state who)) }
 {
-    if who == SHARED {
-        Ok(Texts::new(alloc))
-    } else {
-        newest_readings(
-            alloc,
-            index.rows_of(SHARED),
-            index.rows_by_stamp(SHARED),
-            prefix,
-        )
+    let mut lists = TextLists::new(alloc);
+    lists.push(book_readings(index, alloc, who, prefix)?)?;
+    let list = index.shared(who);
+    for number in list.as_slice() {
+        if *number != who {
+            lists.push(book_readings(index, alloc, *number, prefix)?)?;
+        }
     }
+    Ok(lists)
+}
+
+// The newest readings of the book of a number.
+fn book_readings(index: &Index, alloc: Global, number: u16, prefix: &Text) -> Result<Texts, Memory>
+    ensures { IfOk result (λ readings. readings
+        ≡ take completion_limit (newest_readings prefix.now (rows_of index.now.state number))) }
+{
+    newest_readings(
+        alloc,
+        index.rows_of(number),
+        index.rows_by_stamp(number),
+        prefix,
+    )
 }
 
 // The readings of the rows of a book that complete a prefix, copied: the newest, up to as many as a completion gives.

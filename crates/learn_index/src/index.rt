@@ -5,7 +5,7 @@ ghost use Rattle.skk_calls.specs.declared.call.Call.{Call};
 ghost use Rattle.skk_calls.specs.Dictionary.{answer, after, is_call, is_fit, may_reply};
 ghost use Rattle.skk_calls.specs.Rows.{Row as row_value};
 ghost use Rattle.skk_calls.specs.States.{empty_state, row_at, rows_ascend, rows_of, count_of, state_with};
-ghost use Rattle.skk_calls.specs.States.{is_valid, fits_count};
+ghost use Rattle.skk_calls.specs.States.{is_valid, fits_count, shared_books, state_listed};
 ghost use Rattle.skk_calls.specs.Tallies.{count_rows};
 ghost use Rattle.learn_index.specs.Ages.{oldest_first};
 ghost use Rattle.learn_index.specs.FileRows.{AreFileRows};
@@ -18,27 +18,30 @@ use crate::aged_row::AgedRow;
 use crate::book::{LearnedBook, RowOrders};
 use crate::completing::completions;
 use crate::kept_books::{book_of, place_of};
+use crate::kept_lists::{list_of, put_list};
 use crate::kept_row::{KeptRow, copied_rows};
 use crate::layering::found_cands;
 use crate::plan::Plan;
 use crate::planning::{
-    annotation_is_call, learning_is_call, plan_annotate, plan_learn, plan_purge, plan_unlearn,
-    purge_is_call, unlearning_is_call,
+    annotation_is_call, learning_is_call, plan_annotate, plan_learn, plan_purge, plan_share,
+    plan_unlearn, purge_is_call, share_is_call, unlearning_is_call,
 };
 use crate::rows_of_files::{FileRows, file_rows};
 use dict_laws::changes_keep_states_valid;
 use dict_layers::System;
 use ordered_lists::{has_key_at, item_of};
-use skk_calls::{Book, Call, Reply, Row, RowKey};
+use skk_calls::{Book, BookList, Call, Reply, Row, RowKey, TypistList};
 use skk_text::Memory;
 use std::alloc::Global;
 use std::marker::Model;
 
-/// All learned books. It stands for a state of a dictionary, and has room for changes of its books.
+/// All learned books, and the lists of those that typists read. It stands for a state of a dictionary, and has room for
+/// changes of its books and for lists.
 #[derive(Drop)]
 pub struct Index {
     books: Vec<LearnedBook>,
     rows: u128,
+    lists: Vec<TypistList>,
 }
 
 impl Model for Index {
@@ -46,22 +49,28 @@ impl Model for Index {
 
     ghost Value = { Index };
 
-    ghost use Rattle.std.specs.Prelude.{map};
+    ghost use Rattle.std.specs.Prelude.{map, ◌-◌};
+    ghost use Rattle.std.specs.Vec.{vec_len, vec_capacity};
     ghost use Rattle.learn_index.specs.Kept.{kept, changed, spare, IsKept};
 
-    ghost view = { λ i. record { state = changed (kept i.books.items); spare = map spare i.books.items } };
+    ghost view = { λ i. record {
+      state = changed (kept i.books.items i.lists.items);
+      spare = map spare i.books.items;
+      spare_lists = vec_capacity i.lists - vec_len i.lists;
+    } };
 
-    ghost invariant = { λ i. IsKept (kept i.books.items) i.rows };
+    ghost invariant = { λ i. IsKept (kept i.books.items i.lists.items) i.rows };
 }
 
 impl Index {
-    /// No books. Takes no memory.
+    /// No books, and no lists. Takes no memory.
     pub fn new(alloc: Global) -> Index
         ensures { result.state ≡ empty_state }
     {
         Index {
             books: Vec::new(alloc),
             rows: 0,
+            lists: Vec::new(alloc),
         }
     }
 
@@ -76,10 +85,11 @@ impl Index {
     }
 
     /// What a look-up or a completion is answered over these system files, of which these rows were found for it. A
-    /// look-up takes a logarithm in the rows of a book, and time in the candidates that it gives; a completion takes
-    /// this logarithm and one in the rows of a file, at most time in the rows of a book with a reading that begins with
-    /// the prefix, with one logarithm in their number, less where its newest rows have as many as are given, and a step
-    /// of a walk for each reading that it goes over in a file.
+    /// look-up takes a logarithm in the number of lists, for each book that the typist reads one in its rows, and time
+    /// in the candidates that it gives; a completion takes these logarithms and one in the rows of a file, for each of
+    /// these books at most time in its rows with a reading that begins with the prefix, with one logarithm in their
+    /// number, less where its newest rows have as many as are given, and a step of a walk for each reading that it goes
+    /// over in a file.
     pub fn answer_over(
         &self,
         alloc: Global,
@@ -105,7 +115,8 @@ impl Index {
     }
 
     /// Plans a change, and takes all memory that it needs. The state stays as it was. Takes a logarithm in the rows of
-    /// the book, time in the row, and, where the book's room grows, time in the number of its rows.
+    /// the book, time in the row, and, where the book's room grows, time in the number of its rows; for a list of books
+    /// a logarithm in the number of lists, and time in that where their room grows.
     pub fn plan(&mut self, alloc: Global, call: &Call) -> Result<Plan, Memory>
         requires change { is_question call.now ≡ false }
         requires fit { is_fit call.now ≡ true }
@@ -134,6 +145,10 @@ impl Index {
                 annotation_is_call(key, cand);
                 plan_annotate(self, alloc, *book, key, cand)
             }
+            Call::Share { who, books } => {
+                share_is_call(books);
+                plan_share(self, *who, books)
+            }
             Call::Unlearn { learned } => {
                 unlearning_is_call(learned);
                 plan_unlearn(self, alloc, learned)
@@ -144,7 +159,8 @@ impl Index {
 
     /// Does what was planned, on the state that it was planned on. Takes no memory, a logarithm in the rows of the
     /// book, where a row is new or goes, the time to move a pointer for each row behind it, and where it had or gets an
-    /// older stamp, to move 16 bytes for each newer row.
+    /// older stamp, to move 16 bytes for each newer row; for a list of books a logarithm in the number of lists, and
+    /// the moves of those behind it.
     pub fn apply(&mut self, plan: Plan) -> Reply
         requires made { IsMade self.old.state plan }
         requires room { HasRoom self.old plan }
@@ -169,6 +185,10 @@ impl Index {
                     Some(row) => self.set_row(book, count, row),
                     None => self.remove_row(book, count, &key),
                 }
+                reply
+            }
+            Plan::Lists { who, list, reply } => {
+                self.put_list(who, list);
                 reply
             }
         }
@@ -225,6 +245,17 @@ impl Index {
         Ok(())
     }
 
+    /// Gives a typist this list of books: the list of the shared book alone takes the one that the typist had away.
+    /// After `Memory` the state is as it was. Takes a logarithm in the number of lists, and moves those behind it.
+    pub fn set_list(&mut self, who: u16, list: &BookList) -> Result<(), Memory>
+        ensures ok { OnOk result (self.new.state ≡ state_listed self.old.state who list.now) }
+        ensures err { OnErr result (self.new.state ≡ self.old.state) }
+    {
+        self.make_list_room()?;
+        self.put_list(who, list.copied());
+        Ok(())
+    }
+
     /// The row of a key in a book. Takes a logarithm in the book's rows, and no memory.
     pub fn row(&self, book: u16, key: &RowKey) -> Option<&Row>
         ensures { option_copied result ≡ row_at self.now.state book key.now }
@@ -244,6 +275,25 @@ impl Index {
         }
     }
 
+    /// The books that a typist reads behind the one of the typist's own number: the shared book alone where the typist
+    /// has no list. Takes a logarithm in the number of lists, and no memory.
+    pub fn shared(&self, who: u16) -> BookList
+        ensures { result ≡ shared_books self.now.state who }
+    {
+        match list_of(&self.lists, who) {
+            Some(list) => list.books.copied(),
+            None => BookList::of_shared(),
+        }
+    }
+
+    /// The lists of books of those typists who read others than the shared one, in order by the typists. Takes constant
+    /// time and no memory.
+    pub fn lists(&self) -> &[TypistList]
+        ensures { result.now ≡ self.now.state.lists }
+    {
+        &self.lists
+    }
+
     /// How many rows there are in all books, up to 2^64 - 1. Takes constant time and no memory.
     pub fn rows(&self) -> u64
         ensures { result ≡ min (count_rows self.now.state) last_count }
@@ -261,7 +311,7 @@ impl Index {
     /// The books in memory, in order by their numbers: those that have changed are the state, and the others have no
     /// rows. Takes constant time and no memory.
     pub fn books(&self) -> &[LearnedBook]
-        ensures state { changed (kept result.now) ≡ self.now.state }
+        ensures state { changed (kept result.now self.now.state.lists) ≡ self.now.state }
         ensures valid { is_valid self.now.state ≡ true }
     {
         &self.books
@@ -319,6 +369,24 @@ impl Index {
     {
         self.make_book(alloc, number)?;
         self.grow(alloc, number, orders)
+    }
+
+    // Makes room for one list more. The state stays as it was.
+    pub(crate) fn make_list_room(&mut self) -> Result<(), Memory>
+        ensures state { self.new.state ≡ self.old.state }
+        ensures room { OnOk result (0 < self.new.spare_lists) }
+    {
+        Ok(self.lists.reserve(1)?)
+    }
+
+    // Gives a typist this list of books, where there is room for one more.
+    fn put_list(&mut self, who: u16, list: BookList)
+        requires room { 0 < self.old.spare_lists }
+        ensures { self.new.state ≡ state_listed self.old.state who list }
+    {
+        // What is counted tells that it is a list.
+        let _count = list.len();
+        put_list(&mut self.lists, who, list);
     }
 
     // Keeps a book of a number, where there is none yet.

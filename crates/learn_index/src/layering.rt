@@ -1,9 +1,9 @@
-ghost use Rattle.std.specs.Prelude.{◌≡◌, ◌++◌, ◌==◌, List, [], map, IfOk, OnOk, if◌then◌else◌};
-ghost use Rattle.std.specs.List.{filter_map};
+ghost use Rattle.std.specs.Prelude.{◌≡◌, ◌++◌, ◌==◌, List, map, not, IfOk, OnOk};
+ghost use Rattle.std.specs.List.{filter, filter_map};
 ghost use Rattle.std.specs.Option.{option_copied, option_to_list};
-ghost use Rattle.skk_calls.specs.Found.{found, merged, optional_row};
+ghost use Rattle.skk_calls.specs.Found.{found, merged};
 ghost use Rattle.skk_calls.specs.Rows.{Row as RowValue};
-ghost use Rattle.skk_calls.specs.States.{row_at, row_in};
+ghost use Rattle.skk_calls.specs.States.{books_read, row_at, row_in, shared_books};
 
 use crate::index::Index;
 use dict_layers::{RowList, merge, merge_onto};
@@ -11,8 +11,8 @@ use skk_calls::{DistinctCands, Okuri, Row, RowKey, Rows};
 use skk_text::{Memory, Sequence};
 use std::alloc::Global;
 
-/// The candidates of a key for a typist: of the row in the typist's book, of that in the shared book where that is
-/// another, and of the rows that were found in system files, the last of which is moved.
+/// The candidates of a key for a typist: of the row in each book that the typist reads, the typist's own first, and of
+/// the rows that were found in system files, the last of which is moved. Takes a logarithm for each book.
 pub fn found_cands(
     index: &Index,
     alloc: Global,
@@ -54,7 +54,7 @@ fn merge_with(
     }
 }
 
-// The rows of a key for a typist: in the typist's book, in the shared book where that is another, and these below them.
+// The rows of a key for a typist: in each book that the typist reads, the typist's own first, and these below them.
 fn upper_layers<'a>(
     index: &'a Index,
     alloc: Global,
@@ -62,32 +62,41 @@ fn upper_layers<'a>(
     who: u16,
     key: &RowKey,
 ) -> Result<RowList<'a>, Memory>
-    ensures { IfOk result (λ rows. map (λ row. row.now) rows ≡ optional_row (row_at index.now.state who key.now)
-        ++ (if who == 0 then [] else optional_row (row_at index.now.state 0 key.now)) ++ below.now) }
+    ensures { IfOk result (λ rows. map (λ row. row.now) rows
+        ≡ filter_map (λ number. row_at index.now.state number key.now) (books_read index.now.state who)
+        ++ below.now) }
 {
     let mut rows = Sequence::new(alloc);
     add_row(&mut rows, index.row(who, key))?;
-    add_row(&mut rows, shared_row(index, who, key))?;
+    add_listed_rows(&mut rows, index, who, key)?;
     add_rows(&mut rows, below)?;
     Ok(rows)
 }
 
-// The row of a key in the shared book, where that is not the typist's.
-fn shared_row<'a>(index: &'a Index, who: u16, key: &RowKey) -> Option<&'a Row>
-    ensures { optional_row (option_copied result)
-        ≡ (if who == 0 then [] else optional_row (row_at index.now.state 0 key.now)) }
+// Adds the rows of a key in the books of a typist's list, in its order, but for the typist's own.
+fn add_listed_rows<'a>(
+    rows: &mut RowList<'a>,
+    index: &'a Index,
+    who: u16,
+    key: &RowKey,
+) -> Result<(), Memory>
+    ensures { OnOk result (map (λ row. row.now) rows.new ≡ map (λ row. row.now) rows.old
+        ++ filter_map (λ number. row_at index.now.state number key.now)
+        (filter (λ number. not (number == who)) (shared_books index.now.state who))) }
 {
-    if who == SHARED {
-        None
-    } else {
-        index.row(SHARED, key)
+    let list = index.shared(who);
+    for number in list.as_slice() {
+        if *number != who {
+            add_row(rows, index.row(*number, key))?;
+        }
     }
+    Ok(())
 }
 
 // Adds a row, where there is one.
 fn add_row<'a>(rows: &mut RowList<'a>, row: Option<&'a Row>) -> Result<(), Memory>
     ensures { OnOk result
-        (map (λ row. row.now) rows.new ≡ map (λ row. row.now) rows.old ++ optional_row (option_copied row.entry)) }
+        (map (λ row. row.now) rows.new ≡ map (λ row. row.now) rows.old ++ option_to_list (option_copied row.entry)) }
 {
     if let Some(row) = row {
         rows.push(row)?;
@@ -104,6 +113,3 @@ fn add_rows<'a>(rows: &mut RowList<'a>, more: &'a [Row]) -> Result<(), Memory>
     }
     Ok(())
 }
-
-// The number of the book that all typists share.
-pub(crate) const SHARED: u16 = 0;

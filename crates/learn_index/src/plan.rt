@@ -1,5 +1,5 @@
 use crate::kept_row::KeptRow;
-use skk_calls::{Reply, RowKey};
+use skk_calls::{BookList, Reply, RowKey};
 
 /// What a change will do, with all memory that it needs.
 #[derive(Debug, Drop)]
@@ -12,6 +12,12 @@ pub enum Plan {
         count: u64,
         key: RowKey,
         row: Option<KeptRow>,
+        reply: Reply,
+    },
+    /// The typist gets this list of books; and this is the reply.
+    Lists {
+        who: u16,
+        list: BookList,
         reply: Reply,
     },
 }

@@ -1,7 +1,7 @@
 ghost use Rattle.std.specs.Prelude.{◌≡◌, ◌<◌, true, ℕ, List, IfOk, OnOk, Some, nat_lt, if◌then◌else◌};
 ghost use Rattle.std.specs.Option.{option_copied};
 ghost use Rattle.skk_calls.specs.declared.answer.Reply.TheVariants.{TooBig, Learned as learned_reply};
-ghost use Rattle.skk_calls.specs.declared.call.Call.TheVariants.{Learn, Purge, Annotate, Unlearn};
+ghost use Rattle.skk_calls.specs.declared.call.Call.TheVariants.{Learn, Purge, Annotate, Share, Unlearn};
 ghost use Rattle.skk_calls.specs.Canonical.{line_limit};
 ghost use Rattle.skk_calls.specs.Dictionary.{line_length, is_call, is_stamped, stamp_of};
 ghost use Rattle.skk_calls.specs.Rows.{is_word};
@@ -15,7 +15,7 @@ use crate::index::Index;
 use crate::kept_row::KeptRow;
 use crate::plan::Plan;
 use dict_rows::{annotate_row, learn_row, line_length, purge_row};
-use skk_calls::{Cand, LINE_LIMIT, Learned, Okuri, Reply, Row, RowKey};
+use skk_calls::{BookList, Cand, LINE_LIMIT, Learned, Okuri, Reply, Row, RowKey};
 use skk_text::{Copies, Memory, Text, copy_of};
 use std::alloc::Global;
 
@@ -88,6 +88,23 @@ pub fn plan_annotate(
     plan_row(index, alloc, book, stamp, key, row, Reply::Annotated)
 }
 
+/// Plans that a typist gets a list of books.
+pub fn plan_share(index: &mut Index, who: u16, books: &BookList) -> Result<Plan, Memory>
+    ensures state { index.new.state ≡ index.old.state }
+    ensures planned { IfOk result (λ plan. IsPlanned index.old.state (Share who books.now) plan) }
+    ensures room { IfOk result (λ plan. HasRoom index.new plan) }
+{
+    if index.shared(who).is_same(books) {
+        return Ok(Plan::Still(Reply::Unchanged));
+    }
+    index.make_list_room()?;
+    Ok(Plan::Lists {
+        who,
+        list: books.copied(),
+        reply: Reply::Shared,
+    })
+}
+
 /// Plans that what was learnt is taken back.
 pub fn plan_unlearn(index: &mut Index, alloc: Global, learned: &Learned) -> Result<Plan, Memory>
     ensures state { index.new.state ≡ index.old.state }
@@ -129,6 +146,13 @@ pub fn annotation_is_call(key: &RowKey, cand: &Cand)
 {
     let _reading = key.reading();
     let _word = cand.word();
+}
+
+/// What the type of a list of books keeps.
+pub fn share_is_call(books: &BookList)
+    ensures { (who : ℕ) → is_call (Share who books.now) ≡ true }
+{
+    let _count = books.len();
 }
 
 /// What the types of the parts of what was learnt keep.

@@ -24,6 +24,7 @@ impl Index {
             Call::Learn { .. }
             | Call::Purge { .. }
             | Call::Annotate { .. }
+            | Call::Share { .. }
             | Call::Unlearn { .. } => self.change(alloc, call),
         }
     }

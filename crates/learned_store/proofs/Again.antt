@@ -10,16 +10,16 @@ use Rattle.skk_calls.specs.States.{State, row_at, count_of, fits_count, has_stam
 use Rattle.learned_store.specs.declared.form.PayloadForm.{PayloadForm}
 use Rattle.learned_store.specs.declared.form.PayloadForm.TheVariants.{Put}
 use Rattle.learned_store.specs.declared.row_place.RowPlace.{RowPlace}
-use Rattle.learned_store.specs.Gathering.{AreOf, IsRestamped, count_in, place_at}
+use Rattle.learned_store.specs.Gathering.{AreOf, IsRestamped, ListMap, count_in, place_at}
 use Rattle.learned_store.specs.Payloads.{Says, are_held, book_number, wide_number, is_sound, state_told}
 use Rattle.learned_store.specs.Reading.{put_with}
-use Rattle.learned_store.proofs.Gathering.{IsChanged, put_told, are_told, row_key, row_fits}
+use Rattle.learned_store.proofs.Gathering.{IsChanged, put_told, are_told, count_given, row_key, row_fits}
 
 module _ (before after : RowPlace → Option Row) (counts later : BTreeMap ℕ ℕ) (book count stamp : ℕ)
     (place : RowPlace) (bytes : List ℕ) (own : place.book ≡ book) (held : are_held book count ≡ true)
     (stamped : (nat_le 1 stamp && nat_le stamp count) ≡ true)
     (restamped : IsRestamped before after place stamp bytes) (set : Updates nat_cmp counts later book (Some count))
-    (state : State) (version : ℕ) (some : 1 ≤ version) (are : AreOf state counts before)
+    (lists : ListMap) (state : State) (version : ℕ) (some : 1 ≤ version) (are : AreOf state counts lists before)
     (counted : count_in counts book ≤ count) where
   -- the row that was gathered
   abbrev found : Row
@@ -64,13 +64,13 @@ module _ (before after : RowPlace → Option Row) (counts later : BTreeMap ℕ �
       subst (λ (n : ℕ). IsChanged before after (place_at n place.key) (Some again)) own restamped.changed
 
   -- and this is gathered then
-  are_again : AreOf (state_told state (Put book count again)) later after
+  are_again : AreOf (state_told state (Put book count again)) later lists after
   are_again =
-      are_told before after counts later (Put book count again)
+      are_told before after counts later lists lists (Put book count again)
       (put_told before after book count place.key again (sym (row_key state are.valid place found there)) changed)
-      book count refl refl set state are sound later_count refl
+      (count_given counts later book count set) (λ typist. refl) state are sound later_count refl
 
   -- so a record says something, and what it leaves is gathered
   pub added : (form : PayloadForm) × Says version state (put_with book count stamp bytes) form
-      × AreOf (state_told state form) later after
+      × AreOf (state_told state form) later lists after
   added = (Put book count again, says_again, are_again)

@@ -1,4 +1,4 @@
--- What a compaction writes of the books in memory, book by book, and what that needs.
+-- What a compaction writes of the books and lists in memory, one by one, and what that needs.
 use Rattle.std.proofs.Common.{◌≡◌, ℕ, ◌+◌, ◌<◌, ◌≤◌, ◌^◌, ◌-◌, Bool, true, false, cond, not, ◌&&◌, ◌||◌, nat_le, nat_lt}
 use Rattle.std.proofs.Common.{min, List, [], ◌∷◌, ◌++◌, map, length, take, get_or, refl, sym, ap, ◌∙◌, arith}
 use Rattle.std.proofs.Common.{append_assoc}
@@ -12,9 +12,10 @@ use Rattle.std.proofs.lemmas.List.Sums.{sum_by-cons, sum_by_more}
 use Rattle.skk_text.specs.PairsLaws.{list_all-weaker}
 use Rattle.skk_text.specs.Text.{byte_len}
 use Rattle.skk_calls.specs.declared.book.NumberedBook.{NumberedBook}
+use Rattle.skk_calls.specs.declared.book_list.TypistList.{TypistList}
 use Rattle.skk_calls.specs.Canonical.{canonical, is_good, line_limit}
 use Rattle.skk_calls.specs.Dictionary.{line_length}
-use Rattle.skk_calls.specs.Histories.{put_need, least_end, rows_need, tight}
+use Rattle.skk_calls.specs.Histories.{list_need, put_need, least_end, rows_need, tight}
 use Rattle.skk_calls.specs.Rows.{Row}
 use Rattle.skk_calls.specs.States.{fits_count, is_book, rows_ascend}
 use Rattle.skk_journal.specs.RecordLaws.{need_is}
@@ -23,8 +24,8 @@ use Rattle.learn_index.specs.Kept.{changed, has_changed, kept, numbered}
 use Rattle.learn_index.specs.declared.book.LearnedBook.{LearnedBook}
 use Rattle.learned_store.specs.declared.form.PayloadForm.{PayloadForm}
 use Rattle.learned_store.specs.Payloads.{count_bytes, payload_of, put_bytes}
-use Rattle.learned_store.specs.Compacted.{book_forms, compacted, row_forms}
-use Rattle.learned_store.specs.Compacting.{book_need, book_records, form_record, capped}
+use Rattle.learned_store.specs.Compacted.{book_forms, compacted, list_form, row_forms}
+use Rattle.learned_store.specs.Compacting.{book_need, book_records, form_record, list_record, capped}
 use Rattle.learned_store.proofs.Needs.{put_needs, counted_long}
 
 -- Items
@@ -114,11 +115,21 @@ changed_records (book ∷ books) = by (has_changed book) (changed_records books)
         ∙ ap (λ (l : List ℕ). flat_map form_record (book_forms book) ++ l) rest
     by false rest = rest
 
--- the records of books, one book after another, are those of the compaction of the books that have changed
-pub books_records : (books : List LearnedBook)
-    → flat_map book_records (map numbered books) ≡ framed (map payload_of (compacted (changed (kept books))))
-books_records books =
-    sym (framed_forms (compacted (changed (kept books))) ∙ changed_records (map numbered books))
+lists_records : (lists : List TypistList) → flat_map form_record (map list_form lists) ≡ flat_map list_record lists
+lists_records [] = refl
+lists_records (list ∷ lists) = ap (λ (l : List ℕ). list_record list ++ l) (lists_records lists)
+
+-- the records of books and behind them of lists, one after another, are those of the compaction of the books that have
+-- changed and of the lists
+pub state_records : (books : List LearnedBook) (lists : List TypistList)
+    → flat_map book_records (map numbered books) ++ flat_map list_record lists
+    ≡ framed (map payload_of (compacted (changed (kept books lists))))
+state_records books lists =
+    let forms = flat_map book_forms (filter has_changed (map numbered books)) in
+    sym (framed_forms (compacted (changed (kept books lists)))
+    ∙ flat_map-append form_record forms (map list_form lists)
+    ∙ ap (λ (l : List ℕ). l ++ flat_map form_record (map list_form lists)) (changed_records (map numbered books))
+    ∙ ap (λ (l : List ℕ). flat_map book_records (map numbered books) ++ l) (lists_records lists))
 
 -- a payload that puts a row has 20 bytes and those of its line
 pub put_long : (book count : ℕ) (row : Row) → length (put_bytes book count row) ≡ 20 + byte_len (canonical row)
@@ -174,10 +185,16 @@ changed_need (book ∷ books) =
         ∙ ap (λ (n : ℕ). rows_need book.rows.items + n) rest
     by false rest = omega (arith, rest)
 
--- the tight end of the books that have changed is what each book needs
+-- the tight end of the books that have changed, without lists, is what each book needs
 pub books_tight : (books : List LearnedBook)
-    → tight (changed (kept books)) ≡ least_end + sum_by (λ book. book_need (numbered book)) books
-books_tight books = ap (λ (n : ℕ). least_end + n) (changed_need books)
+    → tight (changed (kept books [])) ≡ least_end + sum_by (λ book. book_need (numbered book)) books
+books_tight books = omega (arith, changed_need books)
+
+-- and with lists it is so much more as these need
+pub lists_tight : (books : List LearnedBook) (lists : List TypistList) (end need last : ℕ)
+    → end ≡ capped (tight (changed (kept books []))) → need ≡ capped (sum_by (λ list. list_need list.books) lists)
+    → last ≡ min (end + need) (2 ^ 64 - 1) → last ≡ capped (tight (changed (kept books lists)))
+lists_tight books lists end need last ends needs is = omega arith
 
 -- one more item was counted, as far as a number can tell
 pub sum_more : {X : Type 0} (f : X → ℕ) (xs : List X) (i : ℕ) (x : X) (start before need after : ℕ) → i < length xs

@@ -7,7 +7,7 @@ use Rattle.dict_laws.specs.ValidStates.{fits_after, fits_row_at}
 use Rattle.skk_calls.specs.KeyLaws.{same_key_equal}
 use Rattle.skk_calls.specs.declared.answer.Reply.TheVariants as replies
 use Rattle.skk_calls.specs.declared.call.Call.{Call}
-use Rattle.skk_calls.specs.declared.call.Call.TheVariants.{Lookup, Complete, Learn, Purge, Annotate, Unlearn}
+use Rattle.skk_calls.specs.declared.call.Call.TheVariants.{Lookup, Complete, Learn, Purge, Annotate, Share, Unlearn}
 use Rattle.skk_calls.specs.Dictionary.{after, moves, state_moved, is_call, is_change, is_stamped, stamp_of}
 use Rattle.skk_calls.specs.Dictionary.{is_row_or_none}
 use Rattle.skk_calls.specs.Learning.{annotated, is_row_before, is_valid_learned}
@@ -71,5 +71,7 @@ change_leaves state (Annotate book key cand) form valid call moved is =
       noted_leaves state book (count_of state book + 1) key cand (row_at state book key) refl,
       after_moved state (Annotate book key cand) moved,
     )
+change_leaves state (Share who books) form valid call moved is =
+    grind (arith, after_moved state (Share who books) moved)
 change_leaves state (Unlearn learned) form valid call moved is =
     grind (arith, unlearning_leaves state learned valid call moved, after_moved state (Unlearn learned) moved)

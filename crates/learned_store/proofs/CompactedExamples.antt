@@ -28,7 +28,7 @@ abbrev book : ℕ → ℕ → List Row → NumberedBook
 book number count rows = record { number = number; count = count; rows = rows }
 
 abbrev books : List NumberedBook → State
-books bs = record { books = bs }
+books bs = record { books = bs; lists = [] }
 
 -- b for a, learnt as the second of seven changes, and c for ak, learnt as the seventh
 abbrev plain : Row

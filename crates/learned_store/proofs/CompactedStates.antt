@@ -10,18 +10,22 @@ use Rattle.ordered_lists.specs.KeyOrders.{number_keys}
 use Rattle.ordered_lists.specs.OrderLaws.{less_differs}
 use Rattle.ordered_lists.specs.Orders.{Order, before, item_of, with_item}
 use Rattle.skk_calls.specs.declared.book.NumberedBook.{NumberedBook}
+use Rattle.skk_calls.specs.declared.book_list.TypistList.{TypistList}
+use Rattle.skk_calls.specs.BookLists.{same_numbers, shared_alone}
 use Rattle.skk_calls.specs.OrderLaws.{row_keys}
 use Rattle.skk_calls.specs.Rows.{Row}
 use Rattle.skk_calls.specs.States.{State, rows_of, count_of, book_rows, book_count, with_row, with_book, rows_ascend}
-use Rattle.skk_calls.specs.States.{fits_count, is_book, books_ascend, is_valid}
+use Rattle.skk_calls.specs.States.{fits_count, is_book, books_ascend, is_kept_list, is_valid, lists_ascend}
+use Rattle.skk_calls.specs.States.{state_listed, without_list}
 use Rattle.learned_store.specs.declared.form.PayloadForm.{PayloadForm}
-use Rattle.learned_store.specs.declared.form.PayloadForm.TheVariants.{Put, SetCount}
-use Rattle.learned_store.specs.Payloads.{are_held, is_sound, book_of, first_version, may_follow, new_count}
+use Rattle.learned_store.specs.declared.form.PayloadForm.TheVariants.{Put, SetCount, SetList}
+use Rattle.learned_store.specs.Payloads.{CountsOn, are_held, counted_by, is_sound, first_version, may_follow}
 use Rattle.learned_store.specs.Payloads.{newest_version}
 use Rattle.learned_store.specs.Payloads.{payload_of, state_told}
 use Rattle.learned_store.specs.Reading.{is_written_row}
 use Rattle.learned_store.specs.Recovered.{Leads, Leave}
-use Rattle.learned_store.specs.Compacted.{row_forms, book_forms, compacted, is_written_book, is_written}
+use Rattle.learned_store.specs.Compacted.{row_forms, book_forms, list_form, compacted, is_written_book}
+use Rattle.learned_store.specs.Compacted.{is_written_list, is_written}
 
 -- Items in order
 
@@ -84,7 +88,7 @@ leads-append version start middle after (payload ∷ records) others (form, says
 -- a record that may be written says what it says, and others lead on behind it
 leads-cons : (start middle after : State) (form : PayloadForm) (records : List (List ℕ))
     → nat_le (first_version form) newest_version ≡ true → may_follow start form ≡ true → is_sound form ≡ true
-    → count_of start (book_of form) ≤ new_count form → state_told start form ≡ middle
+    → CountsOn start (counted_by form) → state_told start form ≡ middle
     → Leads newest_version middle records after
     → Leads newest_version start (payload_of form ∷ records) after
 leads-cons start middle after form records known follows sound later is leads = (
@@ -97,7 +101,7 @@ leads-cons start middle after form records known follows sound later is leads = 
 
 -- the state of these books
 abbrev in_state : List NumberedBook → State
-in_state books = record { books = books }
+in_state books = record { books = books; lists = [] }
 
 module _ (done : List NumberedBook) (number count : ℕ) where
   -- the books that are done, and one of this number and count with these rows behind them
@@ -226,9 +230,53 @@ books_lead done (book ∷ books) pairs all written =
     (books_lead (done ++ book ∷ []) books (subst (λ (l : List NumberedBook). books_ascend l ≡ true) (sym same) pairs)
     parts.1 own.1)))
 
+-- Lists behind others
+
+-- the state with these lists
+abbrev listed_in : List NumberedBook → List TypistList → State
+listed_in books lists = record { books = books; lists = lists }
+
+-- a typist's list that is greater than all others comes behind them
+list_put : (books : List NumberedBook) (done : List TypistList) (list : TypistList)
+    → list_all (λ l. nat_lt l.typist list.typist) done ≡ true → is_kept_list list ≡ true
+    → state_listed (listed_in books done) list.typist list.books ≡ listed_in books (done ++ list ∷ [])
+list_put books done list less kept =
+    let other : same_numbers list.books shared_alone ≡ false = grind (arith, kept) in
+    ap (λ (b : Bool). listed_in books (cond b (without_list list.typist done)
+    (with_item (λ (l : TypistList). l.typist) number_keys list done))) other
+    ∙ ap (listed_in books) (put_behind (λ (l : TypistList). l.typist) number_keys done list less)
+
+-- the records of lists lead to the state with them behind the others
+lists_lead : (books : List NumberedBook) (done lists : List TypistList) → lists_ascend (done ++ lists) ≡ true
+    → list_all is_kept_list lists ≡ true → list_all is_written_list lists ≡ true
+    → Leads newest_version (listed_in books done) (map payload_of (map list_form lists))
+    (listed_in books (done ++ lists))
+lists_lead books done [] pairs all written = ap (listed_in books) (append-nil done)
+lists_lead books done (list ∷ lists) pairs all written =
+    let less = before_one (before (λ (l : TypistList). l.typist) number_keys) done list lists pairs in
+    let kept = and_parts (is_kept_list list) (list_all is_kept_list lists) all in
+    let own = and_parts (is_written_list list) (list_all is_written_list lists) written in
+    let same = append_assoc done (list ∷ []) lists in
+    let rest = map payload_of (map list_form lists) in
+    leads-cons (listed_in books done) (listed_in books (done ++ list ∷ [])) (listed_in books (done ++ list ∷ lists))
+    (SetList list.typist list.books) rest refl refl own.0 tt (list_put books done list less kept.0)
+    (subst (λ (l : List TypistList). Leads newest_version (listed_in books (done ++ list ∷ [])) rest
+    (listed_in books l)) same
+    (lists_lead books (done ++ list ∷ []) lists
+    (subst (λ (l : List TypistList). lists_ascend l ≡ true) (sym same) pairs) kept.1 own.1))
+
 -- the records of a compaction leave their state
 pub compacted_leave : (state : State) → is_valid state ≡ true → is_written state ≡ true
     → Leave (record { version = newest_version; records = map payload_of (compacted state) }) state
 compacted_leave state valid written =
-    let parts = and_parts (books_ascend state.books) (list_all is_book state.books) valid in
-    books_lead [] state.books parts.0 parts.1 written
+    let lists = lists_ascend state.lists && list_all is_kept_list state.lists in
+    let parts = and_parts (books_ascend state.books) (list_all is_book state.books && lists) valid in
+    let books = and_parts (list_all is_book state.books) lists parts.1 in
+    let kept = and_parts (lists_ascend state.lists) (list_all is_kept_list state.lists) books.1 in
+    let all = and_parts (list_all is_written_book state.books) (list_all is_written_list state.lists) written in
+    let front = map payload_of (flat_map book_forms state.books) in
+    let back = map payload_of (map list_form state.lists) in
+    subst (λ (records : List (List ℕ)). Leads newest_version (in_state []) records state)
+    (sym (map-append payload_of (flat_map book_forms state.books) (map list_form state.lists)))
+    (leads-append newest_version (in_state []) (in_state state.books) state front back
+    (books_lead [] state.books parts.0 books.0 all.0) (lists_lead state.books [] state.lists kept.0 kept.1 all.1))

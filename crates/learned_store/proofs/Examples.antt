@@ -3,13 +3,13 @@ use Rattle.std.proofs.Common.{◌≡◌, ℕ, ◌^◌, ◌-◌, true, false, Non
 use Rattle.exact_readers.specs.Numbers.{number_bytes}
 use Rattle.skk_calls.specs.declared.part.Part.{Part}
 use Rattle.skk_calls.specs.declared.part.Part.TheVariants.{Nasi, Ari}
-use Rattle.skk_calls.specs.declared.call.Call.TheVariants.{Lookup, Complete, Learn, Purge, Annotate, Unlearn}
+use Rattle.skk_calls.specs.declared.call.Call.TheVariants.{Lookup, Complete, Learn, Purge, Annotate, Share, Unlearn}
 use Rattle.skk_calls.specs.Rows.{RowKey, Cand, Row}
 use Rattle.skk_calls.specs.States.{State, empty_state}
 use Rattle.learned_store.specs.declared.form.PayloadForm.{PayloadForm}
-use Rattle.learned_store.specs.declared.form.PayloadForm.TheVariants.{Put, Drop, SetCount, Note}
-use Rattle.learned_store.specs.Payloads.{book_number, wide_number, part_byte}
-use Rattle.learned_store.specs.Payloads.{book_of, new_count, first_version, may_follow}
+use Rattle.learned_store.specs.declared.form.PayloadForm.TheVariants.{Put, Drop, SetCount, Note, SetList}
+use Rattle.learned_store.specs.Payloads.{book_number, wide_number, part_byte, typist_number}
+use Rattle.learned_store.specs.Payloads.{counted_by, first_version, newest_version, may_follow}
 use Rattle.learned_store.specs.Payloads.{payload_of, are_held, is_sound, state_told, change_told}
 
 -- Bytes
@@ -17,6 +17,10 @@ use Rattle.learned_store.specs.Payloads.{payload_of, are_held, is_sound, state_t
 books : map book_number (0 ∷ 1 ∷ 258 ∷ 65535 ∷ []) ≡ (0 ∷ 0 ∷ []) ∷ (1 ∷ 0 ∷ []) ∷ (2 ∷ 1 ∷ []) ∷ (255 ∷ 255 ∷ []) ∷ []
 unfolding number_bytes
 books = refl
+
+typists : map typist_number (0 ∷ 258 ∷ []) ≡ (0 ∷ 0 ∷ []) ∷ (2 ∷ 1 ∷ []) ∷ []
+unfolding number_bytes
+typists = refl
 
 wide : map wide_number (0 ∷ 1 ∷ 578437695752307201 ∷ 18446744073709551615 ∷ [])
     ≡ (0 ∷ 0 ∷ 0 ∷ 0 ∷ 0 ∷ 0 ∷ 0 ∷ 0 ∷ []) ∷ (1 ∷ 0 ∷ 0 ∷ 0 ∷ 0 ∷ 0 ∷ 0 ∷ 0 ∷ [])
@@ -83,21 +87,27 @@ count_payload : payload_of (SetCount 258 578437695752307201) ≡ 3 ∷ 2 ∷ 1 �
 unfolding number_bytes
 count_payload = refl
 
--- the book and the count of each form
+-- typist 1 reads the books 7 and 0, and typist 258 the book 772 alone
+list_payloads : map payload_of (SetList 1 (7 ∷ 0 ∷ []) ∷ SetList 258 (772 ∷ []) ∷ [])
+    ≡ (5 ∷ 1 ∷ 0 ∷ 2 ∷ 7 ∷ 0 ∷ 0 ∷ 0 ∷ []) ∷ (5 ∷ 2 ∷ 1 ∷ 1 ∷ 4 ∷ 3 ∷ []) ∷ []
+unfolding number_bytes
+list_payloads = refl
+
+-- the book and the count of each form, of which a list has none
 abbrev forms : List PayloadForm
 forms =
     Put 7 9 (row Nasi (codes "a") (codes "b") 8) ∷ Drop 5 6 (key Nasi (codes "a")) ∷ SetCount 3 4
-    ∷ Note 1 2 (key Nasi (codes "a")) (cand (codes "b") []) ∷ []
+    ∷ Note 1 2 (key Nasi (codes "a")) (cand (codes "b") []) ∷ SetList 8 (7 ∷ []) ∷ []
 
-form_books : map book_of forms ≡ 7 ∷ 5 ∷ 3 ∷ 1 ∷ []
-form_books = refl
-
-form_counts : map new_count forms ≡ 9 ∷ 6 ∷ 4 ∷ 2 ∷ []
+form_counts : map counted_by forms ≡ Some (7, 9) ∷ Some (5, 6) ∷ Some (3, 4) ∷ Some (1, 2) ∷ None ∷ []
 form_counts = refl
 
--- the version that first has each
-form_versions : map first_version forms ≡ 1 ∷ 1 ∷ 1 ∷ 2 ∷ []
+-- the version that first has each, and the newest
+form_versions : map first_version forms ≡ 1 ∷ 1 ∷ 1 ∷ 2 ∷ 3 ∷ []
 form_versions = refl
+
+newest : newest_version ≡ 3
+newest = refl
 
 -- What may be written
 
@@ -145,10 +155,19 @@ sound_notes : map is_sound (
 unfolding lib.Utf8.encode
 sound_notes = refl
 
+-- a list of one book, of none, of nine and of the most; with a book twice; and of numbers that are not held
+sound_lists : map is_sound (
+    SetList 1 (0 ∷ []) ∷ SetList 1 [] ∷ SetList 1 (1 ∷ 2 ∷ 3 ∷ 4 ∷ 5 ∷ 6 ∷ 7 ∷ 8 ∷ 9 ∷ [])
+    ∷ SetList 65535 (1 ∷ 2 ∷ 3 ∷ 4 ∷ 5 ∷ 6 ∷ 7 ∷ 65535 ∷ []) ∷ SetList 1 (7 ∷ 0 ∷ 7 ∷ []) ∷ SetList 65536 (7 ∷ [])
+    ∷ SetList 1 (7 ∷ 65536 ∷ []) ∷ [])
+    ≡ true ∷ false ∷ false ∷ true ∷ false ∷ false ∷ false ∷ []
+sound_lists = refl
+
 -- What records leave
 
 abbrev one_row : State
-one_row = record { books = record { number = 1; count = 2; rows = row Nasi (codes "b") (codes "x") 2 ∷ [] } ∷ [] }
+one_row =
+    record { books = record { number = 1; count = 2; rows = row Nasi (codes "b") (codes "x") 2 ∷ [] } ∷ []; lists = [] }
 
 -- a row beside another, one in its place, and one in another book; a row taken out, and one that is not there; a count,
 -- and one of another book; and a count of 0, which leaves no book
@@ -164,19 +183,31 @@ states : map (state_told one_row) (
             count = 3;
             rows = row Nasi (codes "a") (codes "y") 1 ∷ row Nasi (codes "b") (codes "x") 2 ∷ [];
           } ∷ [];
+      lists = [];
     }
-    ∷ record { books = record { number = 1; count = 4; rows = row Nasi (codes "b") (codes "y") 3 ∷ [] } ∷ [] }
+    ∷ record {
+      books = record { number = 1; count = 4; rows = row Nasi (codes "b") (codes "y") 3 ∷ [] } ∷ [];
+      lists = [];
+    }
     ∷ record {
       books = record { number = 0; count = 1; rows = row Nasi (codes "b") (codes "y") 1 ∷ [] } ∷ one_row.books;
+      lists = [];
     }
-    ∷ record { books = record { number = 1; count = 2; rows = [] } ∷ [] }
-    ∷ record { books = record { number = 1; count = 3; rows = row Nasi (codes "b") (codes "x") 2 ∷ [] } ∷ [] }
+    ∷ record { books = record { number = 1; count = 2; rows = [] } ∷ []; lists = [] }
+    ∷ record {
+      books = record { number = 1; count = 3; rows = row Nasi (codes "b") (codes "x") 2 ∷ [] } ∷ [];
+      lists = [];
+    }
     ∷ one_row
-    ∷ record { books = record { number = 1; count = 5; rows = row Nasi (codes "b") (codes "x") 2 ∷ [] } ∷ [] }
+    ∷ record {
+      books = record { number = 1; count = 5; rows = row Nasi (codes "b") (codes "x") 2 ∷ [] } ∷ [];
+      lists = [];
+    }
     ∷ record {
       books =
           record { number = 1; count = 2; rows = row Nasi (codes "b") (codes "x") 2 ∷ [] }
           ∷ record { number = 2; count = 1; rows = [] } ∷ [];
+      lists = [];
     }
     ∷ one_row ∷ []
 unfolding lib.Utf8.encode
@@ -191,6 +222,7 @@ noted_state : state_told one_row (Note 1 3 (key Nasi (codes "b")) (cand (codes "
             count = 3;
             rows = record (row Nasi (codes "b") [] 3) { cands = cand (codes "x") (codes "n") ∷ [] } ∷ [];
           } ∷ [];
+      lists = [];
     }
 unfolding lib.Utf8.encode
 noted_state = refl
@@ -198,8 +230,9 @@ noted_state = refl
 may_follow_row : map (may_follow one_row) (
     Note 1 3 (key Nasi (codes "b")) (cand (codes "x") (codes "n"))
     ∷ Note 1 3 (key Nasi (codes "a")) (cand (codes "x") [])
-    ∷ Note 2 3 (key Nasi (codes "b")) (cand (codes "x") []) ∷ Drop 1 3 (key Nasi (codes "a")) ∷ [])
-    ≡ true ∷ false ∷ false ∷ true ∷ []
+    ∷ Note 2 3 (key Nasi (codes "b")) (cand (codes "x") []) ∷ Drop 1 3 (key Nasi (codes "a"))
+    ∷ SetList 1 (0 ∷ []) ∷ [])
+    ≡ true ∷ false ∷ false ∷ true ∷ true ∷ []
 unfolding lib.Utf8.encode
 may_follow_row = refl
 
@@ -225,7 +258,7 @@ changes : map (change_told one_row) (
       before = Some (row Nasi (codes "b") (codes "z") 1);
     })
     ∷ Annotate 1 (key Nasi (codes "b")) (cand (codes "x") (codes "n"))
-    ∷ Annotate 1 (key Nasi (codes "a")) (cand (codes "x") (codes "n")) ∷ [])
+    ∷ Annotate 1 (key Nasi (codes "a")) (cand (codes "x") (codes "n")) ∷ Share 5 (7 ∷ 0 ∷ []) ∷ [])
     ≡ None ∷ None
     ∷ Some (Put 1 3 (record {
       key = key Nasi (codes "b");
@@ -244,6 +277,7 @@ changes : map (change_told one_row) (
     ∷ Some (Drop 1 2 (key Nasi (codes "b")))
     ∷ Some (Put 1 2 (row Nasi (codes "b") (codes "z") 1))
     ∷ Some (Note 1 3 (key Nasi (codes "b")) (cand (codes "x") (codes "n")))
-    ∷ Some (Put 1 3 (record (row Nasi (codes "a") [] 3) { cands = cand (codes "x") (codes "n") ∷ [] })) ∷ []
+    ∷ Some (Put 1 3 (record (row Nasi (codes "a") [] 3) { cands = cand (codes "x") (codes "n") ∷ [] }))
+    ∷ Some (SetList 5 (7 ∷ 0 ∷ [])) ∷ []
 unfolding lib.Utf8.encode
 changes = refl

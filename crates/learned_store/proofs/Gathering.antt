@@ -1,24 +1,30 @@
 -- What was gathered of records, and how an index comes of it.
-use Rattle.std.proofs.Common.{◌≡◌, ℕ, ◌≤◌, ◌==◌, Bool, true, cond, Option, None, Some}
+use Rattle.std.proofs.Common.{◌≡◌, ℕ, ◌≤◌, ◌==◌, Bool, true, false, cond, Option, None, Some, List, []}
 use Rattle.std.proofs.Common.{refl, sym, ap, ◌∙◌, subst, arith}
 use Rattle.std.specs.BTreeMap.{BTreeMap, get, Updates}
+use Rattle.std.proofs.lemmas.Bool.{le-leb, leb-true}
 use Rattle.std.specs.Cmp.{unsigned_tied}
 use Rattle.std.specs.Option.{option_or, unwrap_or}
 use Rattle.std.specs.Ordering.{is_eq, nat_cmp}
+use Rattle.skk_calls.specs.BookLists.{is_book_list}
 use Rattle.skk_calls.specs.KeyLaws.{same_key_equal}
 use Rattle.skk_calls.specs.Rows.{RowKey, Cand, Row, same_key}
-use Rattle.skk_calls.specs.States.{State, rows_of, row_at, count_of, state_with, fits_count, is_valid}
+use Rattle.skk_calls.specs.States.{State, rows_of, row_at, count_of, shared_books, state_listed, state_with}
+use Rattle.skk_calls.specs.States.{fits_count, is_valid, list_in, listed_books, with_book}
+use Rattle.skk_calls.specs.declared.book.NumberedBook.{NumberedBook}
+use Rattle.skk_calls.specs.declared.book_list.TypistList.{TypistList}
 use Rattle.dict_laws.specs.ChangedStates.{row_in_has_key}
-use Rattle.dict_laws.specs.ValidStates.{fits_row_at}
+use Rattle.dict_laws.specs.ValidStates.{fits_row_at, is_valid_listed}
 use Rattle.learn_index.specs.Records.{state_counted}
 use Rattle.learned_store.specs.declared.form.PayloadForm.{PayloadForm}
-use Rattle.learned_store.specs.declared.form.PayloadForm.TheVariants.{Put, Drop, SetCount, Note}
+use Rattle.learned_store.specs.declared.form.PayloadForm.TheVariants.{Put, Drop, SetCount, Note, SetList}
 use Rattle.learned_store.specs.declared.row_place.RowPlace.{RowPlace}
-use Rattle.learned_store.specs.Gathering.{AreKeyed, AreOf, IsAnnotated, IsTold, count_in, place_at}
-use Rattle.learned_store.specs.Gathering.{takes_on}
-use Rattle.learned_store.specs.Payloads.{book_of, new_count, is_sound, may_follow, state_told, takes_note}
+use Rattle.learned_store.specs.Gathering.{AreKeyed, AreOf, IsAnnotated, IsTold, ListMap, count_behind}
+use Rattle.learned_store.specs.Gathering.{count_in, counts_on, list_among, list_behind, place_at, takes_on}
+use Rattle.learned_store.specs.Payloads.{CountsOn, counted_by, is_sound, may_follow, state_told, takes_note}
 use Rattle.learned_store.specs.RowPlaces.{place_cmp, place_tied}
-use Rattle.learned_store.proofs.ToldStates.{count_told, row_told, valid_put, valid_counted, valid_told}
+use Rattle.learned_store.proofs.ToldStates.{count_told, list_told, listed_then, row_told, valid_put, valid_counted}
+use Rattle.learned_store.proofs.ToldStates.{valid_told}
 
 -- Maps
 
@@ -71,33 +77,69 @@ module _ (before after : RowPlace → Option Row) (book count : ℕ) where
 pub set_told : (before : RowPlace → Option Row) (book count : ℕ) → IsTold (SetCount book count) before before
 set_told before book count number key = grind arith
 
-module _ (before after : RowPlace → Option Row) (counts later : BTreeMap ℕ ℕ) (form : PayloadForm)
-    (told : IsTold form before after) (book count : ℕ) (own : book ≡ book_of form) (new : count ≡ new_count form)
-    (set : Updates nat_cmp counts later book (Some count)) (state : State) (are : AreOf state counts before)
-    (sound : is_sound form ≡ true) (counted : count_of state (book_of form) ≤ new_count form)
-    (follows : may_follow state form ≡ true) where
+pub listed_told : (before : RowPlace → Option Row) (typist : ℕ) (books : List ℕ)
+    → IsTold (SetList typist books) before before
+listed_told before typist books number key = refl
+
+-- a count was given to a book
+pub count_given : (counts later : BTreeMap ℕ ℕ) (book count : ℕ) → Updates nat_cmp counts later book (Some count)
+    → (number : ℕ) → count_in later number ≡ count_behind (Some (book, count)) number (count_in counts number)
+count_given counts later book count set number =
+    grind (arith, number_updated counts later book (Some count) set number)
+
+-- a list was given to a typist
+pub list_given : (lists after : ListMap) (typist : ℕ) (books : List ℕ) → Updates nat_cmp lists after typist (Some books)
+    → (other : ℕ) → list_among after other ≡ cond (typist == other) books (list_among lists other)
+list_given lists after typist books set other =
+    grind (
+      arith,
+      set.0 other,
+      unsigned_tied typist other,
+    )
+
+-- what is not below a count among counts is not below that of the state which they are of
+pub counted_on : (state : State) (counts : BTreeMap ℕ ℕ) (counted : Option (ℕ × ℕ))
+    → ((number : ℕ) → count_in counts number ≡ count_of state number) → counts_on counts counted ≡ true
+    → CountsOn state counted
+counted_on state counts None are on = tt
+counted_on state counts (Some counted) are on =
+    subst (λ (n : ℕ). n ≤ counted.1) (are counted.0) (leb-true (count_in counts counted.0) counted.1 on)
+
+pub counts_still : (state : State) (counts : BTreeMap ℕ ℕ) (counted : Option (ℕ × ℕ))
+    → ((number : ℕ) → count_in counts number ≡ count_of state number) → CountsOn state counted
+    → counts_on counts counted ≡ true
+counts_still state counts None are on = refl
+counts_still state counts (Some counted) are on =
+    le-leb (count_in counts counted.0) counted.1 (subst (λ (n : ℕ). n ≤ counted.1) (sym (are counted.0)) on)
+
+module _ (before after : RowPlace → Option Row) (counts later : BTreeMap ℕ ℕ) (lists last : ListMap)
+    (form : PayloadForm) (told : IsTold form before after)
+    (count_set : (number : ℕ) → count_in later number ≡ count_behind (counted_by form) number (count_in counts number))
+    (list_set : (typist : ℕ) → list_among last typist ≡ list_behind form typist (list_among lists typist))
+    (state : State) (are : AreOf state counts lists before) (sound : is_sound form ≡ true)
+    (counted : CountsOn state (counted_by form)) (follows : may_follow state form ≡ true) where
   -- what was gathered is what one record more leaves
-  pub are_told : AreOf (state_told state form) later after
+  pub are_told : AreOf (state_told state form) later last after
   are_told = record {
     valid = valid_told state are.valid form sound counted follows;
-    count = λ number. grind (
-      arith,
-      number_updated counts later book (Some count) set number,
-      are.count number,
-      count_told state form counted number,
-    );
+    count = λ number.
+        count_set number ∙ ap (count_behind (counted_by form) number) (are.count number)
+        ∙ sym (count_told state form counted number);
+    list = λ typist.
+        list_set typist ∙ ap (list_behind form typist) (are.list typist) ∙ sym (list_told state form typist);
     row = λ number key.
         grind (arith, told number key, are.row number key, row_told state form counted number are.valid key);
   }
 
 -- Indexes
 
--- of the rows of a state some stand in an index, and these are left
+-- of the rows of a state some stand in an index without lists, and these are left
 pub record IsPut (state index : State) (left : RowPlace → Option Row) : Type 0 where
   pub valid : is_valid index ≡ true
   pub counts : (number : ℕ) → count_of index number ≤ count_of state number
   pub rows : (number : ℕ) (key : RowKey) → row_at state number key
       ≡ option_or (left (place_at number key)) (row_at index number key)
+  pub lists : index.lists ≡ []
 
 module _ (state : State) (valid : is_valid state ≡ true) (place : RowPlace) (row : Row)
     (there : row_at state place.book place.key ≡ Some row) where
@@ -110,7 +152,8 @@ module _ (state : State) (valid : is_valid state ≡ true) (place : RowPlace) (r
   pub row_fits : fits_count (count_of state place.book) row ≡ true
   row_fits = grind (arith, fits_row_at state place.book valid place.key, there)
 
-module _ (state : State) (counts : BTreeMap ℕ ℕ) (rows : RowPlace → Option Row) (are : AreOf state counts rows) where
+module _ (state : State) (counts : BTreeMap ℕ ℕ) (lists : ListMap) (rows : RowPlace → Option Row)
+    (are : AreOf state counts lists rows) where
   -- the rows of a state have their keys
   pub are_keyed : AreKeyed rows
   are_keyed place row there =
@@ -123,6 +166,7 @@ module _ (state : State) (counts : BTreeMap ℕ ℕ) (rows : RowPlace → Option
   follows_taken (SetCount book count) = refl
   follows_taken (Note book count key cand) =
       ap (λ (row : Option Row). takes_note row cand count) (sym (are.row book key))
+  follows_taken (SetList typist books) = refl
 
 module _ (state index : State) (rows rest : RowPlace → Option Row) (place : RowPlace) (row : Row)
     (valid : is_valid state ≡ true) (put : IsPut state index rows) (first : rows place ≡ Some row)
@@ -146,6 +190,7 @@ module _ (state index : State) (rows rest : RowPlace → Option Row) (place : Ro
       same_key_equal row.key key,
       left_there,
     );
+    lists = put.lists;
   }
     where
       fits : fits_count count row ≡ true
@@ -160,6 +205,7 @@ pub record IsCounted (all left : BTreeMap ℕ ℕ) (before now : State) : Type 0
   pub rows : (number : ℕ) (key : RowKey) → row_at now number key ≡ row_at before number key
   pub below : (number : ℕ) → count_of now number ≤ count_in all number
   pub counts : (number : ℕ) → count_in all number ≡ unwrap_or (get nat_cmp left number) (count_of now number)
+  pub lists : now.lists ≡ before.lists
 
 module _ (all left rest : BTreeMap ℕ ℕ) (before now : State) (counted : IsCounted all left before now)
     (book count : ℕ) (first : get nat_cmp left book ≡ Some count) (updates : Updates nat_cmp left rest book None) where
@@ -192,5 +238,62 @@ module _ (all left rest : BTreeMap ℕ ℕ) (before now : State) (counted : IsCo
       count_told now (SetCount book count) count_later number,
       counted.counts number,
       count_there,
+    );
+    lists = still (count == 0);
+  }
+    where
+      still : (b : Bool) → (cond b now (record now {
+        books = with_book (record { number = book; count = count; rows = rows_of now book }) now.books;
+      })).lists ≡ before.lists
+      still true = counted.lists
+      still false = counted.lists
+
+-- states with the same books have the same counts and the same rows
+pub same_counts : (state other : State) → state.books ≡ other.books → (number : ℕ)
+    → count_of state number ≡ count_of other number
+same_counts state other same number =
+    ap (λ (books : List NumberedBook). count_of (record { books = books; lists = [] }) number) same
+
+pub same_books_rows : (state other : State) → state.books ≡ other.books → (number : ℕ) (key : RowKey)
+    → row_at state number key ≡ row_at other number key
+same_books_rows state other same number key =
+    ap (λ (books : List NumberedBook). row_at (record { books = books; lists = [] }) number key) same
+
+-- these lists have those that an index gets, some of which are left
+pub record IsListed (all left : ListMap) (before now : State) : Type 0 where
+  pub valid : is_valid now ≡ true
+  pub books : now.books ≡ before.books
+  pub lists : (typist : ℕ) → list_among all typist ≡ unwrap_or (get nat_cmp left typist) (shared_books now typist)
+
+-- all of them at first
+pub none_listed : (all : ListMap) (now : State) → is_valid now ≡ true → now.lists ≡ [] → IsListed all all now now
+none_listed all now valid none = record {
+  valid = valid;
+  books = refl;
+  lists = λ typist.
+      ap (unwrap_or (get nat_cmp all typist))
+      (sym (ap (λ (lists : List TypistList). listed_books (list_in typist lists)) none));
+}
+
+module _ (all left rest : ListMap) (before now : State) (listed : IsListed all left before now)
+    (typist : ℕ) (books : List ℕ) (first : get nat_cmp left typist ≡ Some books)
+    (updates : Updates nat_cmp left rest typist None) (is : is_book_list books ≡ true) where
+  -- a list that is left is one of all
+  list_there : list_among all typist ≡ books
+  list_there =
+      listed.lists typist ∙ ap (λ (found : Option (List ℕ)). unwrap_or found (shared_books now typist)) first
+
+  -- it can be given
+  pub list_next : IsListed all rest before (state_listed now typist books)
+  list_next = record {
+    valid = is_valid_listed typist books is now listed.valid;
+    books = listed.books;
+    lists = λ other. grind (
+      arith,
+      updates.0 other,
+      unsigned_tied typist other,
+      listed_then now typist books other,
+      listed.lists other,
+      list_there,
     );
   }

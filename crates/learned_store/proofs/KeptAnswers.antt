@@ -5,7 +5,7 @@ use Rattle.skk_calls.specs.declared.answer.Answer.{Answer}
 use Rattle.skk_calls.specs.declared.answer.Answer.TheVariants.{Done, Refused}
 use Rattle.skk_calls.specs.declared.answer.Reply.TheVariants.{Found}
 use Rattle.skk_calls.specs.declared.call.Call.{Call}
-use Rattle.skk_calls.specs.declared.call.Call.TheVariants.{Lookup, Complete, Learn, Purge, Annotate, Unlearn}
+use Rattle.skk_calls.specs.declared.call.Call.TheVariants.{Lookup, Complete, Learn, Purge, Annotate, Share, Unlearn}
 use Rattle.skk_calls.specs.Dictionary.{answer, after, is_call, may_reply, speaks_of}
 use Rattle.skk_calls.specs.Found.{found}
 use Rattle.skk_calls.specs.Histories.{after_answer}
@@ -22,6 +22,7 @@ module _ (files : List (List Row)) (state : State) where
   none_kept (Learn book key okuri cand) cands is = never cands is
   none_kept (Purge book key word) cands is = never cands is
   none_kept (Annotate book key cand) cands is = never cands is
+  none_kept (Share who books) cands is = never cands is
   none_kept (Unlearn learned) cands is = never cands is
 
   pub same_kept : (old new : KeptReadings) → AreAnswers files state old
@@ -48,9 +49,10 @@ module _ (files : List (List Row)) (state : State) where
   may_be_kept kept (Learn book key okuri cand) cands is = never cands is
   may_be_kept kept (Purge book key word) cands is = never cands is
   may_be_kept kept (Annotate book key cand) cands is = never cands is
+  may_be_kept kept (Share who books) cands is = never cands is
   may_be_kept kept (Unlearn learned) cands is = never cands is
 
--- a call that changes the row of a key leaves what is kept of other readings
+-- a call that changes the row of a key, and no list, leaves what is kept of other readings
 module _ (files : List (List Row)) (old new : State) (kept left : KeptReadings) (key : RowKey) (call : Call)
     (keys : (book : ℕ) (other : RowKey) → speaks_of call book other ≡ true → same_key key other ≡ true)
     (leaves : (who : ℕ) (other : RowKey) (okuri : Option (List ℕ)) → is_call call ≡ true
@@ -99,4 +101,5 @@ module _ (files : List (List Row)) (old new : State) (kept left : KeptReadings) 
   kept_elsewhere given is typed answers forgets (Learn book k okuri cand) cands there = never cands there
   kept_elsewhere given is typed answers forgets (Purge book k word) cands there = never cands there
   kept_elsewhere given is typed answers forgets (Annotate book k cand) cands there = never cands there
+  kept_elsewhere given is typed answers forgets (Share who books) cands there = never cands there
   kept_elsewhere given is typed answers forgets (Unlearn learned) cands there = never cands there

@@ -46,7 +46,7 @@ abbrev journal : Image → ℕ → Doubt → OpenJournal Image
 journal disk end doubt =
     record {
       disk = disk;
-      newest = 2;
+      newest = 3;
       live = record { file = A; version = 1; generation = 1 };
       end = end;
       idle = idles.Loose;
@@ -70,7 +70,7 @@ calm_rests = record {
   version = refl;
   end = refl;
   images =
-      alone (Holds 2 calm.live calm.idle (old (first ∷ []))) calm.disk
+      alone (Holds 3 calm.live calm.idle (old (first ∷ []))) calm.disk
       (record { this = has 1 (first ∷ []) (lit≤ tt) sized_one; that = inl (lit≤ tt) });
 }
 
@@ -86,7 +86,7 @@ staged_doubts = record {
   version = refl;
   end = refl;
   images =
-      alone (HoldsDoubt 2 staged.live staged.idle doubts.Record (old (first ∷ [])) (old (first ∷ second ∷ [])))
+      alone (HoldsDoubt 3 staged.live staged.idle doubts.Record (old (first ∷ [])) (old (first ∷ second ∷ [])))
       staged.disk
       (record {
         this = (
@@ -116,16 +116,16 @@ abbrev written : List ℕ
 written =
     1 ∷ 1 ∷ 0 ∷ 2 ∷ 0 ∷ 0 ∷ 0 ∷ 0 ∷ 0 ∷ 0 ∷ 0 ∷ 1 ∷ 0 ∷ 0 ∷ 0 ∷ 0 ∷ 0 ∷ 0 ∷ 0 ∷ 0 ∷ 97 ∷ 32 ∷ 47 ∷ 98 ∷ 47 ∷ []
 
-written_says : Says 2 empty_state written (Put 1 2 row_a)
+written_says : Says 3 empty_state written (Put 1 2 row_a)
 unfolding lib.Utf8.encode number_bytes
 written_says = record { known = refl; sound = refl; counted = lit≤ tt; follows = refl; is = refl }
 
-after_says : Says 2 (state 2 (row_a ∷ [])) second (Put 1 2 row_c)
+after_says : Says 3 (state 2 (row_a ∷ [])) second (Put 1 2 row_c)
 unfolding lib.Utf8.encode number_bytes
 after_says = record { known = refl; sound = refl; counted = lit≤ tt; follows = refl; is = refl }
 
 abbrev compacted_records : Contents
-compacted_records = record { version = 2; records = written ∷ second ∷ [] }
+compacted_records = record { version = 3; records = written ∷ second ∷ [] }
 
 written_leave : Leave compacted_records (state 2 (row_a ∷ row_c ∷ []))
 unfolding lib.Utf8.encode
@@ -137,7 +137,7 @@ written_sized = All-cons IsSized written (second ∷ []) (lit≤ tt, lit≤ tt)
 
 abbrev filled : OpenJournal Image
 filled =
-    journal (pair (file 1 (first ∷ second ∷ [])) (filled_bytes 1 2 2 (framed (written ∷ second ∷ [])))) 78 doubts.Idle
+    journal (pair (file 1 (first ∷ second ∷ [])) (filled_bytes 1 3 2 (framed (written ∷ second ∷ [])))) 78 doubts.Idle
 
 filled_doubts : Doubts lasting filled (old (first ∷ second ∷ [])) compacted_records
 unfolding number_bytes
@@ -146,7 +146,7 @@ filled_doubts = record {
   version = refl;
   end = refl;
   images =
-      alone (HoldsDoubt 2 filled.live filled.idle doubts.Idle (old (first ∷ second ∷ [])) compacted_records)
+      alone (HoldsDoubt 3 filled.live filled.idle doubts.Idle (old (first ∷ second ∷ [])) compacted_records)
       filled.disk
       (record {
         this = has 1 (first ∷ second ∷ []) (lit≤ tt) sized_two;
@@ -196,7 +196,7 @@ recover_among = (
     None,
     tt,
     alone (RecoversOneOf (empty_state ∷ [])) (pair [] [])
-        (empty_state, (0, lit< tt, refl), (no_records 2, refl, refl)),
+        (empty_state, (0, lit< tt, refl), (no_records 3, refl, refl)),
   ),
   (
     Some (state 1 (row_a ∷ [])),
@@ -233,7 +233,7 @@ learned = Done (Learned (record { book = 1; key = row_a.key; stamp = 1; before =
 
 -- another state
 abbrev other : State
-other = record { books = record { number = 2; count = 7; rows = [] } ∷ [] }
+other = record { books = record { number = 2; count = 7; rows = [] } ∷ []; lists = [] }
 
 abbrev full : Answer
 full = Refused (JournalFull 18 30 47)

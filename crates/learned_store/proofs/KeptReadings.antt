@@ -16,7 +16,7 @@ use Rattle.std.proofs.lemmas.Str.{encodes_same}
 use Rattle.lru.specs.LruCache.{LruCache, lru_cache, promoted, put_entries}
 use Rattle.lru.proofs.CallerLemmas.{lookup-put_entries}
 use Rattle.skk_calls.specs.declared.call.Call.{Call}
-use Rattle.skk_calls.specs.declared.call.Call.TheVariants.{Lookup, Complete, Learn, Purge, Annotate, Unlearn}
+use Rattle.skk_calls.specs.declared.call.Call.TheVariants.{Lookup, Complete, Learn, Purge, Annotate, Share, Unlearn}
 use Rattle.skk_calls.specs.declared.part.Part.{Part}
 use Rattle.skk_calls.specs.KeyLaws.{same_encoded, same_equal, same_part_equal}
 use Rattle.skk_calls.specs.Rows.{RowKey, Cand, same_text, same_part}
@@ -170,6 +170,7 @@ module _ (reading : List ℕ) (kept : KeptReadings) where
   touched (Learn book key okuri cand) = refl
   touched (Purge book key word) = refl
   touched (Annotate book key cand) = refl
+  touched (Share who books) = refl
   touched (Unlearn learned) = refl
 
   module _ (distinct : IsDistinct string_eq (keys_of kept)) where
@@ -202,6 +203,7 @@ module _ (reading : List ℕ) (kept : KeptReadings) where
     still (Learn book key okuri cand) found is = is
     still (Purge book key word) found is = is
     still (Annotate book key cand) found is = is
+    still (Share who books) found is = is
     still (Unlearn learned) found is = is
 
     module _ (string : String Global) (spells : string_bytes string ≡ encode_utf8_all reading) (cap : ℕ)
@@ -260,6 +262,7 @@ module _ (reading : List ℕ) (kept : KeptReadings) where
       put (Learn book key okuri cand) found is = inl is
       put (Purge book key word) found is = inl is
       put (Annotate book key cand) found is = inl is
+      put (Share who books) found is = inl is
       put (Unlearn learned) found is = inl is
 
       -- what `put` leaves, with the memory for it or without
@@ -295,6 +298,7 @@ module _ (reading : List ℕ) (kept : KeptReadings) where
       one_more popped is roomy answer room added (Learn book key okuri cand) found (inr inside) = absurd inside
       one_more popped is roomy answer room added (Purge book key word) found (inr inside) = absurd inside
       one_more popped is roomy answer room added (Annotate book key cand) found (inr inside) = absurd inside
+      one_more popped is roomy answer room added (Share who books) found (inr inside) = absurd inside
       one_more popped is roomy answer room added (Unlearn learned) found (inr inside) = absurd inside
 
 -- Answers
@@ -331,6 +335,7 @@ same_call who key okuri cands bytes spells (Complete w prefix) found is = absurd
 same_call who key okuri cands bytes spells (Learn book k o cand) found is = absurd is
 same_call who key okuri cands bytes spells (Purge book k word) found is = absurd is
 same_call who key okuri cands bytes spells (Annotate book k cand) found is = absurd is
+same_call who key okuri cands bytes spells (Share w books) found is = absurd is
 same_call who key okuri cands bytes spells (Unlearn learned) found is = absurd is
 
 module _ (part : Part) (who : ℕ) (okuri : Option (List ℕ)) (answer : KeptAnswer) (found : List Cand) where

@@ -14,6 +14,7 @@ mod KeptAnswers
 mod KeptExamples
 mod KeptReadings
 mod Limits
+mod ListExamples
 mod Moments
 mod Needs
 mod NoForms
@@ -26,6 +27,7 @@ mod Placed
 mod PlainRows
 mod PlansTold
 mod ReadForms
+mod ReadLists
 mod ReadParts
 mod ReadRecords
 mod ReadRows

@@ -1,11 +1,13 @@
 -- What a call needs in the learned file is what the record of its change needs there.
-use Rattle.std.proofs.Common.{◌≡◌, ℕ, ◌+◌, Option, None, Some, ◌∷◌, ◌++◌, length, encode_utf8_all}
-use Rattle.std.proofs.Common.{arith, length-append}
+use Rattle.std.proofs.Common.{◌≡◌, ℕ, ◌+◌, ◌*◌, Option, None, Some, List, [], ◌∷◌, ◌++◌, length, encode_utf8_all}
+use Rattle.std.proofs.Common.{refl, arith, length-append}
+use Rattle.std.specs.List.{flat_map}
 use Rattle.exact_readers.specs.NumberLaws.{told_16, told_64}
 use Rattle.skk_calls.specs.declared.call.Call.{Call}
-use Rattle.skk_calls.specs.declared.call.Call.TheVariants.{Lookup, Complete, Learn, Purge, Annotate, Unlearn}
+use Rattle.skk_calls.specs.declared.call.Call.TheVariants.{Lookup, Complete, Learn, Purge, Annotate, Share, Unlearn}
 use Rattle.skk_calls.specs.Canonical.{canonical, item}
-use Rattle.skk_calls.specs.Histories.{put_need, drop_need, restored_need, note_need, annotated_need, need}
+use Rattle.skk_calls.specs.Histories.{put_need, drop_need, restored_need, note_need, annotated_need}
+use Rattle.skk_calls.specs.Histories.{list_need, need}
 use Rattle.skk_calls.specs.Rows.{RowKey, Cand, Row}
 use Rattle.skk_calls.specs.Learning.{learnt, purged, annotated}
 use Rattle.skk_calls.specs.States.{State, row_at, count_of}
@@ -13,7 +15,8 @@ use Rattle.skk_journal.specs.RecordLaws.{need_is}
 use Rattle.skk_journal.specs.Records.{need as record_need}
 use Rattle.learned_store.specs.declared.form.PayloadForm.{PayloadForm}
 use Rattle.learned_store.specs.Payloads.{book_number, wide_number, part_byte, put_bytes, drop_bytes, count_bytes}
-use Rattle.learned_store.specs.Payloads.{note_bytes, payload_of, row_told, note_told, change_told}
+use Rattle.learned_store.specs.Payloads.{note_bytes, list_bytes, typist_number, payload_of, row_told, note_told}
+use Rattle.learned_store.specs.Payloads.{change_told}
 
 -- the record of a row needs 25 bytes and those of its line
 pub put_needs : (book count : ℕ) (row : Row) → put_need row ≡ record_need (put_bytes book count row)
@@ -65,6 +68,31 @@ note_needs book count key cand =
       told_64.long count,
     )
 
+-- the numbers of books have two bytes each
+numbers_long : (books : List ℕ) → length (flat_map book_number books) ≡ 2 * length books
+numbers_long [] = refl
+numbers_long (book ∷ books) =
+    omega (
+      arith,
+      length-append (book_number book) (flat_map book_number books),
+      told_16.long book,
+      numbers_long books,
+    )
+
+-- a payload that gives a list has four bytes and those of its numbers
+pub list_long : (typist : ℕ) (books : List ℕ) → length (list_bytes typist books) ≡ 4 + 2 * length books
+list_long typist books =
+    omega (
+      arith,
+      length-append (typist_number typist) (length books ∷ flat_map book_number books),
+      told_16.long typist,
+      numbers_long books,
+    )
+
+-- so its record needs nine bytes and those of its numbers
+pub list_needs : (typist : ℕ) (books : List ℕ) → list_need books ≡ record_need (list_bytes typist books)
+list_needs typist books = omega (arith, need_is (list_bytes typist books), list_long typist books)
+
 annotated_needs : (book count : ℕ) (key : RowKey) (cand : Cand) (row : Option Row)
     → annotated_need row key cand count ≡ record_need (payload_of (note_told book count key cand row))
 annotated_needs book count key cand None = put_needs book count (annotated None key cand count)
@@ -87,5 +115,6 @@ needs_record state (Purge book key word) form is =
     grind (arith, put_needs book count (purged (row_at state book key) key word count))
 needs_record state (Annotate book key cand) form is =
     grind (arith, annotated_needs book (count_of state book + 1) key cand (row_at state book key))
+needs_record state (Share who books) form is = grind (arith, list_needs who books)
 needs_record state (Unlearn learned) form is =
     grind (arith, restored_needs learned.book (count_of state learned.book) learned.key learned.before)

@@ -9,7 +9,7 @@ use Rattle.skk_calls.specs.declared.part.Part.TheVariants.{Nasi}
 use Rattle.skk_calls.specs.Rows.{Cand, Row}
 use Rattle.skk_calls.specs.States.{State}
 use Rattle.dict_format.specs.Reading.{line_reading, row_reading, key_at, texts_at, fit_items_at, some_row_of}
-use Rattle.learned_store.specs.declared.form.PayloadForm.TheVariants.{Put, Drop, SetCount, Note}
+use Rattle.learned_store.specs.declared.form.PayloadForm.TheVariants.{Put, Drop, SetCount, Note, SetList}
 use Rattle.learned_store.specs.Payloads.{SaysNothing}
 use Rattle.learned_store.specs.Reading.{form_of}
 use Rattle.learned_store.proofs.ReadForms.{below_said, unfit_said, unknown_said}
@@ -17,8 +17,9 @@ use Rattle.learned_store.proofs.ReadRows.{LinesAreRead}
 
 -- another first byte
 pub other_byte : (version : ℕ) (state : State) (first : ℕ) (rest : List ℕ) → first ≢ 1 → first ≢ 2 → first ≢ 3
-    → first ≢ 4 → SaysNothing version state (first ∷ rest)
-other_byte version state first rest one two three four form says = grind (arith, says.is, one, two, three, four)
+    → first ≢ 4 → first ≢ 5 → SaysNothing version state (first ∷ rest)
+other_byte version state first rest one two three four five form says =
+    grind (arith, says.is, one, two, three, four, five)
 
 -- a small number in eight bytes
 abbrev eight : ℕ → List ℕ
@@ -43,8 +44,8 @@ noted count rest = 4 ∷ 1 ∷ 0 ∷ (eight count ++ rest)
 abbrev ReadNone : List (List ℕ) → Type 0
 ReadNone payloads = list_all (λ payload. is_none (form_of payload)) payloads ≡ true
 
--- no byte, another first byte, a count with a byte too few, and one with a byte too many
-no_count : ReadNone ([] ∷ (0 ∷ []) ∷ (5 ∷ 1 ∷ 0 ∷ eight 1) ∷ (3 ∷ 1 ∷ 0 ∷ 1 ∷ 0 ∷ 0 ∷ 0 ∷ 0 ∷ 0 ∷ 0 ∷ [])
+-- no byte, two other first bytes, a count with a byte too few, and one with a byte too many
+no_count : ReadNone ([] ∷ (0 ∷ []) ∷ (6 ∷ 1 ∷ 0 ∷ eight 1) ∷ (3 ∷ 1 ∷ 0 ∷ 1 ∷ 0 ∷ 0 ∷ 0 ∷ 0 ∷ 0 ∷ 0 ∷ [])
     ∷ counted (0 ∷ [])
     ∷ [])
 unfolding number_of number_step
@@ -120,9 +121,41 @@ unfolding number_of number_step is_utf8 chars lib.Utf8.encode line_reading row_r
     some_row_of taken
 forms_read = refl
 
+-- the list of typist 258, of so many books with these bytes
+abbrev listed : ℕ → List ℕ → List ℕ
+listed size rest = 5 ∷ 2 ∷ 1 ∷ size ∷ rest
+
+-- a list that ends before its typist, within it, and before its length; one of no books, and one of nine; one with a
+-- book twice; one with a byte and with a book too few, and too many; and one of an odd number of bytes
+no_list : ReadNone ((5 ∷ []) ∷ (5 ∷ 2 ∷ []) ∷ (5 ∷ 2 ∷ 1 ∷ []) ∷ listed 0 []
+    ∷ listed 9 (1 ∷ 0 ∷ 2 ∷ 0 ∷ 3 ∷ 0 ∷ 4 ∷ 0 ∷ 5 ∷ 0 ∷ 6 ∷ 0 ∷ 7 ∷ 0 ∷ 8 ∷ 0 ∷ 9 ∷ 0 ∷ [])
+    ∷ listed 2 (7 ∷ 0 ∷ 7 ∷ 0 ∷ []) ∷ listed 3 (1 ∷ 0 ∷ 2 ∷ 0 ∷ 1 ∷ 0 ∷ [])
+    ∷ listed 2 (7 ∷ 0 ∷ 0 ∷ []) ∷ listed 2 (7 ∷ 0 ∷ []) ∷ listed 1 (7 ∷ 0 ∷ 0 ∷ 0 ∷ []) ∷ listed 1 (7 ∷ 0 ∷ 0 ∷ [])
+    ∷ listed 1 (7 ∷ []) ∷ listed 1 []
+    ∷ [])
+unfolding number_of number_step taken
+no_list = refl
+
+-- a list of one book, of two, and of eight; the books stand as they came
+lists_read : map form_of (listed 1 (0 ∷ 0 ∷ []) ∷ listed 2 (7 ∷ 0 ∷ 0 ∷ 1 ∷ [])
+    ∷ listed 8 (8 ∷ 0 ∷ 7 ∷ 0 ∷ 6 ∷ 0 ∷ 5 ∷ 0 ∷ 4 ∷ 0 ∷ 3 ∷ 0 ∷ 2 ∷ 0 ∷ 255 ∷ 255 ∷ []) ∷ [])
+    ≡ Some (SetList 258 (0 ∷ [])) ∷ Some (SetList 258 (7 ∷ 256 ∷ []))
+    ∷ Some (SetList 258 (8 ∷ 7 ∷ 6 ∷ 5 ∷ 4 ∷ 3 ∷ 2 ∷ 65535 ∷ [])) ∷ []
+unfolding number_of number_step taken
+lists_read = refl
+
+-- a list says nothing in files of the versions 1 and 2, whatever the state is
+list_unknown : LinesAreRead → (state : State) → SaysNothing 1 state (listed 2 (7 ∷ 0 ∷ 0 ∷ 0 ∷ []))
+    × SaysNothing 2 state (listed 2 (7 ∷ 0 ∷ 0 ∷ 0 ∷ []))
+unfolding number_of number_step taken
+list_unknown lines state = (
+  unknown_said lines 1 state _ (SetList 258 (7 ∷ 0 ∷ [])) refl refl,
+  unknown_said lines 2 state _ (SetList 258 (7 ∷ 0 ∷ [])) refl refl,
+)
+
 -- book 1 has changed twice
 abbrev twice : State
-twice = record { books = record { number = 1; count = 2; rows = [] } ∷ [] }
+twice = record { books = record { number = 1; count = 2; rows = [] } ∷ []; lists = [] }
 
 -- so each says nothing there, since its count is below that of its book
 below : LinesAreRead → SaysNothing 1 twice (put 1 (0 ∷ codes "a /b/")) × SaysNothing 1 twice (dropped (0 ∷ codes "a"))
@@ -130,15 +163,15 @@ below : LinesAreRead → SaysNothing 1 twice (put 1 (0 ∷ codes "a /b/")) × Sa
 unfolding number_of number_step is_utf8 chars lib.Utf8.encode line_reading row_reading key_at texts_at fit_items_at
     some_row_of taken
 below lines = (
-  below_said lines 1 twice _ (Put 1 1 spelled) refl (omega arith),
-  below_said lines 1 twice _ (Drop 1 1 spelled.key) refl (omega arith),
-  below_said lines 1 twice _ (SetCount 1 1) refl (omega arith),
-  below_said lines 2 twice _ (Note 1 1 spelled.key b_with_note) refl (omega arith),
+  below_said lines 1 twice _ (Put 1 1 spelled) refl (λ least. omega (arith, least)),
+  below_said lines 1 twice _ (Drop 1 1 spelled.key) refl (λ least. omega (arith, least)),
+  below_said lines 1 twice _ (SetCount 1 1) refl (λ least. omega (arith, least)),
+  below_said lines 2 twice _ (Note 1 1 spelled.key b_with_note) refl (λ least. omega (arith, least)),
 )
 
 -- book 1 has that row
 abbrev once : State
-once = record { books = record { number = 1; count = 1; rows = spelled ∷ [] } ∷ [] }
+once = record { books = record { number = 1; count = 1; rows = spelled ∷ [] } ∷ []; lists = [] }
 
 -- a note says nothing in a file of version 1, nor where its row is not there
 unknown : LinesAreRead → SaysNothing 1 once (noted 2 (0 ∷ 1 ∷ codes "ab;c"))

@@ -30,7 +30,7 @@ abbrev learned : Answer
 learned = Done (Learned (record { book = 1; key = row_a.key; stamp = 1; before = None }))
 
 abbrev other : State
-other = record { books = record { number = 2; count = 7; rows = [] } ∷ [] }
+other = record { books = record { number = 2; count = 7; rows = [] } ∷ []; lists = [] }
 
 abbrev full : Answer
 full = Refused (JournalFull 18 30 47)
@@ -146,7 +146,7 @@ abbrev store : OpenStore ℕ
 store = record {
   journal = record {
     disk = 7;
-    newest = 2;
+    newest = 3;
     live = record { file = B; version = 1; generation = 2 };
     end = 12;
     idle = idles.Loose;

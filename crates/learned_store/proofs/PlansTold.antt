@@ -4,7 +4,7 @@ use Rattle.std.specs.Option.{option_map}
 use Rattle.std.proofs.lemmas.Bool.{and_parts, eqb-true}
 use Rattle.skk_calls.specs.declared.answer.Reply.{Reply}
 use Rattle.skk_calls.specs.declared.call.Call.{Call}
-use Rattle.skk_calls.specs.declared.call.Call.TheVariants.{Lookup, Complete, Learn, Purge, Annotate, Unlearn}
+use Rattle.skk_calls.specs.declared.call.Call.TheVariants.{Lookup, Complete, Learn, Purge, Annotate, Share, Unlearn}
 use Rattle.skk_calls.specs.Dictionary.{after, is_call, is_row_or_none}
 use Rattle.skk_calls.specs.KeyLaws.{same_key_equal, same_key_itself}
 use Rattle.skk_calls.specs.Learning.{learnt, purged, annotated, is_valid_learned}
@@ -87,6 +87,7 @@ plan_told state (Annotate number own cand) book count key row reply typed planne
     ap (λ (f : PayloadForm). Some f) (noted_told state (after state (Annotate number own cand)) number stamp own cand
     book count key row (row_at state number own) refl planned.2
     (after_moved state (Annotate number own cand) planned.0) planned.3 planned.4)
+plan_told state (Share who books) book count key row reply typed planned = let speaks = planned.2 in absurd (cc)
 plan_told state (Unlearn learned) book count key row reply typed planned =
     let valid = (and_parts (is_valid_learned learned) (is_row_or_none learned.before)
     (and_parts (is_row_key learned.key) (is_valid_learned learned && is_row_or_none learned.before) typed).1).0 in

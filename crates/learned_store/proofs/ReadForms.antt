@@ -15,18 +15,24 @@ use Rattle.exact_readers.specs.Numbers.{number}
 use Rattle.skk_text.specs.Counts.{last_count}
 use Rattle.skk_text.specs.Lists.{is_empty}
 use Rattle.skk_calls.specs.Rows.{RowKey, Cand, Row}
-use Rattle.skk_calls.specs.States.{State, count_of}
+use Rattle.skk_calls.specs.States.{State}
 use Rattle.learned_store.specs.declared.form.PayloadForm.{PayloadForm}
-use Rattle.learned_store.specs.declared.form.PayloadForm.TheVariants.{Put, Drop, SetCount, Note}
-use Rattle.learned_store.specs.Payloads.{book_number, wide_number, are_held, book_of, new_count, payload_of, is_sound}
-use Rattle.learned_store.specs.Payloads.{Says, SaysNothing, first_version, may_follow}
-use Rattle.learned_store.specs.Reading.{payload_with, put_with, fields, form_behind, form_of, key_of, row_of, noted_of}
+use Rattle.learned_store.specs.declared.form.PayloadForm.TheVariants.{Put, Drop, SetCount, Note, SetList}
+use Rattle.learned_store.specs.Payloads.{CountsOn, Says, SaysNothing, book_number, wide_number, are_held}
+use Rattle.learned_store.specs.Payloads.{counted_by, first_version, is_held, is_sound, may_follow}
+use Rattle.learned_store.specs.Payloads.{payload_of}
+use Rattle.learned_store.specs.Reading.{payload_with, put_with, fields, counted_form, form_behind, form_of}
+use Rattle.learned_store.specs.Reading.{key_of, row_of, noted_of}
+use Rattle.learned_store.proofs.ReadLists.{list_sound, list_complete}
 use Rattle.learned_store.proofs.NotedParts.{noted_sound, noted_complete}
 use Rattle.learned_store.proofs.ReadParts.{key_sound, key_complete, row_sound, row_complete}
 use Rattle.learned_store.proofs.ReadRows.{LinesAreRead, LinesAreRows}
-use Rattle.learned_store.proofs.SoundForms.{put_parts, drop_parts, note_parts}
+use Rattle.learned_store.proofs.SoundForms.{put_parts, drop_parts, list_parts, note_parts}
 
 -- Fields
+
+pub number_held : (number : ℕ) → number < 2 ^ 16 → is_held number ≡ true
+number_held number low = grind (arith, nat_tests)
 
 pub held : (book count : ℕ) → book < 2 ^ 16 → count < 2 ^ 64 → are_held book count ≡ true
 held book count low least = grind (arith, nat_tests)
@@ -155,13 +161,25 @@ module _ (lines : LinesAreRows) (book count : ℕ) (rest : List ℕ) (is_held : 
         ]
       ]
 
-pub form_sound : LinesAreRows → (payload : List ℕ) (form : PayloadForm) → form_of payload ≡ Some form
+-- what is read of a payload that speaks of a book
+counted_sound : LinesAreRows → (payload : List ℕ) (form : PayloadForm) → counted_form payload ≡ Some form
     → IsRead payload form
-form_sound lines payload form e =
+counted_sound lines payload form e =
     let read = then_at-some (fields.step payload) _ form e in
     let begins = fields_sound payload read.0.0.0 read.0.0.1.0 read.0.0.1.1 read.0.1 read.1 in
     subst (λ l. IsRead l form) (sym begins.is)
     (behind_sound lines read.0.0.1.0 read.0.0.1.1 read.0.1 begins.held read.0.0.0 form read.2)
+
+pub form_sound : LinesAreRows → (payload : List ℕ) (form : PayloadForm) → form_of payload ≡ Some form
+    → IsRead payload form
+form_sound lines [] form e = absurd (none-some form e)
+form_sound lines (kind ∷ bytes) form e =
+    elim (chosen (kind == 5) _ _ _ e) [
+      | inl list ↦
+          let read = list_sound bytes form list.1 in
+          record { sound = read.sound; is = ap (λ k. k ∷ bytes) (eqb-true kind 5 list.0) ∙ read.is }
+      | inr other ↦ counted_sound lines (kind ∷ bytes) form other.1
+    ]
 
 -- what code reads of a payload is that
 pub form_read : LinesAreRows → (payload : List ℕ) (found : Option PayloadForm) → found ≡ form_of payload
@@ -193,6 +211,8 @@ module _ (lines : LinesAreRead) where
       ∙ rw (le-leb 1 count parts.some)
       (ap (option_map (λ noted. Note book count noted.0 noted.1))
       (noted_complete lines key cand parts.valid parts.cand_is parts.reading parts.item))
+  form_complete (SetList typist books) sound =
+      let parts = list_parts typist books sound in list_complete typist books parts.held parts.valid parts.numbers
 
   -- what a payload says is read of it
   pub said : (version : ℕ) (state : State) (payload : List ℕ) (form : PayloadForm) → Says version state payload form
@@ -229,12 +249,10 @@ module _ (lines : LinesAreRead) where
 
   -- or something of a count below that of its book
   pub below_said : (version : ℕ) (state : State) (payload : List ℕ) (form : PayloadForm) → form_of payload ≡ Some form
-      → new_count form < count_of state (book_of form) → SaysNothing version state payload
+      → (CountsOn state (counted_by form) → ⊥) → SaysNothing version state payload
   below_said version state payload form is below other says =
       let same = same_Some form other (sym is ∙ said version state payload other says) in
-      let counted : count_of state (book_of form) ≤ new_count form =
-      subst (λ (f : PayloadForm). count_of state (book_of f) ≤ new_count f) (sym same) says.counted in
-      omega (arith, below, counted)
+      below (subst (λ (f : PayloadForm). CountsOn state (counted_by f)) (sym same) says.counted)
 
   -- and code reads it
   pub form_found : (payload : List ℕ) (found : Option PayloadForm) → found ≡ form_of payload

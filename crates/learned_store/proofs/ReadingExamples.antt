@@ -155,7 +155,7 @@ unfolding is_utf8 chars lib.Utf8.encode taken
     line_reading row_reading key_at texts_at fit_items_at some_row_of
 notes = refl
 
--- a form by its kind, with the rest behind the count: a count has none, and there are no kinds 0 and 5
+-- a form by its kind, with the rest behind the count: a count has none, and that of a list speaks of no book
 kinds : map (λ kind. form_behind kind 258 5 []) (0 ∷ 1 ∷ 2 ∷ 3 ∷ 4 ∷ 5 ∷ [])
     ≡ None ∷ None ∷ None ∷ Some (SetCount 258 5) ∷ None ∷ None ∷ []
 unfolding number_step

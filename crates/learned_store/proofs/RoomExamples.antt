@@ -90,7 +90,7 @@ abbrev store : ℕ → State → ℕ → ℕ → OpenStore ℕ
 store limit state version end = record {
   journal = record {
     disk = 0;
-    newest = 2;
+    newest = 3;
     live = record { file = A; version = version; generation = 1 };
     end = end;
     idle = idles.Loose;
@@ -109,7 +109,7 @@ unfolding lib.Utf8.encode
 ends = (refl, refl, refl, refl, refl)
 
 -- its version behind them: that which it had where they go behind what is there, and else the newest
-versions : (version_added (store 110 one 1 61) learn_kanji ≡ 1) × (version_added (store 110 two 1 104) learn_kanji ≡ 2)
+versions : (version_added (store 110 one 1 61) learn_kanji ≡ 1) × (version_added (store 110 two 1 104) learn_kanji ≡ 3)
     × (version_added (store 147 two 2 104) learn_kanji ≡ 2)
 unfolding lib.Utf8.encode
 versions = (refl, refl, refl)
@@ -120,7 +120,7 @@ abbrev note_kanji : Call
 note_kanji = Annotate 1 (kanji 1).key (record { word = codes "漢字"; note = codes "書く" })
 
 notes : (need two note_kanji ≡ 40) × (end_added (store 1000 two 1 104) note_kanji ≡ 101)
-    × (version_added (store 1000 two 1 104) note_kanji ≡ 2) × (end_added (store 1000 two 2 104) note_kanji ≡ 144)
+    × (version_added (store 1000 two 1 104) note_kanji ≡ 3) × (end_added (store 1000 two 2 104) note_kanji ≡ 144)
     × (end_added (store 143 two 2 104) note_kanji ≡ 101) × (need empty_state note_kanji ≡ 50)
     × (version_added (store 1000 empty_state 1 18) note_kanji ≡ 1)
 unfolding lib.Utf8.encode

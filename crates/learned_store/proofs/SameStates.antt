@@ -1,7 +1,7 @@
--- Valid states with the same counts and the same rows are one.
-use Rattle.std.proofs.Common.{◌≡◌, ℕ, ◌==◌, true, false, cond, not, Option, None, Some}
-use Rattle.std.proofs.Common.{List, [], ◌∷◌, refl, ap, ◌∙◌, arith}
-use Rattle.std.proofs.lemmas.Bool.{and_parts, not_from_false}
+-- Valid states with the same counts, the same rows and the same lists are one.
+use Rattle.std.proofs.Common.{◌≡◌, ℕ, ◌==◌, ◌&&◌, true, false, cond, not, Option, None, Some}
+use Rattle.std.proofs.Common.{List, [], ◌∷◌, refl, sym, ap, ◌∙◌, arith}
+use Rattle.std.proofs.lemmas.Bool.{and_parts, eqb-true, not_from_false}
 use Rattle.std.specs.List.{list_all}
 use Rattle.skk_text.specs.FilterLaws.{find_none, find_passes, list_all_found}
 use Rattle.skk_text.specs.Pairs.{all_pairs}
@@ -10,10 +10,13 @@ use Rattle.ordered_lists.specs.KeyOrders.{number_keys}
 use Rattle.ordered_lists.specs.OrderLaws.{greater_differs}
 use Rattle.ordered_lists.specs.Orders.{Order, ascend, before, item_of}
 use Rattle.skk_calls.specs.declared.book.NumberedBook.{NumberedBook}
+use Rattle.skk_calls.specs.declared.book_list.TypistList.{TypistList}
+use Rattle.skk_calls.specs.BookLists.{is_book_list, same_numbers, shared_alone}
 use Rattle.skk_calls.specs.OrderLaws.{row_keys}
 use Rattle.skk_calls.specs.Rows.{RowKey, Row}
 use Rattle.skk_calls.specs.States.{State, book_at, book_rows, book_count, rows_of, count_of, row_at, is_book}
-use Rattle.skk_calls.specs.States.{books_ascend, is_valid}
+use Rattle.skk_calls.specs.States.{books_ascend, is_kept_list, is_valid, list_in, listed_books, lists_ascend}
+use Rattle.skk_calls.specs.States.{shared_books}
 use Rattle.dict_laws.specs.ValidStates.{parts_at, rows_of_ascend}
 
 -- Items
@@ -96,9 +99,46 @@ module _ (state : State) (number : ℕ) (valid : is_valid state ≡ true) where
             (parts_at state number valid book is).count,
           )
 
+-- what a valid state keeps
+record KeptParts (state : State) : Type 0 where
+  pub ascend : books_ascend state.books ≡ true
+  pub in_order : lists_ascend state.lists ≡ true
+  pub kept : list_all is_kept_list state.lists ≡ true
+
+kept_parts : (state : State) → is_valid state ≡ true → KeptParts state
+kept_parts state valid =
+    let lists = lists_ascend state.lists && list_all is_kept_list state.lists in
+    let first = and_parts (books_ascend state.books) (list_all is_book state.books && lists) valid in
+    let last =
+    and_parts (lists_ascend state.lists) (list_all is_kept_list state.lists)
+    (and_parts (list_all is_book state.books) lists first.1).1 in
+    record { ascend = first.0; in_order = last.0; kept = last.1 }
+
+-- a list of a valid state is known by the books that its typist is said to have
+abbrev list_of_books : ℕ → List ℕ → Option TypistList
+list_of_books typist books =
+    cond (same_numbers books shared_alone) None (Some (record { typist = typist; books = books }))
+
+list_known : (state : State) (typist : ℕ) → is_valid state ≡ true
+    → list_in typist state.lists ≡ list_of_books typist (shared_books state typist)
+list_known state typist valid = by (list_in typist state.lists) refl
+  where
+    by : (found : Option TypistList) → list_in typist state.lists ≡ found
+        → found ≡ list_of_books typist (listed_books found)
+    by None is = refl
+    by (Some list) is =
+        let kept =
+        list_all_found is_kept_list (λ (l : TypistList). l.typist == typist) state.lists list
+        (kept_parts state valid).kept is in
+        let other = (and_parts (is_book_list list.books) (not (same_numbers list.books shared_alone)) kept).1 in
+        let own =
+        eqb-true list.typist typist (find_passes (λ (l : TypistList). l.typist == typist) state.lists list is) in
+        grind (arith, other, own)
+
 module _ (state other : State) (valid : is_valid state ≡ true) (later : is_valid other ≡ true)
     (counts : (number : ℕ) → count_of state number ≡ count_of other number)
-    (rows : (number : ℕ) (key : RowKey) → row_at state number key ≡ row_at other number key) where
+    (rows : (number : ℕ) (key : RowKey) → row_at state number key ≡ row_at other number key)
+    (lists : (typist : ℕ) → shared_books state typist ≡ shared_books other typist) where
   same_rows : (number : ℕ) → rows_of state number ≡ rows_of other number
   same_rows number =
       same_list (λ (row : Row). row.key) row_keys (rows_of state number) (rows_of other number)
@@ -114,12 +154,18 @@ module _ (state other : State) (valid : is_valid state ≡ true) (later : is_val
         book_known other number later,
       )
 
+  same_typist : (typist : ℕ) → list_in typist state.lists ≡ list_in typist other.lists
+  same_typist typist =
+      list_known state typist valid ∙ ap (list_of_books typist) (lists typist) ∙ sym (list_known other typist later)
+
   pub same_state : state ≡ other
   same_state =
-      ap (λ (books : List NumberedBook). in_state books)
+      ap (λ (books : List NumberedBook). in_state books state.lists)
       (same_list (λ (book : NumberedBook). book.number) number_keys state.books other.books
-      (and_parts (books_ascend state.books) (list_all is_book state.books) valid).0
-      (and_parts (books_ascend other.books) (list_all is_book other.books) later).0 same_book)
+      (kept_parts state valid).ascend (kept_parts other later).ascend same_book)
+      ∙ ap (λ (own : List TypistList). in_state other.books own)
+      (same_list (λ (list : TypistList). list.typist) number_keys state.lists other.lists
+      (kept_parts state valid).in_order (kept_parts other later).in_order same_typist)
     where
-      in_state : List NumberedBook → State
-      in_state books = record { books = books }
+      in_state : List NumberedBook → List TypistList → State
+      in_state books own = record { books = books; lists = own }

@@ -36,7 +36,7 @@ abbrev store : State → ℕ → ℕ → Doubt → ℕ → OpenStore ℕ
 store kept end limit doubt disk = record {
   journal = record {
     disk = disk;
-    newest = 2;
+    newest = 3;
     live = record { file = A; version = 1; generation = 1 };
     end = end;
     idle = idles.Loose;

@@ -23,12 +23,12 @@ use Rattle.skk_journal.specs.Images.{Each}
 use Rattle.skk_journal.specs.Journal.{OpenJournal, is_in_doubt}
 use Rattle.skk_journal.specs.Records.{need as record_need}
 use Rattle.learn_index.specs.declared.plan.Plan.{Plan}
-use Rattle.learn_index.specs.declared.plan.Plan.TheVariants.{Still, Move}
+use Rattle.learn_index.specs.declared.plan.Plan.TheVariants.{Still, Move, Lists}
 use Rattle.learn_index.specs.Plans.{is_question, IsPlanned}
 use Rattle.learn_index.specs.ReplyLaws.{may-change}
 use Rattle.learned_store.specs.Recovered.{Leave}
 use Rattle.learned_store.specs.declared.form.PayloadForm.{PayloadForm}
-use Rattle.learned_store.specs.declared.form.PayloadForm.TheVariants.{Put, Drop, SetCount, Note}
+use Rattle.learned_store.specs.declared.form.PayloadForm.TheVariants.{Put, Drop, SetCount, Note, SetList}
 use Rattle.learned_store.specs.declared.writing.Record.{Record}
 use Rattle.learned_store.specs.Payloads.{newest_version, first_version, change_told}
 use Rattle.learned_store.specs.Rooms.{goes_behind}
@@ -66,6 +66,7 @@ pub unrecorded : (state : State) (call : Call) (plan : Plan) → IsPlanned state
     → moves state call ≡ false
 unrecorded state call (Still reply) planned none = planned.0
 unrecorded state call (Move book count key row reply) planned none = absurd none
+unrecorded state call (Lists who list reply) planned none = absurd none
 
 -- the newest version has every record
 first_known : (form : PayloadForm) → nat_le (first_version form) newest_version ≡ true
@@ -73,6 +74,7 @@ first_known (Put book count row) = refl
 first_known (Drop book count key) = refl
 first_known (SetCount book count) = refl
 first_known (Note book count key cand) = refl
+first_known (SetList typist books) = refl
 
 needed_known : (told : Option PayloadForm) → nat_le (option_map_or first_version told 1) newest_version ≡ true
 needed_known None = refl

@@ -1,20 +1,37 @@
 -- What may be written fits a record.
-use Rattle.std.proofs.Common.{◌≡◌, ◌+◌, ◌≤◌, true, length, arith}
+use Rattle.std.proofs.Common.{◌≡◌, ℕ, ◌+◌, ◌≤◌, nat_le, true, List, length, arith}
+use Rattle.std.proofs.lemmas.Bool.{and_parts, leb-true}
+use Rattle.std.specs.Option.{is_none}
 use Rattle.skk_text.specs.Text.{byte_len}
+use Rattle.skk_calls.specs.BookLists.{book_limit, has_count, is_book_list, twice_at}
 use Rattle.skk_calls.specs.Canonical.{canonical, is_good, item, line_limit}
 use Rattle.skk_calls.specs.Rows.{Row}
 use Rattle.skk_journal.specs.RecordLaws.{need_is}
 use Rattle.skk_journal.specs.Records.{IsSized}
 use Rattle.learned_store.specs.declared.form.PayloadForm.{PayloadForm}
-use Rattle.learned_store.specs.declared.form.PayloadForm.TheVariants.{Put, Drop, SetCount, Note}
-use Rattle.learned_store.specs.Payloads.{put_bytes, drop_bytes, note_bytes, is_sound, payload_of}
+use Rattle.learned_store.specs.declared.form.PayloadForm.TheVariants.{Put, Drop, SetCount, Note, SetList}
+use Rattle.learned_store.specs.Payloads.{put_bytes, drop_bytes, note_bytes, list_bytes, is_sound, payload_of}
 use Rattle.learned_store.proofs.ItemLengths.{item_most, short_reading}
-use Rattle.learned_store.proofs.Needs.{put_needs, drop_needs, counted_long, note_needs}
-use Rattle.learned_store.proofs.SoundForms.{put_parts, drop_parts, note_parts}
+use Rattle.learned_store.proofs.Needs.{put_needs, drop_needs, counted_long, list_long, note_needs}
+use Rattle.learned_store.proofs.SoundForms.{put_parts, drop_parts, list_parts, note_parts}
 
 -- a good row has a line that is not too long
 good_line : (row : Row) → is_good row ≡ true → byte_len (canonical row) ≤ line_limit
 good_line row good = grind arith
+
+-- a list of books has eight at most
+few_books : (books : List ℕ) → is_book_list books ≡ true → length books ≤ book_limit
+few_books books is =
+    leb-true (length books) book_limit
+    (and_parts (nat_le 1 (length books)) (nat_le (length books) book_limit)
+    (and_parts (has_count books) (is_none (twice_at books)) is).0).1
+
+-- so a payload that gives one fits a record
+pub list_sized : (typist : ℕ) (books : List ℕ) → is_book_list books ≡ true → IsSized (list_bytes typist books)
+list_sized typist books is =
+    let long = list_long typist books in
+    let few = few_books books is in
+    (omega (arith, long), omega (arith, long, few))
 
 pub sound_sized : (form : PayloadForm) → is_sound form ≡ true → IsSized (payload_of form)
 sound_sized (Put book count row) sound =
@@ -46,3 +63,4 @@ sound_sized (Note book count key cand) sound =
       need_is (note_bytes book count key cand),
     ) in
     (omega (arith, needs), omega (arith, needs, short_reading key parts.valid, item_most cand parts.cand_is))
+sound_sized (SetList typist books) sound = list_sized typist books (list_parts typist books sound).valid

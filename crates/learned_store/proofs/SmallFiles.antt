@@ -50,7 +50,7 @@ fourth = 3 ∷ 1 ∷ 0 ∷ 5 ∷ 0 ∷ 0 ∷ 0 ∷ 0 ∷ 0 ∷ 0 ∷ 0 ∷ []
 
 -- book 1 with a count and rows
 abbrev pub state : ℕ → List Row → State
-state count rows = record { books = record { number = 1; count = count; rows = rows } ∷ [] }
+state count rows = record { books = record { number = 1; count = count; rows = rows } ∷ []; lists = [] }
 
 pub first_says : Says 1 empty_state first (Put 1 1 row_a)
 unfolding lib.Utf8.encode number_bytes
@@ -82,12 +82,12 @@ two_leave = (Put 1 1 row_a, first_says, (Put 1 2 row_c, second_says, refl))
 
 -- a payload that says nothing, wherever it stands
 abbrev pub nothing : List ℕ
-nothing = 5 ∷ []
+nothing = 6 ∷ []
 
 pub nothing_says : (version : ℕ) (state : State) → SaysNothing version state nothing
 nothing_says version state =
-    other_byte version state 5 [] (λ same. omega (arith, same)) (λ same. omega (arith, same))
-    (λ same. omega (arith, same)) (λ same. omega (arith, same))
+    other_byte version state 6 [] (λ same. omega (arith, same)) (λ same. omega (arith, same))
+    (λ same. omega (arith, same)) (λ same. omega (arith, same)) (λ same. omega (arith, same))
 
 -- b is learnt for a in book 1, where nothing was learnt before
 abbrev pub learn : Call

@@ -1,12 +1,14 @@
 -- What a record keeps that may be written.
-use Rattle.std.proofs.Common.{◌≡◌, ℕ, ◌≤◌, true, ◌&&◌, nat_le, arith}
+use Rattle.std.proofs.Common.{◌≡◌, ℕ, ◌≤◌, true, ◌&&◌, nat_le, List, arith}
+use Rattle.std.specs.List.{list_all}
 use Rattle.std.proofs.lemmas.Bool.{and_parts, leb-true}
 use Rattle.std.specs.Str.{all_scalars}
+use Rattle.skk_calls.specs.BookLists.{is_book_list}
 use Rattle.skk_calls.specs.Canonical.{canonical, is_good, item}
 use Rattle.skk_calls.specs.Rows.{RowKey, Cand, Row, is_row, is_row_key, is_cand}
 use Rattle.skk_calls.specs.States.{has_stamp, fits_count}
-use Rattle.learned_store.specs.declared.form.PayloadForm.TheVariants.{Put, Drop, Note}
-use Rattle.learned_store.specs.Payloads.{are_held, is_sound}
+use Rattle.learned_store.specs.declared.form.PayloadForm.TheVariants.{Put, Drop, Note, SetList}
+use Rattle.learned_store.specs.Payloads.{are_held, is_held, is_sound}
 use Rattle.learned_store.specs.Reading.{is_written_row}
 
 -- what a row keeps that may be written and stands in a book of this count
@@ -77,3 +79,15 @@ note_parts book count key cand sound =
       reading = spelled.0;
       item = spelled.1;
     }
+
+-- what a typist's list keeps that may be written
+pub record ListParts (typist : ℕ) (books : List ℕ) : Type 0 where
+  pub held : is_held typist ≡ true
+  pub valid : is_book_list books ≡ true
+  pub numbers : list_all is_held books ≡ true
+
+pub list_parts : (typist : ℕ) (books : List ℕ) → is_sound (SetList typist books) ≡ true → ListParts typist books
+list_parts typist books sound =
+    let held = and_parts (is_held typist) (is_book_list books && list_all is_held books) sound in
+    let valid = and_parts (is_book_list books) (list_all is_held books) held.1 in
+    record { held = held.0; valid = valid.0; numbers = valid.1 }

@@ -42,7 +42,7 @@ abbrev plan : Option Row → Plan
 plan after = Move 1 1 key after Restored
 
 abbrev one_row : State
-one_row = record { books = record { number = 1; count = 1; rows = row 1 ∷ [] } ∷ [] }
+one_row = record { books = record { number = 1; count = 1; rows = row 1 ∷ [] } ∷ []; lists = [] }
 
 abbrev note_call : Call
 note_call = Annotate 1 key noted

@@ -8,30 +8,32 @@ use Rattle.std.proofs.lemmas.List.Sums.{sum_by-append, sum_by-cons}
 use Rattle.ordered_lists.specs.OrderLaws.{insert_moves}
 use Rattle.ordered_lists.specs.Orders.{insert_by}
 use Rattle.skk_calls.specs.declared.book.NumberedBook.{NumberedBook}
+use Rattle.skk_calls.specs.declared.book_list.TypistList.{TypistList}
+use Rattle.skk_calls.specs.BookLists.{same_numbers, shared_alone}
 use Rattle.skk_calls.specs.declared.call.Call.{Call}
-use Rattle.skk_calls.specs.declared.call.Call.TheVariants.{Lookup, Complete, Learn, Purge, Annotate, Unlearn}
+use Rattle.skk_calls.specs.declared.call.Call.TheVariants.{Lookup, Complete, Learn, Purge, Annotate, Share, Unlearn}
 use Rattle.skk_calls.specs.Dictionary.{after, moves, state_moved}
 use Rattle.skk_text.specs.Text.{byte_len}
 use Rattle.skk_text.specs.TextLaws.{byte_len-append}
 use Rattle.skk_calls.specs.Canonical.{item}
 use Rattle.skk_calls.specs.Histories.{put_need, restored_need, note_need, annotated_need, need, count_need}
-use Rattle.skk_calls.specs.Histories.{rows_need, tight}
+use Rattle.skk_calls.specs.Histories.{list_need, rows_need, tight}
 use Rattle.skk_calls.specs.KeyLaws.{same_key_equal}
 use Rattle.skk_calls.specs.Learning.{annotated}
 use Rattle.skk_calls.specs.Orders.{key_less}
 use Rattle.skk_calls.specs.Rows.{RowKey, Cand, Row, same_key}
 use Rattle.skk_calls.specs.States.{State, empty_state, row_in, rows_of, row_at, count_of, without_row, with_row}
-use Rattle.skk_calls.specs.States.{without_book, with_book, state_with}
+use Rattle.skk_calls.specs.States.{without_book, with_book, state_with, state_listed, without_list}
 use Rattle.dict_laws.specs.ChangedStates.{has_key, row_in_has_key}
 use Rattle.skk_journal.specs.Contents.{Contents}
 use Rattle.skk_journal.specs.RecordLaws.{length-record_bytes, need_is}
 use Rattle.skk_journal.specs.Records.{record_bytes, framed, end_of, need as record_need}
 use Rattle.learned_store.specs.declared.form.PayloadForm.{PayloadForm}
-use Rattle.learned_store.specs.declared.form.PayloadForm.TheVariants.{Put, Drop, SetCount, Note}
+use Rattle.learned_store.specs.declared.form.PayloadForm.TheVariants.{Put, Drop, SetCount, Note, SetList}
 use Rattle.learned_store.specs.Payloads.{count_bytes, may_follow, payload_of, state_told, takes_note}
 use Rattle.learned_store.specs.Recovered.{Leads, Leave}
-use Rattle.learned_store.specs.Compacted.{row_forms, book_forms, compacted}
-use Rattle.learned_store.proofs.Needs.{put_needs, drop_needs, counted_long, note_needs}
+use Rattle.learned_store.specs.Compacted.{row_forms, book_forms, list_form, compacted}
+use Rattle.learned_store.proofs.Needs.{put_needs, drop_needs, counted_long, list_needs, note_needs}
 use Rattle.learned_store.proofs.RowGrowth.{annotated_most}
 
 -- Sums
@@ -90,12 +92,13 @@ rows_with key (Some row) rows =
 
 -- a state with a book in the place of that of its number
 abbrev with_it : State → NumberedBook → State
-with_it state book = record { books = with_book book state.books }
+with_it state book = record state { books = with_book book state.books }
 
 -- the books without that of a number need so much less as its rows do
 apart : (number : ℕ) (books : List NumberedBook)
     → sum_by (λ book. rows_need book.rows) (without_book number books)
-    + sum_by put_need (rows_of (record { books = books }) number) ≤ sum_by (λ book. rows_need book.rows) books
+    + sum_by put_need (rows_of (record { books = books; lists = [] }) number)
+    ≤ sum_by (λ book. rows_need book.rows) books
 apart number [] = omega arith
 apart number (book ∷ books) =
     let f = λ (b : NumberedBook). rows_need b.rows in
@@ -199,6 +202,31 @@ annotated_changed state number count key cand None at = row_changed state number
 annotated_changed state number count key cand (Some row) at =
     note_changed state number count count key cand (Some row) row refl at
 
+-- a state where a typist was given a list needs at most so much more as the list does
+listed_most : (state : State) (typist : ℕ) (books : List ℕ)
+    → tight (state_listed state typist books) ≤ tight state + list_need books
+listed_most state typist books = by (same_numbers books shared_alone)
+  where
+    f : TypistList → ℕ
+    f list = list_need list.books
+
+    others : List TypistList
+    others = without_list typist state.lists
+
+    less : TypistList → TypistList → Bool
+    less list other = nat_lt list.typist other.typist
+
+    given : TypistList
+    given = record { typist = typist; books = books }
+
+    fewer : sum_by f others ≤ sum_by f state.lists
+    fewer = sum_by-filter f (λ (l : TypistList). not (l.typist == typist)) state.lists
+
+    by : (b : Bool) → tight (record state { lists = cond b others (insert_by less given others) })
+        ≤ tight state + list_need books
+    by true = omega (arith, fewer)
+    by false = omega (arith, fewer, sum_by-insert_by f less given others)
+
 -- a change makes the tight end at most so much greater as it needs
 moved_most : (state : State) (call : Call) → tight (state_moved state call) ≤ tight state + need state call
 moved_most state (Lookup who key okuri) = omega arith
@@ -207,6 +235,7 @@ moved_most state (Learn book key okuri cand) = row_changed state book _ key (Som
 moved_most state (Purge book key word) = row_changed state book _ key (Some _)
 moved_most state (Annotate book key cand) =
     annotated_changed state book (count_of state book + 1) key cand (row_at state book key) refl
+moved_most state (Share who books) = listed_most state who books
 moved_most state (Unlearn learned) = row_changed state learned.book _ learned.key learned.before
 
 pub after_most : (state : State) (call : Call) → tight (after state call) ≤ tight state + need state call
@@ -271,6 +300,8 @@ told_most state (Note book count key cand) follows =
     taken None at takes = cc
     taken (Some row) at takes =
         note_changed state book count count key cand (row_at state book key) row at refl
+told_most state (SetList typist books) follows =
+    omega (arith, list_needs typist books, listed_most state typist books)
 
 led_most : (version : ℕ) (start after : State) (records : List (List ℕ)) → Leads version start records after
     → tight after ≤ tight start + sum_by record_need records
@@ -326,6 +357,28 @@ books_put (book ∷ books) =
       sum_by-cons (λ (b : NumberedBook). rows_need b.rows) book books,
     )
 
+lists_put : (lists : List TypistList)
+    → sum_by record_need (map payload_of (map list_form lists)) ≡ sum_by (λ list. list_need list.books) lists
+lists_put [] = refl
+lists_put (list ∷ lists) =
+    omega (
+      arith,
+      list_needs list.typist list.books,
+      lists_put lists,
+      sum_by-cons (λ (l : TypistList). list_need l.books) list lists,
+      sum_by-cons record_need (payload_of (list_form list)) (map payload_of (map list_form lists)),
+    )
+
 -- the tight end of a state is the end of its compacted records
 pub compacted_end : (state : State) → end_of (map payload_of (compacted state)) ≡ tight state
-compacted_end state = omega (arith, framed_needs (map payload_of (compacted state)), books_put state.books)
+compacted_end state =
+    let books = flat_map book_forms state.books in
+    let lists = map list_form state.lists in
+    omega (
+      arith,
+      framed_needs (map payload_of (compacted state)),
+      ap (sum_by record_need) (map-append payload_of books lists),
+      sum_by-append record_need (map payload_of books) (map payload_of lists),
+      books_put state.books,
+      lists_put state.lists,
+    )

@@ -1,4 +1,4 @@
--- What a record that may be written changes: the count of its book, and the row of its key.
+-- What a record that may be written changes: the count of its book and the row of its key, or the list of its typist.
 use Rattle.std.proofs.Common.{◌≡◌, ℕ, ◌≤◌, Bool, true, false, cond, not, ◌&&◌, ◌==◌, nat_le, nat_lt, subst}
 use Rattle.std.proofs.Common.{Option, None, Some, List, [], ◌∷◌, find, refl, arith}
 use Rattle.std.proofs.lemmas.Bool.{le-leb}
@@ -7,7 +7,10 @@ use Rattle.std.specs.List.{filter}
 use Rattle.skk_text.specs.PairsLaws.{list_all-filter, list_all-weaker}
 use Rattle.ordered_lists.specs.OrderLaws.{list_all-insert_by}
 use Rattle.ordered_lists.specs.Orders.{insert_by}
+use Rattle.std.proofs.lemmas.Slice.Eq.{bytes_eq-Decides}
 use Rattle.skk_calls.specs.declared.book.NumberedBook.{NumberedBook}
+use Rattle.skk_calls.specs.declared.book_list.TypistList.{TypistList}
+use Rattle.skk_calls.specs.BookLists.{same_numbers, shared_alone}
 use Rattle.skk_calls.specs.Canonical.{is_good}
 use Rattle.skk_calls.specs.KeyLaws.{same_key_equal, same_key_itself}
 use Rattle.skk_calls.specs.Orders.{key_less}
@@ -15,17 +18,18 @@ use Rattle.skk_calls.specs.Learning.{annotated}
 use Rattle.skk_calls.specs.Rows.{RowKey, Cand, Row, is_row, same_key}
 use Rattle.skk_calls.specs.States.{State, row_in, book_at, book_rows, book_count, rows_of, count_of, row_at}
 use Rattle.skk_calls.specs.States.{without_row, with_row, without_book, with_book, state_with}
+use Rattle.skk_calls.specs.States.{list_in, listed_books, shared_books, without_list, state_listed}
 use Rattle.skk_calls.specs.States.{fits_count, is_book, is_valid}
 use Rattle.dict_laws.specs.AnnotatedRows.{annotated_row, annotated_good}
 use Rattle.dict_laws.specs.ChangedStates.{has_key, row_in_has_key}
-use Rattle.dict_laws.specs.ValidStates.{books_ascend_with_book, fits_after, fits_row_at, is_valid_changed, parts_at}
-use Rattle.dict_laws.specs.ValidStates.{rows_of_ascend, rows_of_fit}
+use Rattle.dict_laws.specs.ValidStates.{books_ascend_with_book, fits_after, fits_row_at, is_valid_changed}
+use Rattle.dict_laws.specs.ValidStates.{is_valid_listed, parts_at, rows_of_ascend, rows_of_fit}
 use Rattle.learn_index.specs.Records.{state_counted, state_without}
 use Rattle.learned_store.specs.declared.form.PayloadForm.{PayloadForm}
-use Rattle.learned_store.specs.declared.form.PayloadForm.TheVariants.{Put, Drop, SetCount, Note}
-use Rattle.learned_store.specs.Gathering.{row_told_of}
-use Rattle.learned_store.specs.Payloads.{book_of, new_count, is_sound, may_follow, state_told, takes_note}
-use Rattle.learned_store.proofs.SoundForms.{note_parts}
+use Rattle.learned_store.specs.declared.form.PayloadForm.TheVariants.{Put, Drop, SetCount, Note, SetList}
+use Rattle.learned_store.specs.Gathering.{count_behind, is_counted, list_behind, row_told_of}
+use Rattle.learned_store.specs.Payloads.{CountsOn, counted_by, is_sound, may_follow, state_told, takes_note}
+use Rattle.learned_store.proofs.SoundForms.{list_parts, note_parts}
 
 -- Items
 
@@ -73,7 +77,7 @@ row_put row other rows =
 module _ (state : State) (book : NumberedBook) where
   -- the state with a book in the place of that of its number
   abbrev with_it : State
-  with_it = record { books = with_book book state.books }
+  with_it = record state { books = with_book book state.books }
 
   book_with : (number : ℕ) → book_at with_it number ≡ cond (book.number == number) (Some book) (book_at state number)
   book_with number =
@@ -138,6 +142,7 @@ told_rows (Drop book count key) rows = without_row key rows
 told_rows (SetCount book count) rows = rows
 told_rows (Note book count key cand) rows =
     with_row key (Some (annotated (row_in key rows) key cand count)) rows
+told_rows (SetList typist books) rows = rows
 
 -- the row of a key that took a note, among others
 row_noted : (book count : ℕ) (own : RowKey) (cand : Cand) (key : RowKey) (rows : List Row)
@@ -152,57 +157,116 @@ row_of_told (Put book count row) key rows = row_put row key rows
 row_of_told (Drop book count gone) key rows = row_without gone key rows
 row_of_told (SetCount book count) key rows = refl
 row_of_told (Note book count own cand) key rows = row_noted book count own cand key rows
+row_of_told (SetList typist books) key rows = refl
 
--- its book after a record
-abbrev told_book : State → PayloadForm → NumberedBook
-told_book state form =
-    record { number = book_of form; count = new_count form; rows = told_rows form (rows_of state (book_of form)) }
+-- the book that a record counts, after it
+abbrev told_book : State → ℕ → ℕ → PayloadForm → NumberedBook
+told_book state book count form =
+    record { number = book; count = count; rows = told_rows form (rows_of state book) }
 
 -- after a record the count of its book is that which it tells, and others stay
-pub count_told : (state : State) (form : PayloadForm) → count_of state (book_of form) ≤ new_count form → (number : ℕ)
-    → count_of (state_told state form) number
-    ≡ cond (book_of form == number) (new_count form) (count_of state number)
+pub count_told : (state : State) (form : PayloadForm) → CountsOn state (counted_by form) → (number : ℕ)
+    → count_of (state_told state form) number ≡ count_behind (counted_by form) number (count_of state number)
 count_told state (Put book count row) later number =
-    count_with state (told_book state (Put book count row)) number
+    count_with state (told_book state book count (Put book count row)) number
 count_told state (Drop book count key) later number =
-    grind (arith, count_with state (told_book state (Drop book count key)) number, later)
+    grind (arith, count_with state (told_book state book count (Drop book count key)) number, later)
 count_told state (SetCount book count) later number =
-    grind (arith, count_with state (told_book state (SetCount book count)) number, later)
+    grind (arith, count_with state (told_book state book count (SetCount book count)) number, later)
 count_told state (Note book count key cand) later number =
-    count_with state (told_book state (Note book count key cand)) number
+    count_with state (told_book state book count (Note book count key cand)) number
+count_told state (SetList typist books) later number = refl
 
 -- and the row of a key in that book is what it says, and others stay
-module _ (state : State) (form : PayloadForm) (number : ℕ) (key : RowKey) where
-  row_with : row_at (with_it state (told_book state form)) number key
-      ≡ cond (book_of form == number) (row_told_of form key (row_at state number key)) (row_at state number key)
+module _ (state : State) (book count : ℕ) (form : PayloadForm) (number : ℕ) (key : RowKey) where
+  row_with : row_at (with_it state (told_book state book count form)) number key
+      ≡ cond (book == number) (row_told_of form key (row_at state number key)) (row_at state number key)
   row_with =
       grind (
         arith,
-        row_of_told form key (rows_of state (book_of form)),
-        rows_with state (told_book state form) number,
+        row_of_told form key (rows_of state book),
+        rows_with state (told_book state book count form) number,
       )
 
-pub row_told : (state : State) (form : PayloadForm) → count_of state (book_of form) ≤ new_count form → (number : ℕ)
+pub row_told : (state : State) (form : PayloadForm) → CountsOn state (counted_by form) → (number : ℕ)
     → is_valid state ≡ true → (key : RowKey) → row_at (state_told state form) number key
-    ≡ cond (book_of form == number) (row_told_of form key (row_at state number key)) (row_at state number key)
-row_told state (Put book count row) later number valid key = row_with state (Put book count row) number key
+    ≡ cond (is_counted (counted_by form) number) (row_told_of form key (row_at state number key))
+    (row_at state number key)
+row_told state (Put book count row) later number valid key =
+    row_with state book count (Put book count row) number key
 row_told state (Drop book count gone) later number valid key =
     grind (
       arith,
       row_of_told (Drop book count gone) key (rows_of state book),
-      rows_with state (told_book state (Drop book count gone)) number,
+      rows_with state (told_book state book count (Drop book count gone)) number,
       no_rows state number valid,
       later,
     )
 row_told state (SetCount book count) later number valid key =
     grind (
       arith,
-      rows_with state (told_book state (SetCount book count)) number,
+      rows_with state (told_book state book count (SetCount book count)) number,
       no_rows state number valid,
       later,
     )
 row_told state (Note book count own cand) later number valid key =
-    row_with state (Note book count own cand) number key
+    row_with state book count (Note book count own cand) number key
+row_told state (SetList typist books) later number valid key = refl
+
+-- the list of a typist where one was given a list
+pub listed_then : (state : State) (own : ℕ) (books : List ℕ) (typist : ℕ)
+    → shared_books (state_listed state own books) typist ≡ cond (own == typist) books (shared_books state typist)
+listed_then state own books typist = by (same_numbers books shared_alone) refl
+  where
+    is_typist : TypistList → Bool
+    is_typist list = list.typist == typist
+
+    is_other : TypistList → Bool
+    is_other list = not (list.typist == own)
+
+    less : TypistList → TypistList → Bool
+    less list other = nat_lt list.typist other.typist
+
+    given : TypistList
+    given = record { typist = own; books = books }
+
+    gone : (list : TypistList) → (own == typist) ≡ true → is_other list ≡ true → is_typist list ≡ false
+    gone list same e = grind arith
+
+    left : (list : TypistList) → (own == typist) ≡ false → is_other list ≡ false → is_typist list ≡ false
+    left list differs e = grind arith
+
+    by : (b : Bool) → same_numbers books shared_alone ≡ b
+        → listed_books (list_in typist (cond b (without_list own state.lists)
+        (insert_by less given (without_list own state.lists))))
+        ≡ cond (own == typist) books (shared_books state typist)
+    by true same =
+        grind (
+          arith,
+          find_without is_typist is_other (own == typist) gone left state.lists,
+          (bytes_eq-Decides books shared_alone).0 same,
+        )
+    by false differs =
+        grind (arith, find_put is_typist is_other (own == typist) gone left less given state.lists refl)
+
+-- so after a record the list of a typist is what it says, and others stay
+pub list_told : (state : State) (form : PayloadForm) (typist : ℕ)
+    → shared_books (state_told state form) typist ≡ list_behind form typist (shared_books state typist)
+list_told state (Put book count row) typist = refl
+list_told state (Drop book count key) typist = by (count == 0)
+  where
+    by : (b : Bool) → shared_books (cond b state (state_with state book count key None)) typist
+        ≡ shared_books state typist
+    by true = refl
+    by false = refl
+list_told state (SetCount book count) typist = by (count == 0)
+  where
+    by : (b : Bool) → shared_books (cond b state (with_it state (told_book state book count (SetCount book count))))
+        typist ≡ shared_books state typist
+    by true = refl
+    by false = refl
+list_told state (Note book count key cand) typist = refl
+list_told state (SetList own books) typist = listed_then state own books typist
 
 -- a row that takes a note may stand in its book then
 noted_fits : (count : ℕ) (key : RowKey) (cand : Cand) (before most : ℕ) (row : Option Row)
@@ -264,7 +328,7 @@ module _ (state : State) where
 
   -- so it is valid after a record that may be written
   pub valid_told : is_valid state ≡ true → (form : PayloadForm) → is_sound form ≡ true
-      → count_of state (book_of form) ≤ new_count form → may_follow state form ≡ true
+      → CountsOn state (counted_by form) → may_follow state form ≡ true
       → is_valid (state_told state form) ≡ true
   valid_told valid (Put book count row) sound later follows =
       valid_put valid book count row (put_fits book count row sound) later
@@ -273,3 +337,5 @@ module _ (state : State) where
   valid_told valid (Note book count key cand) sound later follows =
       valid_put valid book count (annotated (row_at state book key) key cand count)
       (note_fits valid book count key cand sound follows) later
+  valid_told valid (SetList typist books) sound later follows =
+      is_valid_listed typist books (list_parts typist books sound).valid state valid

@@ -10,7 +10,10 @@ use Rattle.std.proofs.lemmas.List.Folds.{list_all-append}
 use Rattle.skk_text.specs.FilterLaws.{list_all_found}
 use Rattle.skk_text.specs.PairsLaws.{list_all-filter, list_all-weaker}
 use Rattle.ordered_lists.specs.OrderLaws.{list_all-insert_by}
+use Rattle.ordered_lists.specs.Orders.{insert_by}
 use Rattle.skk_calls.specs.declared.book.NumberedBook.{NumberedBook}
+use Rattle.skk_calls.specs.declared.book_list.TypistList.{TypistList}
+use Rattle.skk_calls.specs.BookLists.{same_numbers, shared_alone}
 use Rattle.skk_calls.specs.Canonical.{canonical, item}
 use Rattle.skk_calls.specs.KeyLaws.{same_key_equal}
 use Rattle.skk_calls.specs.Learning.{annotated}
@@ -18,18 +21,19 @@ use Rattle.skk_calls.specs.Orders.{key_less}
 use Rattle.skk_calls.specs.Rows.{RowKey, Cand, Row, same_key}
 use Rattle.skk_calls.specs.States.{State, empty_state, book_at, book_rows, book_count, row_in, rows_of, row_at}
 use Rattle.skk_calls.specs.States.{count_of, with_row, without_row, without_book, with_book, state_with, fits_count}
-use Rattle.skk_calls.specs.States.{is_valid}
+use Rattle.skk_calls.specs.States.{is_valid, state_listed, without_list}
 use Rattle.dict_laws.specs.ChangedStates.{has_key, row_in_has_key}
 use Rattle.skk_journal.specs.Contents.{Contents}
 use Rattle.skk_journal.specs.Records.{IsSized}
 use Rattle.learn_index.specs.Records.{state_counted, state_without}
 use Rattle.learned_store.specs.declared.form.PayloadForm.{PayloadForm}
-use Rattle.learned_store.specs.declared.form.PayloadForm.TheVariants.{Put, Drop, SetCount, Note}
-use Rattle.learned_store.specs.Payloads.{are_held, is_sound, book_of, may_follow, new_count, payload_of, state_told}
-use Rattle.learned_store.specs.Payloads.{takes_note}
+use Rattle.learned_store.specs.declared.form.PayloadForm.TheVariants.{Put, Drop, SetCount, Note, SetList}
+use Rattle.learned_store.specs.Payloads.{CountsOn, are_held, counted_by, is_sound, may_follow, payload_of}
+use Rattle.learned_store.specs.Payloads.{state_told, takes_note}
 use Rattle.learned_store.specs.Reading.{is_written_row}
 use Rattle.learned_store.specs.Recovered.{Leads, Leave}
-use Rattle.learned_store.specs.Compacted.{row_forms, book_forms, compacted, is_written_book, is_written}
+use Rattle.learned_store.specs.Compacted.{row_forms, book_forms, list_form, compacted, is_written_book}
+use Rattle.learned_store.specs.Compacted.{is_written_list, is_written}
 use Rattle.learned_store.proofs.ScalarsAnnotated.{annotated_spells}
 use Rattle.learned_store.proofs.Sized.{sound_sized}
 use Rattle.learned_store.proofs.SoundForms.{note_parts}
@@ -39,6 +43,15 @@ use Rattle.learned_store.proofs.ToldStates.{fits_later, note_fits, valid_told}
 written_later : (count later : ℕ) → count ≤ later → (row : Row) → is_written_row count row ≡ true
     → is_written_row later row ≡ true
 written_later count later most row written = grind (arith, fits_later count later most row)
+
+-- the books and the lists of a state that may be written may be
+written_books : (state : State) → is_written state ≡ true → list_all is_written_book state.books ≡ true
+written_books state written =
+    (and_parts (list_all is_written_book state.books) (list_all is_written_list state.lists) written).0
+
+written_lists : (state : State) → is_written state ≡ true → list_all is_written_list state.lists ≡ true
+written_lists state written =
+    (and_parts (list_all is_written_book state.books) (list_all is_written_list state.lists) written).1
 
 module _ (state : State) (written : is_written state ≡ true) (number count : ℕ) (later : count_of state number ≤ count)
     (held : are_held number count ≡ true) where
@@ -53,19 +66,23 @@ module _ (state : State) (written : is_written state ≡ true) (number count : �
       by None is = refl
       by (Some book) is =
           (and_parts (are_held book.number book.count) (list_all (is_written_row book.count) book.rows)
-          (list_all_found is_written_book (λ (b : NumberedBook). b.number == number) state.books book written is)).1
+          (list_all_found is_written_book (λ (b : NumberedBook). b.number == number) state.books book
+          (written_books state written) is)).1
 
   -- a state may be written with a book that may be
   with_written : (rows : List Row) → list_all (is_written_row count) rows ≡ true
-      → is_written (record {
+      → is_written (record state {
         books = with_book (record { number = number; count = count; rows = rows }) state.books;
       }) ≡ true
   with_written rows all =
       let book : NumberedBook = record { number = number; count = count; rows = rows } in
-      list_all-insert_by (λ (b other : NumberedBook). nat_lt b.number other.number) is_written_book book
+      and_from (list_all is_written_book (with_book book state.books)) (list_all is_written_list state.lists)
+      (list_all-insert_by (λ (b other : NumberedBook). nat_lt b.number other.number) is_written_book book
       (without_book number state.books)
       (and_from (are_held number count) (list_all (is_written_row count) rows) held all)
-      (list_all-filter is_written_book (λ (b : NumberedBook). not (b.number == number)) state.books written)
+      (list_all-filter is_written_book (λ (b : NumberedBook). not (b.number == number)) state.books
+      (written_books state written)))
+      (written_lists state written)
 
   -- so it may where a row was put, dropped or left
   put_written : (row : Row) → is_written_row count row ≡ true
@@ -90,11 +107,38 @@ module _ (state : State) (written : is_written state ≡ true) (number count : �
   count_written : is_written (state_counted state number count) ≡ true
   count_written = by (count == 0)
     where
-      by : (b : Bool) → is_written (cond b state (record {
+      by : (b : Bool) → is_written (cond b state (record state {
         books = with_book (record { number = number; count = count; rows = rows_of state number }) state.books;
       })) ≡ true
       by true = written
       by false = with_written (rows_of state number) rows_written
+
+-- so it may where a typist was given a list that may be written
+list_written : (state : State) → is_written state ≡ true → (typist : ℕ) (books : List ℕ)
+    → is_sound (SetList typist books) ≡ true → is_written (state_listed state typist books) ≡ true
+list_written state written typist books sound = by (same_numbers books shared_alone)
+  where
+    others : List TypistList
+    others = without_list typist state.lists
+
+    less : TypistList → TypistList → Bool
+    less list other = nat_lt list.typist other.typist
+
+    given : TypistList
+    given = record { typist = typist; books = books }
+
+    left : list_all is_written_list others ≡ true
+    left =
+        list_all-filter is_written_list (λ (l : TypistList). not (l.typist == typist)) state.lists
+        (written_lists state written)
+
+    by : (b : Bool) → is_written (record state { lists = cond b others (insert_by less given others) }) ≡ true
+    by true =
+        and_from (list_all is_written_book state.books) (list_all is_written_list others)
+        (written_books state written) left
+    by false =
+        and_from (list_all is_written_book state.books) (list_all is_written_list (insert_by less given others))
+        (written_books state written) (list_all-insert_by less is_written_list given others sound left)
 
 -- of rows that may be written the one that is found may
 found_written : (count : ℕ) (key : RowKey) (rows : List Row) → list_all (is_written_row count) rows ≡ true
@@ -120,7 +164,7 @@ noted_written count key cand (Some row) has written new takes fits =
     (annotated_spells row cand count spelled new))
 
 told_written : (state : State) (form : PayloadForm) → is_valid state ≡ true → is_written state ≡ true
-    → is_sound form ≡ true → count_of state (book_of form) ≤ new_count form → may_follow state form ≡ true
+    → is_sound form ≡ true → CountsOn state (counted_by form) → may_follow state form ≡ true
     → is_written (state_told state form) ≡ true
 told_written state (Put book count row) valid written sound later follows =
     put_written state written book count later (grind (arith, sound)) row (grind (arith, sound))
@@ -135,6 +179,8 @@ told_written state (Note book count key cand) valid written sound later follows 
     (noted_written count key cand (row_at state book key) (row_in_has_key key (rows_of state book))
     (found_written count key (rows_of state book) rows) parts.item follows
     (note_fits state valid book count key cand sound follows))
+told_written state (SetList typist books) valid written sound later follows =
+    list_written state written typist books sound
 
 -- records leave a state that is valid and may be written
 led_valid : (version : ℕ) (start after : State) (records : List (List ℕ)) → Leads version start records after
@@ -179,8 +225,16 @@ books_sound (book ∷ books) all =
     ∙ and_from (list_all is_sound (book_forms book)) (list_all is_sound (flat_map book_forms books))
     (book_sound book.number book.count book.rows may.0 may.1) (books_sound books own.1)
 
+lists_sound : (lists : List TypistList) → list_all is_written_list lists ≡ true
+    → list_all is_sound (map list_form lists) ≡ true
+lists_sound [] all = refl
+lists_sound (list ∷ lists) all = grind (arith, lists_sound lists)
+
 pub compacted_sound : (state : State) → is_written state ≡ true → list_all is_sound (compacted state) ≡ true
-compacted_sound state written = books_sound state.books written
+compacted_sound state written =
+    list_all-append is_sound (flat_map book_forms state.books) (map list_form state.lists)
+    ∙ and_from (list_all is_sound (flat_map book_forms state.books)) (list_all is_sound (map list_form state.lists))
+    (books_sound state.books (written_books state written)) (lists_sound state.lists (written_lists state written))
 
 -- so each fits a record
 pub sound_all_sized : (forms : List PayloadForm) → list_all is_sound forms ≡ true → All IsSized (map payload_of forms)

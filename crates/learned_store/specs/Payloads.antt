@@ -1,27 +1,34 @@
--- What the record of a learned file says of a book, and its payload. All numbers are written with the least byte first.
-use Rattle.std.specs.Prelude.{◌≡◌, ℕ, ◌+◌, ◌^◌, ◌≤◌, Bool, true, false, ◌&&◌, nat_le, nat_lt, Option, None, Some}
-use Rattle.std.specs.Prelude.{List, ◌∷◌, ◌++◌, encode_utf8_all}
+-- What the record of a learned file says of a book, or of a typist's list of books, and its payload. All numbers are
+-- written with the least byte first.
+use Rattle.std.specs.Prelude.{◌≡◌, ⊤, ℕ, ◌+◌, ◌^◌, ◌≤◌, Bool, true, false, ◌&&◌, nat_le, nat_lt, Option, None, Some}
+use Rattle.std.specs.Prelude.{List, ◌∷◌, ◌++◌, encode_utf8_all, length}
 use Rattle.std.specs.Int.{w16, w64}
+use Rattle.std.specs.List.{flat_map, list_all}
 use Rattle.std.specs.Option.{option_map_or}
 use Rattle.std.specs.Str.{all_scalars}
 use Rattle.exact_readers.specs.Numbers.{number_bytes}
 use Rattle.skk_text.specs.Counts.{last_count}
 use Rattle.skk_calls.specs.declared.call.Call.{Call}
-use Rattle.skk_calls.specs.declared.call.Call.TheVariants.{Lookup, Complete, Learn, Purge, Annotate, Unlearn}
+use Rattle.skk_calls.specs.declared.call.Call.TheVariants.{Lookup, Complete, Learn, Purge, Annotate, Share, Unlearn}
 use Rattle.skk_calls.specs.declared.part.Part.{Part}
 use Rattle.skk_calls.specs.declared.part.Part.TheVariants.{Nasi, Ari}
 use Rattle.skk_text.specs.Text.{byte_len}
+use Rattle.skk_calls.specs.BookLists.{is_book_list}
 use Rattle.skk_calls.specs.Canonical.{canonical, item, line_limit}
 use Rattle.skk_calls.specs.Learning.{learnt, purged, annotated, unlearnt}
 use Rattle.skk_calls.specs.Rows.{RowKey, Cand, Row, is_row_key, is_cand}
-use Rattle.skk_calls.specs.States.{State, row_at, count_of, state_with, fits_count}
+use Rattle.skk_calls.specs.States.{State, row_at, count_of, state_with, state_listed, fits_count}
 use Rattle.learned_store.specs.declared.form.PayloadForm.{PayloadForm}
-use Rattle.learned_store.specs.declared.form.PayloadForm.TheVariants.{Put, Drop, SetCount, Note}
+use Rattle.learned_store.specs.declared.form.PayloadForm.TheVariants.{Put, Drop, SetCount, Note, SetList}
 use Rattle.learn_index.specs.Records.{state_counted, state_without}
 
 -- the number of a book in two bytes
 abbrev pub book_number : ℕ → List ℕ
 book_number number = number_bytes w16 number
+
+-- the number of a typist in two bytes
+abbrev pub typist_number : ℕ → List ℕ
+typist_number number = number_bytes w16 number
 
 -- a count or a stamp in eight bytes
 abbrev pub wide_number : ℕ → List ℕ
@@ -57,19 +64,23 @@ noted_bytes key cand =
 abbrev pub note_bytes : ℕ → ℕ → RowKey → Cand → List ℕ
 note_bytes book count key cand = 4 ∷ (book_number book ++ (wide_number count ++ noted_bytes key cand))
 
--- the number of the book that a record speaks of
-abbrev pub book_of : PayloadForm → ℕ
-book_of (Put book count row) = book
-book_of (Drop book count key) = book
-book_of (SetCount book count) = book
-book_of (Note book count key cand) = book
+-- the payload that gives a typist a list of books: the typist, how many books there are, and their numbers in order
+abbrev pub list_bytes : ℕ → List ℕ → List ℕ
+list_bytes typist books = 5 ∷ (typist_number typist ++ length books ∷ flat_map book_number books)
 
--- the count that a record gives the book
-abbrev pub new_count : PayloadForm → ℕ
-new_count (Put book count row) = count
-new_count (Drop book count key) = count
-new_count (SetCount book count) = count
-new_count (Note book count key cand) = count
+-- the number of the book of which a record speaks, and the count that it gives the book. That of a typist's list speaks
+-- of no book
+abbrev pub counted_by : PayloadForm → Option (ℕ × ℕ)
+counted_by (Put book count row) = Some (book, count)
+counted_by (Drop book count key) = Some (book, count)
+counted_by (SetCount book count) = Some (book, count)
+counted_by (Note book count key cand) = Some (book, count)
+counted_by (SetList typist books) = None
+
+-- the count that a record gives its book, where it speaks of one, is not below the one that the book has
+abbrev pub CountsOn : State → Option (ℕ × ℕ) → Type 0
+CountsOn state None = ⊤
+CountsOn state (Some counted) = count_of state counted.0 ≤ counted.1
 
 -- the version of a learned file that first has a record
 abbrev pub first_version : PayloadForm → ℕ
@@ -77,10 +88,11 @@ first_version (Put book count row) = 1
 first_version (Drop book count key) = 1
 first_version (SetCount book count) = 1
 first_version (Note book count key cand) = 2
+first_version (SetList typist books) = 3
 
 -- the version that a file gets which is filled: the newest, that of the last records that were added to the forms
 abbrev pub newest_version : ℕ
-newest_version = 2
+newest_version = 3
 
 -- the payload of a record
 abbrev pub payload_of : PayloadForm → List ℕ
@@ -88,13 +100,18 @@ payload_of (Put book count row) = put_bytes book count row
 payload_of (Drop book count key) = drop_bytes book count key
 payload_of (SetCount book count) = count_bytes book count
 payload_of (Note book count key cand) = note_bytes book count key cand
+payload_of (SetList typist books) = list_bytes typist books
+
+-- the number of a book or of a typist that its bytes can hold
+abbrev pub is_held : ℕ → Bool
+is_held number = nat_lt number (2 ^ 16)
 
 -- the number of a book and a count that their bytes can hold
 abbrev pub are_held : ℕ → ℕ → Bool
-are_held book count = nat_lt book (2 ^ 16) && nat_le count last_count
+are_held book count = is_held book && nat_le count last_count
 
 -- a record may be written: its numbers are held, its row may stand in a book of its count, its key and its candidate
--- are valid, a note has a count, and what it spells is of characters
+-- are valid, a note has a count, its books are a list of books, and what it spells is of characters
 abbrev pub is_sound : PayloadForm → Bool
 is_sound (Put book count row) = are_held book count && (fits_count count row && all_scalars (canonical row))
 is_sound (Drop book count key) = are_held book count && (is_row_key key && all_scalars key.reading)
@@ -102,6 +119,7 @@ is_sound (SetCount book count) = are_held book count
 is_sound (Note book count key cand) =
     are_held book count && (nat_le 1 count && (is_row_key key && (is_cand cand && (all_scalars key.reading
     && all_scalars (item cand)))))
+is_sound (SetList typist books) = is_held typist && (is_book_list books && list_all is_held books)
 
 -- a candidate of the row that a key has may get its note: there is one, and its line is not too long then
 abbrev pub takes_note : Option Row → Cand → ℕ → Bool
@@ -114,13 +132,14 @@ may_follow state (Put book count row) = true
 may_follow state (Drop book count key) = true
 may_follow state (SetCount book count) = true
 may_follow state (Note book count key cand) = takes_note (row_at state book key) cand count
+may_follow state (SetList typist books) = true
 
 -- in a file of a version, at a state, a payload says this: it is what a record is written as that the version has, that
--- may be written and may stand there, and whose count is not below that of its book
+-- may be written and may stand there, and whose count, where it gives one, is not below that of its book
 pub record Says (version : ℕ) (state : State) (payload : List ℕ) (form : PayloadForm) : Type 0 where
   pub known : nat_le (first_version form) version ≡ true
   pub sound : is_sound form ≡ true
-  pub counted : count_of state (book_of form) ≤ new_count form
+  pub counted : CountsOn state (counted_by form)
   pub follows : may_follow state form ≡ true
   pub is : payload ≡ payload_of form
 
@@ -135,6 +154,7 @@ state_told state (Drop book count key) = state_without state book count key
 state_told state (SetCount book count) = state_counted state book count
 state_told state (Note book count key cand) =
     state_with state book count key (Some (annotated (row_at state book key) key cand count))
+state_told state (SetList typist books) = state_listed state typist books
 
 -- what a record says of a key that has this row now, or none
 abbrev pub row_told : ℕ → ℕ → RowKey → Option Row → PayloadForm
@@ -159,6 +179,7 @@ change_told state (Purge book key word) =
     Some (Put book count (purged (row_at state book key) key word count))
 change_told state (Annotate book key cand) =
     Some (note_told book (count_of state book + 1) key cand (row_at state book key))
+change_told state (Share who books) = Some (SetList who books)
 change_told state (Unlearn learned) =
     Some (row_told learned.book (count_of state learned.book) learned.key (unlearnt learned))
 

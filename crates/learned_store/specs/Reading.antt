@@ -1,21 +1,22 @@
--- What is read of a payload, whatever the state: its fields from the front, and behind them the row or the key to the
--- end.
+-- What is read of a payload, whatever the state: its fields from the front, and behind them the row, the key or the
+-- books to the end.
 use Rattle.std.specs.Prelude.{◌≡◌, ℕ, Bool, true, ◌&&◌, ◌==◌, nat_le, if◌then◌else◌, Option, None, Some, List, [], ◌∷◌}
 use Rattle.std.specs.Prelude.{◌++◌, encode_utf8_all, length, take, drop}
 use Rattle.std.specs.Int.{w16, w64}
 use Rattle.std.specs.Option.{option_map}
 use Rattle.std.specs.Str.{all_scalars, chars, is_utf8}
-use Rattle.exact_readers.specs.Formats.{Format, both, one_as, then_at}
+use Rattle.exact_readers.specs.Formats.{Format, all, both, one_as, then_at}
 use Rattle.exact_readers.specs.Numbers.{number}
 use Rattle.skk_text.specs.Lists.{is_empty}
 use Rattle.skk_calls.specs.declared.part.Part.{Part}
 use Rattle.skk_calls.specs.declared.part.Part.TheVariants.{Nasi, Ari}
+use Rattle.skk_calls.specs.BookLists.{is_book_list}
 use Rattle.skk_calls.specs.Canonical.{canonical, is_good, with_slash}
 use Rattle.skk_calls.specs.Rows.{Cand, RowKey, Row, is_row_key, is_row, same_text}
 use Rattle.skk_calls.specs.States.{fits_count}
 use Rattle.dict_format.specs.EntryRows.{row_of_line}
 use Rattle.learned_store.specs.declared.form.PayloadForm.{PayloadForm}
-use Rattle.learned_store.specs.declared.form.PayloadForm.TheVariants.{Put, Drop, SetCount, Note}
+use Rattle.learned_store.specs.declared.form.PayloadForm.TheVariants.{Put, Drop, SetCount, Note, SetList}
 use Rattle.learned_store.specs.Payloads.{book_number, wide_number, part_byte}
 
 -- What is written
@@ -149,7 +150,7 @@ noted_of (byte ∷ size ∷ bytes) =
     then_at (part_of byte)
     (λ part. if nat_le size (length bytes) then item_cand part (take size bytes) (drop size bytes) else None)
 
--- what every payload begins with: the byte of its kind, the number of a book, and a count
+-- what every payload that speaks of a book begins with: the byte of its kind, the number of the book, and a count
 abbrev pub fields : Format ℕ (ℕ × (ℕ × ℕ))
 fields = both (one_as (λ kind. Some kind)) (both (number w16) (number w64))
 
@@ -162,7 +163,30 @@ form_behind kind book count rest =
     else if kind == 4 && nat_le 1 count then option_map (λ noted. Note book count noted.0 noted.1) (noted_of rest)
     else None
 
+-- what a payload says that speaks of a book
+abbrev pub counted_form : List ℕ → Option PayloadForm
+counted_form payload =
+    then_at (fields.step payload) (λ read. form_behind read.0.0 read.0.1.0 read.0.1.1 read.1)
+
+-- numbers as a list of books, where they are one
+abbrev pub valid_list : List ℕ → Option (List ℕ)
+valid_list numbers = if is_book_list numbers then Some numbers else None
+
+-- the list of the books whose numbers are read of all bytes, where there are just so many
+abbrev pub books_of : ℕ → List ℕ → Option (List ℕ)
+books_of size bytes =
+    then_at (all (number w16) bytes) (λ numbers. if length numbers == size then valid_list numbers else None)
+
+-- the list of a typist, by the bytes of how many books there are and of their numbers
+abbrev pub typist_list : ℕ × List ℕ → Option PayloadForm
+typist_list (typist, []) = None
+typist_list (typist, size ∷ bytes) = option_map (SetList typist) (books_of size bytes)
+
+-- the list of a typist, by the bytes behind that of its kind
+abbrev pub list_of : List ℕ → Option PayloadForm
+list_of bytes = then_at ((number w16).step bytes) typist_list
+
 -- what a payload says
 abbrev pub form_of : List ℕ → Option PayloadForm
-form_of payload =
-    then_at (fields.step payload) (λ read. form_behind read.0.0 read.0.1.0 read.0.1.1 read.1)
+form_of [] = None
+form_of (kind ∷ bytes) = if kind == 5 then list_of bytes else counted_form (kind ∷ bytes)

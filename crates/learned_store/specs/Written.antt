@@ -3,15 +3,16 @@ use Rattle.std.specs.Prelude.{◌≡◌, ⊤, ℕ, Bool, true, ◌&&◌, nat_le,
 use Rattle.std.specs.Option.{option_map}
 use Rattle.skk_calls.specs.declared.call.Call.{Call}
 use Rattle.skk_calls.specs.declared.call.Call.TheVariants.{Annotate}
+use Rattle.skk_calls.specs.BookLists.{is_book_list}
 use Rattle.skk_calls.specs.Dictionary.{after, moves}
 use Rattle.skk_calls.specs.Histories.{need}
 use Rattle.skk_calls.specs.Rows.{RowKey, Cand, Row, is_row_key, is_cand}
 use Rattle.skk_calls.specs.States.{State, row_at, fits_count}
 use Rattle.skk_journal.specs.Records.{IsSized, need as record_need}
 use Rattle.learn_index.specs.declared.plan.Plan.{Plan}
-use Rattle.learn_index.specs.declared.plan.Plan.TheVariants.{Still, Move}
+use Rattle.learn_index.specs.declared.plan.Plan.TheVariants.{Still, Move, Lists}
 use Rattle.learned_store.specs.declared.form.PayloadForm.{PayloadForm}
-use Rattle.learned_store.specs.declared.form.PayloadForm.TheVariants.{Put, Drop, SetCount, Note}
+use Rattle.learned_store.specs.declared.form.PayloadForm.TheVariants.{Put, Drop, SetCount, Note, SetList}
 use Rattle.learned_store.specs.declared.writing.Record.{Record}
 use Rattle.learned_store.specs.Payloads.{Says, first_version, is_sound, payload_of, row_told, state_told}
 use Rattle.learned_store.specs.Payloads.{version_needed}
@@ -22,6 +23,7 @@ may_stand (Put book count row) = fits_count count row
 may_stand (Drop book count key) = is_row_key key
 may_stand (SetCount book count) = true
 may_stand (Note book count key cand) = nat_le 1 count && (is_row_key key && is_cand cand)
+may_stand (SetList typist books) = is_book_list books
 
 -- this is the record of a form, whose numbers are held and which spells characters
 pub record IsWritten (form : PayloadForm) (written : Record) : Type 0 where
@@ -45,11 +47,13 @@ abbrev pub TellsOf : State → Call → Plan → Record → Type 0
 TellsOf state call (Still reply) written = ⊥
 TellsOf state call (Move book count key row reply) written =
     IsWritten (planned_told (noted_in state call) book count key row) written
+TellsOf state call (Lists who list reply) written = IsWritten (SetList who list) written
 
 -- so it is, and there is none exactly where nothing changes
 abbrev pub IsRecordOf : State → Call → Plan → Option Record → Type 0
 IsRecordOf state call (Still reply) None = ⊤
 IsRecordOf state call (Move book count key row reply) None = ⊥
+IsRecordOf state call (Lists who list reply) None = ⊥
 IsRecordOf state call plan (Some written) = TellsOf state call plan written
 
 -- a record tells of a call that changes a state what the call makes of it

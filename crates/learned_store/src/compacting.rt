@@ -1,45 +1,67 @@
-ghost use Rattle.std.specs.Prelude.{◌≡◌, ◌++◌, ◌∷◌, map, true, IfOk, OnOk};
+ghost use Rattle.std.specs.Prelude.{◌≡◌, ◌++◌, ◌∷◌, [], map, true, IfOk, OnOk};
 ghost use Rattle.std.specs.Int.{w32};
 ghost use Rattle.std.specs.List.{flat_map, list_all};
 ghost use Rattle.exact_readers.specs.Numbers.{number_bytes};
 ghost use Rattle.skk_calls.specs.Canonical.{is_good};
-ghost use Rattle.skk_calls.specs.States.{is_book, is_valid};
+ghost use Rattle.skk_calls.specs.States.{is_book};
 ghost use Rattle.skk_journal.specs.Records.{IsSized, framed, record_bytes};
 ghost use Rattle.learn_index.specs.Kept.{changed, has_changed, kept, numbered};
 ghost use Rattle.learned_store.specs.declared.form.PayloadForm.TheVariants.{Put, SetCount};
 ghost use Rattle.learned_store.specs.Payloads.{payload_of};
 ghost use Rattle.learned_store.specs.Compacted.{compacted, row_forms};
-ghost use Rattle.learned_store.specs.Compacting.{book_records, form_record};
+ghost use Rattle.learned_store.specs.Compacting.{book_records, form_record, list_record};
 
-use crate::sizes::books_end;
-use crate::writing::{count_record, put_record};
+use crate::sizes::tight_end;
+use crate::writing::{count_record, list_payload, put_record};
 use learn_index::{Index, KeptRow, LearnedBook};
-use skk_calls::Row;
+use skk_calls::{Row, TypistList};
 use skk_text::{Bytes, Memory};
 use std::alloc::Global;
 
 // The byte of an open gate.
 const OPEN: u8 = 1;
 
-// The records that a compaction writes of the state of an index, each behind an open gate. All memory is taken here.
-// Takes time in what the rows hold.
+// The records that a compaction writes of the state of an index, each behind an open gate. All memory is taken here, at
+// once for as many bytes as they need. Takes time in what the rows hold, and in the lists.
 pub(crate) fn compacted_records(alloc: Global, index: &Index) -> Result<Bytes, Memory>
     ensures { IfOk result (λ records. records ≡ framed (map payload_of (compacted index.now.state))) }
 {
-    let books = index.books();
-    compacted_books(alloc, books, books_end(books) as usize)
+    let mut records = Vec::with_capacity(alloc, tight_end(index) as usize)?;
+    push_books(alloc, &mut records, index.books())?;
+    push_lists(alloc, &mut records, index.lists())?;
+    Ok(Bytes::of(records))
 }
 
-// The records that a compaction writes of these books, in memory that is taken at once for so many bytes as are told.
-fn compacted_books(alloc: Global, books: &[LearnedBook], bytes: usize) -> Result<Bytes, Memory>
-    requires { is_valid (changed (kept books.now)) ≡ true }
-    ensures { IfOk result (λ records. records ≡ framed (map payload_of (compacted (changed (kept books.now))))) }
+// Adds the records of books.
+fn push_books(alloc: Global, records: &mut Vec<u8>, books: &[LearnedBook]) -> Result<(), Memory>
+    requires { list_all is_book (changed (kept books.now [])).books ≡ true }
+    ensures { OnOk result (records.new.items ≡ records.old.items ++ flat_map book_records (map numbered books.now)) }
 {
-    let mut records = Vec::with_capacity(alloc, bytes)?;
     for book in books {
-        push_book(alloc, &mut records, book)?;
+        push_book(alloc, records, book)?;
     }
-    Ok(Bytes::of(records))
+    Ok(())
+}
+
+// Adds the records of lists.
+fn push_lists(alloc: Global, records: &mut Vec<u8>, lists: &[TypistList]) -> Result<(), Memory>
+    ensures { OnOk result (records.new.items ≡ records.old.items ++ flat_map list_record lists.now) }
+{
+    for list in lists {
+        push_list(alloc, records, list)?;
+    }
+    Ok(())
+}
+
+// Adds the record of a list.
+fn push_list(alloc: Global, records: &mut Vec<u8>, list: &TypistList) -> Result<(), Memory>
+    ensures { OnOk result (records.new.items ≡ records.old.items ++ list_record list.now) }
+{
+    // What is counted tells that they are a list.
+    let _count = list.books.len();
+    let payload = list_payload(alloc, list.typist, &list.books)?;
+    push_record(records, payload.as_slice())?;
+    Ok(())
 }
 
 // Adds the records of a book, none where it has not changed.

@@ -1,7 +1,7 @@
 ghost use Rattle.std.specs.Prelude.{◌≡◌};
-ghost use Rattle.learned_store.specs.Payloads.{book_of, first_version, new_count};
+ghost use Rattle.learned_store.specs.Payloads.{counted_by, first_version};
 
-use skk_calls::{Cand, Row, RowKey};
+use skk_calls::{BookList, Cand, Row, RowKey};
 
 // The first byte of a payload that puts a row into a book.
 pub(crate) const PUT: u8 = 1;
@@ -15,11 +15,15 @@ pub(crate) const SET_COUNT: u8 = 3;
 // The first byte of a payload that gives a candidate of a row its note.
 pub(crate) const NOTE: u8 = 4;
 
-/// The version of a learned file that is filled, the newest: that of the last form that was added.
-pub const NEWEST: u8 = 2;
+// The first byte of a payload that gives a typist a list of books.
+pub(crate) const SET_LIST: u8 = 5;
 
-/// What a record says of the book of a number, which then has a count: that a row stands in it; that it has no row of a
-/// key; nothing more; or that the candidate with a word in the row of a key has a note.
+/// The version of a learned file that is filled, the newest: that of the last form that was added.
+pub const NEWEST: u8 = 3;
+
+/// What a record says. Of the book of a number, which then has a count: that a row stands in it; that it has no row of
+/// a key; nothing more; or that the candidate with a word in the row of a key has a note. Or of a typist: which list of
+/// books the typist reads.
 #[derive(Debug, Drop)]
 pub enum PayloadForm {
     Put {
@@ -42,30 +46,24 @@ pub enum PayloadForm {
         key: RowKey,
         cand: Cand,
     },
+    SetList {
+        typist: u16,
+        books: BookList,
+    },
 }
 
 impl PayloadForm {
-    /// The number of the book.
-    pub fn book(&self) -> u16
-        ensures { result ≡ book_of self.now }
+    /// The number of the book that it speaks of, and the count that the book has then. The list of a typist speaks of
+    /// no book.
+    pub fn counted(&self) -> Option<(u16, u64)>
+        ensures { result ≡ counted_by self.now }
     {
         match self {
-            PayloadForm::Put { book, .. }
-            | PayloadForm::Drop { book, .. }
-            | PayloadForm::SetCount { book, .. }
-            | PayloadForm::Note { book, .. } => *book,
-        }
-    }
-
-    /// The count that the book has then.
-    pub fn count(&self) -> u64
-        ensures { result ≡ new_count self.now }
-    {
-        match self {
-            PayloadForm::Put { count, .. }
-            | PayloadForm::Drop { count, .. }
-            | PayloadForm::SetCount { count, .. }
-            | PayloadForm::Note { count, .. } => *count,
+            PayloadForm::Put { book, count, .. }
+            | PayloadForm::Drop { book, count, .. }
+            | PayloadForm::SetCount { book, count }
+            | PayloadForm::Note { book, count, .. } => Some((*book, *count)),
+            PayloadForm::SetList { .. } => None,
         }
     }
 
@@ -76,6 +74,7 @@ impl PayloadForm {
         match self {
             PayloadForm::Put { .. } | PayloadForm::Drop { .. } | PayloadForm::SetCount { .. } => 1,
             PayloadForm::Note { .. } => 2,
+            PayloadForm::SetList { .. } => 3,
         }
     }
 }

@@ -1,14 +1,16 @@
-ghost use Rattle.std.specs.Prelude.{◌≡◌, ◌≤◌, ◌&&◌, nat_le, ℕ, true, false, None, IfOk, IfSome, OnOk};
+ghost use Rattle.std.specs.Prelude.{◌≡◌, ◌≤◌, ◌&&◌, nat_le, ℕ, true, false, [], None, IfOk, IfSome, OnOk};
 ghost use Rattle.skk_calls.specs.Rows.{RowKey as row_key};
-ghost use Rattle.skk_calls.specs.States.{State, empty_state, count_of, row_at, is_valid};
+ghost use Rattle.skk_calls.specs.States.{State, empty_state, count_of, row_at, shared_books, is_valid};
 ghost use Rattle.learned_store.specs.declared.row_place.RowPlace.{RowPlace as place_value};
 ghost use Rattle.learned_store.specs.Gathering.{AreKeyed, AreOf, Gathers, HasRows, IsAdded, IsAnnotated, IsRestamped};
-ghost use Rattle.learned_store.specs.Gathering.{IsTold, are_apart, count_in, takes_on};
-ghost use Rattle.learned_store.specs.Gathering.{placed_entries, row_among, row_placed};
+ghost use Rattle.learned_store.specs.Gathering.{ListMap};
+ghost use Rattle.learned_store.specs.Gathering.{IsTold, are_apart, count_behind, count_in, counts_on, list_among};
+ghost use Rattle.learned_store.specs.Gathering.{list_behind};
+ghost use Rattle.learned_store.specs.Gathering.{placed_entries, row_among, row_placed, takes_on};
 ghost use Rattle.learned_store.specs.Reading.{put_with};
 ghost use Rattle.learned_store.specs.declared.form.PayloadForm.{PayloadForm};
-ghost use Rattle.learned_store.specs.Payloads.{Says, SaysNothing, book_of, first_version, is_sound, may_follow};
-ghost use Rattle.learned_store.specs.Payloads.{new_count, state_told, takes_note};
+ghost use Rattle.learned_store.specs.Payloads.{CountsOn, Says, SaysNothing, counted_by, first_version, is_sound};
+ghost use Rattle.learned_store.specs.Payloads.{may_follow, state_told, takes_note};
 
 use crate::form::PayloadForm;
 use crate::payload::{put_fields, read_form, read_key};
@@ -16,16 +18,17 @@ use crate::placed_row::PlacedRow;
 use crate::row_place::RowPlace;
 use crate::stamped_row::StampedRow;
 use learn_index::Index;
-use skk_calls::Cand;
+use skk_calls::{BookList, Cand};
 use skk_text::{Copies, Memory};
 use std::alloc::Global;
 use std::collections::{BTreeMap, HashMap};
 
-// What records leave: the count of each book, and each row with its place, in no order. So a row is put or taken out
-// at once, where a book of an index moves what stands behind it.
+// What records leave: the count of each book, the last list of each typist, and each row with its place, in no order.
+// So a row is put or taken out at once, where a book of an index moves what stands behind it.
 #[derive(Drop)]
 pub(crate) struct Gathered {
     counts: BTreeMap<u16, u64>,
+    lists: BTreeMap<u16, BookList>,
     rows: HashMap<RowPlace, StampedRow>,
 }
 
@@ -36,14 +39,15 @@ impl Gathered {
     {
         Gathered {
             counts: BTreeMap::new(alloc),
+            lists: BTreeMap::new(alloc),
             rows: HashMap::new(alloc),
         }
     }
 
     // Adds what the payload of the next record of a file of a version says, where it says something. Takes time in its
-    // length and a logarithm in the number of books, of a note in its row, and the memory of a row and of its key once
-    // more where the row is not the one that its key has, but for the stamp. After an error what was gathered is of no
-    // use.
+    // length and a logarithm in the number of books or of lists, of a note in its row, and the memory of a row and of
+    // its key once more where the row is not the one that its key has, but for the stamp. After an error what was
+    // gathered is of no use.
     pub(crate) fn add(&mut self, alloc: Global, version: u8, payload: &[u8]) -> Result<bool, Memory>
         ensures said { IfOk result (λ is. is ≡ true → (state : State) → Gathers self.old state
             → IsAdded version state payload.now self.new) }
@@ -114,7 +118,7 @@ impl Gathered {
         ensures some { IfOk result (λ form. IfSome form (λ f. (state : State) → Gathers self.now state
             → may_follow state f ≡ true → Says version state payload.now f)) }
         ensures sound { IfOk result (λ form. IfSome form (λ f. (is_sound f ≡ true)
-            × ((state : State) → Gathers self.now state → count_of state (book_of f) ≤ new_count f))) }
+            × ((state : State) → Gathers self.now state → CountsOn state (counted_by f)))) }
         ensures only { IfOk result (λ form. IfSome form (λ f. (state : State) (other : PayloadForm)
             → Says version state payload.now other → other ≡ f)) }
         ensures none { IfOk result (λ form. form ≡ None → (state : State) → Gathers self.now state
@@ -132,38 +136,44 @@ impl Gathered {
     // Whether what a record of a file of a version says has its version and its count there.
     fn comes_next(&self, version: u8, form: &PayloadForm) -> bool
         ensures { result ≡ (nat_le (first_version form.now) version
-            && nat_le (count_in self.now.counts (book_of form.now)) (new_count form.now)) }
+            && counts_on self.now.counts (counted_by form.now)) }
     {
-        form.first_version() <= version && count_in(&self.counts, form.book()) <= form.count()
+        form.first_version() <= version && counts_on(&self.counts, form.counted())
     }
 
     // Adds what a record says, where it may stand behind the others.
     fn tell(&mut self, alloc: Global, form: PayloadForm) -> Result<bool, Memory>
         ensures told { IfOk result (λ is. is ≡ true → (state : State) → Gathers self.old state
-            → is_sound form ≡ true → count_of state (book_of form) ≤ new_count form
+            → is_sound form ≡ true → CountsOn state (counted_by form)
             → (may_follow state form ≡ true) × Gathers self.new (state_told state form)) }
         ensures none { IfOk result (λ is. is ≡ false → (state : State) → Gathers self.old state
             → may_follow state form ≡ false) }
     {
-        let book = form.book();
-        let count = form.count();
+        let counted = form.counted();
+        tell_list(&mut self.lists, &form)?;
         if !tell_row(alloc, &mut self.rows, form)? {
             return Ok(false);
         }
-        let _count = self.counts.insert(book, count)?;
+        tell_count(&mut self.counts, counted)?;
         Ok(true)
     }
 
-    // The index of what was gathered. Takes time in the number of rows, with one logarithm in it, and beside the index,
-    // while the rows are sorted, the memory of rows and places without what they hold, which is moved and not copied.
+    // The index of what was gathered. Takes time in the number of rows and lists, with one logarithm in it, and beside
+    // the index, while the rows are sorted, the memory of rows and places without what they hold, which is moved and
+    // not copied.
     pub(crate) fn into_index(self, alloc: Global) -> Result<Index, Memory>
         requires { (state : State) × Gathers self state }
         ensures { IfOk result (λ index. (state : State) → Gathers self state → index.state ≡ state) }
     {
-        let Gathered { counts, rows } = self;
+        let Gathered {
+            counts,
+            lists,
+            rows,
+        } = self;
         let rows = in_order(alloc, rows)?;
         let mut index = index_of(alloc, &counts, rows)?;
         give_counts(&mut index, alloc, counts)?;
+        give_lists(&mut index, lists)?;
         index.order_by_stamp(alloc)?;
         Ok(index)
     }
@@ -174,6 +184,16 @@ fn count_in(counts: &BTreeMap<u16, u64>, book: u16) -> u64
     ensures { result ≡ count_in counts.now book }
 {
     counts.get(&book).copied().unwrap_or(0)
+}
+
+// Whether a count that is given to a book, where there is one, is not below the one that the book has.
+fn counts_on(counts: &BTreeMap<u16, u64>, counted: Option<(u16, u64)>) -> bool
+    ensures { result ≡ counts_on counts.now counted }
+{
+    match counted {
+        Some((book, count)) => count_in(counts, book) <= count,
+        None => true,
+    }
 }
 
 // The place in a book that what stands before the first space of a line has, whose bytes stand behind that of its part.
@@ -212,6 +232,28 @@ fn restamp(
     Ok(true)
 }
 
+// Gives a book the count that a record gives it, where it speaks of a book.
+fn tell_count(counts: &mut BTreeMap<u16, u64>, counted: Option<(u16, u64)>) -> Result<(), Memory>
+    ensures { OnOk result ((number : ℕ) → count_in counts.new number
+        ≡ count_behind counted number (count_in counts.old number)) }
+{
+    if let Some((book, count)) = counted {
+        let _count = counts.insert(book, count)?;
+    }
+    Ok(())
+}
+
+// Gives a typist the list of books that a record gives, where it speaks of one.
+fn tell_list(lists: &mut BTreeMap<u16, BookList>, form: &PayloadForm) -> Result<(), Memory>
+    ensures { OnOk result ((typist : ℕ) → list_among lists.new typist
+        ≡ list_behind form.now typist (list_among lists.old typist)) }
+{
+    if let PayloadForm::SetList { typist, books } = form {
+        let _books = lists.insert(*typist, books.copied())?;
+    }
+    Ok(())
+}
+
 // Changes the rows as a record tells, where they take that on.
 fn tell_row(
     alloc: Global,
@@ -234,6 +276,7 @@ fn tell_row(
             Ok(true)
         }
         PayloadForm::SetCount { .. } => Ok(true),
+        PayloadForm::SetList { .. } => Ok(true),
         PayloadForm::Note {
             book,
             count,
@@ -294,9 +337,9 @@ fn index_of(
     rows: Vec<PlacedRow>,
 ) -> Result<Index, Memory>
     requires apart { are_apart rows.items }
-    requires state { (state : State) × AreOf state counts.now (row_placed rows.items) }
-    ensures { IfOk result (λ index. (state : State) → AreOf state counts.now (row_placed rows.items)
-        → HasRows state index.state) }
+    requires state { (state : State) × (lists : ListMap) × AreOf state counts.now lists (row_placed rows.items) }
+    ensures { IfOk result (λ index. (state : State) (lists : ListMap)
+        → AreOf state counts.now lists (row_placed rows.items) → HasRows state index.state) }
 {
     let mut index = Index::new(alloc);
     for placed in rows {
@@ -321,9 +364,27 @@ fn give_counts(
     ensures counts { OnOk result ((number : ℕ) → count_of index.new.state number ≡ count_in counts number) }
     ensures rows { OnOk result ((number : ℕ) (key : row_key)
         → row_at index.new.state number key ≡ row_at index.old.state number key) }
+    ensures lists { OnOk result (index.new.state.lists ≡ index.old.state.lists) }
 {
     while let Some((book, count)) = counts.pop_first() {
         index.set_count(alloc, book, count)?;
+    }
+    Ok(())
+}
+
+// Gives each typist a list of books, where no typist has one yet. They come in order, so each comes behind those
+// before.
+fn give_lists(index: &mut Index, mut lists: BTreeMap<u16, BookList>) -> Result<(), Memory>
+    requires valid { is_valid index.old.state ≡ true }
+    requires none { index.old.state.lists ≡ [] }
+    ensures valid { OnOk result (is_valid index.new.state ≡ true) }
+    ensures lists { OnOk result ((typist : ℕ) → shared_books index.new.state typist ≡ list_among lists typist) }
+    ensures books { OnOk result (index.new.state.books ≡ index.old.state.books) }
+{
+    while let Some((typist, books)) = lists.pop_first() {
+        // What is counted tells that they are a list.
+        let _count = books.len();
+        index.set_list(typist, &books)?;
     }
     Ok(())
 }

@@ -105,6 +105,13 @@ impl KeptAnswers {
         self.readings.pop(key.reading().as_str());
     }
 
+    // Lets go all that is kept.
+    pub(crate) fn clear(&mut self)
+        ensures { self.new ≡ [] }
+    {
+        self.readings.clear();
+    }
+
     // What is kept of a call.
     fn cands_of(&self, call: &Call) -> Option<&DistinctCands>
         ensures { option_copied result ≡ kept_cands self.now call.now }

@@ -1,19 +1,20 @@
 ghost use Rattle.std.specs.Prelude.{◌≡◌, ◌≤◌, ◌+◌, ◌&&◌, ℕ, nat_le, All, true, List, Option, Some, map};
 ghost use Rattle.std.specs.List.{list_all};
+ghost use Rattle.skk_calls.specs.BookLists.{is_book_list};
 ghost use Rattle.skk_calls.specs.declared.call.Call.{Call};
 ghost use Rattle.skk_calls.specs.Dictionary.{after, is_call, is_fit, moves};
 ghost use Rattle.skk_calls.specs.Histories.{need, tight};
 ghost use Rattle.skk_calls.specs.Rows.{RowKey, Cand, Row, is_cand, is_row_key};
-ghost use Rattle.skk_calls.specs.States.{State, count_of, fits_count, is_valid};
+ghost use Rattle.skk_calls.specs.States.{State, fits_count, is_valid};
 ghost use Rattle.skk_disk.specs.Image.{Image};
 ghost use Rattle.skk_journal.specs.Contents.{Contents};
 ghost use Rattle.skk_journal.specs.Images.{Each};
 ghost use Rattle.skk_journal.specs.Journal.{OpenJournal};
 ghost use Rattle.skk_journal.specs.Records.{IsSized, end_of, need as record_need};
 ghost use Rattle.learned_store.specs.declared.form.PayloadForm.{PayloadForm};
-ghost use Rattle.learned_store.specs.declared.form.PayloadForm.TheVariants.{Put, Drop, Note};
+ghost use Rattle.learned_store.specs.declared.form.PayloadForm.TheVariants.{Put, Drop, Note, SetList};
 ghost use Rattle.learned_store.specs.Compacted.{compacted, is_written};
-ghost use Rattle.learned_store.specs.Payloads.{Says, book_of, may_follow, new_count, newest_version, payload_of};
+ghost use Rattle.learned_store.specs.Payloads.{CountsOn, Says, counted_by, may_follow, newest_version, payload_of};
 ghost use Rattle.learned_store.specs.Payloads.{is_sound};
 ghost use Rattle.learned_store.specs.Payloads.{state_told, change_told};
 ghost use Rattle.learned_store.specs.Recovered.{BreakAt, Leave, Recovery, IsRecovered};
@@ -36,8 +37,8 @@ pub fn records_leave_what_changes_leave()
 {}
 
 /// What the record of a change says may be written, as far as no type tells it: a row may stand in a book of the count,
-/// a key is valid, and so is a candidate with its note, whose row is there and is not too long with it; and the count
-/// is not below that of its book.
+/// a key is valid, and so is a candidate with its note, whose row is there and is not too long with it; the books of a
+/// typist are a list of books; and the count, where there is one, is not below that of its book.
 pub fn changes_tell_what_may_be_written()
     ensures put { (state : State) (call : Call) (book count : ℕ) (row : Row) → is_valid state ≡ true
         → is_call call ≡ true → is_fit call ≡ true → moves state call ≡ true
@@ -47,11 +48,13 @@ pub fn changes_tell_what_may_be_written()
     ensures note { (state : State) (call : Call) (book count : ℕ) (key : RowKey) (cand : Cand) → is_call call ≡ true
         → change_told state call ≡ Some (Note book count key cand)
         → (nat_le 1 count && (is_row_key key && is_cand cand)) ≡ true }
+    ensures list { (state : State) (call : Call) (typist : ℕ) (books : List ℕ) → is_call call ≡ true
+        → change_told state call ≡ Some (SetList typist books) → is_book_list books ≡ true }
     ensures follows { (state : State) (call : Call) (form : PayloadForm) → is_valid state ≡ true
         → is_call call ≡ true → is_fit call ≡ true → moves state call ≡ true → change_told state call ≡ Some form
         → may_follow state form ≡ true }
     ensures count { (state : State) (call : Call) (form : PayloadForm) → change_told state call ≡ Some form
-        → count_of state (book_of form) ≤ new_count form }
+        → CountsOn state (counted_by form) }
 {
     changes_keep_states_valid();
 }

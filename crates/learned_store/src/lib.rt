@@ -2,18 +2,19 @@
 //!
 //! It stands on `skk_text`, `exact_readers`, `skk_outside`, `skk_trace`, `skk_calls`, `dict_laws`, `dict_rows`,
 //! `skk_disk`, `skk_journal`, `dict_format`, `dict_layers` and `learn_index`. A record puts a row into a book, takes a
-//! row out, or gives a book its count; each of them sets the count. What a record says is defined from its values to
-//! its bytes, and a payload says nothing where no values have these bytes. The records of a file, one after another,
-//! lead from no books to a state, or the first of them that says nothing stands at a place: `Store::open` gives that
-//! state, or the least place that is refused. A compaction writes the records of a state alone: each row of each book
-//! is put, and where a book has no row its count is set.
+//! row out, gives a candidate of a row its note, or gives a book its count; each of them sets the count. Or it gives a
+//! typist a list of books. What a record says is defined from its values to its bytes, and a payload says nothing where
+//! no values have these bytes. The records of a file, one after another, lead from no books to a state, or the first of
+//! them that says nothing stands at a place: `Store::open` gives that state, or the least place that is refused. A
+//! compaction writes the records of a state alone: each row of each book is put, where a book has no row its count is
+//! set, and behind the books each list of a typist is given.
 //!
 //! A `Store` answers calls as the dictionary of one thread. It takes the memory of a change and of its record first,
-//! then closes a record in doubt, adds the record, and only then changes the index, so that a stop at any moment
-//! leaves the state before the call, the one after it, or one that was in doubt. It keeps what look-ups of the readings
-//! that were used last found, up to the next change of theirs. `Noting` keeps the history of a store: what a stop at a
-//! moment might have left is opened as a state that a part of the history may leave, which has each entry that was made
-//! by then. `Alone` is the one caller of a store, with no lock.
+//! then closes a record in doubt, adds the record, and only then changes the index, so that a stop at any moment leaves
+//! the state before the call, the one after it, or one that was in doubt. It keeps what look-ups of the readings that
+//! were used last found, up to the next change of theirs or of any typist's list. `Noting` keeps the history of a
+//! store: what a stop at a moment might have left is opened as a state that a part of the history may leave, which has
+//! each entry that was made by then. `Alone` is the one caller of a store, with no lock.
 //!
 //! Laws say that a file is opened in one way at most, that the record of a change may be written and leaves the state
 //! that the change leaves, that it needs what the change needs, that the records of a compaction leave their state and
@@ -31,6 +32,7 @@ mod kept_answer;
 mod kept_answers;
 mod laws;
 mod learned_name;
+mod list_payload;
 mod noting;
 mod opening;
 mod payload;

@@ -8,11 +8,12 @@ ghost use Rattle.skk_calls.specs.Rows.{same_text};
 ghost use Rattle.learned_store.specs.declared.form.PayloadForm.{PayloadForm};
 ghost use Rattle.learned_store.specs.declared.form.PayloadForm.TheVariants.{Put, Drop, Note};
 ghost use Rattle.learned_store.specs.Payloads.{payload_of, is_sound};
-ghost use Rattle.learned_store.specs.Reading.{put_with, fields, form_of, form_behind, row_of, stamped_row, is_stamp};
-ghost use Rattle.learned_store.specs.Reading.{parted_of, part_of, text_of, key_of, valid_key, line_row, one_line};
-ghost use Rattle.learned_store.specs.Reading.{item_cand, noted_of, only_cand, single_cand};
+ghost use Rattle.learned_store.specs.Reading.{put_with, fields, form_of, counted_form, form_behind, row_of};
+ghost use Rattle.learned_store.specs.Reading.{stamped_row, is_stamp, parted_of, part_of, text_of, key_of, valid_key};
+ghost use Rattle.learned_store.specs.Reading.{line_row, one_line, item_cand, noted_of, only_cand, single_cand};
 
-use crate::form::{DROP, NOTE, PUT, PayloadForm, SET_COUNT};
+use crate::form::{DROP, NOTE, PUT, PayloadForm, SET_COUNT, SET_LIST};
+use crate::list_payload::list_of;
 use crate::plain_row::plain_row;
 use dict_format::{good_rows_are_read_again, lines_spell_one_row, print_line, row_of_line};
 use exact_readers::{read_u16, read_u64};
@@ -21,7 +22,8 @@ use skk_text::{Copies, Memory, Text};
 use std::alloc::Global;
 use std::str;
 
-// What every payload begins with: the byte of its kind, the number of a book, and a count; and the rest behind them.
+// What every payload that speaks of a book begins with: the byte of its kind, the number of the book, and a count; and
+// the rest behind them.
 #[derive(Clone, Copy, Debug)]
 struct PayloadFields<'a> {
     kind: u8,
@@ -55,6 +57,16 @@ pub(crate) fn read_form(alloc: Global, payload: &[u8]) -> Result<Option<PayloadF
 // What is read of a payload.
 fn any_form(alloc: Global, payload: &[u8]) -> Result<Option<PayloadForm>, Memory>
     ensures { IfOk result (λ form. form ≡ form_of payload.now) }
+{
+    match payload {
+        [SET_LIST, bytes @ ..] => list_of(alloc, bytes),
+        _ => counted_form(alloc, payload),
+    }
+}
+
+// What is read of a payload that speaks of a book.
+fn counted_form(alloc: Global, payload: &[u8]) -> Result<Option<PayloadForm>, Memory>
+    ensures { IfOk result (λ form. form ≡ counted_form payload.now) }
 {
     match fields_of(payload) {
         Some(fields) => form_behind(alloc, &fields),

@@ -2,7 +2,7 @@ ghost use Rattle.std.specs.Prelude.{◌≡◌, ◌⊎◌, ◌≤◌, ◌+◌, �
 ghost use Rattle.skk_text.specs.Counts.{last_count};
 ghost use Rattle.skk_outside.specs.Faults.{Rose};
 ghost use Rattle.skk_disk.specs.Runs.{Advances};
-ghost use Rattle.skk_calls.specs.Dictionary.{answer, is_fit, may_answer, may_reply, moves, speaks_of};
+ghost use Rattle.skk_calls.specs.Dictionary.{answer, is_fit, is_share, may_answer, may_reply, moves, speaks_of};
 ghost use Rattle.skk_calls.specs.Histories.{after_answer, need, tells_change, tight, IsLegalAnswer, LacksRoom};
 ghost use Rattle.skk_calls.specs.Rows.{RowKey as key_value, same_key};
 ghost use Rattle.skk_calls.specs.States.{State, rows_of};
@@ -102,11 +102,11 @@ impl<D> Store<D> {
 impl<D: Disk> Store<D> {
     /// Answers a call. For a change all memory is taken first, and then its record is added to the live file, after a
     /// gate in doubt was closed; a change is made only where its record was added. Where the live file has no room for
-    /// it, or is of a version that does not have it, the rows of the state are written into the other file first, which
-    /// is live then and of the newest version; it is refused only where it has no room there either. Where the call
-    /// changes nothing, and after `Refused(Memory)`, the disk was not touched. Costs what the call costs the index, and
-    /// a change two writes and two syncs, or three where a gate was in doubt; where rows are written into the other
-    /// file, at most eleven calls more, and time and memory in what they hold.
+    /// it, or is of a version that does not have it, the rows and lists of the state are written into the other file
+    /// first, which is live then and of the newest version; it is refused only where it has no room there either. Where
+    /// the call changes nothing, and after `Refused(Memory)`, the disk was not touched. Costs what the call costs the
+    /// index, and a change two writes and two syncs, or three where a gate was in doubt; where the other file is
+    /// written, at most eleven calls more, and time and memory in what the rows and lists hold.
     pub fn serve(&mut self, alloc: Global, call: &Call) -> Answer
         requires { is_fit call.now ≡ true }
 
@@ -156,14 +156,27 @@ impl<D: Disk> Store<D> {
             Call::Learn { key, .. } => self.change(alloc, key, call),
             Call::Purge { key, .. } => self.change(alloc, key, call),
             Call::Annotate { key, .. } => self.change(alloc, key, call),
+            Call::Share { .. } => self.share(alloc, call),
             Call::Unlearn { learned } => self.change(alloc, learned.key(), call),
         }
+    }
+
+    // Answers a change of a typist's list of books. It may change what is found of any reading, so all that is kept
+    // goes first.
+    fn share(&mut self, alloc: Global, call: &Call) -> Answer
+        requires change { is_question call.now ≡ false }
+        requires fit { is_fit call.now ≡ true }
+        ensures { Serves D.Disk self.old self.new call.now result }
+    {
+        self.kept.clear();
+        change(alloc, &mut self.journal, &mut self.index, self.limit, call)
     }
 
     // Answers a change, which speaks of the row of a key: what is kept of its reading goes first.
     fn change(&mut self, alloc: Global, key: &RowKey, call: &Call) -> Answer
         requires change { is_question call.now ≡ false }
         requires fit { is_fit call.now ≡ true }
+        requires row { is_share call.now ≡ false }
         requires key { (book : ℕ) (other : key_value) → speaks_of call.now book other ≡ true
             → same_key key.now other ≡ true }
         ensures { Serves D.Disk self.old self.new call.now result }

@@ -1,15 +1,17 @@
-ghost use Rattle.std.specs.Prelude.{◌≡◌, ◌&&◌, true, IfOk, OnOk};
+ghost use Rattle.std.specs.Prelude.{◌≡◌, ◌&&◌, ◌++◌, true, IfOk, OnOk};
+ghost use Rattle.std.specs.List.{flat_map, list_all};
 ghost use Rattle.std.specs.Option.{option_copied, option_map};
 ghost use Rattle.std.specs.Str.{all_scalars};
 ghost use Rattle.skk_calls.specs.Canonical.{canonical, item};
-ghost use Rattle.learned_store.specs.declared.form.PayloadForm.TheVariants.{Note};
-ghost use Rattle.learned_store.specs.Payloads.{put_bytes, drop_bytes, count_bytes, note_bytes, part_byte, row_told};
+ghost use Rattle.learned_store.specs.declared.form.PayloadForm.TheVariants.{Note, SetList};
+ghost use Rattle.learned_store.specs.Payloads.{put_bytes, drop_bytes, count_bytes, note_bytes, list_bytes, part_byte};
+ghost use Rattle.learned_store.specs.Payloads.{book_number, is_held, row_told};
 ghost use Rattle.learned_store.specs.Written.{IsWritten, IsRecordOf, noted_in};
 
-use crate::form::{DROP, NOTE, PUT, SET_COUNT};
+use crate::form::{DROP, NOTE, PUT, SET_COUNT, SET_LIST};
 use dict_format::{print_item, print_line};
 use learn_index::{Index, KeptRow, Plan};
-use skk_calls::{Call, Cand, Part, Row, RowKey};
+use skk_calls::{BookList, Call, Cand, Part, Row, RowKey};
 use skk_text::{Bytes, Memory};
 use std::alloc::Global;
 
@@ -44,6 +46,7 @@ pub(crate) fn planned_record(
             };
             Ok(Some(record))
         }
+        Plan::Lists { who, list, .. } => Ok(Some(list_record(alloc, *who, list)?)),
     }
 }
 
@@ -120,6 +123,43 @@ fn note_payload(
     record.extend_from_slice(reading.as_bytes())?;
     record.extend_from_slice(item.as_str().as_bytes())?;
     Ok(Bytes::of(record))
+}
+
+// The record that gives a typist a list of books.
+fn list_record(alloc: Global, typist: u16, books: &BookList) -> Result<Record, Memory>
+    ensures { IfOk result (IsWritten (SetList typist books.now)) }
+{
+    let payload = list_payload(alloc, typist, books)?;
+    Ok(Record {
+        payload,
+        version: 3,
+    })
+}
+
+// The bytes that give a typist a list of books.
+#[tactic(auto, unfolding(exact_readers::specs::Numbers::number_bytes))]
+pub(crate) fn list_payload(alloc: Global, typist: u16, books: &BookList) -> Result<Bytes, Memory>
+    ensures payload { IfOk result (λ bytes. bytes ≡ list_bytes typist books.now) }
+    ensures held { OnOk result (list_all is_held books.now ≡ true) }
+{
+    let mut record = Vec::new(alloc);
+    record.push(SET_LIST)?;
+    record.extend_from_slice(&typist.to_le_bytes())?;
+    record.push(books.len() as u8)?;
+    push_numbers(&mut record, books.as_slice())?;
+    Ok(Bytes::of(record))
+}
+
+// Adds the numbers of books.
+#[tactic(auto, unfolding(exact_readers::specs::Numbers::number_bytes))]
+fn push_numbers(bytes: &mut Vec<u8>, books: &[u16]) -> Result<(), Memory>
+    ensures bytes { OnOk result (bytes.new.items ≡ bytes.old.items ++ flat_map book_number books.now) }
+    ensures held { OnOk result (list_all is_held books.now ≡ true) }
+{
+    for book in books {
+        bytes.extend_from_slice(&book.to_le_bytes())?;
+    }
+    Ok(())
 }
 
 // The bytes that put a row into a book, which then has a count.

@@ -57,7 +57,7 @@ pub(crate) const IN_ORDER: &[u8] = b"\x01\x20\0\0\0\x01\x01\0\x03\0\0\0\0\0\0\0\
     \x01\x1d\0\0\0\x01\x01\0\x04\0\0\0\0\0\0\0\x04\0\0\0\0\0\0\0\0\
     \xe3\x81\x8d /\xe6\x9c\xa8/\0";
 
-// What a file has: these bytes; or a first byte, the mark of version 2, a generation, and what stands behind them.
+// What a file has: these bytes; or a first byte, the mark of version 3, a generation, and what stands behind them.
 #[derive(Clone, Copy, Debug)]
 pub(crate) enum FileContent<'a> {
     Bytes(&'a [u8]),
@@ -70,7 +70,7 @@ pub(crate) fn bytes_of<R: Abort>(rt: &R, alloc: Global, content: FileContent) ->
         FileContent::Bytes(bytes) => bytes.to_vec(alloc).expect(rt, "memory"),
         FileContent::Headed(first, generation, tail) => {
             let mut bytes = vec![in alloc; first].expect(rt, "memory");
-            bytes.extend_from_slice(b"SKKDESK\x02").expect(rt, "memory");
+            bytes.extend_from_slice(b"SKKDESK\x03").expect(rt, "memory");
             bytes
                 .extend_from_slice(&generation.to_le_bytes())
                 .expect(rt, "memory");

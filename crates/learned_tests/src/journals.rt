@@ -11,10 +11,12 @@ use std::process::Abort;
 const LEARNING: &[u8] = b"\x01\x01\0\x01\0\0\0\0\0\0\0\x01\0\0\0\0\0\0\0\0\
     \xe3\x81\x8b\xe3\x82\x93\xe3\x81\x98 /\xe6\xbc\xa2\xe5\xad\x97/";
 
-// A new file, one of version 2, and the file with that record.
+// A new file, one of version 2, one of version 3, and the file with that record.
 const NEW_FILE: &[u8] = b"\x01SKKDESK\x01\x01\0\0\0\0\0\0\0\0";
 
-pub(crate) const NEW_FILE_OF_TWO: &[u8] = b"\x01SKKDESK\x02\x01\0\0\0\0\0\0\0\0";
+const NEW_FILE_OF_TWO: &[u8] = b"\x01SKKDESK\x02\x01\0\0\0\0\0\0\0\0";
+
+pub(crate) const NEW_FILE_OF_THREE: &[u8] = b"\x01SKKDESK\x03\x01\0\0\0\0\0\0\0\0";
 
 pub(crate) const LEARNT_FILE: &[u8] = b"\x01SKKDESK\x01\x01\0\0\0\0\0\0\0\x01\x26\0\0\0\
     \x01\x01\0\x01\0\0\0\0\0\0\0\x01\0\0\0\0\0\0\0\0\

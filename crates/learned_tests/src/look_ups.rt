@@ -7,7 +7,7 @@ use dict_format::read_file;
 use dict_layers::System;
 use expectations::same_at;
 use learned_store::Store;
-use skk_calls::{Answer, Books, Call, Cand, Cands, Part, Reply, RowKey};
+use skk_calls::{Answer, BookList, Books, Call, Cand, Cands, Part, Reply, RowKey};
 use skk_disk::{Disk, MemDisk};
 use skk_text::{Copies, Text};
 use std::alloc::Global;
@@ -24,6 +24,8 @@ enum LookUpStep<'a> {
     Purge(u16, &'a str),
     // Learns a word in a book.
     Learn(u16, &'a str),
+    // Gives a typist a list of books.
+    Share(u16, &'a [u16]),
 }
 
 // A step, what the answer tells, and whether what typist 1 finds is kept then.
@@ -36,10 +38,19 @@ static STEPS: &[(LookUpStep<'static>, &str, bool)] = &[
     // The shared book is another one than the typist's.
     (LookUpStep::Learn(0, "監事"), "Learned", false),
     (LookUpStep::Find(1), "監事 幹事;宴会の 感じ ", true),
+    // A list of books lets all go, be it another typist's.
+    (LookUpStep::Share(2, &[7]), "Done(Shared)", false),
+    (LookUpStep::Find(1), "監事 幹事;宴会の 感じ ", true),
+    (LookUpStep::Share(1, &[7]), "Done(Shared)", false),
+    (LookUpStep::Find(1), "幹事;宴会の 感じ ", true),
+    (LookUpStep::Share(1, &[0, 7]), "Done(Shared)", false),
+    (LookUpStep::Find(1), "監事 幹事;宴会の 感じ ", true),
+    // So does one that is the typist's already.
+    (LookUpStep::Share(1, &[0, 7]), "Done(Unchanged)", false),
 ];
 
 #[test]
-fn what_a_look_up_found_is_kept_until_a_row_of_its_reading_changes(rt: HostRuntime) {
+fn what_a_look_up_found_is_kept_until_a_row_of_its_reading_or_a_list_changes(rt: HostRuntime) {
     expect_steps(&rt, rt.alloc())
 }
 
@@ -96,6 +107,10 @@ fn call_of<R: Abort>(rt: &R, alloc: Global, step: LookUpStep) -> Call
             key,
             okuri: None,
             cand: cand(rt, alloc, word),
+        },
+        LookUpStep::Share(who, books) => Call::Share {
+            who,
+            books: BookList::new(books).expect(rt, "a list"),
         },
     }
 }

@@ -1,5 +1,5 @@
 use crate::files::{FileContent, KASA, ONCE, bytes_of};
-use crate::journals::{NEW_FILE_OF_TWO, disk_of_both, expect_file};
+use crate::journals::{NEW_FILE_OF_THREE, disk_of_both, expect_file};
 use crate::stores::{lines, open_file};
 use expectations::same_at;
 use skk_disk::{Disk, MemDisk, Which};
@@ -263,7 +263,7 @@ fn expect_pairs<R: Abort>(rt: &R, alloc: Global) {
 // Tells what two files are opened as, and what they have then.
 fn expect_opening<R: Abort>(rt: &R, alloc: Global, a: &[u8], b: &[u8], opening: PairOpening) {
     let (wanted, left) = match opening {
-        PairOpening::Anew => ("", NEW_FILE_OF_TWO),
+        PairOpening::Anew => ("", NEW_FILE_OF_THREE),
         PairOpening::Told(told) => (told, a),
     };
     let disk = disk_of_both(rt, alloc, a, b, &[]);

@@ -1,6 +1,6 @@
 use crate::files::{FileContent, TWICE, bytes_of};
 use crate::images::{LEARNING, counts_left};
-use crate::journals::{NEW_FILE_OF_TWO, disk_of_both, expect_file, kinds};
+use crate::journals::{NEW_FILE_OF_THREE, disk_of_both, expect_file, kinds};
 use crate::stores::{ask_each, lines, open_file, opened_file};
 use expectations::same_at;
 use skk_disk::{Disk, MemDisk, Which};
@@ -245,7 +245,7 @@ fn expect_opening<R: Abort>(rt: &R, alloc: Global, a: &[u8], b: &[u8], call: u64
     same_at(rows.as_str(), "", call).expect(rt, "as wanted");
     let mut disk = store.close();
     expect_left(rt, alloc, &disk, &[0], call);
-    expect_file(rt, alloc, &mut disk, Which::A, NEW_FILE_OF_TWO);
+    expect_file(rt, alloc, &mut disk, Which::A, NEW_FILE_OF_THREE);
     expect_file(rt, alloc, &mut disk, Which::B, b);
 }
 

@@ -6,7 +6,7 @@ use crate::journals::{LEARNT_FILE, disk_of, kinds, text};
 use dict_layers::System;
 use expectations::same_at;
 use learned_store::Store;
-use skk_calls::{Answer, Books, Call, Cand, Cands, Learned, Part, Reply, RowKey};
+use skk_calls::{Answer, BookList, Books, Call, Cand, Cands, Learned, Part, Reply, RowKey};
 use skk_disk::{Disk, MemDisk};
 use skk_journal::Unopened;
 use skk_text::{Copies, Text, Texts};
@@ -30,6 +30,8 @@ pub(crate) enum StoreStep<'a> {
     Purge(&'a str, &'a str),
     // Gives the word of a reading a note.
     Annotate(&'a str, &'a str, &'a str),
+    // Gives a typist a list of books.
+    Share(u16, &'a [u16]),
     // Takes back what was learnt last.
     Unlearn,
     // Finds the words of a reading.
@@ -467,6 +469,42 @@ pub(crate) fn opening_text<D: Disk + Drop>(rt: &impl Abort, alloc: Global, disk:
     }
 }
 
+// The words that a typist finds for a reading in the learned file of a disk, each with a space behind it, or why that
+// is refused.
+pub(crate) fn found_text<D: Disk + Drop>(
+    rt: &impl Abort,
+    alloc: Global,
+    disk: D,
+    who: u16,
+    reading: &str,
+) -> String {
+    match open_file(rt, alloc, disk, FAR) {
+        Ok(store) => found_in(rt, alloc, store, who, reading),
+        Err(unopened) => format!(in alloc; "{}", unopened.why).expect(rt, "memory"),
+    }
+}
+
+// The words that a typist finds for a reading in a store, each with a space behind it.
+fn found_in<D: Disk + Drop>(
+    rt: &impl Abort,
+    alloc: Global,
+    mut store: Store<D>,
+    who: u16,
+    reading: &str,
+) -> String {
+    let look_up = Call::Lookup {
+        who,
+        key: key(rt, alloc, reading),
+        okuri: None,
+    };
+    let answer = answer(alloc, &mut store, look_up);
+    let mut told = String::new(alloc);
+    if let Answer::Done(reply) = &answer {
+        add_reply(rt, &mut told, alloc, reply);
+    }
+    told
+}
+
 // Opens the new file of a disk with a limit, asks for steps, and closes it.
 pub(crate) fn disk_after<D: Disk + Drop>(
     rt: &impl Abort,
@@ -609,6 +647,7 @@ fn call_of(rt: &impl Abort, alloc: Global, step: StoreStep, learnings: &mut Vec<
         StoreStep::LearnLong(letter, count) => learning_long(rt, alloc, letter, count),
         StoreStep::Purge(reading, word) => purging(rt, alloc, reading, word),
         StoreStep::Annotate(reading, word, note) => annotating(rt, alloc, reading, word, note),
+        StoreStep::Share(who, books) => sharing(rt, who, books),
         StoreStep::Unlearn => unlearning(rt, learnings),
         StoreStep::Find(reading) => finding(rt, alloc, reading),
         StoreStep::Complete(prefix) => completing(rt, alloc, prefix),
@@ -651,6 +690,15 @@ fn annotating(rt: &impl Abort, alloc: Global, reading: &str, word: &str, note: &
         book: 1,
         key: key(rt, alloc, reading),
         cand: Cand::new(word, note).expect(rt, "a candidate"),
+    }
+}
+
+fn sharing(rt: &impl Abort, who: u16, books: &[u16]) -> Call
+    ensures { is_fit result ≡ true }
+{
+    Call::Share {
+        who,
+        books: BookList::new(books).expect(rt, "a list"),
     }
 }
 

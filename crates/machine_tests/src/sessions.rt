@@ -55,6 +55,7 @@ fn answer_by(rt: &impl Abort, alloc: Global, word: &str, call: &Call) -> Answer
         Call::Learn { book, key, .. } => learning_answer(rt, alloc, word, *book, key),
         Call::Purge { .. } => purge_answer(word),
         Call::Annotate { .. } => annotation_answer(word),
+        Call::Share { .. } => sharing_answer(word),
         Call::Unlearn { .. } => unlearning_answer(word),
     }
 }
@@ -123,6 +124,17 @@ fn annotation_answer(word: &str) -> Answer
         "annotated" => Answer::Done(Reply::Annotated),
         "unchanged" => Answer::Done(Reply::Unchanged),
         _ => other_answer(word),
+    }
+}
+
+// What the giving of a list of books is answered.
+fn sharing_answer(word: &str) -> Answer
+    ensures { (who : ℕ) (books : List ℕ) → may_answer (calls.Share who books) result ≡ true }
+{
+    match word {
+        "shared" => Answer::Done(Reply::Shared),
+        "unchanged" => Answer::Done(Reply::Unchanged),
+        _ => Answer::Refused(refusal_by(word)),
     }
 }
 

@@ -1,13 +1,16 @@
 -- Sessions whose typists are apart print what they print where all calls are answered one after another.
 use Rattle.std.proofs.Common.{◌≡◌, ◌∙◌, ap, sym, subst, refl, arith, ℕ, ◌==◌, Bool, true, false, cond}
-use Rattle.std.proofs.Common.{None, Some, List, [], ◌∷◌, ◌++◌, append_assoc}
-use Rattle.std.proofs.lemmas.Bool.{and_parts, eq-eqb, eqb-true}
+use Rattle.std.proofs.Common.{None, Some, List, [], ◌∷◌, ◌++◌, ◌&&◌, All, not, append_assoc}
+use Rattle.std.proofs.lemmas.Bool.{and_from, and_parts, cond_both, eq-eqb, eqb-true, not-true}
 use Rattle.std.proofs.lemmas.List.{append-nil, map-append}
-use Rattle.std.specs.List.{fold, list_all}
+use Rattle.std.specs.List.{filter, fold, list_all}
 use Rattle.romaji_rules.specs.declared.rule.Rule.{Rule}
 use Rattle.skk_calls.specs.declared.answer.Answer.{Answer}
 use Rattle.skk_calls.specs.declared.call.Call.{Call}
-use Rattle.skk_calls.specs.Dictionary.{after}
+use Rattle.skk_calls.specs.declared.call.Call.TheVariants.{Lookup, Complete, Learn, Purge, Annotate, Share, Unlearn}
+use Rattle.skk_calls.specs.declared.book_list.TypistList.{TypistList}
+use Rattle.skk_calls.specs.BookLists.{has_number}
+use Rattle.skk_calls.specs.Dictionary.{after, is_share, moves, state_moved}
 use Rattle.skk_calls.specs.declared.entry.Entry.{Entry}
 use Rattle.skk_calls.specs.Histories.{after_calls, dialog}
 use Rattle.skk_calls.specs.InteractionLaws.{leads-on}
@@ -15,9 +18,11 @@ use Rattle.skk_calls.specs.Interactions.{Interaction, ends, asks, prints, follow
 use Rattle.skk_calls.specs.Interactions.{printing}
 use Rattle.skk_calls.specs.Interactions.{calls_of, answers_of, IsAnsweredAlone, printed_alone}
 use Rattle.skk_calls.specs.Rows.{Row}
-use Rattle.skk_calls.specs.States.{State}
+use Rattle.skk_calls.specs.States.{State, books_read, list_in, listed_books}
+use Rattle.dict_laws.specs.Filtered.{all_both}
 use Rattle.dict_laws.specs.OwnBooks.{owner, is_own, LookAlike, AsksOwn}
 use Rattle.dict_laws.specs.OwnBookLaws.{own_dialog_alike, alone_gives_own, own_led, others_leave_alike}
+use Rattle.dict_laws.specs.ReadBooks.{SameRows, read_alike}
 use Rattle.skk_text.specs.declared.key.Key.{Key}
 use Rattle.key_scripts.specs.Script.{session_of, own_lines, gives_keys}
 use Rattle.key_scripts.specs.declared.line.Line.{Line}
@@ -171,10 +176,40 @@ starts-on typist session [] own keys = own
 starts-on typist session (Keys number ks ∷ lines) own keys = (own, keys)
 starts-on typist session (Opening number other book ∷ lines) own keys = absurd (cc keys)
 
-module _ (files : List (List Row)) (table : List Rule) (typist_of : ℕ → ℕ) (named : ℕ → Bool)
+-- calls that are a typist's own leave the lists of books
+moved-lists : (state : State) (call : Call) → is_share call ≡ false → (state_moved state call).lists ≡ state.lists
+moved-lists state (Lookup who key okuri) e = refl
+moved-lists state (Complete who prefix) e = refl
+moved-lists state (Learn book key okuri cand) e = refl
+moved-lists state (Purge book key word) e = refl
+moved-lists state (Annotate book key cand) e = refl
+moved-lists state (Share who books) e = absurd (cc)
+moved-lists state (Unlearn learned) e = refl
+
+own-lists : (writer : ℕ) (calls : List Call) (state : State) → list_all (is_own writer) calls ≡ true
+    → (after_calls state calls).lists ≡ state.lists
+own-lists writer [] state own = refl
+own-lists writer (call ∷ calls) state own =
+    let owns = and_parts (is_own writer call) (list_all (is_own writer) calls) own in
+    let kept = not-true (is_share call) (and_parts (not (is_share call)) (owner call == writer) owns.0).0 in
+    own-lists writer calls (after state call) owns.1
+    ∙ cond_both (moves state call) (state_moved state call) state (λ s. s.lists ≡ state.lists)
+    (λ _. moved-lists state call kept) (λ _. refl)
+
+-- what looks like a state that looks like another looks like that
+alike-on : (typist : ℕ) (alone all next : State) → LookAlike typist alone all → LookAlike typist all next
+    → LookAlike typist alone next
+alike-on typist alone all next alike leaves = (
+  leaves.0 ∙ alike.0,
+  leaves.1 ∙ alike.1,
+  all_both (SameRows alone all) (SameRows all next) (SameRows alone next) (λ number one two. two ∙ one)
+      (books_read alone typist) alike.2
+      (subst (λ books. All (SameRows all next) books) (read_alike [] alone all typist alike.1 alike.2) leaves.2),
+)
+
+module _ (files : List (List Row)) (start : State) (table : List Rule) (typist_of : ℕ → ℕ) (named : ℕ → Bool)
     (apart : (number other : ℕ) → named number ≡ true → named other ≡ true → (other == number) ≡ false
-    → (typist_of number == typist_of other) ≡ false)
-    (private : (number : ℕ) → named number ≡ true → (typist_of number == 0) ≡ false)
+    → has_number (books_read start (typist_of other)) (typist_of number) ≡ false)
     (new_own : (typist : ℕ) → IsOwn typist (new_session typist typist))
     (keys_own : (typist : ℕ) (session : Session) (ks : List Key) → IsOwn typist session
     → AsksOwn typist (IsOwn typist) (all_pressed table session ks))
@@ -187,6 +222,7 @@ module _ (files : List (List Row)) (table : List Rule) (typist_of : ℕ → ℕ)
     pub leads : Leads (own_typing table session own) dialog [] (ends (ended number))
     pub answered : IsAnsweredAlone files alone dialog
     pub alike : LookAlike (typist_of number) alone all
+    pub lists : all.lists ≡ start.lists
     pub starts : StartsOwn (typist_of number) session own
 
   -- what is known of each session that is named
@@ -202,16 +238,23 @@ module _ (files : List (List Row)) (table : List Rule) (typist_of : ℕ → ℕ)
 
   -- own calls of another typist leave a state that looks alike
   others-leave : (writer number : ℕ) (calls : List Call) (alone all : State)
-      → (writer == typist_of number) ≡ false → (writer == 0) ≡ false
+      → has_number (books_read start (typist_of number)) writer ≡ false → all.lists ≡ start.lists
       → list_all (is_own writer) calls ≡ true
       → LookAlike (typist_of number) alone all → LookAlike (typist_of number) alone (after_calls all calls)
-  others-leave writer number [] alone all differ shared own alike = alike
-  others-leave writer number (call ∷ calls) alone all differ shared own alike =
+  others-leave writer number [] alone all unread lists own alike = alike
+  others-leave writer number (call ∷ calls) alone all unread lists own alike =
       let owns = and_parts (is_own writer call) (list_all (is_own writer) calls) own in
-      let is : owner call ≡ writer = eqb-true (owner call) writer owns.0 in
-      let leaves = others_leave_alike all (typist_of number) call (grind (arith, is)) (grind (arith, is)) in
-      others-leave writer number calls alone (after all call) differ shared owns.1
-      (leaves.0 ∙ alike.0, leaves.1 ∙ alike.1, leaves.2 ∙ alike.2)
+      let parts = and_parts (not (is_share call)) (owner call == writer) owns.0 in
+      let is : owner call ≡ writer = eqb-true (owner call) writer parts.1 in
+      let reads : has_number (books_read all (typist_of number)) (owner call) ≡ false =
+      ap (λ (all_lists : List TypistList). has_number (typist_of number
+      ∷ filter (λ book. not (book == typist_of number)) (listed_books (list_in (typist_of number) all_lists)))
+      (owner call)) lists
+      ∙ ap (has_number (books_read start (typist_of number))) is ∙ unread in
+      let leaves = others_leave_alike all (typist_of number) call (not-true (is_share call) parts.0) reads in
+      others-leave writer number calls alone (after all call) unread
+      (own-lists writer (call ∷ []) all (and_from (is_own writer call) true owns.0 refl) ∙ lists) owns.1
+      (alike-on (typist_of number) alone all (after all call) alike leaves)
 
   -- what is woven of lines is what is printed where all calls are answered one after another
   abbrev Alone : List Line → Type 0
@@ -261,6 +304,7 @@ module _ (files : List (List Row)) (table : List Rule) (typist_of : ℕ → ℕ)
             leads = known.leads;
             answered = known.answered;
             alike = known.alike;
+            lists = known.lists;
             starts =
                 starts-on (typist_of number) opened (own_lines number lines)
                 (subst (λ t. IsOwn (typist_of number) (new_session t book)) (sym known.starts.0)
@@ -373,6 +417,7 @@ module _ (files : List (List Row)) (table : List Rule) (typist_of : ℕ → ℕ)
               leads = led_on;
               answered = answered.1;
               alike = both.1;
+              lists = own-lists (typist_of number) (calls_of parts.first) all own.0 ∙ known.lists;
               starts = starts-on (typist_of number) parts.middle (own_lines number lines) own.1 known.starts.1;
             }))
         by false differ =
@@ -393,7 +438,8 @@ module _ (files : List (List Row)) (table : List Rule) (typist_of : ℕ → ℕ)
               answered = before.answered;
               alike =
                   others-leave (typist_of number) other (calls_of parts.first) (states other) all
-                  (apart number other is_named other_named differ) (private number is_named) own.0 before.alike;
+                  (apart number other is_named other_named differ) known.lists own.0 before.alike;
+              lists = own-lists (typist_of number) (calls_of parts.first) all own.0 ∙ known.lists;
               starts = before.starts;
             }
 

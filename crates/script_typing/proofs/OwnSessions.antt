@@ -1,6 +1,6 @@
 -- Lines that open no session: each session is its own typist.
 use Rattle.std.specs.Bool.{⊤}
-use Rattle.std.proofs.Common.{◌≡◌, sym, subst, refl, arith, ℕ, ◌==◌, Bool, true, false, not, drop}
+use Rattle.std.proofs.Common.{◌≡◌, ◌||◌, ap, sym, subst, refl, arith, ℕ, ◌==◌, Bool, true, false, not, drop}
 use Rattle.std.proofs.Common.{◌&&◌, List, [], ◌∷◌, ◌++◌, map}
 use Rattle.std.proofs.lemmas.Bool.{and_from}
 use Rattle.std.proofs.lemmas.List.Folds.{list_all-append}
@@ -8,13 +8,16 @@ use Rattle.std.specs.BTreeMap.{insert_entry}
 use Rattle.std.specs.List.{fold, list_all}
 use Rattle.std.specs.Ordering.{nat_cmp}
 use Rattle.skk_text.specs.PairsLaws.{list_all-filter, list_all-weaker}
+use Rattle.skk_calls.specs.declared.book_list.TypistList.{TypistList}
+use Rattle.skk_calls.specs.BookLists.{has_number}
+use Rattle.skk_calls.specs.States.{State, list_in, listed_books, shared_books}
 use Rattle.key_scripts.specs.Script.{OpenFirst, gives_keys, opens_well, own_lines, session_of}
 use Rattle.key_scripts.specs.declared.line.Line.{Line}
 use Rattle.key_scripts.specs.declared.line.Line.TheVariants.{Keys, Opening}
 use Rattle.session_machine.specs.Session.{Session, new_session}
 use Rattle.script_typing.specs.MapLaws.{Ascend, AreAbove}
 use Rattle.script_typing.specs.Woven.{Tasks, lines_at, with_line, tasks_of, first_session, is_private, differ}
-use Rattle.script_typing.specs.Woven.{are_apart}
+use Rattle.script_typing.specs.Woven.{are_apart, read_apart}
 use Rattle.script_typing.proofs.Tasks.{ascend-tasks}
 
 -- a line that gives keys opens nothing
@@ -93,15 +96,49 @@ all-differ : (tasks : Tasks) → Ascend tasks
 all-differ [] ascend = refl
 all-differ (task ∷ tasks) ascend = grind (arith, above-differ task.0 tasks ascend.0, all-differ tasks ascend.1)
 
-pub keys-apart : (lines : List Line) → list_all gives_keys lines ≡ true
-    → list_all (λ line. not (session_of line == 0)) lines ≡ true → are_apart lines ≡ true
-keys-apart lines keys some =
+-- and is not 0
+all-some : (tasks : Tasks) → AreKeys tasks
+    → list_all (λ typist. not (typist == 0))
+    (map (λ (s : Session). s.typist) (map (λ task. new_session task.0 task.0) tasks)) ≡ true
+all-some [] are = refl
+all-some (task ∷ tasks) are = grind (arith, are.1, all-some tasks are.2)
+
+-- where no typist has a list each reads the shared book alone beside the own one
+shared-alone : (state : State) → state.lists ≡ [] → (typist : ℕ) → shared_books state typist ≡ 0 ∷ []
+shared-alone state none typist = ap (λ (lists : List TypistList). listed_books (list_in typist lists)) none
+
+others-unread : (state : State) → state.lists ≡ [] → (typist : ℕ) (typists : List ℕ)
+    → list_all (λ other. not (other == 0)) typists ≡ true
+    → list_all (λ other. other == typist || not (has_number (shared_books state typist) other)) typists ≡ true
+others-unread state none typist [] some = refl
+others-unread state none typist (other ∷ typists) some =
+    grind (arith, shared-alone state none typist, others-unread state none typist typists)
+
+all-unread : (state : State) → state.lists ≡ [] → (typists readers : List ℕ)
+    → list_all (λ other. not (other == 0)) typists ≡ true
+    → list_all (λ typist.
+    list_all (λ other. other == typist || not (has_number (shared_books state typist) other)) typists) readers ≡ true
+all-unread state none typists [] some = refl
+all-unread state none typists (reader ∷ readers) some =
+    and_from
+    (list_all (λ other. other == reader || not (has_number (shared_books state reader) other)) typists)
+    (list_all (λ typist.
+    list_all (λ other. other == typist || not (has_number (shared_books state typist) other)) typists) readers)
+    (others-unread state none reader typists some) (all-unread state none typists readers some)
+
+pub keys-apart : (state : State) (lines : List Line) → state.lists ≡ [] → list_all gives_keys lines ≡ true
+    → list_all (λ line. not (session_of line == 0)) lines ≡ true → are_apart state lines ≡ true
+keys-apart state lines none keys some =
+    let typists = map (λ (s : Session). s.typist)
+    (map (λ (t : ℕ × List Line). new_session t.0 t.0) (tasks_of lines)) in
     subst (λ (sessions : List Session). (list_all is_private sessions
-    && differ (map (λ (s : Session). s.typist) sessions)) ≡ true)
+    && (differ (map (λ (s : Session). s.typist) sessions)
+    && read_apart state (map (λ (s : Session). s.typist) sessions))) ≡ true)
     (sym (firsts (tasks_of lines) are))
     (and_from (list_all is_private (map (λ (t : ℕ × List Line). new_session t.0 t.0) (tasks_of lines)))
-    (differ (map (λ (s : Session). s.typist) (map (λ (t : ℕ × List Line). new_session t.0 t.0) (tasks_of lines))))
-    (all-private (tasks_of lines) are) (all-differ (tasks_of lines) (ascend-tasks [] lines tt)))
+    (differ typists && read_apart state typists) (all-private (tasks_of lines) are)
+    (and_from (differ typists) (read_apart state typists) (all-differ (tasks_of lines) (ascend-tasks [] lines tt))
+    (all-unread state none typists typists (all-some (tasks_of lines) are))))
   where
     are : AreKeys (tasks_of lines)
     are = keys-tasks [] lines tt keys some

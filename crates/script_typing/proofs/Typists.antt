@@ -6,7 +6,7 @@ use Rattle.std.proofs.lemmas.Bool.{and_parts, ne_eqb}
 use Rattle.std.proofs.lemmas.Bool.{ltb-true, lt-ltb}
 use Rattle.std.proofs.lemmas.List.Sums.{sum_by-cons}
 use Rattle.std.proofs.lemmas.List.{length-map, get_or-map}
-use Rattle.std.specs.List.{list_all, count_by}
+use Rattle.std.specs.List.{list_all, count_by, filter}
 use Rattle.romaji_rules.specs.declared.rule.Rule.{Rule}
 use Rattle.skk_calls.specs.declared.answer.Answer.{Answer}
 use Rattle.skk_calls.specs.declared.entry.Entry.{Entry}
@@ -14,11 +14,12 @@ use Rattle.skk_calls.specs.Histories.{Opening as opening_value, after_entry, dia
 use Rattle.skk_calls.specs.InteractionLaws.{led-end}
 use Rattle.skk_calls.specs.Interactions.{Dialog, Leads, ends, calls_of, IsAnsweredAlone, printed_alone}
 use Rattle.skk_calls.specs.Openings.{is_reply}
-use Rattle.skk_calls.specs.States.{State}
+use Rattle.skk_calls.specs.BookLists.{has_number}
+use Rattle.skk_calls.specs.States.{State, books_read, shared_books}
 use Rattle.skk_calls.specs.Tallies.{tally_of, has_answer, tells_learned, tells_restored, lacks_memory, lacks_disk}
 use Rattle.skk_calls.specs.Tallies.{lacks_room}
 use Rattle.dict_laws.specs.OwnBooks.{is_own, is_own_entry, is_apart, gives_own, GivesOwn, AsksOwn}
-use Rattle.dict_laws.specs.OwnBookLaws.{only_followed, own_entries, own_led}
+use Rattle.dict_laws.specs.OwnBookLaws.{alike_itself, only_followed, own_entries, own_led}
 use Rattle.skk_text.specs.PairsLaws.{list_all-filter, list_all-weaker}
 use Rattle.skk_text.specs.declared.key.Key.{Key}
 use Rattle.key_scripts.specs.Script.{session_of, own_lines, gives_keys, opens_well, OpenFirst}
@@ -34,11 +35,25 @@ use Rattle.script_typing.specs.PlayingLaws.{entries_by, said_in_all, led-alone}
 use Rattle.script_typing.specs.Sessions.{session_or_new}
 use Rattle.script_typing.specs.Typed.{typing}
 use Rattle.script_typing.specs.Woven.{Tasks, tasks_of, lines_at, own_typing, woven, place_of, answers_by}
-use Rattle.script_typing.specs.Woven.{first_session, is_private, are_apart, differ}
+use Rattle.script_typing.specs.Woven.{first_session, is_private, are_apart, differ, read_apart}
 use Rattle.script_typing.proofs.Apart.{StartsOwn, starts-on, IsApart, alone-woven, IsPlayed, played-apart}
 use Rattle.script_typing.proofs.Places.{number_at, first_at, place-at, number-at, lines-here, lines-there, first-at}
 use Rattle.script_typing.proofs.Places.{are_some, some-placed, all-named, all-at, differ-at}
 use Rattle.script_typing.proofs.Tasks.{ascend-tasks, own-lines_of}
+
+-- Books that are read
+
+-- what stands not among books stands not among some of them
+some-lack : (test : ℕ → Bool) (books : List ℕ) (number : ℕ) → has_number books number ≡ false
+    → has_number (filter test books) number ≡ false
+some-lack test [] number none = refl
+some-lack test (book ∷ books) number none = grind (arith, some-lack test books number)
+
+-- a typist reads no book of another whose number the typist's list lacks
+own-unread : (state : State) (typist other : ℕ) → (other == typist) ≡ false
+    → has_number (shared_books state typist) other ≡ false → has_number (books_read state typist) other ≡ false
+own-unread state typist other differ none =
+    grind (arith, some-lack (λ number. not (number == typist)) (shared_books state typist) other none)
 
 -- Histories
 
@@ -167,13 +182,13 @@ module _ (table : List Rule)
   module _ (opening : opening_value) (history : List Entry) (lines : List Line)
       (given_own : (typist number : ℕ) → GivesOwn typist (dialog history number))
       (answered_alone : (typist_of : ℕ → ℕ) (number : ℕ) → list_all (is_own_entry typist_of) history ≡ true
-      → list_all (is_apart typist_of number) history ≡ true
+      → list_all (is_apart opening.state typist_of number) history ≡ true
       → list_all (λ pair. is_reply pair.1) (dialog history number) ≡ true
       → IsAnsweredAlone opening.files opening.state (dialog history number))
       (well : list_all opens_well lines ≡ true) (first : OpenFirst lines)
       (served : list_all (λ entry. is_reply entry.answer) history ≡ true)
       (strangers : (number : ℕ) → length (tasks_of lines) ≤ number → dialog history number ≡ [])
-      (leads : LeadFrom table (dialog history) 0 (tasks_of lines)) (apart : are_apart lines ≡ true) where
+      (leads : LeadFrom table (dialog history) 0 (tasks_of lines)) (apart : are_apart opening.state lines ≡ true) where
     abbrev tasks : Tasks
     tasks = tasks_of lines
 
@@ -186,20 +201,22 @@ module _ (table : List Rule)
     ascend : Ascend tasks
     ascend = ascend-tasks [] lines tt
 
+    abbrev typists : List ℕ
+    typists = map (λ (s : Session). s.typist) (map (λ task. first_session task.0 task.1) tasks)
+
     parts : (list_all is_private (map (λ task. first_session task.0 task.1) tasks) ≡ true)
-        × (differ (map (λ (s : Session). s.typist) (map (λ task. first_session task.0 task.1) tasks)) ≡ true)
+        × (differ typists ≡ true) × (read_apart opening.state typists ≡ true)
     parts =
+        let both =
         and_parts (list_all is_private (map (λ task. first_session task.0 task.1) tasks))
-        (differ (map (λ (s : Session). s.typist) (map (λ task. first_session task.0 task.1) tasks))) apart
+        (differ typists && read_apart opening.state typists) apart in
+        let others = and_parts (differ typists) (read_apart opening.state typists) both.1 in
+        (both.0, others.0, others.1)
 
     private-at : (place : ℕ) → place < length tasks → is_private (first_at tasks place) ≡ true
     private-at place within =
         all-at is_private (map (λ task. first_session task.0 task.1) tasks) place (new_session 0 0)
         (omega (arith, within, length-map tasks (λ (task : ℕ × List Line). first_session task.0 task.1))) parts.0
-
-    -- no typist is 0
-    not-shared : (place : ℕ) → place < length tasks → (typist_at place == 0) ≡ false
-    not-shared place within = grind (arith, private-at place within)
 
     -- own lines start as their typist's
     starts-at : (number : ℕ) → place_of tasks number < length tasks
@@ -238,9 +255,6 @@ module _ (table : List Rule)
     own-at place =
         grind (arith, strangers place, place-at tasks place ascend, own-named (number_at tasks place))
 
-    abbrev typists : List ℕ
-    typists = map (λ (s : Session). s.typist) (map (λ task. first_session task.0 task.1) tasks)
-
     typists-long : length typists ≡ length tasks
     typists-long =
         length-map (map (λ (task : ℕ × List Line). first_session task.0 task.1) tasks) (λ (s : Session). s.typist)
@@ -264,12 +278,33 @@ module _ (table : List Rule)
           typist-there other also,
         )
 
+    -- and none reads the other's book
+    unread : (place other : ℕ) → place < length tasks → other < length tasks → place ≢ other
+        → has_number (books_read opening.state (typist_at place)) (typist_at other) ≡ false
+    unread place other within also places =
+        let apart_by : ℕ → ℕ → Bool = λ typist writer.
+        writer == typist || not (has_number (shared_books opening.state typist) writer) in
+        let reader : list_all (apart_by (get_or typists place 0)) typists ≡ true =
+        all-at (λ typist. list_all (apart_by typist) typists) typists place 0 (omega (arith, within, typists-long))
+        parts.2 in
+        let writer : apart_by (get_or typists place 0) (get_or typists other 0) ≡ true =
+        all-at (apart_by (get_or typists place 0)) typists other 0 (omega (arith, also, typists-long)) reader in
+        own-unread opening.state (typist_at place) (typist_at other) (differs place other within also places)
+        (grind (
+          arith,
+          writer,
+          differs place other within also places,
+          typist-there place within,
+          typist-there other also,
+        ))
+
     -- each entry is of a caller, or of one that is apart from it
-    apart-from : (place : ℕ) → place < length tasks → list_all (is_apart typist_at place) history ≡ true
+    apart-from : (place : ℕ) → place < length tasks
+        → list_all (is_apart opening.state typist_at place) history ≡ true
     apart-from place within =
         by-entries (λ other. other == place
-        || (not (typist_at other == typist_at place) && not (typist_at other == 0))) history
-        (λ other said. grind (arith, strangers other, differs place other within, not-shared other))
+        || not (has_number (books_read opening.state (typist_at place)) (typist_at other))) history
+        (λ other said. grind (arith, strangers other, unread place other within))
 
     -- so each caller is answered as if it called alone
     alone-at : (place : ℕ) → place < length tasks
@@ -302,29 +337,28 @@ module _ (table : List Rule)
         grind (arith, number-at tasks other, number-at tasks number)
 
     apart-named : (number other : ℕ) → named number ≡ true → named other ≡ true → (other == number) ≡ false
-        → (typist_of number == typist_of other) ≡ false
+        → has_number (books_read opening.state (typist_of other)) (typist_of number) ≡ false
     apart-named number other is also differ_is =
-        differs (place_of tasks other) (place_of tasks number) (placed other also) (placed number is)
+        unread (place_of tasks other) (place_of tasks number) (placed other also) (placed number is)
         (λ same. places-differ number other is also differ_is (sym same))
 
     known : (number : ℕ) → named number ≡ true
-        → IsApart opening.files table typist_of named apart-named
-        (λ n is. not-shared (place_of tasks n) (placed n is)) new_own keys_own ended number
+        → IsApart opening.files opening.state table typist_of named apart-named new_own keys_own ended number
         (new_session number number) (own_lines number lines) (answers_by (dialog history) tasks number)
         (dialog history (place_of tasks number)) opening.state opening.state
     known number is = record {
       given = refl;
       leads = leads-at number (placed number is);
       answered = alone-at (place_of tasks number) (placed number is);
-      alike = (refl, refl, refl);
+      alike = alike_itself opening.state (typist_of number);
+      lists = refl;
       starts = starts-at number (placed number is);
     }
 
     pub typists-apart : woven table [] (answers_by (dialog history) tasks) lines
         ≡ printed_alone opening.files opening.state (typing table [] lines)
     typists-apart =
-        alone-woven opening.files table typist_of named apart-named
-        (λ number is. not-shared (place_of tasks number) (placed number is)) new_own keys_own ended lines []
+        alone-woven opening.files opening.state table typist_of named apart-named new_own keys_own ended lines []
         (answers_by (dialog history) tasks) (λ number. dialog history (place_of tasks number))
         (λ number. opening.state) opening.state names known
 
@@ -335,12 +369,12 @@ module _ (table : List Rule)
     places-apart number other is also differ_is =
         ne_eqb (place_of tasks number) (place_of tasks other) (places-differ number other is also differ_is)
 
-    played : IsPlayed opening.files table typist_of named apart-named
-        (λ n is. not-shared (place_of tasks n) (placed n is)) new_own keys_own ended (place_of tasks) places-apart []
+    played : IsPlayed opening.files opening.state table typist_of named apart-named new_own keys_own ended
+        (place_of tasks) places-apart []
         (λ number. dialog history (place_of tasks number)) opening.state [] lines
     played =
-        played-apart opening.files table typist_of named apart-named
-        (λ n is. not-shared (place_of tasks n) (placed n is)) new_own keys_own ended (place_of tasks) places-apart
+        played-apart opening.files opening.state table typist_of named apart-named new_own keys_own ended
+        (place_of tasks) places-apart
         lines [] (answers_by (dialog history) tasks) (λ number. dialog history (place_of tasks number))
         (λ number. opening.state) opening.state [] names tt refl known
 

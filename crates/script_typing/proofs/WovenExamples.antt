@@ -7,6 +7,8 @@ use Rattle.skk_calls.specs.declared.answer.Refusal.TheVariants.{Memory}
 use Rattle.skk_calls.specs.declared.answer.Reply.TheVariants.{Readings}
 use Rattle.skk_calls.specs.declared.call.Call.{Call}
 use Rattle.skk_calls.specs.declared.call.Call.TheVariants.{Complete}
+use Rattle.skk_calls.specs.declared.book_list.TypistList.{TypistList}
+use Rattle.skk_calls.specs.States.{empty_state}
 use Rattle.skk_calls.specs.Interactions.{Interaction, ends, asks, prints, Dialog, here}
 use Rattle.skk_text.specs.declared.key.Key.{Key}
 use Rattle.skk_text.specs.declared.key.Key.TheVariants.{Char}
@@ -130,6 +132,10 @@ sessions_first : map (first_session 3) ([] ∷ (Keys 3 [] ∷ []) ∷ (Opening 3
     ≡ new_session 3 3 ∷ new_session 3 3 ∷ new_session 5 0 ∷ []
 sessions_first = refl
 
+-- a typist with a list of books
+abbrev listed : ℕ → List ℕ → TypistList
+listed typist books = record { typist = typist; books = books }
+
 privates : map is_private (new_session 3 3 ∷ new_session 0 0 ∷ new_session 5 0 ∷ new_session 5 5 ∷ [])
     ≡ true ∷ false ∷ false ∷ true ∷ []
 privates = refl
@@ -138,11 +144,18 @@ numbers_differ : map differ ([] ∷ (1 ∷ []) ∷ (1 ∷ 2 ∷ 1 ∷ []) ∷ (1
     ≡ true ∷ true ∷ false ∷ false ∷ true ∷ []
 numbers_differ = refl
 
-typists_apart : map are_apart (
+typists_apart : map (are_apart empty_state) (
     [] ∷ (Keys 1 [] ∷ Keys 2 [] ∷ []) ∷ lines ∷ (Keys 1 [] ∷ Opening 2 1 1 ∷ []) ∷ (Keys 1 [] ∷ Opening 2 5 0 ∷ [])
     ∷ (Opening 1 2 2 ∷ Keys 2 [] ∷ []) ∷ [])
     ≡ true ∷ true ∷ true ∷ false ∷ false ∷ false ∷ []
 typists_apart = refl
+
+-- a list may have the own typist, and typists of no session, but not that of another session
+lists_apart : map (λ lists. are_apart (record empty_state { lists = lists }) (Keys 1 [] ∷ Opening 2 5 5 ∷ []))
+    ([] ∷ (listed 1 (7 ∷ 0 ∷ []) ∷ []) ∷ (listed 1 (1 ∷ 2 ∷ []) ∷ []) ∷ (listed 1 (7 ∷ 5 ∷ []) ∷ [])
+    ∷ (listed 1 (7 ∷ []) ∷ listed 5 (0 ∷ 1 ∷ []) ∷ []) ∷ (listed 2 (1 ∷ 5 ∷ []) ∷ []) ∷ [])
+    ≡ true ∷ true ∷ true ∷ false ∷ false ∷ true ∷ []
+lists_apart = refl
 
 -- Callers
 

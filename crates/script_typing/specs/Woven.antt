@@ -1,5 +1,5 @@
 -- The sessions of a script, each typed by a caller of its own, and how their lines are put together.
-use Rattle.std.specs.Prelude.{ℕ, ◌+◌, Bool, true, ◌&&◌, ◌==◌, not, if◌then◌else◌, unwrap_or, Option, None, Some}
+use Rattle.std.specs.Prelude.{ℕ, ◌+◌, Bool, true, ◌&&◌, ◌||◌, ◌==◌, not, if◌then◌else◌, unwrap_or, Option, None, Some}
 use Rattle.std.specs.Prelude.{List, [], ◌∷◌, ◌++◌, map}
 use Rattle.std.specs.BTreeMap.{insert_entry, is_at}
 use Rattle.std.specs.List.{fold, filter_map, list_all}
@@ -7,6 +7,8 @@ use Rattle.std.specs.Map.{lookup}
 use Rattle.std.specs.Ordering.{nat_cmp}
 use Rattle.romaji_rules.specs.declared.rule.Rule.{Rule}
 use Rattle.skk_calls.specs.declared.answer.Answer.{Answer}
+use Rattle.skk_calls.specs.BookLists.{has_number}
+use Rattle.skk_calls.specs.States.{State, shared_books}
 use Rattle.skk_calls.specs.Interactions.{Interaction, ends, asks, prints, followed_by, Dialog, answers_of}
 use Rattle.key_scripts.specs.Script.{session_of}
 use Rattle.key_scripts.specs.declared.line.Line.{Line}
@@ -114,8 +116,16 @@ abbrev pub differ : List ℕ → Bool
 differ [] = true
 differ (number ∷ numbers) = list_all (λ other. not (other == number)) numbers && differ numbers
 
--- the sessions that lines name have each a typist of its own, and none has the shared book
-abbrev pub are_apart : List Line → Bool
-are_apart lines =
+-- in a state the list of books of none of these typists has the number of another of them
+abbrev pub read_apart : State → List ℕ → Bool
+read_apart state typists =
+    list_all (λ typist.
+    list_all (λ other. other == typist || not (has_number (shared_books state typist) other)) typists) typists
+
+-- the sessions that lines name have each a typist of its own, none has the shared book, and in a state none reads the
+-- book of another's typist
+abbrev pub are_apart : State → List Line → Bool
+are_apart state lines =
     let sessions = map (λ task. first_session task.0 task.1) (tasks_of lines) in
-    list_all is_private sessions && differ (map (λ (session : Session). session.typist) sessions)
+    let typists = map (λ (session : Session). session.typist) sessions in
+    list_all is_private sessions && (differ typists && read_apart state typists)

@@ -5,6 +5,7 @@ ghost use Rattle.skk_calls.specs.declared.entry.Entry.{Entry};
 ghost use Rattle.skk_calls.specs.Histories.{Opening, IsLegal, dialog};
 ghost use Rattle.skk_calls.specs.Interactions.{Dialog, printed_alone};
 ghost use Rattle.skk_calls.specs.Openings.{is_reply};
+ghost use Rattle.skk_calls.specs.States.{State};
 ghost use Rattle.skk_calls.specs.Tallies.{tally_of};
 ghost use Rattle.key_scripts.specs.Script.{OpenFirst, gives_keys, opens_well, session_of};
 ghost use Rattle.key_scripts.specs.declared.line.Line.{Line};
@@ -42,14 +43,15 @@ pub fn pages_are_woven()
         → AreWoven rules lines (answers_by said (tasks_of lines)) whole pages sessions }
 {}
 
-/// A script whose typists are apart prints what it prints where one caller types all of its lines: whatever the order
-/// is in which its callers were answered, where none was refused and each has said all that its task asks.
+/// A script whose typists are apart in the state opened prints what it prints where one caller types all of its lines:
+/// whatever the order is in which its callers were answered, where none was refused and each has said all that its task
+/// asks.
 pub fn typists_apart_type_alone()
     ensures { (rules : List Rule) (lines : List Line) (opening : Opening) (history : List Entry)
         → list_all opens_well lines ≡ true → OpenFirst lines
         → IsLegal opening history → list_all (λ entry. is_reply entry.answer) history ≡ true
         → ((number : ℕ) → length (tasks_of lines) ≤ number → dialog history number ≡ [])
-        → LeadFrom rules (dialog history) 0 (tasks_of lines) → are_apart lines ≡ true
+        → LeadFrom rules (dialog history) 0 (tasks_of lines) → are_apart opening.state lines ≡ true
         → woven rules [] (answers_by (dialog history) (tasks_of lines)) lines
         ≡ printed_alone opening.files opening.state (typing rules [] lines) }
 {
@@ -58,15 +60,15 @@ pub fn typists_apart_type_alone()
     each_typist_is_answered_alone();
 }
 
-/// A script whose typists are apart comes, where each session has a caller of its own, to the sessions and to the tally
-/// that it comes to where one caller plays all of its lines: whatever the order is in which its callers were answered,
-/// where none was refused and each has said all that its task asks.
+/// A script whose typists are apart in the state opened comes, where each session has a caller of its own, to the
+/// sessions and to the tally that it comes to where one caller plays all of its lines: whatever the order is in which
+/// its callers were answered, where none was refused and each has said all that its task asks.
 pub fn typists_apart_play_alone()
     ensures { (rules : List Rule) (lines : List Line) (opening : Opening) (history : List Entry)
         → list_all opens_well lines ≡ true → OpenFirst lines
         → IsLegal opening history → list_all (λ entry. is_reply entry.answer) history ≡ true
         → ((number : ℕ) → length (tasks_of lines) ≤ number → dialog history number ≡ [])
-        → LeadFrom rules (dialog history) 0 (tasks_of lines) → are_apart lines ≡ true
+        → LeadFrom rules (dialog history) 0 (tasks_of lines) → are_apart opening.state lines ≡ true
         → (sessions_from rules (dialog history) 0 (tasks_of lines)
         ≡ end_alone opening.files opening.state (playing rules [] lines))
         × (tally_of opening.state history
@@ -79,10 +81,10 @@ pub fn typists_apart_play_alone()
 }
 
 /// Lines that open no session are those of a script, and where none names a session 0, their typists are apart: each
-/// session is its own typist, and has its own book.
+/// session is its own typist, and has its own book, where no typist has a list of books.
 pub fn sessions_of_their_own_are_apart()
     ensures well { (lines : List Line) → list_all gives_keys lines ≡ true → list_all opens_well lines ≡ true }
     ensures first { (lines : List Line) → list_all gives_keys lines ≡ true → OpenFirst lines }
-    ensures apart { (lines : List Line) → list_all gives_keys lines ≡ true
-        → list_all (λ line. not (session_of line == 0)) lines ≡ true → are_apart lines ≡ true }
+    ensures apart { (state : State) (lines : List Line) → state.lists ≡ [] → list_all gives_keys lines ≡ true
+        → list_all (λ line. not (session_of line == 0)) lines ≡ true → are_apart state lines ≡ true }
 {}

@@ -9,13 +9,14 @@ use Rattle.session_machine.specs.Session.{no_notice}
 use Rattle.session_machine.specs.declared.session_notice.SessionNotice.{SessionNotice}
 use Rattle.session_machine.specs.declared.session_notice.SessionNotice.TheVariants as told
 
--- what a reply tells: nothing where something was found or learnt
+-- what a reply tells: nothing where something was found or learnt, or a list of books was given
 abbrev pub reply_notice : Reply → SessionNotice
 reply_notice (replies.Found cands) = no_notice
 reply_notice (replies.Readings readings) = no_notice
 reply_notice (replies.Learned learned) = no_notice
 reply_notice replies.Purged = told.Purged
 reply_notice replies.Annotated = told.Annotated
+reply_notice replies.Shared = no_notice
 reply_notice replies.Unchanged = told.Unchanged
 reply_notice replies.Restored = told.Undone
 reply_notice (replies.Overtaken stamp) = told.Overtaken stamp

@@ -31,6 +31,7 @@ fn may_reply(call: &Call, reply: &Reply) -> bool
             Call::Annotate { .. },
             Reply::Annotated | Reply::Unchanged | Reply::TooBig(_) | Reply::StampsEnd,
         ) => true,
+        (Call::Share { .. }, Reply::Shared | Reply::Unchanged) => true,
         (Call::Unlearn { .. }, Reply::Restored | Reply::Overtaken(_)) => true,
         _ => false,
     }

@@ -17,14 +17,14 @@ pub(crate) fn notice_of(answer: &Answer) -> SessionNotice
     }
 }
 
-// What a reply tells: nothing where something was found or learnt.
+// What a reply tells: nothing where something was found or learnt, or a list of books was given.
 fn reply_notice(reply: &Reply) -> SessionNotice
     ensures { result ≡ reply_notice reply.now }
 {
     match reply {
-        Reply::Found(_) | Reply::Readings(_) | Reply::Learned(_) => SessionNotice::Step(
-            Notice::Empty,
-        ),
+        Reply::Found(_) | Reply::Readings(_) | Reply::Learned(_) | Reply::Shared => {
+            SessionNotice::Step(Notice::Empty)
+        }
         Reply::Purged => SessionNotice::Purged,
         Reply::Annotated => SessionNotice::Annotated,
         Reply::Unchanged => SessionNotice::Unchanged,

@@ -143,6 +143,10 @@ pub fn copy_call(alloc: Global, call: &Call) -> Result<Call, Memory>
             key: key.copy(alloc)?,
             cand: cand.copy(alloc)?,
         }),
+        Call::Share { who, books } => Ok(Call::Share {
+            who: *who,
+            books: books.copied(),
+        }),
         Call::Unlearn { learned } => Ok(Call::Unlearn {
             learned: copy_learned(alloc, learned)?,
         }),
@@ -171,6 +175,7 @@ fn copy_reply(alloc: Global, reply: &Reply) -> Result<Reply, Memory>
         Reply::Unchanged => Ok(Reply::Unchanged),
         Reply::Restored => Ok(Reply::Restored),
         Reply::Annotated => Ok(Reply::Annotated),
+        Reply::Shared => Ok(Reply::Shared),
         Reply::Overtaken(stamp) => Ok(Reply::Overtaken(*stamp)),
         Reply::TooBig(length) => Ok(Reply::TooBig(*length)),
         Reply::StampsEnd => Ok(Reply::StampsEnd),

@@ -113,7 +113,10 @@ abbrev row : List (List ℕ) → ℕ → Row
 row words stamp = record { key = key; cands = map plain words; blocks = []; hides = []; stamp = stamp }
 
 abbrev learnt : List (List ℕ) → ℕ → State
-learnt words count = record { books = record { number = 0; count = count; rows = row words count ∷ [] } ∷ [] }
+learnt words count = record {
+  books = record { number = 0; count = count; rows = row words count ∷ [] } ∷ [];
+  lists = [];
+}
 
 -- a seat with the open reading, in which no key is under way, and in which a space is
 abbrev idle : Seat

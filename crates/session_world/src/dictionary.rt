@@ -15,8 +15,11 @@ pub(crate) fn moves(alloc: Global, index: &mut Index, call: &Call) -> Result<boo
 {
     match call {
         Call::Lookup { .. } | Call::Complete { .. } => Ok(false),
-        Call::Learn { .. } | Call::Purge { .. } | Call::Annotate { .. } | Call::Unlearn { .. } =>
-            change_moves(alloc, index, call),
+        Call::Learn { .. }
+        | Call::Purge { .. }
+        | Call::Annotate { .. }
+        | Call::Share { .. }
+        | Call::Unlearn { .. } => change_moves(alloc, index, call),
     }
 }
 
@@ -29,6 +32,6 @@ fn change_moves(alloc: Global, index: &mut Index, call: &Call) -> Result<bool, M
 {
     match index.plan(alloc, call)? {
         Plan::Still(_) => Ok(false),
-        Plan::Move { .. } => Ok(true),
+        Plan::Move { .. } | Plan::Lists { .. } => Ok(true),
     }
 }

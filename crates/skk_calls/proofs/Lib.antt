@@ -7,6 +7,7 @@ pub mod InteractionExamples
 pub mod LastLetter
 pub mod LearningExamples
 pub mod LineExamples
+pub mod ListExamples
 pub mod RowExamples
 pub mod Samples
 pub mod StateExamples

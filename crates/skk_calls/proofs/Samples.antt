@@ -48,7 +48,7 @@ book number count rows = record { number = number; count = count; rows = rows }
 
 -- a state of these books
 abbrev pub books : List NumberedBook → State
-books all = record { books = all }
+books all = record { books = all; lists = [] }
 
 -- short texts
 abbrev pub a : List ℕ

@@ -6,7 +6,7 @@ use Rattle.skk_text.specs.Lists.{is_empty}
 use Rattle.skk_calls.specs.Found.{first_of_each}
 use Rattle.skk_calls.specs.Orders.{sort_by, is_newer, text_less}
 use Rattle.skk_calls.specs.Rows.{Row, same_text, same_part}
-use Rattle.skk_calls.specs.States.{State, rows_of}
+use Rattle.skk_calls.specs.States.{State, books_read, rows_of}
 
 -- a reading begins with a prefix and differs from it
 abbrev pub goes_on_from : List ℕ → List ℕ → Bool
@@ -33,12 +33,10 @@ ascending_readings prefix rows = sort_by text_less (map reading_of (filter (comp
 abbrev pub completion_limit : ℕ
 completion_limit = 256
 
--- the readings that complete a prefix in the typist's book, in the shared book where that is another, and in each
--- system file in order
+-- the readings that complete a prefix in each book that the typist reads, and in each system file, in order
 abbrev pub all_readings : List (List Row) → State → ℕ → List ℕ → List (List ℕ)
 all_readings files state who prefix =
-    newest_readings prefix (rows_of state who)
-    ++ (if who == 0 then [] else newest_readings prefix (rows_of state 0))
+    flat_map (λ number. newest_readings prefix (rows_of state number)) (books_read state who)
     ++ flat_map (ascending_readings prefix) files
 
 -- what a completion gives: the first of each of these readings, up to the most that are given

@@ -11,7 +11,7 @@ use Rattle.skk_calls.specs.declared.answer.Refusal.TheVariants as refusals
 use Rattle.skk_calls.specs.declared.answer.Reply.{Reply}
 use Rattle.skk_calls.specs.declared.answer.Reply.TheVariants as replies
 use Rattle.skk_calls.specs.declared.call.Call.{Call}
-use Rattle.skk_calls.specs.declared.call.Call.TheVariants.{Lookup, Complete, Learn, Purge, Annotate, Unlearn}
+use Rattle.skk_calls.specs.declared.call.Call.TheVariants.{Lookup, Complete, Learn, Purge, Annotate, Share, Unlearn}
 use Rattle.skk_calls.specs.declared.part.Part.TheVariants.{Nasi}
 use Rattle.skk_calls.specs.Canonical.{canonical, line_limit}
 use Rattle.skk_calls.specs.Completions.{completions}
@@ -19,7 +19,8 @@ use Rattle.skk_calls.specs.Found.{found}
 use Rattle.skk_calls.specs.Learning.{learnt, purged, purge_changes, annotated, annotation_changes, unlearnt}
 use Rattle.skk_calls.specs.Learning.{is_valid_learned}
 use Rattle.skk_calls.specs.Rows.{RowKey, Row, same_key, is_row_key, is_okuri, is_cand, is_row, is_word}
-use Rattle.skk_calls.specs.States.{State, row_at, count_of, state_with}
+use Rattle.skk_calls.specs.BookLists.{is_book_list, same_numbers}
+use Rattle.skk_calls.specs.States.{State, row_at, count_of, shared_books, state_listed, state_with}
 
 -- how many bytes a row's line has, as far as a number can tell
 abbrev pub line_length : Row → ℕ
@@ -62,6 +63,8 @@ answer files state (Annotate book key cand) =
     if annotation_changes before key cand
     then change_reply (count_of state book) (annotated before key cand (count_of state book + 1)) replies.Annotated
     else replies.Unchanged
+answer files state (Share who books) =
+    if same_numbers (shared_books state who) books then replies.Unchanged else replies.Shared
 answer files state (Unlearn learned) =
     let row = row_at state learned.book learned.key in
     if is_stamped learned.stamp row then replies.Restored else replies.Overtaken (stamp_of row)
@@ -72,6 +75,7 @@ is_change (replies.Learned learned) = true
 is_change replies.Purged = true
 is_change replies.Restored = true
 is_change replies.Annotated = true
+is_change replies.Shared = true
 is_change reply = false
 
 -- a call changes the state; no system file has a say in that
@@ -91,6 +95,7 @@ state_moved state (Purge book key word) =
 state_moved state (Annotate book key cand) =
     let stamp = count_of state book + 1 in
     state_with state book stamp key (Some (annotated (row_at state book key) key cand stamp))
+state_moved state (Share who books) = state_listed state who books
 state_moved state (Unlearn learned) =
     state_with state learned.book (count_of state learned.book) learned.key (unlearnt learned)
 
@@ -105,6 +110,11 @@ speaks_of (Purge book key word) number other = book == number && same_key key ot
 speaks_of (Annotate book key cand) number other = book == number && same_key key other
 speaks_of (Unlearn learned) number other = learned.book == number && same_key learned.key other
 speaks_of call number other = false
+
+-- a call gives a typist a list of books
+abbrev pub is_share : Call → Bool
+is_share (Share who books) = true
+is_share call = false
 
 -- a call may be made: the word of a purge is a word, and every other call is fit by its types
 abbrev pub is_fit : Call → Bool
@@ -128,6 +138,7 @@ is_call (Complete who prefix) = true
 is_call (Learn book key okuri cand) = is_row_key key && (is_okuri_or_none okuri && is_cand cand)
 is_call (Purge book key word) = is_row_key key
 is_call (Annotate book key cand) = is_row_key key && is_cand cand
+is_call (Share who books) = is_book_list books
 is_call (Unlearn learned) = is_row_key learned.key && (is_valid_learned learned && is_row_or_none learned.before)
 
 -- a reading is valid without okurigana
@@ -149,6 +160,8 @@ may_reply (Annotate book key cand) replies.Annotated = true
 may_reply (Annotate book key cand) replies.Unchanged = true
 may_reply (Annotate book key cand) (replies.TooBig length) = true
 may_reply (Annotate book key cand) replies.StampsEnd = true
+may_reply (Share who books) replies.Shared = true
+may_reply (Share who books) replies.Unchanged = true
 may_reply (Unlearn learned) replies.Restored = true
 may_reply (Unlearn learned) (replies.Overtaken stamp) = true
 may_reply call reply = false

@@ -2,7 +2,7 @@
 use Rattle.std.specs.Prelude.{ℕ, not, ◌==◌, if◌then◌else◌, Option, None, Some, List, [], ◌∷◌, ◌++◌, map, find}
 use Rattle.std.specs.List.{filter, filter_map}
 use Rattle.skk_calls.specs.Rows.{RowKey, Cand, Block, Row, same_text, has_text}
-use Rattle.skk_calls.specs.States.{State, row_in, row_at}
+use Rattle.skk_calls.specs.States.{State, books_read, row_in, row_at}
 
 -- the block of an okurigana
 abbrev pub block_of : List ℕ → List Block → Option Block
@@ -47,17 +47,10 @@ first_of_each text_of seen (x ∷ xs) =
 abbrev pub merged : List Row → Option (List ℕ) → List Cand
 merged layers okuri = first_of_each (λ cand. cand.word) [] (cands_of_layers [] layers okuri)
 
--- a row that may not be there as a list
-abbrev pub optional_row : Option Row → List Row
-optional_row None = []
-optional_row (Some row) = row ∷ []
-
--- the rows of a key: in the typist's book, in the shared book where that is another, and in each system file in order
+-- the rows of a key: in each book that the typist reads, and in each system file, in order
 abbrev pub layers : List (List Row) → State → ℕ → RowKey → List Row
 layers files state who key =
-    optional_row (row_at state who key)
-    ++ (if who == 0 then [] else optional_row (row_at state 0 key))
-    ++ filter_map (row_in key) files
+    filter_map (λ number. row_at state number key) (books_read state who) ++ filter_map (row_in key) files
 
 -- what a lookup finds
 abbrev pub found : List (List Row) → State → ℕ → RowKey → Option (List ℕ) → List Cand

@@ -1,13 +1,13 @@
 -- Histories: which calls were answered how, in one order.
-use Rattle.std.specs.Prelude.{◌≡◌, ⊤, ℕ, ◌+◌, ◌<◌, Bool, true, false, ◌==◌, if◌then◌else◌, Option, None, Some, List, []}
-use Rattle.std.specs.Prelude.{◌∷◌, ◌++◌, map, sum_by}
+use Rattle.std.specs.Prelude.{◌≡◌, ⊤, ℕ, ◌+◌, ◌*◌, ◌<◌, Bool, true, false, ◌==◌, if◌then◌else◌}
+use Rattle.std.specs.Prelude.{Option, None, Some, List, [], ◌∷◌, ◌++◌, length, map, sum_by}
 use Rattle.std.specs.List.{filter, filter_map}
 use Rattle.skk_text.specs.Text.{byte_len}
 use Rattle.skk_calls.specs.declared.answer.Answer.{Answer}
 use Rattle.skk_calls.specs.declared.answer.Answer.TheVariants.{Done, Refused}
 use Rattle.skk_calls.specs.declared.answer.Refusal.TheVariants as refusals
 use Rattle.skk_calls.specs.declared.call.Call.{Call}
-use Rattle.skk_calls.specs.declared.call.Call.TheVariants.{Lookup, Complete, Learn, Purge, Annotate, Unlearn}
+use Rattle.skk_calls.specs.declared.call.Call.TheVariants.{Lookup, Complete, Learn, Purge, Annotate, Share, Unlearn}
 use Rattle.skk_calls.specs.declared.entry.Entry.{Entry}
 use Rattle.skk_calls.specs.Canonical.{canonical, item}
 use Rattle.skk_calls.specs.Dictionary.{answer, is_change, moves, after}
@@ -116,6 +116,19 @@ abbrev pub annotated_need : Option Row → RowKey → Cand → ℕ → ℕ
 annotated_need None key cand stamp = put_need (annotated None key cand stamp)
 annotated_need (Some row) key cand stamp = note_need key cand
 
+-- the bytes that tell a typist
+abbrev pub typist_bytes : ℕ
+typist_bytes = 2
+
+-- the bytes of the length of a list of books
+abbrev pub list_length_bytes : ℕ
+list_length_bytes = 1
+
+-- the bytes that the record of a typist's list of books needs
+abbrev pub list_need : List ℕ → ℕ
+list_need books =
+    gate_bytes + length_bytes + kind_bytes + typist_bytes + list_length_bytes + book_bytes * length books
+
 -- the bytes that a call needs in the learned file where it changes something
 abbrev pub need : State → Call → ℕ
 need state (Lookup who key okuri) = 0
@@ -125,6 +138,7 @@ need state (Learn book key okuri cand) =
 need state (Purge book key word) = put_need (purged (row_at state book key) key word (count_of state book + 1))
 need state (Annotate book key cand) =
     annotated_need (row_at state book key) key cand (count_of state book + 1)
+need state (Share who books) = list_need books
 need state (Unlearn learned) = restored_need learned.key (unlearnt learned)
 
 -- the bytes that the record of a book's count needs
@@ -142,7 +156,8 @@ least_end = gate_bytes + mark_bytes + generation_bytes + gate_bytes
 
 -- the end of a learned file that has just the records of a compaction of a state
 abbrev pub tight : State → ℕ
-tight state = least_end + sum_by (λ book. rows_need book.rows) state.books
+tight state =
+    least_end + sum_by (λ book. rows_need book.rows) state.books + sum_by (λ list. list_need list.books) state.lists
 
 -- the state after calls, one after another
 abbrev pub after_calls : State → List Call → State

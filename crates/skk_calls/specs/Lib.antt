@@ -1,3 +1,4 @@
+pub mod BookLists
 pub mod Canonical
 pub mod Chronicles
 pub mod Completions

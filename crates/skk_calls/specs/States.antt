@@ -1,19 +1,24 @@
--- The state of a dictionary: numbered books of rows.
-use Rattle.std.specs.Prelude.{ℕ, Bool, ◌&&◌, ◌==◌, not, nat_le, nat_lt, Option, None, Some, List, [], find}
+-- The state of a dictionary: numbered books of rows, and which of them typists read.
+use Rattle.std.specs.Prelude.{ℕ, Bool, ◌&&◌, ◌==◌, not, nat_le, nat_lt, if◌then◌else◌, Option, None, Some, List, []}
+use Rattle.std.specs.Prelude.{◌∷◌, find}
 use Rattle.std.specs.List.{filter, list_all}
 use Rattle.skk_text.specs.Pairs.{all_pairs}
 use Rattle.skk_calls.specs.declared.book.NumberedBook.{NumberedBook}
+use Rattle.skk_calls.specs.declared.book_list.TypistList.{TypistList}
+use Rattle.skk_calls.specs.BookLists.{is_book_list, same_numbers, shared_alone}
 use Rattle.skk_calls.specs.Canonical.{is_good}
 use Rattle.skk_calls.specs.Orders.{key_less, insert_by}
 use Rattle.skk_calls.specs.Rows.{RowKey, Row, same_key, is_row}
 
--- the state of a dictionary: books, each with its number, its count of changes and its rows
+-- the state of a dictionary: books, each with its number, its count of changes and its rows; and lists of books, each
+-- with its typist
 pub record State : Type 0 where
   pub books : List NumberedBook
+  pub lists : List TypistList
 
--- the state without a book
+-- the state without a book and a list
 abbrev pub empty_state : State
-empty_state = record { books = [] }
+empty_state = record { books = []; lists = [] }
 
 -- the row of a key among rows
 abbrev pub row_in : RowKey → List Row → Option Row
@@ -65,11 +70,43 @@ with_book book books = insert_by (λ b other. nat_lt b.number other.number) book
 -- the state where the book of a number has this count, and a key of it has this row or none
 abbrev pub state_with : State → ℕ → ℕ → RowKey → Option Row → State
 state_with state number count key row =
-    record {
+    record state {
       books =
           with_book (record { number = number; count = count; rows = with_row key row (rows_of state number) })
           state.books;
     }
+
+-- the list of a typist among lists
+abbrev pub list_in : ℕ → List TypistList → Option TypistList
+list_in typist lists = find (λ list. list.typist == typist) lists
+
+-- the books of a list, the shared one alone where there is no list
+abbrev pub listed_books : Option TypistList → List ℕ
+listed_books None = shared_alone
+listed_books (Some list) = list.books
+
+-- the list of books of a typist
+abbrev pub shared_books : State → ℕ → List ℕ
+shared_books state typist = listed_books (list_in typist state.lists)
+
+-- the books that a typist reads, in order: the typist's own, and the others of the typist's list
+abbrev pub books_read : State → ℕ → List ℕ
+books_read state typist = typist ∷ filter (λ number. not (number == typist)) (shared_books state typist)
+
+-- the lists without that of a typist
+abbrev pub without_list : ℕ → List TypistList → List TypistList
+without_list typist lists = filter (λ list. not (list.typist == typist)) lists
+
+-- the lists where that of a typist has these books: none is kept of the shared book alone
+abbrev pub with_list : ℕ → List ℕ → List TypistList → List TypistList
+with_list typist books lists =
+    if same_numbers books shared_alone then without_list typist lists
+    else insert_by (λ list other. nat_lt list.typist other.typist) (record { typist = typist; books = books })
+    (without_list typist lists)
+
+-- the state where a typist has this list of books
+abbrev pub state_listed : State → ℕ → List ℕ → State
+state_listed state typist books = record state { lists = with_list typist books state.lists }
 
 -- rows ascend by their keys
 abbrev pub rows_ascend : List Row → Bool
@@ -91,6 +128,16 @@ is_book book = nat_le 1 book.count && (rows_ascend book.rows && list_all (fits_c
 abbrev pub books_ascend : List NumberedBook → Bool
 books_ascend books = all_pairs (λ book other. nat_lt book.number other.number) books
 
--- a state is one that may be: its books ascend, and each of them may be
+-- lists ascend by their typists
+abbrev pub lists_ascend : List TypistList → Bool
+lists_ascend lists = all_pairs (λ list other. nat_lt list.typist other.typist) lists
+
+-- a typist's list is kept: it is a list of books, and another than that of the shared book alone
+abbrev pub is_kept_list : TypistList → Bool
+is_kept_list list = is_book_list list.books && not (same_numbers list.books shared_alone)
+
+-- a state is one that may be: its books ascend, and each of them may be; its lists ascend, and each of them is kept
 abbrev pub is_valid : State → Bool
-is_valid state = books_ascend state.books && list_all is_book state.books
+is_valid state =
+    books_ascend state.books && (list_all is_book state.books
+    && (lists_ascend state.lists && list_all is_kept_list state.lists))

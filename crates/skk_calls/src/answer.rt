@@ -13,12 +13,14 @@ pub enum Reply {
     Learned(Learned),
     /// The word was purged.
     Purged,
-    /// The purge or the annotation would change nothing.
+    /// The purge or the annotation would change nothing, or the typist reads these books already.
     Unchanged,
     /// What was learnt was taken back.
     Restored,
     /// The candidate was annotated.
     Annotated,
+    /// The typist reads these books.
+    Shared,
     /// The row has this stamp by now, or 0 where there is none, and was left so.
     Overtaken(u64),
     /// The row's line would have so many bytes, which are too many.
@@ -37,7 +39,7 @@ impl Reply {
     {
         matches!(
             self,
-            Reply::Learned(_) | Reply::Purged | Reply::Restored | Reply::Annotated
+            Reply::Learned(_) | Reply::Purged | Reply::Restored | Reply::Annotated | Reply::Shared
         )
     }
 }

@@ -1,3 +1,4 @@
+use crate::book_list::BookList;
 use crate::cand::Cand;
 use crate::learned::Learned;
 use crate::okuri::Okuri;
@@ -36,6 +37,11 @@ pub enum Call {
         book: u16,
         key: RowKey,
         cand: Cand,
+    },
+    /// A typist reads these books behind the typist's own from now on.
+    Share {
+        who: u16,
+        books: BookList,
     },
     /// What was learnt is taken back, unless the row was changed since.
     Unlearn {

@@ -10,6 +10,7 @@
 
 mod answer;
 mod book;
+mod book_list;
 mod call;
 mod caller;
 mod cand;
@@ -33,6 +34,7 @@ mod walk;
 
 pub use answer::{Answer, Answers, Refusal, Reply};
 pub use book::{Book, Books, NumberedBook, NumberedBooks};
+pub use book_list::{BOOK_LIMIT, BookList, BookListFault, SHARED_BOOK, TypistList, TypistLists};
 pub use call::{Call, Calls};
 pub use caller::{Caller, Kept};
 pub use cand::{Cand, CandFault, Cands};

@@ -1,10 +1,13 @@
 use crate::book::NumberedBooks;
+use crate::book_list::TypistLists;
 use std::marker::Model;
 
-/// The state of a dictionary: its books, ascending by their numbers.
+/// The state of a dictionary: its books, ascending by their numbers, and the lists of books of typists, ascending by
+/// these.
 #[derive(Debug, Drop)]
 pub struct State {
     books: NumberedBooks,
+    lists: TypistLists,
 }
 
 impl Model for State {
@@ -12,17 +15,17 @@ impl Model for State {
 
     ghost Value = { State };
 
-    ghost view = { λ s. record { books = s.books } };
+    ghost view = { λ s. record { books = s.books; lists = s.lists } };
 }
 
 impl State {
     ghost use Rattle.std.specs.Prelude.{◌≡◌};
 
-    /// The state of these books. Takes no memory and constant time.
-    pub fn new(books: NumberedBooks) -> State
-        ensures { result ≡ record { books = books } }
+    /// The state of these books and lists. Takes no memory and constant time.
+    pub fn new(books: NumberedBooks, lists: TypistLists) -> State
+        ensures { result ≡ record { books = books; lists = lists } }
     {
-        State { books }
+        State { books, lists }
     }
 
     /// The books.
@@ -30,5 +33,12 @@ impl State {
         ensures { result.now ≡ self.now.books }
     {
         &self.books
+    }
+
+    /// The lists.
+    pub fn lists(&self) -> &TypistLists
+        ensures { result.now ≡ self.now.lists }
+    {
+        &self.lists
     }
 }

@@ -1,20 +1,20 @@
 -- What own calls leave of the book of their owner, and of the others.
-use Rattle.std.proofs.Common.{◌≡◌, ◌∙◌, ap, sym, subst, refl, arith, ℕ, ◌+◌, ◌==◌, Bool, true, false, nat_lt}
+use Rattle.std.proofs.Common.{◌≡◌, ◌∙◌, ap, sym, subst, refl, arith, ℕ, ◌+◌, ◌==◌, Bool, true, false, cond, nat_lt}
 use Rattle.std.proofs.Common.{Option, None, Some, List, [], ◌∷◌, find}
 use Rattle.std.specs.List.{list_all}
 use Rattle.std.proofs.lemmas.Bool.{eq-eqb, eqb-true}
 use Rattle.skk_calls.specs.declared.book.NumberedBook.{NumberedBook}
 use Rattle.skk_calls.specs.declared.call.Call.{Call}
-use Rattle.skk_calls.specs.declared.call.Call.TheVariants.{Lookup, Complete, Learn, Purge, Annotate, Unlearn}
+use Rattle.skk_calls.specs.declared.call.Call.TheVariants.{Lookup, Complete, Learn, Purge, Annotate, Share, Unlearn}
 use Rattle.skk_calls.specs.declared.entry.Entry.{Entry}
-use Rattle.skk_calls.specs.Dictionary.{after, moves, state_moved}
+use Rattle.skk_calls.specs.Dictionary.{after, is_share, moves, state_moved}
 use Rattle.skk_calls.specs.Histories.{after_calls, state_after}
 use Rattle.skk_calls.specs.Learning.{learnt, purged, annotated, unlearnt}
 use Rattle.skk_calls.specs.Openings.{is_reply}
 use Rattle.skk_calls.specs.Orders.{insert_by}
 use Rattle.skk_calls.specs.Rows.{RowKey, Row}
 use Rattle.skk_calls.specs.States.{State, book_at, book_rows, book_count, rows_of, count_of, row_at, with_row}
-use Rattle.skk_calls.specs.States.{without_book, state_with}
+use Rattle.skk_calls.specs.States.{without_book, state_listed, state_with}
 use Rattle.dict_laws.specs.OwnBooks.{owner}
 use Rattle.tally_laws.proofs.Parts.{parts}
 
@@ -106,6 +106,7 @@ others-leave state number call differs = grind (arith, moved call differs)
     moved (Annotate book key cand) differs =
         changed-other state book (count_of state book + 1) key
         (Some (annotated (row_at state book key) key cand (count_of state book + 1))) number differs
+    moved (Share who books) differs = refl
     moved (Unlearn learned) differs =
         changed-other state learned.book (count_of state learned.book) learned.key (unlearnt learned) number differs
 
@@ -123,50 +124,75 @@ module _ (state other : State) where
       ∙ sym (changed-own state number count key row)
 
   -- whether it moves, and what it makes then
-  both-move : (call : Call) → SameBook (owner call) state other → moves other call ≡ moves state call
-  both-move (Lookup who key okuri) same = refl
-  both-move (Complete who prefix) same = refl
-  both-move (Learn book key okuri cand) same =
+  both-move : (call : Call) → is_share call ≡ false → SameBook (owner call) state other
+      → moves other call ≡ moves state call
+  both-move (Lookup who key okuri) e same = refl
+  both-move (Complete who prefix) e same = refl
+  both-move (Learn book key okuri cand) e same =
       rw (same-count book state other same, same-rows book state other same) refl
-  both-move (Purge book key word) same =
+  both-move (Purge book key word) e same =
       rw (same-count book state other same, same-rows book state other same) refl
-  both-move (Annotate book key cand) same =
+  both-move (Annotate book key cand) e same =
       rw (same-count book state other same, same-rows book state other same) refl
-  both-move (Unlearn learned) same = rw (same-rows learned.book state other same) refl
+  both-move (Share who books) e same = cc
+  both-move (Unlearn learned) e same = rw (same-rows learned.book state other same) refl
 
-  both-moved : (call : Call) → SameBook (owner call) state other
+  both-moved : (call : Call) → is_share call ≡ false → SameBook (owner call) state other
       → SameBook (owner call) (state_moved state call) (state_moved other call)
-  both-moved (Lookup who key okuri) same = same
-  both-moved (Complete who prefix) same = same
-  both-moved (Learn book key okuri cand) same =
+  both-moved (Lookup who key okuri) e same = same
+  both-moved (Complete who prefix) e same = same
+  both-moved (Learn book key okuri cand) e same =
       let counts = same-count book state other same in
       let rows = same-rows book state other same in
       both-changed book (count_of state book + 1) (count_of other book + 1) key
       (Some (learnt (row_at state book key) key okuri cand (count_of state book + 1)))
       (Some (learnt (row_at other book key) key okuri cand (count_of other book + 1)))
       (ap (λ n. n + 1) counts) (rw (counts, rows) refl) same
-  both-moved (Purge book key word) same =
+  both-moved (Purge book key word) e same =
       let counts = same-count book state other same in
       let rows = same-rows book state other same in
       both-changed book (count_of state book + 1) (count_of other book + 1) key
       (Some (purged (row_at state book key) key word (count_of state book + 1)))
       (Some (purged (row_at other book key) key word (count_of other book + 1)))
       (ap (λ n. n + 1) counts) (rw (counts, rows) refl) same
-  both-moved (Annotate book key cand) same =
+  both-moved (Annotate book key cand) e same =
       let counts = same-count book state other same in
       let rows = same-rows book state other same in
       both-changed book (count_of state book + 1) (count_of other book + 1) key
       (Some (annotated (row_at state book key) key cand (count_of state book + 1)))
       (Some (annotated (row_at other book key) key cand (count_of other book + 1)))
       (ap (λ n. n + 1) counts) (rw (counts, rows) refl) same
-  both-moved (Unlearn learned) same =
+  both-moved (Share who books) e same = cc
+  both-moved (Unlearn learned) e same =
       both-changed learned.book (count_of state learned.book) (count_of other learned.book) learned.key
       (unlearnt learned) (unlearnt learned) (same-count learned.book state other same) refl same
 
   -- an own call leaves the same of its book in states that have the same of it
+  moved-leaves : (call : Call) → is_share call ≡ false → SameBook (owner call) state other
+      → SameBook (owner call) (after state call) (after other call)
+  moved-leaves call e same = grind (arith, both-move call e same, both-moved call e same)
+
+  -- a list of books leaves each book
+  share-leaves : (who : ℕ) (books : List ℕ) → SameBook who state other
+      → SameBook who (after state (Share who books)) (after other (Share who books))
+  share-leaves who books same = by (moves state (Share who books)) (moves other (Share who books))
+    where
+      by : (b c : Bool) → SameBook who (cond b (state_listed state who books) state)
+          (cond c (state_listed other who books) other)
+      by true true = same
+      by true false = same
+      by false true = same
+      by false false = same
+
   owner-leaves : (call : Call) → SameBook (owner call) state other
       → SameBook (owner call) (after state call) (after other call)
-  owner-leaves call same = grind (arith, both-move call same, both-moved call same)
+  owner-leaves (Lookup who key okuri) same = same
+  owner-leaves (Complete who prefix) same = same
+  owner-leaves (Learn book key okuri cand) same = moved-leaves (Learn book key okuri cand) refl same
+  owner-leaves (Purge book key word) same = moved-leaves (Purge book key word) refl same
+  owner-leaves (Annotate book key cand) same = moved-leaves (Annotate book key cand) refl same
+  owner-leaves (Share who books) same = share-leaves who books same
+  owner-leaves (Unlearn learned) same = moved-leaves (Unlearn learned) refl same
 
   pub own-leaves : (number : ℕ) (call : Call) → (owner call == number) ≡ true → SameBook number state other
       → SameBook number (after state call) (after other call)

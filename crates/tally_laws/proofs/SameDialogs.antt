@@ -9,6 +9,7 @@ use Rattle.skk_calls.specs.declared.answer.Answer.{Answer}
 use Rattle.skk_calls.specs.declared.book.NumberedBook.{NumberedBook}
 use Rattle.skk_calls.specs.declared.call.Call.{Call}
 use Rattle.skk_calls.specs.declared.entry.Entry.{Entry}
+use Rattle.skk_calls.specs.Dictionary.{is_share}
 use Rattle.skk_calls.specs.Histories.{after_calls, dialog, state_after}
 use Rattle.skk_calls.specs.Interactions.{Dialog, calls_of}
 use Rattle.skk_calls.specs.Openings.{is_reply}
@@ -101,7 +102,8 @@ module _ (state : State) (typist_of : ℕ → ℕ) (history other : List Entry)
           inl (
             entry.number,
             some,
-            sym (eqb-true (owner entry.call) (typist_of entry.number) both.0)
+            sym (eqb-true (owner entry.call) (typist_of entry.number)
+                (and_parts (not (is_share entry.call)) (owner entry.call == typist_of entry.number) both.0).1)
                 ∙ eqb-true (owner entry.call) book is,
           )
       by false is (inl speaker) =

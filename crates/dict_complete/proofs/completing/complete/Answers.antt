@@ -4,7 +4,7 @@ use Rattle.std.proofs.lemmas.List.{take_all}
 use Rattle.std.proofs.lemmas.Result.{IfOk-weaker}
 use Rattle.skk_calls.specs.Completions.{completion_limit, goes_on_from}
 use Rattle.dict_complete.specs.FirstReadings.{among_added}
-use Rattle.dict_complete.specs.Joined.{with_more}
+use Rattle.dict_complete.specs.Joined.{readings_in, with_more}
 use Rattle.dict_complete.proofs.completing.complete.Goals as goal
 
 pub returns : goal.returns
@@ -16,7 +16,7 @@ returns g c =
     IfOk-weaker c.into_texts.result _ _
     (λ readings is.
     is ∙ c.loop-file.invariant
-    ∙ ap (λ those. fold more (fold more (fold more [] c.args.newest.now) c.args.shared.now)
+    ∙ ap (λ those. fold more (fold more [] (readings_in c.args.lists.now))
     (flat_map (filter (goes_on_from prefix)) those)) (take_all c.loop-file.file files all)
-    ∙ sym (among_added c.args.newest.now c.args.shared.now files prefix))
+    ∙ sym (among_added c.args.lists.now files prefix))
     c.into_texts.ensures.value

@@ -4,7 +4,7 @@ use Rattle.skk_calls.specs.Rows.{Row}
 use Rattle.learned_store.specs.declared.form.PayloadForm.{PayloadForm}
 use Rattle.learned_store.specs.Gathering.{IsTold, place_at, row_among, takes_on}
 use Rattle.learned_store.specs.Payloads.{takes_note}
-use Rattle.learned_store.proofs.Gathering.{IsChanged, put_told, drop_told, set_told, note_told}
+use Rattle.learned_store.proofs.Gathering.{IsChanged, put_told, drop_told, listed_told, set_told, note_told}
 use Rattle.learned_store.proofs.gathered.tell_row.Goals as goal
 
 pub returns-in_ok-_row-in-Put-clause-told : goal.returns-in_ok-_row-in-Put-clause-told
@@ -31,6 +31,12 @@ returns-in-SetCount-clause-told c is keyed =
     let before = row_among c.args.rows.now in
     subst (λ (form : PayloadForm). (takes_on before form ≡ true) × IsTold form before before) (sym c.in-SetCount.is)
     (refl, set_told before c.in-SetCount.book c.in-SetCount.count)
+
+pub returns-in-SetList-clause-told : goal.returns-in-SetList-clause-told
+returns-in-SetList-clause-told c is keyed =
+    let before = row_among c.args.rows.now in
+    subst (λ (form : PayloadForm). (takes_on before form ≡ true) × IsTold form before before) (sym c.in-SetList.is)
+    (refl, listed_told before c.in-SetList.typist c.in-SetList.books)
 
 pub returns-in-Note-clause-told : goal.returns-in-Note-clause-told
 returns-in-Note-clause-told c =

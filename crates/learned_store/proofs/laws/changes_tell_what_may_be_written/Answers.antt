@@ -1,4 +1,5 @@
-use Rattle.learned_store.proofs.SoundChanges.{put_sound, drop_sound, note_sound, form_follows, change_later}
+use Rattle.learned_store.proofs.SoundChanges.{put_sound, drop_sound, list_sound, note_sound, form_follows}
+use Rattle.learned_store.proofs.SoundChanges.{change_later}
 use Rattle.learned_store.proofs.laws.changes_tell_what_may_be_written.Goals as goal
 
 pub returns-clause-put : goal.returns-clause-put
@@ -11,6 +12,9 @@ returns-clause-drop c = drop_sound
 
 pub returns-clause-note : goal.returns-clause-note
 returns-clause-note c = note_sound
+
+pub returns-clause-list : goal.returns-clause-list
+returns-clause-list c = list_sound
 
 pub returns-clause-follows : goal.returns-clause-follows
 returns-clause-follows c state call form valid is fit moved told =

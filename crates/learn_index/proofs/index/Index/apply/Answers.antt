@@ -5,7 +5,7 @@ use Rattle.skk_calls.specs.States.{is_valid, state_with}
 use Rattle.learn_index.specs.declared.plan.Plan.TheVariants.{Move}
 use Rattle.learn_index.specs.Index.{Index}
 use Rattle.learn_index.specs.Plans.{IsMade, IsPlanned}
-use Rattle.learn_index.proofs.Planned.{made_has_key, made_valid, move_is, some_count}
+use Rattle.learn_index.proofs.Planned.{list_is, made_has_key, made_valid, move_is, some_count}
 use Rattle.learn_index.proofs.index.Index.apply.Goals as goal
 use Rattle.learn_index.proofs.index.Index.apply.Goals.{In-Move, in-Some, in-None}
 
@@ -69,3 +69,9 @@ returns-after-row-clause-state c call typed planned =
           ap (λ (index : Index). index.state) w.self-is ∙ w.remove_row.ensures
           ∙ ap (state_with state c.in-Move.book c.in-Move.count c.in-Move.key) (sym w.in-None.is) ∙ left
     ]
+
+pub returns-in-Lists-clause-state : goal.returns-in-Lists-clause-state
+returns-in-Lists-clause-state c call typed planned =
+    c.put_list.ensures
+    ∙ sym (list_is c.args.self.now.state call c.in-Lists.who c.in-Lists.list c.in-Lists.reply
+    (subst (IsPlanned c.args.self.now.state call) c.in-Lists.is planned))

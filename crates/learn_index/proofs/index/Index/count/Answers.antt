@@ -8,11 +8,13 @@ use Rattle.learn_index.proofs.index.Index.count.Goals.{After-book_of}
 
 -- the count among the books that are kept
 counted : (c : After-book_of)
-    → count_of (kept c.deref.result.now) c.args.book ≡ count_of c.args.self.now.state c.args.book
+    → count_of (kept c.deref.result.now c.self.inside.lists.items) c.args.book
+    ≡ count_of c.args.self.now.state c.args.book
 counted c =
     let number = c.args.book in
-    ap (λ books. count_of (kept books) number) c.deref.ensures.value
-    ∙ sym (count_changed (kept c.self.inside.books.items) c.self.inside.rows c.self.invariant number)
+    ap (λ books. count_of (kept books c.self.inside.lists.items) number) c.deref.ensures.value
+    ∙ sym (count_changed (kept c.self.inside.books.items c.self.inside.lists.items) c.self.inside.rows
+    c.self.invariant number)
     ∙ ap (λ (index : Index). count_of index.state number) c.self.view_is
 
 pub returns-in-Some-clause-value : goal.returns-in-Some-clause-value

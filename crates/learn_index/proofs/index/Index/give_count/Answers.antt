@@ -1,4 +1,5 @@
-use Rattle.std.proofs.Common.{◌∙◌, length, ap, arith}
+use Rattle.std.proofs.Common.{◌-◌, ◌∙◌, length, ap, arith}
+use Rattle.std.specs.Vec.{vec_capacity, vec_len}
 use Rattle.skk_calls.specs.States.{is_valid}
 use Rattle.learn_index.specs.Records.{state_counted}
 use Rattle.learn_index.proofs.FoundBook.{HasBook, HasPlace, book_read, count_changed, kept_changed, place_inside}
@@ -7,7 +8,9 @@ use Rattle.learn_index.proofs.index.Index.give_count.Goals.{After-place_of-place
 
 -- the book of the number is there
 found : (c : After-place_of-place)
-    → HasPlace c.self.inside.books.items c.self.inside.rows c.args.self.now c.args.number c.place_of-place.result
+    → HasPlace c.self.inside.books.items c.self.inside.lists.items c.self.inside.rows
+    (vec_capacity c.self.inside.lists - vec_len c.self.inside.lists) c.args.self.now c.args.number
+    c.place_of-place.result
 found c = record {
   keeps = c.self.invariant;
   seen = c.self.view_is;
@@ -16,7 +19,8 @@ found c = record {
 }
 
 -- and is the one that changes
-has : (c : After-index_mut) → HasBook c.self.inside.books.items c.self.inside.rows c.args.self.now c.args.number
+has : (c : After-index_mut) → HasBook c.self.inside.books.items c.self.inside.lists.items
+    c.self.inside.rows (vec_capacity c.self.inside.lists - vec_len c.self.inside.lists) c.args.self.now c.args.number
     c.place_of-place.result c.index_mut.result.now
 has c = book_read (found (goal.at.After-index_mut c).After-place_of-place) c.index_mut.ensures.value
 

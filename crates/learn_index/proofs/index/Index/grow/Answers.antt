@@ -1,4 +1,5 @@
-use Rattle.std.proofs.Common.{set, arith}
+use Rattle.std.proofs.Common.{◌-◌, set, arith}
+use Rattle.std.specs.Vec.{vec_capacity, vec_len}
 use Rattle.std.proofs.lemmas.Result.{on_ok_weaker}
 use Rattle.learn_index.specs.Kept.{changed, kept}
 use Rattle.learn_index.proofs.FoundBook.{HasBook, HasPlace, book_read, kept_same, place_inside, room_more}
@@ -8,7 +9,9 @@ use Rattle.learn_index.proofs.index.Index.grow.Goals.{After-place_of-place, Afte
 
 -- the book of the number is there
 found : (c : After-place_of-place)
-    → HasPlace c.self.inside.books.items c.self.inside.rows c.args.self.now c.args.number c.place_of-place.result
+    → HasPlace c.self.inside.books.items c.self.inside.lists.items c.self.inside.rows
+    (vec_capacity c.self.inside.lists - vec_len c.self.inside.lists) c.args.self.now c.args.number
+    c.place_of-place.result
 found c = record {
   keeps = c.self.invariant;
   seen = c.self.view_is;
@@ -17,7 +20,8 @@ found c = record {
 }
 
 -- and is the one that changes
-has : (c : After-index_mut) → HasBook c.self.inside.books.items c.self.inside.rows c.args.self.now c.args.number
+has : (c : After-index_mut) → HasBook c.self.inside.books.items c.self.inside.lists.items
+    c.self.inside.rows (vec_capacity c.self.inside.lists - vec_len c.self.inside.lists) c.args.self.now c.args.number
     c.place_of-place.result c.index_mut.result.now
 has c = book_read (found (goal.at.After-index_mut c).After-place_of-place) c.index_mut.ensures.value
 
@@ -43,5 +47,6 @@ returns-clause-room c =
     on_ok_weaker c.make_room.result
     (room_more (has (goal.at.returns-clause-room c).After-index_mut) c.make_room.new.self
     c.make_room.ensures.number c.make_room.ensures.count c.make_room.ensures.rows
-    (changed (kept (set c.self.inside.books.items c.place_of-place.result c.make_room.new.self))))
+    (changed (kept (set c.self.inside.books.items c.place_of-place.result c.make_room.new.self)
+    c.self.inside.lists.items)) (vec_capacity c.self.inside.lists - vec_len c.self.inside.lists))
     c.make_room.ensures.room

@@ -1,4 +1,5 @@
-use Rattle.std.proofs.Common.{◌≡◌, ◌==◌, ◌≤◌, ◌∙◌, false, length, ap, sym, subst, slice_get, arith}
+use Rattle.std.specs.Vec.{vec_capacity, vec_len}
+use Rattle.std.proofs.Common.{◌≡◌, ◌==◌, ◌-◌, ◌≤◌, ◌∙◌, false, length, ap, sym, subst, slice_get, arith}
 use Rattle.std.specs.List.{insert}
 use Rattle.ordered_lists.specs.Orders.{passes}
 use Rattle.learn_index.specs.declared.book.LearnedBook.{LearnedBook}
@@ -25,8 +26,9 @@ pub invariant_of-self : goal.invariant_of-self
 invariant_of-self c =
     let items = c.self.inside.books.items in
     let point = rw c.deref.ensures.value at c.place_of-place.ensures.point in
-    subst (λ items. IsKept (kept items) c.self.inside.rows) (sym c.in_ok-insert.ensures.items)
-    (kept_new items c.args.number c.place_of-place.result c.self.invariant.ascend point c.self.inside.rows
+    subst (λ items. IsKept (kept items c.self.inside.lists.items) c.self.inside.rows) (sym c.in_ok-insert.ensures.items)
+    (kept_new items c.self.inside.lists.items c.args.number c.place_of-place.result c.self.invariant.ascend point
+    c.self.inside.rows
     c.self.invariant c.new.result c.new.ensures.number c.new.ensures.count c.new.ensures.rows
     (within c) (missing c) (omega (arith, c.ranges.number.fits)))
 
@@ -34,8 +36,9 @@ pub returns-in_ok-insert-clause-state : goal.returns-in_ok-insert-clause-state
 returns-in_ok-insert-clause-state c =
     let items = c.self.inside.books.items in
     let point = rw c.deref.ensures.value at c.place_of-place.ensures.point in
-    ap (λ items. changed (kept items)) c.in_ok-insert.ensures.items
-    ∙ state_insert items c.args.number c.place_of-place.result c.self.invariant.ascend point c.self.inside.rows
+    ap (λ items. changed (kept items c.self.inside.lists.items)) c.in_ok-insert.ensures.items
+    ∙ state_insert items c.self.inside.lists.items c.args.number c.place_of-place.result c.self.invariant.ascend point
+    c.self.inside.rows
     c.self.invariant c.new.result c.new.ensures.number c.new.ensures.count c.new.ensures.rows
     (within c) (missing c)
     ∙ ap (λ (index : Index). index.state) c.self.view_is
@@ -45,16 +48,20 @@ returns-in_ok-insert-clause-there c =
     let items = c.self.inside.books.items in
     let point = rw c.deref.ensures.value at c.place_of-place.ensures.point in
     rw c.in_ok-insert.ensures.items
-    (new_there items c.args.number c.place_of-place.result c.self.invariant.ascend point c.self.inside.rows
+    (new_there items c.self.inside.lists.items c.args.number c.place_of-place.result c.self.invariant.ascend point
+    c.self.inside.rows
     c.self.invariant c.new.result c.new.ensures.number c.new.ensures.count c.new.ensures.rows
-    (within c) (missing c) (changed (kept (insert items c.place_of-place.result c.new.result))))
+    (within c) (missing c) (changed (kept (insert items c.place_of-place.result c.new.result)
+    c.self.inside.lists.items)) (vec_capacity c.self.inside.lists - vec_len c.self.inside.lists))
 
 pub returns-else-not-has_key_at-clause-there : goal.returns-else-not-has_key_at-clause-there
 returns-else-not-has_key_at-clause-there c =
     let items = c.self.inside.books.items in
     let point = rw c.deref.ensures.value at c.place_of-place.ensures.point in
     ap (λ (index : Index). keeps_book index c.args.number) (sym c.self.view_is)
-    ∙ there_by items c.args.number c.place_of-place.result c.self.invariant.ascend point (changed (kept items))
+    ∙ there_by items c.self.inside.lists.items c.args.number c.place_of-place.result c.self.invariant.ascend point
+    (changed (kept items c.self.inside.lists.items))
+    (vec_capacity c.self.inside.lists - vec_len c.self.inside.lists)
     (ap
     (λ books. passes (λ (book : LearnedBook). book.number == c.args.number) (slice_get books c.place_of-place.result))
     (sym c.deref-2.ensures.value)

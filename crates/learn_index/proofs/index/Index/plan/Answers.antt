@@ -2,7 +2,7 @@ use Rattle.std.proofs.Common.{◌≡◌, ◌∙◌, ℕ, List, Option, true, ap,
 use Rattle.std.specs.Option.{option_copied}
 use Rattle.std.proofs.lemmas.Result.{IfOk-weaker}
 use Rattle.skk_calls.specs.declared.call.Call.{Call}
-use Rattle.skk_calls.specs.declared.call.Call.TheVariants.{Learn, Purge, Annotate}
+use Rattle.skk_calls.specs.declared.call.Call.TheVariants.{Learn, Purge, Annotate, Share}
 use Rattle.skk_calls.specs.Dictionary.{is_call, is_fit}
 use Rattle.skk_calls.specs.States.{State}
 use Rattle.learn_index.specs.declared.plan.Plan.{Plan}
@@ -69,3 +69,23 @@ returns-in-Annotate-clause-valid c =
     ≡ true)
     (λ (plan : Plan) planned. ap is_call c.in-Annotate.is ∙ c.annotation_is_call.ensures c.in-Annotate.book)
     c.plan_annotate.ensures.planned
+
+pub returns-in-Share-clause-made : goal.returns-in-Share-clause-made
+returns-in-Share-clause-made c =
+    let call : Call = Share c.in-Share.who c.in-Share.books in
+    IfOk-weaker c.plan_share.result (IsPlanned c.args.self.now.state call) (IsMade c.plan_share.new.index.state)
+    (λ (plan : Plan) planned. (
+      call,
+      c.share_is_call.ensures c.in-Share.who,
+      refl,
+      refl,
+      subst (λ (state : State). IsPlanned state call plan) (sym c.plan_share.ensures.state) planned,
+    )) c.plan_share.ensures.planned
+
+pub returns-in-Share-clause-valid : goal.returns-in-Share-clause-valid
+returns-in-Share-clause-valid c =
+    let call : Call = Share c.in-Share.who c.in-Share.books in
+    IfOk-weaker c.plan_share.result (IsPlanned c.args.self.now.state call) (λ (plan : Plan). is_call c.args.call.now
+    ≡ true)
+    (λ (plan : Plan) planned. ap is_call c.in-Share.is ∙ c.share_is_call.ensures c.in-Share.who)
+    c.plan_share.ensures.planned

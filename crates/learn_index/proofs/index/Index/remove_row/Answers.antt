@@ -1,4 +1,5 @@
-use Rattle.std.proofs.Common.{◌∙◌, None, ap, arith}
+use Rattle.std.proofs.Common.{◌-◌, ◌∙◌, None, ap, arith}
+use Rattle.std.specs.Vec.{vec_capacity, vec_len}
 use Rattle.skk_calls.specs.States.{is_valid, state_with}
 use Rattle.learn_index.specs.Kept.{kept}
 use Rattle.learn_index.proofs.Books.{rows_counted}
@@ -9,7 +10,9 @@ use Rattle.learn_index.proofs.index.Index.remove_row.Goals.{After-place_of-place
 
 -- the book of the number is there
 found : (c : After-place_of-place)
-    → HasPlace c.self.inside.books.items c.self.inside.rows c.args.self.now c.args.number c.place_of-place.result
+    → HasPlace c.self.inside.books.items c.self.inside.lists.items c.self.inside.rows
+    (vec_capacity c.self.inside.lists - vec_len c.self.inside.lists) c.args.self.now c.args.number
+    c.place_of-place.result
 found c = record {
   keeps = c.self.invariant;
   seen = c.self.view_is;
@@ -18,7 +21,8 @@ found c = record {
 }
 
 -- and is the one that changes
-has : (c : After-index_mut-book) → HasBook c.self.inside.books.items c.self.inside.rows c.args.self.now c.args.number
+has : (c : After-index_mut-book) → HasBook c.self.inside.books.items c.self.inside.lists.items
+    c.self.inside.rows (vec_capacity c.self.inside.lists - vec_len c.self.inside.lists) c.args.self.now c.args.number
     c.place_of-place.result c.index_mut-book.result.now
 has c = book_read (found (goal.at.After-index_mut-book c).After-place_of-place) c.index_mut-book.ensures.value
 
@@ -34,7 +38,12 @@ overflow_sub-self c = omega (arith, rows_among (has (goal.at.overflow_sub-self c
 
 pub overflow_add-self : goal.overflow_add-self
 overflow_add-self c =
-    omega (arith, rows_counted (kept c.self.inside.books.items) c.self.inside.rows c.self.invariant, c.len-2.type_inv)
+    omega (
+      arith,
+      rows_counted (kept c.self.inside.books.items c.self.inside.lists.items) c.self.inside.rows
+          c.self.invariant,
+      c.len-2.type_inv,
+    )
 
 pub returns : goal.returns
 returns c =

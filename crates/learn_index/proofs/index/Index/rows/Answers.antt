@@ -8,6 +8,7 @@ use Rattle.learn_index.proofs.index.Index.rows.Goals as goal
 
 pub returns : goal.returns
 returns c =
-    let counted = sym (all_counted (kept c.self.inside.books.items) c.self.inside.rows c.self.invariant)
+    let counted = sym (all_counted (kept c.self.inside.books.items c.self.inside.lists.items) c.self.inside.rows
+    c.self.invariant)
     ∙ ap (λ (index : Index). count_rows index.state) c.self.view_is in
     c.min.ensures ∙ ap (λ last. min c.self.inside.rows last) c.from.ensures ∙ ap (λ n. min n last_count) counted

@@ -10,6 +10,8 @@ pub returns-in-Some : goal.returns-in-Some
 returns-in-Some c stamps is =
     let number = c.args.number in
     c.by_stamp.ensures stamps is
-    ∙ ap oldest_first (ap book_rows c.in-Some.ensures ∙ ap (λ books. rows_of (kept books) number) c.deref.ensures.value
-    ∙ sym (rows_changed (kept c.self.inside.books.items) c.self.inside.rows c.self.invariant number)
+    ∙ ap oldest_first (ap book_rows c.in-Some.ensures ∙ ap (λ books. rows_of (kept books c.self.inside.lists.items)
+    number) c.deref.ensures.value
+    ∙ sym (rows_changed (kept c.self.inside.books.items c.self.inside.lists.items) c.self.inside.rows c.self.invariant
+    number)
     ∙ ap (λ (index : Index). rows_of index.state number) c.self.view_is)

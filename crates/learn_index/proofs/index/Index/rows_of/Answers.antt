@@ -8,11 +8,13 @@ use Rattle.learn_index.proofs.index.Index.rows_of.Goals.{After-book_of}
 
 -- the rows of the book among the books that are kept
 same : (c : After-book_of)
-    → rows_of (kept c.deref.result.now) c.args.number ≡ rows_of c.args.self.now.state c.args.number
+    → rows_of (kept c.deref.result.now c.self.inside.lists.items) c.args.number
+    ≡ rows_of c.args.self.now.state c.args.number
 same c =
     let number = c.args.number in
-    ap (λ books. rows_of (kept books) number) c.deref.ensures.value
-    ∙ sym (rows_changed (kept c.self.inside.books.items) c.self.inside.rows c.self.invariant number)
+    ap (λ books. rows_of (kept books c.self.inside.lists.items) number) c.deref.ensures.value
+    ∙ sym (rows_changed (kept c.self.inside.books.items c.self.inside.lists.items) c.self.inside.rows c.self.invariant
+    number)
     ∙ ap (λ (index : Index). rows_of index.state number) c.self.view_is
 
 pub returns-in-Some-clause-rows : goal.returns-in-Some-clause-rows
@@ -24,8 +26,9 @@ pub returns-in-Some-clause-ascend : goal.returns-in-Some-clause-ascend
 returns-in-Some-clause-ascend c =
     ap rows_ascend
     (c.deref-in-Some.ensures.value ∙ ap book_rows c.in-Some.ensures
-    ∙ ap (λ books. rows_of (kept books) c.args.number) c.deref.ensures.value)
-    ∙ rows_in_order (kept c.self.inside.books.items) c.self.inside.rows c.self.invariant c.args.number
+    ∙ ap (λ books. rows_of (kept books c.self.inside.lists.items) c.args.number) c.deref.ensures.value)
+    ∙ rows_in_order (kept c.self.inside.books.items c.self.inside.lists.items) c.self.inside.rows c.self.invariant
+    c.args.number
 
 pub returns-in-None-clause-rows : goal.returns-in-None-clause-rows
 returns-in-None-clause-rows c =

@@ -1,11 +1,11 @@
-use Rattle.std.proofs.Common.{◌≡◌, ◌≤◌, ◌∙◌, true, Option, ap, subst, sym}
+use Rattle.std.proofs.Common.{◌≡◌, ◌∙◌, true, Option, ap, subst, sym}
 use Rattle.std.proofs.lemmas.Bool.{both_ways}
 use Rattle.std.proofs.lemmas.Result.{IfOk-weaker}
 use Rattle.std.specs.Option.{IfSome}
-use Rattle.skk_calls.specs.States.{State, count_of}
+use Rattle.skk_calls.specs.States.{State}
 use Rattle.learned_store.specs.declared.form.PayloadForm.{PayloadForm}
 use Rattle.learned_store.specs.Gathering.{Gathers}
-use Rattle.learned_store.specs.Payloads.{Says, book_of, is_sound, may_follow, new_count}
+use Rattle.learned_store.specs.Payloads.{CountsOn, Says, counted_by, is_sound, may_follow}
 use Rattle.learned_store.proofs.gathered.Gathered.add.Goals as goal
 
 pub returns-in-Some-clause-said : goal.returns-in-Some-clause-said
@@ -13,7 +13,7 @@ returns-in-Some-clause-said c =
     let form = c.in-Some.form in
     let now = c.put_again.new.self in
     let sound = subst (λ (read : Option PayloadForm). IfSome read (λ f. (is_sound f ≡ true)
-    × ((state : State) → Gathers now state → count_of state (book_of f) ≤ new_count f))) c.in-Some.is
+    × ((state : State) → Gathers now state → CountsOn state (counted_by f)))) c.in-Some.is
     c.in_ok-form.ensures.sound in
     let says = subst (λ (read : Option PayloadForm). IfSome read (λ f. (state : State) → Gathers now state
     → may_follow state f ≡ true → Says c.args.version state c.args.payload.now f)) c.in-Some.is

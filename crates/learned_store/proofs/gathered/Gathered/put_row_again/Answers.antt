@@ -20,5 +20,5 @@ returns-clause-again c told state version some gathers =
     added (row_among c.args.self.now.rows) (row_among c.restamp.new.rows) c.args.self.now.counts c.insert.new.self
     c.args.book c.args.count c.args.stamp c.in-Some.place c.args.bytes.now own
     (held c.args.book c.args.count (Fits-lt-pow c.ranges.book) (Fits-lt-pow c.ranges.count)) c.requires
-    (c.in_ok-restamp.ensures.restamped c.if-not-branch.false) c.in_ok-_count.ensures.updates state version some
-    gathers counted
+    (c.in_ok-restamp.ensures.restamped c.if-not-branch.false) c.in_ok-_count.ensures.updates
+    c.args.self.now.lists state version some gathers counted

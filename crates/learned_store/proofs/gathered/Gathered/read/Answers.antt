@@ -1,11 +1,12 @@
-use Rattle.std.proofs.Common.{◌≡◌, ◌≤◌, ◌∙◌, ℕ, true, nat_le, List, Option, Some, sym, subst, arith}
-use Rattle.std.proofs.lemmas.Bool.{and_from, and_parts, both_ways, le-leb, leb-true}
+use Rattle.std.proofs.Common.{◌≡◌, ◌∙◌, ℕ, true, nat_le, List, Option, Some, sym, subst}
+use Rattle.std.proofs.lemmas.Bool.{and_from, and_parts, both_ways}
 use Rattle.std.proofs.lemmas.Option.{same_Some}
 use Rattle.std.specs.Option.{IfSome}
-use Rattle.skk_calls.specs.States.{State, count_of}
+use Rattle.skk_calls.specs.States.{State}
 use Rattle.learned_store.specs.declared.form.PayloadForm.{PayloadForm}
-use Rattle.learned_store.specs.Gathering.{count_in}
-use Rattle.learned_store.specs.Payloads.{Says, book_of, first_version, is_sound, new_count, payload_of}
+use Rattle.learned_store.specs.Gathering.{counts_on}
+use Rattle.learned_store.specs.Payloads.{CountsOn, Says, counted_by, first_version, is_sound, payload_of}
+use Rattle.learned_store.proofs.Gathering.{counted_on, counts_still}
 use Rattle.learned_store.proofs.gathered.Gathered.read.Goals as goal
 
 -- what a payload says is the one form that is read of it
@@ -21,16 +22,9 @@ returns-clause-sound c =
     let facts = subst (λ (found : Option PayloadForm). IfSome found (λ f. (is_sound f ≡ true)
     × (c.args.payload.now ≡ payload_of f))) c.in-Some.is c.in_ok-form.ensures.some in
     let next = and_parts (nat_le (first_version form) c.args.version)
-    (nat_le (count_in c.args.self.now.counts (book_of form)) (new_count form))
-    (sym c.comes_next.ensures ∙ c.if-not-comes_next.false) in (
-      facts.0,
-      λ state gathers.
-          omega (
-            arith,
-            leb-true (count_in c.args.self.now.counts (book_of form)) (new_count form) next.1,
-            gathers.count (book_of form),
-          ),
-    )
+    (counts_on c.args.self.now.counts (counted_by form))
+    (sym c.comes_next.ensures ∙ c.if-not-comes_next.false) in
+    (facts.0, λ state gathers. counted_on state c.args.self.now.counts (counted_by form) gathers.count next.1)
 
 pub returns-clause-some : goal.returns-clause-some
 returns-clause-some c state gathers follows =
@@ -38,15 +32,15 @@ returns-clause-some c state gathers follows =
     let facts = subst (λ (found : Option PayloadForm). IfSome found (λ f. (is_sound f ≡ true)
     × (c.args.payload.now ≡ payload_of f))) c.in-Some.is c.in_ok-form.ensures.some in
     let next = and_parts (nat_le (first_version form) c.args.version)
-    (nat_le (count_in c.args.self.now.counts (book_of form)) (new_count form))
+    (counts_on c.args.self.now.counts (counted_by form))
     (sym c.comes_next.ensures ∙ c.if-not-comes_next.false) in
-    let counted : count_of state (book_of form) ≤ new_count form =
-    omega (
-      arith,
-      leb-true (count_in c.args.self.now.counts (book_of form)) (new_count form) next.1,
-      gathers.count (book_of form),
-    ) in
-    record { known = next.0; sound = facts.0; counted = counted; follows = follows; is = facts.1 }
+    record {
+      known = next.0;
+      sound = facts.0;
+      counted = counted_on state c.args.self.now.counts (counted_by form) gathers.count next.1;
+      follows = follows;
+      is = facts.1;
+    }
 
 pub returns-clause-only : goal.returns-clause-only
 returns-clause-only c =
@@ -60,11 +54,9 @@ returns-then-not-comes_next-clause-none c none state gathers form says =
     c.in_ok-form.ensures.only state form says in
     let known : nat_le (first_version c.in-Some.form) c.args.version ≡ true =
     subst (λ (f : PayloadForm). nat_le (first_version f) c.args.version ≡ true) same says.known in
-    let counted : count_of state (book_of c.in-Some.form) ≤ new_count c.in-Some.form =
-    subst (λ (f : PayloadForm). count_of state (book_of f) ≤ new_count f) same says.counted in
-    let least = count_in c.args.self.now.counts (book_of c.in-Some.form) in
-    let below : least ≤ new_count c.in-Some.form =
-    omega (arith, counted, gathers.count (book_of c.in-Some.form)) in
+    let counted : CountsOn state (counted_by c.in-Some.form) =
+    subst (λ (f : PayloadForm). CountsOn state (counted_by f)) same says.counted in
+    let on = counts_still state c.args.self.now.counts (counted_by c.in-Some.form) gathers.count counted in
     both_ways c.comes_next.result c.if-not-comes_next.true
     (c.comes_next.ensures ∙ and_from (nat_le (first_version c.in-Some.form) c.args.version)
-    (nat_le least (new_count c.in-Some.form)) known (le-leb least (new_count c.in-Some.form) below))
+    (counts_on c.args.self.now.counts (counted_by c.in-Some.form)) known on)

@@ -12,7 +12,8 @@ invariant_of-self g c =
       c.change.ensures.tight,
       kept_elsewhere files state c.change.new.index.state c.self.inside.kept c.forget.new.self c.args.key.now call
           c.requires.key
-          (λ who other okuri. c.changes_leave_what_is_found_of_other_keys.ensures files state call who other okuri)
+          (λ who other okuri typed.
+          c.changes_leave_what_is_found_of_other_keys.ensures files state call who other okuri typed c.requires.row)
           c.change.result (c.change.ensures.serves files).state c.change.ensures.typed c.self.invariant.1
           c.forget.ensures,
     )

@@ -1,0 +1,22 @@
+use Rattle.std.proofs.Common.{◌∙◌, sym}
+use Rattle.ordered_lists.specs.KeyOrders.{number_keys}
+use Rattle.ordered_lists.specs.PlaceLaws.{put_insert, put_set}
+use Rattle.skk_calls.specs.declared.book_list.TypistList.{TypistList}
+use Rattle.learn_index.proofs.kept_lists.set_list.Goals as goal
+
+pub returns-then-has_key_at : goal.returns-then-has_key_at
+returns-then-has_key_at c =
+    let point = rw c.deref.ensures.value at c.place_of-place.ensures.place in
+    let there = rw c.deref-2.ensures.value at (sym c.has_key_at.ensures ∙ c.if-has_key_at.true) in
+    sym (put_set (λ (list : TypistList). list.typist) number_keys c.args.list c.args.lists.now.items
+    c.place_of-place.result c.requires.ascend point there)
+
+pub returns-else-has_key_at : goal.returns-else-has_key_at
+returns-else-has_key_at c =
+    let bound = rw c.deref.ensures.value at c.place_of-place.ensures.bound in
+    let point = rw c.deref.ensures.value at c.place_of-place.ensures.place in
+    let missing = rw c.deref-2.ensures.value at (sym c.has_key_at.ensures ∙ c.if-has_key_at.false) in
+    let fits = c.insert-fits.ensures.succeeds c.requires.room in
+    rw (c.insert-fits.ensures.items, fits)
+    (sym (put_insert (λ (list : TypistList). list.typist) number_keys c.args.list c.args.lists.now.items
+    c.place_of-place.result bound c.requires.ascend point missing))
