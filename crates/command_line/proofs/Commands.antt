@@ -4,7 +4,8 @@ use Rattle.std.specs.Option.{option_and_then}
 use Rattle.command_line.specs.Settings.{settings_of, fits, AreNoneOrMany}
 use Rattle.command_line.specs.Command.{takes, command_with, command_named, command_of}
 use Rattle.command_line.specs.declared.command_name.CommandName.{CommandName}
-use Rattle.command_line.specs.declared.command_name.CommandName.TheVariants.{TypeScript, Serve, Check, Dump, Load}
+use Rattle.command_line.specs.declared.command_name.CommandName.TheVariants.{TypeScript, Serve, Check, Dump, Share}
+use Rattle.command_line.specs.declared.command_name.CommandName.TheVariants.{Load}
 use Rattle.command_line.specs.declared.setting.Setting.{Setting}
 use Rattle.command_line.proofs.SettingLists.{fits-few}
 
@@ -14,6 +15,7 @@ most TypeScript settings fit = omega (arith, fits-few (takes TypeScript) setting
 most Serve settings fit = omega (arith, fits-few (takes Serve) settings fit)
 most Check settings fit = omega (arith, fits-few (takes Check) settings fit)
 most Dump settings fit = omega (arith, fits-few (takes Dump) settings fit)
+most Share settings fit = omega (arith, fits-few (takes Share) settings fit)
 most Load settings fit = omega (arith, fits-few (takes Load) settings fit)
 
 with-none : (name : CommandName) (given : Option (List Setting)) → AreNoneOrMany given

@@ -1,3 +1,4 @@
+pub mod BookNumbers
 pub mod Commands
 pub mod OptionCounts
 pub mod OptionRows

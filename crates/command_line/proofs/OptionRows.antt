@@ -20,16 +20,18 @@ use Rattle.clap.specs.declared.builder.value_parser.Reading.TheVariants.{AsWritt
 use Rattle.clap.specs.declared.parser.matches.ValueSource.TheVariants.{CommandLine, DefaultValue}
 use Rattle.command_line.specs.Arguments.{option_named, place, name_at}
 use Rattle.command_line.specs.Settings.{is_given, is_of, setting, value_given}
+use Rattle.command_line.specs.Words.{with_commas}
 use Rattle.command_line.specs.declared.argument.Argument.{Argument}
 use Rattle.command_line.specs.declared.setting.Setting.{Setting}
 use Rattle.command_line.specs.declared.setting.Value.{Value}
-use Rattle.command_line.specs.declared.setting.Value.TheVariants.{Nothing, Text as Name, Number}
+use Rattle.command_line.specs.declared.setting.Value.TheVariants.{Nothing, Text as Name, Number, Books}
 
 -- the text that stands for a value in a row
 abbrev pub shown : Value → Text
 shown Nothing = codes "true"
 shown (Name text) = encodes text
 shown (Number number) = decimal number
+shown (Books books) = with_commas books
 
 -- the row of a use of an option
 abbrev pub use_row : Text → Text → Row

@@ -23,11 +23,11 @@ use Rattle.command_line.specs.SettingLaws.{AreWritten, Writes, empty, bare, alon
 use Rattle.command_line.specs.Settings.{takes_value}
 use Rattle.command_line.specs.Words.{is_name}
 use Rattle.command_line.specs.declared.argument.Takes.{Takes}
-use Rattle.command_line.specs.declared.argument.Takes.TheVariants.{Nothing, Name, Number}
+use Rattle.command_line.specs.declared.argument.Takes.TheVariants.{Nothing, Name, Number, Books}
 use Rattle.command_line.specs.declared.setting.Setting.{Setting}
 use Rattle.command_line.specs.declared.setting.Value.{Value}
 use Rattle.command_line.proofs.OptionRows.{row_for, shown, use_row, used_row}
-use Rattle.command_line.proofs.WordTexts.{name-bytes, decimal-bytes}
+use Rattle.command_line.proofs.WordTexts.{name-bytes, decimal-bytes, commas-bytes}
 
 -- a command as it is built, with these options
 abbrev pub shape : Text → List Rule → Shape
@@ -52,6 +52,7 @@ abbrev pub is_small : Takes → Bool
 is_small Nothing = true
 is_small Name = true
 is_small (Number least most) = nat_le most 18446744073709551615
+is_small Books = true
 
 -- the argument at a place has its option among those of a command: its word leads there, with a value behind `=` or by
 -- itself
@@ -94,6 +95,10 @@ text-of Name text value small writes =
     record { action = refl; plain = name-bytes text writes.0; is = ap shown (sym writes.1) }
 text-of (Number least most) text value small writes =
     let bytes = decimal-bytes writes.0 (omega (arith, writes.3.1, leb-true most 18446744073709551615 small)) in
+    let same = ap encodes writes.1 ∙ bytes.0 in
+    record { action = refl; plain = ap is_name same ∙ bytes.1; is = same ∙ ap shown (sym writes.2) }
+text-of Books text value small writes =
+    let bytes = commas-bytes writes.0 writes.3 writes.4 in
     let same = ap encodes writes.1 ∙ bytes.0 in
     record { action = refl; plain = ap is_name same ∙ bytes.1; is = same ∙ ap shown (sym writes.2) }
 

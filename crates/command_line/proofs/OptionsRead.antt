@@ -28,12 +28,14 @@ use Rattle.command_line.specs.RangeLaws.{AreGiven, IsTaken, are-given, value-giv
 use Rattle.command_line.specs.Ranges.{LiesFrom}
 use Rattle.command_line.specs.SettingLaws.{AreWritten, written}
 use Rattle.command_line.specs.Settings.{Row as TakesRow, fits, is_given, is_within, number_in, setting, settings_of}
-use Rattle.command_line.specs.Settings.{text_in, times, value_given}
+use Rattle.command_line.specs.Settings.{books_in, text_in, times, value_given}
+use Rattle.command_line.specs.Words.{with_commas}
 use Rattle.command_line.specs.declared.argument.Argument.{Argument}
 use Rattle.command_line.specs.declared.argument.Takes.{Takes}
-use Rattle.command_line.specs.declared.argument.Takes.TheVariants.{Nothing, Name, Number}
+use Rattle.command_line.specs.declared.argument.Takes.TheVariants.{Nothing, Name, Number, Books}
 use Rattle.command_line.specs.declared.command_name.CommandName.{CommandName}
-use Rattle.command_line.specs.declared.command_name.CommandName.TheVariants.{TypeScript, Serve, Check, Dump, Load}
+use Rattle.command_line.specs.declared.command_name.CommandName.TheVariants.{TypeScript, Serve, Check, Dump, Share}
+use Rattle.command_line.specs.declared.command_name.CommandName.TheVariants.{Load}
 use Rattle.command_line.specs.declared.setting.Setting.{Setting}
 use Rattle.command_line.specs.declared.setting.Value.{Value}
 use Rattle.command_line.proofs.OptionCounts.{settings_taken}
@@ -57,6 +59,7 @@ absent_row Nothing name = Some (record {
 })
 absent_row Name name = None
 absent_row (Number least most) name = None
+absent_row Books name = None
 
 abbrev IsAbsent : CommandName → TakesRow → Type 0
 IsAbsent name row =
@@ -86,6 +89,15 @@ known Dump options = record {
   few = λ number. grind (arith, nat_tests);
   options = ((search, omega arith), ((search, omega arith), tt));
   absent = (refl, (refl, tt));
+}
+known Share options = record {
+  simple = refl;
+  rules = refl;
+  free = refl;
+  defaults = refl;
+  few = λ number. grind (arith, nat_tests);
+  options = ((search, omega arith), ((search, omega arith), ((search, omega arith), ((search, omega arith), tt))));
+  absent = (refl, (refl, (refl, (refl, tt))));
 }
 known Load options = record {
   simple = refl;
@@ -166,17 +178,22 @@ Tells Name value row =
 Tells (Number least most) value row =
     (option_and_then (λ r. slice_get r.values 0) row ≡ option_map decimal (option_and_then number_in value))
     × IfSome (option_and_then number_in value) (LiesFrom least most)
+Tells Books value row =
+    option_and_then (λ r. slice_get r.values 0) row ≡ option_map with_commas (option_and_then books_in value)
 
 tells : (taken : Takes) (name : Text) (value : Option Value) → IfSome value (IsTaken taken)
     → Tells taken value (option_or (option_map (λ v. use_row name (shown v)) value) (absent_row taken name))
 tells Nothing name None is = refl
 tells Name name None is = refl
 tells (Number least most) name None is = (refl, tt)
+tells Books name None is = refl
 tells Nothing name (Some value) is = ap (λ v. Some (shown v)) is
 tells Name name (Some value) is = subst (λ v. Some (shown v) ≡ option_map encodes (text_in v)) (sym is.1) refl
 tells (Number least most) name (Some value) is =
     subst (λ v. (Some (shown v) ≡ option_map decimal (number_in v)) × IfSome (number_in v) (LiesFrom least most))
     (sym is.1) (refl, is.2)
+tells Books name (Some value) is =
+    subst (λ v. Some (shown v) ≡ option_map with_commas (books_in v)) (sym is.1) refl
 
 as-found : (taken : Takes) (argument : Argument) (settings : List Setting) (m : ArgMatches)
     → Tells taken (value_given argument settings) (row_in (name_at (place argument)) (rows_of (found_of m)))
@@ -187,6 +204,7 @@ as-found Nothing argument settings m is =
 as-found Name argument settings m is = first_value-rows (found_of m) (name_at (place argument)) ∙ is
 as-found (Number least most) argument settings m is =
     (first_value-rows (found_of m) (name_at (place argument)) ∙ is.0, is.1)
+as-found Books argument settings m is = first_value-rows (found_of m) (name_at (place argument)) ∙ is
 
 gives-all : (name : CommandName) (settings : List Setting) (m : ArgMatches) (rows : List TakesRow) → AreGiven settings
     → AllByRecursion (IsAbsent name) rows → rows_of (found_of m) ≡ rows-at name settings

@@ -1,5 +1,5 @@
 -- Numbers on both sides of the ends of their ranges.
-use Rattle.std.proofs.Common.{◌≡◌, ◌^◌, ◌-◌, ℕ, Some, None, [], codes, refl, arith}
+use Rattle.std.proofs.Common.{◌≡◌, ◌^◌, ◌-◌, ℕ, Some, None, [], ◌∷◌, codes, refl, arith}
 use Rattle.command_line.specs.Ranges.{HasNumbersInRange}
 use Rattle.command_line.specs.declared.command.Command.{Command}
 use Rattle.command_line.specs.declared.command.Command.TheVariants.{Alone, Waiting}
@@ -26,6 +26,10 @@ serving limit port connections =
 abbrev dumping : ℕ → Command
 dumping book = Alone (alone.Dump (record { learned = codes "L"; book = book }))
 
+abbrev sharing : ℕ → ℕ → Command
+sharing typist limit =
+    Alone (alone.Share (record { learned = codes "L"; typist = typist; books = 0 ∷ []; limit = Some limit }))
+
 abbrev loading : ℕ → ℕ → ℕ → Command
 loading seed sessions lines = Alone (alone.Load (record { seed = seed; sessions = sessions; lines = lines }))
 
@@ -34,6 +38,7 @@ within :
     HasNumbersInRange (typing 64) × HasNumbersInRange (typing 268435456) × HasNumbersInRange (serving 64 1 1)
     × HasNumbersInRange (serving 268435456 65535 1000000) × HasNumbersInRange (dumping 65535)
     × HasNumbersInRange (loading 0 1 1) × HasNumbersInRange (loading (2 ^ 64 - 1) 64 20000)
+    × HasNumbersInRange (sharing 65535 64) × HasNumbersInRange (sharing 0 268435456)
 within = (
   (omega arith, omega arith),
   (omega arith, omega arith),
@@ -42,6 +47,8 @@ within = (
   omega arith,
   (omega arith, (omega arith, omega arith), (omega arith, omega arith)),
   (omega arith, (omega arith, omega arith), (omega arith, omega arith)),
+  (omega arith, (omega arith, omega arith)),
+  (omega arith, (omega arith, omega arith)),
 )
 
 -- those beside them do not
@@ -64,6 +71,11 @@ serving_outside = (
 
 book_outside : HasNumbersInRange (dumping 65536) → ⊥
 book_outside h = omega (arith, h)
+
+sharing_outside :
+    (HasNumbersInRange (sharing 65536 64) → ⊥) × (HasNumbersInRange (sharing 0 63) → ⊥)
+    × (HasNumbersInRange (sharing 0 268435457) → ⊥)
+sharing_outside = (λ h. omega (arith, h.0), λ h. omega (arith, h.1.0), λ h. omega (arith, h.1.1))
 
 loading_outside :
     (HasNumbersInRange (loading (2 ^ 64) 1 1) → ⊥) × (HasNumbersInRange (loading 0 0 1) → ⊥)

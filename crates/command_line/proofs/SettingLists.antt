@@ -12,7 +12,7 @@ use Rattle.command_line.specs.Settings.{Row, is_of, times, text_in, text_for, te
 use Rattle.command_line.specs.declared.argument.Argument.{Argument}
 use Rattle.command_line.specs.declared.setting.Setting.{Setting}
 use Rattle.command_line.specs.declared.setting.Value.{Value}
-use Rattle.command_line.specs.declared.setting.Value.TheVariants.{Nothing, Text, Number}
+use Rattle.command_line.specs.declared.setting.Value.TheVariants.{Nothing, Text, Number, Books}
 
 -- an argument has no more texts than it is given times
 one-text : (b : Bool) (value : Value) (texts : List (List ℕ)) (count : ℕ) → length texts ≤ count
@@ -20,6 +20,7 @@ one-text : (b : Bool) (value : Value) (texts : List (List ℕ)) (count : ℕ) �
 one-text true Nothing texts count few = omega arith
 one-text true (Text text) texts count few = omega arith
 one-text true (Number number) texts count few = omega arith
+one-text true (Books books) texts count few = omega arith
 one-text false value texts count few = omega arith
 
 pub texts-few : (argument : Argument) (settings : List Setting)

@@ -1,6 +1,6 @@
 -- Words at small examples, each worked out by hand.
 use Rattle.std.proofs.Common.{◌≡◌, ◌==◌, ℕ, Bool, true, false, if◌then◌else◌, Option, None, Some, is_some, List, []}
-use Rattle.std.proofs.Common.{◌∷◌, refl, map, codes, length, replicate}
+use Rattle.std.proofs.Common.{◌∷◌, ◌++◌, refl, map, codes, length, replicate}
 use Prim.Native.String.{String}
 use Rattle.std.specs.Fmt.{digits}
 use Rattle.std.specs.List.{filter}
@@ -9,7 +9,7 @@ use Rattle.command_line.specs.Arguments.{name_at, place}
 use Rattle.command_line.specs.Command.{command_of, learned_of, limit_of}
 use Rattle.command_line.specs.OptionWords.{option_app, settings_asked}
 use Rattle.skk_text.specs.Lines.{with_first}
-use Rattle.command_line.specs.Words.{is_name, number_within, cut}
+use Rattle.command_line.specs.Words.{is_name, number_within, books_listed, cut, parts_of, with_commas}
 use Rattle.command_line.specs.declared.argument.Argument.TheVariants.{File, Dictionary, Limit, Seed, Threads}
 use Rattle.command_line.specs.declared.command.AloneCommand.TheVariants as alone
 use Rattle.command_line.specs.declared.command.Command.{Command}
@@ -93,6 +93,20 @@ dump_words : map read ("dump --learned a" ∷ "dump --book 0 --learned=a" ∷ "d
 unfolding digits
 dump_words = refl
 
+abbrev share_with : List ℕ → ℕ → List ℕ → Option ℕ → Option Command
+share_with learned typist books limit =
+    Some (Alone (alone.Share (record { learned = learned; typist = typist; books = books; limit = limit })))
+
+-- books stand in their order, from one to eight of them; a typist's own may stand among them
+share_words : map read ("share --learned a --typist 1 --books 7,0" ∷ "share --books=0 --typist=0 --learned=a"
+    ∷ "share --limit 64 --books 65535,1,2,3,4,5,6,0 --typist 65535 --learned a"
+    ∷ "share --typist 7 --limit=268435456 --books=0,7 --learned share" ∷ [])
+    ≡ share_with (codes "a") 1 (7 ∷ 0 ∷ []) None ∷ share_with (codes "a") 0 (0 ∷ []) None
+    ∷ share_with (codes "a") 65535 (65535 ∷ 1 ∷ 2 ∷ 3 ∷ 4 ∷ 5 ∷ 6 ∷ 0 ∷ []) (Some 64)
+    ∷ share_with (codes "share") 7 (0 ∷ 7 ∷ []) (Some 268435456) ∷ []
+unfolding digits
+share_words = refl
+
 load_words : map read ("load --seed 0 --sessions 1 --lines 1"
     ∷ "load --threads --lines=20000 --sessions=64 --seed=18446744073709551615" ∷ [])
     ≡ load_with 0 1 1 false ∷ load_with 18446744073709551615 64 20000 true ∷ []
@@ -133,9 +147,43 @@ bad_values : taken ("type --dict" ∷ "type --dict=" ∷ "type --dict " ∷ "typ
     ∷ "type --dict - a" ∷ "type --dict --threads" ∷ "type --rules" ∷ "type --rules=" ∷ "type --learned -"
     ∷ "type --learned=--" ∷ "type --threads="
     ∷ "type --threads=x" ∷ "type --threads x" ∷ "type --dict = a" ∷ "type --dict a --limit" ∷ "dump --learned a --book"
-    ∷ "dump --learned" ∷ [])
+    ∷ "dump --learned" ∷ "share --learned a --typist 1 --books" ∷ "share --learned a --books 1 --typist" ∷ [])
     ≡ []
+unfolding digits
 bad_values = refl
+
+-- texts as lists of books: a number of each, in decimal, between commas; from one to eight, and none of them twice
+lists : map (λ text. books_listed (codes text)) ("0" ∷ "65535" ∷ "7,0" ∷ "0,7" ∷ "1,10,100" ∷ "8,7,6,5,4,3,2,1" ∷ [])
+    ≡ Some (0 ∷ []) ∷ Some (65535 ∷ []) ∷ Some (7 ∷ 0 ∷ []) ∷ Some (0 ∷ 7 ∷ []) ∷ Some (1 ∷ 10 ∷ 100 ∷ [])
+    ∷ Some (8 ∷ 7 ∷ 6 ∷ 5 ∷ 4 ∷ 3 ∷ 2 ∷ 1 ∷ []) ∷ []
+unfolding digits
+lists = refl
+
+no_lists : filter (λ text. is_some (books_listed (codes text)))
+    ("" ∷ "," ∷ "7," ∷ ",7" ∷ "7,,0" ∷ "7,7" ∷ "7,0,7" ∷ "0,7,0" ∷ "65536" ∷ "7,65536" ∷ "65536,7" ∷ "9,8,7,6,5,4,3,2,1"
+    ∷ "9,8,7,6,5,4,3,2,9" ∷ "1,2,3,4,5,6,7,8," ∷ "7 ,0" ∷ "7, 0" ∷ " 7" ∷ "7 " ∷ "7 0" ∷ "7;0" ∷ "07" ∷ "7,00" ∷ "+7"
+    ∷ "-7" ∷ "7,-0" ∷ "a" ∷ "7,a" ∷ "７" ∷ "7，0" ∷ "7、0" ∷ [])
+    ≡ []
+unfolding digits
+no_lists = refl
+
+shared_lists : map (λ books.
+    is_some (command_of (words "share --learned a --typist 1" ++ (codes "--books" ∷ codes books ∷ []))))
+    ("7,0" ∷ "7, 0" ∷ "" ∷ "7," ∷ "7,7" ∷ "-7" ∷ "1,2,3,4,5,6,7,8" ∷ "1,2,3,4,5,6,7,8,9" ∷ [])
+    ≡ true ∷ false ∷ false ∷ false ∷ false ∷ false ∷ true ∷ false ∷ []
+unfolding digits
+shared_lists = refl
+
+-- the parts of a text between commas, and numbers with these between
+parts : map (λ text. parts_of (codes text)) ("" ∷ "a" ∷ "," ∷ "a,b" ∷ "a,,bc," ∷ [])
+    ≡ ([] ∷ []) ∷ (codes "a" ∷ []) ∷ ([] ∷ [] ∷ []) ∷ (codes "a" ∷ codes "b" ∷ [])
+    ∷ (codes "a" ∷ [] ∷ codes "bc" ∷ [] ∷ []) ∷ []
+parts = refl
+
+commas : map with_commas ([] ∷ (7 ∷ []) ∷ (7 ∷ 0 ∷ []) ∷ (65535 ∷ 10 ∷ 7 ∷ []) ∷ [])
+    ≡ [] ∷ codes "7" ∷ codes "7,0" ∷ codes "65535,10,7" ∷ []
+unfolding digits
+commas = refl
 
 -- a spelling that is no option's
 bad_spellings : taken ("type --dic a" ∷ "type --dicts a" ∷ "type --Dict a" ∷ "type -dict a" ∷ "type dict a"
@@ -150,14 +198,18 @@ twice : taken ("type --rules a --rules a" ∷ "type --learned a --learned=a" ∷
     ∷ "serve --limit=64 --learned a --limit 65" ∷ "dump --learned a --book 1 --book 1"
     ∷ "load --seed 1 --seed 1 --sessions 1 --lines 1" ∷ "load --seed 1 --sessions 1 --sessions 1 --lines 1"
     ∷ "load --seed 1 --sessions 1 --lines 1 --lines 1"
-    ∷ "load --seed 1 --sessions 1 --lines 1 --threads --threads" ∷ [])
+    ∷ "load --seed 1 --sessions 1 --lines 1 --threads --threads"
+    ∷ "share --learned a --learned a --typist 1 --books 7" ∷ "share --learned a --typist 1 --typist 1 --books 7"
+    ∷ "share --learned a --typist 1 --books 7 --books 0"
+    ∷ "share --learned a --typist 1 --books 7 --limit 64 --limit 64" ∷ [])
     ≡ []
 unfolding digits
 twice = refl
 
 -- a required option that is missing, and an option of another command
 missing : taken ("serve" ∷ "serve --port 1" ∷ "dump" ∷ "dump --book 1" ∷ "load" ∷ "load --sessions 1 --lines 1"
-    ∷ "load --seed 1 --lines 1" ∷ "load --seed 1 --sessions 1" ∷ []) ≡ []
+    ∷ "load --seed 1 --lines 1" ∷ "load --seed 1 --sessions 1" ∷ "share" ∷ "share --typist 1 --books 7"
+    ∷ "share --learned a --books 7" ∷ "share --learned a --typist 1" ∷ []) ≡ []
 unfolding digits
 missing = refl
 
@@ -167,7 +219,10 @@ of_another : taken ("type --port 1" ∷ "type --connections 1" ∷ "type --book 
     ∷ "dump --learned a --limit 64" ∷ "dump --learned a --dict a" ∷ "dump --learned a --threads"
     ∷ "dump --learned a --seed 1"
     ∷ "load --seed 1 --sessions 1 --lines 1 --learned a" ∷ "load --seed 1 --sessions 1 --lines 1 --dict a"
-    ∷ "load --seed 1 --sessions 1 --lines 1 --limit 64" ∷ [])
+    ∷ "load --seed 1 --sessions 1 --lines 1 --limit 64" ∷ "type --typist 1" ∷ "type --books 1"
+    ∷ "dump --learned a --typist 1" ∷ "dump --learned a --books 1" ∷ "serve --learned a --books 1"
+    ∷ "share --learned a --typist 1 --books 7 --book 7" ∷ "share --learned a --typist 1 --books 7 --dict a"
+    ∷ "share --learned a --typist 1 --books 7 --threads" ∷ "share --learned a --typist 1 --books 7 a" ∷ [])
     ≡ []
 unfolding digits
 of_another = refl
@@ -178,7 +233,9 @@ beyond : taken
     ∷ "serve --learned a --connections 0" ∷ "serve --learned a --connections 1000001" ∷ "dump --learned a --book 65536"
     ∷ "load --seed 18446744073709551616 --sessions 1 --lines 1" ∷ "load --seed 1 --sessions 0 --lines 1"
     ∷ "load --seed 1 --sessions 65 --lines 1" ∷ "load --seed 1 --sessions 1 --lines 0"
-    ∷ "load --seed 1 --sessions 1 --lines 20001" ∷ [])
+    ∷ "load --seed 1 --sessions 1 --lines 20001" ∷ "share --learned a --typist 65536 --books 7"
+    ∷ "share --learned a --typist 1 --books 7 --limit 63"
+    ∷ "share --learned a --typist 1 --books 7 --limit 268435457" ∷ [])
     ≡ []
 unfolding digits
 beyond = refl
@@ -196,7 +253,7 @@ names : map (λ text. is_name (codes text)) ("" ∷ "-" ∷ "-a" ∷ "a" ∷ "a-
     ≡ false ∷ false ∷ false ∷ true ∷ true ∷ true ∷ true ∷ true ∷ []
 names = refl
 
-cuts : map (λ text. cut (codes text)) ("" ∷ "a" ∷ "=" ∷ "a=" ∷ "=b" ∷ "a=b" ∷ "a=b=c" ∷ "ab==" ∷ [])
+cuts : map (λ text. cut 61 (codes text)) ("" ∷ "a" ∷ "=" ∷ "a=" ∷ "=b" ∷ "a=b" ∷ "a=b=c" ∷ "ab==" ∷ [])
     ≡ None ∷ None ∷ Some ([], []) ∷ Some (codes "a", []) ∷ Some ([], codes "b") ∷ Some (codes "a", codes "b")
     ∷ Some (codes "a", codes "b=c") ∷ Some (codes "ab", codes "=") ∷ []
 cuts = refl
@@ -222,9 +279,9 @@ asked = refl
 learned_files : map (λ line. option_and_then learned_of (read line))
     ("type" ∷ "type --learned a" ∷ "type --threads --learned=b" ∷ "serve --learned a --dict b" ∷ "check a"
     ∷ "dump --learned a" ∷ "load --seed 1 --sessions 1 --lines 1" ∷ "load --seed 1 --sessions 1 --lines 1 --threads"
-    ∷ "typ" ∷ "dump --book 7 --learned=b" ∷ [])
+    ∷ "typ" ∷ "dump --book 7 --learned=b" ∷ "share --books 7,0 --typist 1 --learned b" ∷ "share --learned b" ∷ [])
     ≡ None ∷ Some (codes "a") ∷ Some (codes "b") ∷ Some (codes "a") ∷ None ∷ Some (codes "a") ∷ None ∷ None ∷ None
-    ∷ Some (codes "b") ∷ []
+    ∷ Some (codes "b") ∷ Some (codes "b") ∷ None ∷ []
 unfolding digits
 learned_files = refl
 

@@ -1,10 +1,11 @@
 -- Words as characters and as bytes.
 use Rattle.std.proofs.Common.{◌≡◌, ◌<◌, ◌≤◌, ◌+◌, ◌^◌, ◌∙◌, ◌≢◌, ◌&&◌, ◌==◌, ◌⊎◌, sym, ap, ℕ, suc, Bool, true, false}
 use Rattle.std.proofs.Common.{not, if◌then◌else◌, None, Some, List, [], ◌∷◌, ◌++◌, length, take, drop, get_or, refl}
-use Rattle.std.proofs.Common.{subst, arith, inl, inr, Decides, nat_le, nat_lt, zero, length-append}
+use Rattle.std.proofs.Common.{subst, arith, inl, inr, ap₂, Decides, nat_le, nat_lt, zero, length-append}
 use lib.Utf8.{encode, encodes}
 use Rattle.std.specs.Fmt.{decimal}
-use Rattle.std.specs.List.{list_all}
+use Rattle.std.specs.List.{AllByRecursion, list_all}
+use Rattle.std.specs.Option.{option_map}
 use Rattle.std.specs.Str.{chars, bytes_eq, IsUtf8, IsAscii}
 use Rattle.std.specs.Str.Parse.{digits_value, IsNumeral}
 use Rattle.std.proofs.lemmas.Bool.{cases_lt, and_parts, false_from_ne_true, ne_eqb, eq-eqb, ltb-true}
@@ -14,10 +15,12 @@ use Rattle.std.proofs.Math.Seq.{drop-append-add}
 use Rattle.std.proofs.lemmas.List.{get_or-append-add, get_or_at, get_or_past, take_at}
 use Rattle.std.proofs.lemmas.Slice.Eq.{bytes_eq-Decides}
 use Rattle.std.proofs.lemmas.Str.{byte_from_char, char_from_byte, encode_ascii, encodes-chars, chars-IsAscii}
-use Rattle.std.proofs.lemmas.Str.{encodes-IsAscii, length-le-encodes}
+use Rattle.std.proofs.lemmas.Str.{encodes-IsAscii, encodes-append, length-le-encodes}
 use Rattle.std.proofs.lemmas.Str.Parse.{digit_at}
 use Rattle.skk_text.specs.TextLaws.{chars-split}
-use Rattle.command_line.specs.Words.{is_name, number_within, cut}
+use Rattle.skk_calls.specs.BookLists.{is_book_list}
+use Rattle.command_line.specs.Ranges.{LiesFrom}
+use Rattle.command_line.specs.Words.{is_name, number_within, cut, with_character, with_commas}
 
 -- the empty text has no characters
 pub empty : chars [] ≡ []
@@ -113,52 +116,56 @@ no-number bs least most utf8 small none =
     (sym (encodes-chars bs utf8) ∙ ap encodes same ∙ encodes-IsAscii (decimal number) (decimal-ascii number fits))) in
     sym (ap (λ b. if b then Some number else None) told)
 
--- characters of whose bytes none is `=` are cut at none, and before a `=` that follows them
-not-equals : (c : ℕ) (cs : List ℕ) → ((k : ℕ) → k < length (encodes (c ∷ cs)) → get_or (encodes (c ∷ cs)) k 0 ≢ 61)
-    → (c == 61) ≡ false
-not-equals c cs none =
-    ne_eqb c 61 (λ is.
-    let alone : encode c ≡ c ∷ [] = encode_ascii c (omega arith) in
-    none 0 (omega (arith, length-append (encode c) (encodes cs), ap length alone))
-    (ap (λ bs. get_or (bs ++ encodes cs) 0 0) alone ∙ is))
+-- characters of whose bytes none is one of ASCII are cut nowhere, and before that one where it follows them
+module _ (at : ℕ) (small : at < 128) where
+  differs : (c : ℕ) (cs : List ℕ)
+      → ((k : ℕ) → k < length (encodes (c ∷ cs)) → get_or (encodes (c ∷ cs)) k 0 ≢ at) → (c == at) ≡ false
+  differs c cs none =
+      ne_eqb c at (λ is.
+      let alone : encode c ≡ c ∷ [] = encode_ascii c (omega (arith, small)) in
+      none 0 (omega (arith, length-append (encode c) (encodes cs), ap length alone))
+      (ap (λ bs. get_or (bs ++ encodes cs) 0 0) alone ∙ is))
 
-behind-first : (c : ℕ) (cs : List ℕ) → ((k : ℕ) → k < length (encodes (c ∷ cs)) → get_or (encodes (c ∷ cs)) k 0 ≢ 61)
-    → (k : ℕ) → k < length (encodes cs) → get_or (encodes cs) k 0 ≢ 61
-behind-first c cs none k within = λ is.
-    none (length (encode c) + k) (omega (arith, length-append (encode c) (encodes cs)))
-    (get_or-append-add (encode c) (encodes cs) k 0 ∙ is)
+  behind-first : (c : ℕ) (cs : List ℕ)
+      → ((k : ℕ) → k < length (encodes (c ∷ cs)) → get_or (encodes (c ∷ cs)) k 0 ≢ at)
+      → (k : ℕ) → k < length (encodes cs) → get_or (encodes cs) k 0 ≢ at
+  behind-first c cs none k within = λ is.
+      none (length (encode c) + k) (omega (arith, length-append (encode c) (encodes cs), within))
+      (get_or-append-add (encode c) (encodes cs) k 0 ∙ is)
 
-uncut : (cs : List ℕ) → ((k : ℕ) → k < length (encodes cs) → get_or (encodes cs) k 0 ≢ 61) → cut cs ≡ None
-uncut [] none = refl
-uncut (c ∷ cs) none = grind (arith, not-equals c cs none, uncut cs (behind-first c cs none))
+  uncut : (cs : List ℕ) → ((k : ℕ) → k < length (encodes cs) → get_or (encodes cs) k 0 ≢ at) → cut at cs ≡ None
+  uncut [] none = refl
+  uncut (c ∷ cs) none = grind (arith, differs c cs none, uncut cs (behind-first c cs none))
 
-cut-behind : (cs rest : List ℕ) → ((k : ℕ) → k < length (encodes cs) → get_or (encodes cs) k 0 ≢ 61)
-    → cut (cs ++ 61 ∷ rest) ≡ Some (cs, rest)
-cut-behind [] rest none = refl
-cut-behind (c ∷ cs) rest none = grind (arith, not-equals c cs none, cut-behind cs rest (behind-first c cs none))
+  cut-behind : (cs rest : List ℕ) → ((k : ℕ) → k < length (encodes cs) → get_or (encodes cs) k 0 ≢ at)
+      → cut at (cs ++ at ∷ rest) ≡ Some (cs, rest)
+  cut-behind [] rest none = ap (λ b. if b then Some ([], rest) else option_map (with_character at) (cut at rest))
+      (eq-eqb at at refl)
+  cut-behind (c ∷ cs) rest none =
+      grind (arith, differs c cs none, cut-behind cs rest (behind-first c cs none))
 
--- so is a text
-abbrev Lacks : List ℕ → Type 0
-Lacks bs = (k : ℕ) → k < length bs → get_or bs k 0 ≢ 61
+  -- so is a text
+  abbrev Lacks : List ℕ → Type 0
+  Lacks bs = (k : ℕ) → k < length bs → get_or bs k 0 ≢ at
 
-pub text-uncut : (bs : List ℕ) → IsUtf8 bs → Lacks bs → cut (chars bs) ≡ None
-text-uncut bs utf8 none = uncut (chars bs) (subst Lacks (sym (encodes-chars bs utf8)) none)
+  pub text-uncut : (bs : List ℕ) → IsUtf8 bs → Lacks bs → cut at (chars bs) ≡ None
+  text-uncut bs utf8 none = uncut (chars bs) (subst Lacks (sym (encodes-chars bs utf8)) none)
 
-pub text-cut : (bs front behind : List ℕ) → IsUtf8 bs → bs ≡ front ++ 61 ∷ behind → Lacks front
-    → cut (chars bs) ≡ Some (chars front, chars behind)
-text-cut bs front behind utf8 e none =
-    let place = length front in
-    let long : length bs ≡ length front + suc (length behind) = ap length e ∙ length-append front (61 ∷ behind) in
-    let byte : get_or bs place 0 ≡ 61 = ap (λ t. get_or t place 0) e ∙ get_or_at front 61 behind 0 place refl in
-    let parts = chars-split bs place utf8 (omega arith) (omega arith) in
-    let before : take place bs ≡ front = ap (take place) e ∙ take_at front (61 ∷ behind) place refl in
-    let after : drop (place + 1) bs ≡ behind = ap (drop (place + 1)) e ∙ drop-append-add front (61 ∷ behind) 1 in
-    let whole : chars bs ≡ chars front ++ 61 ∷ chars behind =
-    parts.1 ∙ ap (λ t. chars t ++ get_or bs place 0 ∷ chars (drop (place + 1) bs)) before
-    ∙ ap (λ b. chars front ++ b ∷ chars (drop (place + 1) bs)) byte
-    ∙ ap (λ t. chars front ++ 61 ∷ chars t) after in
-    let own : encodes (chars front) ≡ front = encodes-chars front (subst IsUtf8 before parts.0) in
-    ap cut whole ∙ cut-behind (chars front) (chars behind) (subst Lacks (sym own) none)
+  pub text-cut : (bs front behind : List ℕ) → IsUtf8 bs → bs ≡ front ++ at ∷ behind → Lacks front
+      → cut at (chars bs) ≡ Some (chars front, chars behind)
+  text-cut bs front behind utf8 e none =
+      let place = length front in
+      let long : length bs ≡ length front + suc (length behind) = ap length e ∙ length-append front (at ∷ behind) in
+      let byte : get_or bs place 0 ≡ at = ap (λ t. get_or t place 0) e ∙ get_or_at front at behind 0 place refl in
+      let parts = chars-split bs place utf8 (omega (arith, long)) (omega (arith, byte, small)) in
+      let before : take place bs ≡ front = ap (take place) e ∙ take_at front (at ∷ behind) place refl in
+      let after : drop (place + 1) bs ≡ behind = ap (drop (place + 1)) e ∙ drop-append-add front (at ∷ behind) 1 in
+      let whole : chars bs ≡ chars front ++ at ∷ chars behind =
+      parts.1 ∙ ap (λ t. chars t ++ get_or bs place 0 ∷ chars (drop (place + 1) bs)) before
+      ∙ ap (λ b. chars front ++ b ∷ chars (drop (place + 1) bs)) byte
+      ∙ ap (λ t. chars front ++ at ∷ chars t) after in
+      let own : encodes (chars front) ≡ front = encodes-chars front (subst IsUtf8 before parts.0) in
+      ap (cut at) whole ∙ cut-behind (chars front) (chars behind) (subst Lacks (sym own) none)
 
 -- the bytes of a name are one, and so are those of a number, which are its digits
 pub name-bytes : (word : List ℕ) → is_name word ≡ true → is_name (encodes word) ≡ true
@@ -180,3 +187,27 @@ decimal-bytes number small =
     by (d ∷ ds) numeral =
         let digit = digit_at (d ∷ ds) 0 numeral.1 (omega arith) in
         ap not (ne_eqb d 45 (λ is. omega (arith, digit, is)))
+
+-- numbers of a list of books with a comma between are their bytes, and no flag
+name-more : (word more : List ℕ) → is_name word ≡ true → is_name (word ++ more) ≡ true
+name-more [] more name = absurd (cc)
+name-more (c ∷ cs) more name = name
+
+numbers-bytes : (number : ℕ) (numbers : List ℕ) → AllByRecursion (LiesFrom 0 65535) (number ∷ numbers)
+    → (encodes (with_commas (number ∷ numbers)) ≡ with_commas (number ∷ numbers))
+    × (is_name (with_commas (number ∷ numbers)) ≡ true)
+unfolding encode
+numbers-bytes number [] lie = decimal-bytes number (omega (arith, lie.0.1))
+numbers-bytes number (next ∷ numbers) lie =
+    let own = decimal-bytes number (omega (arith, lie.0.1)) in
+    let rest = numbers-bytes next numbers lie.1 in
+    let more = with_commas (next ∷ numbers) in (
+      encodes-append (decimal number) (44 ∷ more)
+          ∙ ap₂ (λ (front back : List ℕ). front ++ 44 ∷ back) own.0 rest.0,
+      name-more (decimal number) (44 ∷ more) own.1,
+    )
+
+pub commas-bytes : (books : List ℕ) → is_book_list books ≡ true → AllByRecursion (LiesFrom 0 65535) books
+    → (encodes (with_commas books) ≡ with_commas books) × (is_name (with_commas books) ≡ true)
+commas-bytes [] list lie = absurd (cc)
+commas-bytes (number ∷ numbers) list lie = numbers-bytes number numbers lie

@@ -4,12 +4,14 @@ use Prim.Native.String.{String}
 use Rattle.std.specs.Map.{lookup}
 use Rattle.std.specs.Option.{option_map, option_map_or}
 use Rattle.std.specs.Str.{bytes_eq}
-use Rattle.command_line.specs.Words.{is_name, number_within}
+use Rattle.command_line.specs.Words.{is_name, number_within, books_listed}
 use Rattle.command_line.specs.declared.argument.Argument.{Argument}
 use Rattle.command_line.specs.declared.argument.Argument.TheVariants.{File, Dictionary, Rules, Learned, Limit, Port}
-use Rattle.command_line.specs.declared.argument.Argument.TheVariants.{Connections, Book, Seed, Sessions, Lines, Threads}
+use Rattle.command_line.specs.declared.argument.Argument.TheVariants.{Connections, Book, Typist, Books, Seed}
+use Rattle.command_line.specs.declared.argument.Argument.TheVariants.{Sessions, Lines, Threads}
 use Rattle.command_line.specs.declared.argument.OptionRow.{OptionRow}
 use Rattle.command_line.specs.declared.argument.Takes.{Takes}
+use Rattle.command_line.specs.declared.argument.Takes.TheVariants as takes
 use Rattle.command_line.specs.declared.argument.Takes.TheVariants.{Nothing, Name, Number}
 use Rattle.command_line.specs.declared.setting.Value.{Value}
 use Rattle.command_line.specs.declared.setting.Value.TheVariants as values
@@ -28,6 +30,8 @@ options =
     ∷ option "--port" Port (Number 1 65535)
     ∷ option "--connections" Connections (Number 1 1000000)
     ∷ option "--book" Book (Number 0 65535)
+    ∷ option "--typist" Typist (Number 0 65535)
+    ∷ option "--books" Books takes.Books
     ∷ option "--seed" Seed (Number 0 18446744073709551615)
     ∷ option "--sessions" Sessions (Number 1 64)
     ∷ option "--lines" Lines (Number 1 20000)
@@ -43,6 +47,7 @@ abbrev pub value_of : Takes → List ℕ → Option Value
 value_of Nothing word = None
 value_of Name word = if is_name word then Some (values.Text word) else None
 value_of (Number least most) word = option_map values.Number (number_within least most word)
+value_of takes.Books word = option_map values.Books (books_listed word)
 
 -- the place of an argument in their order
 abbrev pub place : Argument → ℕ
@@ -54,10 +59,12 @@ place Limit = 4
 place Port = 5
 place Connections = 6
 place Book = 7
-place Seed = 8
-place Sessions = 9
-place Lines = 10
-place Threads = 11
+place Typist = 8
+place Books = 9
+place Seed = 10
+place Sessions = 11
+place Lines = 12
+place Threads = 13
 
 -- the row of the table that gives the argument at a place
 abbrev pub row_at : ℕ → Option (List ℕ × OptionRow)

@@ -5,19 +5,22 @@ use Rattle.std.specs.Map.{lookup}
 use Rattle.std.specs.Option.{option_and_then}
 use Rattle.std.specs.Str.{bytes_eq}
 use Rattle.command_line.specs.Settings.{Row, fits, settings_of, texts_of, text_given, text_of, number_given, number_or}
-use Rattle.command_line.specs.Settings.{is_given}
+use Rattle.command_line.specs.Settings.{books_of, is_given}
 use Rattle.command_line.specs.declared.argument.Argument.{Argument}
 use Rattle.command_line.specs.declared.argument.Argument.TheVariants.{File, Dictionary, Rules, Learned, Limit, Port}
-use Rattle.command_line.specs.declared.argument.Argument.TheVariants.{Connections, Book, Seed, Sessions, Lines, Threads}
+use Rattle.command_line.specs.declared.argument.Argument.TheVariants.{Connections, Book, Typist, Books, Seed}
+use Rattle.command_line.specs.declared.argument.Argument.TheVariants.{Sessions, Lines, Threads}
 use Rattle.command_line.specs.declared.command.Command.{Command}
 use Rattle.command_line.specs.declared.command.Command.TheVariants.{Alone, Waiting}
 use Rattle.command_line.specs.declared.command.AloneCommand.TheVariants as alone
 use Rattle.command_line.specs.declared.command.WaitingCommand.TheVariants as waiting
 use Rattle.command_line.specs.declared.command_name.CommandName.{CommandName}
-use Rattle.command_line.specs.declared.command_name.CommandName.TheVariants.{TypeScript, Serve, Check, Dump, Load}
+use Rattle.command_line.specs.declared.command_name.CommandName.TheVariants.{TypeScript, Serve, Check, Dump, Share}
+use Rattle.command_line.specs.declared.command_name.CommandName.TheVariants.{Load}
 use Rattle.command_line.specs.declared.command.DumpOptions.{DumpOptions}
 use Rattle.command_line.specs.declared.command.LoadOptions.{LoadOptions}
 use Rattle.command_line.specs.declared.command.ServeOptions.{ServeOptions}
+use Rattle.command_line.specs.declared.command.ShareOptions.{ShareOptions}
 use Rattle.command_line.specs.declared.command.TypeOptions.{TypeOptions}
 use Rattle.command_line.specs.declared.setting.Setting.{Setting}
 
@@ -27,11 +30,12 @@ title TypeScript = codes "type"
 title Serve = codes "serve"
 title Check = codes "check"
 title Dump = codes "dump"
+title Share = codes "share"
 title Load = codes "load"
 
 -- the words that name commands
 abbrev pub command_names : List (List ℕ × CommandName)
-command_names = map (λ name. (title name, name)) (TypeScript ∷ Serve ∷ Check ∷ Dump ∷ Load ∷ [])
+command_names = map (λ name. (title name, name)) (TypeScript ∷ Serve ∷ Check ∷ Dump ∷ Share ∷ Load ∷ [])
 
 -- the command that a word names
 abbrev pub command_named : List ℕ → Option CommandName
@@ -56,6 +60,7 @@ takes Serve =
     required Learned ∷ up_to 16 Dictionary ∷ optional Rules ∷ optional Limit ∷ optional Port ∷ optional Connections ∷ []
 takes Check = required File ∷ []
 takes Dump = required Learned ∷ optional Book ∷ []
+takes Share = required Learned ∷ required Typist ∷ required Books ∷ optional Limit ∷ []
 takes Load = required Seed ∷ required Sessions ∷ required Lines ∷ optional Threads ∷ []
 
 -- the options of `type`, with what stands for those that are absent
@@ -82,6 +87,15 @@ serve_options settings = record {
 abbrev pub dump_options : List Setting → DumpOptions
 dump_options settings = record { learned = text_of Learned settings; book = number_or 0 Book settings }
 
+-- the options of `share`
+abbrev pub share_options : List Setting → ShareOptions
+share_options settings = record {
+  learned = text_of Learned settings;
+  typist = number_or 0 Typist settings;
+  books = books_of Books settings;
+  limit = number_given Limit settings;
+}
+
 -- the options of `load`, of which no number is absent
 abbrev pub load_options : List Setting → LoadOptions
 load_options settings = record {
@@ -99,6 +113,7 @@ command TypeScript settings =
 command Serve settings = Waiting (waiting.Serve (serve_options settings))
 command Check settings = Alone (alone.Check (text_of File settings))
 command Dump settings = Alone (alone.Dump (dump_options settings))
+command Share settings = Alone (alone.Share (share_options settings))
 command Load settings =
     if is_given Threads settings
     then Waiting (waiting.Load (load_options settings))
@@ -123,6 +138,7 @@ abbrev pub learned_of : Command → Option (List ℕ)
 learned_of (Alone (alone.TypeScript options)) = options.learned
 learned_of (Alone (alone.Check file)) = None
 learned_of (Alone (alone.Dump options)) = Some options.learned
+learned_of (Alone (alone.Share options)) = Some options.learned
 learned_of (Alone (alone.Load options)) = None
 learned_of (Waiting (waiting.TypeScript options)) = options.learned
 learned_of (Waiting (waiting.Serve options)) = Some options.learned

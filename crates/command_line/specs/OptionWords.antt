@@ -12,10 +12,11 @@ use Rattle.clap.specs.declared.parser.matches.ArgMatches.{ArgMatches}
 use Rattle.command_line.specs.Arguments.{place, row_at, takes_at, name_at}
 use Rattle.command_line.specs.Command.{title, takes}
 use Rattle.command_line.specs.Ranges.{LiesFrom}
-use Rattle.command_line.specs.Settings.{Row, fits, is_given, number_given, settings_of, text_given}
+use Rattle.command_line.specs.Settings.{Row, fits, books_given, is_given, number_given, settings_of, text_given}
+use Rattle.command_line.specs.Words.{with_commas}
 use Rattle.command_line.specs.declared.argument.Argument.{Argument}
 use Rattle.command_line.specs.declared.argument.Takes.{Takes}
-use Rattle.command_line.specs.declared.argument.Takes.TheVariants.{Nothing, Name, Number}
+use Rattle.command_line.specs.declared.argument.Takes.TheVariants.{Nothing, Name, Number, Books}
 use Rattle.command_line.specs.declared.command_name.CommandName.{CommandName}
 use Rattle.command_line.specs.declared.setting.Setting.{Setting}
 
@@ -24,6 +25,7 @@ abbrev pub action_of : Takes → Option ArgAction
 action_of Nothing = Some SetTrue
 action_of Name = None
 action_of (Number least most) = None
+action_of Books = None
 
 -- the option of an argument, which must be given or need not
 abbrev pub option_rule : Argument → Bool → Rule
@@ -63,8 +65,8 @@ abbrev pub settings_asked : CommandName → List (List ℕ) → Option (List Set
 settings_asked name [] = None
 settings_asked name (word ∷ words) = option_and_then (settings_with name) (settings_of words)
 
--- what is found for an option is what settings give it: its text, its number in decimal, which lies in its range, or
--- that it is given
+-- what is found for an option is what settings give it: its text, its number in decimal, which lies in its range, its
+-- books with a comma between, or that it is given
 abbrev pub GivesTaken : Takes → Argument → List Setting → ArgMatches → Type 0
 GivesTaken Nothing argument settings matches =
     one_text (found_of matches) (name_at (place argument))
@@ -75,6 +77,8 @@ GivesTaken Name argument settings matches =
 GivesTaken (Number least most) argument settings matches =
     (first_value (found_of matches) (name_at (place argument)) ≡ option_map decimal (number_given argument settings))
     × IfSome (number_given argument settings) (LiesFrom least most)
+GivesTaken Books argument settings matches =
+    first_value (found_of matches) (name_at (place argument)) ≡ option_map with_commas (books_given argument settings)
 
 -- so it is with each option of a command
 abbrev pub GivesOptions : CommandName → List Setting → ArgMatches → Type 0

@@ -17,13 +17,15 @@ use Rattle.command_line.specs.SettingLaws.{written}
 use Rattle.command_line.specs.Settings.{settings_of, is_of, times, number_in, value_given}
 use Rattle.command_line.specs.Settings.{number_given, number_or, is_given, is_within, fits}
 use Rattle.command_line.specs.declared.argument.Argument.{Argument}
-use Rattle.command_line.specs.declared.argument.Argument.TheVariants.{Limit, Port, Connections, Book, Seed}
-use Rattle.command_line.specs.declared.argument.Argument.TheVariants.{Sessions, Lines, Threads}
+use Rattle.command_line.specs.declared.argument.Argument.TheVariants.{Limit, Port, Connections, Book, Typist}
+use Rattle.command_line.specs.declared.argument.Argument.TheVariants.{Seed, Sessions, Lines, Threads}
 use Rattle.command_line.specs.declared.argument.Takes.{Takes}
+use Rattle.command_line.specs.declared.argument.Takes.TheVariants as takes
 use Rattle.command_line.specs.declared.argument.Takes.TheVariants.{Nothing, Name, Number}
 use Rattle.command_line.specs.declared.command.Command.{Command}
 use Rattle.command_line.specs.declared.command_name.CommandName.{CommandName}
-use Rattle.command_line.specs.declared.command_name.CommandName.TheVariants.{TypeScript, Serve, Check, Dump, Load}
+use Rattle.command_line.specs.declared.command_name.CommandName.TheVariants.{TypeScript, Serve, Check, Dump, Share}
+use Rattle.command_line.specs.declared.command_name.CommandName.TheVariants.{Load}
 use Rattle.command_line.specs.declared.setting.Setting.{Setting}
 use Rattle.command_line.specs.declared.setting.Value.{Value}
 use Rattle.command_line.specs.declared.setting.Value.TheVariants as values
@@ -33,11 +35,13 @@ abbrev pub IsTaken : Takes → Value → Type 0
 IsTaken Nothing value = value ≡ values.Nothing
 IsTaken Name value = (text : List ℕ) × (value ≡ values.Text text)
 IsTaken (Number least most) value = (number : ℕ) × (value ≡ values.Number number) × LiesFrom least most number
+IsTaken takes.Books value = (books : List ℕ) × (value ≡ values.Books books)
 
 value-taken : (taken : Takes) (word : List ℕ) (value : Value) → Writes taken word value → IsTaken taken value
 value-taken Nothing word value writes = absurd writes
 value-taken Name word value writes = (word, writes.1)
 value-taken (Number least most) word value writes = (writes.0, writes.2, writes.3)
+value-taken takes.Books word value writes = (writes.0, writes.2)
 
 -- so it is in a setting that is written
 abbrev pub IsGiven : Setting → Type 0
@@ -47,6 +51,7 @@ none-taken : (taken : Takes) → takes_value taken ≡ false → IsTaken taken v
 none-taken Nothing none = refl
 none-taken Name none = cc
 none-taken (Number least most) none = cc
+none-taken takes.Books none = cc
 
 -- and so in all that words write
 abbrev pub AreGiven : List Setting → Type 0
@@ -143,6 +148,10 @@ in_range Serve settings given fit = (
 )
 in_range Check settings given fit = tt
 in_range Dump settings given fit = (lies-in Book 0 65535 0 settings given refl (λ e. (omega arith, omega arith))).1
+in_range Share settings given fit = (
+  (lies-in Typist 0 65535 0 settings given refl (λ e. (omega arith, omega arith))).1,
+  given-lies Limit 64 268435456 settings given refl,
+)
 in_range Load settings given fit =
     let numbers = load-in_range settings given fit in
     cond_both (is_given Threads settings) _ _ HasNumbersInRange (λ e. numbers) (λ e. numbers)

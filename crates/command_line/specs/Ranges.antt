@@ -26,6 +26,7 @@ abbrev pub IsAloneInRange : AloneCommand → Type 0
 IsAloneInRange (alone.TypeScript options) = IsLimitInRange options.limit
 IsAloneInRange (alone.Check file) = ⊤
 IsAloneInRange (alone.Dump options) = options.book ≤ 65535
+IsAloneInRange (alone.Share options) = (options.typist ≤ 65535) × IsLimitInRange options.limit
 IsAloneInRange (alone.Load options) = IsLoadInRange options
 
 -- each number of a command that may wait lies in its range

@@ -4,6 +4,8 @@ use Rattle.std.specs.Prelude.{None, List, [], ◌∷◌, ◌++◌, length, unwra
 use Rattle.std.specs.List.{filter_map, list_all, sum_by}
 use Rattle.std.specs.Option.{option_map, option_map_or, option_and_then}
 use Rattle.command_line.specs.Arguments.{option_named, value_of, place}
+use Rattle.skk_calls.specs.BookLists.{shared_alone}
+use Rattle.skk_text.specs.Characters.{code}
 use Rattle.command_line.specs.Words.{is_name, cut}
 use Rattle.command_line.specs.declared.argument.Argument.{Argument}
 use Rattle.command_line.specs.declared.argument.Argument.TheVariants.{File}
@@ -12,7 +14,7 @@ use Rattle.command_line.specs.declared.argument.Takes.{Takes}
 use Rattle.command_line.specs.declared.argument.Takes.TheVariants as takes
 use Rattle.command_line.specs.declared.setting.Setting.{Setting}
 use Rattle.command_line.specs.declared.setting.Value.{Value}
-use Rattle.command_line.specs.declared.setting.Value.TheVariants.{Nothing, Text, Number}
+use Rattle.command_line.specs.declared.setting.Value.TheVariants.{Nothing, Text, Number, Books}
 
 -- an argument with its value
 abbrev pub setting : Argument → Value → Setting
@@ -23,6 +25,7 @@ abbrev pub takes_value : Takes → Bool
 takes_value takes.Nothing = false
 takes_value takes.Name = true
 takes_value (takes.Number least most) = true
+takes_value takes.Books = true
 
 -- an option by itself, where it takes no value
 abbrev pub option_alone : OptionRow → Option Setting
@@ -38,7 +41,8 @@ option_cut parts = option_and_then (λ row. option_with row parts.1) (option_nam
 
 -- a word that spells no option: a file's name, or an option with its value behind `=`
 abbrev pub name_or_cut : List ℕ → Option Setting
-name_or_cut word = if is_name word then Some (setting File (Text word)) else option_and_then option_cut (cut word)
+name_or_cut word =
+    if is_name word then Some (setting File (Text word)) else option_and_then option_cut (cut (code "=") word)
 
 -- what a word gives by itself
 abbrev pub whole : List ℕ → Option Setting
@@ -84,12 +88,21 @@ abbrev pub text_in : Value → Option (List ℕ)
 text_in Nothing = None
 text_in (Text text) = Some text
 text_in (Number number) = None
+text_in (Books books) = None
 
 -- the number that a value is, if it is one
 abbrev pub number_in : Value → Option ℕ
 number_in Nothing = None
 number_in (Text text) = None
 number_in (Number number) = Some number
+number_in (Books books) = None
+
+-- the books that a value is, if it is such
+abbrev pub books_in : Value → Option (List ℕ)
+books_in Nothing = None
+books_in (Text text) = None
+books_in (Number number) = None
+books_in (Books books) = Some books
 
 -- the text that a setting gives an argument, if it does
 abbrev pub text_for : Argument → Setting → Option (List ℕ)
@@ -120,6 +133,14 @@ number_given argument settings = option_and_then number_in (value_given argument
 -- the number of an argument, or another where it is not given
 abbrev pub number_or : ℕ → Argument → List Setting → ℕ
 number_or absent argument settings = unwrap_or (number_given argument settings) absent
+
+-- the books of an argument, where they are given
+abbrev pub books_given : Argument → List Setting → Option (List ℕ)
+books_given argument settings = option_and_then books_in (value_given argument settings)
+
+-- the books of an argument that is given
+abbrev pub books_of : Argument → List Setting → List ℕ
+books_of argument settings = unwrap_or (books_given argument settings) shared_alone
 
 -- whether an argument is given
 abbrev pub is_given : Argument → List Setting → Bool

@@ -1,10 +1,13 @@
 -- What a word of the command line can be: a name, a number, or two parts around a `=`.
-use Rattle.std.specs.Prelude.{ℕ, Bool, false, not, ◌&&◌, ◌==◌, nat_le, if◌then◌else◌, Option, Some, None, List, [], ◌∷◌}
+use Rattle.std.specs.Prelude.{⊤, ◌<◌, ℕ, Bool, false, not, ◌&&◌, ◌==◌, nat_le, if◌then◌else◌, Option, Some, None, List}
+use Rattle.std.specs.Prelude.{[], ◌∷◌, ◌++◌, length, map}
 use Rattle.std.specs.Fmt.{decimal}
-use Rattle.std.specs.Option.{option_map}
+use Rattle.std.specs.Option.{option_map, option_and_then}
 use Rattle.std.specs.Str.{bytes_eq}
 use Rattle.std.specs.Str.Parse.{digits_value}
 use Rattle.skk_text.specs.Characters.{code}
+use Rattle.skk_text.specs.Lines.{with_first}
+use Rattle.skk_calls.specs.BookLists.{book_limit, is_book_list}
 
 -- whether a word may be a file's name: it is not empty and does not begin with `-`
 abbrev pub is_name : List ℕ → Bool
@@ -21,8 +24,51 @@ number_within least most word =
 abbrev pub with_character : ℕ → List ℕ × List ℕ → List ℕ × List ℕ
 with_character character parts = (character ∷ parts.0, parts.1)
 
--- what stands before and behind the first `=` of a word, where it has one
-abbrev pub cut : List ℕ → Option (List ℕ × List ℕ)
-cut [] = None
-cut (character ∷ rest) =
-    if character == code "=" then Some ([], rest) else option_map (with_character character) (cut rest)
+-- what stands before and behind the first of a character in a word, where it has one
+abbrev pub cut : ℕ → List ℕ → Option (List ℕ × List ℕ)
+cut at [] = None
+cut at (character ∷ rest) =
+    if character == at then Some ([], rest) else option_map (with_character character) (cut at rest)
+
+-- the parts of a word between its commas, of which there is one more than of these
+abbrev pub parts_of : List ℕ → List (List ℕ)
+parts_of [] = [] ∷ []
+parts_of (character ∷ rest) =
+    if character == code "," then [] ∷ parts_of rest else with_first character (parts_of rest)
+
+-- numbers, and others behind them, where there are any
+abbrev pub with_front : List ℕ → Option (List ℕ) → Option (List ℕ)
+with_front numbers others = option_map (λ more. numbers ++ more) others
+
+-- parts with a comma between
+abbrev pub joined_parts : List (List ℕ) → List ℕ
+joined_parts [] = []
+joined_parts (part ∷ []) = part
+joined_parts (part ∷ next ∷ parts) = part ++ code "," ∷ joined_parts (next ∷ parts)
+
+-- numbers in decimal, with a comma between
+abbrev pub with_commas : List ℕ → List ℕ
+with_commas numbers = joined_parts (map decimal numbers)
+
+-- the numbers of books that parts write, where each of them writes one
+abbrev pub numbers_of : List (List ℕ) → Option (List ℕ)
+numbers_of [] = Some []
+numbers_of (part ∷ parts) =
+    option_and_then (λ number. with_front (number ∷ []) (numbers_of parts)) (number_within 0 65535 part)
+
+-- the numbers of books that a word writes between commas, in order
+abbrev pub numbers_in : List ℕ → Option (List ℕ)
+numbers_in word = numbers_of (parts_of word)
+
+-- there are no numbers, or more than a list of books may have
+abbrev pub AreNoneOrBeyond : Option (List ℕ) → Type 0
+AreNoneOrBeyond None = ⊤
+AreNoneOrBeyond (Some numbers) = book_limit < length numbers
+
+-- numbers, where they are a list of books: 1 to 8, and each once
+abbrev pub listed : List ℕ → Option (List ℕ)
+listed numbers = if is_book_list numbers then Some numbers else None
+
+-- the list of books that a word writes
+abbrev pub books_listed : List ℕ → Option (List ℕ)
+books_listed word = option_and_then listed (numbers_in word)

@@ -25,6 +25,10 @@ pub enum Argument {
     Connections,
     /// The number of a book.
     Book,
+    /// The number of a typist.
+    Typist,
+    /// The books that a typist reads.
+    Books,
     /// Where a load begins its drawing.
     Seed,
     /// How many sessions a load has.
@@ -44,6 +48,8 @@ pub enum Takes {
     Name,
     /// A number, from the first to the second.
     Number(u64, u64),
+    /// The numbers of books, between commas.
+    Books,
 }
 
 /// An option: the argument that it gives, and what it takes.
@@ -65,6 +71,8 @@ pub fn option_named(word: &Word) -> Option<OptionRow>
         "--port" => (Argument::Port, Takes::Number(1, 65_535)),
         "--connections" => (Argument::Connections, Takes::Number(1, 1_000_000)),
         "--book" => (Argument::Book, Takes::Number(0, 65_535)),
+        "--typist" => (Argument::Typist, Takes::Number(0, 65_535)),
+        "--books" => (Argument::Books, Takes::Books),
         "--seed" => (Argument::Seed, Takes::Number(0, u64::MAX)),
         "--sessions" => (Argument::Sessions, Takes::Number(1, 64)),
         "--lines" => (Argument::Lines, Takes::Number(1, 20_000)),
@@ -88,6 +96,8 @@ impl Argument {
             Argument::Port => "port",
             Argument::Connections => "connections",
             Argument::Book => "book",
+            Argument::Typist => "typist",
+            Argument::Books => "books",
             Argument::Seed => "seed",
             Argument::Sessions => "sessions",
             Argument::Lines => "lines",
@@ -110,7 +120,7 @@ impl Takes {
     {
         match self {
             Takes::Nothing => false,
-            Takes::Name | Takes::Number(_, _) => true,
+            Takes::Name | Takes::Number(_, _) | Takes::Books => true,
         }
     }
 
@@ -128,6 +138,10 @@ impl Takes {
             }
             Takes::Number(least, most) => match word.number_within(least, most) {
                 Some(number) => Some(Value::Number(number)),
+                None => None,
+            },
+            Takes::Books => match word.books() {
+                Some(books) => Some(Value::Books(books)),
                 None => None,
             },
         }

@@ -1,5 +1,5 @@
 ghost use Rattle.std.specs.Prelude.{◌≡◌, ◌<◌, MatchOption};
-ghost use Rattle.command_line.specs.Command.{type_options, serve_options, learned_of, limit_of};
+ghost use Rattle.command_line.specs.Command.{type_options, serve_options, share_options, learned_of, limit_of};
 ghost use Rattle.command_line.specs.Settings.{times};
 ghost use Rattle.command_line.specs.declared.argument.Argument.TheVariants.{Dictionary};
 
@@ -7,6 +7,7 @@ use crate::argument::Argument;
 use crate::settings::{DICTIONARIES, Settings};
 use crate::word::Word;
 use arrayvec::ArrayVec;
+use skk_calls::BookList;
 
 /// The port that is served where none is given.
 const PORT: u64 = 1178;
@@ -35,6 +36,8 @@ pub enum AloneCommand<'a> {
     Check(Word<'a>),
     /// To print a book of a learned file.
     Dump(DumpOptions<'a>),
+    /// To give a typist a list of books.
+    Share(ShareOptions<'a>),
     /// To type what is drawn.
     Load(LoadOptions),
 }
@@ -59,6 +62,7 @@ impl<'a> Command<'a> {
             Command::Alone(AloneCommand::TypeScript(options))
             | Command::Waiting(WaitingCommand::TypeScript(options)) => options.learned(),
             Command::Alone(AloneCommand::Dump(options)) => Some(options.learned.again()),
+            Command::Alone(AloneCommand::Share(options)) => Some(options.learned.again()),
             Command::Waiting(WaitingCommand::Serve(options)) => Some(options.learned.again()),
             Command::Alone(AloneCommand::Check(_))
             | Command::Alone(AloneCommand::Load(_))
@@ -158,6 +162,40 @@ pub struct DumpOptions<'a> {
     pub learned: Word<'a>,
     /// The number of the book, from 0 to 65,535.
     pub book: u64,
+}
+
+/// The options of `share`.
+#[derive(Drop)]
+pub struct ShareOptions<'a> {
+    /// The learned file.
+    pub learned: Word<'a>,
+    /// The number of the typist, from 0 to 65,535.
+    pub typist: u64,
+    /// The books that the typist reads from now on behind the typist's own, in order.
+    pub books: BookList,
+    /// The most bytes of each file of the learned dictionary, from 64 to 268,435,456; the latter where it is not given.
+    pub limit: Option<u64>,
+}
+
+impl<'a> ShareOptions<'a> {
+    /// The options that settings give.
+    pub fn of(settings: &Settings<'a>) -> ShareOptions<'a>
+        ensures { result ≡ share_options settings.now }
+    {
+        ShareOptions {
+            learned: settings.text(Argument::Learned),
+            typist: settings.number_or(0, Argument::Typist),
+            books: settings.books(Argument::Books),
+            limit: settings.number_given(Argument::Limit),
+        }
+    }
+
+    /// The most bytes of each file of the learned dictionary.
+    pub fn limit(&self) -> u64
+        ensures { result ≡ limit_of self.now.limit }
+    {
+        self.limit.unwrap_or(LIMIT)
+    }
 }
 
 /// The options of `load`.

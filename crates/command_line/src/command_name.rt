@@ -12,6 +12,7 @@ pub enum CommandName {
     Serve,
     Check,
     Dump,
+    Share,
     Load,
 }
 
@@ -40,6 +41,13 @@ static DUMP_TAKES: [(Argument, usize, usize); 2] = [
     (Argument::Book, 0, 1),
 ];
 
+static SHARE_TAKES: [(Argument, usize, usize); 4] = [
+    (Argument::Learned, 1, 1),
+    (Argument::Typist, 1, 1),
+    (Argument::Books, 1, 1),
+    (Argument::Limit, 0, 1),
+];
+
 static LOAD_TAKES: [(Argument, usize, usize); 4] = [
     (Argument::Seed, 1, 1),
     (Argument::Sessions, 1, 1),
@@ -56,6 +64,7 @@ pub fn command_named(word: &Word) -> Option<CommandName>
         "serve" => Some(CommandName::Serve),
         "check" => Some(CommandName::Check),
         "dump" => Some(CommandName::Dump),
+        "share" => Some(CommandName::Share),
         "load" => Some(CommandName::Load),
         _ => None,
     }
@@ -71,6 +80,7 @@ impl CommandName {
             CommandName::Serve => "serve",
             CommandName::Check => "check",
             CommandName::Dump => "dump",
+            CommandName::Share => "share",
             CommandName::Load => "load",
         }
     }
@@ -85,6 +95,7 @@ impl CommandName {
             CommandName::Serve => &SERVE_TAKES,
             CommandName::Check => &CHECK_TAKES,
             CommandName::Dump => &DUMP_TAKES,
+            CommandName::Share => &SHARE_TAKES,
             CommandName::Load => &LOAD_TAKES,
         }
     }

@@ -6,7 +6,7 @@ ghost use Rattle.command_line.specs.Settings.{fits};
 
 use crate::argument::Argument;
 use crate::command::{
-    AloneCommand, Command, LoadOptions, ServeOptions, TypeOptions, WaitingCommand,
+    AloneCommand, Command, LoadOptions, ServeOptions, ShareOptions, TypeOptions, WaitingCommand,
 };
 use crate::command_name::{CommandName, command_named};
 use crate::option_words::{dump_options, load_options};
@@ -36,6 +36,9 @@ pub fn read_command<'a>(alloc: Global, words: &'a [Word<'a>]) -> Result<Option<C
         CommandName::Dump => Ok(Some(Command::Alone(AloneCommand::Dump(dump_options(
             alloc, words,
         )?)))),
+        CommandName::Share => Ok(Some(Command::Alone(AloneCommand::Share(ShareOptions::of(
+            &settings,
+        ))))),
         CommandName::Load => Ok(Some(load_command(&settings, load_options(alloc, words)?))),
     }
 }

@@ -3,6 +3,7 @@ ghost use Rattle.command_line.specs.Settings.{is_of, text_for};
 
 use crate::argument::Argument;
 use crate::word::Word;
+use skk_calls::BookList;
 
 /// The value of an argument.
 #[derive(Drop)]
@@ -13,6 +14,8 @@ pub enum Value<'a> {
     Text(Word<'a>),
     /// A number.
     Number(u64),
+    /// Books, by their numbers.
+    Books(BookList),
 }
 
 /// An argument with its value.
@@ -48,7 +51,7 @@ impl<'a> Setting<'a> {
         }
         match &self.value {
             Value::Text(word) => Some(word.again()),
-            Value::Nothing | Value::Number(_) => None,
+            Value::Nothing | Value::Number(_) | Value::Books(_) => None,
         }
     }
 }

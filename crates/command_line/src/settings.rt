@@ -1,12 +1,13 @@
 ghost use Rattle.std.specs.Prelude.{◌≡◌, ◌≤◌, ◌<◌, ◌++◌, ◌∷◌, [], Some, None, length, IsSome, IsNone, MatchOption};
 ghost use Rattle.std.specs.Prelude.{option_copied};
 ghost use Rattle.command_line.specs.Settings.{times, texts_of, value_given, text_given, text_of, number_given};
-ghost use Rattle.command_line.specs.Settings.{number_or, is_given, fits};
+ghost use Rattle.command_line.specs.Settings.{number_or, books_given, books_of, is_given, fits};
 
 use crate::argument::Argument;
 use crate::setting::{Setting, Value};
 use crate::word::Word;
 use arrayvec::ArrayVec;
+use skk_calls::BookList;
 use std::marker::Model;
 
 /// The most settings that are kept, which is more than any command takes.
@@ -72,7 +73,7 @@ impl<'a> Settings<'a> {
     {
         match self.value_given(argument)? {
             Value::Text(word) => Some(word.again()),
-            Value::Nothing | Value::Number(_) => None,
+            Value::Nothing | Value::Number(_) | Value::Books(_) => None,
         }
     }
 
@@ -89,7 +90,7 @@ impl<'a> Settings<'a> {
     {
         match self.value_given(argument)? {
             Value::Number(number) => Some(*number),
-            Value::Nothing | Value::Text(_) => None,
+            Value::Nothing | Value::Text(_) | Value::Books(_) => None,
         }
     }
 
@@ -98,6 +99,13 @@ impl<'a> Settings<'a> {
         ensures { result ≡ number_or absent argument self.now }
     {
         self.number_given(argument).unwrap_or(absent)
+    }
+
+    /// The books of an argument that is given.
+    pub fn books(&self, argument: Argument) -> BookList
+        ensures { result ≡ books_of argument self.now }
+    {
+        self.books_given(argument).unwrap_or(BookList::of_shared())
     }
 
     /// The texts of an argument in their order, where they are not too many for a command.
@@ -129,6 +137,16 @@ impl<'a> Settings<'a> {
             counted += times;
         }
         counted == self.list.len()
+    }
+
+    // The books of an argument, where it is given.
+    fn books_given(&self, argument: Argument) -> Option<BookList>
+        ensures { result ≡ books_given argument self.now }
+    {
+        match self.value_given(argument)? {
+            Value::Books(books) => Some(books.copied()),
+            Value::Nothing | Value::Text(_) | Value::Number(_) => None,
+        }
     }
 
     // The value of an argument, where it is given.

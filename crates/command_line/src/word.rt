@@ -1,8 +1,11 @@
-ghost use Rattle.std.specs.Prelude.{◌≡◌, [], Some, None, IfOk, MatchOption, encode_utf8_all};
+ghost use Rattle.std.specs.Prelude.{◌≡◌, ◌<◌, [], Some, None, IfOk, MatchOption, encode_utf8_all};
 ghost use Rattle.std.specs.Str.{chars};
-ghost use Rattle.command_line.specs.Words.{is_name, number_within, cut};
+ghost use Rattle.skk_text.specs.Characters.{code};
+ghost use Rattle.command_line.specs.Words.{is_name, number_within, books_listed, cut};
 
+use crate::book_numbers::books_listed;
 use crate::number::number_within;
+use skk_calls::BookList;
 use skk_text::{Memory, Text};
 use std::alloc::Global;
 use std::convert::AsStr;
@@ -91,11 +94,18 @@ impl<'a> Word<'a> {
         number_within(self.text, least, most)
     }
 
+    /// The books that the word lists: their numbers from 0 to 65,535 in decimal, as above, between commas.
+    pub fn books(&self) -> Option<BookList>
+        ensures { result ≡ books_listed self.now }
+    {
+        books_listed(self.text)
+    }
+
     /// What stands before and behind the first `=`, where there is one.
     pub fn cut(&self) -> Option<(Word<'a>, Word<'a>)>
-        ensures { result ≡ cut self.now }
+        ensures { result ≡ cut (code "=") self.now }
     {
-        match cut(self.text) {
+        match cut(self.text, '=') {
             Some((before, behind)) => Some((Word { text: before }, Word { text: behind })),
             None => None,
         }
@@ -126,10 +136,11 @@ fn is_name(text: &str) -> bool
     !text.is_empty() && !text.starts_with('-')
 }
 
-// What stands in a text before and behind its first `=`, where it has one.
-fn cut(text: &str) -> Option<(&str, &str)>
-    ensures { MatchOption result (cut (chars text.now) ≡ None)
-        (λ parts. cut (chars text.now) ≡ Some (chars parts.0.now, chars parts.1.now)) }
+/// What stands in a text before and behind the first of a character of ASCII, where the text has one.
+pub fn cut(text: &str, at: char) -> Option<(&str, &str)>
+    requires { at < 128 }
+    ensures { MatchOption result (cut at (chars text.now) ≡ None)
+        (λ parts. cut at (chars text.now) ≡ Some (chars parts.0.now, chars parts.1.now)) }
 {
-    text.split_once('=')
+    text.split_once(at)
 }

@@ -103,6 +103,13 @@ dumped_and_loaded : map (files_of shelf input)
     ≡ replicate 3 (record { script = None; rules = None; dictionaries = []; learned = Some 268435456 })
 dumped_and_loaded = refl
 
+shared : map (files_of shelf input) (map (λ limit.
+    Alone (alone.Share (record { learned = codes "learned"; typist = 1; books = 7 ∷ []; limit = limit })))
+    (None ∷ Some 64 ∷ []))
+    ≡ map {B = CommandFiles} (λ most. record { script = None; rules = None; dictionaries = []; learned = Some most })
+    (268435456 ∷ 64 ∷ [])
+shared = refl
+
 -- Files that are refused
 
 -- a disk that tells two files, to which nothing happened

@@ -42,7 +42,10 @@ use Rattle.run_endings.specs.declared.finish.Run.{Run}
 use Rattle.run_endings.specs.declared.run_file.Flaw.{Flaw}
 use Rattle.run_endings.specs.declared.run_file.RunFile.{RunFile}
 use Rattle.run_endings.specs.declared.run_file.RunFile.TheVariants.{Script, Rules, Dictionary}
-use Rattle.skk_top.specs.Causes.{CommandFiles, typed_files, served_files, checked_file, learned_alone, files_of}
+use Rattle.skk_top.specs.Causes.{CommandFiles, typed_files, served_files, checked_file, learned_alone, learned_within}
+use Rattle.skk_top.specs.Causes.{files_of}
+use Rattle.skk_top.specs.ShareCommand.{LeavesShared}
+use Rattle.command_line.specs.declared.command.ShareOptions.{ShareOptions}
 use Rattle.skk_top.specs.Causes.{LackedRoom, HasRunCause}
 use Rattle.skk_top.specs.CheckCommand.{LeavesChecked}
 use Rattle.skk_top.specs.Commands.{LeavesAlone, LeavesWaiting}
@@ -341,6 +344,22 @@ module _ {D : Type 0} (run : Run D) (shelf : MovedShelf) (input : MovedSource) (
         | inr prints ↦ printed learned_alone run.ended prints.printed.stopped
       ]
 
+  -- the list of books that is given
+  caused-given : (options : ShareOptions) → LeavesShared options run out disk
+      → CausedBy (learned_within options.limit)
+  caused-given options leaves =
+      let files = learned_within options.limit in
+      elim leaves [
+        | inl refused ↦ unopened files refl refused.cause
+        | inr opened ↦ elim opened.shared [
+          | inl none ↦ without-memory files none.cause
+          | inr left ↦
+              called files false opened.opening left.chronicle.legal (ap Some (sym opened.opened.limit))
+              opened.opened.counted left.kept.goes_on left.ended left.ends
+              (printed files left.ended left.prints.stopped)
+        ]
+      ]
+
   -- the lines of a load
   load-caused : (Lines : Loading D)
       → ((opening : Opening) → learned_alone.learned ≡ Some opening.limit → disk.before.faults ≤ opening.faults
@@ -423,6 +442,7 @@ module _ {D : Type 0} (run : Run D) (shelf : MovedShelf) (input : MovedSource) (
   caused-alone (alone.TypeScript options) leaves = caused-typed options leaves
   caused-alone (alone.Check name) leaves = caused-checked name leaves.0
   caused-alone (alone.Dump options) leaves = caused-dumped options leaves.0
+  caused-alone (alone.Share options) leaves = caused-given options leaves.0
   caused-alone (alone.Load options) leaves = caused-loaded options leaves.0
 
 -- a run that ended since a call on the outside failed, with its cause, had one that failed

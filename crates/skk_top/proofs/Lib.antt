@@ -1,4 +1,5 @@
 pub mod Begun
+pub mod BookLines
 mod CauseExamples
 mod Causes
 mod CheckExamples
@@ -15,7 +16,9 @@ mod ServeExamples
 pub mod Visits
 pub mod RunFiles
 pub mod Runs
+mod ShareExamples
 pub mod SharedLoads
+pub mod Shares
 pub mod Typed
 pub mod Weaves
 pub mod PrintedTexts

@@ -98,3 +98,12 @@ unfolding chars
 bytes = refl
 
 pub ruleset summary_words = (lines, learned, restored, rows, bytes)
+
+-- what `share` prints
+pub typist : chars (codes "typist ") ≡ codes "typist "
+unfolding chars
+typist = refl
+
+pub books : chars (codes " books ") ≡ codes " books "
+unfolding chars
+books = refl

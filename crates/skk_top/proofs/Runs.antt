@@ -45,7 +45,7 @@ takes-none known most = ([], omega arith, Consumes-nil known)
 pub ruleset untouched = (Keeps-self, takes-none)
 
 -- what the typing of what asks and prints has asked, whether that is all of it, and what it has printed
-out-told : (asking : Asking) (ended : Ended) {said : Dialog} {out : MovedSink}
+pub out-told : (asking : Asking) (ended : Ended) {said : Dialog} {out : MovedSink}
     → Runs (λ (all : Unit {0}). asking) (at_if_done ended (λ all. ends tt)) [] said
     (λ text. LeavesPrinted (encode_utf8_all text) ended out)
     → (asked asking (answers_of said) ≡ calls_of said) × OnOk ended (end_of asking (answers_of said) ≡ Some tt)

@@ -20,7 +20,7 @@ use Rattle.script_typing.specs.Callers.{AreCallers, AskFrom, CountFrom, EndFrom,
 use Rattle.script_typing.specs.Pages.{PageMap}
 use Rattle.script_typing.specs.Playing.{playing, sessions_from, end_alone, history_alone}
 use Rattle.script_typing.specs.Sessions.{SessionMap}
-use Rattle.script_typing.specs.Woven.{Tasks, task_typing, tasks_of}
+use Rattle.script_typing.specs.Woven.{Tasks, are_apart, task_typing, tasks_of}
 use Rattle.script_typing.specs.Workers.{AreDone, WorkedBy}
 use Rattle.script_typing.specs.declared.typed.Typed.{Typed}
 use Rattle.command_line.specs.declared.command.LoadOptions.{LoadOptions}
@@ -71,7 +71,7 @@ module _ {D : Type 0} (options : LoadOptions) (opening : Opening) (chronicle : L
   PlaysAlone =
       let lines = playing standard [] (load_lines options) in
       ((number : ℕ) → length tasks ≤ number → said number ≡ []) → are_served chronicle ≡ true
-      → LeadFrom standard said 0 tasks
+      → LeadFrom standard said 0 tasks → are_apart opening.state (load_lines options) ≡ true
       → (sessions_from standard said 0 tasks ≡ end_alone opening.files opening.state lines)
       × (tally_of opening.state (history_of chronicle)
       ≡ tally_of opening.state (history_alone opening.files opening.state lines))
@@ -84,10 +84,10 @@ module _ {D : Type 0} (options : LoadOptions) (opening : Opening) (chronicle : L
     -- what was printed is also what is printed where the dictionary of one thread answers
     alone : LeadFrom standard said 0 tasks → (ended : Ended)
         → LeavesPrinted (encode_utf8_all (text (sessions_from standard said 0 tasks))) ended out
-        → OnOk ended (are_served chronicle ≡ true
+        → OnOk ended (are_served chronicle ≡ true → are_apart opening.state (load_lines options) ≡ true
         → Appends out.written out.written' (loaded_from opening.files opening.state options))
-    alone leads (Ok done) prints = λ no_refusal.
-        let both = plays_alone strangers no_refusal leads in
+    alone leads (Ok done) prints = λ no_refusal apart.
+        let both = plays_alone strangers no_refusal leads apart in
         subst (Appends out.written out.written')
         (ap₂ (λ (t : Tally) (s : SessionMap). encode_utf8_all (summed options t s)) both.1 both.0) prints.whole
     alone leads (Err fault) prints = tt
@@ -107,7 +107,8 @@ module _ {D : Type 0} (options : LoadOptions) (opening : Opening) (chronicle : L
         prints) in
         work-closed opening chronicle left tally out disk keeps counts (KeepsCallers opening standard tasks chronicle)
         (EndFrom standard said 0 tasks) (text (sessions_from standard said 0 tasks))
-        (Appends out.written out.written' (loaded_from opening.files opening.state options)) ended kept
+        (are_apart opening.state (load_lines options) ≡ true
+        → Appends out.written out.written' (loaded_from opening.files opening.state options)) ended kept
         (always ended all.1) printed (alone all.0 ended printed)
 
     -- tasks for which memory was out, of which nothing was printed
@@ -116,7 +117,8 @@ module _ {D : Type 0} (options : LoadOptions) (opening : Opening) (chronicle : L
     shared-cut ended =
         work-lost opening chronicle left tally out disk keeps counts (KeepsCallers opening standard tasks chronicle)
         (EndFrom standard said 0 tasks) (text (sessions_from standard said 0 tasks))
-        (Appends out.written out.written' (loaded_from opening.files opening.state options)) ended kept
+        (are_apart opening.state (load_lines options) ≡ true
+        → Appends out.written out.written' (loaded_from opening.files opening.state options)) ended kept
 
     -- by how the work ended
     shared-by : (typed : Result Typed no_memory) (ended : Ended)

@@ -220,7 +220,7 @@ pub weaves-closed : {D : Type 0} (opening : Opening) (table : List Rule) (lines 
     → tally ≡ tally_of opening.state (history_of chronicle)
     → (are_served chronicle ≡ true
     → ((number : ℕ) → length (tasks_of lines) ≤ number → said_in chronicle number ≡ [])
-    → LeadFrom table (said_in chronicle) 0 (tasks_of lines) → are_apart lines ≡ true
+    → LeadFrom table (said_in chronicle) 0 (tasks_of lines) → are_apart opening.state lines ≡ true
     → woven table [] (answers_by (said_in chronicle) (tasks_of lines)) lines
     ≡ printed_alone opening.files opening.state (typing table [] lines))
     → WeavesLines opening table lines
@@ -230,7 +230,7 @@ weaves-closed opening table lines typed chronicle left tally out disk numbers di
     work-closed opening chronicle left tally out disk keeps counts
     (KeepsCallers opening table (tasks_of lines) chronicle) (EndFrom table (said_in chronicle) 0 (tasks_of lines))
     (woven table [] (answers_by (said_in chronicle) (tasks_of lines)) lines)
-    (are_apart lines ≡ true → Appends out.written out.written' (typed_alone opening table lines)) typed
+    (are_apart opening.state lines ≡ true → Appends out.written out.written' (typed_alone opening table lines)) typed
     (record { legal = legal; asks = asks_from; strangers = strangers }) prints.taken prints.prints (alone typed prints)
   where
     strangers : (number : ℕ) → length (tasks_of lines) ≤ number → said_in chronicle number ≡ []
@@ -244,7 +244,7 @@ weaves-closed opening table lines typed chronicle left tally out disk numbers di
         ))
 
     alone : (typed : Ended) → PrintsWoven table lines (said_in chronicle) out typed
-        → OnOk typed (are_served chronicle ≡ true → are_apart lines ≡ true
+        → OnOk typed (are_served chronicle ≡ true → are_apart opening.state lines ≡ true
         → Appends out.written out.written' (typed_alone opening table lines))
     alone (Ok done) prints = λ all apart.
         subst (λ t. Appends out.written out.written' (encode_utf8_all t))

@@ -56,15 +56,20 @@ served_files shelf options = record {
 abbrev pub checked_file : MovedShelf → List ℕ → CommandFiles
 checked_file shelf name = record { script = None; rules = None; dictionaries = shelf.file name ∷ []; learned = None }
 
+-- no file but the learned one, of this limit, or of the greatest where none is given
+abbrev pub learned_within : Option ℕ → CommandFiles
+learned_within limit = record { script = None; rules = None; dictionaries = []; learned = Some (limit_of limit) }
+
 -- no file but the learned one, of the greatest limit
 abbrev pub learned_alone : CommandFiles
-learned_alone = record { script = None; rules = None; dictionaries = []; learned = Some (limit_of None) }
+learned_alone = learned_within None
 
 -- the files of a command
 abbrev pub files_of : MovedShelf → MovedSource → Command → CommandFiles
 files_of shelf input (Alone (alone.TypeScript options)) = typed_files shelf input options
 files_of shelf input (Alone (alone.Check name)) = checked_file shelf name
 files_of shelf input (Alone (alone.Dump options)) = learned_alone
+files_of shelf input (Alone (alone.Share options)) = learned_within options.limit
 files_of shelf input (Alone (alone.Load options)) = learned_alone
 files_of shelf input (Waiting (waiting.TypeScript options)) = typed_files shelf input options
 files_of shelf input (Waiting (waiting.Serve options)) = served_files shelf options

@@ -12,11 +12,12 @@ use Rattle.skk_top.specs.Disks.{MovedDisk}
 use Rattle.skk_top.specs.DumpCommand.{LeavesDumped}
 use Rattle.skk_top.specs.LoadCommand.{LeavesLoaded, LoadsLines, LoadsTasks}
 use Rattle.skk_top.specs.ServeCommand.{LeavesServed, MovedListener}
+use Rattle.skk_top.specs.ShareCommand.{LeavesShared}
 use Rattle.skk_top.specs.TypeCommand.{LeavesTyped, TypesLines}
 use Rattle.skk_top.specs.WeaveCommand.{WeavesLines}
 
--- what a run of a command that waits for nobody leaves: the input is read by `type` alone, calls are made by `type` and
--- by `load`, and the disk is not touched by `check`
+-- what a run of a command that waits for nobody leaves: the input is read by `type` alone, calls are made by `type`, by
+-- `share` and by `load`, and the disk is not touched by `check`
 abbrev pub LeavesAlone : {D : Type 0} → AloneCommand → Run D → MovedShelf → MovedSource → MovedSink → MovedDisk
     → Type 0
 LeavesAlone (alone.TypeScript options) run shelf input out disk =
@@ -25,6 +26,8 @@ LeavesAlone (alone.Check name) run shelf input out disk =
     LeavesChecked name run shelf out × Keeps input.left input.left' × (run.chronicle ≡ []) × disk.is_untouched
 LeavesAlone (alone.Dump options) run shelf input out disk =
     LeavesDumped options run out disk × Keeps input.left input.left' × (run.chronicle ≡ [])
+LeavesAlone (alone.Share options) run shelf input out disk =
+    LeavesShared options run out disk × Keeps input.left input.left'
 LeavesAlone (alone.Load options) run shelf input out disk =
     LeavesLoaded (LoadsLines options) run out disk × Keeps input.left input.left'
 

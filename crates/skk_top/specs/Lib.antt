@@ -12,6 +12,7 @@ pub mod NamedFiles
 pub mod RunFiles
 pub mod RunRules
 pub mod ServeCommand
+pub mod ShareCommand
 pub mod TypeCommand
 pub mod TypedTasks
 pub mod Typing

@@ -1,5 +1,5 @@
 -- What a run of `load` leaves.
-use Rattle.std.specs.Prelude.{◌≡◌, ◌⊎◌, ◌*◌, ℕ, min, sum_by, List, [], ◌∷◌, ◌++◌, IsSome, codes}
+use Rattle.std.specs.Prelude.{◌≡◌, ◌⊎◌, ◌*◌, ℕ, true, min, sum_by, List, [], ◌∷◌, ◌++◌, IsSome, codes}
 use Rattle.std.specs.Prelude.{encode_utf8_all}
 use Rattle.std.specs.Fmt.{decimal}
 use Rattle.std.specs.Io.KnownBytes.{Appends}
@@ -22,7 +22,7 @@ use Rattle.load_input.specs.Lines.{lines_drawn}
 use Rattle.script_typing.specs.Callers.{EndFrom}
 use Rattle.script_typing.specs.Playing.{playing, sessions_behind, sessions_from, end_alone, history_alone}
 use Rattle.script_typing.specs.Sessions.{SessionMap}
-use Rattle.script_typing.specs.Woven.{tasks_of}
+use Rattle.script_typing.specs.Woven.{are_apart, tasks_of}
 use Rattle.command_line.specs.declared.command.LoadOptions.{LoadOptions}
 use Rattle.caller_work.specs.Disks.{DiskNow}
 use Rattle.skk_top.specs.Disks.{MovedDisk, RefusesLearned, IsOpening}
@@ -89,7 +89,8 @@ LoadsLines options opening run out disk =
     (sessions_behind standard (load_lines options) answers))
     (Appends out.written out.written' (loaded_from opening.files opening.state options)) run out disk
 
--- what callers leave of which each plays the lines of one session: as above
+-- what callers leave of which each plays the lines of one session: as above, but what the dictionary of one thread
+-- comes to is printed where the typists are apart in the state opened, as they are where no typist has a list of books
 abbrev pub LoadsTasks : {D : Type 0} → LoadOptions → Opening → Run D → MovedSink → DiskNow → Type 0
 LoadsTasks options opening run out disk =
     let said = said_in run.chronicle in
@@ -97,7 +98,8 @@ LoadsTasks options opening run out disk =
     (EndFrom standard said 0 (tasks_of (load_lines options)))
     (summed options (tally_of opening.state (history_of run.chronicle))
     (sessions_from standard said 0 (tasks_of (load_lines options))))
-    (Appends out.written out.written' (loaded_from opening.files opening.state options)) run out disk
+    (are_apart opening.state (load_lines options) ≡ true
+    → Appends out.written out.written' (loaded_from opening.files opening.state options)) run out disk
 
 -- what the loading leaves in some manner, over an opening
 abbrev pub Loading : Type 0 → Type 1

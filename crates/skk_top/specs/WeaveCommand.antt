@@ -35,14 +35,15 @@ pub record KeepsCallers (opening : Opening) (rules : List Rule) (tasks : Tasks) 
   pub strangers : (number : ℕ) → length tasks ≤ number → said_in chronicle number ≡ []
 
 -- what the typing of lines leaves where each session has a caller of its own: each asks what its session's lines ask,
--- what is woven of their answers was printed, and where the typists are apart that is also what is printed where the
--- dictionary of one thread answers
+-- what is woven of their answers was printed, and where the typists are apart in the state opened that is also what is
+-- printed where the dictionary of one thread answers
 abbrev pub WeavesLines : {D : Type 0} → Opening → List Rule → List Line → Run D → MovedSink → DiskNow → Type 0
 WeavesLines opening rules lines run out disk =
     let said = said_in run.chronicle in
     LeavesWork opening (KeepsCallers opening rules (tasks_of lines) run.chronicle)
     (EndFrom rules said 0 (tasks_of lines)) (woven rules [] (answers_by said (tasks_of lines)) lines)
-    (are_apart lines ≡ true → Appends out.written out.written' (typed_alone opening rules lines)) run out disk
+    (are_apart opening.state lines ≡ true → Appends out.written out.written' (typed_alone opening rules lines))
+    run out disk
 
 -- What workers left, printed
 

@@ -16,6 +16,7 @@ use crate::check_command::run_check;
 use crate::dump_command::run_dump;
 use crate::load_command::run_load_by_one;
 use crate::one_caller::run_by_one;
+use crate::share_command::run_share;
 use command_line::AloneCommand;
 use run_endings::{Finish, Run, RunFault, end_run};
 use skk_disk::Disk;
@@ -95,6 +96,7 @@ fn run_command<H: Shelf, D: Disk, I: Source, O: Sink>(
         AloneCommand::TypeScript(options) => run_by_one(alloc, options, shelf, disk, input, out),
         AloneCommand::Check(name) => run_check(alloc, name, shelf, disk, out),
         AloneCommand::Dump(options) => run_dump(alloc, options, disk, out),
+        AloneCommand::Share(options) => run_share(alloc, options, disk, out),
         AloneCommand::Load(options) => run_load_by_one(alloc, *options, disk, out),
     }
 }

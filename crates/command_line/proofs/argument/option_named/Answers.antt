@@ -42,22 +42,32 @@ returns-in-text-7 c =
 pub returns-in-text-8 : goal.returns-in-text-8
 returns-in-text-8 c =
     ap option_named
-    (sym (spelled c.as_str.result.now c.args.word.now (codes "--seed") c.as_str.ensures c.in-text-8.is refl))
+    (sym (spelled c.as_str.result.now c.args.word.now (codes "--typist") c.as_str.ensures c.in-text-8.is refl))
 
 pub returns-in-text-9 : goal.returns-in-text-9
 returns-in-text-9 c =
     ap option_named
-    (sym (spelled c.as_str.result.now c.args.word.now (codes "--sessions") c.as_str.ensures c.in-text-9.is refl))
+    (sym (spelled c.as_str.result.now c.args.word.now (codes "--books") c.as_str.ensures c.in-text-9.is refl))
 
 pub returns-in-text-10 : goal.returns-in-text-10
 returns-in-text-10 c =
     ap option_named
-    (sym (spelled c.as_str.result.now c.args.word.now (codes "--lines") c.as_str.ensures c.in-text-10.is refl))
+    (sym (spelled c.as_str.result.now c.args.word.now (codes "--seed") c.as_str.ensures c.in-text-10.is refl))
 
 pub returns-in-text-11 : goal.returns-in-text-11
 returns-in-text-11 c =
     ap option_named
-    (sym (spelled c.as_str.result.now c.args.word.now (codes "--threads") c.as_str.ensures c.in-text-11.is refl))
+    (sym (spelled c.as_str.result.now c.args.word.now (codes "--sessions") c.as_str.ensures c.in-text-11.is refl))
+
+pub returns-in-text-12 : goal.returns-in-text-12
+returns-in-text-12 c =
+    ap option_named
+    (sym (spelled c.as_str.result.now c.args.word.now (codes "--lines") c.as_str.ensures c.in-text-12.is refl))
+
+pub returns-in-text-13 : goal.returns-in-text-13
+returns-in-text-13 c =
+    ap option_named
+    (sym (spelled c.as_str.result.now c.args.word.now (codes "--threads") c.as_str.ensures c.in-text-13.is refl))
 
 pub returns-in_default : goal.returns-in_default
 returns-in_default c =
@@ -80,12 +90,18 @@ returns-in_default c =
                 (
                   not-spelled bytes word (codes "--book") utf8 same c.in_default.not-text-7 refl,
                   (
-                    not-spelled bytes word (codes "--seed") utf8 same c.in_default.not-text-8 refl,
+                    not-spelled bytes word (codes "--typist") utf8 same c.in_default.not-text-8 refl,
                     (
-                      not-spelled bytes word (codes "--sessions") utf8 same c.in_default.not-text-9 refl,
+                      not-spelled bytes word (codes "--books") utf8 same c.in_default.not-text-9 refl,
                       (
-                        not-spelled bytes word (codes "--lines") utf8 same c.in_default.not-text-10 refl,
-                        (not-spelled bytes word (codes "--threads") utf8 same c.in_default.not-text-11 refl, tt),
+                        not-spelled bytes word (codes "--seed") utf8 same c.in_default.not-text-10 refl,
+                        (
+                          not-spelled bytes word (codes "--sessions") utf8 same c.in_default.not-text-11 refl,
+                          (
+                            not-spelled bytes word (codes "--lines") utf8 same c.in_default.not-text-12 refl,
+                            (not-spelled bytes word (codes "--threads") utf8 same c.in_default.not-text-13 refl, tt),
+                          ),
+                        ),
                       ),
                     ),
                   ),

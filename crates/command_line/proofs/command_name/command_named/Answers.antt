@@ -24,6 +24,11 @@ returns-in-dump c =
     ap command_named
     (sym (spelled c.as_str.result.now c.args.word.now (codes "dump") c.as_str.ensures c.in-dump.is refl))
 
+pub returns-in-share : goal.returns-in-share
+returns-in-share c =
+    ap command_named
+    (sym (spelled c.as_str.result.now c.args.word.now (codes "share") c.as_str.ensures c.in-share.is refl))
+
 pub returns-in-load : goal.returns-in-load
 returns-in-load c =
     ap command_named
@@ -43,7 +48,10 @@ returns-in_default c =
           not-spelled bytes word (codes "check") utf8 same c.in_default.not-check refl,
           (
             not-spelled bytes word (codes "dump") utf8 same c.in_default.not-dump refl,
-            (not-spelled bytes word (codes "load") utf8 same c.in_default.not-load refl, tt),
+            (
+              not-spelled bytes word (codes "share") utf8 same c.in_default.not-share refl,
+              (not-spelled bytes word (codes "load") utf8 same c.in_default.not-load refl, tt),
+            ),
           ),
         ),
       ),

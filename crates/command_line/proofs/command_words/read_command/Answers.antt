@@ -6,6 +6,7 @@ use Rattle.command_line.specs.RangeLaws.{numbers_in_range}
 use Rattle.command_line.specs.declared.command.AloneCommand.TheVariants as alone
 use Rattle.command_line.specs.declared.command.Command.TheVariants.{Alone}
 use Rattle.command_line.specs.declared.command.DumpOptions.{DumpOptions}
+use Rattle.command_line.specs.declared.command.ShareOptions.{ShareOptions}
 use Rattle.command_line.specs.declared.command_name.CommandName.{CommandName}
 use Rattle.command_line.proofs.command_words.read_command.Goals as goal
 
@@ -34,6 +35,13 @@ returns-in_ok-dump_options-in-Dump-clause-ranges c =
     numbers_in_range words (Some (Alone (alone.Dump options)))
     (ap (option_map (λ (o : DumpOptions). Alone (alone.Dump o))) made
     ∙ ap (λ (name : CommandName). Some (command name settings)) (sym c.in-Dump.is) ∙ sym c.in-Some.ensures.0)
+
+pub returns-in-Share-clause-ranges : goal.returns-in-Share-clause-ranges
+returns-in-Share-clause-ranges c =
+    numbers_in_range c.args.words.now (Some (Alone (alone.Share c.of.result)))
+    (ap (λ (o : ShareOptions). Some (Alone (alone.Share o))) c.of.ensures
+    ∙ ap (λ (name : CommandName). Some (command name c.in-Some.settings)) (sym c.in-Share.is)
+    ∙ sym c.in-Some.ensures.0)
 
 pub returns-in_ok-load_options-in-Load-clause-ranges : goal.returns-in_ok-load_options-in-Load-clause-ranges
 returns-in_ok-load_options-in-Load-clause-ranges c =

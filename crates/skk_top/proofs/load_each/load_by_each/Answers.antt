@@ -11,7 +11,7 @@ use Rattle.caller_work.specs.Disks.{disk_now}
 use Rattle.skk_top.specs.LoadCommand.{load_lines, LoadsTasks}
 use Rattle.run_endings.specs.Status.{Ended}
 use Rattle.skk_top.proofs.Disks.{runs-quiet}
-use Rattle.skk_top.proofs.LoadInput.{drawn-give_keys, drawn-numbered}
+use Rattle.skk_top.proofs.LoadInput.{drawn-give_keys}
 use Rattle.skk_top.proofs.SharedLoads.{shares-closed}
 use Rattle.skk_top.proofs.load_each.load_by_each.Goals as goal
 
@@ -44,10 +44,9 @@ returns-in-Ok-type_by_callers-clause-leaves g c =
     summed.whole summed.cut summed.none summed.counted
     (λ pages sessions done. c.callers_have_ended.ensures standard tasks (dialog history) types.numbers types.dialogs
     pages sessions types.callers done)
-    (λ strangers served leads. c.typists_apart_play_alone.ensures standard lines opening history
+    (λ strangers served leads apart. c.typists_apart_play_alone.ensures standard lines opening history
     (c.sessions_of_their_own_are_apart.ensures.well lines keys)
-    (c.sessions_of_their_own_are_apart.ensures.first lines keys) types.legal.1 served strangers leads
-    (c.sessions_of_their_own_are_apart.ensures.apart lines keys (drawn-numbered options)))))
+    (c.sessions_of_their_own_are_apart.ensures.first lines keys) types.legal.1 served strangers leads apart)))
 
 -- memory was out for the lines, and for a desk
 pub returns-in_default-clause-runs : goal.returns-in_default-clause-runs
