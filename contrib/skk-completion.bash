@@ -9,15 +9,16 @@ _skk() {
             mapfile -t COMPREPLY < <(compgen -f -- "$word")
             return
             ;;
-        --*[!s]) return ;;
+        --books | --*[!s]) return ;;
     esac
     if [ "$COMP_CWORD" -eq 1 ]; then
-        words='type serve dump check load help'
+        words='type serve dump share check load help'
     else
         case ${COMP_WORDS[1]} in
             type) words='--dict --rules --learned --limit --threads' ;;
             serve) words='--learned --dict --rules --limit --port --connections' ;;
             dump) words='--learned --book' ;;
+            share) words='--learned --typist --books --limit' ;;
             load) words='--seed --sessions --lines --threads' ;;
         esac
     fi

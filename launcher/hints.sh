@@ -177,6 +177,11 @@ hint() {
             [ "$1" != serve ] || [ -n "$found" ] || tell 'another program may have the port: --port N takes another one'
             ;;
         5) tell 'FILE and FILE.2 are as they were: FILE ("file 2" is FILE.2) is no learned file, or has a bad record' ;;
-        7) tell 'a change had no room within --limit: what was written is whole, but not all of it was learnt' ;;
+        7)
+            case $1 in
+                share) tell 'the list had no room within --limit, and is as it was' ;;
+                *) tell 'a change had no room within --limit: what was written is whole, but not all of it was learnt' ;;
+            esac
+            ;;
     esac
 }

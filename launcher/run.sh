@@ -29,6 +29,8 @@ usage: @skk type [--dict FILE].. [--rules FILE] [--learned FILE] [--limit BYTES]
        @skk serve --learned FILE [--dict FILE].. [--rules FILE] [--limit BYTES] [--port NUMBER] [--connections NUMBER]
                           serves SKK clients and typists on this machine
        @skk dump --learned FILE [--book NUMBER]    prints a book of a learned file as a dictionary
+       @skk share --learned FILE --typist NUMBER --books NUMBER[,NUMBER].. [--limit BYTES]
+                          sets the books that a typist reads behind the private one, and prints them
        @skk check FILE    checks a dictionary file, line by line
        @skk load --seed NUMBER --sessions NUMBER --lines NUMBER [--threads]    types drawn lines, and prints a summary
 END

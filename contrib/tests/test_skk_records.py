@@ -17,7 +17,7 @@ PROGRAM = TOP / "release" / "skk-x86_64-linux"
 
 # The record of 漢字 for かんじ has 43 bytes, so that two of them end at 103, where the third has no room below 110.
 THREE = "1:Kanji <cj>\n" * 3
-FIRST = "F: version 2, generation 1, 104 bytes"
+FIRST = "F: version 3, generation 1, 104 bytes"
 OLDER = """17 put book 1 count 1 stamp 1 okuri-nasi かんじ /漢字/
 60 put book 1 count 2 stamp 2 okuri-nasi かんじ /漢字/
 103 closed gate, bytes behind it: 0
@@ -34,7 +34,11 @@ DAMAGES = [
     (18, b"\0\0\0\0", "record at 17: its payload has 0 bytes, and not 1 to 131072"),
     (18, b"\x01\0\x02\0", "record at 17: its payload has 131073 bytes, and not 1 to 131072"),
     (18, b"\x28\0\0\0", "record at 17: its payload has 40 bytes, and the file ends before"),
-    (22, b"\x05", "record at 17: the payload begins with 5, which no record of version 2 does"),
+    (22, b"\x06", "record at 17: the payload begins with 6, which no record of version 3 does"),
+    (22, b"\x05", "record at 17: the payload has 38 bytes, and not the 6 of a list of 1"),
+    (22, b"\x05\x01\0\0", "record at 17: the list has 0 books, and not 1 to 8"),
+    (22, b"\x05\0\0\x09", "record at 17: the list has 9 books, and not 1 to 8"),
+    (22, b"\x05\0\0\x02", "record at 17: the payload has 38 bytes, and not the 8 of a list of 2"),
     (22, b"\x04", "record at 17: the reading is empty, begins with ; or has a control character"),
     (33, b"\x02", "record at 17: the stamp 2 is not from 1 to the count 1"),
     (33, b"\0", "record at 17: the stamp 0 is not from 1 to the count 1"),
@@ -75,7 +79,7 @@ class Tests(unittest.TestCase):
 
     def test_the_live_file_is_printed(self):
         self.type(THREE, "--limit", "110")
-        heads = f"{FIRST}\nF.2: version 2, generation 2, 104 bytes, live\n"
+        heads = f"{FIRST}\nF.2: version 3, generation 2, 104 bytes, live\n"
         self.assertEqual(self.looked(), (0, heads + NEWER, ""))
         self.assertEqual(self.looked("--file", "1"), (0, heads + OLDER, ""))
 
@@ -89,7 +93,7 @@ class Tests(unittest.TestCase):
 188 closed gate, bytes behind it: 0
 """
         self.assertEqual((status, told), (0, ""))
-        self.assertEqual(printed, f"F: version 2, generation 1, 189 bytes, live\nF.2: not there\n{rows}")
+        self.assertEqual(printed, f"F: version 3, generation 1, 189 bytes, live\nF.2: not there\n{rows}")
 
     def test_the_count_of_a_book_is_printed(self):
         count = b"\x03\x05\x00" + (7).to_bytes(8, "little")
@@ -101,12 +105,12 @@ class Tests(unittest.TestCase):
         rows = "17 count book 5 count 7\n33 closed gate, bytes behind it: 2\n"
         self.assertEqual(self.looked("--file", "1"), (0, heads + rows, ""))
 
-    def test_a_note_is_printed_in_a_file_of_version_2_alone(self):
+    def test_a_note_is_printed_in_a_file_of_version_2_or_3(self):
         put = b"\x01\x01\0" + (1).to_bytes(8, "little") * 2 + "\0かんじ /漢字/".encode()
         note = b"\x04\x01\0" + (2).to_bytes(8, "little") + b"\0\x09" + "かんじ漢字;書く文字".encode()
         records = b"".join(b"\x01" + len(one).to_bytes(4, "little") + one for one in (put, note))
         rows = "17 put book 1 count 1 stamp 1 okuri-nasi かんじ /漢字/\n"
-        for version in (1, 2):
+        for version in (1, 2, 3):
             with self.subTest(version):
                 self.file.write_bytes(b"\x01SKKDESK" + bytes([version]) + (1).to_bytes(8, "little") + records + b"\0")
                 status, printed, told = self.looked()
@@ -118,6 +122,38 @@ class Tests(unittest.TestCase):
                     self.assertEqual((status, told, words[0]), (0, "", 0))
                     self.assertIn("かんじ /漢字;書く文字/\n", words[1])
                     self.assertIn(f"{rows}60 note book 1 count 2 okuri-nasi かんじ /漢字;書く文字/\n", printed)
+
+    def test_a_list_is_printed_in_a_file_of_version_3_alone(self):
+        lists = b"\x05\x01\0\x02\x07\0\0\0", b"\x05\xff\xff\x01\x01\x01"
+        records = b"".join(b"\x01" + len(one).to_bytes(4, "little") + one for one in lists)
+        heads = "F: version 3, generation 1, 42 bytes, live\nF.2: not there\n"
+        rows = "17 list typist 1 books 7,0\n30 list typist 65535 books 257\n41 closed gate, bytes behind it: 0\n"
+        for version in (1, 2, 3):
+            with self.subTest(version):
+                self.file.write_bytes(b"\x01SKKDESK" + bytes([version]) + (1).to_bytes(8, "little") + records + b"\0")
+                status, printed, told = self.looked()
+                words = ran(PROGRAM, "dump", "--learned", self.file)
+                if version < 3:
+                    self.assertEqual((status, words[::2]), (1, (5, "skk: learned file record at 17\n")))
+                    says = f"the payload begins with 5, which no record of version {version} does"
+                    self.assertEqual(told, f"F: record at 17: {says}\nF: record at 30: {says}\n")
+                else:
+                    self.assertEqual((status, told, words[0]), (0, "", 0))
+                    self.assertEqual(printed, heads + rows)
+
+    def test_the_list_that_share_sets_is_printed(self):
+        words = ("share", "--learned", self.file, "--typist", "1", "--books")
+        self.assertEqual(ran(PROGRAM, *words, "7,0"), (0, "typist 1 books 7,0\n", ""))
+        self.assertEqual(ran(PROGRAM, *words, "0"), (0, "typist 1 books 0\n", ""))
+        rows = "17 list typist 1 books 7,0\n30 list typist 1 books 0\n41 closed gate, bytes behind it: 0\n"
+        self.assertEqual(self.looked()[:2], (0, f"F: version 3, generation 1, 42 bytes, live\nF.2: not there\n{rows}"))
+
+    def test_a_book_that_stands_twice_in_a_list_is_told(self):
+        twice = b"\x05\x01\0\x03\x07\0\0\0\x07\0"
+        record = b"\x01" + len(twice).to_bytes(4, "little") + twice
+        self.file.write_bytes(b"\x01SKKDESK\x03" + (1).to_bytes(8, "little") + record + b"\0")
+        self.assertEqual(self.looked()[::2], (1, "F: record at 17: the book 7 stands twice in the list\n"))
+        self.assertEqual(ran(PROGRAM, "dump", "--learned", self.file), (5, "", "skk: learned file record at 17\n"))
 
     def test_what_is_bad_is_told_where_the_program_refuses_it(self):
         self.type("1:Kanji <cj>\n")

@@ -65,7 +65,7 @@ def broken_learned_file(draw, content):
     content = bytearray(content)
     places = places_of_records(content)
     at = draw.choice([*places, len(content) - 1])
-    kind = draw.randrange(13)
+    kind = draw.randrange(15)
     if kind < 5 or kind == 5 and at + 24 < len(content):
         put_number(draw, content, at, kind)
     elif kind == 6:
@@ -101,10 +101,14 @@ def put_number(draw, content, at, kind):
 
 
 def new_record(draw, kind):
-    """A record of a count, of a note, of a broken row, or of a reading whose row is gone."""
+    """A record of a count, of a list, of a note, of a broken row, or of a reading whose row is gone."""
     if kind == 7:
         book, count = draw.choice((0, 1, 2, 3)), draw.choice((0, 1, 9, END - 1))
         return record(b"\3" + struct.pack("<HQ", book, count))
+    if kind > 12:
+        books = draw.choice(((7, 0), (0,), (1, 2, 3), (), (7, 7), tuple(range(8)), tuple(range(9)), (65535, 3)))
+        size, rest = draw.choice((len(books), len(books), len(books), 0, 9)), draw.choice((b"", b"", b"", b"\0"))
+        return record(b"\5" + struct.pack(f"<HB{len(books)}H", draw.randrange(4), size, *books) + rest)
     if kind > 10:
         reading = draw.choice(("かんじ", "おおk", "こう", "a b", "")).encode()
         fields = draw.randrange(3), draw.choice((0, 2, 3, 9)), draw.randrange(3), draw.choice((len(reading), 0, 200))

@@ -22,13 +22,16 @@ class LearnedFileCases:
         self.pairs = list(self.good_pairs())
 
     def good_pairs(self):
-        """Pairs of learned files, some of them behind compactions."""
+        """Pairs of learned files with a list of books or two, some of them behind compactions."""
         for script in LEARNING:
             for limit in ("150", "250", "5000"):
                 for turns in (1, 3):
                     write_pair((b"", b""))
+                    learned = ["--learned", "learned", "--limit", limit]
+                    for books in ("1,0", "0,3,1")[:turns]:
+                        self.programs.run(["share", "--typist", "2", "--books", books, *learned])
                     for _ in range(turns):
-                        self.programs.run(["type", "--dict", "words", "--learned", "learned", "--limit", limit], script)
+                        self.programs.run(["type", "--dict", "words", *learned], script)
                     yield read_pair()
 
     def run(self, draw, given):

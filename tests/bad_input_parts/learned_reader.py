@@ -3,7 +3,7 @@
 from bad_input_parts.dictionary_reader import entry, line_of
 
 NAME = b"SKKDESK"
-NEWEST = 2
+NEWEST = 3
 MAGIC = NAME + bytes([NEWEST])
 END = 2**64
 
@@ -15,6 +15,8 @@ def number_at(content, at, length):
 
 def apply_payload(version, payload, counts, rows):
     """Applies a payload to the counts and rows of books, and says whether it is one of a learned file of a version."""
+    if payload[0] == 5:
+        return version >= 3 and is_list(payload)
     kind, book, count = payload[0], number_at(payload, 1, 2), number_at(payload, 3, 8)
     place = {1: 19, 2: 11, 4: 12}.get(kind)
     if kind not in (1, 2, 3, 4) or len(payload) < (place + 1 if place else 11) or kind == 3 and len(payload) != 11:
@@ -27,6 +29,13 @@ def apply_payload(version, payload, counts, rows):
         return False
     counts[book] = count
     return True
+
+
+def is_list(payload):
+    """Whether a payload says a list of books, which no book that `dump` prints shows."""
+    books = [payload[at : at + 2] for at in range(4, len(payload), 2)]
+    is_whole = len(payload) > 3 and 1 <= payload[3] <= 8 and len(payload) == 4 + 2 * payload[3]
+    return is_whole and len(set(books)) == len(books)
 
 
 def apply_note(payload, book, count, rows):
