@@ -1,8 +1,8 @@
 ghost use Rattle.std.specs.Prelude.{◌≡◌, true};
 ghost use Rattle.skk_calls.specs.Dictionary.{is_fit};
 
-use skk_calls::{Answer, Call, Caller, Cand, Cands, Part, Refusal, Reply, RowKey};
-use skk_text::Text;
+use skk_calls::{Answer, Call, Caller, Cand, FoundCands, Part, Refusal, Reply, RowKey};
+use skk_text::{Copies, Text};
 use std::alloc::Global;
 use std::process::Abort;
 
@@ -66,14 +66,16 @@ pub(crate) fn stamp_of<R: Abort>(rt: &R, answer: &Answer) -> Option<u64> {
 // The candidates that an answer tells, each as its word, a semicolon, its note, and a space.
 pub(crate) fn words_of<R: Abort>(rt: &R, alloc: Global, answer: &Answer) -> String {
     match answer {
-        Answer::Done(Reply::Found(found)) => cands_text(rt, alloc, found.cands()),
+        Answer::Done(Reply::Found(found)) => cands_text(rt, alloc, found),
         _ => panic!(rt; "{answer:?}"),
     }
 }
 
-fn cands_text<R: Abort>(rt: &R, alloc: Global, cands: &Cands) -> String {
+fn cands_text<R: Abort>(rt: &R, alloc: Global, found: &FoundCands) -> String {
+    let found = found.copy(alloc).expect(rt, "memory");
+    let found = found.into_distinct(alloc).expect(rt, "memory");
     let mut told = String::new(alloc);
-    for cand in cands.as_slice() {
+    for cand in found.cands().as_slice() {
         let word = cand.word().as_str();
         let note = cand.note().as_str();
         write!(told, "{word};{note} ").expect(rt, "memory");

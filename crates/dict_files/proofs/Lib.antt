@@ -4,5 +4,6 @@ pub mod InOrder
 pub mod Marks
 pub mod Places
 pub mod PlainLines
+pub mod PlainRows
 pub mod Scanned
 pub mod Walking

@@ -1,4 +1,4 @@
-ghost use Rattle.std.specs.Prelude.{◌≡◌, ◌↔◌, ◌∷◌, true, All, List, IfOk, Err};
+ghost use Rattle.std.specs.Prelude.{◌≡◌, ◌↔◌, ◌∷◌, true, All, List, IfOk, Some, Err};
 ghost use Rattle.std.specs.List.{filter};
 ghost use Rattle.skk_calls.specs.declared.part.Part.TheVariants.{Nasi};
 ghost use Rattle.skk_text.specs.TextFiles.{IsTextFault, IsTextWithin};
@@ -13,7 +13,7 @@ use crate::place::{Place, plain_at, reading_at};
 use crate::scanning::places_of;
 use crate::searching::{behind_equal, first_row, marked_behind_equal, row_of};
 use dict_format::{FILE_LIMIT, FileFault, files_list_one_thing};
-use skk_calls::{Part, Row, RowKey};
+use skk_calls::{FoundRow, Part, Row, RowKey};
 use skk_text::{Bytes, Copies, Memory, Sequence, Text, text_within};
 use std::alloc::Global;
 use std::marker::Model;
@@ -80,7 +80,7 @@ impl DictionaryFile {
 
     /// The row of a key, if there is one. Takes a logarithm in the number of entries, and time in the lines with its
     /// reading up to the first that spells a row.
-    pub fn row_of(&self, alloc: Global, key: &RowKey) -> Result<Option<Row>, Memory>
+    pub fn row_of(&self, alloc: Global, key: &RowKey) -> Result<Option<FoundRow>, Memory>
         ensures { IfOk result (λ row. row ≡ row_in key.now self.now) }
     {
         let part = key.part();
@@ -151,16 +151,18 @@ fn walked_at(
     if let Some(reading) = plain_at(bytes, place) {
         return Ok(Some(Text::from_str(alloc, reading)?));
     }
-    let row = first_row(alloc, Part::Nasi, bytes, places, reading_at(bytes, place))?;
-    walked_reading(alloc, row)
+    match first_row(alloc, Part::Nasi, bytes, places, reading_at(bytes, place))? {
+        Some(row) => walked_reading(alloc, row.into_row(alloc)?),
+        None => Ok(None),
+    }
 }
 
-// The reading of a row, where there is one that has a candidate.
-fn walked_reading(alloc: Global, row: Option<Row>) -> Result<Option<Text>, Memory>
-    ensures { IfOk result (λ reading. reading ≡ walked_reading row) }
+// The reading of a row that has a candidate.
+fn walked_reading(alloc: Global, row: Row) -> Result<Option<Text>, Memory>
+    ensures { IfOk result (λ reading. reading ≡ walked_reading (Some row)) }
 {
-    match row {
-        Some(row) if !row.cands().is_empty() => Ok(Some(row.key().reading().copy(alloc)?)),
-        _ => Ok(None),
+    if row.cands().is_empty() {
+        return Ok(None);
     }
+    Ok(Some(row.key().reading().copy(alloc)?))
 }

@@ -11,6 +11,7 @@
 
 mod dictionary_file;
 mod laws;
+mod line_rows;
 mod marked_places;
 mod part_places;
 mod place;

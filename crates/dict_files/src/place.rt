@@ -6,10 +6,10 @@ ghost use Rattle.dict_files.specs.FilePlaces.{line_at, piece_at, reading_at, row
 ghost use Rattle.dict_files.specs.PlainLines.{plain_reading};
 ghost use Rattle.dict_files.specs.Walked.{walked_reading};
 
+use crate::line_rows::found_row_of_line;
 use crate::plain_lines::plain_reading;
-use dict_format::row_of_line;
 use simdutf8::basic::from_utf8;
-use skk_calls::{Part, Row};
+use skk_calls::{FoundRow, Part};
 use skk_text::Memory;
 use std::alloc::Global;
 
@@ -32,12 +32,17 @@ pub fn reading_at<'b>(bytes: &'b [u8], place: &Place) -> &'b [u8]
 }
 
 /// The row that an entry of a part spells, if it spells one. Takes time in the length of its line.
-pub fn row_at(alloc: Global, part: Part, bytes: &[u8], place: &Place) -> Result<Option<Row>, Memory>
+pub fn row_at(
+    alloc: Global,
+    part: Part,
+    bytes: &[u8],
+    place: &Place,
+) -> Result<Option<FoundRow>, Memory>
     requires { IsUtf8 (line_at bytes.now place.now) }
     ensures { IfOk result (λ row. row ≡ row_at part bytes.now place.now) }
 {
     match from_utf8(piece_at(bytes, place.start, place.line)) {
-        Ok(line) => row_of_line(alloc, part, line),
+        Ok(line) => found_row_of_line(alloc, part, line),
         Err(_) => unreachable!(),
     }
 }

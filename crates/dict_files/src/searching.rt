@@ -6,7 +6,7 @@ ghost use Rattle.dict_files.specs.FilePlaces.{is_passed, rise};
 use crate::marked_places::{MARK_STEP, marked_reading};
 use crate::place::{Place, reading_at, row_at};
 use ordered_lists::order_bytes;
-use skk_calls::{Part, Row};
+use skk_calls::{FoundRow, Part};
 use skk_text::{Memory, Text};
 use std::alloc::Global;
 use std::ops::Range;
@@ -20,7 +20,7 @@ pub fn row_of(
     places: &[Place],
     marks: &[Text],
     reading: &[u8],
-) -> Result<Option<Row>, Memory>
+) -> Result<Option<FoundRow>, Memory>
     requires valid { All (IsValid bytes.now) places.now }
     requires rise { rise bytes.now places.now ≡ true }
     requires marks { AreMarks bytes.now places.now marks.now }
@@ -44,7 +44,7 @@ pub fn first_row(
     bytes: &[u8],
     places: &[Place],
     reading: &[u8],
-) -> Result<Option<Row>, Memory>
+) -> Result<Option<FoundRow>, Memory>
     requires valid { All (IsValid bytes.now) places.now }
     requires rise { rise bytes.now places.now ≡ true }
     requires least { list_all (λ place. not (is_below bytes.now reading.now place)) places.now ≡ true }

@@ -38,5 +38,5 @@ pub use laws::{
 };
 pub use line::{read_key, read_line, row_of_line};
 pub use lines::{FileLine, FileLines};
-pub use printing::{print_item, print_line};
+pub use printing::{print_item, print_line, push_item};
 pub use reason::{LineFault, LineReason};

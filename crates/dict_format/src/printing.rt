@@ -68,8 +68,9 @@ impl Printer for CandItem {
     }
 }
 
-// Adds a candidate: its word, and its note where it has one.
-fn push_item(line: &mut Text, cand: &Cand) -> Result<(), Memory>
+/// Adds a candidate as an item of a line: its word, and its note where it has one. Takes memory only where the line
+/// grows.
+pub fn push_item(line: &mut Text, cand: &Cand) -> Result<(), Memory>
     ensures { OnOk result (line.new ≡ line.old ++ item cand.now) }
 {
     push_word(line, cand.word())?;

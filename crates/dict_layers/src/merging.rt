@@ -6,7 +6,7 @@ ghost use Rattle.dict_layers.specs.Merging.{Merging};
 
 use crate::layer::{add_block_first, add_layer, pass_layer};
 use crate::ordering::block_for;
-use skk_calls::{Cands, DistinctCands, Okuri, Row};
+use skk_calls::{Cands, DistinctCands, FoundCands, FoundItems, FoundRow, Okuri, Row};
 use skk_text::{Memory, Sequence};
 use std::alloc::Global;
 use word_sets::WordRefs;
@@ -30,18 +30,23 @@ pub fn merge(
 
 /// What `merge` gives of these layers and of one more below them, which is moved. Takes time in the length of the
 /// layers. Candidates of the last layer are moved, unless it has a block of the okurigana; all others are copied once.
-/// Takes no memory where the last layer stands alone and has no such block.
+/// Takes no memory where the last layer stands alone and no okurigana is asked for, nor where it has no such block, but
+/// for candidates that lie in a text.
 pub fn merge_onto(
     alloc: Global,
     upper: &RowList,
-    last: Row,
+    last: FoundRow,
     okuri: Option<&Okuri>,
-) -> Result<DistinctCands, Memory>
+) -> Result<FoundCands, Memory>
     ensures { IfOk result (λ cands. cands
         ≡ merged (map (λ row. row.now) upper.now ++ last ∷ []) (option_copied okuri.entry)) }
 {
-    let cands = cands_onto(alloc, upper.as_slice(), last, okuri)?;
-    Ok(DistinctCands::new(cands))
+    if upper.is_empty() && okuri.is_none() {
+        return Ok(last.into_cands());
+    }
+    let cands = cands_onto(alloc, upper.as_slice(), last.into_row(alloc)?, okuri)?;
+    let cands = DistinctCands::new(cands);
+    Ok(FoundCands::new(FoundItems::Distinct(cands)))
 }
 
 // The candidates of layers.

@@ -6,8 +6,8 @@ ghost use Rattle.dict_layers.specs.SystemFiles.{rows_in};
 
 use crate::system_file::SystemFile;
 use dict_files::{DictionaryFiles, RowFile};
-use skk_calls::{Books, Row, RowKey, Rows, Walk};
-use skk_text::{Memory, Text, copy_of};
+use skk_calls::{Books, FoundRow, FoundRows, RowKey, Walk};
+use skk_text::{Copies, Memory, Text, copy_of};
 use std::alloc::Global;
 use std::marker::Model;
 use std::sync::Arc;
@@ -85,10 +85,10 @@ impl System {
 
     /// The rows of a key, in the order of the files that have one. Takes time in the number of files, in each a
     /// logarithm in the number of its entries, and time in the lines with the key's reading.
-    pub fn find(&self, alloc: Global, key: &RowKey) -> Result<Rows, Memory>
+    pub fn find(&self, alloc: Global, key: &RowKey) -> Result<FoundRows, Memory>
         ensures { IfOk result (λ rows. rows ≡ filter_map (row_in key.now) self.now) }
     {
-        let mut found = Rows::new(alloc);
+        let mut found = FoundRows::new(alloc);
         for file in self.files.as_slice() {
             if let Some(row) = row_of(alloc, file, key)? {
                 found.push(row)?;
@@ -118,11 +118,14 @@ impl Walk for System {
 }
 
 // The row of a key in a file, if there is one.
-fn row_of(alloc: Global, file: &SystemFile, key: &RowKey) -> Result<Option<Row>, Memory>
+fn row_of(alloc: Global, file: &SystemFile, key: &RowKey) -> Result<Option<FoundRow>, Memory>
     ensures { IfOk result (λ row. row ≡ row_in key.now (rows_in file.now)) }
 {
     match file {
-        SystemFile::Rows(rows) => copy_of(alloc, rows.row_of(key)),
+        SystemFile::Rows(rows) => match rows.row_of(key) {
+            Some(row) => Ok(Some(FoundRow::of_row(row.copy(alloc)?))),
+            None => Ok(None),
+        },
         SystemFile::Bytes(file) => file.row_of(alloc, key),
     }
 }

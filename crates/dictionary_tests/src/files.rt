@@ -3,7 +3,7 @@ use dict_files::{DictionaryFile, walks_go_over_completions};
 use dict_format::{FileFault, print_line};
 use dict_layers::System;
 use expectations::{same, same_at};
-use skk_calls::{Part, RowKey, Rows, Walk};
+use skk_calls::{FoundRows, Part, RowKey, Walk};
 use skk_text::{Bytes, Text, TextFault};
 use std::alloc::Global;
 use std::process::Abort;
@@ -90,14 +90,15 @@ fn lines_of(rt: &impl Abort, alloc: Global, system: &System, part: Part, reading
 
 fn lines_of_key(rt: &impl Abort, alloc: Global, system: &System, key: &RowKey) -> Text {
     let rows = system.find(alloc, key).expect(rt, "memory");
-    lines_of_rows(rt, alloc, &rows)
+    lines_of_rows(rt, alloc, rows)
 }
 
-fn lines_of_rows(rt: &impl Abort, alloc: Global, rows: &Rows) -> Text {
+fn lines_of_rows(rt: &impl Abort, alloc: Global, rows: FoundRows) -> Text {
     let mut lines = Text::new(alloc);
-    for row in rows.iter() {
+    for row in rows.into_vec() {
+        let row = row.into_row(alloc).expect(rt, "memory");
         lines
-            .push_str(print_line(alloc, row).expect(rt, "memory").as_str())
+            .push_str(print_line(alloc, &row).expect(rt, "memory").as_str())
             .expect(rt, "memory");
     }
     lines

@@ -11,7 +11,8 @@ use dict_rows::line_length;
 use expectations::same_at;
 use learn_index::{Index, KeptRow};
 use skk_calls::{
-    Block, Blocks, Book, BookList, Books, Call, Cand, Cands, Learned, Part, Reply, Row, RowKey,
+    Block, Blocks, Book, BookList, Books, Call, Cand, Cands, FoundCands, Learned, Part, Reply, Row,
+    RowKey,
 };
 use skk_text::{Copies, Text, Texts};
 use std::alloc::Global;
@@ -489,7 +490,7 @@ fn completing(rt: &impl Abort, alloc: Global, line: &LearnLine) -> Call
 fn reply_text(rt: &impl Abort, alloc: Global, reply: &Reply) -> String {
     let mut told = String::new(alloc);
     match reply {
-        Reply::Found(found) => add_words(rt, &mut told, found.cands()),
+        Reply::Found(found) => add_found(rt, &mut told, alloc, found),
         Reply::Readings(readings) => add_texts(rt, &mut told, readings),
         Reply::Learned(learned) => add_learned(rt, &mut told, learned),
         Reply::Overtaken(stamp) => add_number(rt, &mut told, "overtaken ", *stamp),
@@ -502,6 +503,13 @@ fn reply_text(rt: &impl Abort, alloc: Global, reply: &Reply) -> String {
         Reply::StampsEnd => told.push_str("stamps end").expect(rt, "memory"),
     }
     told
+}
+
+// Adds the words of what was found.
+fn add_found(rt: &impl Abort, told: &mut String, alloc: Global, found: &FoundCands) {
+    let found = found.copy(alloc).expect(rt, "memory");
+    let found = found.into_distinct(alloc).expect(rt, "memory");
+    add_words(rt, told, found.cands());
 }
 
 // Adds the stamps of what was learnt, and of the row before it.

@@ -7,7 +7,7 @@ ghost use Rattle.skk_calls.specs.States.{books_read, row_at, row_in, shared_book
 
 use crate::index::Index;
 use dict_layers::{RowList, merge, merge_onto};
-use skk_calls::{DistinctCands, Okuri, Row, RowKey, Rows};
+use skk_calls::{FoundCands, FoundItems, FoundRow, FoundRows, Okuri, Row, RowKey, Rows};
 use skk_text::{Memory, Sequence};
 use std::alloc::Global;
 
@@ -16,21 +16,22 @@ use std::alloc::Global;
 pub fn found_cands(
     index: &Index,
     alloc: Global,
-    rows: Rows,
+    rows: FoundRows,
     who: u16,
     key: &RowKey,
     okuri: Option<&Okuri>,
-) -> Result<DistinctCands, Memory>
+) -> Result<FoundCands, Memory>
     ensures { IfOk result (λ cands. (files : List (List RowValue)) → rows ≡ filter_map (row_in key.now) files
         → cands ≡ found files index.now.state who key.now (option_copied okuri.entry)) }
 {
     let (above, last) = split_last(rows);
-    let upper = upper_layers(index, alloc, &above, who, key)?;
+    let above = whole_rows(alloc, above)?;
+    let upper = upper_layers(index, alloc, above.as_slice(), who, key)?;
     merge_with(alloc, &upper, last, okuri)
 }
 
 // Rows without the last of them, and that.
-fn split_last(rows: Rows) -> (Vec<Row>, Option<Row>)
+fn split_last(rows: FoundRows) -> (Vec<FoundRow>, Option<FoundRow>)
     ensures { rows ≡ result.0.items ++ option_to_list result.1 }
 {
     let mut above = rows.into_vec();
@@ -38,19 +39,30 @@ fn split_last(rows: Rows) -> (Vec<Row>, Option<Row>)
     (above, last)
 }
 
+// Rows that were found, each as a row.
+fn whole_rows(alloc: Global, found: Vec<FoundRow>) -> Result<Rows, Memory>
+    ensures { IfOk result (λ rows. rows ≡ found.items) }
+{
+    let mut rows = Rows::new(alloc);
+    for row in found {
+        rows.push(row.into_row(alloc)?)?;
+    }
+    Ok(rows)
+}
+
 // The candidates of layers and of one more below them, where there is one, which is moved.
 fn merge_with(
     alloc: Global,
     upper: &RowList,
-    last: Option<Row>,
+    last: Option<FoundRow>,
     okuri: Option<&Okuri>,
-) -> Result<DistinctCands, Memory>
+) -> Result<FoundCands, Memory>
     ensures { IfOk result (λ cands. cands
         ≡ merged (map (λ row. row.now) upper.now ++ option_to_list last) (option_copied okuri.entry)) }
 {
     match last {
         Some(last) => merge_onto(alloc, upper, last, okuri),
-        None => merge(alloc, upper, okuri),
+        None => Ok(FoundCands::new(FoundItems::Distinct(merge(alloc, upper, okuri)?))),
     }
 }
 

@@ -2,7 +2,7 @@ ghost use Rattle.std.specs.Prelude.{◌≡◌, IfOk};
 ghost use Rattle.std.specs.Option.{option_copied};
 ghost use Rattle.learned_store.specs.KeptLookUps.{is_of, same_okuri};
 
-use skk_calls::{DistinctCands, Okuri, Part};
+use skk_calls::{FoundCands, Okuri, Part};
 use skk_text::{Copies, Memory, copy_of};
 use std::alloc::Global;
 
@@ -12,7 +12,7 @@ pub(crate) struct KeptAnswer {
     pub(crate) part: Part,
     pub(crate) who: u16,
     pub(crate) okuri: Option<Okuri>,
-    pub(crate) cands: DistinctCands,
+    pub(crate) cands: FoundCands,
 }
 
 impl KeptAnswer {
@@ -22,7 +22,7 @@ impl KeptAnswer {
         part: Part,
         who: u16,
         okuri: Option<&Okuri>,
-        cands: &DistinctCands,
+        cands: &FoundCands,
     ) -> Result<KeptAnswer, Memory>
         ensures { IfOk result (λ kept. kept
             ≡ record { part = part; who = who; okuri = option_copied okuri.entry; cands = cands.now }) }
@@ -31,7 +31,7 @@ impl KeptAnswer {
             part,
             who,
             okuri: copy_of(alloc, okuri)?,
-            cands: copied_cands(alloc, cands)?,
+            cands: cands.copy(alloc)?,
         })
     }
 
@@ -41,13 +41,6 @@ impl KeptAnswer {
     {
         self.part == part && self.who == who && are_same(self.okuri.as_ref(), okuri)
     }
-}
-
-// Copies of candidates.
-pub(crate) fn copied_cands(alloc: Global, cands: &DistinctCands) -> Result<DistinctCands, Memory>
-    ensures { IfOk result (λ copies. copies ≡ cands.now) }
-{
-    Ok(DistinctCands::new(cands.cands().copy(alloc)?))
 }
 
 // Whether two okurigana are the same, where there are any.

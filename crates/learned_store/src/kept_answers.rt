@@ -7,10 +7,10 @@ ghost use Rattle.skk_calls.specs.declared.part.Part.{Part as part_value};
 ghost use Rattle.skk_calls.specs.Rows.{RowKey as key_value, Cand, same_text};
 ghost use Rattle.learned_store.specs.KeptLookUps.{cands_among, cands_in, is_of, kept_cands, IsAnswerOf};
 
-use crate::kept_answer::{KeptAnswer, copied_cands};
+use crate::kept_answer::KeptAnswer;
 use lru::LruCache;
-use skk_calls::{Call, Cands, DistinctCands, Okuri, Part, RowKey};
-use skk_text::{Memory, Sequence};
+use skk_calls::{Call, Cands, FoundCands, FoundItems, Okuri, Part, RowKey};
+use skk_text::{Copies, Memory, Sequence};
 use std::alloc::Global;
 use std::marker::Model;
 use std::num::NonZeroUsize;
@@ -21,7 +21,7 @@ const READINGS: usize = 1024;
 // So many answers are kept of a reading.
 const ANSWERS: usize = 8;
 
-// The words and notes of an answer that is kept have at most so many bytes together.
+// The words and notes of an answer that is kept have at most so many bytes together, or the text in which they lie.
 const BYTES: usize = 4096;
 
 // The answers that are kept of a reading.
@@ -65,26 +65,26 @@ impl KeptAnswers {
         &mut self,
         alloc: Global,
         call: &Call,
-    ) -> Result<Option<DistinctCands>, Memory>
+    ) -> Result<Option<FoundCands>, Memory>
         ensures value { IfOk result (λ cands. cands ≡ kept_cands self.old call.now) }
         ensures same { (other : call_value) → kept_cands self.new other ≡ kept_cands self.old other }
     {
         self.touch(call);
         match self.cands_of(call) {
-            Some(cands) => Ok(Some(copied_cands(alloc, cands)?)),
+            Some(cands) => Ok(Some(cands.copy(alloc)?)),
             None => Ok(None),
         }
     }
 
     // Keeps what was found by a look-up, unless it is long or out of memory.
-    pub(crate) fn keep(&mut self, alloc: Global, call: &Call, cands: &DistinctCands)
+    pub(crate) fn keep(&mut self, alloc: Global, call: &Call, cands: &FoundCands)
         ensures { (other : call_value) (found : List Cand) → kept_cands self.new other ≡ Some found
             → (kept_cands self.old other ≡ Some found) ⊎ ((other ≡ call.now) × (found ≡ cands.now)) }
     {
         let Call::Lookup { who, key, okuri } = call else {
             return;
         };
-        if !are_short(cands.cands()) {
+        if !is_short(cands) {
             return;
         }
         let kept = KeptAnswer::copied(alloc, key.part(), *who, okuri.as_ref(), cands);
@@ -113,7 +113,7 @@ impl KeptAnswers {
     }
 
     // What is kept of a call.
-    fn cands_of(&self, call: &Call) -> Option<&DistinctCands>
+    fn cands_of(&self, call: &Call) -> Option<&FoundCands>
         ensures { option_copied result ≡ kept_cands self.now call.now }
     {
         match call {
@@ -154,7 +154,7 @@ fn cands_in<'a>(
     part: Part,
     who: u16,
     okuri: Option<&Okuri>,
-) -> Option<&'a DistinctCands>
+) -> Option<&'a FoundCands>
     ensures { option_copied result ≡ cands_in part who (option_copied okuri.entry) answers.now }
 {
     let answer = answers
@@ -185,12 +185,21 @@ fn with_answer(answers: Answers, kept: KeptAnswer) -> Answers
     answers
 }
 
-// Whether the words and notes of candidates have few enough bytes together to be kept.
-fn are_short(cands: &Cands) -> bool {
+// Whether what was found has few enough bytes to be kept.
+fn is_short(found: &FoundCands) -> bool {
+    let bytes = match found.items() {
+        FoundItems::Distinct(cands) => bytes_of(cands.cands()),
+        FoundItems::Plain(cands) => cands.text().byte_len(),
+    };
+    bytes <= BYTES
+}
+
+// How many bytes the words and notes of candidates have together.
+fn bytes_of(cands: &Cands) -> usize {
     let mut bytes: usize = 0;
     for cand in cands.as_slice() {
         bytes = bytes.saturating_add(cand.word().byte_len());
         bytes = bytes.saturating_add(cand.note().byte_len());
     }
-    bytes <= BYTES
+    bytes
 }

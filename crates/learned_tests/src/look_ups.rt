@@ -7,7 +7,7 @@ use dict_format::read_file;
 use dict_layers::System;
 use expectations::same_at;
 use learned_store::Store;
-use skk_calls::{Answer, BookList, Books, Call, Cand, Cands, Part, Reply, RowKey};
+use skk_calls::{Answer, BookList, Books, Call, Cand, FoundCands, Part, Reply, RowKey};
 use skk_disk::{Disk, MemDisk};
 use skk_text::{Copies, Text};
 use std::alloc::Global;
@@ -129,16 +129,18 @@ fn word_of<R: Abort>(rt: &R, alloc: Global, word: &str) -> Text
 // What an answer tells: what was found, each candidate with a space behind it, or what was done.
 fn told_of<R: Abort>(rt: &R, alloc: Global, answer: &Answer) -> String {
     match answer {
-        Answer::Done(Reply::Found(found)) => cands_of(rt, alloc, found.cands()),
+        Answer::Done(Reply::Found(found)) => cands_of(rt, alloc, found),
         Answer::Done(Reply::Learned(_)) => String::from_str(alloc, "Learned").expect(rt, "memory"),
         Answer::Done(Reply::Purged) => String::from_str(alloc, "Purged").expect(rt, "memory"),
         answer => format!(in alloc; "{answer:?}").expect(rt, "memory"),
     }
 }
 
-fn cands_of<R: Abort>(rt: &R, alloc: Global, cands: &Cands) -> String {
+fn cands_of<R: Abort>(rt: &R, alloc: Global, found: &FoundCands) -> String {
+    let found = found.copy(alloc).expect(rt, "memory");
+    let found = found.into_distinct(alloc).expect(rt, "memory");
     let mut told = String::new(alloc);
-    for cand in cands.as_slice() {
+    for cand in found.cands().as_slice() {
         add_cand(rt, &mut told, cand);
     }
     told

@@ -6,7 +6,7 @@ use crate::journals::{LEARNT_FILE, disk_of, kinds, text};
 use dict_layers::System;
 use expectations::same_at;
 use learned_store::Store;
-use skk_calls::{Answer, BookList, Books, Call, Cand, Cands, Learned, Part, Reply, RowKey};
+use skk_calls::{Answer, BookList, Books, Call, Cand, FoundCands, Learned, Part, Reply, RowKey};
 use skk_disk::{Disk, MemDisk};
 use skk_journal::Unopened;
 use skk_text::{Copies, Text, Texts};
@@ -748,7 +748,7 @@ fn add_answer(rt: &impl Abort, told: &mut String, alloc: Global, answer: &Answer
 // Adds what a reply tells.
 fn add_reply(rt: &impl Abort, told: &mut String, alloc: Global, reply: &Reply) {
     match reply {
-        Reply::Found(found) => add_words(rt, told, found.cands()),
+        Reply::Found(found) => add_words(rt, told, alloc, found),
         Reply::Readings(readings) => add_texts(rt, told, readings),
         Reply::Learned(learned) => {
             write!(told, "Learned {}", learned.stamp()).expect(rt, "memory");
@@ -758,8 +758,10 @@ fn add_reply(rt: &impl Abort, told: &mut String, alloc: Global, reply: &Reply) {
 }
 
 // Adds the words of candidates, each with a space behind it.
-fn add_words(rt: &impl Abort, told: &mut String, cands: &Cands) {
-    for cand in cands.as_slice() {
+fn add_words(rt: &impl Abort, told: &mut String, alloc: Global, found: &FoundCands) {
+    let found = found.copy(alloc).expect(rt, "memory");
+    let found = found.into_distinct(alloc).expect(rt, "memory");
+    for cand in found.cands().as_slice() {
         told.push_str(cand.word().as_str()).expect(rt, "memory");
         told.push(' ').expect(rt, "memory");
     }

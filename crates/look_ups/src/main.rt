@@ -16,7 +16,7 @@ use dict_files::{DictionaryFile, DictionaryFiles};
 use dict_format::FILE_LIMIT;
 use dict_layers::System;
 use learn_index::Index;
-use skk_calls::{Call, Cand, Part, Reply, RowKey, Walk};
+use skk_calls::{Call, Cand, FoundCands, FoundItems, Part, Reply, RowKey, Walk};
 use skk_outside::{HostShelf, Shelf, read_named_file};
 use skk_text::Text;
 use std::alloc::Global;
@@ -144,9 +144,20 @@ fn count_answered(alloc: Global, system: &System, index: &mut Index, call: &Call
 // How many candidates or readings a reply has.
 fn count_in(reply: &Reply) -> u64 {
     match reply {
-        Reply::Found(found) => found.cands().len() as u64,
+        Reply::Found(found) => count_found(found),
         Reply::Readings(readings) => readings.len() as u64,
         _ => 0,
+    }
+}
+
+// How many candidates were found. Where they lie in one text a slash ends each of them.
+fn count_found(found: &FoundCands) -> u64 {
+    match found.items() {
+        FoundItems::Distinct(cands) => cands.cands().len() as u64,
+        FoundItems::Plain(cands) => {
+            let text = cands.text().as_str();
+            text.chars().filter(|c| *c == '/').count() as u64
+        }
     }
 }
 

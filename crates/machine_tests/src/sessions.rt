@@ -8,7 +8,8 @@ use expectations::{same, same_at};
 use romaji_rules::Rules;
 use session_machine::Session;
 use skk_calls::{
-    Answer, Call, Caller, DialogTrace, DistinctCands, Learned, Refusal, Reply, RowKey,
+    Answer, Call, Caller, DialogTrace, DistinctCands, FoundCands, FoundItems, Learned, Refusal,
+    Reply, RowKey,
 };
 use skk_text::{Copies, Keys, Mode, Text, read_keys};
 use std::alloc::Global;
@@ -68,7 +69,8 @@ fn lookup_answer(rt: &impl Abort, alloc: Global, word: &str) -> Answer
     if word == "memory" {
         return Answer::Refused(Refusal::Memory);
     }
-    Answer::Done(Reply::Found(cands_by(rt, alloc, word)))
+    let cands = FoundItems::Distinct(cands_by(rt, alloc, word));
+    Answer::Done(Reply::Found(FoundCands::new(cands)))
 }
 
 // The candidates that a look-up finds by a word.

@@ -92,6 +92,33 @@ fn clients_are_answered(rt: HostRuntime) {
     expect_rows(rt, rt.alloc(), Way::Client, ANSWERED, &[]);
 }
 
+// What a client of a file sends, and what it is sent: a line's candidates as a row is written, whether they stand so in
+// the line or not.
+const FROM_FILE: &str = "\
+1かんじ |1/漢字/幹事;宴会の/感じ/~
+1みぎ |1/右/~
+1はし |1/橋;a;b/端/~
+1ひだり |4ひだり ~
+// quoted where there is a need and nowhere else
+1くぎり |1/(concat \"a\\057b\")/乙/~
+1えん |1/円/縁/~
+1かぎ |1/(concat \"a\\\"b\")/鍵/~
+1かっこ |1/(concat \"[\")/(concat \"]\")/括弧/~
+// blocks and marks are no candidates
+1うごk |1/動/~
+1にわ |1/庭;a/~
+// the first of each word, and no empty word or note
+1くり |1/栗/庫裏/~
+1しか |1/鹿/歯科/~
+1せみ |1/蝉/蟬/~
+// long
+1なが |1/{200 長}/短/~";
+
+#[test]
+fn lines_of_a_file_are_answered(rt: HostRuntime) {
+    expect_rows(rt, rt.alloc(), Way::File, FROM_FILE, &[]);
+}
+
 // A request, the readings that its call is replied with, and what is sent: the readings as they come, whatever their
 // order and how often each does, without those that hold a slash.
 const LISTED: &str = "\

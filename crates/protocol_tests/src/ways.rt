@@ -1,4 +1,4 @@
-use crate::callers::{told_alone, told_refused};
+use crate::callers::{told_alone, told_from_file, told_refused};
 use crate::clients::answered;
 use crate::connections::served;
 use crate::passes::told_on_desk;
@@ -19,6 +19,8 @@ pub(crate) enum Way {
     Calls,
     // A feeder and the dictionary: what is sent for the requests.
     Client,
+    // The same, where the dictionary is a file that is read as it lies.
+    File,
     // A typist's lines, over the dictionary: what is sent for them.
     Typist,
     // A connection over the dictionary: what is sent, and how it ends.
@@ -49,6 +51,7 @@ impl Way {
             Way::Calls => called(&rt, alloc, coming.pieces),
             Way::Refused => told_refused(&rt, alloc, coming),
             Way::Pass => told_on_desk(rt, alloc, coming),
+            Way::File => told_from_file(&rt, alloc, coming),
             Way::Client | Way::Typist | Way::Link => told_alone(&rt, alloc, self, coming),
         }
     }
@@ -62,7 +65,7 @@ impl Way {
         coming: Coming,
     ) -> Vec<u8> {
         match self {
-            Way::Client => answered(rt, alloc, caller, coming.pieces),
+            Way::Client | Way::File => answered(rt, alloc, caller, coming.pieces),
             Way::Typist => typed(rt, alloc, caller, coming.pieces),
             _ => served(rt, alloc, caller, coming),
         }

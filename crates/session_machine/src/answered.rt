@@ -4,7 +4,7 @@ ghost use Rattle.session_machine.specs.Answered.{says_purged};
 ghost use Rattle.session_machine.specs.Converted.{found_by};
 
 use crate::session_notice::SessionNotice;
-use skk_calls::{Answer, DistinctCands, Learned, Refusal, Reply};
+use skk_calls::{Answer, FoundCands, Learned, Refusal, Reply};
 use skk_text::Notice;
 
 // What an answer tells.
@@ -60,7 +60,7 @@ pub(crate) fn says_annotated(answer: &Answer) -> bool
 }
 
 // The candidates that an answer found; or else the refusal, where it is one.
-pub(crate) fn found_by(answer: Answer) -> Result<DistinctCands, Option<Refusal>>
+pub(crate) fn found_by(answer: Answer) -> Result<FoundCands, Option<Refusal>>
     ensures { result ≡ found_by answer }
 {
     match answer {

@@ -1,4 +1,4 @@
-ghost use Rattle.std.specs.Prelude.{◌≡◌, ◌≢◌, [], ℕ, List, true, length};
+ghost use Rattle.std.specs.Prelude.{◌≡◌, ◌≢◌, [], ℕ, List, true, length, IfOk};
 ghost use Rattle.std.specs.List.{list_all, list_any};
 ghost use Rattle.numeric_entries.specs.Forms.{asks_lookup};
 ghost use Rattle.numeric_entries.specs.Numbers.{are_numbers, numbers_of};
@@ -18,7 +18,7 @@ use crate::session::Session;
 use candidate_state::{BothFound, Found, Picking, ShownList, shown_numbers, shown_plain};
 use numeric_entries::{NumberKey, asks_lookup, number_key};
 use reading_state::Reading;
-use skk_calls::{Call, Caller, Cands, DistinctCands, Refusal, RowKey};
+use skk_calls::{Call, Caller, Cands, FoundCands, Refusal, RowKey};
 use skk_text::{Copies, Memory, Texts};
 use std::alloc::Global;
 
@@ -63,19 +63,24 @@ fn look_key_up<C: Caller>(
     };
     let answer = caller.call(alloc, &call);
     drop(call);
-    Ok(key_found(key, found_by(answer)))
+    let found = key_found(alloc, key, found_by(answer))?;
+    Ok(found)
 }
 
 // What was found of a key, or else the refusal.
 fn key_found(
+    alloc: Global,
     key: RowKey,
-    found: Result<DistinctCands, Option<Refusal>>,
-) -> Result<Found, Option<Refusal>>
-    ensures { result ≡ key_found key found }
+    found: Result<FoundCands, Option<Refusal>>,
+) -> Result<Result<Found, Option<Refusal>>, Memory>
+    ensures { IfOk result (λ end. end ≡ key_found key found) }
 {
     match found {
-        Ok(cands) => Ok(Found { key, cands }),
-        Err(refusal) => Err(refusal),
+        Ok(cands) => {
+            let cands = cands.into_distinct(alloc)?;
+            Ok(Ok(Found { key, cands }))
+        }
+        Err(refusal) => Ok(Err(refusal)),
     }
 }
 

@@ -4,7 +4,7 @@ ghost use Rattle.std.specs.Option.{option_copied};
 use crate::frame::{Choice, Conversion, Frame, FrameState, OuterFrame, Waiting};
 use crate::headword::Headword;
 use crate::session::Session;
-use skk_calls::{Answer, Call, DistinctCands, Learned, Reply};
+use skk_calls::{Answer, Call, Learned, Reply};
 use skk_text::{Copies, Memory, copies_of, copy_of};
 use std::alloc::Global;
 
@@ -168,7 +168,7 @@ fn copy_reply(alloc: Global, reply: &Reply) -> Result<Reply, Memory>
     ensures { IfOk result (λ copy. copy ≡ reply.now) }
 {
     match reply {
-        Reply::Found(found) => Ok(Reply::Found(DistinctCands::new(found.cands().copy(alloc)?))),
+        Reply::Found(found) => Ok(Reply::Found(found.copy(alloc)?)),
         Reply::Readings(readings) => Ok(Reply::Readings(readings.copy(alloc)?)),
         Reply::Learned(learned) => Ok(Reply::Learned(copy_learned(alloc, learned)?)),
         Reply::Purged => Ok(Reply::Purged),

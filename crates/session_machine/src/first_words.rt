@@ -5,7 +5,7 @@ ghost use Rattle.session_machine.specs.Converted.{first_word, first_words, numbe
 ghost use Rattle.session_machine.specs.Said.{Says, spoken};
 
 use crate::answered::found_by;
-use skk_calls::{Answer, Call, Caller, Cands, Part, Refusal, RowKey};
+use skk_calls::{Answer, Call, Caller, FoundCands, Part, Refusal, RowKey};
 use skk_text::{Copies, Memory, Text, Texts};
 use std::alloc::Global;
 
@@ -35,7 +35,7 @@ pub(crate) fn look_numbers_up<C: Caller>(
     for number in numbers {
         let answer = look_number_up(alloc, typist, number, caller)?;
         match found_by(answer) {
-            Ok(found) => words.push(first_word(alloc, number, found.cands())?)?,
+            Ok(found) => words.push(first_word(alloc, number, found)?)?,
             Err(refusal) => return Ok(FirstWords::Stopped(refusal)),
         }
     }
@@ -66,9 +66,11 @@ fn look_number_up<C: Caller>(
 }
 
 // What stands for a number that was looked up: the word of the first candidate, or else its digits.
-fn first_word(alloc: Global, number: &Text, cands: &Cands) -> Result<Text, Memory>
-    ensures { IfOk result (λ word. word ≡ first_word number.now cands.now) }
+fn first_word(alloc: Global, number: &Text, found: FoundCands) -> Result<Text, Memory>
+    ensures { IfOk result (λ word. word ≡ first_word number.now found) }
 {
+    let found = found.into_distinct(alloc)?;
+    let cands = found.cands();
     if cands.is_empty() {
         return number.copy(alloc);
     }

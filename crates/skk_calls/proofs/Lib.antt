@@ -1,6 +1,7 @@
 pub mod AnswerExamples
 pub mod BadNotes
 pub mod Beginnings
+pub mod FirstItems
 pub mod FoundExamples
 pub mod HistoryExamples
 pub mod InteractionExamples
@@ -8,6 +9,8 @@ pub mod LastLetter
 pub mod LearningExamples
 pub mod LineExamples
 pub mod ListExamples
+pub mod PlainExamples
 pub mod RowExamples
 pub mod Samples
 pub mod StateExamples
+pub mod Strings

@@ -5,6 +5,7 @@ pub mod Completions
 pub mod Dictionary
 pub mod DifferLaws
 pub mod Found
+pub mod FoundCands
 pub mod Histories
 pub mod HistoryLaws
 pub mod InteractionLaws
@@ -14,6 +15,8 @@ pub mod Learning
 pub mod OrderLaws
 pub mod Openings
 pub mod Orders
+pub mod PlainCands
+pub mod PlainLaws
 pub mod RowLaws
 pub mod Rows
 pub mod RunLaws

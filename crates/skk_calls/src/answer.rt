@@ -1,12 +1,12 @@
-use crate::distinct_cands::DistinctCands;
+use crate::found_cands::FoundCands;
 use crate::learned::Learned;
 use skk_text::{Sequence, Texts};
 
 /// What a dictionary replies to a call.
 #[derive(Debug, Drop)]
 pub enum Reply {
-    /// The candidates that were found, which may be none. Their words differ.
-    Found(DistinctCands),
+    /// The candidates that were found, which may be none, as they lie. Their words differ.
+    Found(FoundCands),
     /// The readings that go on from the prefix, which may be none.
     Readings(Texts),
     /// The candidate was learnt.

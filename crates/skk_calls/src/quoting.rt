@@ -10,7 +10,14 @@ use skk_text::Text;
 pub fn needs_quotes(word: &Text) -> bool
     ensures { result ≡ (list_any is_special word.now || begins_form word.now) }
 {
-    holds_special(word.as_str()) || begins_form(word)
+    is_quoted(word.as_str())
+}
+
+// Whether a word is written as a string.
+pub(crate) fn is_quoted(word: &str) -> bool
+    ensures { result ≡ (list_any is_special (chars word.now) || begins_form (chars word.now)) }
+{
+    holds_special(word) || begins_form(word)
 }
 
 // Whether a text holds a character that no plain word has.
@@ -28,8 +35,8 @@ fn is_special(c: char) -> bool
 }
 
 // Whether no plain word begins so.
-fn begins_form(word: &Text) -> bool
-    ensures { result ≡ begins_form word.now }
+fn begins_form(word: &str) -> bool
+    ensures { result ≡ begins_form (chars word.now) }
 {
     begins(word, b"[")
         || begins(word, b"]")
@@ -38,9 +45,9 @@ fn begins_form(word: &Text) -> bool
 }
 
 // Whether a word begins with ASCII text.
-fn begins(word: &Text, prefix: &[u8]) -> bool
+fn begins(word: &str, prefix: &[u8]) -> bool
     requires { list_all (λ c. nat_lt c 128) prefix.now ≡ true }
-    ensures { result ≡ starts_with nat_eq word.now prefix.now }
+    ensures { result ≡ starts_with nat_eq (chars word.now) prefix.now }
 {
-    word.as_str().as_bytes().starts_with(prefix)
+    word.as_bytes().starts_with(prefix)
 }

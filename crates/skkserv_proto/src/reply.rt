@@ -1,4 +1,5 @@
-ghost use Rattle.std.specs.Prelude.{◌≡◌, ◌++◌, ℕ, List, IfOk, OnOk, Some, codes, length, if◌then◌else◌};
+ghost use Rattle.std.specs.Prelude.{◌≡◌, ◌++◌, ℕ, List, IfOk, OnOk, Some, codes, encode_utf8_all, length};
+ghost use Rattle.std.specs.Prelude.{if◌then◌else◌, map};
 ghost use Rattle.std.specs.List.{flat_map};
 ghost use Rattle.std.specs.Option.{option_map};
 ghost use Rattle.std.specs.Str.{chars};
@@ -9,9 +10,9 @@ ghost use Rattle.skkserv_proto.specs.Replies.{readings_in};
 ghost use Rattle.skkserv_proto.specs.Replies.{reply_to};
 
 use crate::request::Request;
-use dict_format::print_item;
+use dict_format::push_item;
 use exact_readers::{Printer, print_each};
-use skk_calls::{Cand, Reply};
+use skk_calls::{Cand, Cands, FoundItems, PlainCands, Reply};
 use skk_text::{Bytes, Memory, Text};
 use std::alloc::Global;
 
@@ -48,12 +49,34 @@ fn cands_or_not(alloc: Global, bytes: &Bytes, reply: Option<&Reply>) -> Result<V
 fn cands_of(alloc: Global, bytes: &Bytes, reply: &Reply) -> Result<Vec<u8>, Memory>
     ensures { IfOk result (λ sent. sent.items ≡ found_or_not bytes.now (cands_in (Some reply.now))) }
 {
-    let Reply::Found(cands) = reply else {
+    let Reply::Found(found) = reply else {
         return not_found(alloc, bytes);
     };
+    match found.items() {
+        FoundItems::Distinct(cands) => list_of(alloc, bytes, cands.cands()),
+        FoundItems::Plain(cands) => plain_list(alloc, cands),
+    }
+}
+
+// What is sent for bytes and candidates each by itself.
+fn list_of(alloc: Global, bytes: &Bytes, cands: &Cands) -> Result<Vec<u8>, Memory>
+    ensures { IfOk result (λ sent. sent.items ≡ found_or_not bytes.now (map item cands.now)) }
+{
     let mut listing = ReplyListing::new(alloc)?;
-    print_each::<ListedCand>(&mut listing, cands.cands().as_slice())?;
+    print_each::<ListedCand>(&mut listing, cands.as_slice())?;
     let sent = listing.end(bytes)?;
+    Ok(sent)
+}
+
+// What is sent for candidates that lie in one text, whatever the bytes: the text is their list as it lies.
+fn plain_list(alloc: Global, cands: &PlainCands) -> Result<Vec<u8>, Memory>
+    ensures { IfOk result (λ sent. (bytes : List ℕ) → sent.items ≡ found_or_not bytes (map item cands.now)) }
+{
+    let text = cands.text().as_str().as_bytes();
+    let mut sent = Vec::with_capacity(alloc, text.len().saturating_add(3))?;
+    sent.extend_from_slice(b"1/")?;
+    sent.extend_from_slice(text)?;
+    sent.push(b'\n')?;
     Ok(sent)
 }
 
@@ -81,45 +104,36 @@ fn readings_of(alloc: Global, bytes: &Bytes, reply: &Reply) -> Result<Vec<u8>, M
     Ok(sent)
 }
 
-// Items that are listed, each with its slash, behind what begins a list.
+// Items that are listed, each with its slash, behind what begins a list. They are written into one text, so that no
+// item takes memory of its own.
 #[derive(Drop)]
 struct ReplyListing {
     alloc: Global,
-    bytes: Vec<u8>,
+    text: Text,
 }
 
 impl ReplyListing {
     // The list of no items.
     fn new(alloc: Global) -> Result<ReplyListing, Memory>
-        ensures { IfOk result (λ listing. listing.bytes.items ≡ codes "1/") }
+        ensures { IfOk result (λ listing. encode_utf8_all listing.text ≡ codes "1/") }
     {
-        let bytes = bytes_of(alloc, b"1/")?;
-        Ok(ReplyListing { alloc, bytes })
-    }
-
-    // Adds an item with its slash.
-    fn push(&mut self, item: &Text) -> Result<(), Memory>
-        ensures { OnOk result (self.new.bytes.items ≡ self.old.bytes.items ++ item_bytes item.now) }
-    {
-        self.bytes.extend_from_slice(item.as_str().as_bytes())?;
-        self.bytes.push(b'/')?;
-        Ok(())
+        let text = Text::from_str(alloc, "1/")?;
+        Ok(ReplyListing { alloc, text })
     }
 
     // What is sent of the list for these bytes, for which nothing was found where it has no item.
+    #[tactic(auto, using(crate::proofs::Listing::listing))]
     fn end(self, bytes: &Bytes) -> Result<Vec<u8>, Memory>
         ensures { IfOk result (λ sent. (items : List (List ℕ))
-            → self.bytes.items ≡ codes "1/" ++ flat_map item_bytes items → sent.items ≡ found_or_not bytes.now items) }
+            → encode_utf8_all self.text ≡ codes "1/" ++ flat_map item_bytes items
+            → sent.items ≡ found_or_not bytes.now items) }
     {
-        let ReplyListing {
-            alloc,
-            bytes: mut sent,
-        } = self;
-        if sent.len() == 2 {
+        let ReplyListing { alloc, mut text } = self;
+        if text.byte_len() == 2 {
             return not_found(alloc, bytes);
         }
-        sent.push(b'\n')?;
-        Ok(sent)
+        text.push('\n')?;
+        bytes_of(alloc, text.as_str().as_bytes())
     }
 }
 
@@ -133,12 +147,14 @@ impl Printer for ListedCand {
 
     ghost Token = { ℕ };
 
-    ghost shown = { λ listing. listing.bytes.items };
+    ghost shown = { λ listing. encode_utf8_all listing.text };
 
     ghost printed = { λ cand. item_bytes (item cand) };
 
+    #[tactic(auto, using(crate::proofs::Listing::listing))]
     fn print(listing: &mut ReplyListing, cand: &Cand) -> Result<(), Memory> {
-        listing.push(&print_item(listing.alloc, cand)?)
+        push_item(&mut listing.text, cand)?;
+        listing.text.push('/')
     }
 }
 
@@ -152,15 +168,17 @@ impl Printer for ListedReading {
 
     ghost Token = { ℕ };
 
-    ghost shown = { λ listing. listing.bytes.items };
+    ghost shown = { λ listing. encode_utf8_all listing.text };
 
     ghost printed = { λ reading. reading_bytes reading };
 
+    #[tactic(auto, using(crate::proofs::Listing::listing))]
     fn print(listing: &mut ReplyListing, reading: &Text) -> Result<(), Memory> {
         if !lacks_slash(reading.as_str()) {
             return Ok(());
         }
-        listing.push(reading)
+        listing.text.push_str(reading.as_str())?;
+        listing.text.push('/')
     }
 }
 
