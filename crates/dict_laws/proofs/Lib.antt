@@ -15,6 +15,7 @@ pub mod NextAbove
 pub mod OwnBookExamples
 pub mod PurgedRows
 pub mod PurgesTold
+pub mod ReadOnce
 pub mod RowParts
 pub mod Seen
 pub mod TakenBack

@@ -92,7 +92,7 @@ pub record ValidParts (state : State) : Type 0 where
   pub books : list_all is_book state.books ≡ true
   pub lists : (lists_ascend state.lists && list_all is_kept_list state.lists) ≡ true
 
-valid_parts : (state : State) → is_valid state ≡ true → ValidParts state
+pub valid_parts : (state : State) → is_valid state ≡ true → ValidParts state
 valid_parts state valid =
     let kept = lists_ascend state.lists && list_all is_kept_list state.lists in
     let first = and_parts (books_ascend state.books) (list_all is_book state.books && kept) valid in

@@ -6,6 +6,7 @@ ghost use Rattle.skk_calls.specs.declared.call.Call.{Call};
 ghost use Rattle.skk_calls.specs.declared.call.Call.TheVariants.{Lookup, Complete, Learn, Unlearn};
 ghost use Rattle.skk_calls.specs.declared.answer.Reply.TheVariants.{Learned as learned_reply, Restored};
 ghost use Rattle.skk_calls.specs.declared.entry.Entry.{Entry};
+ghost use Rattle.skk_calls.specs.BookLists.{twice_at};
 ghost use Rattle.skk_calls.specs.Completions.{completions, completion_limit, goes_on_from};
 ghost use Rattle.skk_calls.specs.Dictionary.{answer, after, is_call, is_fit, is_okuri_or_none, is_row_or_none};
 ghost use Rattle.skk_calls.specs.Dictionary.{is_share, is_stamped, speaks_of};
@@ -144,6 +145,11 @@ pub fn answers_depend_on_the_books_read()
     ensures complete { (files : List (List Row)) (state other : State) (who : ℕ) →
         shared_books other who ≡ shared_books state who → All (SameRows state other) (books_read state who) →
         (prefix : List ℕ) → answer files other (Complete who prefix) ≡ answer files state (Complete who prefix) }
+{}
+
+/// No book is read twice: neither the typist's own, which a list may name too, nor another.
+pub fn no_book_is_read_twice()
+    ensures { (state : State) (who : ℕ) → is_valid state ≡ true → twice_at (books_read state who) ≡ None }
 {}
 
 /// No word is found twice.

@@ -14,9 +14,10 @@ pub use laws::{
     answers_depend_on_the_books_read, changed_rows_are_rows, changes_keep_states_valid,
     changes_leave_other_rows, changes_leave_what_is_found_of_other_keys, changes_make_states,
     completions_go_on_and_differ, counting_comes_to_the_tally, found_words_differ,
-    learning_keeps_own_notes, learning_twice_is_learning_once, no_row_hides_its_own_words,
-    prefixes_of_legal_histories_are_legal, purges_are_told_to_change_what_they_change,
-    the_next_reading_is_the_least_above, unlearning_gives_the_row_back,
+    learning_keeps_own_notes, learning_twice_is_learning_once, no_book_is_read_twice,
+    no_row_hides_its_own_words, prefixes_of_legal_histories_are_legal,
+    purges_are_told_to_change_what_they_change, the_next_reading_is_the_least_above,
+    unlearning_gives_the_row_back,
 };
 pub use own_books::{
     each_typist_is_answered_alone, own_calls_are_given_own_learnings, own_calls_leave_other_books,
