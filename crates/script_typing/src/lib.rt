@@ -12,6 +12,7 @@
 #![tactic(auto)]
 
 mod cutting;
+mod host;
 mod laws;
 mod office;
 mod pages;
@@ -22,6 +23,7 @@ mod worker;
 mod working;
 
 pub use cutting::{Cut, cut_lines, cut_script};
+pub use host::Host;
 pub use laws::{
     callers_have_asked, callers_have_ended, pages_are_woven, sessions_of_their_own_are_apart,
     typists_apart_play_alone, typists_apart_type_alone,

@@ -7,6 +7,7 @@ ghost use Rattle.key_scripts.specs.Script.{opens_well};
 ghost use Rattle.script_typing.specs.MapLaws.{Ascend};
 ghost use Rattle.script_typing.specs.Workers.{AreHired, AreRested, IsLeftOf, AddsTo, HasRun, WorkedBy};
 
+use crate::host::Host;
 use crate::typed::Typed;
 use crate::worker::Worker;
 use key_scripts::Line;
@@ -21,13 +22,11 @@ use std::thread::{Threads, for_each_mut};
 /// Types the lines of each session by a caller of its own that an office admits, in the order of their numbers, and in
 /// a thread of its own where one can be started. Waits until all have ended.
 pub fn type_tasks<R: Threads + Sync, W: Office<Pass: Send + Drop>, G: Gate + Sync>(
-    rt: &R,
-    alloc: Global,
+    host: &Host<'_, R, G>,
     rules: &Rules,
     tasks: BTreeMap<u8, Sequence<Line>>,
     office: &W,
     roll: &mut W::Roll,
-    gate: &G,
 ) -> (Result<Typed, Memory>, Vec<W::Slip>)
     requires owns { W.owns office.now roll.old }
     requires few { W.drawn roll.old + length tasks.entries < 4294967295 }
@@ -38,6 +37,7 @@ pub fn type_tasks<R: Threads + Sync, W: Office<Pass: Send + Drop>, G: Gate + Syn
     ensures drawn { W.drawn roll.new ≡ W.drawn roll.old + length result.1.items }
     ensures owned { W.owns office.now roll.new }
 {
+    let alloc = host.alloc;
     let Ok(mut workers) = Vec::with_capacity(alloc, tasks.len()) else {
         return (Err(Memory), Vec::new(alloc));
     };
@@ -46,7 +46,7 @@ pub fn type_tasks<R: Threads + Sync, W: Office<Pass: Send + Drop>, G: Gate + Syn
     };
     match hire_all(alloc, tasks, office, roll, &mut workers) {
         Ok(()) => {
-            run_all(rt, alloc, rules, gate, &mut workers);
+            run_all(host, rules, &mut workers);
             let typed = rest_all(alloc, workers, office, &mut slips);
             (typed, slips)
         }
@@ -86,10 +86,8 @@ fn hire_all<W: Office<Pass: Drop>>(
 
 // Runs each worker in a thread of its own, where one can be started.
 fn run_all<R: Threads + Sync, C: Caller + Send, G: Gate + Sync>(
-    rt: &R,
-    alloc: Global,
+    host: &Host<'_, R, G>,
     rules: &Rules,
-    gate: &G,
     workers: &mut Vec<Worker<C>>,
 )
     ensures same { length workers.new.items ≡ length workers.old.items }
@@ -99,9 +97,10 @@ fn run_all<R: Threads + Sync, C: Caller + Send, G: Gate + Sync>(
     if workers.is_empty() {
         return;
     }
+    let (alloc, gate) = (host.alloc, host.gate);
     let threads = workers.len();
     for_each_mut(
-        rt,
+        &host.rt,
         workers.as_mut_slice(),
         threads,
         &|_, worker| { worker.run(alloc, rules, gate) },

@@ -13,7 +13,6 @@ ghost use Rattle.skk_top.specs.Disks.{moved_disk, StandsSince};
 ghost use Rattle.skk_top.specs.TypeCommand.{LeavesBegun, LeavesTyped};
 ghost use Rattle.skk_top.specs.WeaveCommand.{AreCutOf, LeavesPages, WeavesLines};
 
-use crate::host::Host;
 use crate::manner::Manner;
 use crate::type_command::{ScriptToType, begin};
 use crate::typed_tasks::type_by_callers;
@@ -22,7 +21,7 @@ use command_line::TypeOptions;
 use key_scripts::Script;
 use run_endings::{Run, RunFault, end_by};
 use script_typing::{
-    Cut, Typed, callers_have_asked, callers_have_ended, cut_script, pages_are_woven,
+    Cut, Host, Typed, callers_have_asked, callers_have_ended, cut_script, pages_are_woven,
     typists_apart_type_alone,
 };
 use skk_disk::Disk;

@@ -16,7 +16,6 @@ mod check_command;
 mod checking;
 mod dictionary;
 mod dump_command;
-mod host;
 mod laws;
 mod load_command;
 mod load_each;

@@ -16,7 +16,6 @@ ghost use Rattle.run_endings.specs.Finishes.{EndsUnbegun};
 ghost use Rattle.skk_top.specs.LoadCommand.{load_lines, summed, LeavesLoaded, LoadsTasks};
 ghost use Rattle.run_endings.specs.Page.{LeavesPrinted};
 
-use crate::host::Host;
 use crate::load_command::{Load, draw_load};
 use crate::load_opening::open_load;
 use crate::summary::print_summary;
@@ -27,8 +26,8 @@ use learned_store::Store;
 use romaji_rules::Rules;
 use run_endings::{Run, RunFault, end_by};
 use script_typing::{
-    Typed, callers_have_asked, callers_have_ended, cut_lines, sessions_of_their_own_are_apart,
-    typists_apart_play_alone,
+    Host, Typed, callers_have_asked, callers_have_ended, cut_lines,
+    sessions_of_their_own_are_apart, typists_apart_play_alone,
 };
 use skk_calls::Tally;
 use skk_disk::Disk;

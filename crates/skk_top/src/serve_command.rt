@@ -9,13 +9,13 @@ ghost use Rattle.skk_top.specs.Disks.{moved_disk, StandsSince, RefusesLearned};
 ghost use Rattle.skk_top.specs.ServeCommand.{LeavesServed, EndsUnasked, ServesOpened, ServesConnections};
 ghost use Rattle.skk_top.specs.ServeCommand.{moved_listener};
 
-use crate::host::Host;
 use crate::opening::{Table, end_unopened, open_learned, read_table};
 use crate::serving::{Outcome, Service, Serving, serve_port};
 use command_line::ServeOptions;
 use desk_history::{DeskName, History, Pen, RollSeat};
 use learned_store::{LearnedName, Store};
 use run_endings::{Run, RunFault, end_wanting};
+use script_typing::Host;
 use shared_desk::{Desk, Slips};
 use skk_disk::Disk;
 use skk_outside::{Gate, Listener, Shelf, Sink};

@@ -5,9 +5,9 @@ ghost use Rattle.run_endings.specs.Page.{LeavesPrinted, Writes};
 ghost use Rattle.skk_top.specs.ServeCommand.{ServesByOffice, TellsEnd, moved_listener, ready_line, served_line};
 ghost use Rattle.skk_top.specs.ServeCommand.{wants_memory};
 
-use crate::host::Host;
 use romaji_rules::Rules;
 use run_endings::{RunFault, write_numbered, write_through};
+use script_typing::Host;
 use skk_calls::Office;
 use skk_outside::{Failed, Gate, Listener, Sink};
 use skk_server::{End, Served, ServedEnd, serve_all};

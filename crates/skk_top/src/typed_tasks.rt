@@ -8,12 +8,11 @@ ghost use Rattle.script_typing.specs.MapLaws.{Ascend};
 ghost use Rattle.caller_work.specs.Disks.{disk_now, RunsOver};
 ghost use Rattle.skk_top.specs.TypedTasks.{TypesTasks};
 
-use crate::host::Host;
 use desk_history::{DeskName, History, Pen, RollSeat};
 use key_scripts::Line;
 use learned_store::{Closed, LearnedName, Store};
 use romaji_rules::Rules;
-use script_typing::{Typed, type_tasks};
+use script_typing::{Host, Typed, type_tasks};
 use shared_desk::{Desk, Slips};
 use skk_disk::Disk;
 use skk_outside::Gate;
@@ -93,9 +92,7 @@ fn type_over<
     match Desk::<D, N, R>::open(host.rt, host.alloc, store, history, pen, roll) {
         Ok((desk, mut roll)) => {
             let office = &desk;
-            let (typed, slips) = type_tasks(
-                &host.rt, host.alloc, rules, tasks, &office, &mut roll, host.gate,
-            );
+            let (typed, slips) = type_tasks(host, rules, tasks, &office, &mut roll);
             let closed = desk.close(roll, Slips::of(slips));
             Ok(TypedTasks { typed, closed })
         }

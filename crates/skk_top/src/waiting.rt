@@ -15,11 +15,11 @@ ghost use Rattle.skk_top.specs.Failures.{HasFailed};
 ghost use Rattle.skk_top.specs.ServeCommand.{moved_listener};
 
 use crate::caller_each::run_by_each;
-use crate::host::Host;
 use crate::load_each::run_load_by_each;
 use crate::serve_command::run_serve;
 use command_line::WaitingCommand;
 use run_endings::{Finish, Run, RunFault, end_run};
+use script_typing::Host;
 use skk_disk::Disk;
 use skk_outside::{Gate, Listener, Shelf, Sink, Source};
 use std::alloc::Global;

@@ -1,6 +1,6 @@
 use std::alloc::Global;
 
-/// What a command that starts threads is handed of its host.
+/// What work that starts threads is handed of its host.
 #[derive(Drop)]
 pub struct Host<'a, R, G> {
     /// The runtime.
