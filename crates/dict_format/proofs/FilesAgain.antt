@@ -25,6 +25,7 @@ use Rattle.skk_calls.specs.Rows.{Row, begins_well, is_row, keys_differ}
 use Rattle.dict_format.specs.declared.file.Listed.{Listed}
 use Rattle.dict_format.specs.declared.file_lines.LineKind.TheVariants.{Entry}
 use Rattle.dict_format.specs.FileLines.{Lists, TakeAll, entries_from, entries_of, file_limit, has_key, kind_of}
+use Rattle.dict_format.specs.FileLines.{none_listed}
 use Rattle.dict_format.specs.Lines.{SpellsRow}
 use Rattle.dict_format.specs.PrintedFiles.{in_printing_order, is_of, part_in_order, part_line, printed_file}
 use Rattle.dict_format.specs.PrintedFiles.{without_stamp}
@@ -171,12 +172,20 @@ module _ (rows : List Row) (valid : list_all is_row rows ≡ true) (good : list_
           rows_taken part (part_in_order part rows) book more lines after (part_holds part rows)
           (part_passes part is_row rows valid) (part_passes part is_good rows good) (texts part)
 
--- the file that is printed of good rows whose keys differ lists them
+-- the entries of the file that is printed of good rows whose keys differ come to them
+pub entries_again : (rows : List Row) → keys_differ rows ≡ true → list_all is_row rows ≡ true
+    → list_all is_good rows ≡ true → IsUtf8 (encode_utf8_all (printed_file rows))
+    → TakeAll none_listed (entries_of (encode_utf8_all (printed_file rows)))
+    (record { book = map without_stamp (in_printing_order rows); bad = [] })
+entries_again rows differ valid good utf8 =
+    let text : scalars (printed_file rows) ≡ true =
+    subst (λ (cs : List ℕ). scalars cs ≡ true) (encodes_same utf8.0 (printed_file rows) utf8.1.1) utf8.1.0 in
+    file_taken rows valid good differ text
+
+-- so it lists them where it is not too long
 pub file_again : (rows : List Row) → keys_differ rows ≡ true → list_all is_row rows ≡ true
     → list_all is_good rows ≡ true → length (encode_utf8_all (printed_file rows)) ≤ file_limit
     → IsUtf8 (encode_utf8_all (printed_file rows)) → Lists (encode_utf8_all (printed_file rows))
     (record { book = map without_stamp (in_printing_order rows); bad = [] })
 file_again rows differ valid good short utf8 =
-    let text : scalars (printed_file rows) ≡ true =
-    subst (λ (cs : List ℕ). scalars cs ≡ true) (encodes_same utf8.0 (printed_file rows) utf8.1.1) utf8.1.0 in
-    record { not_long = short; valid = utf8; entries = file_taken rows valid good differ text }
+    record { not_long = short; valid = utf8; entries = entries_again rows differ valid good utf8 }

@@ -5,7 +5,7 @@ ghost use Rattle.std.specs.Str.{chars};
 ghost use Rattle.skk_text.specs.Text.{byte_len};
 ghost use Rattle.skk_calls.specs.Canonical.{canonical, is_good};
 ghost use Rattle.skk_calls.specs.Rows.{is_row};
-ghost use Rattle.dict_format.specs.FileLines.{Lists, file_limit};
+ghost use Rattle.dict_format.specs.FileLines.{Lists, TakeAll, entries_of, file_limit, none_listed};
 ghost use Rattle.dict_format.specs.PrintedFiles.{AreOfBook, in_printing_order, is_of, is_printed_before, part_in_order};
 ghost use Rattle.exact_readers.specs.Lines.{with_line_end};
 ghost use Rattle.dict_format.specs.PrintedFiles.{part_line, without_stamp, printed_part, printed_file};
@@ -19,12 +19,15 @@ use std::cmp::Ordering;
 
 /// The text of a dictionary file with the rows of a book: the okuri-ari rows descending by the bytes of their readings,
 /// then the okuri-nasi rows ascending, each part behind its line. That of good rows is read again as these, in that
-/// order and with stamp 0, where it is not too long for a file. Takes time in the length of that text, and with one
-/// logarithm in the number of rows.
+/// order and with stamp 0, where it is not too long for a file; and its entries come to these rows however long it is.
+/// Takes time in the length of that text, and with one logarithm in the number of rows.
 pub fn print_file(alloc: Global, book: &Book) -> Result<Text, Memory>
     ensures printed { IfOk result (λ text. text ≡ printed_file book.now) }
     ensures read_again { list_all is_good book.now ≡ true → IfOk result (λ text. byte_len text ≤ file_limit
         → Lists (encode_utf8_all text) (record { book = map without_stamp (in_printing_order book.now); bad = [] })) }
+    ensures entries { list_all is_good book.now ≡ true → IfOk result (λ text.
+        TakeAll none_listed (entries_of (encode_utf8_all text))
+        (record { book = map without_stamp (in_printing_order book.now); bad = [] })) }
 {
     printed_files_are_read_again();
     let mut file = Text::new(alloc);
@@ -58,9 +61,10 @@ fn part_line(part: Part) -> &'static str
     }
 }
 
-// The rows of a part, in the order in which they are printed.
+/// The rows of a part, in the order in which they are printed. Takes time in the number of rows, with one logarithm in
+/// it.
 #[tactic(auto, using(std::proofs::lemmas::Grind::common_steps))]
-fn rows_in_order(alloc: Global, part: Part, book: &Book) -> Result<Vec<&Row>, Memory>
+pub fn rows_in_order(alloc: Global, part: Part, book: &Book) -> Result<Vec<&Row>, Memory>
     ensures order { IfOk result (λ rows. map (λ row. row.now) rows.items ≡ part_in_order part book.now) }
     ensures of_book { IfOk result (λ rows. AreOfBook book.now) }
 {

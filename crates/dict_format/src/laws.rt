@@ -8,7 +8,7 @@ ghost use Rattle.skk_calls.specs.Rows.{Row, is_row, keys_differ};
 ghost use Rattle.dict_format.specs.declared.file.Listed.{Listed};
 ghost use Rattle.dict_format.specs.declared.reason.LineReason.{LineReason};
 ghost use Rattle.dict_format.specs.EntryRows.{HasKey, listed_rows, row_of_line};
-ghost use Rattle.dict_format.specs.FileLines.{Lists, entries_of, file_limit};
+ghost use Rattle.dict_format.specs.FileLines.{Lists, TakeAll, entries_of, file_limit, none_listed};
 ghost use Rattle.dict_format.specs.Lines.{SpellsRow};
 ghost use Rattle.dict_format.specs.PrintedFiles.{in_printing_order, printed_file, without_stamp};
 ghost use Rattle.dict_format.specs.Reasons.{IsReason};
@@ -49,11 +49,17 @@ pub fn printing_order_moves_rows()
 {}
 
 /// The file that is printed of good rows whose keys differ lists them again, in printing order and with stamp 0, and no
-/// bad line, where it is not too long and is UTF-8: a dictionary that is written out can be read again.
+/// bad line, where it is not too long and is UTF-8: a dictionary that is written out can be read again. However long it
+/// is, its entries come to these rows.
 pub fn printed_files_are_read_again()
-    ensures { (rows : List Row) → keys_differ rows ≡ true → list_all is_row rows ≡ true → list_all is_good rows ≡ true
-        → length (encode_utf8_all (printed_file rows)) ≤ file_limit → IsUtf8 (encode_utf8_all (printed_file rows))
+    ensures lists { (rows : List Row) → keys_differ rows ≡ true → list_all is_row rows ≡ true
+        → list_all is_good rows ≡ true → length (encode_utf8_all (printed_file rows)) ≤ file_limit
+        → IsUtf8 (encode_utf8_all (printed_file rows))
         → Lists (encode_utf8_all (printed_file rows))
+        (record { book = map without_stamp (in_printing_order rows); bad = [] }) }
+    ensures entries { (rows : List Row) → keys_differ rows ≡ true → list_all is_row rows ≡ true
+        → list_all is_good rows ≡ true → IsUtf8 (encode_utf8_all (printed_file rows))
+        → TakeAll none_listed (entries_of (encode_utf8_all (printed_file rows)))
         (record { book = map without_stamp (in_printing_order rows); bad = [] }) }
 {}
 

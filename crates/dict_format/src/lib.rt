@@ -30,7 +30,7 @@ mod words;
 
 pub use file::{BadLine, BadLines, FileFault, Listed};
 pub use file_lines::{LineKind, kind_of};
-pub use file_printing::print_file;
+pub use file_printing::{print_file, rows_in_order};
 pub use file_reading::{FILE_LIMIT, read_file};
 pub use laws::{
     files_list_one_thing, good_rows_are_read_again, lines_spell_one_row,

@@ -1,5 +1,6 @@
 //! Tests of the public calls of the crates of the dictionary, lowest first: texts and keys, traces, calls, sets of
-//! words, rows, dictionary files, layers, completion, learning, and the format of a dictionary file.
+//! words, rows, dictionary files, layers, completion, learning, the format of a dictionary file, and sums and
+//! differences of dictionaries.
 //!
 //! They stand above those crates, so that none of these is proved once with its tests and once without. It has no
 //! public item.
@@ -24,6 +25,8 @@ mod learning;
 mod making;
 #[cfg(test)]
 mod rows;
+#[cfg(test)]
+mod sums;
 #[cfg(test)]
 mod texts;
 #[cfg(test)]

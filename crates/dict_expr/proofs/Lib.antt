@@ -1,0 +1,14 @@
+pub mod ByKey
+pub mod Differing
+pub mod FileRows
+pub mod GoodRows
+pub mod Itself
+pub mod Keeping
+pub mod Kept
+pub mod KnownTexts
+pub mod Lacks
+pub mod Paired
+pub mod RowExamples
+pub mod Saying
+pub mod Steps
+pub mod Walks
