@@ -4,7 +4,7 @@ use Rattle.std.proofs.Common.{map, codes, arith, lit≤, lit<}
 use Rattle.skk_text.specs.Counts.{one_more}
 use Rattle.skk_outside.specs.declared.outside.Outside.{Ghosts}
 use Rattle.skk_outside.specs.declared.shelf.Shelf.{Ghosts as ShelfGhosts}
-use Rattle.skk_outside.specs.Listeners.{Accepts, out_after}
+use Rattle.skk_outside.specs.Listeners.{Accepts, Dials, out_after}
 use Rattle.skk_outside.specs.Memory.{CallCount, no_call_yet, after_success, after_failure, with_fault, bytes_of_pieces}
 use Rattle.skk_outside.specs.Memory.{first_nonempty_piece, without_first_bytes, names_differ, file_named}
 use Rattle.skk_outside.specs.Moved.{moved_source, moved_sink, moved_shelf}
@@ -123,6 +123,30 @@ accepts = (
   λ is. is,
   λ is. is,
   λ is. cc,
+  λ is. is,
+  λ is. cc,
+  λ is. cc,
+)
+
+-- what a call of a listener that dials may leave: the first link is given and the rest is left, none is given where
+-- none is left, and a call that fails leaves all
+abbrev Gives : Option (List ℕ) → Option (List ℕ) → Result ℕ ℕ → Type 0
+Gives coming coming' result = Dials coming coming' result
+
+dials : Gives (Some (7 ∷ 8 ∷ [])) (Some (8 ∷ [])) (Ok 7) × Gives None None (Ok 7)
+    × Gives (Some []) (Some []) (Err 1) × Gives (Some (7 ∷ [])) (Some (7 ∷ [])) (Err 1) × Gives None None (Err 1)
+    × (¬ Gives (Some (7 ∷ 8 ∷ [])) (Some (8 ∷ [])) (Ok 8))
+    × (¬ Gives (Some (7 ∷ 8 ∷ [])) (Some (7 ∷ 8 ∷ [])) (Ok 7))
+    × (¬ Gives (Some []) (Some []) (Ok 7)) × (¬ Gives None (Some []) (Ok 7))
+    × (¬ Gives (Some (7 ∷ [])) (Some []) (Err 1))
+dials = (
+  (refl, refl),
+  refl,
+  refl,
+  refl,
+  refl,
+  λ is. let first = is.0 in cc,
+  λ is. let rest = is.1 in cc,
   λ is. is,
   λ is. cc,
   λ is. cc,

@@ -1,19 +1,22 @@
 ghost use Rattle.std.specs.Prelude.{◌≡◌, ◌≤◌, ◌<◌, ◌+◌, None, Some, option_map, OnOk, OnErr};
 ghost use Rattle.skk_text.specs.Counts.{one_more};
 ghost use Rattle.skk_outside.specs.Faults.{Rose};
-ghost use Rattle.skk_outside.specs.Listeners.{Accepts, out_after};
+ghost use Rattle.skk_outside.specs.Listeners.{Accepts, Dials, out_after};
 
 use crate::count::Count;
 use crate::listener::Listener;
 use crate::outside::Failed;
 use crate::stream_link::StreamLink;
 use std::io::{self, ErrorKind};
-use std::net::{Ipv4Addr, Net, OpenListener, OpenStream, SocketAddr, SocketAddrV4, TcpListener};
+use std::net::{
+    Ipv4Addr, Net, OpenListener, OpenStream, SocketAddr, SocketAddrV4, TcpListener, TcpStream,
+};
 use std::thread;
 use std::time::{Clock, Duration};
 
-/// The listener of a TCP port of the system, on loopback (127.0.0.1) alone. It tells nothing of the links that come and
-/// that were taken back. A call that goes well leaves the count of faults, and one that fails raises it by one.
+/// The listener of a TCP port of the system, on loopback (127.0.0.1) alone, where it also dials. It tells nothing of
+/// the links that come and that were taken back. A call that goes well leaves the count of faults, and one that fails
+/// raises it by one.
 #[derive(Drop)]
 pub struct HostListener<R: Net + Clock> {
     rt: R,
@@ -71,6 +74,11 @@ fn is_shortage(error: &io::Error) -> bool {
     matches!(error.raw_os_error(), Some(12 | 105 | 23 | 24))
 }
 
+// The address of a port of loopback.
+fn on_loopback(port: u16) -> SocketAddr {
+    SocketAddr::V4(SocketAddrV4::new(Ipv4Addr::LOCALHOST, port))
+}
+
 impl<R: Net + Clock> Listener for HostListener<R> {
     type Link = StreamLink<R::Stream>;
 
@@ -94,8 +102,7 @@ impl<R: Net + Clock> Listener for HostListener<R> {
         ensures no_fault { OnOk result (self.new.faults ≡ self.old.faults) }
         ensures one_fault { OnErr result (self.new.faults ≡ one_more self.old.faults) }
     {
-        let address = SocketAddr::V4(SocketAddrV4::new(Ipv4Addr::LOCALHOST, port));
-        match TcpListener::bind(&self.rt, address) {
+        match TcpListener::bind(&self.rt, on_loopback(port)) {
             Ok(listener) => {
                 self.port = Some(OpenPort {
                     number: port,
@@ -128,6 +135,30 @@ impl<R: Net + Clock> Listener for HostListener<R> {
         let _at_once = stream.set_nodelay(true);
         self.out += 1;
         Ok(Some(StreamLink::new(stream)))
+    }
+
+    /// Waits until the peer takes the connection or the system gives it up. A port on which none listens is a fault.
+    /// Small requests to the peer are sent at once.
+    fn dial(&mut self, port: u16) -> Result<StreamLink<R::Stream>, Failed>
+        ensures coming { Dials None None result }
+        ensures dialled { OnOk result (self.new.out ≡ self.old.out + 1) }
+        ensures none { OnErr result (self.new.out ≡ self.old.out) }
+        ensures opened { self.new.port ≡ self.old.port }
+        ensures failed { OnErr result (Rose self.old.faults self.new.faults) }
+        ensures counted { self.old.faults ≤ self.new.faults }
+        ensures no_fault { OnOk result (self.new.faults ≡ self.old.faults) }
+        ensures one_fault { OnErr result (self.new.faults ≡ one_more self.old.faults) }
+    {
+        if self.out == u64::MAX {
+            return Err(self.faults.fail());
+        }
+        let Ok(stream) = TcpStream::connect(&self.rt, on_loopback(port)) else {
+            return Err(self.faults.fail());
+        };
+        // Where the system refuses, a request may only go later.
+        let _at_once = stream.set_nodelay(true);
+        self.out += 1;
+        Ok(StreamLink::new(stream))
     }
 
     fn done(&mut self, _link: StreamLink<R::Stream>)

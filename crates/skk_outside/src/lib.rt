@@ -1,6 +1,6 @@
 //! The outside as the program sees it: sources of bytes, sinks for them, links that are both,
-//! listeners to which links come, and shelves of named files; the forms of them in memory, and the
-//! adapters of real streams, of the system's TCP connections and of its files.
+//! listeners to which links come and that dial for them, and shelves of named files; the forms of
+//! them in memory, and the adapters of real streams, of the system's TCP connections and of its files.
 //!
 //! It stands on `skk_text`. Each of them has two meanings: what it holds, where it tells that, and a
 //! count of faults. A source holds the bytes that are left, a sink those that were written, a link

@@ -1,11 +1,11 @@
 ghost use Rattle.std.specs.Prelude.{◌≡◌, ◌<◌, ◌≤◌, ◌+◌, ℕ, List, [], ◌∷◌, ◌++◌, Option, Some, option_map, OnOk, OnErr};
 ghost use Rattle.skk_outside.specs.Faults.{Rose};
-ghost use Rattle.skk_outside.specs.Listeners.{Accepts, out_after};
+ghost use Rattle.skk_outside.specs.Listeners.{Accepts, Dials, out_after};
 
 use crate::link::Link;
 use crate::outside::Failed;
 
-/// Where connections come from, and go to when they were served.
+/// Where connections come from, of peers that come or are dialled, and go to when they are over.
 pub trait Listener {
     /// A connection.
     type Link: Link;
@@ -19,7 +19,7 @@ pub trait Listener {
     /// The links that were taken back, in order, where the listener tells them.
     ghost over: { Self → Option (List Self.Link) };
 
-    /// How many links are out: they were accepted, and are not taken back yet.
+    /// How many links are out: they were accepted or dialled, and are not taken back yet.
     ghost out: { Self → ℕ };
 
     /// The port that it listens on, where one was opened.
@@ -45,7 +45,17 @@ pub trait Listener {
         ensures failed { OnErr result (Rose (faults self.old) (faults self.new)) }
         ensures counted { faults self.old ≤ faults self.new };
 
-    /// Takes a connection back that was served. Can't fail.
+    /// A connection to a port of loopback, for which it may wait: a peer that can't be had is a fault.
+    fn dial(&mut self, port: u16) -> Result<Self::Link, Failed>
+        ensures coming { Dials (coming self.old) (coming self.new) result }
+        ensures over { over self.new ≡ over self.old }
+        ensures dialled { OnOk result (out self.new ≡ out self.old + 1) }
+        ensures none { OnErr result (out self.new ≡ out self.old) }
+        ensures opened { opened self.new ≡ opened self.old }
+        ensures failed { OnErr result (Rose (faults self.old) (faults self.new)) }
+        ensures counted { faults self.old ≤ faults self.new };
+
+    /// Takes a connection back that is over. Can't fail.
     fn done(&mut self, link: Self::Link)
         requires { 0 < out self.old }
         ensures out { out self.new + 1 ≡ out self.old }

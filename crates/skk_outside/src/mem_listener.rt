@@ -1,6 +1,6 @@
 ghost use Rattle.std.specs.Prelude.{◌≡◌, ◌↔◌, ◌<◌, ◌≤◌, ◌+◌, [], ◌∷◌, ◌++◌, None, Some, Err, IsErr, IfOk, OnOk, OnErr};
 ghost use Rattle.skk_outside.specs.Faults.{Rose};
-ghost use Rattle.skk_outside.specs.Listeners.{Accepts, out_after};
+ghost use Rattle.skk_outside.specs.Listeners.{Accepts, Dials, out_after};
 ghost use Rattle.skk_outside.specs.Memory.{no_call_yet, after_success, after_failure, FailsNext};
 
 use crate::calls::Calls;
@@ -41,7 +41,7 @@ impl Model for MemListener {
 
 impl MemListener {
     /// A listener to which these links come, in their order, and whose calls with these numbers fail: they count from 1
-    /// over all calls that open it or accept a link. Takes no memory.
+    /// over all calls that open it, accept a link or dial one. Takes no memory.
     pub fn new(alloc: Global, coming: Vec<MemLink>, fails: Vec<u64>) -> MemListener
         ensures coming { result.coming ≡ coming.items }
         ensures over { result.over ≡ [] }
@@ -116,6 +116,31 @@ impl Listener for MemListener {
         if link.is_some() {
             self.out += 1;
         }
+        Ok(link)
+    }
+
+    /// Takes the first of the links that are to come, and fails where there is none. Fails also where it is out of
+    /// memory for the link when it comes back.
+    fn dial(&mut self, _port: u16) -> Result<MemLink, Failed>
+        ensures coming { Dials (Some self.old.coming) (Some self.new.coming) result }
+        ensures over { self.new.over ≡ self.old.over }
+        ensures dialled { OnOk result (self.new.out ≡ self.old.out + 1) }
+        ensures none { OnErr result (self.new.out ≡ self.old.out) }
+        ensures opened { self.new.opened ≡ self.old.opened }
+        ensures failed { OnErr result (Rose self.old.count.faults self.new.count.faults) }
+        ensures counted { self.old.count.faults ≤ self.new.count.faults }
+        ensures fails { FailsNext self.old.count → IsErr result }
+        ensures ok { OnOk result (self.new.count ≡ after_success self.old.count) }
+        ensures err { OnErr result (self.new.count ≡ after_failure self.old.count) }
+    {
+        self.calls.next()?;
+        if self.over.reserve(self.out + 1).is_err() {
+            return Err(self.calls.fail());
+        }
+        let Some(link) = self.coming.pop_front() else {
+            return Err(self.calls.fail());
+        };
+        self.out += 1;
         Ok(link)
     }
 
