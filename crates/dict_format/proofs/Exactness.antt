@@ -66,7 +66,7 @@ said-says text = by (whole quoted_word text) (whole-is _ quoted_exact text _ ref
     by None none = inr (refl, none)
     by (Some word) is = inl is
 
-said-only : (text word : List ℕ) → SaysWord text word → said text ≡ word
+pub said-only : (text word : List ℕ) → SaysWord text word → said text ≡ word
 said-only text word (inl is) = ap (λ o. unwrap_or o text) (whole-complete _ quoted_exact text word is)
 said-only text word (inr alone) = by (whole quoted_word text) (whole-is _ quoted_exact text _ refl)
   where

@@ -1,5 +1,5 @@
 -- Texts that do not begin as a form does.
-use Rattle.std.proofs.Common.{◌≡◌, ◌==◌, drop, if◌then◌else◌, ℕ, Option, None, Some, List, [], ◌∷◌, refl, arith}
+use Rattle.std.proofs.Common.{◌≡◌, drop, if◌then◌else◌, ℕ, None, Some, List, [], ◌∷◌, refl, arith}
 use Rattle.skk_calls.specs.declared.part.Part.TheVariants.{Ari}
 use Rattle.exact_readers.specs.Formats.{past}
 use Rattle.dict_format.specs.Items.{opens_block}

@@ -68,13 +68,13 @@ row_items row = map cand_item row.cands ++ map block_item row.blocks ++ mark_of 
 -- Texts
 
 -- what no written word holds stands in no note
-plain_noted : (text : List ℕ) → list_all is_plain text ≡ true → is_note text ≡ true
+pub plain_noted : (text : List ℕ) → list_all is_plain text ≡ true → is_note text ≡ true
 plain_noted text plain = list_all-weaker is_plain is_note_char (λ c e. grind arith) text plain
 
 okuri_noted : (c : ℕ) → is_okuri_char c ≡ true → is_note_char c ≡ true
 okuri_noted c e = grind arith
 
-note_noted : (note : List ℕ) → is_note note ≡ true → is_note (written_note note) ≡ true
+pub note_noted : (note : List ℕ) → is_note note ≡ true → is_note (written_note note) ≡ true
 note_noted note e = grind arith
 
 words_fit : (words : List (List ℕ)) → list_all is_word words ≡ true → list_all fits words ≡ true

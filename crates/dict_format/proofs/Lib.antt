@@ -1,3 +1,4 @@
+pub mod AloneAgain
 pub mod Blocks
 pub mod EntryRows
 pub mod Exactness

@@ -2,16 +2,17 @@
 use Rattle.std.proofs.Common.{◌≡◌, ◌≢◌, ◌≤◌, ℕ, zero, suc, Bool, true, false, ◌==◌, None, Some, List, [], ◌∷◌}
 use Rattle.std.proofs.Common.{inl, inr, ◌++◌, codes, replicate, refl, sym, ap, ◌∙◌, subst, arith, append_assoc}
 use Rattle.std.proofs.Common.{append-nil, if◌then◌else◌}
-use Rattle.std.specs.List.{list_all}
+use Rattle.std.specs.List.{flat_map, list_all}
 use Rattle.std.proofs.lemmas.Bool.{and_from, cases_Bool, eqb-true, not_from_false}
 use Rattle.std.proofs.lemmas.Option.{none-some, same_Some}
 use Rattle.skk_text.specs.Lists.{is_empty}
+use Rattle.skk_calls.specs.Canonical.{with_slash}
 use Rattle.exact_readers.specs.Cuts.{cut, without_spaces}
 use Rattle.exact_readers.specs.CutLaws.{cut-at, cut-none, up_to-exact}
 use Rattle.exact_readers.specs.Exact.{IsExact, AreAll}
 use Rattle.exact_readers.specs.ExactLaws.{then_at-some, past-sound}
 use Rattle.exact_readers.specs.Formats.{SpellsMany, past, then_at, taken, if_whole, all}
-use Rattle.exact_readers.specs.ManyLaws.{AreTaken, taken-sound, all-are, all-complete}
+use Rattle.exact_readers.specs.ManyLaws.{AreTaken, taken-sound, all-are, all-complete, many-printed}
 use Rattle.exact_readers.specs.Lacking.{lacks}
 use Rattle.dict_format.specs.Lines.{begins_without_space, HasBody, is_slash, slashed_text, HasTexts}
 use Rattle.dict_format.specs.Reading.{is_space, texts_at}
@@ -128,6 +129,36 @@ pub texts_lack : (texts : List (List ℕ)) (behind : List ℕ) → SpellsMany sl
 texts_lack [] behind is = refl
 texts_lack (text ∷ texts) behind (front, back, (end, passes, none, piece), more, is) =
     and_from (lacks 0x2F text) _ none (texts_lack texts back more)
+
+-- and are what was spelled, each with its slash
+texts_are : (texts : List (List ℕ)) (behind : List ℕ) → SpellsMany slashed_text.Spells texts behind
+    → behind ≡ flat_map with_slash texts
+texts_are [] behind is = is
+texts_are (text ∷ texts) behind (front, back, (end, passes, none, piece), more, is) =
+    is ∙ ap (λ ys. ys ++ back) (piece ∙ ap (λ d. text ++ d ∷ []) (eqb-true end 0x2F passes))
+    ∙ ap (λ ys. with_slash text ++ ys) (texts_are texts back more)
+
+-- a body is a slash and the texts that are read of it, each with its slash
+pub body_of_texts : (body : List ℕ) (texts : List (List ℕ)) → texts_at body ≡ Some texts
+    → (body ≡ 0x2F ∷ flat_map with_slash texts) × (list_all (lacks 0x2F) texts ≡ true)
+body_of_texts body texts e =
+    let has = texts-sound body texts e in (
+      has.body_is ∙ ap (λ ys. 0x2F ∷ ys) (texts_are texts has.behind has.spelled),
+      texts_lack texts has.behind has.spelled,
+    )
+
+-- and texts without slashes are read of theirs
+pub texts_of_body : (texts : List (List ℕ)) → texts ≢ [] → list_all (lacks 0x2F) texts ≡ true
+    → texts_at (0x2F ∷ flat_map with_slash texts) ≡ Some texts
+texts_of_body texts some lack =
+    texts-complete _ texts (record {
+      some_text = some;
+      behind = flat_map with_slash texts;
+      body_is = refl;
+      spelled =
+          many-printed slashed_text (lacks 0x2F) with_slash (record { spells = λ text e. (0x2F, refl, e, refl) }) texts
+          lack;
+    })
 
 -- Slashes at both ends
 

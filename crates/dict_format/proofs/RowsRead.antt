@@ -32,7 +32,7 @@ note_chars text none =
     list_all-kept (λ c. not (c == 0x2F)) (λ c. not (c == 13 || c == 10)) is_note_char (λ c slash end. grind arith)
     text none
 
-note_valid : (text : List ℕ) → lacks 0x2F text ≡ true → is_note (note_of_text text) ≡ true
+pub note_valid : (text : List ℕ) → lacks 0x2F text ≡ true → is_note (note_of_text text) ≡ true
 note_valid text none = by (cut is_semicolon text) refl
   where
     by : (o : Option (List ℕ × List ℕ)) → cut is_semicolon text ≡ o

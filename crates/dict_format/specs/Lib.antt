@@ -3,6 +3,7 @@ pub mod EntryRows
 pub mod FileBuilding
 pub mod FileLines
 pub mod Items
+pub mod ItemsAlone
 pub mod LeftLines
 pub mod Lines
 pub mod ListedLaws

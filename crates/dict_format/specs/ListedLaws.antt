@@ -1,6 +1,6 @@
 -- What holds of the rows that entries list: of each key the first that is spelled.
-use Rattle.std.proofs.Common.{◌≡◌, ◌∙◌, ℕ, true, false, not, Option, None, Some, List, [], ◌∷◌, ◌++◌, arith, refl}
-use Rattle.std.specs.List.{cons_option, fold, list_all}
+use Rattle.std.proofs.Common.{◌≡◌, ◌∙◌, ℕ, true, false, not, Some, List, [], ◌∷◌, ◌++◌, arith, refl}
+use Rattle.std.specs.List.{fold, list_all}
 use Rattle.std.specs.Option.{is_some, option_or}
 use Rattle.std.proofs.lemmas.List.Folds.{find-append, list_all-append}
 use Rattle.skk_calls.specs.declared.part.Part.{Part}

@@ -6,11 +6,13 @@ ghost use Rattle.std.specs.Str.{chars};
 ghost use Rattle.exact_readers.specs.Formats.{mapped, all};
 ghost use Rattle.dict_format.specs.Items.{Item as said_item};
 ghost use Rattle.dict_format.specs.Items.Item.{block};
-ghost use Rattle.dict_format.specs.Items.{at_note, opens_block, closes_block, mark_or_candidate};
+ghost use Rattle.dict_format.specs.Items.{at_note, before_note, note_of_text};
+ghost use Rattle.dict_format.specs.Items.{opens_block, closes_block, mark_or_candidate};
 ghost use Rattle.dict_format.specs.Items.{single_item, inside_block, block_words, item_format};
 ghost use Rattle.dict_format.specs.Reading.{fit_items_at};
 ghost use Rattle.dict_format.specs.RowOfItems.{fits, item_fits};
 ghost use Rattle.dict_format.specs.Views.{item_said, texts_seen, Gives};
+ghost use Rattle.dict_format.specs.Words.{said};
 
 use crate::reason::{LineFault, LineReason};
 use crate::words::{characters_of, marked_by_form, plain, word_of};
@@ -248,10 +250,19 @@ fn single_item(alloc: Global, text: &str) -> Result<Item, Memory>
 fn candidate(alloc: Global, text: &str) -> Result<Item, Memory>
     ensures { IfOk result (λ item. item_said item ≡ mark_or_candidate (chars text.now) None) }
 {
+    let (word, note) = word_and_note(alloc, text)?;
+    Ok(Item::Candidate { word, note })
+}
+
+// The word and the note of a text that is a candidate.
+pub fn word_and_note(alloc: Global, text: &str) -> Result<(Text, Text), Memory>
+    ensures word { IfOk result (λ parts. parts.0 ≡ said (before_note (chars text.now))) }
+    ensures note { IfOk result (λ parts. parts.1 ≡ note_of_text (chars text.now)) }
+{
     let (word, note) = at_note(text);
     let word = word_of(alloc, word)?;
     let note = without_line_ends(alloc, note)?;
-    Ok(Item::Candidate { word, note })
+    Ok((word, note))
 }
 
 // A text without ends of lines.

@@ -1,16 +1,20 @@
-ghost use Rattle.std.specs.Prelude.{◌≡◌, ◌↔◌, ◌≤◌, ◌⊎◌, Some, ℕ, true, List, [], map, length, encode_utf8_all};
-ghost use Rattle.std.specs.List.{list_all};
+ghost use Rattle.std.specs.Prelude.{◌≡◌, ◌≢◌, ◌↔◌, ◌≤◌, ◌⊎◌, Some, Ok, ℕ, true, List, [], ◌∷◌, map, length};
+ghost use Rattle.std.specs.Prelude.{encode_utf8_all};
+ghost use Rattle.std.specs.List.{flat_map, list_all};
 ghost use Rattle.std.specs.List.Sorted.{IsPermutation};
 ghost use Rattle.std.specs.Str.{IsUtf8};
 ghost use Rattle.skk_calls.specs.declared.part.Part.{Part};
-ghost use Rattle.skk_calls.specs.Canonical.{canonical, is_good};
-ghost use Rattle.skk_calls.specs.Rows.{Row, is_row, keys_differ};
+ghost use Rattle.skk_calls.specs.Canonical.{canonical, is_good, item, with_slash};
+ghost use Rattle.skk_calls.specs.Rows.{Cand, Row, is_cand, is_note, is_row, keys_differ};
+ghost use Rattle.exact_readers.specs.Lacking.{lacks};
 ghost use Rattle.dict_format.specs.declared.file.Listed.{Listed};
 ghost use Rattle.dict_format.specs.declared.reason.LineReason.{LineReason};
 ghost use Rattle.dict_format.specs.EntryRows.{HasKey, listed_rows, row_of_line};
 ghost use Rattle.dict_format.specs.FileLines.{Lists, TakeAll, entries_of, file_limit, none_listed};
+ghost use Rattle.dict_format.specs.ItemsAlone.{item_alone};
 ghost use Rattle.dict_format.specs.Lines.{SpellsRow};
 ghost use Rattle.dict_format.specs.PrintedFiles.{in_printing_order, printed_file, without_stamp};
+ghost use Rattle.dict_format.specs.Reading.{texts_at};
 ghost use Rattle.dict_format.specs.Reasons.{IsReason};
 
 /// Each line of a part spells a row or has a first reason why it spells none, and never both.
@@ -37,6 +41,21 @@ pub fn lines_spell_one_row()
 pub fn good_rows_are_read_again()
     ensures { (row : Row) → is_row row ≡ true → is_good row ≡ true
         → SpellsRow row.key.part (canonical row) (record row { stamp = 0 }) }
+{}
+
+/// What is printed of a candidate is read again as the candidate, also where it stands by itself: it holds no slash and
+/// ends no line.
+pub fn items_are_read_again()
+    ensures read { (cand : Cand) → is_cand cand ≡ true → item_alone (item cand) ≡ Ok (Some cand) }
+    ensures characters { (cand : Cand) → is_cand cand ≡ true → is_note (item cand) ≡ true }
+{}
+
+/// A body has one list of texts between its slashes at most, which hold none, and is that list with its slashes.
+pub fn bodies_have_one_list_of_texts()
+    ensures body { (body : List ℕ) (texts : List (List ℕ)) → texts_at body ≡ Some texts
+        → (body ≡ 0x2F ∷ flat_map with_slash texts) × (list_all (lacks 0x2F) texts ≡ true) }
+    ensures texts { (texts : List (List ℕ)) → texts ≢ [] → list_all (lacks 0x2F) texts ≡ true
+        → texts_at (0x2F ∷ flat_map with_slash texts) ≡ Some texts }
 {}
 
 /// A file that is printed has the rows of its book, all of them and no other, whose keys still differ; and rows that

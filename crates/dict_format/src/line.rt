@@ -183,17 +183,28 @@ fn holds_control(text: &str) -> bool
 }
 
 // The texts between the slashes of a body that begins and ends with one.
-#[tactic(auto, unfolding(crate::specs::Reading::texts_at))]
 fn texts_between(alloc: Global, body: &str) -> Result<Vec<&str>, LineFault>
     ensures { Gives (λ texts. texts_seen texts.items) result
         (or_reason reasons.NoSlash (texts_at (chars body.now))) }
 {
+    match slashed_texts(alloc, body)? {
+        Some(texts) => Ok(texts),
+        None => Err(LineFault::Reason(LineReason::NoSlash)),
+    }
+}
+
+/// The texts between the slashes of a body of at least two characters that begins and ends with one, and none of any
+/// other. Takes time in its length.
+#[tactic(auto, unfolding(crate::specs::Reading::texts_at))]
+pub fn slashed_texts(alloc: Global, body: &str) -> Result<Option<Vec<&str>>, Memory>
+    ensures { IfOk result (λ found. option_map (λ texts. texts_seen texts.items) found ≡ texts_at (chars body.now)) }
+{
     let Some(behind) = past_char(body, '/') else {
-        return Err(LineFault::Reason(LineReason::NoSlash));
+        return Ok(None);
     };
     match whole_texts(alloc, behind)? {
-        Some(texts) if !texts.is_empty() => Ok(texts),
-        _ => Err(LineFault::Reason(LineReason::NoSlash)),
+        Some(texts) if !texts.is_empty() => Ok(Some(texts)),
+        _ => Ok(None),
     }
 }
 
