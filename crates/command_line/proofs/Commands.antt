@@ -2,7 +2,7 @@
 use Rattle.std.proofs.Common.{◌≡◌, ◌≤◌, ◌∙◌, ap, ℕ, Option, None, Some, true, List, ◌∷◌, length, refl, arith}
 use Rattle.std.specs.Option.{option_and_then}
 use Rattle.command_line.specs.Settings.{settings_of, fits, AreNoneOrMany}
-use Rattle.command_line.specs.Command.{takes, command_with, command_named, command_of}
+use Rattle.command_line.specs.Command.{takes, command_with, command_named, settings_command}
 use Rattle.command_line.specs.declared.command_name.CommandName.{CommandName}
 use Rattle.command_line.specs.declared.command_name.CommandName.TheVariants.{TypeScript, Serve, Check, Dump, Share}
 use Rattle.command_line.specs.declared.command_name.CommandName.TheVariants.{Load}
@@ -24,7 +24,7 @@ with-none name None many = refl
 with-none name (Some settings) many = grind (arith, many, most name settings)
 
 pub no_command : (word : List ℕ) (words : List (List ℕ)) (name : CommandName) → command_named word ≡ Some name
-    → AreNoneOrMany (settings_of words) → command_of (word ∷ words) ≡ None
+    → AreNoneOrMany (settings_of words) → settings_command (word ∷ words) ≡ None
 no_command word words name named many =
     ap (option_and_then (λ n. option_and_then (command_with n) (settings_of words))) named
     ∙ with-none name (settings_of words) many

@@ -1,5 +1,6 @@
 pub mod BookNumbers
 pub mod Commands
+pub mod ExprWords
 pub mod OptionCounts
 pub mod OptionRows
 pub mod OptionWalk

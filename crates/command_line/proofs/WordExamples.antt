@@ -1,6 +1,6 @@
 -- Words at small examples, each worked out by hand.
 use Rattle.std.proofs.Common.{◌≡◌, ◌==◌, ℕ, Bool, true, false, if◌then◌else◌, Option, None, Some, is_some, List, []}
-use Rattle.std.proofs.Common.{◌∷◌, ◌++◌, refl, map, codes, length, replicate}
+use Rattle.std.proofs.Common.{◌∷◌, ◌++◌, refl, map, codes, length, replicate, zero, suc}
 use Prim.Native.String.{String}
 use Rattle.std.specs.Fmt.{digits}
 use Rattle.std.specs.List.{filter}
@@ -18,6 +18,8 @@ use Rattle.command_line.specs.declared.command.LoadOptions.{LoadOptions}
 use Rattle.command_line.specs.declared.command.TypeOptions.{TypeOptions}
 use Rattle.command_line.specs.declared.command.WaitingCommand.TheVariants as waiting
 use Rattle.command_line.specs.declared.command_name.CommandName.TheVariants as titles
+use Rattle.command_line.specs.declared.expr_words.Sign.{Sign}
+use Rattle.command_line.specs.declared.expr_words.Sign.TheVariants.{Plus, Minus}
 
 -- the words of a line, between single spaces
 abbrev split : List ℕ → List (List ℕ)
@@ -129,6 +131,37 @@ served_dictionaries : map
     (λ count. is_some (command_of (codes "serve" ∷ codes "--learned=a" ∷ replicate count (codes "--dict=a"))))
     (16 ∷ 17 ∷ []) ≡ true ∷ false ∷ []
 served_dictionaries = refl
+
+-- files with a sign before each but the first
+abbrev expr_with : String → List (Sign × String) → Option Command
+expr_with first terms =
+    Some (Alone (alone.Expr (record {
+      first = codes first;
+      terms = record { items = map (λ term. record { sign = term.0; name = codes term.1 }) terms };
+    })))
+
+expr_words : map read
+    ("expr a" ∷ "expr a + b" ∷ "expr a - b" ∷ "expr a + a - a" ∷ "expr a+b - +c" ∷ "expr expr + a=" ∷ [])
+    ≡ expr_with "a" [] ∷ expr_with "a" ((Plus, "b") ∷ []) ∷ expr_with "a" ((Minus, "b") ∷ [])
+    ∷ expr_with "a" ((Plus, "a") ∷ (Minus, "a") ∷ []) ∷ expr_with "a+b" ((Minus, "+c") ∷ [])
+    ∷ expr_with "expr" ((Plus, "a=") ∷ []) ∷ []
+expr_words = refl
+
+-- sixteen files, and one more
+abbrev added : ℕ → List (List ℕ)
+added zero = []
+added (suc count) = codes "+" ∷ codes "a" ∷ added count
+
+expr_files : map (λ count. is_some (command_of (codes "expr" ∷ codes "a" ∷ added count))) (15 ∷ 16 ∷ [])
+    ≡ true ∷ false ∷ []
+expr_files = refl
+
+no_expr : taken
+    ("expr" ∷ "expr " ∷ "expr +" ∷ "expr -" ∷ "expr -a" ∷ "expr + a" ∷ "expr a b" ∷ "expr a +" ∷ "expr a -"
+    ∷ "expr a + " ∷ "expr a  b" ∷ "expr a + + b" ∷ "expr a + -" ∷ "expr a - -b" ∷ "expr a + b c" ∷ "expr a + b -"
+    ∷ "expr a * b" ∷ "expr a ++ b" ∷ "expr a +b" ∷ "expr a + b --limit 64" ∷ "Expr a" ∷ "expr --dict a" ∷ [])
+    ≡ []
+no_expr = refl
 
 -- no words, words that name no command, and too few and too many
 no_words : command_of [] ≡ None

@@ -2,8 +2,9 @@
 use Rattle.std.specs.Prelude.{ℕ, if◌then◌else◌, unwrap_or, Option, None, Some, List, [], ◌∷◌}
 use Rattle.std.specs.Prelude.{codes, map}
 use Rattle.std.specs.Map.{lookup}
-use Rattle.std.specs.Option.{option_and_then}
+use Rattle.std.specs.Option.{option_and_then, option_map, option_or}
 use Rattle.std.specs.Str.{bytes_eq}
+use Rattle.command_line.specs.Expr.{expr_of}
 use Rattle.command_line.specs.Settings.{Row, fits, settings_of, texts_of, text_given, text_of, number_given, number_or}
 use Rattle.command_line.specs.Settings.{books_of, is_given}
 use Rattle.command_line.specs.declared.argument.Argument.{Argument}
@@ -123,11 +124,21 @@ command Load settings =
 abbrev pub command_with : CommandName → List Setting → Option Command
 command_with name settings = if fits (takes name) settings then Some (command name settings) else None
 
--- the command that words are: the first names it, and it takes the settings of the rest
-abbrev pub command_of : List (List ℕ) → Option Command
-command_of [] = None
-command_of (word ∷ words) =
+-- the command of settings that words are: the first names it, and it takes the settings of the rest
+abbrev pub settings_command : List (List ℕ) → Option Command
+settings_command [] = None
+settings_command (word ∷ words) =
     option_and_then (λ name. option_and_then (command_with name) (settings_of words)) (command_named word)
+
+-- the command `expr` that words are: the first names it, and the rest are its files
+abbrev pub expr_command : List (List ℕ) → Option Command
+expr_command [] = None
+expr_command (word ∷ words) =
+    if bytes_eq word (codes "expr") then option_map (λ options. Alone (alone.Expr options)) (expr_of words) else None
+
+-- the command that words are: one of settings, or `expr`
+abbrev pub command_of : List (List ℕ) → Option Command
+command_of words = option_or (settings_command words) (expr_command words)
 
 -- the most bytes of the learned file: those that are given, or the greatest limit
 abbrev pub limit_of : Option ℕ → ℕ
@@ -140,6 +151,7 @@ learned_of (Alone (alone.Check file)) = None
 learned_of (Alone (alone.Dump options)) = Some options.learned
 learned_of (Alone (alone.Share options)) = Some options.learned
 learned_of (Alone (alone.Load options)) = None
+learned_of (Alone (alone.Expr options)) = None
 learned_of (Waiting (waiting.TypeScript options)) = options.learned
 learned_of (Waiting (waiting.Serve options)) = Some options.learned
 learned_of (Waiting (waiting.Load options)) = None

@@ -1,5 +1,6 @@
 pub mod Arguments
 pub mod Command
+pub mod Expr
 pub mod OptionLaws
 pub mod OptionWords
 pub mod RangeLaws

@@ -7,7 +7,7 @@ use Rattle.std.proofs.lemmas.Bool.{cond_both, and_parts, leb-true, eqb-true}
 use Rattle.std.proofs.lemmas.List.Sums.{sum_by-cons}
 use Rattle.std.proofs.lemmas.Option.{IfSome_then}
 use Rattle.command_line.specs.Arguments.{place, takes_at}
-use Rattle.command_line.specs.Command.{takes, required, command, command_with, command_named, command_of}
+use Rattle.command_line.specs.Command.{takes, required, command, command_with, command_named, settings_command}
 use Rattle.command_line.specs.Command.{load_options}
 use Rattle.command_line.specs.OptionLaws.{IfSome-all, IfSome-and_then, IfSome-if}
 use Rattle.command_line.specs.Ranges.{LiesFrom, IsLoadInRange, HasNumbersInRange}
@@ -156,8 +156,8 @@ in_range Load settings given fit =
     let numbers = load-in_range settings given fit in
     cond_both (is_given Threads settings) _ _ HasNumbersInRange (λ e. numbers) (λ e. numbers)
 
--- so it is with words that are a command
-words-in_range : (words : List (List ℕ)) → IfSome (command_of words) HasNumbersInRange
+-- so it is with words that are a command of settings
+words-in_range : (words : List (List ℕ)) → IfSome (settings_command words) HasNumbersInRange
 words-in_range [] = tt
 words-in_range (word ∷ words) =
     IfSome-and_then HasNumbersInRange (λ name. option_and_then (command_with name) (settings_of words))
@@ -168,7 +168,7 @@ words-in_range (word ∷ words) =
     IfSome-if HasNumbersInRange (fits (takes name) settings) (command name settings)
     (in_range name settings (are-given is))))))
 
--- whatever is read as the command that words are
-pub numbers_in_range : (words : List (List ℕ)) (read : Option Command) → read ≡ command_of words
+-- whatever is read as the command of settings that words are
+pub numbers_in_range : (words : List (List ℕ)) (read : Option Command) → read ≡ settings_command words
     → IfSome read HasNumbersInRange
 numbers_in_range words read is = subst (λ o. IfSome o HasNumbersInRange) (sym is) (words-in_range words)

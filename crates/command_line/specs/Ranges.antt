@@ -28,6 +28,7 @@ IsAloneInRange (alone.Check file) = ⊤
 IsAloneInRange (alone.Dump options) = options.book ≤ 65535
 IsAloneInRange (alone.Share options) = (options.typist ≤ 65535) × IsLimitInRange options.limit
 IsAloneInRange (alone.Load options) = IsLoadInRange options
+IsAloneInRange (alone.Expr options) = ⊤
 
 -- each number of a command that may wait lies in its range
 abbrev pub IsWaitingInRange : WaitingCommand → Type 0

@@ -4,6 +4,7 @@ ghost use Rattle.command_line.specs.Settings.{times};
 ghost use Rattle.command_line.specs.declared.argument.Argument.TheVariants.{Dictionary};
 
 use crate::argument::Argument;
+use crate::expr_words::ExprOptions;
 use crate::settings::{DICTIONARIES, Settings};
 use crate::word::Word;
 use arrayvec::ArrayVec;
@@ -40,6 +41,8 @@ pub enum AloneCommand<'a> {
     Share(ShareOptions<'a>),
     /// To type what is drawn.
     Load(LoadOptions),
+    /// To print what dictionaries come to, added and taken away.
+    Expr(ExprOptions<'a>),
 }
 
 /// A command that may wait.
@@ -66,6 +69,7 @@ impl<'a> Command<'a> {
             Command::Waiting(WaitingCommand::Serve(options)) => Some(options.learned.again()),
             Command::Alone(AloneCommand::Check(_))
             | Command::Alone(AloneCommand::Load(_))
+            | Command::Alone(AloneCommand::Expr(_))
             | Command::Waiting(WaitingCommand::Load(_)) => None,
         }
     }

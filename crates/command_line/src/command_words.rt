@@ -1,5 +1,5 @@
 ghost use Rattle.std.specs.Prelude.{◌≡◌, true, Some, None, IfOk, IfSome, IsSome, MatchOption, OnErr};
-ghost use Rattle.command_line.specs.Command.{command, command_of, load_options, takes};
+ghost use Rattle.command_line.specs.Command.{command, command_of, expr_command, load_options, settings_command, takes};
 ghost use Rattle.command_line.specs.OptionWords.{settings_asked};
 ghost use Rattle.command_line.specs.Ranges.{HasNumbersInRange};
 ghost use Rattle.command_line.specs.Settings.{fits};
@@ -9,6 +9,7 @@ use crate::command::{
     AloneCommand, Command, LoadOptions, ServeOptions, ShareOptions, TypeOptions, WaitingCommand,
 };
 use crate::command_name::{CommandName, command_named};
+use crate::expr_words::read_expr;
 use crate::option_words::{dump_options, load_options};
 use crate::setting_words::read_settings;
 use crate::settings::Settings;
@@ -25,7 +26,7 @@ pub fn read_command<'a>(alloc: Global, words: &'a [Word<'a>]) -> Result<Option<C
     ensures memory { OnErr result (IsSome (command_of words.entry.now)) }
 {
     let Some((name, settings)) = name_and_settings(words) else {
-        return Ok(None);
+        return Ok(expr_command(words));
     };
     match name {
         CommandName::TypeScript => Ok(type_command(&settings)),
@@ -45,8 +46,8 @@ pub fn read_command<'a>(alloc: Global, words: &'a [Word<'a>]) -> Result<Option<C
 
 // The name of the command that the words are, and the settings that it takes of them. Takes no memory.
 fn name_and_settings<'a>(words: &'a [Word<'a>]) -> Option<(CommandName, Settings<'a>)>
-    ensures { MatchOption result (command_of words.now ≡ None) (λ read.
-        (command_of words.now ≡ Some (command read.0 read.1)) × (settings_asked read.0 words.now ≡ Some read.1)
+    ensures { MatchOption result (settings_command words.now ≡ None) (λ read.
+        (settings_command words.now ≡ Some (command read.0 read.1)) × (settings_asked read.0 words.now ≡ Some read.1)
         × (fits (takes read.0) read.1 ≡ true)) }
 {
     let (first, rest) = words.split_first()?;
@@ -57,6 +58,19 @@ fn name_and_settings<'a>(words: &'a [Word<'a>]) -> Option<(CommandName, Settings
     } else {
         None
     }
+}
+
+// The command `expr` that the words are. Takes no memory.
+fn expr_command<'a>(words: &'a [Word<'a>]) -> Option<Command<'a>>
+    ensures value { result ≡ expr_command words.entry.now }
+    ensures ranges { IfSome result HasNumbersInRange }
+{
+    let (first, rest) = words.split_first()?;
+    if first.as_str() != "expr" {
+        return None;
+    }
+    let options = read_expr(rest)?;
+    Some(Command::Alone(AloneCommand::Expr(options)))
 }
 
 // The command `type` with its settings.

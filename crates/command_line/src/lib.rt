@@ -14,6 +14,7 @@ mod book_numbers;
 mod command;
 mod command_name;
 mod command_words;
+mod expr_words;
 mod number;
 mod option_words;
 mod setting;
@@ -26,6 +27,7 @@ pub use command::{
     TypeOptions, WaitingCommand,
 };
 pub use command_words::read_command;
+pub use expr_words::{ExprOptions, Sign, TERMS, Term};
 pub use option_words::words_of;
 pub use settings::DICTIONARIES;
 pub use word::Word;
