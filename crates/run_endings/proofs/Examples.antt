@@ -10,7 +10,7 @@ use Rattle.key_scripts.specs.declared.script.ScriptFault.TheVariants as scripts
 use Rattle.run_endings.specs.Status.{message_of, status_of, fault_words, run_status, run_message, ended_by}
 use Rattle.run_endings.specs.Status.{fault_of_opening, fault_of_read, fault_of_text, fault_of_script}
 use Rattle.run_endings.specs.declared.fault.RunFault.TheVariants.{Words, Refused, NotJournal, BadRecord}
-use Rattle.run_endings.specs.declared.fault.RunFault.TheVariants.{Outside, Memory}
+use Rattle.run_endings.specs.declared.fault.RunFault.TheVariants.{RowTooBig, Outside, Memory}
 use Rattle.run_endings.specs.declared.fault.RunFault.TheVariants.{JournalFull}
 use Rattle.run_endings.specs.declared.run_file.Flaw.TheVariants.{TooLong, Byte, Line}
 use Rattle.run_endings.specs.declared.run_file.RunFile.TheVariants.{Script, Rules, Dictionary}
@@ -18,8 +18,8 @@ use Rattle.run_endings.specs.declared.run_file.RunFile.TheVariants.{Script, Rule
 -- each fault with its status and its line
 statuses : map run_status
     (Ok tt ∷ Err Words ∷ Err (Refused Script TooLong) ∷ Err (Refused Script (Line 3)) ∷ Err (Refused Rules TooLong)
-    ∷ Err (Refused (Dictionary 1) (Byte 0)) ∷ Err Outside ∷ Err Memory ∷ Err JournalFull ∷ [])
-    ≡ 0 ∷ 1 ∷ 2 ∷ 2 ∷ 3 ∷ 3 ∷ 4 ∷ 6 ∷ 7 ∷ []
+    ∷ Err (Refused (Dictionary 1) (Byte 0)) ∷ Err (RowTooBig 65536) ∷ Err Outside ∷ Err Memory ∷ Err JournalFull ∷ [])
+    ≡ 0 ∷ 1 ∷ 2 ∷ 2 ∷ 3 ∷ 3 ∷ 3 ∷ 4 ∷ 6 ∷ 7 ∷ []
 statuses = refl
 
 -- a line of a message
@@ -32,10 +32,12 @@ messages = refl
 
 refusals_told : map message_of
     (Refused Script TooLong ∷ Refused Script (Line 1048577) ∷ Refused Rules TooLong ∷ Refused Rules (Byte 1048575)
-    ∷ Refused Rules (Line 12) ∷ Refused (Dictionary 1) TooLong ∷ Refused (Dictionary 16) (Byte 67108863) ∷ [])
+    ∷ Refused Rules (Line 12) ∷ Refused (Dictionary 1) TooLong ∷ Refused (Dictionary 16) (Byte 67108863)
+    ∷ RowTooBig 65536 ∷ RowTooBig 18446744073709551615 ∷ [])
     ≡ told "skk: script too long" ∷ told "skk: line 1048577" ∷ told "skk: rules too long"
     ∷ told "skk: rules byte 1048575"
-    ∷ told "skk: rules line 12" ∷ told "skk: dictionary 1 too long" ∷ told "skk: dictionary 16 byte 67108863" ∷ []
+    ∷ told "skk: rules line 12" ∷ told "skk: dictionary 1 too long" ∷ told "skk: dictionary 16 byte 67108863"
+    ∷ told "skk: row too big 65536" ∷ told "skk: row too big 18446744073709551615" ∷ []
 unfolding digits
 refusals_told = refl
 

@@ -21,7 +21,7 @@ use Rattle.run_endings.specs.declared.run_file.Flaw.{Flaw}
 use Rattle.run_endings.specs.declared.run_file.Flaw.TheVariants.{TooLong, Byte, Line}
 use Rattle.run_endings.specs.declared.fault.RunFault.{RunFault}
 use Rattle.run_endings.specs.declared.fault.RunFault.TheVariants.{Words, Refused, NotJournal, BadRecord}
-use Rattle.run_endings.specs.declared.fault.RunFault.TheVariants.{Outside, Memory}
+use Rattle.run_endings.specs.declared.fault.RunFault.TheVariants.{RowTooBig, Outside, Memory}
 use Rattle.run_endings.specs.declared.fault.RunFault.TheVariants.{JournalFull}
 
 -- how a run ends: done, or with a fault
@@ -40,6 +40,7 @@ status_of Words = 1
 status_of (Refused file flaw) = status_of_file file
 status_of (NotJournal file first) = 5
 status_of (BadRecord file at) = 5
+status_of (RowTooBig bytes) = 3
 status_of Outside = 4
 status_of Memory = 6
 status_of JournalFull = 7
@@ -84,6 +85,7 @@ fault_words Words = codes "words"
 fault_words (Refused file flaw) = file_words file flaw ++ flaw_words flaw
 fault_words (NotJournal file first) = learned_words file ++ (codes "byte " ++ decimal first)
 fault_words (BadRecord file at) = learned_words file ++ (codes "record at " ++ decimal at)
+fault_words (RowTooBig bytes) = codes "row too big " ++ decimal bytes
 fault_words Outside = codes "outside"
 fault_words Memory = codes "memory"
 fault_words JournalFull = codes "journal full"

@@ -28,6 +28,8 @@ pub enum RunFault {
     /// A file of the learned dictionary, by the same numbers, has a bad record, and this is the least place of one, in
     /// bytes.
     BadRecord { file: u8, at: u64 },
+    /// The line of a row that is to be printed has so many bytes, which are more than are read again.
+    RowTooBig { bytes: u64 },
     /// A call on the outside failed.
     Outside,
     /// Out of memory.
@@ -84,6 +86,7 @@ impl RunFault {
             RunFault::Words => 1,
             RunFault::Refused { file, flaw: _ } => file.status(),
             RunFault::NotJournal { .. } | RunFault::BadRecord { .. } => 5,
+            RunFault::RowTooBig { bytes: _ } => 3,
             RunFault::Outside => 4,
             RunFault::Memory => 6,
             RunFault::JournalFull => 7,
@@ -117,6 +120,7 @@ impl RunFault {
                 tell_learned(file, b"byte ", u64::from(first), err)
             }
             RunFault::BadRecord { file, at } => tell_learned(file, b"record at ", at, err),
+            RunFault::RowTooBig { bytes } => write_numbered(err, b"row too big ", bytes),
             RunFault::Outside => write(err, b"outside"),
             RunFault::Memory => write(err, b"memory"),
             RunFault::JournalFull => write(err, b"journal full"),
