@@ -1,7 +1,8 @@
 -- The causes of faults at small examples, each worked out by hand: of each fault one cause, and beside it what is none.
 use Rattle.std.proofs.Common.{◌≡◌, ◌<◌, ℕ, ◌+◌, true, Option, None, Some, List, [], ◌∷◌, ◌++◌, codes, inl, inr, refl}
-use Rattle.std.proofs.Common.{ap, sym, subst, length, map, replicate, arith, lit≤, IfSome}
+use Rattle.std.proofs.Common.{◌∙◌, ap, sym, subst, length, map, replicate, arith, lit≤, IfSome}
 use Rattle.std.specs.Prelude.{unwrap_or}
+use Rattle.std.specs.Option.{option_map}
 use lib.Utf8.{encode}
 use Rattle.std.proofs.lemmas.Bool.{false≢true}
 use Rattle.std.specs.Str.{IsUtf8, is_utf8, chars}
@@ -19,15 +20,17 @@ use Rattle.skk_calls.specs.declared.chronicle.Noted.{Noted}
 use Rattle.skk_calls.specs.declared.chronicle.Noted.TheVariants.{Opened, Entered}
 use Rattle.skk_calls.specs.declared.entry.Entry.{Entry}
 use Rattle.skk_calls.specs.declared.part.Part.TheVariants.{Nasi}
-use Rattle.skk_calls.specs.Dictionary.{moves}
+use Rattle.skk_calls.specs.Dictionary.{line_length, moves}
 use Rattle.skk_calls.specs.Histories.{Opening, state_after, tight, need}
-use Rattle.skk_calls.specs.Rows.{RowKey}
+use Rattle.skk_calls.specs.Rows.{Row, RowKey}
 use Rattle.skk_calls.specs.States.{State, empty_state}
 use Rattle.skk_disk.specs.Image.{Image}
 use Rattle.skk_disk.specs.declared.which.Which.TheVariants.{A}
 use Rattle.skk_journal.specs.declared.fault.OpenFault.TheVariants as opens
 use Rattle.learned_store.specs.Recovered.{IsRefused}
 use Rattle.dict_format.specs.FileLines.{Lists, none_listed}
+use Rattle.dict_format.specs.declared.file.Listed.{Listed}
+use Rattle.dict_expr.specs.Books.{first_too_big}
 use Rattle.skk_text.specs.Lines.{lines_of}
 use Rattle.key_scripts.specs.Script.{Spells, IsFirstBad}
 use Rattle.key_scripts.specs.declared.line.Line as script_line
@@ -37,6 +40,8 @@ use Rattle.command_line.specs.declared.command.Command.TheVariants.{Alone, Waiti
 use Rattle.command_line.specs.declared.command.LoadOptions.{LoadOptions}
 use Rattle.command_line.specs.declared.command.TypeOptions.{TypeOptions}
 use Rattle.command_line.specs.declared.command.WaitingCommand.TheVariants as waiting
+use Rattle.command_line.specs.declared.expr_words.Sign.{Sign}
+use Rattle.command_line.specs.declared.expr_words.Sign.TheVariants.{Plus, Minus}
 use Rattle.run_endings.specs.declared.fault.RunFault.{RunFault}
 use Rattle.run_endings.specs.declared.fault.RunFault.TheVariants as faults
 use Rattle.run_endings.specs.declared.run_file.Flaw.TheVariants.{TooLong, Byte, Line}
@@ -71,6 +76,7 @@ typed : map (files_of shelf input) (Alone (alone.TypeScript typing) ∷ Waiting 
       script = Some (Some (codes "input"));
       rules = Some (Some (codes "rules"));
       dictionaries = Some (codes "first") ∷ Some (codes "second") ∷ [];
+      signs = None;
       learned = Some 64;
     })
 typed = refl
@@ -86,13 +92,29 @@ served : files_of shelf input (Waiting (waiting.Serve (record {
   script = None;
   rules = None;
   dictionaries = Some (codes "first") ∷ Some (codes "second") ∷ [];
+  signs = None;
   learned = Some 268435456;
 }
 served = refl
 
 checked : files_of shelf input (Alone (alone.Check (codes "first")))
-    ≡ record { script = None; rules = None; dictionaries = Some (codes "first") ∷ []; learned = None }
+    ≡ record { script = None; rules = None; dictionaries = Some (codes "first") ∷ []; signs = None; learned = None }
 checked = refl
+
+-- of dictionaries that are put together, the first has no sign
+put_together : files_of shelf input (Alone (alone.Expr (record {
+  first = codes "first";
+  terms = record {
+    items = record { sign = Minus; name = codes "second" } ∷ record { sign = Plus; name = codes "third" } ∷ [];
+  };
+}))) ≡ record {
+  script = None;
+  rules = None;
+  dictionaries = Some (codes "first") ∷ Some (codes "second") ∷ Some (codes "third") ∷ [];
+  signs = Some (Minus ∷ Plus ∷ []);
+  learned = None;
+}
+put_together = refl
 
 abbrev drawn : LoadOptions
 drawn = record { seed = 1; sessions = 2; lines = 3 }
@@ -100,13 +122,14 @@ drawn = record { seed = 1; sessions = 2; lines = 3 }
 dumped_and_loaded : map (files_of shelf input)
     (Alone (alone.Dump (record { learned = codes "learned"; book = 0 })) ∷ Alone (alone.Load drawn)
     ∷ Waiting (waiting.Load drawn) ∷ [])
-    ≡ replicate 3 (record { script = None; rules = None; dictionaries = []; learned = Some 268435456 })
+    ≡ replicate 3 (record { script = None; rules = None; dictionaries = []; signs = None; learned = Some 268435456 })
 dumped_and_loaded = refl
 
 shared : map (files_of shelf input) (map (λ limit.
     Alone (alone.Share (record { learned = codes "learned"; typist = 1; books = 7 ∷ []; limit = limit })))
     (None ∷ Some 64 ∷ []))
-    ≡ map {B = CommandFiles} (λ most. record { script = None; rules = None; dictionaries = []; learned = Some most })
+    ≡ map {B = CommandFiles} (λ most.
+    record { script = None; rules = None; dictionaries = []; signs = None; learned = Some most })
     (268435456 ∷ 64 ∷ [])
 shared = refl
 
@@ -132,7 +155,7 @@ Causes files = HasRunCause files (disk no_learned) ⊥ []
 
 -- no files but a learned one of so many bytes, where there is one
 abbrev only_learned : Option ℕ → CommandFiles
-only_learned most = record { script = None; rules = None; dictionaries = []; learned = most }
+only_learned most = record { script = None; rules = None; dictionaries = []; signs = None; learned = most }
 
 -- a run of a command doesn't end since its words are none
 words : ¬ Causes (only_learned None) faults.Words
@@ -151,7 +174,7 @@ only one (first ∷ before) item behind is =
 
 -- a script
 abbrev script : List ℕ → CommandFiles
-script bytes = record { script = Some (Some bytes); rules = None; dictionaries = []; learned = Some 64 }
+script bytes = record { script = Some (Some bytes); rules = None; dictionaries = []; signs = None; learned = Some 64 }
 
 -- `x` says nothing, be it keys or an opening: no number and mark are in a text of one character
 not_of_line : (number rest : List ℕ) (mark : ℕ) → codes "x" ≡ number ++ mark ∷ rest → mark ≡ 120
@@ -207,7 +230,8 @@ not_text is = let test : is_utf8 (255 ∷ []) ≡ true = is_utf8-from_IsUtf8 (25
 
 -- rules and dictionaries
 abbrev named : Option Told → List Told → CommandFiles
-named rules dictionaries = record { script = None; rules = rules; dictionaries = dictionaries; learned = Some 64 }
+named rules dictionaries =
+    record { script = None; rules = rules; dictionaries = dictionaries; signs = None; learned = Some 64 }
 
 -- a rule file that is no text, up to byte 0; without one none is refused
 bad_rules : Causes (named (Some (Some (255 ∷ []))) []) (faults.Refused Rules (Byte 0))
@@ -260,6 +284,22 @@ bad_dictionaries = (
         (subst (λ (told : Told). IfSome told (λ bytes. IsTextFault 67108864 bytes (texts.NotUtf8 0))) (sym same) has).1
         ([], (refl, refl))
     first (other ∷ before) after file parts number has = omega (arith, number)
+
+-- Dictionaries that are put together
+
+-- an empty dictionary comes to no row that is too big, and without signs nothing does
+abbrev put : Option (List Sign) → CommandFiles
+put signs = record { script = None; rules = None; dictionaries = Some [] ∷ []; signs = signs; learned = None }
+
+no_row_too_big : (¬ Causes (put (Some [])) (faults.RowTooBig 65536)) × (¬ Causes (put None) (faults.RowTooBig 65536))
+no_row_too_big = (none, λ is. is)
+  where
+    none : ¬ Causes (put (Some [])) (faults.RowTooBig 65536)
+    none (rows, (first, others, lists, are), big) =
+        let empty : first ≡ [] = sym lists.0.2 ∙ ap (λ (listed : Listed). listed.book) lists.0.1.entries in
+        let none : ◌≡◌ {A = Option ℕ} None (Some 65536) =
+        subst (λ (all : List Row). option_map line_length (first_too_big all) ≡ Some 65536) (are ∙ empty) big in
+        cc (none)
 
 -- Learned files that are refused
 

@@ -1,6 +1,6 @@
 -- Whatever fault a run ends with had its cause.
 use Rattle.std.proofs.Common.{◌≡◌, inl, inr, sym, ap, refl, subst, arith, ℕ, ◌+◌, ◌<◌, ◌≤◌, Bool, true, false, ◌||◌}
-use Rattle.std.proofs.Common.{Option, Some, IsSome, Ok, Err, IfErr, IfSome, IsErrAnd, IsErrOf}
+use Rattle.std.proofs.Common.{Option, None, Some, IsSome, Ok, Err, IfErr, IfSome, IsErrAnd, IsErrOf}
 use Rattle.std.proofs.Common.{List, [], ◌∷◌, ◌++◌}
 use Rattle.std.proofs.lemmas.Bool.{cases_Bool}
 use Rattle.std.specs.List.{list_any}
@@ -15,6 +15,7 @@ use Rattle.skk_calls.specs.Chronicles.{history_of}
 use Rattle.skk_calls.specs.Dictionary.{moves}
 use Rattle.skk_calls.specs.Histories.{Opening, LacksRoom, IsLegalAnswer, tight, need}
 use Rattle.skk_calls.specs.Openings.{IsLegalOver}
+use Rattle.skk_calls.specs.Rows.{Row}
 use Rattle.skk_calls.specs.States.{State}
 use Rattle.skk_calls.specs.Tallies.{tally_of, has_answer, lacks_disk, lacks_memory, lacks_room}
 use Rattle.skk_outside.specs.Faults.{Rose}
@@ -34,6 +35,8 @@ use Rattle.command_line.specs.declared.command.ServeOptions.{ServeOptions}
 use Rattle.command_line.specs.declared.command.TypeOptions.{TypeOptions}
 use Rattle.command_line.specs.declared.command.WaitingCommand.{WaitingCommand}
 use Rattle.command_line.specs.declared.command.WaitingCommand.TheVariants as waiting
+use Rattle.command_line.specs.declared.expr_words.ExprOptions.{ExprOptions}
+use Rattle.command_line.specs.declared.expr_words.Sign.{Sign}
 use Rattle.run_endings.specs.Page.{StopsPrinting}
 use Rattle.run_endings.specs.Status.{Ended, ended_by, with_want}
 use Rattle.run_endings.specs.declared.fault.RunFault.{RunFault}
@@ -43,7 +46,7 @@ use Rattle.run_endings.specs.declared.run_file.Flaw.{Flaw}
 use Rattle.run_endings.specs.declared.run_file.RunFile.{RunFile}
 use Rattle.run_endings.specs.declared.run_file.RunFile.TheVariants.{Script, Rules, Dictionary}
 use Rattle.skk_top.specs.Causes.{CommandFiles, typed_files, served_files, checked_file, learned_alone, learned_within}
-use Rattle.skk_top.specs.Causes.{files_of}
+use Rattle.skk_top.specs.Causes.{ComeToRowTooBig, expr_files, files_of}
 use Rattle.skk_top.specs.ShareCommand.{LeavesShared}
 use Rattle.command_line.specs.declared.command.ShareOptions.{ShareOptions}
 use Rattle.skk_top.specs.Causes.{LackedRoom, HasRunCause}
@@ -52,6 +55,7 @@ use Rattle.skk_top.specs.Commands.{LeavesAlone, LeavesWaiting}
 use Rattle.skk_top.specs.Dictionaries.{HasDictionaryFlaw}
 use Rattle.skk_top.specs.Disks.{MovedDisk, RefusesLearned}
 use Rattle.skk_top.specs.DumpCommand.{LeavesDumped}
+use Rattle.skk_top.specs.ExprCommand.{ComeTo, LeavesExpr, RefusesRows, signs_of}
 use Rattle.skk_top.specs.Failures.{HasFailed}
 use Rattle.skk_top.specs.LoadCommand.{LeavesLoaded, Loading, LoadsLines, LoadsTasks}
 use Rattle.skk_top.specs.NamedFiles.{RefusesFiles}
@@ -62,7 +66,7 @@ use Rattle.skk_top.specs.WeaveCommand.{WeavesLines}
 use Rattle.skk_top.specs.declared.serving.Service.{Service}
 use Rattle.skk_top.proofs.Dictionaries.{are_dictionaries}
 use Rattle.caller_work.specs.DiskLaws.{counted-on}
-use Rattle.skk_top.proofs.RunFiles.{each_fault}
+use Rattle.skk_top.proofs.RunFiles.{each_fault, refuses-dictionaries}
 
 -- Why calls were refused
 
@@ -160,6 +164,7 @@ module _ (files : CommandFiles) (disk : MovedDisk) (Failed : Type 0) (chronicle 
   of-files count count' failed faults.Words cause = absurd cause
   of-files count count' failed (faults.NotJournal file first) cause = absurd cause
   of-files count count' failed (faults.BadRecord file at) cause = absurd cause
+  of-files count count' failed (faults.RowTooBig bytes) cause = absurd cause
   of-files count count' failed faults.JournalFull cause = absurd cause
 
   -- one file is not had
@@ -174,6 +179,7 @@ module _ (files : CommandFiles) (disk : MovedDisk) (Failed : Type 0) (chronicle 
   of-file file HasFlaw told count count' failed refuses faults.Words cause = absurd cause
   of-file file HasFlaw told count count' failed refuses (faults.NotJournal number first) cause = absurd cause
   of-file file HasFlaw told count count' failed refuses (faults.BadRecord number at) cause = absurd cause
+  of-file file HasFlaw told count count' failed refuses (faults.RowTooBig bytes) cause = absurd cause
   of-file file HasFlaw told count count' failed refuses faults.JournalFull cause = absurd cause
 
   -- the learned file is not had
@@ -185,6 +191,7 @@ module _ (files : CommandFiles) (disk : MovedDisk) (Failed : Type 0) (chronicle 
   of-learned some failed faults.Memory cause = tt
   of-learned some failed faults.Words cause = absurd cause
   of-learned some failed (faults.Refused file flaw) cause = absurd cause
+  of-learned some failed (faults.RowTooBig bytes) cause = absurd cause
   of-learned some failed faults.JournalFull cause = absurd cause
 
   -- memory lacks
@@ -200,7 +207,21 @@ module _ (files : CommandFiles) (disk : MovedDisk) (Failed : Type 0) (chronicle 
   of-printing out failed (faults.Refused file flaw) cause = absurd cause
   of-printing out failed (faults.NotJournal file first) cause = absurd cause
   of-printing out failed (faults.BadRecord file at) cause = absurd cause
+  of-printing out failed (faults.RowTooBig bytes) cause = absurd cause
   of-printing out failed faults.JournalFull cause = absurd cause
+
+  -- what dictionaries come to is not printed
+  of-rows : (signs : List Sign) (rows : List Row) → files.signs ≡ Some signs → ComeTo signs files.dictionaries rows
+      → (fault : RunFault) → RefusesRows rows fault → Cause fault
+  of-rows signs rows are come (faults.RowTooBig bytes) cause =
+      subst (λ (s : Option (List Sign)). ComeToRowTooBig s files.dictionaries bytes) (sym are) (rows, come, cause)
+  of-rows signs rows are come faults.Memory cause = tt
+  of-rows signs rows are come faults.Outside cause = absurd cause
+  of-rows signs rows are come faults.Words cause = absurd cause
+  of-rows signs rows are come (faults.Refused file flaw) cause = absurd cause
+  of-rows signs rows are come (faults.NotJournal file first) cause = absurd cause
+  of-rows signs rows are come (faults.BadRecord file at) cause = absurd cause
+  of-rows signs rows are come faults.JournalFull cause = absurd cause
 
   -- what was typed or served decides how a run ends, and else what its calls came to
   of-calls : (wanted : Bool) (opening : Opening) → IsLegalOver opening chronicle
@@ -336,6 +357,22 @@ module _ {D : Type 0} (run : Run D) (shelf : MovedShelf) (input : MovedSource) (
         | inr prints ↦ printed files run.ended prints.printed.stopped
       ]
 
+  -- the dictionaries that are put together
+  caused-put : (options : ExprOptions) → LeavesExpr options run shelf out → CausedBy (expr_files shelf options)
+  caused-put options leaves =
+      let files = expr_files shelf options in
+      elim leaves [
+        | inl ends ↦ by-cause run.ended (λ fault refused.
+            of-files files disk Failed run.chronicle shelf.faults shelf.faults' shelf-failed fault
+            (refuses-dictionaries None files.dictionaries standard shelf.faults shelf.faults shelf.faults' fault refl
+            (omega arith) refused)) ends.cause
+        | inr put ↦ elim put.left [
+          | inl refused ↦ by-cause run.ended
+              (of-rows files disk Failed run.chronicle (signs_of options) put.rows refl put.come_to) refused.cause
+          | inr prints ↦ printed files run.ended prints.printed.stopped
+        ]
+      ]
+
   -- the book that is printed
   caused-dumped : (options : DumpOptions) → LeavesDumped options run out disk → CausedBy learned_alone
   caused-dumped options leaves =
@@ -400,6 +437,7 @@ module _ {D : Type 0} (run : Run D) (shelf : MovedShelf) (input : MovedSource) (
     serving-stopped (faults.Refused file flaw) cause files = absurd cause
     serving-stopped (faults.NotJournal file first) cause files = absurd cause
     serving-stopped (faults.BadRecord file at) cause files = absurd cause
+    serving-stopped (faults.RowTooBig bytes) cause files = absurd cause
     serving-stopped faults.JournalFull cause files = absurd cause
 
     port-stopped : (service : Service) (visits : List (Visit L)) (served : Ended) (files : CommandFiles)
@@ -444,6 +482,7 @@ module _ {D : Type 0} (run : Run D) (shelf : MovedShelf) (input : MovedSource) (
   caused-alone (alone.Dump options) leaves = caused-dumped options leaves.0
   caused-alone (alone.Share options) leaves = caused-given options leaves.0
   caused-alone (alone.Load options) leaves = caused-loaded options leaves.0
+  caused-alone (alone.Expr options) leaves = caused-put options leaves.0
 
 -- a run that ended since a call on the outside failed, with its cause, had one that failed
 pub caused-outside : (Cause : RunFault → Type 0) (ended : Ended) → IsErrOf ended faults.Outside → IfErr ended Cause

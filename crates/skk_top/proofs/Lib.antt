@@ -5,6 +5,8 @@ mod Causes
 mod CheckExamples
 pub mod Dictionaries
 mod Examples
+mod ExprExamples
+pub mod Exprs
 mod LoadExamples
 pub mod LinesWork
 pub mod LoadInput

@@ -1,6 +1,7 @@
 -- Why runs end: each fault that a run may end with, and its cause.
 use Rattle.std.specs.Prelude.{◌≡◌, ⊤, ◌+◌, ◌<◌, ℕ, true, Option, None, Some, IsSome, List, [], ◌∷◌, ◌++◌}
 use Rattle.skk_outside.specs.Moved.{Told, MovedShelf, MovedSource}
+use Rattle.skk_calls.specs.Rows.{Row}
 use Rattle.romaji_rules.specs.declared.rule.Rule.{Rule}
 use Rattle.skk_calls.specs.declared.chronicle.Noted.{Noted}
 use Rattle.skk_calls.specs.declared.entry.Entry.{Entry}
@@ -17,21 +18,26 @@ use Rattle.command_line.specs.declared.command.Command.TheVariants.{Alone, Waiti
 use Rattle.command_line.specs.declared.command.ServeOptions.{ServeOptions}
 use Rattle.command_line.specs.declared.command.TypeOptions.{TypeOptions}
 use Rattle.command_line.specs.declared.command.WaitingCommand.TheVariants as waiting
+use Rattle.command_line.specs.declared.expr_words.ExprOptions.{ExprOptions}
+use Rattle.command_line.specs.declared.expr_words.Sign.{Sign}
 use Rattle.run_endings.specs.declared.fault.RunFault.{RunFault}
 use Rattle.run_endings.specs.declared.fault.RunFault.TheVariants as faults
 use Rattle.run_endings.specs.declared.run_file.RunFile.TheVariants.{Script, Rules, Dictionary}
 use Rattle.skk_top.specs.Dictionaries.{HasDictionaryFlaw, IsFirst}
 use Rattle.skk_top.specs.Disks.{MovedDisk}
+use Rattle.skk_top.specs.ExprCommand.{ComeTo, HasRowTooBig, names_of, signs_of}
 use Rattle.skk_top.specs.NamedFiles.{rules_named, dictionaries_named}
 use Rattle.skk_top.specs.RunRules.{AreRules, HasRulesFlaw, IsNamed}
 use Rattle.skk_top.specs.TypeCommand.{HasScriptFlaw}
 
--- the files of a command: the script, the rules and the dictionaries, as far as they are told, and the most bytes of a
--- learned file, where the command opens one
+-- the files of a command: the script, the rules and the dictionaries, as far as they are told, the signs of the
+-- dictionaries behind the first, where the command puts them together, and the most bytes of a learned file, where it
+-- opens one
 pub record CommandFiles : Type 0 where
   pub script : Option Told
   pub rules : Option Told
   pub dictionaries : List Told
+  pub signs : Option (List Sign)
   pub learned : Option ℕ
 
 -- the files of a script that is typed by some options: the input is the script
@@ -40,6 +46,7 @@ typed_files shelf input options = record {
   script = Some input.left;
   rules = rules_named options.rules shelf;
   dictionaries = dictionaries_named options.dictionaries.items shelf;
+  signs = None;
   learned = Some (limit_of options.limit);
 }
 
@@ -49,16 +56,29 @@ served_files shelf options = record {
   script = None;
   rules = rules_named options.rules shelf;
   dictionaries = dictionaries_named options.dictionaries.items shelf;
+  signs = None;
   learned = Some (limit_of options.limit);
 }
 
 -- no file but the one that is checked, which is the first dictionary
 abbrev pub checked_file : MovedShelf → List ℕ → CommandFiles
-checked_file shelf name = record { script = None; rules = None; dictionaries = shelf.file name ∷ []; learned = None }
+checked_file shelf name =
+    record { script = None; rules = None; dictionaries = shelf.file name ∷ []; signs = None; learned = None }
+
+-- the dictionaries that are put together by some options
+abbrev pub expr_files : MovedShelf → ExprOptions → CommandFiles
+expr_files shelf options = record {
+  script = None;
+  rules = None;
+  dictionaries = dictionaries_named (names_of options) shelf;
+  signs = Some (signs_of options);
+  learned = None;
+}
 
 -- no file but the learned one, of this limit, or of the greatest where none is given
 abbrev pub learned_within : Option ℕ → CommandFiles
-learned_within limit = record { script = None; rules = None; dictionaries = []; learned = Some (limit_of limit) }
+learned_within limit =
+    record { script = None; rules = None; dictionaries = []; signs = None; learned = Some (limit_of limit) }
 
 -- no file but the learned one, of the greatest limit
 abbrev pub learned_alone : CommandFiles
@@ -71,6 +91,7 @@ files_of shelf input (Alone (alone.Check name)) = checked_file shelf name
 files_of shelf input (Alone (alone.Dump options)) = learned_alone
 files_of shelf input (Alone (alone.Share options)) = learned_within options.limit
 files_of shelf input (Alone (alone.Load options)) = learned_alone
+files_of shelf input (Alone (alone.Expr options)) = expr_files shelf options
 files_of shelf input (Waiting (waiting.TypeScript options)) = typed_files shelf input options
 files_of shelf input (Waiting (waiting.Serve options)) = served_files shelf options
 files_of shelf input (Waiting (waiting.Load options)) = learned_alone
@@ -89,6 +110,11 @@ pub record LackedRoom (most : Option ℕ) (chronicle : List Noted) : Type 0 wher
   pub lacks : opening.limit
       < tight (state_after opening.state before) + need (state_after opening.state before) entry.call
 
+-- what dictionaries come to by these signs, where there are such, has a row too big, the first of so many bytes
+abbrev pub ComeToRowTooBig : Option (List Sign) → List Told → ℕ → Type 0
+ComeToRowTooBig None files bytes = ⊥
+ComeToRowTooBig (Some signs) files bytes = (rows : List Row) × ComeTo signs files rows × HasRowTooBig rows bytes
+
 -- the cause of a fault that a run of a command ended with, over these files and this disk, by whether a call on the
 -- outside failed, and by its chronicle; what is not told may have any flaw, and for want of memory no cause is asked
 abbrev pub HasRunCause : CommandFiles → MovedDisk → Type 0 → List Noted → RunFault → Type 0
@@ -101,6 +127,8 @@ HasRunCause files disk Failed chronicle (faults.NotJournal file first) =
     IsSome files.learned × (disk.tells → IsRefused disk.seen (opens.NotJournal file first))
 HasRunCause files disk Failed chronicle (faults.BadRecord file at) =
     IsSome files.learned × (disk.tells → IsRefused disk.seen (opens.BadRecord file at newest_version []))
+HasRunCause files disk Failed chronicle (faults.RowTooBig bytes) =
+    ComeToRowTooBig files.signs files.dictionaries bytes
 HasRunCause files disk Failed chronicle faults.Outside = Failed
 HasRunCause files disk Failed chronicle faults.Memory = ⊤
 HasRunCause files disk Failed chronicle faults.JournalFull = LackedRoom files.learned chronicle

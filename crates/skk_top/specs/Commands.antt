@@ -10,6 +10,7 @@ use Rattle.run_endings.specs.declared.finish.Run.{Run}
 use Rattle.skk_top.specs.CheckCommand.{LeavesChecked}
 use Rattle.skk_top.specs.Disks.{MovedDisk}
 use Rattle.skk_top.specs.DumpCommand.{LeavesDumped}
+use Rattle.skk_top.specs.ExprCommand.{LeavesExpr}
 use Rattle.skk_top.specs.LoadCommand.{LeavesLoaded, LoadsLines, LoadsTasks}
 use Rattle.skk_top.specs.ServeCommand.{LeavesServed, MovedListener}
 use Rattle.skk_top.specs.ShareCommand.{LeavesShared}
@@ -17,7 +18,7 @@ use Rattle.skk_top.specs.TypeCommand.{LeavesTyped, TypesLines}
 use Rattle.skk_top.specs.WeaveCommand.{WeavesLines}
 
 -- what a run of a command that waits for nobody leaves: the input is read by `type` alone, calls are made by `type`, by
--- `share` and by `load`, and the disk is not touched by `check`
+-- `share` and by `load`, and the disk is not touched by `check` and `expr`
 abbrev pub LeavesAlone : {D : Type 0} → AloneCommand → Run D → MovedShelf → MovedSource → MovedSink → MovedDisk
     → Type 0
 LeavesAlone (alone.TypeScript options) run shelf input out disk =
@@ -30,6 +31,8 @@ LeavesAlone (alone.Share options) run shelf input out disk =
     LeavesShared options run out disk × Keeps input.left input.left'
 LeavesAlone (alone.Load options) run shelf input out disk =
     LeavesLoaded (LoadsLines options) run out disk × Keeps input.left input.left'
+LeavesAlone (alone.Expr options) run shelf input out disk =
+    LeavesExpr options run shelf out × Keeps input.left input.left' × (run.chronicle ≡ []) × disk.is_untouched
 
 -- what a run of a command that may wait leaves: the input is read by `type` alone, and the listener is asked by `serve`
 -- alone

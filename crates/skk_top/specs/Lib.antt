@@ -5,6 +5,7 @@ pub mod Commands
 pub mod Dictionaries
 pub mod Disks
 pub mod DumpCommand
+pub mod ExprCommand
 pub mod Failures
 pub mod LinesWork
 pub mod LoadCommand

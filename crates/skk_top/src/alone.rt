@@ -14,6 +14,7 @@ ghost use Rattle.skk_top.specs.Failures.{HasFailed};
 
 use crate::check_command::run_check;
 use crate::dump_command::run_dump;
+use crate::expr_command::run_expr;
 use crate::load_command::run_load_by_one;
 use crate::one_caller::run_by_one;
 use crate::share_command::run_share;
@@ -98,5 +99,6 @@ fn run_command<H: Shelf, D: Disk, I: Source, O: Sink>(
         AloneCommand::Dump(options) => run_dump(alloc, options, disk, out),
         AloneCommand::Share(options) => run_share(alloc, options, disk, out),
         AloneCommand::Load(options) => run_load_by_one(alloc, *options, disk, out),
+        AloneCommand::Expr(options) => run_expr(alloc, options, shelf, disk, out),
     }
 }

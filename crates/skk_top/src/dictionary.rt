@@ -1,4 +1,4 @@
-ghost use Rattle.std.specs.Prelude.{◌≡◌, ◌≤◌, IfOk, IfErr, IfSome, map};
+ghost use Rattle.std.specs.Prelude.{◌≡◌, ◌≤◌, ℕ, IfOk, IfErr, IfSome, List, map};
 ghost use Rattle.dict_format.specs.FileLines.{Lists, ListsRows};
 ghost use Rattle.skk_top.specs.Dictionaries.{AreRowsOf, HasDictionaryFlaw, RefusesDictionaries, fault_of_file};
 ghost use Rattle.skk_top.specs.RunFiles.{RefusesFile, RefusesBytes};
@@ -69,7 +69,8 @@ fn file_of(alloc: Global, bytes: Bytes, number: usize) -> Result<DictionaryFile,
     }
 }
 
-/// Reads the dictionary with this number, counted from 1, from the file of this name.
+/// Reads the dictionary with this number, counted from 1, from the file of this name. It is what some bytes list, also
+/// where the shelf does not tell them.
 pub fn read_dictionary<H: Shelf>(
     alloc: Global,
     shelf: &mut H,
@@ -77,6 +78,7 @@ pub fn read_dictionary<H: Shelf>(
     number: usize,
 ) -> Result<Listed, RunFault>
     ensures lists { IfOk result (λ listed. IfSome (H.file shelf.old name.now) (λ bytes. Lists bytes listed)) }
+    ensures listed { IfOk result (λ listed. (bytes : List ℕ) × Lists bytes listed) }
     ensures refused { IfErr result
         (RefusesFile (RunFile.Dictionary number) HasDictionaryFlaw (H.file shelf.old name.now)
         (H.faults shelf.old) (H.faults shelf.new)) }

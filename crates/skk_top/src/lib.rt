@@ -16,6 +16,7 @@ mod check_command;
 mod checking;
 mod dictionary;
 mod dump_command;
+mod expr_command;
 mod laws;
 mod load_command;
 mod load_each;
