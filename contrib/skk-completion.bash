@@ -4,7 +4,7 @@ _skk() {
     [ "$before" != = ] || before=${COMP_WORDS[COMP_CWORD - 2]}
     [ "$word" != = ] || word=''
     case $before in
-        --dict | --learned | --rules | check)
+        --dict | --learned | --rules | check | expr | + | -)
             compopt -o filenames
             mapfile -t COMPREPLY < <(compgen -f -- "$word")
             return
@@ -12,13 +12,14 @@ _skk() {
         --books | --*[!s]) return ;;
     esac
     if [ "$COMP_CWORD" -eq 1 ]; then
-        words='type serve dump share check load help'
+        words='type serve dump share check expr load help'
     else
         case ${COMP_WORDS[1]} in
             type) words='--dict --rules --learned --limit --threads' ;;
             serve) words='--learned --dict --rules --limit --port --connections' ;;
             dump) words='--learned --book' ;;
             share) words='--learned --typist --books --limit' ;;
+            expr) words='+ -' ;;
             load) words='--seed --sessions --lines --threads' ;;
         esac
     fi

@@ -15,9 +15,9 @@ quoted() {
 }
 
 # Calls $1 with the option and the name of each file that the words name, up to the first at which it fails. A word that
-# stands without an option is the file of `check`, a dictionary.
+# stands without an option is the file of `check`, or one of `expr` where it is no sign: a dictionary.
 each_file() {
-    look=$1
+    look=$1 of=$2
     shift 2
     while [ $# -gt 0 ]; do
         case $1 in
@@ -27,7 +27,7 @@ each_file() {
                 "$look" "$1" "${2-}" || return 1
                 [ $# -eq 1 ] || shift
                 ;;
-            *) "$look" --dict "$1" || return 1 ;;
+            *) [ "$of $1" = 'expr +' ] || [ "$of $1" = 'expr -' ] || "$look" --dict "$1" || return 1 ;;
         esac
         shift
     done
@@ -130,11 +130,13 @@ look_at_dictionary() {
 }
 
 # Looks for the fault of a rule file or a dictionary, in the order in which the program reads them. Where none is seen
-# although all were looked at, a rule has one that only the program finds.
+# although all were looked at, a rule has one that only the program finds, or a line that `expr` was to print.
 look_at_files() {
     rules='' hidden=''
     each_file look_at_rules "$@" && each_file look_at_dictionary "$@" || return 0
-    [ -z "$rules" ] || [ -n "$hidden" ] || tell_rule
+    [ -z "$hidden" ] || return 0
+    [ -z "$rules" ] || tell_rule
+    [ "$1" != expr ] || tell 'a line of what is left would have more than 65535 bytes, and is read by nothing'
 }
 
 # Says what a line of the script is to be. The line at fault is shown where standard input is a plain file that was read

@@ -32,6 +32,8 @@ usage: @skk type [--dict FILE].. [--rules FILE] [--learned FILE] [--limit BYTES]
        @skk share --learned FILE --typist NUMBER --books NUMBER[,NUMBER].. [--limit BYTES]
                           sets the books that a typist reads behind the private one, and prints them
        @skk check FILE    checks a dictionary file, line by line
+       @skk expr FILE [+ FILE | - FILE]..
+                          adds dictionary files and takes them away, from the left, and prints what is left as one
        @skk load --seed NUMBER --sessions NUMBER --lines NUMBER [--threads]    types drawn lines, and prints a summary
 END
     [ -z "$proves" ] ||

@@ -17,6 +17,10 @@ const SMALL: &str = "か /蚊/\n;; okuri-ari entries.\nおおk /大/\nおお /�
 
 const CHECKED: &str = "line 4 OkuriKey\nline 5 NoSlash\nokuri-ari 1 okuri-nasi 1 bad 2\n";
 
+const PRINTED: &str = ";; okuri-ari entries.\nおおk /大/\n;; okuri-nasi entries.\nか /蚊/\n";
+
+const WITHOUT_ROWS: &str = ";; okuri-ari entries.\n;; okuri-nasi entries.\n";
+
 const FEW: &str = "load --seed=0 --sessions=2 --lines=3";
 
 const FEW_LOADED: &str = "lines 6\nlearned 4\nrestored 1\nrows 3\nbytes 33\n";
@@ -28,7 +32,7 @@ const OUTSIDE: &str = "skk: outside\n";
 type Run = (&'static str, [u64; 4], u8, &'static str, &'static str);
 
 // The content of the file `words`, and a run.
-static RUNS: [(&str, Run); 23] = [
+static RUNS: [(&str, Run); 31] = [
     // the script is read in two pieces and then to its end; the output is written at once and flushed; a fault is told
     // in one write
     ("", ("type", [1, 0, 0, 0], 0, TYPED, "")),
@@ -58,6 +62,25 @@ static RUNS: [(&str, Run); 23] = [
         ),
     ),
     ("", ("check nowhere", [0, 1, 0, 0], 4, "", OUTSIDE)),
+    // dictionaries are read one after another, each as above, and the input is not; what they come to is written at
+    // once and flushed
+    (SMALL, ("expr words", [3, 1, 0, 0], 0, PRINTED, "")),
+    (SMALL, ("expr words + words", [5, 1, 0, 0], 0, PRINTED, "")),
+    (SMALL, ("expr words + words", [1, 1, 0, 0], 4, "", OUTSIDE)),
+    (SMALL, ("expr words + words", [4, 1, 0, 0], 4, "", OUTSIDE)),
+    (SMALL, ("expr words - words", [0, 1, 1, 0], 4, "", OUTSIDE)),
+    (
+        SMALL,
+        ("expr words - words", [0, 1, 2, 0], 4, WITHOUT_ROWS, OUTSIDE),
+    ),
+    (
+        SMALL,
+        ("expr words - words", [0, 1, 3, 0], 0, WITHOUT_ROWS, ""),
+    ),
+    (
+        SMALL,
+        ("expr words - nowhere", [0, 1, 0, 0], 4, "", OUTSIDE),
+    ),
     // of a load nothing is read
     ("", (FEW, [1, 1, 0, 0], 0, FEW_LOADED, "")),
     ("", (FEW, [1, 1, 1, 0], 4, "", OUTSIDE)),
