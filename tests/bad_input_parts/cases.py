@@ -7,7 +7,7 @@ from bad_input_parts.good_input import DICTIONARY
 from bad_input_parts.learned_cases import LearnedFileCases
 from bad_input_parts.programs import Programs, write_file
 from bad_input_parts.stream_cases import StreamCases
-from bad_input_parts.text_cases import DictionaryCases, RuleFileCases, ScriptCases
+from bad_input_parts.text_cases import DictionaryCases, ExprCases, RuleFileCases, ScriptCases
 
 
 class Cases:
@@ -22,6 +22,7 @@ class Cases:
         # Each as often as its share of the cases.
         self.kinds = [ScriptCases(programs, good.scripts)] * 4
         self.kinds += [DictionaryCases(programs, good.dictionaries)] * 4
+        self.kinds += [ExprCases(programs, good.dictionaries)] * 3
         self.kinds += [RuleFileCases(programs, good.rule_files)] * 3
         self.kinds += [LearnedFileCases(programs)] * 5
         self.kinds += [self.streams] * 4

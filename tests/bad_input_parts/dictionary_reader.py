@@ -110,25 +110,38 @@ def line_of(row):
     return f"{reading} /{''.join(text + '/' for text in texts)}"
 
 
-def end_of_check(content):
-    """What `check` leaves: its status, standard output and standard error."""
+def not_text(content, number):
+    """What is told of the dictionary with this number where it is no text."""
     try:
-        text = content.decode()
+        content.decode()
     except UnicodeDecodeError as fault:
-        return 3, b"", f"skk: dictionary 1 byte {fault.start}\n".encode()
-    part, told, readings = "nasi", [], {"ari": set(), "nasi": set()}
-    lines = text.removeprefix("\ufeff").split("\n")
+        return f"skk: dictionary {number} byte {fault.start}\n".encode()
+    return b""
+
+
+def rows_in(content):
+    """What a dictionary lists: the rows of each part by their readings, in order, and what `check` tells of bad lines."""
+    part, told, rows = "nasi", [], {"ari": {}, "nasi": {}}
+    lines = content.decode().removeprefix("\ufeff").split("\n")
     for number, line in enumerate(lines, 1):
         line = line.removesuffix("\r").rstrip(" \t")
         if line in (";; okuri-ari entries.", ";; okuri-nasi entries."):
             part = "ari" if "ari" in line else "nasi"
         elif line and not line.startswith(";"):
             row = entry(part, line)
-            if not isinstance(row, str) and row[0] in readings[part]:
+            if not isinstance(row, str) and row[0] in rows[part]:
                 row = "Twice"
             if isinstance(row, str):
                 told.append(f"line {number} {row}\n")
             else:
-                readings[part].add(row[0])
-    counts = f"okuri-ari {len(readings['ari'])} okuri-nasi {len(readings['nasi'])} bad {len(told)}\n"
+                rows[part][row[0]] = row
+    return rows, told
+
+
+def end_of_check(content):
+    """What `check` leaves: its status, standard output and standard error."""
+    if fault := not_text(content, 1):
+        return 3, b"", fault
+    rows, told = rows_in(content)
+    counts = f"okuri-ari {len(rows['ari'])} okuri-nasi {len(rows['nasi'])} bad {len(told)}\n"
     return 0, "".join([*told, counts]).encode(), b""

@@ -87,7 +87,7 @@ def add_case(good, case):
     good.streams.update(case.asked.values())
     for before, name in zip(case.words, case.words[1:]):
         content = b"".join(case.files.get(name.decode(errors="replace"), []))
-        if before in (b"--dict", b"check"):
+        if before in (b"--dict", b"check", b"expr", b"+", b"-"):
             good.dictionaries.add(content)
         elif before == b"--rules":
             good.rule_files.add(content)

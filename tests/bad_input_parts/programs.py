@@ -11,7 +11,7 @@ from tools.patience import HANG, PATIENCE, wants_processor
 LINES = {
     0: rb"",
     2: rb"skk: script too long\n|skk: line [1-9][0-9]*\n",
-    3: rb"skk: (?:rules|dictionary 1) (?:too long|byte [0-9]+)\n|skk: rules line [1-9][0-9]*\n",
+    3: rb"skk: (?:rules|dictionary [1-3]) (?:too long|byte [0-9]+)\n|skk: rules line [1-9][0-9]*\n|skk: row too big [0-9]+\n",
     5: rb"skk: learned file (?:2 )?(?:byte|record at) [0-9]+\n",
     7: rb"skk: journal full\n",
 }

@@ -2,6 +2,7 @@
 
 from bad_input_parts.breaking import broken_content
 from bad_input_parts.dictionary_reader import end_of_check
+from bad_input_parts.dictionary_sums import end_of_expr
 from bad_input_parts.failed import Failed
 from bad_input_parts.good_input import TYPED
 from bad_input_parts.programs import write_file
@@ -65,6 +66,42 @@ class DictionaryCases:
         if status == 0:
             check_typed(out, *script_lines(script))
         return f"type, status {status}"
+
+
+class ExprCases:
+    """Dictionaries that `expr` puts together, of which what is printed is looked at by `check`."""
+
+    name = "expr"
+
+    def __init__(self, programs, dictionaries):
+        self.programs, self.dictionaries = programs, dictionaries
+
+    def run(self, draw, given):
+        """Runs a case, whose bytes are put into `given`: what it ended as."""
+        words, contents, signs = ["expr"], [], draw.choices("+-", k=draw.randrange(3))
+        for name, sign in zip(("one", "two", "three"), ["", *signs]):
+            contents.append(self.content(draw, contents))
+            given[name] = contents[-1]
+            write_file(name, contents[-1])
+            words += [sign, name] if sign else [name]
+        wanted = end_of_expr(contents, signs)
+        got = self.programs.run_twice(words, b"", (0, 3))
+        if got != wanted:
+            raise Failed(f"{words}: {got!r}, and not {wanted!r}")
+        if got[0] == 0:
+            write_file("broken", got[1])
+            checked = self.programs.run_twice(["check", "broken"], b"", (0,))
+            if not checked[1].endswith(b" bad 0\n"):
+                raise Failed(f"{words}: check of {got[1]!r} says {checked[1]!r}")
+        return f"{' '.join(['F', *(f'{sign} F' for sign in signs)])}, status {got[0]}"
+
+    def content(self, draw, before):
+        """A dictionary that was broken, or one of those before it with lines of another."""
+        content = broken_content(draw, self.dictionaries)
+        if not before or draw.randrange(3) == 0:
+            return content
+        lines = [*draw.choice(before).split(b"\n"), *content.split(b"\n")]
+        return b"\n".join(line for line in lines if draw.randrange(4))
 
 
 class RuleFileCases:
