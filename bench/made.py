@@ -28,9 +28,18 @@ def candidates(draw, counts=(1, 1, 1, 2, 2, 2, 3, 4)):
         yield f"{word};{''.join(draw.choices(KANA, k=4))}" if draw.random() < 0.12 else word
 
 
+def entries(draw, ari, nasi):
+    """The lines of a file with these readings."""
+    ari, nasi = sorted(ari, reverse=True), sorted(nasi)
+    return [ARI, *(line(reading, candidates(draw)) for reading in ari), NASI, *(line(reading, candidates(draw)) for reading in nasi)]
+
+
+def drawn(draw, ari, nasi):
+    """So many readings with okurigana, and so many without."""
+    return [f"{reading}{draw.choice('kgstnbmrw')}" for reading in readings(draw, ari, (2, 3, 4))], readings(draw, nasi, (3, 4, 5, 6))
+
+
 def everyday():
     """The lines of a file of the size and the shape of a large dictionary."""
     draw = random.Random(1)
-    ari = sorted((f"{reading}{draw.choice('kgstnbmrw')}" for reading in readings(draw, 20_000, (2, 3, 4))), reverse=True)
-    nasi = sorted(readings(draw, 150_000, (3, 4, 5, 6)))
-    return [ARI, *(line(reading, candidates(draw)) for reading in ari), NASI, *(line(reading, candidates(draw)) for reading in nasi)]
+    return entries(draw, *drawn(draw, 20_000, 150_000))
