@@ -2,6 +2,7 @@ use crate::callers::{told_alone, told_from_file, told_refused};
 use crate::clients::answered;
 use crate::connections::served;
 use crate::passes::told_on_desk;
+use crate::questions::{completed, looked_up};
 use crate::requests::{asked, called};
 use crate::typists::typed;
 use skk_calls::Caller;
@@ -29,6 +30,10 @@ pub(crate) enum Way {
     Pass,
     // A connection whose calls are refused.
     Refused,
+    // A client that asks a server for candidates: what is sent, and what the client tells.
+    LookUp,
+    // A client that asks a server for readings.
+    Completion,
 }
 
 // What comes in pieces, and which call of the link fails, counted from 1; none does where that is 0.
@@ -49,6 +54,8 @@ impl Way {
         match self {
             Way::Feeder => asked(&rt, alloc, coming.pieces),
             Way::Calls => called(&rt, alloc, coming.pieces),
+            Way::LookUp => looked_up(&rt, alloc, coming),
+            Way::Completion => completed(&rt, alloc, coming),
             Way::Refused => told_refused(&rt, alloc, coming),
             Way::Pass => told_on_desk(rt, alloc, coming),
             Way::File => told_from_file(&rt, alloc, coming),

@@ -1,0 +1,7 @@
+pub mod FoundTold
+pub mod Gathered
+pub mod Heard
+pub mod Lines
+pub mod Listed
+pub mod Results
+pub mod Returns

@@ -1,0 +1,4 @@
+pub mod Gathering
+pub mod Hearing
+pub mod Questions
+pub mod Replies
