@@ -8,10 +8,12 @@ use Rattle.skk_calls.specs.Tallies.{Tally, empty_tally}
 use Rattle.skk_journal.specs.declared.fault.OpenFault.TheVariants as opening
 use Rattle.key_scripts.specs.declared.script.ScriptFault.TheVariants as scripts
 use Rattle.run_endings.specs.Status.{message_of, status_of, fault_words, run_status, run_message, ended_by}
-use Rattle.run_endings.specs.Status.{fault_of_opening, fault_of_read, fault_of_text, fault_of_script}
+use Rattle.run_endings.specs.Status.{fault_of_opening, fault_of_read, fault_of_text, fault_of_script, fault_of_asking}
 use Rattle.run_endings.specs.declared.fault.RunFault.TheVariants.{Words, Refused, NotJournal, BadRecord}
 use Rattle.run_endings.specs.declared.fault.RunFault.TheVariants.{RowTooBig, Outside, Memory}
-use Rattle.run_endings.specs.declared.fault.RunFault.TheVariants.{JournalFull}
+use Rattle.run_endings.specs.declared.fault.RunFault.TheVariants.{JournalFull, Reply}
+use Rattle.run_endings.specs.declared.reply_flaw.ReplyFlaw.TheVariants as flaws
+use Rattle.skkserv_client.specs.declared.told.AskFault.TheVariants as asks
 use Rattle.run_endings.specs.declared.run_file.Flaw.TheVariants.{TooLong, Byte, Line}
 use Rattle.run_endings.specs.declared.run_file.RunFile.TheVariants.{Script, Rules, Dictionary}
 
@@ -40,6 +42,23 @@ refusals_told : map message_of
     ∷ told "skk: row too big 65536" ∷ told "skk: row too big 18446744073709551615" ∷ []
 unfolding digits
 refusals_told = refl
+
+replies_told : map message_of
+    (Reply flaws.TooLong ∷ Reply (flaws.Ended 0) ∷ Reply (flaws.Ended 4194303) ∷ Reply flaws.Refused
+    ∷ Reply (flaws.Bad 0) ∷ Reply (flaws.Bad 12) ∷ [])
+    ≡ told "skk: reply too long" ∷ told "skk: reply ended at 0" ∷ told "skk: reply ended at 4194303"
+    ∷ told "skk: reply refused" ∷ told "skk: reply bad at 0" ∷ told "skk: reply bad at 12" ∷ []
+unfolding digits
+replies_told = refl
+
+reply_statuses : map status_of (Reply flaws.TooLong ∷ Reply (flaws.Ended 5) ∷ Reply flaws.Refused ∷ Reply (flaws.Bad 1)
+    ∷ []) ≡ 9 ∷ 9 ∷ 9 ∷ 9 ∷ []
+reply_statuses = refl
+
+unanswered : map fault_of_asking
+    (asks.LinkFault ∷ asks.TooLong ∷ asks.Ended 5 ∷ asks.Refused ∷ asks.BadReply 1 ∷ asks.Memory ∷ [])
+    ≡ Outside ∷ Reply flaws.TooLong ∷ Reply (flaws.Ended 5) ∷ Reply flaws.Refused ∷ Reply (flaws.Bad 1) ∷ Memory ∷ []
+unanswered = refl
 
 -- what a run's calls came to, with a refusal for the disk, for memory and for a full file
 abbrev came_to : Bool → Bool → Bool → Tally

@@ -22,7 +22,11 @@ use Rattle.run_endings.specs.declared.run_file.Flaw.TheVariants.{TooLong, Byte, 
 use Rattle.run_endings.specs.declared.fault.RunFault.{RunFault}
 use Rattle.run_endings.specs.declared.fault.RunFault.TheVariants.{Words, Refused, NotJournal, BadRecord}
 use Rattle.run_endings.specs.declared.fault.RunFault.TheVariants.{RowTooBig, Outside, Memory}
-use Rattle.run_endings.specs.declared.fault.RunFault.TheVariants.{JournalFull}
+use Rattle.run_endings.specs.declared.fault.RunFault.TheVariants.{JournalFull, Reply}
+use Rattle.run_endings.specs.declared.reply_flaw.ReplyFlaw.{ReplyFlaw}
+use Rattle.run_endings.specs.declared.reply_flaw.ReplyFlaw.TheVariants as flaws
+use Rattle.skkserv_client.specs.declared.told.AskFault.{AskFault}
+use Rattle.skkserv_client.specs.declared.told.AskFault.TheVariants as asks
 
 -- how a run ends: done, or with a fault
 abbrev pub Ended : Type 0
@@ -44,6 +48,7 @@ status_of (RowTooBig bytes) = 3
 status_of Outside = 4
 status_of Memory = 6
 status_of JournalFull = 7
+status_of (Reply flaw) = 9
 
 -- the status of a run by how it ends
 abbrev pub run_status : Ended → ℕ
@@ -79,6 +84,13 @@ flaw_words (Line number) = codes "line " ++ decimal number
 abbrev pub learned_words : ℕ → List ℕ
 learned_words file = if file == 0 then codes "learned file " else codes "learned file 2 "
 
+-- the words of what is wrong with the reply of a server
+abbrev pub reply_words : ReplyFlaw → List ℕ
+reply_words flaws.TooLong = codes "reply too long"
+reply_words (flaws.Ended read) = codes "reply ended at " ++ decimal read
+reply_words flaws.Refused = codes "reply refused"
+reply_words (flaws.Bad at) = codes "reply bad at " ++ decimal at
+
 -- the words of a fault
 abbrev pub fault_words : RunFault → List ℕ
 fault_words Words = codes "words"
@@ -89,6 +101,7 @@ fault_words (RowTooBig bytes) = codes "row too big " ++ decimal bytes
 fault_words Outside = codes "outside"
 fault_words Memory = codes "memory"
 fault_words JournalFull = codes "journal full"
+fault_words (Reply flaw) = reply_words flaw
 
 -- the line of a fault on standard error, with its LF
 abbrev pub message_of : RunFault → List ℕ
@@ -127,3 +140,12 @@ fault_of_opening opening.Disk = Outside
 fault_of_opening (opening.NotJournal file first) = NotJournal file first
 fault_of_opening (opening.BadRecord file at version before) = BadRecord file at
 fault_of_opening opening.Memory = Memory
+
+-- what it is for the run that a server told nothing
+abbrev pub fault_of_asking : AskFault → RunFault
+fault_of_asking asks.LinkFault = Outside
+fault_of_asking asks.TooLong = Reply flaws.TooLong
+fault_of_asking (asks.Ended read) = Reply (flaws.Ended read)
+fault_of_asking asks.Refused = Reply flaws.Refused
+fault_of_asking (asks.BadReply at) = Reply (flaws.Bad at)
+fault_of_asking asks.Memory = Memory

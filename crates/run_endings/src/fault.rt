@@ -4,16 +4,18 @@ ghost use Rattle.skk_outside.specs.Moved.{moved_sink};
 ghost use Rattle.run_endings.specs.Finishes.{finish_of};
 ghost use Rattle.run_endings.specs.Page.{Writes};
 ghost use Rattle.run_endings.specs.Status.{run_status, run_message, Tells, file_words, flaw_words};
-ghost use Rattle.run_endings.specs.Status.{learned_words, fault_words, message_of};
+ghost use Rattle.run_endings.specs.Status.{learned_words, fault_words, message_of, reply_words};
 
 use crate::finish::{Finish, Run};
 use crate::page::write;
+use crate::reply_flaw::ReplyFlaw;
 use crate::run_file::{Flaw, RunFile};
 use itoa::Buffer;
 use key_scripts::ScriptFault;
 use skk_journal::OpenFault;
 use skk_outside::{Failed, Sink};
 use skk_text::Memory;
+use skkserv_client::AskFault;
 
 /// Why a run was not done.
 #[derive(Clone, Copy, Debug, PartialEq, Eq)]
@@ -36,6 +38,8 @@ pub enum RunFault {
     Memory,
     /// All was done but a change that no learned file had room for.
     JournalFull,
+    /// A server told nothing: what is wrong with its reply.
+    Reply(ReplyFlaw),
 }
 
 /// Ends a run: tells its fault on `err`, and answers the status to exit with beside how it ended, its chronicle and its
@@ -90,6 +94,7 @@ impl RunFault {
             RunFault::Outside => 4,
             RunFault::Memory => 6,
             RunFault::JournalFull => 7,
+            RunFault::Reply(_) => 9,
         }
     }
 
@@ -124,6 +129,7 @@ impl RunFault {
             RunFault::Outside => write(err, b"outside"),
             RunFault::Memory => write(err, b"memory"),
             RunFault::JournalFull => write(err, b"journal full"),
+            RunFault::Reply(flaw) => tell_reply(flaw, err),
         }
     }
 }
@@ -188,6 +194,18 @@ fn tell_flaw<E: Sink>(flaw: Flaw, err: &mut E) -> Result<(), Failed>
     }
 }
 
+// Writes the words of what is wrong with a reply.
+fn tell_reply<E: Sink>(flaw: ReplyFlaw, err: &mut E) -> Result<(), Failed>
+    ensures { Writes (reply_words flaw) result (moved_sink E.Outside err.old err.new) }
+{
+    match flaw {
+        ReplyFlaw::TooLong => write(err, b"reply too long"),
+        ReplyFlaw::Ended { read } => write_numbered(err, b"reply ended at ", read),
+        ReplyFlaw::Refused => write(err, b"reply refused"),
+        ReplyFlaw::Bad { at } => write_numbered(err, b"reply bad at ", at),
+    }
+}
+
 /// Writes bytes, and behind them a number in decimal.
 pub fn write_numbered<E: Sink>(err: &mut E, before: &[u8], number: u64) -> Result<(), Failed>
     ensures { Writes (before.now ++ decimal number) result (moved_sink E.Outside err.old err.new) }
@@ -247,6 +265,24 @@ impl From<OpenFault> for RunFault {
             OpenFault::NotJournal { file, first } => RunFault::NotJournal { file, first },
             OpenFault::BadRecord { file, at, .. } => RunFault::BadRecord { file, at },
             OpenFault::Memory => RunFault::Memory,
+        }
+    }
+}
+
+impl From<AskFault> for RunFault {
+    ghost use Rattle.std.specs.Prelude.{◌≡◌};
+    ghost use Rattle.run_endings.specs.Status.{fault_of_asking};
+
+    ghost from_gives = { λ fault told. told ≡ fault_of_asking fault };
+
+    fn from(fault: AskFault) -> RunFault {
+        match fault {
+            AskFault::LinkFault => RunFault::Outside,
+            AskFault::TooLong => RunFault::Reply(ReplyFlaw::TooLong),
+            AskFault::Ended { read } => RunFault::Reply(ReplyFlaw::Ended { read }),
+            AskFault::Refused => RunFault::Reply(ReplyFlaw::Refused),
+            AskFault::BadReply { at } => RunFault::Reply(ReplyFlaw::Bad { at }),
+            AskFault::Memory => RunFault::Memory,
         }
     }
 }
