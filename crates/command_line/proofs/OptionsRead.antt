@@ -35,7 +35,7 @@ use Rattle.command_line.specs.declared.argument.Takes.{Takes}
 use Rattle.command_line.specs.declared.argument.Takes.TheVariants.{Nothing, Name, Number, Books}
 use Rattle.command_line.specs.declared.command_name.CommandName.{CommandName}
 use Rattle.command_line.specs.declared.command_name.CommandName.TheVariants.{TypeScript, Serve, Check, Dump, Share}
-use Rattle.command_line.specs.declared.command_name.CommandName.TheVariants.{Load}
+use Rattle.command_line.specs.declared.command_name.CommandName.TheVariants.{Load, Ask}
 use Rattle.command_line.specs.declared.setting.Setting.{Setting}
 use Rattle.command_line.specs.declared.setting.Value.{Value}
 use Rattle.command_line.proofs.OptionCounts.{settings_taken}
@@ -107,6 +107,15 @@ known Load options = record {
   few = λ number. grind (arith, nat_tests);
   options = ((search, omega arith), ((search, omega arith), ((search, omega arith), ((search, omega arith), tt))));
   absent = (refl, (refl, (refl, (refl, tt))));
+}
+known Ask options = record {
+  simple = refl;
+  rules = refl;
+  free = refl;
+  defaults = refl;
+  few = λ number. grind (arith, nat_tests);
+  options = ((search, omega arith), ((search, omega arith), ((search, omega arith), tt)));
+  absent = (refl, (refl, (refl, tt)));
 }
 
 -- the rows at the end, and the row of an argument there

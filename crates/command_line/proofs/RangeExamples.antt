@@ -1,9 +1,11 @@
 -- Numbers on both sides of the ends of their ranges.
-use Rattle.std.proofs.Common.{◌≡◌, ◌^◌, ◌-◌, ℕ, Some, None, [], ◌∷◌, codes, refl, arith}
+use Rattle.std.proofs.Common.{◌≡◌, ◌^◌, ◌-◌, ℕ, Some, None, List, [], ◌∷◌, codes, refl, arith}
+use lib.Utf8.{encode}
 use Rattle.command_line.specs.Ranges.{HasNumbersInRange}
 use Rattle.command_line.specs.declared.command.Command.{Command}
 use Rattle.command_line.specs.declared.command.Command.TheVariants.{Alone, Waiting}
 use Rattle.command_line.specs.declared.command.AloneCommand.TheVariants as alone
+use Rattle.command_line.specs.declared.command.Question.TheVariants.{Look}
 use Rattle.command_line.specs.declared.command.WaitingCommand.TheVariants as waiting
 
 -- commands with these numbers, and nothing else given
@@ -29,6 +31,9 @@ dumping book = Alone (alone.Dump (record { learned = codes "L"; book = book }))
 abbrev sharing : ℕ → ℕ → Command
 sharing typist limit =
     Alone (alone.Share (record { learned = codes "L"; typist = typist; books = 0 ∷ []; limit = Some limit }))
+
+abbrev asking : ℕ → List ℕ → Command
+asking port reading = Waiting (waiting.Ask (record { port = port; question = Look reading }))
 
 abbrev loading : ℕ → ℕ → ℕ → Command
 loading seed sessions lines = Alone (alone.Load (record { seed = seed; sessions = sessions; lines = lines }))
@@ -76,6 +81,16 @@ sharing_outside :
     (HasNumbersInRange (sharing 65536 64) → ⊥) × (HasNumbersInRange (sharing 0 63) → ⊥)
     × (HasNumbersInRange (sharing 0 268435457) → ⊥)
 sharing_outside = (λ h. omega (arith, h.0), λ h. omega (arith, h.1.0), λ h. omega (arith, h.1.1))
+
+asking_within : HasNumbersInRange (asking 1 (codes "a")) × HasNumbersInRange (asking 65535 (codes "か"))
+unfolding encode
+asking_within = (((omega arith, omega arith), refl), ((omega arith, omega arith), refl))
+
+asking_outside :
+    (HasNumbersInRange (asking 0 (codes "a")) → ⊥) × (HasNumbersInRange (asking 65536 (codes "a")) → ⊥)
+    × (HasNumbersInRange (asking 1 (codes "a b")) → ⊥) × (HasNumbersInRange (asking 1 []) → ⊥)
+unfolding encode
+asking_outside = (λ h. omega (arith, h.0.0), λ h. omega (arith, h.0.1), λ h. cc (h.1), λ h. cc (h.1))
 
 loading_outside :
     (HasNumbersInRange (loading (2 ^ 64) 1 1) → ⊥) × (HasNumbersInRange (loading 0 0 1) → ⊥)

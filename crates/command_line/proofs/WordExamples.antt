@@ -2,6 +2,7 @@
 use Rattle.std.proofs.Common.{◌≡◌, ◌==◌, ℕ, Bool, true, false, if◌then◌else◌, Option, None, Some, is_some, List, []}
 use Rattle.std.proofs.Common.{◌∷◌, ◌++◌, refl, map, codes, length, replicate, zero, suc}
 use Prim.Native.String.{String}
+use lib.Utf8.{encode}
 use Rattle.std.specs.Fmt.{digits}
 use Rattle.std.specs.List.{filter}
 use Rattle.std.specs.Option.{option_and_then, option_map}
@@ -9,12 +10,15 @@ use Rattle.command_line.specs.Arguments.{name_at, place}
 use Rattle.command_line.specs.Command.{command_of, learned_of, limit_of}
 use Rattle.command_line.specs.OptionWords.{option_app, settings_asked}
 use Rattle.skk_text.specs.Lines.{with_first}
-use Rattle.command_line.specs.Words.{is_name, number_within, books_listed, cut, parts_of, with_commas}
+use Rattle.command_line.specs.Words.{can_be_asked, is_askable, is_name, number_within, books_listed, cut, parts_of}
+use Rattle.command_line.specs.Words.{with_commas}
 use Rattle.command_line.specs.declared.argument.Argument.TheVariants.{File, Dictionary, Limit, Seed, Threads}
 use Rattle.command_line.specs.declared.command.AloneCommand.TheVariants as alone
 use Rattle.command_line.specs.declared.command.Command.{Command}
 use Rattle.command_line.specs.declared.command.Command.TheVariants.{Alone, Waiting}
 use Rattle.command_line.specs.declared.command.LoadOptions.{LoadOptions}
+use Rattle.command_line.specs.declared.command.Question.{Question}
+use Rattle.command_line.specs.declared.command.Question.TheVariants as questions
 use Rattle.command_line.specs.declared.command.TypeOptions.{TypeOptions}
 use Rattle.command_line.specs.declared.command.WaitingCommand.TheVariants as waiting
 use Rattle.command_line.specs.declared.command_name.CommandName.TheVariants as titles
@@ -114,6 +118,39 @@ load_words : map read ("load --seed 0 --sessions 1 --lines 1"
     ≡ load_with 0 1 1 false ∷ load_with 18446744073709551615 64 20000 true ∷ []
 unfolding digits
 load_words = refl
+
+-- a server is asked for one thing
+abbrev ask_with : ℕ → Question → Option Command
+ask_with port question = Some (Waiting (waiting.Ask (record { port = port; question = question })))
+
+ask_words : map read ("ask --port 1178 --look かんじ" ∷ "ask --complete=か --port=1" ∷ "ask --look / --port 65535"
+    ∷ "ask --port 2 --complete ask" ∷ [])
+    ≡ ask_with 1178 (questions.Look (codes "かんじ")) ∷ ask_with 1 (questions.Complete (codes "か"))
+    ∷ ask_with 65535 (questions.Look (codes "/")) ∷ ask_with 2 (questions.Complete (codes "ask")) ∷ []
+unfolding digits encode
+ask_words = refl
+
+no_ask : taken ("ask" ∷ "ask --port 1" ∷ "ask --look a" ∷ "ask --complete a" ∷ "ask a" ∷ "ask --port 1 --look"
+    ∷ "ask --port 1 --look a --complete b" ∷ "ask --port 1 --look a --look a" ∷ "ask --port 1 --complete a --complete a"
+    ∷ "ask --port 1 --port 1 --look a" ∷ "ask --port 0 --look a" ∷ "ask --port 65536 --look a" ∷ "ask --port 1 --look="
+    ∷ "ask --port 1 --look -a" ∷ "ask --port 1 --complete=-" ∷ "ask --port 1 --look a b"
+    ∷ "ask --port 1 --look a --dict d" ∷ "ask --port 1 --look a --learned l" ∷ "ask --port 1 --look a --threads"
+    ∷ "serve --learned a --look a" ∷ "type --complete a" ∷ [])
+    ≡ []
+unfolding digits encode
+no_ask = refl
+
+-- what is asked for has 1 to 255 bytes, of which none is a space, CR or LF
+askable : map is_askable
+    (codes "a" ∷ codes "か a" ∷ (97 ∷ 9 ∷ []) ∷ (97 ∷ 13 ∷ []) ∷ (10 ∷ 97 ∷ []) ∷ codes " " ∷ codes "" ∷ codes "-a"
+    ∷ replicate 255 97 ∷ replicate 256 97 ∷ replicate 85 12354 ∷ (97 ∷ replicate 85 12354) ∷ [])
+    ≡ true ∷ false ∷ true ∷ false ∷ false ∷ false ∷ false ∷ false ∷ true ∷ false ∷ true ∷ false ∷ []
+unfolding encode
+askable = refl
+
+asked_bytes : map can_be_asked ([] ∷ (32 ∷ []) ∷ (13 ∷ []) ∷ (97 ∷ 10 ∷ []) ∷ (45 ∷ []) ∷ (255 ∷ 0 ∷ []) ∷ [])
+    ≡ false ∷ false ∷ false ∷ false ∷ true ∷ true ∷ []
+asked_bytes = refl
 
 -- a value may hold a space, a `=` and a `-`, and be the name of a command
 values : map command_of ((codes "check" ∷ codes "a b" ∷ []) ∷ (codes "dump" ∷ codes "--learned= a" ∷ [])

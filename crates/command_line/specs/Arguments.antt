@@ -8,7 +8,7 @@ use Rattle.command_line.specs.Words.{is_name, number_within, books_listed}
 use Rattle.command_line.specs.declared.argument.Argument.{Argument}
 use Rattle.command_line.specs.declared.argument.Argument.TheVariants.{File, Dictionary, Rules, Learned, Limit, Port}
 use Rattle.command_line.specs.declared.argument.Argument.TheVariants.{Connections, Book, Typist, Books, Seed}
-use Rattle.command_line.specs.declared.argument.Argument.TheVariants.{Sessions, Lines, Threads}
+use Rattle.command_line.specs.declared.argument.Argument.TheVariants.{Sessions, Lines, Threads, Look, Complete}
 use Rattle.command_line.specs.declared.argument.OptionRow.{OptionRow}
 use Rattle.command_line.specs.declared.argument.Takes.{Takes}
 use Rattle.command_line.specs.declared.argument.Takes.TheVariants as takes
@@ -36,6 +36,8 @@ options =
     ∷ option "--sessions" Sessions (Number 1 64)
     ∷ option "--lines" Lines (Number 1 20000)
     ∷ option "--threads" Threads Nothing
+    ∷ option "--look" Look Name
+    ∷ option "--complete" Complete Name
     ∷ []
 
 -- the option that a word spells
@@ -65,6 +67,8 @@ place Seed = 10
 place Sessions = 11
 place Lines = 12
 place Threads = 13
+place Look = 14
+place Complete = 15
 
 -- the row of the table that gives the argument at a place
 abbrev pub row_at : ℕ → Option (List ℕ × OptionRow)

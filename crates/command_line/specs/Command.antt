@@ -1,25 +1,29 @@
 -- The commands, and the words that they are read from.
-use Rattle.std.specs.Prelude.{ℕ, if◌then◌else◌, unwrap_or, Option, None, Some, List, [], ◌∷◌}
-use Rattle.std.specs.Prelude.{codes, map}
+use Rattle.std.specs.Prelude.{ℕ, ◌+◌, ◌==◌, ◌&&◌, Bool, true, if◌then◌else◌, unwrap_or, Option, None, Some, List, []}
+use Rattle.std.specs.Prelude.{◌∷◌, codes, map}
 use Rattle.std.specs.Map.{lookup}
 use Rattle.std.specs.Option.{option_and_then, option_map, option_or}
 use Rattle.std.specs.Str.{bytes_eq}
 use Rattle.command_line.specs.Expr.{expr_of}
 use Rattle.command_line.specs.Settings.{Row, fits, settings_of, texts_of, text_given, text_of, number_given, number_or}
-use Rattle.command_line.specs.Settings.{books_of, is_given}
+use Rattle.command_line.specs.Settings.{books_of, is_given, times}
+use Rattle.command_line.specs.Words.{is_askable}
 use Rattle.command_line.specs.declared.argument.Argument.{Argument}
 use Rattle.command_line.specs.declared.argument.Argument.TheVariants.{File, Dictionary, Rules, Learned, Limit, Port}
 use Rattle.command_line.specs.declared.argument.Argument.TheVariants.{Connections, Book, Typist, Books, Seed}
-use Rattle.command_line.specs.declared.argument.Argument.TheVariants.{Sessions, Lines, Threads}
+use Rattle.command_line.specs.declared.argument.Argument.TheVariants.{Sessions, Lines, Threads, Look, Complete}
 use Rattle.command_line.specs.declared.command.Command.{Command}
 use Rattle.command_line.specs.declared.command.Command.TheVariants.{Alone, Waiting}
 use Rattle.command_line.specs.declared.command.AloneCommand.TheVariants as alone
 use Rattle.command_line.specs.declared.command.WaitingCommand.TheVariants as waiting
 use Rattle.command_line.specs.declared.command_name.CommandName.{CommandName}
 use Rattle.command_line.specs.declared.command_name.CommandName.TheVariants.{TypeScript, Serve, Check, Dump, Share}
-use Rattle.command_line.specs.declared.command_name.CommandName.TheVariants.{Load}
+use Rattle.command_line.specs.declared.command_name.CommandName.TheVariants.{Load, Ask}
+use Rattle.command_line.specs.declared.command.AskOptions.{AskOptions}
 use Rattle.command_line.specs.declared.command.DumpOptions.{DumpOptions}
 use Rattle.command_line.specs.declared.command.LoadOptions.{LoadOptions}
+use Rattle.command_line.specs.declared.command.Question.{Question}
+use Rattle.command_line.specs.declared.command.Question.TheVariants as questions
 use Rattle.command_line.specs.declared.command.ServeOptions.{ServeOptions}
 use Rattle.command_line.specs.declared.command.ShareOptions.{ShareOptions}
 use Rattle.command_line.specs.declared.command.TypeOptions.{TypeOptions}
@@ -33,10 +37,11 @@ title Check = codes "check"
 title Dump = codes "dump"
 title Share = codes "share"
 title Load = codes "load"
+title Ask = codes "ask"
 
 -- the words that name commands
 abbrev pub command_names : List (List ℕ × CommandName)
-command_names = map (λ name. (title name, name)) (TypeScript ∷ Serve ∷ Check ∷ Dump ∷ Share ∷ Load ∷ [])
+command_names = map (λ name. (title name, name)) (TypeScript ∷ Serve ∷ Check ∷ Dump ∷ Share ∷ Load ∷ Ask ∷ [])
 
 -- the command that a word names
 abbrev pub command_named : List ℕ → Option CommandName
@@ -63,6 +68,7 @@ takes Check = required File ∷ []
 takes Dump = required Learned ∷ optional Book ∷ []
 takes Share = required Learned ∷ required Typist ∷ required Books ∷ optional Limit ∷ []
 takes Load = required Seed ∷ required Sessions ∷ required Lines ∷ optional Threads ∷ []
+takes Ask = required Port ∷ optional Look ∷ optional Complete ∷ []
 
 -- the options of `type`, with what stands for those that are absent
 abbrev pub type_options : List Setting → TypeOptions
@@ -105,6 +111,27 @@ load_options settings = record {
   lines = number_or 0 Lines settings;
 }
 
+-- what a server is asked for: the candidates of a reading, where one is given, or else the readings of a prefix
+abbrev pub question_of : List Setting → Question
+question_of settings =
+    if is_given Look settings
+    then questions.Look (text_of Look settings)
+    else questions.Complete (text_of Complete settings)
+
+-- the reading or the prefix
+abbrev pub question_text : Question → List ℕ
+question_text (questions.Look reading) = reading
+question_text (questions.Complete prefix) = prefix
+
+-- the options of `ask`
+abbrev pub ask_options : List Setting → AskOptions
+ask_options settings = record { port = number_or 0 Port settings; question = question_of settings }
+
+-- whether a server is asked for one thing, and for one that it can be
+abbrev pub asks_once : List Setting → Bool
+asks_once settings =
+    times Look settings + times Complete settings == 1 && is_askable (question_text (question_of settings))
+
 -- the command with its settings: `type` and `load` wait where each session is to have a thread of its own
 abbrev pub command : CommandName → List Setting → Command
 command TypeScript settings =
@@ -119,10 +146,17 @@ command Load settings =
     if is_given Threads settings
     then Waiting (waiting.Load (load_options settings))
     else Alone (alone.Load (load_options settings))
+command Ask settings = Waiting (waiting.Ask (ask_options settings))
 
--- the command with settings, where it takes them
+-- whether settings that a command takes are enough: `ask` asks for one thing
+abbrev pub are_enough : CommandName → List Setting → Bool
+are_enough Ask settings = asks_once settings
+are_enough name settings = true
+
+-- the command with settings, where it takes them and they are enough
 abbrev pub command_with : CommandName → List Setting → Option Command
-command_with name settings = if fits (takes name) settings then Some (command name settings) else None
+command_with name settings =
+    if fits (takes name) settings && are_enough name settings then Some (command name settings) else None
 
 -- the command of settings that words are: the first names it, and it takes the settings of the rest
 abbrev pub settings_command : List (List ℕ) → Option Command
@@ -155,3 +189,4 @@ learned_of (Alone (alone.Expr options)) = None
 learned_of (Waiting (waiting.TypeScript options)) = options.learned
 learned_of (Waiting (waiting.Serve options)) = Some options.learned
 learned_of (Waiting (waiting.Load options)) = None
+learned_of (Waiting (waiting.Ask options)) = None

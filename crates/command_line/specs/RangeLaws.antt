@@ -1,6 +1,6 @@
 -- The numbers of commands lie in their ranges.
 use Rattle.std.proofs.Common.{◌≡◌, ◌≢◌, ◌≤◌, sym, subst, refl, ℕ, true, false, cond}
-use Rattle.std.proofs.Common.{Option, Some, None, List, [], ◌∷◌, arith, nat_le}
+use Rattle.std.proofs.Common.{◌+◌, ◌==◌, ◌&&◌, Option, Some, None, List, [], ◌∷◌, arith, nat_le}
 use Rattle.std.specs.List.{AllByRecursion}
 use Rattle.std.specs.Option.{IfSome, option_and_then, unwrap_or}
 use Rattle.std.proofs.lemmas.Bool.{cond_both, and_parts, leb-true, eqb-true}
@@ -8,7 +8,7 @@ use Rattle.std.proofs.lemmas.List.Sums.{sum_by-cons}
 use Rattle.std.proofs.lemmas.Option.{IfSome_then}
 use Rattle.command_line.specs.Arguments.{place, takes_at}
 use Rattle.command_line.specs.Command.{takes, required, command, command_with, command_named, settings_command}
-use Rattle.command_line.specs.Command.{load_options}
+use Rattle.command_line.specs.Command.{are_enough, load_options}
 use Rattle.command_line.specs.OptionLaws.{IfSome-all, IfSome-and_then, IfSome-if}
 use Rattle.command_line.specs.Ranges.{LiesFrom, IsLoadInRange, HasNumbersInRange}
 use Rattle.command_line.specs.Settings.{takes_value}
@@ -18,14 +18,14 @@ use Rattle.command_line.specs.Settings.{settings_of, is_of, times, number_in, va
 use Rattle.command_line.specs.Settings.{number_given, number_or, is_given, is_within, fits}
 use Rattle.command_line.specs.declared.argument.Argument.{Argument}
 use Rattle.command_line.specs.declared.argument.Argument.TheVariants.{Limit, Port, Connections, Book, Typist}
-use Rattle.command_line.specs.declared.argument.Argument.TheVariants.{Seed, Sessions, Lines, Threads}
+use Rattle.command_line.specs.declared.argument.Argument.TheVariants.{Seed, Sessions, Lines, Threads, Look, Complete}
 use Rattle.command_line.specs.declared.argument.Takes.{Takes}
 use Rattle.command_line.specs.declared.argument.Takes.TheVariants as takes
 use Rattle.command_line.specs.declared.argument.Takes.TheVariants.{Nothing, Name, Number}
 use Rattle.command_line.specs.declared.command.Command.{Command}
 use Rattle.command_line.specs.declared.command_name.CommandName.{CommandName}
 use Rattle.command_line.specs.declared.command_name.CommandName.TheVariants.{TypeScript, Serve, Check, Dump, Share}
-use Rattle.command_line.specs.declared.command_name.CommandName.TheVariants.{Load}
+use Rattle.command_line.specs.declared.command_name.CommandName.TheVariants.{Load, Ask}
 use Rattle.command_line.specs.declared.setting.Setting.{Setting}
 use Rattle.command_line.specs.declared.setting.Value.{Value}
 use Rattle.command_line.specs.declared.setting.Value.TheVariants as values
@@ -137,24 +137,29 @@ load-in_range settings given fit =
 
 -- a command with the settings that it takes
 in_range : (name : CommandName) (settings : List Setting) → AreGiven settings → fits (takes name) settings ≡ true
-    → HasNumbersInRange (command name settings)
-in_range TypeScript settings given fit =
+    → are_enough name settings ≡ true → HasNumbersInRange (command name settings)
+in_range TypeScript settings given fit enough =
     let limit = given-lies Limit 64 268435456 settings given refl in
     cond_both (is_given Threads settings) _ _ HasNumbersInRange (λ e. limit) (λ e. limit)
-in_range Serve settings given fit = (
+in_range Serve settings given fit enough = (
   given-lies Limit 64 268435456 settings given refl,
   lies-in Port 1 65535 1178 settings given refl (λ e. (omega arith, omega arith)),
   lies-in Connections 1 1000000 1000000 settings given refl (λ e. (omega arith, omega arith)),
 )
-in_range Check settings given fit = tt
-in_range Dump settings given fit = (lies-in Book 0 65535 0 settings given refl (λ e. (omega arith, omega arith))).1
-in_range Share settings given fit = (
+in_range Check settings given fit enough = tt
+in_range Dump settings given fit enough =
+    (lies-in Book 0 65535 0 settings given refl (λ e. (omega arith, omega arith))).1
+in_range Share settings given fit enough = (
   (lies-in Typist 0 65535 0 settings given refl (λ e. (omega arith, omega arith))).1,
   given-lies Limit 64 268435456 settings given refl,
 )
-in_range Load settings given fit =
+in_range Load settings given fit enough =
     let numbers = load-in_range settings given fit in
     cond_both (is_given Threads settings) _ _ HasNumbersInRange (λ e. numbers) (λ e. numbers)
+in_range Ask settings given fit enough = (
+  lies-in Port 1 65535 0 settings given refl (λ e. absurd (needed Port settings (grind arith) e)),
+  (and_parts (times Look settings + times Complete settings == 1) _ enough).1,
+)
 
 -- so it is with words that are a command of settings
 words-in_range : (words : List (List ℕ)) → IfSome (settings_command words) HasNumbersInRange
@@ -165,8 +170,10 @@ words-in_range (word ∷ words) =
     (λ name. IfSome (option_and_then (command_with name) (settings_of words)) HasNumbersInRange) (λ name.
     IfSome-and_then HasNumbersInRange (command_with name) (settings_of words)
     (IfSome_then (settings_of words) (written words) (λ settings is.
-    IfSome-if HasNumbersInRange (fits (takes name) settings) (command name settings)
-    (in_range name settings (are-given is))))))
+    IfSome-if HasNumbersInRange (fits (takes name) settings && are_enough name settings) (command name settings)
+    (λ e.
+    let parts = and_parts (fits (takes name) settings) (are_enough name settings) e in
+    in_range name settings (are-given is) parts.0 parts.1)))))
 
 -- whatever is read as the command of settings that words are
 pub numbers_in_range : (words : List (List ℕ)) (read : Option Command) → read ≡ settings_command words

@@ -1,5 +1,7 @@
 -- The ranges in which the numbers of commands lie.
-use Rattle.std.specs.Prelude.{⊤, ◌≤◌, ◌<◌, ◌^◌, ℕ, Option, IfSome}
+use Rattle.std.specs.Prelude.{⊤, ◌≡◌, ◌≤◌, ◌<◌, ◌^◌, ℕ, true, Option, IfSome}
+use Rattle.command_line.specs.Command.{question_text}
+use Rattle.command_line.specs.Words.{is_askable}
 use Rattle.command_line.specs.declared.command.AloneCommand.{AloneCommand}
 use Rattle.command_line.specs.declared.command.AloneCommand.TheVariants as alone
 use Rattle.command_line.specs.declared.command.Command.{Command}
@@ -30,12 +32,14 @@ IsAloneInRange (alone.Share options) = (options.typist ≤ 65535) × IsLimitInRa
 IsAloneInRange (alone.Load options) = IsLoadInRange options
 IsAloneInRange (alone.Expr options) = ⊤
 
--- each number of a command that may wait lies in its range
+-- each number of a command that may wait lies in its range, and what a server is asked for can be asked
 abbrev pub IsWaitingInRange : WaitingCommand → Type 0
 IsWaitingInRange (waiting.TypeScript options) = IsLimitInRange options.limit
 IsWaitingInRange (waiting.Serve options) =
     IsLimitInRange options.limit × LiesFrom 1 65535 options.port × LiesFrom 1 1000000 options.connections
 IsWaitingInRange (waiting.Load options) = IsLoadInRange options
+IsWaitingInRange (waiting.Ask options) =
+    LiesFrom 1 65535 options.port × (is_askable (question_text options.question) ≡ true)
 
 -- each number of a command lies in its range
 abbrev pub HasNumbersInRange : Command → Type 0

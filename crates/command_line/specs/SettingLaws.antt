@@ -43,8 +43,19 @@ IsRowOf word row = ◌≡◌ {A = Takes × List ℕ} (row.takes, word) (taken_by
 -- the row that a word spells is such
 named : (word : List ℕ) → IfSome (option_named word) (IsRowOf word)
 named word =
-    found options
-    (refl, (refl, (refl, (refl, (refl, (refl, (refl, (refl, (refl, (refl, (refl, (refl, (refl, tt)))))))))))))
+    found options (
+      refl,
+      (
+        refl,
+        (
+          refl,
+          (
+            refl,
+            (refl, (refl, (refl, (refl, (refl, (refl, (refl, (refl, (refl, (refl, (refl, tt))))))))))),
+          ),
+        ),
+      ),
+    )
   where
     found : (rows : List (List ℕ × OptionRow))
         → AllByRecursion (λ (row : List ℕ × OptionRow). IsRowOf row.0 row.1) rows

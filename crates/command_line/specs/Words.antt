@@ -1,18 +1,32 @@
--- What a word of the command line can be: a name, a number, or two parts around a `=`.
-use Rattle.std.specs.Prelude.{⊤, ◌<◌, ℕ, Bool, false, not, ◌&&◌, ◌==◌, nat_le, if◌then◌else◌, Option, Some, None, List}
-use Rattle.std.specs.Prelude.{[], ◌∷◌, ◌++◌, length, map}
+-- What a word of the command line can be: a name, what a server is asked for, a number, or two parts around a `=`.
+use Rattle.std.specs.Prelude.{⊤, ◌<◌, ℕ, Bool, false, not, ◌&&◌, ◌||◌, ◌==◌, nat_le, if◌then◌else◌, Option, Some, None}
+use Rattle.std.specs.Prelude.{List, [], ◌∷◌, ◌++◌, length, map, encode_utf8_all}
 use Rattle.std.specs.Fmt.{decimal}
+use Rattle.std.specs.List.{list_all}
 use Rattle.std.specs.Option.{option_map, option_and_then}
 use Rattle.std.specs.Str.{bytes_eq}
 use Rattle.std.specs.Str.Parse.{digits_value}
-use Rattle.skk_text.specs.Characters.{code}
-use Rattle.skk_text.specs.Lines.{with_first}
+use Rattle.skk_text.specs.Characters.{code, carriage_return}
+use Rattle.skk_text.specs.Lines.{line_feed, with_first}
 use Rattle.skk_calls.specs.BookLists.{book_limit, is_book_list}
 
 -- whether a word may be a file's name: it is not empty and does not begin with `-`
 abbrev pub is_name : List ℕ → Bool
 is_name [] = false
 is_name (first ∷ rest) = not (first == code "-")
+
+-- a byte ends what a server is asked for: a space, CR or LF
+abbrev pub ends_asked : ℕ → Bool
+ends_asked byte = byte == code " " || (byte == carriage_return || byte == line_feed)
+
+-- whether bytes can be asked of a server: they are 1 to 255, and none of them ends what is asked
+abbrev pub can_be_asked : List ℕ → Bool
+can_be_asked bytes =
+    nat_le 1 (length bytes) && (nat_le (length bytes) 255 && list_all (λ byte. not (ends_asked byte)) bytes)
+
+-- whether a word is what a server can be asked for: it may be a name, and its bytes can be asked
+abbrev pub is_askable : List ℕ → Bool
+is_askable word = is_name word && can_be_asked (encode_utf8_all word)
 
 -- the number that a word writes in decimal, without a sign and without leading zeros, where it is within the bounds
 abbrev pub number_within : ℕ → ℕ → List ℕ → Option ℕ

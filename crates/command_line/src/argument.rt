@@ -19,7 +19,7 @@ pub enum Argument {
     Learned,
     /// The most bytes of each file of the learned dictionary.
     Limit,
-    /// The port that is served.
+    /// The port that is served, or asked.
     Port,
     /// How many connections are served.
     Connections,
@@ -37,6 +37,10 @@ pub enum Argument {
     Lines,
     /// That sessions have threads of their own.
     Threads,
+    /// A reading of which a server is asked for the candidates.
+    Look,
+    /// A prefix of which a server is asked for the readings.
+    Complete,
 }
 
 /// What an option takes.
@@ -44,7 +48,7 @@ pub enum Argument {
 pub enum Takes {
     /// No value.
     Nothing,
-    /// The name of a file.
+    /// The name of a file, or what a server is asked for.
     Name,
     /// A number, from the first to the second.
     Number(u64, u64),
@@ -77,6 +81,8 @@ pub fn option_named(word: &Word) -> Option<OptionRow>
         "--sessions" => (Argument::Sessions, Takes::Number(1, 64)),
         "--lines" => (Argument::Lines, Takes::Number(1, 20_000)),
         "--threads" => (Argument::Threads, Takes::Nothing),
+        "--look" => (Argument::Look, Takes::Name),
+        "--complete" => (Argument::Complete, Takes::Name),
         _ => return None,
     };
     Some(OptionRow { argument, takes })
@@ -102,6 +108,8 @@ impl Argument {
             Argument::Sessions => "sessions",
             Argument::Lines => "lines",
             Argument::Threads => "threads",
+            Argument::Look => "look",
+            Argument::Complete => "complete",
         }
     }
 

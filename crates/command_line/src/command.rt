@@ -1,5 +1,6 @@
 ghost use Rattle.std.specs.Prelude.{◌≡◌, ◌<◌, MatchOption};
 ghost use Rattle.command_line.specs.Command.{type_options, serve_options, share_options, learned_of, limit_of};
+ghost use Rattle.command_line.specs.Command.{ask_options, asks_once, question_of, question_text};
 ghost use Rattle.command_line.specs.Settings.{times};
 ghost use Rattle.command_line.specs.declared.argument.Argument.TheVariants.{Dictionary};
 
@@ -54,6 +55,8 @@ pub enum WaitingCommand<'a> {
     Serve(ServeOptions<'a>),
     /// To type what is drawn, with a thread for each session.
     Load(LoadOptions),
+    /// To ask a server.
+    Ask(AskOptions<'a>),
 }
 
 impl<'a> Command<'a> {
@@ -70,7 +73,8 @@ impl<'a> Command<'a> {
             Command::Alone(AloneCommand::Check(_))
             | Command::Alone(AloneCommand::Load(_))
             | Command::Alone(AloneCommand::Expr(_))
-            | Command::Waiting(WaitingCommand::Load(_)) => None,
+            | Command::Waiting(WaitingCommand::Load(_))
+            | Command::Waiting(WaitingCommand::Ask(_)) => None,
         }
     }
 }
@@ -211,4 +215,65 @@ pub struct LoadOptions {
     pub sessions: u64,
     /// How many lines each session has, from 1 to 20,000.
     pub lines: u64,
+}
+
+/// What a server is asked for.
+#[derive(Drop)]
+pub enum Question<'a> {
+    /// The candidates of a reading.
+    Look(Word<'a>),
+    /// The readings that go on from a prefix.
+    Complete(Word<'a>),
+}
+
+impl<'a> Question<'a> {
+    // What settings ask for: candidates where a reading is given, and else readings.
+    fn of(settings: &Settings<'a>) -> Question<'a>
+        ensures { result ≡ question_of settings.now }
+    {
+        if settings.is_given(Argument::Look) {
+            Question::Look(settings.text(Argument::Look))
+        } else {
+            Question::Complete(settings.text(Argument::Complete))
+        }
+    }
+
+    /// The reading or the prefix.
+    pub fn text(&self) -> &Word<'a>
+        ensures { result.now ≡ question_text self.now }
+    {
+        match self {
+            Question::Look(reading) => reading,
+            Question::Complete(prefix) => prefix,
+        }
+    }
+}
+
+/// The options of `ask`.
+#[derive(Drop)]
+pub struct AskOptions<'a> {
+    /// The port, from 1 to 65,535.
+    pub port: u64,
+    /// What the server is asked for: 1 to 255 bytes, none of which is a space, CR or LF.
+    pub question: Question<'a>,
+}
+
+impl<'a> AskOptions<'a> {
+    /// The options that settings give.
+    pub fn of(settings: &Settings<'a>) -> AskOptions<'a>
+        ensures { result ≡ ask_options settings.now }
+    {
+        AskOptions {
+            port: settings.number_or(0, Argument::Port),
+            question: Question::of(settings),
+        }
+    }
+}
+
+/// Whether settings ask a server for one thing, and for one that it can be asked for.
+pub fn asks_once(settings: &Settings) -> bool
+    ensures { result ≡ asks_once settings.now }
+{
+    settings.times(Argument::Look) + settings.times(Argument::Complete) == 1
+        && Question::of(settings).text().is_askable()
 }

@@ -14,6 +14,7 @@ pub enum CommandName {
     Dump,
     Share,
     Load,
+    Ask,
 }
 
 // What each command takes: the arguments, with the least and the most times that each is given.
@@ -55,6 +56,12 @@ static LOAD_TAKES: [(Argument, usize, usize); 4] = [
     (Argument::Threads, 0, 1),
 ];
 
+static ASK_TAKES: [(Argument, usize, usize); 3] = [
+    (Argument::Port, 1, 1),
+    (Argument::Look, 0, 1),
+    (Argument::Complete, 0, 1),
+];
+
 /// The command that a word names.
 pub fn command_named(word: &Word) -> Option<CommandName>
     ensures { result ≡ command_named word.now }
@@ -66,6 +73,7 @@ pub fn command_named(word: &Word) -> Option<CommandName>
         "dump" => Some(CommandName::Dump),
         "share" => Some(CommandName::Share),
         "load" => Some(CommandName::Load),
+        "ask" => Some(CommandName::Ask),
         _ => None,
     }
 }
@@ -82,6 +90,7 @@ impl CommandName {
             CommandName::Dump => "dump",
             CommandName::Share => "share",
             CommandName::Load => "load",
+            CommandName::Ask => "ask",
         }
     }
 
@@ -97,6 +106,7 @@ impl CommandName {
             CommandName::Dump => &DUMP_TAKES,
             CommandName::Share => &SHARE_TAKES,
             CommandName::Load => &LOAD_TAKES,
+            CommandName::Ask => &ASK_TAKES,
         }
     }
 }

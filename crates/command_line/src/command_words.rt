@@ -1,12 +1,14 @@
 ghost use Rattle.std.specs.Prelude.{◌≡◌, true, Some, None, IfOk, IfSome, IsSome, MatchOption, OnErr};
-ghost use Rattle.command_line.specs.Command.{command, command_of, expr_command, load_options, settings_command, takes};
+ghost use Rattle.command_line.specs.Command.{are_enough, command, command_of, expr_command, load_options};
+ghost use Rattle.command_line.specs.Command.{settings_command, takes};
 ghost use Rattle.command_line.specs.OptionWords.{settings_asked};
 ghost use Rattle.command_line.specs.Ranges.{HasNumbersInRange};
 ghost use Rattle.command_line.specs.Settings.{fits};
 
 use crate::argument::Argument;
 use crate::command::{
-    AloneCommand, Command, LoadOptions, ServeOptions, ShareOptions, TypeOptions, WaitingCommand,
+    AloneCommand, AskOptions, Command, LoadOptions, ServeOptions, ShareOptions, TypeOptions,
+    WaitingCommand, asks_once,
 };
 use crate::command_name::{CommandName, command_named};
 use crate::expr_words::read_expr;
@@ -41,6 +43,9 @@ pub fn read_command<'a>(alloc: Global, words: &'a [Word<'a>]) -> Result<Option<C
             &settings,
         ))))),
         CommandName::Load => Ok(Some(load_command(&settings, load_options(alloc, words)?))),
+        CommandName::Ask => Ok(Some(Command::Waiting(WaitingCommand::Ask(AskOptions::of(
+            &settings,
+        ))))),
     }
 }
 
@@ -53,7 +58,7 @@ fn name_and_settings<'a>(words: &'a [Word<'a>]) -> Option<(CommandName, Settings
     let (first, rest) = words.split_first()?;
     let name = command_named(first)?;
     let settings = read_settings(rest)?;
-    if settings.fits(name.takes()) {
+    if settings.fits(name.takes()) && are_enough(name, &settings) {
         Some((name, settings))
     } else {
         None
@@ -71,6 +76,13 @@ fn expr_command<'a>(words: &'a [Word<'a>]) -> Option<Command<'a>>
     }
     let options = read_expr(rest)?;
     Some(Command::Alone(AloneCommand::Expr(options)))
+}
+
+// Whether settings that a command takes are enough for it.
+fn are_enough(name: CommandName, settings: &Settings) -> bool
+    ensures { result ≡ are_enough name settings.now }
+{
+    name != CommandName::Ask || asks_once(settings)
 }
 
 // The command `type` with its settings.

@@ -1,7 +1,9 @@
-ghost use Rattle.std.specs.Prelude.{◌≡◌, ◌<◌, [], Some, None, IfOk, MatchOption, encode_utf8_all};
+ghost use Rattle.std.specs.Prelude.{◌≡◌, ◌<◌, [], not, Some, None, IfOk, MatchOption, encode_utf8_all};
+ghost use Rattle.std.specs.List.{list_all};
 ghost use Rattle.std.specs.Str.{chars};
 ghost use Rattle.skk_text.specs.Characters.{code};
-ghost use Rattle.command_line.specs.Words.{is_name, number_within, books_listed, cut};
+ghost use Rattle.command_line.specs.Words.{is_name, is_askable, can_be_asked, ends_asked};
+ghost use Rattle.command_line.specs.Words.{number_within, books_listed, cut};
 
 use crate::book_numbers::books_listed;
 use crate::number::number_within;
@@ -10,6 +12,9 @@ use skk_text::{Memory, Text};
 use std::alloc::Global;
 use std::convert::AsStr;
 use std::marker::Model;
+
+// The most bytes of what a server is asked for.
+const LONGEST_ASKED: usize = 255;
 
 /// A word, or a part of one, as it was handed in: contracts see the list of its characters. It owns nothing.
 #[derive(Drop)]
@@ -86,6 +91,14 @@ impl<'a> Word<'a> {
         is_name(self.text)
     }
 
+    /// Whether the word is what a server can be asked for: it may be a name, and has 1 to 255 bytes, none of which is a
+    /// space, CR or LF.
+    pub fn is_askable(&self) -> bool
+        ensures { result ≡ is_askable self.now }
+    {
+        self.is_name() && can_be_asked(as_it_is(self.text).as_bytes())
+    }
+
     /// The number that the word writes in decimal, without a sign and without leading zeros, where it is within the
     /// bounds.
     pub fn number_within(&self, least: u64, most: u64) -> Option<u64>
@@ -134,6 +147,20 @@ fn is_name(text: &str) -> bool
     ensures { result ≡ is_name (chars text.now) }
 {
     !text.is_empty() && !text.starts_with('-')
+}
+
+// Whether bytes can be asked of a server.
+fn can_be_asked(bytes: &[u8]) -> bool
+    ensures { result ≡ can_be_asked bytes.now }
+{
+    !bytes.is_empty() && bytes.len() <= LONGEST_ASKED && holds_no_end(bytes)
+}
+
+// Whether no byte is a space, CR or LF.
+fn holds_no_end(bytes: &[u8]) -> bool
+    ensures { result ≡ list_all (λ byte. not (ends_asked byte)) bytes.now }
+{
+    bytes.iter().all(|byte| !(*byte == b' ' || *byte == b'\r' || *byte == b'\n'))
 }
 
 /// What stands in a text before and behind the first of a character of ASCII, where the text has one.

@@ -69,6 +69,16 @@ returns-in-text-13 c =
     ap option_named
     (sym (spelled c.as_str.result.now c.args.word.now (codes "--threads") c.as_str.ensures c.in-text-13.is refl))
 
+pub returns-in-text-14 : goal.returns-in-text-14
+returns-in-text-14 c =
+    ap option_named
+    (sym (spelled c.as_str.result.now c.args.word.now (codes "--look") c.as_str.ensures c.in-text-14.is refl))
+
+pub returns-in-text-15 : goal.returns-in-text-15
+returns-in-text-15 c =
+    ap option_named
+    (sym (spelled c.as_str.result.now c.args.word.now (codes "--complete") c.as_str.ensures c.in-text-15.is refl))
+
 pub returns-in_default : goal.returns-in_default
 returns-in_default c =
     let bytes = c.as_str.result.now in
@@ -99,7 +109,16 @@ returns-in_default c =
                           not-spelled bytes word (codes "--sessions") utf8 same c.in_default.not-text-11 refl,
                           (
                             not-spelled bytes word (codes "--lines") utf8 same c.in_default.not-text-12 refl,
-                            (not-spelled bytes word (codes "--threads") utf8 same c.in_default.not-text-13 refl, tt),
+                            (
+                              not-spelled bytes word (codes "--threads") utf8 same c.in_default.not-text-13 refl,
+                              (
+                                not-spelled bytes word (codes "--look") utf8 same c.in_default.not-text-14 refl,
+                                (
+                                  not-spelled bytes word (codes "--complete") utf8 same c.in_default.not-text-15 refl,
+                                  tt,
+                                ),
+                              ),
+                            ),
                           ),
                         ),
                       ),

@@ -34,6 +34,11 @@ returns-in-load c =
     ap command_named
     (sym (spelled c.as_str.result.now c.args.word.now (codes "load") c.as_str.ensures c.in-load.is refl))
 
+pub returns-in-ask : goal.returns-in-ask
+returns-in-ask c =
+    ap command_named
+    (sym (spelled c.as_str.result.now c.args.word.now (codes "ask") c.as_str.ensures c.in-ask.is refl))
+
 pub returns-in_default : goal.returns-in_default
 returns-in_default c =
     let bytes = c.as_str.result.now in
@@ -50,7 +55,10 @@ returns-in_default c =
             not-spelled bytes word (codes "dump") utf8 same c.in_default.not-dump refl,
             (
               not-spelled bytes word (codes "share") utf8 same c.in_default.not-share refl,
-              (not-spelled bytes word (codes "load") utf8 same c.in_default.not-load refl, tt),
+              (
+                not-spelled bytes word (codes "load") utf8 same c.in_default.not-load refl,
+                (not-spelled bytes word (codes "ask") utf8 same c.in_default.not-ask refl, tt),
+              ),
             ),
           ),
         ),

@@ -4,9 +4,11 @@ use Rattle.command_line.specs.Command.{command, dump_options}
 use Rattle.command_line.specs.OptionWords.{settings_asked}
 use Rattle.command_line.specs.RangeLaws.{numbers_in_range}
 use Rattle.command_line.specs.declared.command.AloneCommand.TheVariants as alone
-use Rattle.command_line.specs.declared.command.Command.TheVariants.{Alone}
+use Rattle.command_line.specs.declared.command.Command.TheVariants.{Alone, Waiting}
+use Rattle.command_line.specs.declared.command.AskOptions.{AskOptions}
 use Rattle.command_line.specs.declared.command.DumpOptions.{DumpOptions}
 use Rattle.command_line.specs.declared.command.ShareOptions.{ShareOptions}
+use Rattle.command_line.specs.declared.command.WaitingCommand.TheVariants as waiting
 use Rattle.command_line.specs.declared.command_name.CommandName.{CommandName}
 use Rattle.command_line.proofs.command_words.read_command.Goals as goal
 
@@ -41,6 +43,13 @@ returns-in-Share-clause-ranges c =
     numbers_in_range c.args.words.now (Some (Alone (alone.Share c.of.result)))
     (ap (λ (o : ShareOptions). Some (Alone (alone.Share o))) c.of.ensures
     ∙ ap (λ (name : CommandName). Some (command name c.in-Some.settings)) (sym c.in-Share.is)
+    ∙ sym c.in-Some.ensures.0)
+
+pub returns-in-Ask-clause-ranges : goal.returns-in-Ask-clause-ranges
+returns-in-Ask-clause-ranges c =
+    numbers_in_range c.args.words.now (Some (Waiting (waiting.Ask c.of-in-Ask.result)))
+    (ap (λ (o : AskOptions). Some (Waiting (waiting.Ask o))) c.of-in-Ask.ensures
+    ∙ ap (λ (name : CommandName). Some (command name c.in-Some.settings)) (sym c.in-Ask.is)
     ∙ sym c.in-Some.ensures.0)
 
 pub returns-in_ok-load_options-in-Load-clause-ranges : goal.returns-in_ok-load_options-in-Load-clause-ranges
