@@ -12,7 +12,7 @@ _skk() {
         --books | --*[!s]) return ;;
     esac
     if [ "$COMP_CWORD" -eq 1 ]; then
-        words='type serve dump share check expr load help'
+        words='type serve dump share ask check expr load help'
     else
         case ${COMP_WORDS[1]} in
             type) words='--dict --rules --learned --limit --threads' ;;
@@ -20,6 +20,7 @@ _skk() {
             dump) words='--learned --book' ;;
             share) words='--learned --typist --books --limit' ;;
             expr) words='+ -' ;;
+            ask) words='--port --look --complete' ;;
             load) words='--seed --sessions --lines --threads' ;;
         esac
     fi

@@ -177,6 +177,7 @@ hint() {
             each_file look_for "$@"
             # The port is asked for when all files are there.
             [ "$1" != serve ] || [ -n "$found" ] || tell 'another program may have the port: --port N takes another one'
+            [ "$1" != ask ] || tell 'no server is at this port of 127.0.0.1, or it broke off the connection'
             ;;
         5) tell 'FILE and FILE.2 are as they were: FILE ("file 2" is FILE.2) is no learned file, or has a bad record' ;;
         7)
@@ -185,5 +186,6 @@ hint() {
                 *) tell 'a change had no room within --limit: what was written is whole, but not all of it was learnt' ;;
             esac
             ;;
+        9) tell 'the server is no skkserv, or answers in EUC-JP: only replies in UTF-8 are read' ;;
     esac
 }

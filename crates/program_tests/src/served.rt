@@ -16,7 +16,7 @@ use std::thread::Threads;
 pub static WORDS: &str = ";; okuri-nasi entries.\n125 /東京都葛飾区/\nかんじ /漢字/幹事;宴会の/感じ/\n";
 
 // A link: what each read of it gives, and the number of its call that is to fail.
-type Given = (&'static [&'static str], u64);
+pub type Given = (&'static [&'static str], u64);
 
 fn link_of(rt: &impl Abort, alloc: Global, given: &Given) -> MemLink {
     let (reads, fail) = *given;
@@ -24,7 +24,7 @@ fn link_of(rt: &impl Abort, alloc: Global, given: &Given) -> MemLink {
 }
 
 // A listener to which links come, and of which the call with this number is to fail.
-fn listener_of(rt: &impl Abort, alloc: Global, links: &[Given], fail: u64) -> MemListener {
+pub fn listener_of(rt: &impl Abort, alloc: Global, links: &[Given], fail: u64) -> MemListener {
     let mut coming = Vec::new(alloc);
     for given in links {
         coming.push(link_of(rt, alloc, given)).expect(rt, "memory");
@@ -89,7 +89,7 @@ fn expect_serving<
 }
 
 // Each link that came back was closed, and was written this.
-fn expect_links(rt: &impl Abort, over: &[MemLink], links: &[&str]) {
+pub fn expect_links(rt: &impl Abort, over: &[MemLink], links: &[&str]) {
     same(over.len(), links.len()).expect(rt, "as wanted");
     for (link, wanted) in over.iter().zip(links) {
         assert!(rt; link.is_closed());

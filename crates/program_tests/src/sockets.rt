@@ -1,3 +1,4 @@
+use crate::asked::expect_found;
 use crate::making::{disk, shelf_of, sink, source_of, words_of};
 use crate::runs::expect_written;
 use crate::served::WORDS;
@@ -106,10 +107,20 @@ static ASKED: [Asked; 2] = [
     ("21かんじ 0", "skk-desk-1.0 1/感じ/漢字/幹事;宴会の/\n"),
 ];
 
-fn ask_all<R: Net + Clock + Abort>(rt: &R, alloc: Global, port: u16) {
+// And then the program asks: for what it found, and for what goes on from a prefix.
+fn ask_all<R: Net<Stream: Send> + Clock + Threads + Wait + Abort + Copy + Send + Sync>(
+    rt: R,
+    alloc: Global,
+    port: u16,
+) {
     for asked in &ASKED {
-        expect_asked(rt, alloc, port, asked);
+        expect_asked(&rt, alloc, port, asked);
     }
+    let mut net = HostListener::new(&rt);
+    let look = format!(in alloc; "ask --port {port} --look かんじ").expect(&rt, "memory");
+    expect_found(rt, alloc, look.as_str(), &mut net, "感じ\n漢字\n幹事;宴会の\n");
+    let complete = format!(in alloc; "ask --port {port} --complete か").expect(&rt, "memory");
+    expect_found(rt, alloc, complete.as_str(), &mut net, "かんじ\n");
 }
 
 fn expect_asked<R: Net + Clock + Abort>(rt: &R, alloc: Global, port: u16, asked: &Asked) {
@@ -130,7 +141,7 @@ fn expect_served<N: Listener<Link: Send + Drop>, R: Threads + Wait + Abort + Cop
     net: &mut N,
 ) {
     let options = format!(in alloc;
-        "serve --learned=learned --dict=words --connections=2 --port={port}"
+        "serve --learned=learned --dict=words --connections=4 --port={port}"
     ).expect(&rt, "memory");
     let words = words_of(&rt, alloc, options.as_str());
     let mut shelf = shelf_of(&rt, alloc, WORDS.as_bytes(), 0);
@@ -151,7 +162,7 @@ fn expect_served<N: Listener<Link: Send + Drop>, R: Threads + Wait + Abort + Cop
     );
     expect_written(&rt, &err, "");
     same(status, 0).expect(&rt, "as wanted");
-    expect_written(&rt, &out, "ready\nserved 2\n");
+    expect_written(&rt, &out, "ready\nserved 4\n");
 }
 
 // The program serves at a port of loopback, and clients in a thread of the same process ask it there.
@@ -162,7 +173,7 @@ fn both_ends(rt: HostRuntime) {
     let mut net = HostListener::new(&rt);
     thread::join(
         &rt,
-        || ask_all(&rt, alloc, port),
+        || ask_all(rt, alloc, port),
         || expect_served(rt, alloc, port, &mut net),
     );
 }

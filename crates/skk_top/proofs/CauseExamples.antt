@@ -36,6 +36,8 @@ use Rattle.key_scripts.specs.Script.{Spells, IsFirstBad}
 use Rattle.key_scripts.specs.declared.line.Line as script_line
 use Rattle.key_scripts.specs.declared.line.Line.TheVariants as lines
 use Rattle.command_line.specs.declared.command.AloneCommand.TheVariants as alone
+use Rattle.command_line.specs.declared.command.AskOptions.{AskOptions}
+use Rattle.command_line.specs.declared.command.Question.TheVariants as questions
 use Rattle.command_line.specs.declared.command.Command.TheVariants.{Alone, Waiting}
 use Rattle.command_line.specs.declared.command.LoadOptions.{LoadOptions}
 use Rattle.command_line.specs.declared.command.TypeOptions.{TypeOptions}
@@ -46,7 +48,10 @@ use Rattle.run_endings.specs.declared.fault.RunFault.{RunFault}
 use Rattle.run_endings.specs.declared.fault.RunFault.TheVariants as faults
 use Rattle.run_endings.specs.declared.run_file.Flaw.TheVariants.{TooLong, Byte, Line}
 use Rattle.run_endings.specs.declared.run_file.RunFile.TheVariants.{Script, Rules, Dictionary}
-use Rattle.skk_top.specs.Causes.{CommandFiles, files_of, LackedRoom, HasRunCause}
+use Rattle.run_endings.specs.declared.reply_flaw.ReplyFlaw.TheVariants as flaws
+use Rattle.skkserv_client.specs.declared.question.Ask.TheVariants.{Look, Complete}
+use Rattle.skkserv_client.specs.Replies.{line_of, told_by, told_by_line}
+use Rattle.skk_top.specs.Causes.{CommandFiles, asked_server, files_of, LackedRoom, HasRunCause}
 use Rattle.skk_top.specs.Disks.{MovedDisk}
 use Rattle.skk_top.proofs.Dictionaries.{are_dictionaries}
 
@@ -58,6 +63,10 @@ shelf = record { file = λ name. Some name; faults = 3; faults' = 3 }
 
 abbrev input : MovedSource
 input = record { left = Some (codes "input"); left' = Some []; faults = 3; faults' = 3 }
+
+-- and a server sends this
+abbrev reply : Told
+reply = Some (codes "reply")
 
 abbrev two_names : List (List ℕ)
 two_names = codes "first" ∷ codes "second" ∷ []
@@ -71,17 +80,18 @@ typing = record {
   limit = Some 64;
 }
 
-typed : map (files_of shelf input) (Alone (alone.TypeScript typing) ∷ Waiting (waiting.TypeScript typing) ∷ [])
+typed : map (files_of shelf input reply) (Alone (alone.TypeScript typing) ∷ Waiting (waiting.TypeScript typing) ∷ [])
     ≡ replicate 2 (record {
       script = Some (Some (codes "input"));
       rules = Some (Some (codes "rules"));
       dictionaries = Some (codes "first") ∷ Some (codes "second") ∷ [];
       signs = None;
       learned = Some 64;
+      server = None;
     })
 typed = refl
 
-served : files_of shelf input (Waiting (waiting.Serve (record {
+served : files_of shelf input reply (Waiting (waiting.Serve (record {
   learned = codes "learned";
   dictionaries = record { items = two_names };
   rules = None;
@@ -94,15 +104,23 @@ served : files_of shelf input (Waiting (waiting.Serve (record {
   dictionaries = Some (codes "first") ∷ Some (codes "second") ∷ [];
   signs = None;
   learned = Some 268435456;
+  server = None;
 }
 served = refl
 
-checked : files_of shelf input (Alone (alone.Check (codes "first")))
-    ≡ record { script = None; rules = None; dictionaries = Some (codes "first") ∷ []; signs = None; learned = None }
+checked : files_of shelf input reply (Alone (alone.Check (codes "first")))
+    ≡ record {
+      script = None;
+      rules = None;
+      dictionaries = Some (codes "first") ∷ [];
+      signs = None;
+      learned = None;
+      server = None;
+    }
 checked = refl
 
 -- of dictionaries that are put together, the first has no sign
-put_together : files_of shelf input (Alone (alone.Expr (record {
+put_together : files_of shelf input reply (Alone (alone.Expr (record {
   first = codes "first";
   terms = record {
     items = record { sign = Minus; name = codes "second" } ∷ record { sign = Plus; name = codes "third" } ∷ [];
@@ -113,25 +131,40 @@ put_together : files_of shelf input (Alone (alone.Expr (record {
   dictionaries = Some (codes "first") ∷ Some (codes "second") ∷ Some (codes "third") ∷ [];
   signs = Some (Minus ∷ Plus ∷ []);
   learned = None;
+  server = None;
 }
 put_together = refl
 
 abbrev drawn : LoadOptions
 drawn = record { seed = 1; sessions = 2; lines = 3 }
 
-dumped_and_loaded : map (files_of shelf input)
+dumped_and_loaded : map (files_of shelf input reply)
     (Alone (alone.Dump (record { learned = codes "learned"; book = 0 })) ∷ Alone (alone.Load drawn)
     ∷ Waiting (waiting.Load drawn) ∷ [])
-    ≡ replicate 3 (record { script = None; rules = None; dictionaries = []; signs = None; learned = Some 268435456 })
+    ≡ replicate 3 (
+    record { script = None; rules = None; dictionaries = []; signs = None; learned = Some 268435456; server = None })
 dumped_and_loaded = refl
 
-shared : map (files_of shelf input) (map (λ limit.
+shared : map (files_of shelf input reply) (map (λ limit.
     Alone (alone.Share (record { learned = codes "learned"; typist = 1; books = 7 ∷ []; limit = limit })))
     (None ∷ Some 64 ∷ []))
     ≡ map {B = CommandFiles} (λ most.
-    record { script = None; rules = None; dictionaries = []; signs = None; learned = Some most })
+    record { script = None; rules = None; dictionaries = []; signs = None; learned = Some most; server = None })
     (268435456 ∷ 64 ∷ [])
 shared = refl
+
+abbrev asking : AskOptions
+asking = record { port = 1178; question = questions.Look (codes "か") }
+
+asked_for : map (λ question.
+    (files_of shelf input reply (Waiting (waiting.Ask (record asking { question = question })))).server)
+    (questions.Look (codes "か") ∷ questions.Complete (codes "き") ∷ [])
+    ≡ Some (Look (codes "か"), reply) ∷ Some (Complete (codes "き"), reply) ∷ []
+asked_for = refl
+
+asks_no_file : files_of shelf input reply (Waiting (waiting.Ask asking))
+    ≡ record (asked_server reply asking) { script = None; rules = None; dictionaries = []; learned = None }
+asks_no_file = refl
 
 -- Files that are refused
 
@@ -155,7 +188,8 @@ Causes files = HasRunCause files (disk no_learned) ⊥ []
 
 -- no files but a learned one of so many bytes, where there is one
 abbrev only_learned : Option ℕ → CommandFiles
-only_learned most = record { script = None; rules = None; dictionaries = []; signs = None; learned = most }
+only_learned most =
+    record { script = None; rules = None; dictionaries = []; signs = None; learned = most; server = None }
 
 -- a run of a command doesn't end since its words are none
 words : ¬ Causes (only_learned None) faults.Words
@@ -174,7 +208,7 @@ only one (first ∷ before) item behind is =
 
 -- a script
 abbrev script : List ℕ → CommandFiles
-script bytes = record { script = Some (Some bytes); rules = None; dictionaries = []; signs = None; learned = Some 64 }
+script bytes = record (only_learned (Some 64)) { script = Some (Some bytes) }
 
 -- `x` says nothing, be it keys or an opening: no number and mark are in a text of one character
 not_of_line : (number rest : List ℕ) (mark : ℕ) → codes "x" ≡ number ++ mark ∷ rest → mark ≡ 120
@@ -231,7 +265,7 @@ not_text is = let test : is_utf8 (255 ∷ []) ≡ true = is_utf8-from_IsUtf8 (25
 -- rules and dictionaries
 abbrev named : Option Told → List Told → CommandFiles
 named rules dictionaries =
-    record { script = None; rules = rules; dictionaries = dictionaries; signs = None; learned = Some 64 }
+    record { script = None; rules = rules; dictionaries = dictionaries; signs = None; learned = Some 64; server = None }
 
 -- a rule file that is no text, up to byte 0; without one none is refused
 bad_rules : Causes (named (Some (Some (255 ∷ []))) []) (faults.Refused Rules (Byte 0))
@@ -289,7 +323,8 @@ bad_dictionaries = (
 
 -- an empty dictionary comes to no row that is too big, and without signs nothing does
 abbrev put : Option (List Sign) → CommandFiles
-put signs = record { script = None; rules = None; dictionaries = Some [] ∷ []; signs = signs; learned = None }
+put signs =
+    record { script = None; rules = None; dictionaries = Some [] ∷ []; signs = signs; learned = None; server = None }
 
 no_row_too_big : (¬ Causes (put (Some [])) (faults.RowTooBig 65536)) × (¬ Causes (put None) (faults.RowTooBig 65536))
 no_row_too_big = (none, λ is. is)
@@ -333,6 +368,28 @@ bad_records files refused = ((refl, λ tells. refused), λ is. cc (is.0), λ is.
     none (file, number, inl breaks, before) = cc (breaks.chosen)
     none (file, number, inr (inl (records, frame, opened, breaks)), before) = opened
     none (file, number, inr (inr (records, state, opened, leave)), before) = opened
+
+-- Replies
+
+-- the bytes of a reply tell its flaw, and no other one; a reply that is not told may have any, and where no server is
+-- asked none has
+flaws_of_replies : Causes (asked_server (Some (codes "9" ++ 10 ∷ [])) asking) (faults.Reply (flaws.Bad 0))
+    × (¬ Causes (asked_server (Some (codes "9" ++ 10 ∷ [])) asking) (faults.Reply (flaws.Bad 1)))
+    × Causes (asked_server (Some (codes "0" ++ 10 ∷ [])) asking) (faults.Reply flaws.Refused)
+    × Causes (asked_server (Some (codes "04")) asking) (faults.Reply (flaws.Ended 2))
+    × (¬ Causes (asked_server (Some (codes "4" ++ 10 ∷ [])) asking) (faults.Reply (flaws.Bad 0)))
+    × Causes (asked_server None asking) (faults.Reply flaws.TooLong)
+    × (¬ Causes (only_learned None) (faults.Reply flaws.TooLong))
+unfolding told_by line_of told_by_line
+flaws_of_replies = (
+  refl,
+  λ is. let at : ◌≡◌ {A = ℕ} 1 0 = cc (is) in omega (arith, at),
+  refl,
+  refl,
+  λ is. cc (is),
+  tt,
+  λ none. none,
+)
 
 -- Calls that failed, and memory
 

@@ -20,6 +20,7 @@ use Rattle.skk_calls.specs.States.{State}
 use Rattle.skk_calls.specs.Tallies.{tally_of, has_answer, lacks_disk, lacks_memory, lacks_room}
 use Rattle.skk_outside.specs.Faults.{Rose}
 use Rattle.skk_outside.specs.Moved.{Told, MovedShelf, MovedSource, MovedSink}
+use Rattle.skk_server.specs.Ends.{moved_link}
 use Rattle.skk_server.specs.Visits.{Visit}
 use Rattle.learned_store.specs.Stands.{GoOn}
 use Rattle.romaji_rules.specs.declared.rule.Rule.{Rule}
@@ -28,6 +29,7 @@ use Rattle.key_scripts.specs.declared.line.Line.{Line}
 use Rattle.command_line.specs.Command.{limit_of}
 use Rattle.command_line.specs.declared.command.AloneCommand.{AloneCommand}
 use Rattle.command_line.specs.declared.command.AloneCommand.TheVariants as alone
+use Rattle.command_line.specs.declared.command.AskOptions.{AskOptions}
 use Rattle.command_line.specs.declared.command.Command.TheVariants.{Alone, Waiting}
 use Rattle.command_line.specs.declared.command.DumpOptions.{DumpOptions}
 use Rattle.command_line.specs.declared.command.LoadOptions.{LoadOptions}
@@ -49,14 +51,16 @@ use Rattle.skk_top.specs.Causes.{CommandFiles, typed_files, served_files, checke
 use Rattle.skk_top.specs.Causes.{ComeToRowTooBig, expr_files, files_of}
 use Rattle.skk_top.specs.ShareCommand.{LeavesShared}
 use Rattle.command_line.specs.declared.command.ShareOptions.{ShareOptions}
-use Rattle.skk_top.specs.Causes.{LackedRoom, HasRunCause}
+use Rattle.skk_top.specs.AskCommand.{Dialled, DialledFailed, LeavesAsked, StopsAsking, StopsDialling, asked_of}
+use Rattle.skk_top.specs.AskCommand.{fault_of_flaw, reply_of}
+use Rattle.skk_top.specs.Causes.{LackedRoom, HasRunCause, asked_server}
 use Rattle.skk_top.specs.CheckCommand.{LeavesChecked}
 use Rattle.skk_top.specs.Commands.{LeavesAlone, LeavesWaiting}
 use Rattle.skk_top.specs.Dictionaries.{HasDictionaryFlaw}
 use Rattle.skk_top.specs.Disks.{MovedDisk, RefusesLearned}
 use Rattle.skk_top.specs.DumpCommand.{LeavesDumped}
 use Rattle.skk_top.specs.ExprCommand.{ComeTo, LeavesExpr, RefusesRows, signs_of}
-use Rattle.skk_top.specs.Failures.{HasFailed}
+use Rattle.skk_top.specs.Failures.{HasFailed, HasLinkFailed}
 use Rattle.skk_top.specs.LoadCommand.{LeavesLoaded, Loading, LoadsLines, LoadsTasks}
 use Rattle.skk_top.specs.NamedFiles.{RefusesFiles}
 use Rattle.skk_top.specs.RunFiles.{RefusesFile}
@@ -64,6 +68,7 @@ use Rattle.skk_top.specs.ServeCommand.{MovedListener, StopsServing, LeavesPort, 
 use Rattle.skk_top.specs.TypeCommand.{HasScriptFlaw, LeavesTyped, Manner, TypesLines}
 use Rattle.skk_top.specs.WeaveCommand.{WeavesLines}
 use Rattle.skk_top.specs.declared.serving.Service.{Service}
+use Rattle.skk_top.proofs.Asks.{heard-first}
 use Rattle.skk_top.proofs.Dictionaries.{are_dictionaries}
 use Rattle.caller_work.specs.DiskLaws.{counted-on}
 use Rattle.skk_top.proofs.RunFiles.{each_fault, refuses-dictionaries}
@@ -166,6 +171,7 @@ module _ (files : CommandFiles) (disk : MovedDisk) (Failed : Type 0) (chronicle 
   of-files count count' failed (faults.BadRecord file at) cause = absurd cause
   of-files count count' failed (faults.RowTooBig bytes) cause = absurd cause
   of-files count count' failed faults.JournalFull cause = absurd cause
+  of-files count count' failed (faults.Reply flaw) cause = absurd cause
 
   -- one file is not had
   of-file : (file : RunFile) (HasFlaw : Flaw → List ℕ → Type 0) (told : Told) (count count' : ℕ)
@@ -181,6 +187,7 @@ module _ (files : CommandFiles) (disk : MovedDisk) (Failed : Type 0) (chronicle 
   of-file file HasFlaw told count count' failed refuses (faults.BadRecord number at) cause = absurd cause
   of-file file HasFlaw told count count' failed refuses (faults.RowTooBig bytes) cause = absurd cause
   of-file file HasFlaw told count count' failed refuses faults.JournalFull cause = absurd cause
+  of-file file HasFlaw told count count' failed refuses (faults.Reply flaw) cause = absurd cause
 
   -- the learned file is not had
   of-learned : IsSome files.learned → (Rose disk.before.faults disk.after.faults → Failed) → (fault : RunFault)
@@ -193,6 +200,7 @@ module _ (files : CommandFiles) (disk : MovedDisk) (Failed : Type 0) (chronicle 
   of-learned some failed (faults.Refused file flaw) cause = absurd cause
   of-learned some failed (faults.RowTooBig bytes) cause = absurd cause
   of-learned some failed faults.JournalFull cause = absurd cause
+  of-learned some failed (faults.Reply flaw) cause = absurd cause
 
   -- memory lacks
   of-memory : (fault : RunFault) → fault ≡ faults.Memory → Cause fault
@@ -209,6 +217,7 @@ module _ (files : CommandFiles) (disk : MovedDisk) (Failed : Type 0) (chronicle 
   of-printing out failed (faults.BadRecord file at) cause = absurd cause
   of-printing out failed (faults.RowTooBig bytes) cause = absurd cause
   of-printing out failed faults.JournalFull cause = absurd cause
+  of-printing out failed (faults.Reply flaw) cause = absurd cause
 
   -- what dictionaries come to is not printed
   of-rows : (signs : List Sign) (rows : List Row) → files.signs ≡ Some signs → ComeTo signs files.dictionaries rows
@@ -222,6 +231,7 @@ module _ (files : CommandFiles) (disk : MovedDisk) (Failed : Type 0) (chronicle 
   of-rows signs rows are come (faults.NotJournal file first) cause = absurd cause
   of-rows signs rows are come (faults.BadRecord file at) cause = absurd cause
   of-rows signs rows are come faults.JournalFull cause = absurd cause
+  of-rows signs rows are come (faults.Reply flaw) cause = absurd cause
 
   -- what was typed or served decides how a run ends, and else what its calls came to
   of-calls : (wanted : Bool) (opening : Opening) → IsLegalOver opening chronicle
@@ -439,6 +449,7 @@ module _ {D : Type 0} (run : Run D) (shelf : MovedShelf) (input : MovedSource) (
     serving-stopped (faults.BadRecord file at) cause files = absurd cause
     serving-stopped (faults.RowTooBig bytes) cause files = absurd cause
     serving-stopped faults.JournalFull cause files = absurd cause
+    serving-stopped (faults.Reply flaw) cause files = absurd cause
 
     port-stopped : (service : Service) (visits : List (Visit L)) (served : Ended) (files : CommandFiles)
         → LeavesPort service visits served out net → IfErr served (HasRunCause files disk Failed run.chronicle)
@@ -467,16 +478,58 @@ module _ {D : Type 0} (run : Run D) (shelf : MovedShelf) (input : MovedSource) (
           ]
         ]
 
+    -- a server that is asked, where a call on its link may have failed too
+    dialling-stopped : (files : CommandFiles) (fault : RunFault) → StopsDialling net fault
+        → HasRunCause files disk Failed run.chronicle fault
+    dialling-stopped files faults.Outside cause = net-failed cause
+    dialling-stopped files faults.Memory cause = tt
+    dialling-stopped files faults.Words cause = absurd cause
+    dialling-stopped files (faults.Refused file flaw) cause = absurd cause
+    dialling-stopped files (faults.NotJournal file first) cause = absurd cause
+    dialling-stopped files (faults.BadRecord file at) cause = absurd cause
+    dialling-stopped files (faults.RowTooBig bytes) cause = absurd cause
+    dialling-stopped files faults.JournalFull cause = absurd cause
+    dialling-stopped files (faults.Reply flaw) cause = absurd cause
+
+    asking-stopped : (options : AskOptions) (link link' : L) → Dialled link link' net → (DialledFailed net → Failed)
+        → (fault : RunFault)
+        → StopsAsking (asked_of options.question) (moved_link net.links link link') out fault
+        → HasRunCause (asked_server (reply_of net) options) disk Failed run.chronicle fault
+    asking-stopped options link link' dialled failed faults.Outside (inl rose) =
+        failed (record { link = link; link' = link'; dialled = dialled; failed = rose })
+    asking-stopped options link link' dialled failed faults.Outside (inr rose) = out-failed rose
+    asking-stopped options link link' dialled failed faults.Memory cause = tt
+    asking-stopped options link link' dialled failed (faults.Reply flaw) cause =
+        heard-first net.links net.coming net.coming' link (asked_of options.question) (Err (fault_of_flaw flaw))
+        dialled.comes cause
+    asking-stopped options link link' dialled failed faults.Words cause = absurd cause
+    asking-stopped options link link' dialled failed (faults.Refused file flaw) cause = absurd cause
+    asking-stopped options link link' dialled failed (faults.NotJournal file first) cause = absurd cause
+    asking-stopped options link link' dialled failed (faults.BadRecord file at) cause = absurd cause
+    asking-stopped options link link' dialled failed (faults.RowTooBig bytes) cause = absurd cause
+    asking-stopped options link link' dialled failed faults.JournalFull cause = absurd cause
+
+    caused-asked : (options : AskOptions) → (DialledFailed net → Failed) → LeavesAsked options run.ended out net
+        → CausedBy (asked_server (reply_of net) options)
+    caused-asked options failed leaves =
+        elim leaves [
+          | inl lacks ↦ by-cause run.ended (dialling-stopped (asked_server (reply_of net) options)) lacks.cause
+          | inr asks ↦
+              each_fault run.ended (asking-stopped options asks.link asks.link' asks.dialled failed) asks.asks.stopped
+        ]
+
     -- each command that may wait
-    pub caused-waiting : (command : WaitingCommand) → LeavesWaiting command run shelf input out net disk
-        → CausedBy (files_of shelf input (Waiting command))
-    caused-waiting (waiting.TypeScript options) leaves = caused-woven options leaves.0
-    caused-waiting (waiting.Serve options) leaves = caused-served options leaves.0
-    caused-waiting (waiting.Load options) leaves = caused-shared options leaves.0
+    pub caused-waiting : (command : WaitingCommand) → (HasLinkFailed command net → Failed)
+        → LeavesWaiting command run shelf input out net disk
+        → CausedBy (files_of shelf input (reply_of net) (Waiting command))
+    caused-waiting (waiting.TypeScript options) failed leaves = caused-woven options leaves.0
+    caused-waiting (waiting.Serve options) failed leaves = caused-served options leaves.0
+    caused-waiting (waiting.Load options) failed leaves = caused-shared options leaves.0
+    caused-waiting (waiting.Ask options) failed leaves = caused-asked options failed leaves.0
 
   -- each command that waits for nobody
   pub caused-alone : (command : AloneCommand) → LeavesAlone command run shelf input out disk
-      → CausedBy (files_of shelf input (Alone command))
+      → CausedBy (files_of shelf input None (Alone command))
   caused-alone (alone.TypeScript options) leaves = caused-typed options leaves
   caused-alone (alone.Check name) leaves = caused-checked name leaves.0
   caused-alone (alone.Dump options) leaves = caused-dumped options leaves.0

@@ -1,3 +1,5 @@
+mod AskExamples
+pub mod Asks
 pub mod Begun
 pub mod BookLines
 mod CauseExamples

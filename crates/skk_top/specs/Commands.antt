@@ -7,6 +7,7 @@ use Rattle.command_line.specs.declared.command.AloneCommand.TheVariants as alone
 use Rattle.command_line.specs.declared.command.WaitingCommand.{WaitingCommand}
 use Rattle.command_line.specs.declared.command.WaitingCommand.TheVariants as waiting
 use Rattle.run_endings.specs.declared.finish.Run.{Run}
+use Rattle.skk_top.specs.AskCommand.{LeavesAsked}
 use Rattle.skk_top.specs.CheckCommand.{LeavesChecked}
 use Rattle.skk_top.specs.Disks.{MovedDisk}
 use Rattle.skk_top.specs.DumpCommand.{LeavesDumped}
@@ -35,7 +36,7 @@ LeavesAlone (alone.Expr options) run shelf input out disk =
     LeavesExpr options run shelf out × Keeps input.left input.left' × (run.chronicle ≡ []) × disk.is_untouched
 
 -- what a run of a command that may wait leaves: the input is read by `type` alone, and the listener is asked by `serve`
--- alone
+-- and `ask` alone
 abbrev pub LeavesWaiting : {D L : Type 0} → WaitingCommand → Run D → MovedShelf → MovedSource → MovedSink
     → MovedListener L → MovedDisk → Type 0
 LeavesWaiting (waiting.TypeScript options) run shelf input out net disk =
@@ -44,3 +45,5 @@ LeavesWaiting (waiting.Serve options) run shelf input out net disk =
     LeavesServed options run shelf out net disk × Keeps input.left input.left'
 LeavesWaiting (waiting.Load options) run shelf input out net disk =
     LeavesLoaded (LoadsTasks options) run out disk × Keeps input.left input.left' × net.is_untouched
+LeavesWaiting (waiting.Ask options) run shelf input out net disk =
+    LeavesAsked options run.ended out net × Keeps input.left input.left' × (run.chronicle ≡ []) × disk.is_untouched

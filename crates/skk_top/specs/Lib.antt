@@ -1,3 +1,4 @@
+pub mod AskCommand
 pub mod Causes
 pub mod CheckCommand
 pub mod CheckedFiles

@@ -1,4 +1,4 @@
-ghost use Rattle.std.specs.Prelude.{◌≡◌, ◌≤◌, ◌+◌, IfErr, IsErrOf};
+ghost use Rattle.std.specs.Prelude.{◌≡◌, ◌≤◌, ◌+◌, None, IfErr, IsErrOf};
 ghost use Rattle.skk_outside.specs.Moved.{moved_shelf, moved_source, moved_sink};
 ghost use Rattle.skk_outside.specs.Taken.{TakesAtMost};
 ghost use Rattle.skk_outside.specs.declared.source.TheConstants.{PIECE};
@@ -55,7 +55,7 @@ pub fn run_alone<H: Shelf, D: Disk, I: Source, O: Sink, E: Sink>(
 
     // Any fault that the run ended with had its cause: where no cause is there, the run is done or out of memory.
     ensures caused { IfErr result.ended (HasRunCause (files_of (moved_shelf H.Shelf shelf.old shelf.new)
-        (moved_source I.Outside input.old input.new) (Alone command.now)) (moved_disk D.Disk disk result.disk)
+        (moved_source I.Outside input.old input.new) None (Alone command.now)) (moved_disk D.Disk disk result.disk)
         (HasFailed (moved_shelf H.Shelf shelf.old shelf.new) (moved_source I.Outside input.old input.new)
         (moved_sink O.Outside out.old out.new) (moved_disk D.Disk disk result.disk)) result.chronicle) }
 

@@ -11,6 +11,7 @@
 #![tactic(auto)]
 
 mod alone;
+mod ask_command;
 mod caller_each;
 mod check_command;
 mod checking;

@@ -1,5 +1,4 @@
-ghost use Rattle.std.specs.Prelude.{◌≡◌, ◌⊎◌, ◌≤◌, ◌+◌, IfErr, IsErrOf};
-ghost use Rattle.skk_outside.specs.Faults.{Rose};
+ghost use Rattle.std.specs.Prelude.{◌≡◌, ◌≤◌, ◌+◌, IfErr, IsErrOf};
 ghost use Rattle.skk_outside.specs.Moved.{moved_shelf, moved_source, moved_sink};
 ghost use Rattle.skk_outside.specs.Taken.{TakesAtMost};
 ghost use Rattle.skk_outside.specs.declared.source.TheConstants.{PIECE};
@@ -8,12 +7,14 @@ ghost use Rattle.command_line.specs.Ranges.{IsWaitingInRange};
 ghost use Rattle.command_line.specs.declared.command.Command.TheVariants.{Waiting};
 ghost use Rattle.run_endings.specs.Finishes.{run_of};
 ghost use Rattle.run_endings.specs.Status.{Tells, run_status, run_message};
+ghost use Rattle.skk_top.specs.AskCommand.{reply_of};
 ghost use Rattle.skk_top.specs.Causes.{HasRunCause, files_of};
 ghost use Rattle.skk_top.specs.Commands.{LeavesWaiting};
 ghost use Rattle.skk_top.specs.Disks.{moved_disk, StandsSince};
-ghost use Rattle.skk_top.specs.Failures.{HasFailed};
+ghost use Rattle.skk_top.specs.Failures.{HasWaitingFailed};
 ghost use Rattle.skk_top.specs.ServeCommand.{moved_listener};
 
+use crate::ask_command::run_ask;
 use crate::caller_each::run_by_each;
 use crate::load_each::run_load_by_each;
 use crate::serve_command::run_serve;
@@ -61,17 +62,20 @@ pub fn run<
     ensures taken { TakesAtMost (I.left input.old) (I.left input.new) (script_limit + PIECE) }
 
     // A call on the outside failed where the run ended so.
-    ensures outside { IsErrOf result.ended RunFault.Outside → HasFailed
+    ensures outside { IsErrOf result.ended RunFault.Outside → HasWaitingFailed command.now
         (moved_shelf H.Shelf shelf.old shelf.new) (moved_source I.Outside input.old input.new)
-        (moved_sink O.Outside out.old out.new) (moved_disk D.Disk disk result.disk)
-        ⊎ Rose (N.faults net.old) (N.faults net.new) }
+        (moved_sink O.Outside out.old out.new) (moved_listener N.Listener N.Link.Outside net.old net.new)
+        (moved_disk D.Disk disk result.disk) }
 
     // Any fault that the run ended with had its cause: where no cause is there, the run is done or out of memory.
     ensures caused { IfErr result.ended (HasRunCause (files_of (moved_shelf H.Shelf shelf.old shelf.new)
-        (moved_source I.Outside input.old input.new) (Waiting command.now)) (moved_disk D.Disk disk result.disk)
-        (HasFailed (moved_shelf H.Shelf shelf.old shelf.new) (moved_source I.Outside input.old input.new)
-        (moved_sink O.Outside out.old out.new) (moved_disk D.Disk disk result.disk)
-        ⊎ Rose (N.faults net.old) (N.faults net.new)) result.chronicle) }
+        (moved_source I.Outside input.old input.new)
+        (reply_of (moved_listener N.Listener N.Link.Outside net.old net.new)) (Waiting command.now))
+        (moved_disk D.Disk disk result.disk)
+        (HasWaitingFailed command.now (moved_shelf H.Shelf shelf.old shelf.new)
+        (moved_source I.Outside input.old input.new) (moved_sink O.Outside out.old out.new)
+        (moved_listener N.Listener N.Link.Outside net.old net.new) (moved_disk D.Disk disk result.disk))
+        result.chronicle) }
 
     // No count of faults falls.
     ensures shelf_counted { H.faults shelf.old ≤ H.faults shelf.new }
@@ -126,5 +130,6 @@ fn run_command<
         }
         WaitingCommand::Serve(options) => { run_serve(host, options, shelf, disk, out, net) }
         WaitingCommand::Load(options) => { run_load_by_each(host, *options, disk, out) }
+        WaitingCommand::Ask(options) => run_ask(host.alloc, options, disk, out, net),
     }
 }

@@ -18,7 +18,8 @@ returns-clause-caused g c =
     (moved_source g.I.Outside c.args.input.now new.input) (moved_sink g.O.Outside c.args.out.now new.out)
     (moved_disk D c.args.disk c.run_command-run.result.disk) _ inl (moved_listener g.N.Listener g.N.Link.Outside
     c.args.net.now
-    new.net) inr c.args.command.now c.run_command-run.ensures.leaves)
+    new.net) (λ rose. inr (inl rose)) c.args.command.now (λ failed. inr (inr failed))
+    c.run_command-run.ensures.leaves)
 
 pub returns-clause-outside : goal.returns-clause-outside
 returns-clause-outside g c is = caused-outside _ c.end_run.result.ended is (returns-clause-caused g c)
