@@ -1,6 +1,7 @@
-ghost use Rattle.std.specs.Prelude.{◌≡◌, ◌||◌, true, false, not};
+ghost use Rattle.std.specs.Prelude.{◌≡◌, ◌||◌, true, false, not, None, [], ◌∷◌};
 ghost use Rattle.std.specs.Bool.{OnTrue};
 ghost use Rattle.skk_text.specs.Lists.{is_empty};
+ghost use Rattle.skk_calls.specs.declared.call.Call.TheVariants.{Learn};
 ghost use Rattle.skk_calls.specs.Dictionary.{is_fit};
 ghost use Rattle.skk_calls.specs.Rows.{is_word};
 ghost use Rattle.skk_calls.specs.States.{fits_count, has_stamp};
@@ -9,10 +10,10 @@ use crate::making::{self, key, okuri};
 use dict_layers::System;
 use dict_rows::line_length;
 use expectations::same_at;
-use learn_index::{Index, KeptRow};
+use learn_index::{Index, KeptRow, Replies};
 use skk_calls::{
-    Block, Blocks, Book, BookList, Books, Call, Cand, Cands, FoundCands, Learned, Part, Reply, Row,
-    RowKey,
+    Block, Blocks, Book, BookList, Books, Call, Calls, Cand, Cands, FoundCands, Learned, Part,
+    Reply, Row, RowKey,
 };
 use skk_text::{Copies, Text, Texts};
 use std::alloc::Global;
@@ -152,6 +153,31 @@ learn 1 a o~4095 = learned 15 after 14
 learn 1 a p~4092 = too big 65536
 note 1 a p~4090 *x = too big 65537
 learn 1 a p~4091 = learned 16 after 15
+group 1 a/q b/x = too big 65537, learned 17 after 0
+count 1 = 17
+row 1 b = 17: x / /
+";
+
+// Groups of two learnings: the second has the next stamp, and finds the row that its own key had; one whose row would
+// be too big leaves no stamp out; and just as many stamps are left as a group may have calls.
+const GROUPS: &str = "
+learn 1 い 位 = learned 1 after 0
+group 1 か/蚊 い/胃 = learned 2 after 0, learned 3 after 1
+row 1 か = 2: 蚊 / /
+row 1 い = 3: 胃 位 / /
+count 1 = 3
+group 1 い/位 お/尾 = learned 4 after 3, learned 5 after 0
+row 1 い = 4: 位 胃 / /
+book 1 = い お か
+rows = 3
+unlearn 2 = overtaken 4
+unlearn 2 = restored
+row 1 い = 3: 胃 位 / /
+group 2 か/可 い/異 = learned 1 after 0, learned 2 after 0
+count 1 = 5
+count 2 = 2
+set 3 18446744073709551359 = done
+group 3 か/蚊 い/胃 = learned 18446744073709551360 after 0, learned 18446744073709551361 after 0
 ";
 
 const REBUILT: &str = "
@@ -180,7 +206,7 @@ row 7 か = none
 count 7 = 5
 ";
 
-static SCRIPTS: [&str; 8] = [
+static SCRIPTS: [&str; 9] = [
     LAYERS,
     LISTS,
     TAKEN_BACK,
@@ -188,6 +214,7 @@ static SCRIPTS: [&str; 8] = [
     NOTES,
     LAST_STAMPS,
     LONG,
+    GROUPS,
     REBUILT,
 ];
 
@@ -262,6 +289,7 @@ impl PlainDesk {
                 alloc,
                 call_of(rt, alloc, line),
             ),
+            "group" => self.group(rt, alloc, line),
             "unlearn" => self.unlearn(rt, alloc, line.number),
             "row" | "book" | "count" | "rows" => self.tell(rt, alloc, line),
             _ => {
@@ -315,6 +343,34 @@ impl PlainDesk {
         }
         let plan = self.index.plan(alloc, call).expect(rt, "memory");
         self.index.apply(plan)
+    }
+
+    // Asks two learnings as a group, tells their replies, and keeps what was learnt.
+    fn group(&mut self, rt: &impl Abort, alloc: Global, line: &LearnLine) -> String {
+        let one = key_and_cand(rt, alloc, line.reading);
+        let other = key_and_cand(rt, alloc, line.word);
+        let book = line.number;
+        assert!(rt; !one.0.is_same(&other.0));
+        assert!(rt; self.index.count(book) <= 18_446_744_073_709_551_359);
+        let calls = two_learnings(rt, alloc, book, one, other);
+        let group = self.index.plan_group(alloc, &calls).expect(rt, "memory");
+        let replies = self.index.apply_group(group);
+        drop(calls);
+        self.tell_all(rt, alloc, replies)
+    }
+
+    // Tells replies, and keeps what was learnt.
+    fn tell_all(&mut self, rt: &impl Abort, alloc: Global, replies: Replies) -> String {
+        let mut told = String::new(alloc);
+        for reply in replies.into_vec() {
+            if !told.is_empty() {
+                told.push_str(", ").expect(rt, "memory");
+            }
+            let text = reply_text(rt, alloc, &reply);
+            told.push_str(text.as_str()).expect(rt, "memory");
+            self.keep(rt, reply);
+        }
+        told
     }
 
     // Keeps as learnt what was never learnt.
@@ -428,6 +484,41 @@ fn learning(rt: &impl Abort, alloc: Global, line: &LearnLine) -> Call
         key: key(rt, alloc, line.reading),
         okuri: okuri(rt, alloc, line.okuri),
         cand: cand(rt, alloc, line.word),
+    }
+}
+
+// A key and a candidate, between which a slash stands.
+fn key_and_cand(rt: &impl Abort, alloc: Global, content: &str) -> (RowKey, Cand) {
+    let (reading, word) = content.split_once('/').expect(rt, "no `/`");
+    (key(rt, alloc, reading), cand(rt, alloc, word))
+}
+
+// Two learnings in a book, without okurigana.
+fn two_learnings(
+    rt: &impl Abort,
+    alloc: Global,
+    book: u16,
+    one: (RowKey, Cand),
+    other: (RowKey, Cand),
+) -> Calls
+    ensures { result ≡ Learn book one.0 None one.1 ∷ Learn book other.0 None other.1 ∷ [] }
+{
+    let mut calls = Calls::new(alloc);
+    calls.push(plain_learning(book, one)).expect(rt, "memory");
+    calls.push(plain_learning(book, other)).expect(rt, "memory");
+    calls
+}
+
+// A learning without okurigana.
+fn plain_learning(book: u16, one: (RowKey, Cand)) -> Call
+    ensures { result ≡ Learn book one.0 None one.1 }
+{
+    let (key, cand) = one;
+    Call::Learn {
+        book,
+        key,
+        okuri: None,
+        cand,
     }
 }
 

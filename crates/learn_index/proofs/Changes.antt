@@ -73,6 +73,40 @@ inserted_found p xs zero x e = grind arith
 inserted_found p [] (suc i) x e = grind arith
 inserted_found p (y ∷ ys) (suc i) x e = grind (arith, inserted_found p ys i x e)
 
+-- what is found first has so much room, or what is found behind it
+room_first : (test : Bool) (one other : Spare) (rest : Option Spare) → one.changes ≤ other.changes + 1
+    → changes_of (cond test (Some one) rest) ≤ changes_of (cond test (Some other) rest) + 1
+room_first true one other rest e = e
+room_first false one other rest e = omega arith
+
+room_behind : (test : Bool) (one : Spare) (rest less : Option Spare) → changes_of rest ≤ changes_of less + 1
+    → changes_of (cond test (Some one) rest) ≤ changes_of (cond test (Some one) less) + 1
+room_behind true one rest less e = omega arith
+room_behind false one rest less e = e
+
+-- the room that the book of a number has among books
+abbrev pub room_among : ℕ → List LearnedBook → ℕ
+room_among number books = changes_of (find (λ (s : Spare). s.number == number) (map spare books))
+
+-- where a book changes in its place and takes the room of one change at most, so does each of the books
+module _ (book after : LearnedBook) (same : after.number ≡ book.number) (room : room_of book ≤ room_of after + 1)
+    (number : ℕ) where
+  pub room_set : (items : List LearnedBook) (place : ℕ) → slice_get items place ≡ Some book
+      → room_among number items ≤ room_among number (set items place after) + 1
+  room_set [] place here = cc
+  room_set (x ∷ xs) zero here =
+      let rest = find (λ (s : Spare). s.number == number) (map spare xs) in
+      subst (λ (b : LearnedBook). room_among number (b ∷ xs) ≤ room_among number (after ∷ xs) + 1) (sym (the_one here))
+      (subst (λ (n : ℕ). changes_of (cond (book.number == number) (Some (spare book)) rest)
+      ≤ changes_of (cond (n == number) (Some (spare after)) rest) + 1) (sym same)
+      (room_first (book.number == number) (spare book) (spare after) rest room))
+    where
+      the_one : Some x ≡ Some book → x ≡ book
+      the_one e = cc
+  room_set (x ∷ xs) (suc i) here =
+      room_behind (x.number == number) (spare x) (find (λ (s : Spare). s.number == number) (map spare xs))
+      (find (λ (s : Spare). s.number == number) (map spare (set xs i after))) (room_set xs i here)
+
 -- books in memory ascend by their numbers
 pub numbers_ascend : (items : List LearnedBook) → books_ascend (map numbered items) ≡ true
     → all_pairs (λ (book other : LearnedBook). nat_lt book.number other.number) items ≡ true
@@ -211,9 +245,9 @@ module _ (items : List LearnedBook) (lists : List TypistList) (number place : �
           set_same (x ∷ xs) (suc i) e = ap (λ bs. numbered x ∷ bs) (set_same xs i e)
 
       -- and the room that it has
-      pub room_grown : (state : State) (free : ℕ) → 0 < room_of after
-          → 0 < spare_of (index_of state (set items place after) free) number
-      room_grown state free room =
+      pub room_grown : (state : State) (free changes : ℕ) → changes ≤ room_of after
+          → changes ≤ spare_of (index_of state (set items place after) free) number
+      room_grown state free changes room =
           let within = place_within (λ (b : LearnedBook). b.number == number) items place
           (ap (passes (λ (b : LearnedBook). b.number == number)) at.here ∙ at.has) in
           let there = found_put (λ (b : LearnedBook). b.number) number_keys number after items

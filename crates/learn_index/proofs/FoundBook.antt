@@ -14,7 +14,8 @@ use Rattle.learn_index.specs.Kept.{kept, changed, room_of, keeps_book, IsKept}
 use Rattle.learn_index.specs.Records.{state_counted}
 use Rattle.learn_index.proofs.Books.{rows_in_order}
 use Rattle.learn_index.proofs.Changes.{IsAt, kept_after, kept_grown, place_within, room_grown, room_here, rows_below}
-use Rattle.learn_index.proofs.Changes.{index_of, rows_here, stands, stands_at, state_count, state_row}
+use Rattle.learn_index.proofs.Changes.{index_of, room_among, room_set, rows_here, stands, stands_at, state_count}
+use Rattle.learn_index.proofs.Changes.{state_row}
 
 -- an index keeps these books and counts this many rows, it has the book of a number, and this is its place
 pub record HasPlace (items : List LearnedBook) (lists : List TypistList) (rows free : ℕ) (index : Index)
@@ -77,6 +78,13 @@ module _ {items : List LearnedBook} {lists : List TypistList} {rows free : ℕ} 
       (changed (kept items lists)) free
       (subst (λ (i : Index). 0 < spare_of i number) (sym has.found.seen) room)
 
+  -- where it takes the room of one change at most, so does each of the books
+  pub room_taken : (after : LearnedBook) → after.number ≡ book.number → room_of book ≤ room_of after + 1
+      → (other : ℕ) → spare_of index other ≤ room_among other (set items place after) + 1
+  room_taken after same room other =
+      subst (λ (i : Index). spare_of i other ≤ room_among other (set items place after) + 1) has.found.seen
+      (room_set book after same room other items place has.at.here)
+
   module _ (after : LearnedBook) (same : after.number ≡ book.number) (counts : 0 < after.count) where
     number_same : after.number ≡ number
     number_same = same ∙ eqb-true book.number number has.at.has
@@ -125,8 +133,8 @@ module _ {items : List LearnedBook} {lists : List TypistList} {rows free : ℕ} 
     state_same = ap changed books_same ∙ state_seen
 
     -- and there is room
-    pub room_more : (state : State) (spare_lists : ℕ) → 0 < room_of after
-        → 0 < spare_of (index_of state (set items place after) spare_lists) number
+    pub room_more : (state : State) (spare_lists changes : ℕ) → changes ≤ room_of after
+        → changes ≤ spare_of (index_of state (set items place after) spare_lists) number
     room_more =
         room_grown items lists number place has.found.keeps.ascend has.found.point book has.at after number_same
         count_same rows_same

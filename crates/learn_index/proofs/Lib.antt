@@ -5,6 +5,8 @@ mod Completions
 mod Examples
 mod FoundBook
 mod FoundPlaces
+mod GroupExamples
+mod Grouped
 mod LastRows
 mod Lists
 mod NewestFirst

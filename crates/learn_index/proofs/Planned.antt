@@ -27,7 +27,7 @@ use Rattle.dict_laws.specs.ChangedStates.{has_key, number_itself, row_at_changed
 use Rattle.dict_laws.specs.ValidStates.{fits_after, fits_row_at, is_valid_changed, parts_at, rows_of_fit}
 use Rattle.learn_index.specs.declared.plan.Plan.{Plan}
 use Rattle.learn_index.specs.declared.plan.Plan.TheVariants.{Still, Move, Lists}
-use Rattle.learn_index.specs.Plans.{IsPlanned, IsMade}
+use Rattle.learn_index.specs.Plans.{IsPlanned, IsMade, row_plan}
 use Rattle.learn_index.specs.Records.{state_counted}
 
 -- a change of the row that is read is the change that was made
@@ -184,11 +184,6 @@ before_valid state book key stamp valid later =
     by None fits has = refl
     by (Some row) fits has = grind (arith, between row.stamp (count_of state book) stamp)
 
--- the plan of a change that would leave a row
-abbrev pub row_plan : ℕ → ℕ → RowKey → Row → Reply → Plan
-row_plan book count key row reply =
-    cond (nat_lt line_limit (line_length row)) (Still (TooBig (line_length row))) (Move book count key (Some row) reply)
-
 module _ (state : State) (call : Call) (book : ℕ) (key : RowKey) (row : Row) (reply : Reply)
     (told : is_change reply ≡ true) (own : same_key row.key key ≡ true)
     (speaks : speaks_of call book key ≡ true)
@@ -256,6 +251,28 @@ learn_planned state book key okuri cand row reply stamp e small rows replies =
     all n =
         row_plan book n key (learnt (row_at state book key) key okuri cand n)
         (Learned (record { book = book; key = key; stamp = n; before = row_at state book key }))
+
+-- where the stamps of the book have ended, that is planned
+pub end_planned : (state : State) (book : ℕ) (key : RowKey) (okuri : Option (List ℕ)) (cand : Cand)
+    → count_of state book ≡ last_count → IsPlanned state (Learn book key okuri cand) (Still StampsEnd)
+end_planned state book key okuri cand e = (ap is_change answered, sym answered)
+  where
+    row : Row
+    row = learnt (row_at state book key) key okuri cand (count_of state book + 1)
+
+    told : Reply
+    told =
+        Learned (record {
+          book = book;
+          key = key;
+          stamp = count_of state book + 1;
+          before = row_at state book key;
+        })
+
+    answered : answer [] state (Learn book key okuri cand) ≡ StampsEnd
+    answered =
+        ap (λ b. cond b StampsEnd (cond (nat_lt line_limit (line_length row)) (TooBig (line_length row)) told))
+        (ap (λ n. n == last_count) e ∙ number_itself last_count)
 
 -- a row that stands where a test tells of a change is the one after the change
 changed_row : (test : Bool) (after row : Row) → cond test (Some after) None ≡ Some row → (test ≡ true) × (after ≡ row)

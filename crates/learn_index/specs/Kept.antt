@@ -27,10 +27,14 @@ has_changed book = nat_lt 0 book.count
 abbrev pub changed : State → State
 changed state = record state { books = filter has_changed state.books }
 
+-- for how many more items a vector has room
+abbrev pub free_in : {X A : Type 0} → Vec X A → ℕ
+free_in items = vec_capacity items - vec_len items
+
 -- for how many more items a vector has room, and another one where there is one
 abbrev pub room_in : {X Y A : Type 0} → Vec X A → Option (Vec Y A) → ℕ
-room_in rows None = vec_capacity rows - vec_len rows
-room_in rows (Some stamps) = min (vec_capacity rows - vec_len rows) (vec_capacity stamps - vec_len stamps)
+room_in rows None = free_in rows
+room_in rows (Some stamps) = min (free_in rows) (free_in stamps)
 
 -- for how many changes a book has room, in its rows and in their order by stamp
 abbrev pub room_of : LearnedBook → ℕ

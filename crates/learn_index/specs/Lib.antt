@@ -1,5 +1,6 @@
 pub mod Ages
 pub mod FileRows
+pub mod Groups
 pub mod Index
 pub mod Kept
 pub mod Plans

@@ -1,8 +1,12 @@
 -- What a plan says of a change: its reply, and the row and the count, or the list of a typist, that it leaves.
-use Rattle.std.specs.Prelude.{◌≡◌, ◌<◌, Bool, true, false, ⊤, []}
+use Rattle.std.specs.Prelude.{◌≡◌, ℕ, ◌<◌, Bool, true, false, nat_lt, if◌then◌else◌, ⊤, Some, []}
+use Rattle.skk_calls.specs.declared.answer.Reply.{Reply}
+use Rattle.skk_calls.specs.declared.answer.Reply.TheVariants.{TooBig}
 use Rattle.skk_calls.specs.declared.call.Call.{Call}
 use Rattle.skk_calls.specs.declared.call.Call.TheVariants.{Lookup, Complete, Share}
-use Rattle.skk_calls.specs.Dictionary.{answer, after, moves, speaks_of, is_call, is_fit}
+use Rattle.skk_calls.specs.Canonical.{line_limit}
+use Rattle.skk_calls.specs.Dictionary.{answer, after, line_length, moves, speaks_of, is_call, is_fit}
+use Rattle.skk_calls.specs.Rows.{RowKey, Row}
 use Rattle.skk_calls.specs.States.{State, row_at, count_of}
 use Rattle.learn_index.specs.declared.plan.Plan.{Plan}
 use Rattle.learn_index.specs.declared.plan.Plan.TheVariants.{Still, Move, Lists}
@@ -23,6 +27,13 @@ IsPlanned state call (Move book count key row reply) =
     × (count ≡ count_of (after state call) book) × (row ≡ row_at (after state call) book key)
 IsPlanned state call (Lists who list reply) =
     (moves state call ≡ true) × (reply ≡ answer [] state call) × (call ≡ Share who list)
+
+-- the plan that a key gets a row in a book, which gets this count, unless the row's line is too long
+abbrev pub row_plan : ℕ → ℕ → RowKey → Row → Reply → Plan
+row_plan book count key row reply =
+    if nat_lt line_limit (line_length row)
+    then Still (TooBig (line_length row))
+    else Move book count key (Some row) reply
 
 -- a plan was made for some call that may be made
 abbrev pub IsMade : State → Plan → Type 0

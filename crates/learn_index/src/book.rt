@@ -32,7 +32,7 @@ pub struct LearnedBook {
 }
 
 impl LearnedBook {
-    ghost use Rattle.std.specs.Prelude.{◌<◌, true, [], Some, OnOk};
+    ghost use Rattle.std.specs.Prelude.{◌+◌, ◌<◌, ◌≤◌, true, [], Some, OnOk};
     ghost use Rattle.std.specs.Vec.{vec_len, vec_capacity};
     ghost use Rattle.skk_calls.specs.States.{with_row, without_row, rows_ascend};
     ghost use Rattle.learn_index.specs.Kept.{room_of};
@@ -61,21 +61,26 @@ impl LearnedBook {
         }
     }
 
-    /// Makes room for one row more in these orders, and keeps no other. Takes time in the number of rows where the
+    /// Makes room for so many rows more in these orders, and keeps no other. Takes time in the number of rows where the
     /// room grows, with one logarithm in it where they are to be in order by their stamps and are not.
-    pub(crate) fn make_room(&mut self, alloc: Global, orders: RowOrders) -> Result<(), Memory>
+    pub(crate) fn make_room(
+        &mut self,
+        alloc: Global,
+        changes: usize,
+        orders: RowOrders,
+    ) -> Result<(), Memory>
         requires { rows_ascend self.old.rows.items ≡ true }
         ensures rows { self.new.rows.items ≡ self.old.rows.items }
         ensures number { self.new.number ≡ self.old.number }
         ensures count { self.new.count ≡ self.old.count }
-        ensures room { OnOk result (0 < room_of self.new) }
+        ensures room { OnOk result (changes ≤ room_of self.new) }
     {
-        self.rows.reserve(1)?;
+        self.rows.reserve(changes)?;
         match orders {
             RowOrders::ByKey => self.by_stamp = None,
             RowOrders::ByKeyAndStamp => {
                 self.order_by_stamp(alloc)?;
-                self.reserve_stamp()?;
+                self.reserve_stamps(changes)?;
             }
         }
         Ok(())
@@ -94,17 +99,18 @@ impl LearnedBook {
         Ok(())
     }
 
-    // Makes room for one row more in the order by stamp, where the rows are in it.
-    fn reserve_stamp(&mut self) -> Result<(), Memory>
+    // Makes room for so many rows more in the order by stamp, where the rows are in it.
+    fn reserve_stamps(&mut self, changes: usize) -> Result<(), Memory>
         ensures rows { self.new.rows ≡ self.old.rows }
         ensures number { self.new.number ≡ self.old.number }
         ensures count { self.new.count ≡ self.old.count }
-        ensures room { OnOk result (ForSome self.new.by_stamp (λ stamps. vec_len stamps < vec_capacity stamps)) }
+        ensures room { OnOk result (ForSome self.new.by_stamp (λ stamps.
+            vec_len stamps + changes ≤ vec_capacity stamps)) }
     {
         let Some(mut stamps) = self.by_stamp.take() else {
             return Ok(());
         };
-        let reserved = stamps.reserve(1);
+        let reserved = stamps.reserve(changes);
         self.by_stamp = Some(stamps);
         Ok(reserved?)
     }
@@ -117,6 +123,7 @@ impl LearnedBook {
         ensures rows { self.new.rows.items ≡ with_row row.key (Some row) self.old.rows.items }
         ensures number { self.new.number ≡ self.old.number }
         ensures count { self.new.count ≡ count }
+        ensures room { room_of self.old ≤ room_of self.new + 1 }
     {
         self.count = count;
         let shared = row.share();
@@ -132,6 +139,7 @@ impl LearnedBook {
         ensures rows { self.new.rows.items ≡ without_row key.now self.old.rows.items }
         ensures number { self.new.number ≡ self.old.number }
         ensures count { self.new.count ≡ count }
+        ensures room { room_of self.old ≤ room_of self.new }
     {
         self.count = count;
         let before = take_row(&mut self.rows, key);

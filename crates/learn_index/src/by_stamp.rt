@@ -1,10 +1,11 @@
-ghost use Rattle.std.specs.Prelude.{◌≡◌, ◌<◌, true, not, IfOk};
+ghost use Rattle.std.specs.Prelude.{◌≡◌, ◌+◌, ◌<◌, ◌≤◌, true, not, IfOk};
 ghost use Rattle.std.specs.Option.{ForSome, IsSomeAnd};
 ghost use Rattle.std.specs.List.{list_all};
 ghost use Rattle.std.specs.Vec.{vec_len, vec_capacity};
 ghost use Rattle.ordered_lists.specs.Orders.{ascend, before as is_before, insert_by};
 ghost use Rattle.skk_calls.specs.States.{rows_ascend};
 ghost use Rattle.learn_index.specs.Ages.{age, age_keys, left_of, oldest_first, same_age};
+ghost use Rattle.learn_index.specs.Kept.{free_in};
 
 use crate::aged_row::AgedRow;
 use crate::kept_row::KeptRow;
@@ -59,8 +60,9 @@ pub fn exchanged(
     requires room { vec_len stamps < vec_capacity stamps }
     requires new { ForSome row (λ r.
         list_all (λ other. not (same_age (age other) (age r))) (left_of before stamps.items) ≡ true) }
-    ensures { ForSome result (λ after. IsSomeAnd row (λ r.
+    ensures items { ForSome result (λ after. IsSomeAnd row (λ r.
         after.items ≡ insert_by (is_before age age_keys) r (left_of before stamps.items))) }
+    ensures room { ForSome result (λ after. free_in stamps ≤ free_in after + 1) }
 {
     match row {
         Some(row) => Some(with_aged(without_aged(stamps, before), row)),
@@ -74,7 +76,8 @@ fn with_aged(mut stamps: Vec<AgedRow>, row: KeptRow) -> Vec<AgedRow>
     requires ascend { ascend age age_keys stamps.items ≡ true }
     requires room { vec_len stamps < vec_capacity stamps }
     requires new { list_all (λ other. not (same_age (age other) (age row))) stamps.items ≡ true }
-    ensures { result.items ≡ insert_by (is_before age age_keys) row stamps.items }
+    ensures items { result.items ≡ insert_by (is_before age age_keys) row stamps.items }
+    ensures room { free_in stamps ≤ free_in result + 1 }
 {
     let row = AgedRow::new(row);
     let place = place_among(&stamps, &row);
@@ -87,7 +90,7 @@ fn with_aged(mut stamps: Vec<AgedRow>, row: KeptRow) -> Vec<AgedRow>
 pub fn without_aged(mut stamps: Vec<AgedRow>, row: Option<KeptRow>) -> Vec<AgedRow>
     requires { ascend age age_keys stamps.items ≡ true }
     ensures items { result.items ≡ left_of row stamps.items }
-    ensures room { vec_len stamps < vec_capacity stamps → vec_len result < vec_capacity result }
+    ensures room { free_in stamps ≤ free_in result }
 {
     let Some(row) = row else {
         return stamps;

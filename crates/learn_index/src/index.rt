@@ -1,4 +1,4 @@
-ghost use Rattle.std.specs.Prelude.{◌≡◌, ◌<◌, ◌≤◌, true, false, min, Some, None, List, IfOk, OnOk, OnErr};
+ghost use Rattle.std.specs.Prelude.{◌≡◌, ℕ, ◌+◌, ◌<◌, ◌≤◌, true, false, min, Some, None, List, IfOk, OnOk, OnErr};
 ghost use Rattle.std.specs.Option.{option_copied, ForSome};
 ghost use Rattle.skk_text.specs.Counts.{last_count};
 ghost use Rattle.skk_calls.specs.declared.call.Call.{Call};
@@ -126,35 +126,9 @@ impl Index {
         ensures made { IfOk result (λ plan. IsMade self.new.state plan) }
         ensures room { IfOk result (λ plan. HasRoom self.new plan) }
     {
-        match call {
-            Call::Learn {
-                book,
-                key,
-                okuri,
-                cand,
-            } => {
-                let okuri = okuri.as_ref();
-                learning_is_call(key, okuri, cand);
-                plan_learn(self, alloc, *book, key, okuri, cand)
-            }
-            Call::Purge { book, key, word } => {
-                purge_is_call(key);
-                plan_purge(self, alloc, *book, key, word)
-            }
-            Call::Annotate { book, key, cand } => {
-                annotation_is_call(key, cand);
-                plan_annotate(self, alloc, *book, key, cand)
-            }
-            Call::Share { who, books } => {
-                share_is_call(books);
-                plan_share(self, *who, books)
-            }
-            Call::Unlearn { learned } => {
-                unlearning_is_call(learned);
-                plan_unlearn(self, alloc, learned)
-            }
-            _ => unreachable!(),
-        }
+        let plan = self.plan_of(alloc, call)?;
+        self.make_room_for(alloc, &plan)?;
+        Ok(plan)
     }
 
     /// Does what was planned, on the state that it was planned on. Takes no memory, a logarithm in the rows of the
@@ -168,6 +142,7 @@ impl Index {
             → IsPlanned self.old.state call plan → result ≡ answer files self.old.state call }
         ensures state { (call : Call) → is_call call ≡ true → IsPlanned self.old.state call plan
             → self.new.state ≡ after self.old.state call }
+        ensures spare { (number : ℕ) → spare_of self.old number ≤ spare_of self.new number + 1 }
     {
         changes_keep_states_valid();
         // A field that is read tells that the state is valid.
@@ -204,7 +179,7 @@ impl Index {
     {
         // A field that is read tells that the state is valid.
         let _valid = self.rows;
-        self.make_room(alloc, book, RowOrders::ByKey)?;
+        self.make_room(alloc, book, 1, RowOrders::ByKey)?;
         self.set_row(book, count, row);
         Ok(())
     }
@@ -327,9 +302,59 @@ impl Index {
                 break;
             };
             let number = book.number;
-            self.make_room(alloc, number, RowOrders::ByKeyAndStamp)?;
+            self.make_room(alloc, number, 1, RowOrders::ByKeyAndStamp)?;
         }
         Ok(())
+    }
+
+    // The plan of a change, for which no room is made yet.
+    fn plan_of(&self, alloc: Global, call: &Call) -> Result<Plan, Memory>
+        requires change { is_question call.now ≡ false }
+        requires fit { is_fit call.now ≡ true }
+        ensures planned { IfOk result (λ plan. IsPlanned self.now.state call.now plan) }
+        ensures valid { IfOk result (λ _. is_call call.now ≡ true) }
+    {
+        match call {
+            Call::Learn {
+                book,
+                key,
+                okuri,
+                cand,
+            } => {
+                let okuri = okuri.as_ref();
+                learning_is_call(key, okuri, cand);
+                plan_learn(self, alloc, *book, key, okuri, cand)
+            }
+            Call::Purge { book, key, word } => {
+                purge_is_call(key);
+                plan_purge(self, alloc, *book, key, word)
+            }
+            Call::Annotate { book, key, cand } => {
+                annotation_is_call(key, cand);
+                plan_annotate(self, alloc, *book, key, cand)
+            }
+            Call::Share { who, books } => {
+                share_is_call(books);
+                Ok(plan_share(self, *who, books))
+            }
+            Call::Unlearn { learned } => {
+                unlearning_is_call(learned);
+                plan_unlearn(self, alloc, learned)
+            }
+            _ => unreachable!(),
+        }
+    }
+
+    // Makes the room that a plan needs. The state stays as it was.
+    fn make_room_for(&mut self, alloc: Global, plan: &Plan) -> Result<(), Memory>
+        ensures state { self.new.state ≡ self.old.state }
+        ensures room { OnOk result (HasRoom self.new plan.now) }
+    {
+        match plan {
+            Plan::Still(_) => Ok(()),
+            Plan::Move { book, .. } => self.make_room(alloc, *book, 1, RowOrders::ByKeyAndStamp),
+            Plan::Lists { .. } => self.make_list_room(),
+        }
     }
 
     // The rows of a book in order by their stamps, the oldest first, where they are so. Takes a logarithm in the number
@@ -355,24 +380,25 @@ impl Index {
         }
     }
 
-    // Makes room for one change of a book in these orders of its rows, and keeps no other. The state stays as it was.
-    // Takes a logarithm in the number of books, time in the book's rows where its room grows, and with one logarithm in
-    // their number where they are to be in order by their stamps and are not.
+    // Makes room for so many changes of a book in these orders of its rows, and keeps no other. The state stays as it
+    // was. Takes a logarithm in the number of books, time in the book's rows where its room grows, and with one
+    // logarithm in their number where they are to be in order by their stamps and are not.
     pub(crate) fn make_room(
         &mut self,
         alloc: Global,
         number: u16,
+        changes: usize,
         orders: RowOrders,
     ) -> Result<(), Memory>
         ensures state { self.new.state ≡ self.old.state }
-        ensures room { OnOk result (0 < spare_of self.new number) }
+        ensures room { OnOk result (changes ≤ spare_of self.new number) }
     {
         self.make_book(alloc, number)?;
-        self.grow(alloc, number, orders)
+        self.grow(alloc, number, changes, orders)
     }
 
     // Makes room for one list more. The state stays as it was.
-    pub(crate) fn make_list_room(&mut self) -> Result<(), Memory>
+    fn make_list_room(&mut self) -> Result<(), Memory>
         ensures state { self.new.state ≡ self.old.state }
         ensures room { OnOk result (0 < self.new.spare_lists) }
     {
@@ -382,7 +408,8 @@ impl Index {
     // Gives a typist this list of books, where there is room for one more.
     fn put_list(&mut self, who: u16, list: BookList)
         requires room { 0 < self.old.spare_lists }
-        ensures { self.new.state ≡ state_listed self.old.state who list }
+        ensures state { self.new.state ≡ state_listed self.old.state who list }
+        ensures spare { self.new.spare ≡ self.old.spare }
     {
         // What is counted tells that it is a list.
         let _count = list.len();
@@ -401,14 +428,20 @@ impl Index {
         Ok(())
     }
 
-    // Makes room for one change of a book that is kept.
-    fn grow(&mut self, alloc: Global, number: u16, orders: RowOrders) -> Result<(), Memory>
+    // Makes room for so many changes of a book that is kept.
+    fn grow(
+        &mut self,
+        alloc: Global,
+        number: u16,
+        changes: usize,
+        orders: RowOrders,
+    ) -> Result<(), Memory>
         requires { keeps_book self.old number ≡ true }
         ensures state { self.new.state ≡ self.old.state }
-        ensures room { OnOk result (0 < spare_of self.new number) }
+        ensures room { OnOk result (changes ≤ spare_of self.new number) }
     {
         let place = place_of(&self.books, number);
-        self.books[place].make_room(alloc, orders)
+        self.books[place].make_room(alloc, changes, orders)
     }
 
     // Gives the key of a row this row in a book that has room, and the book this count.
@@ -416,7 +449,8 @@ impl Index {
         requires room { 0 < spare_of self.old number }
         requires count { 0 < count }
         requires valid { is_valid (state_with self.old.state number count row.key (Some row)) ≡ true }
-        ensures { self.new.state ≡ state_with self.old.state number count row.key (Some row) }
+        ensures state { self.new.state ≡ state_with self.old.state number count row.key (Some row) }
+        ensures spare { (other : ℕ) → spare_of self.old other ≤ spare_of self.new other + 1 }
     {
         let place = place_of(&self.books, number);
         let book = &mut self.books[place];
@@ -430,7 +464,8 @@ impl Index {
         requires there { keeps_book self.old number ≡ true }
         requires count { 0 < count }
         requires valid { is_valid (state_with self.old.state number count key.now None) ≡ true }
-        ensures { self.new.state ≡ state_with self.old.state number count key.now None }
+        ensures state { self.new.state ≡ state_with self.old.state number count key.now None }
+        ensures spare { (other : ℕ) → spare_of self.old other ≤ spare_of self.new other + 1 }
     {
         let place = place_of(&self.books, number);
         let book = &mut self.books[place];

@@ -1,7 +1,8 @@
-ghost use Rattle.std.specs.Prelude.{◌≡◌, ◌≤◌, ◌<◌, true, length, Some};
+ghost use Rattle.std.specs.Prelude.{◌≡◌, ◌+◌, ◌≤◌, ◌<◌, true, length, Some};
 ghost use Rattle.std.specs.Vec.{vec_len, vec_capacity};
 ghost use Rattle.ordered_lists.specs.Orders.{ascend, IsPlace};
 ghost use Rattle.skk_calls.specs.States.{with_row, without_row, row_in, rows_ascend};
+ghost use Rattle.learn_index.specs.Kept.{free_in};
 
 use crate::kept_row::KeptRow;
 use ordered_lists::{Keyed, has_key_at, place_of};
@@ -16,6 +17,7 @@ pub fn put_row(rows: &mut Vec<KeptRow>, row: KeptRow) -> Option<KeptRow>
     requires room { vec_len rows.old < vec_capacity rows.old }
     ensures rows { rows.new.items ≡ with_row row.key (Some row) rows.old.items }
     ensures before { result ≡ row_in row.key rows.old.items }
+    ensures room { free_in rows.old ≤ free_in rows.new + 1 }
 {
     let key = row.row().key();
     let place = place_among(rows, key);
@@ -32,6 +34,7 @@ pub fn take_row(rows: &mut Vec<KeptRow>, key: &RowKey) -> Option<KeptRow>
     requires { rows_ascend rows.old.items ≡ true }
     ensures rows { rows.new.items ≡ without_row key.now rows.old.items }
     ensures before { result ≡ row_in key.now rows.old.items }
+    ensures room { free_in rows.old ≤ free_in rows.new }
 {
     let place = place_of(rows, key);
     if has_key_at(rows, place, key) {

@@ -1,5 +1,6 @@
 use crate::kept_row::KeptRow;
 use skk_calls::{BookList, Reply, RowKey};
+use skk_text::Sequence;
 
 /// What a change will do, with all memory that it needs.
 #[derive(Debug, Drop)]
@@ -21,3 +22,6 @@ pub enum Plan {
         reply: Reply,
     },
 }
+
+/// Plans in order.
+pub type Plans = Sequence<Plan>;

@@ -1,16 +1,13 @@
-ghost use Rattle.std.specs.Prelude.{◌≡◌, ◌<◌, true, ℕ, List, IfOk, OnOk, Some, nat_lt, if◌then◌else◌};
+ghost use Rattle.std.specs.Prelude.{◌≡◌, ◌<◌, ◌≤◌, true, ℕ, List, IfOk};
 ghost use Rattle.std.specs.Option.{option_copied};
-ghost use Rattle.skk_calls.specs.declared.answer.Reply.TheVariants.{TooBig, Learned as learned_reply};
+ghost use Rattle.skk_calls.specs.declared.answer.Reply.TheVariants.{Learned as learned_reply};
 ghost use Rattle.skk_calls.specs.declared.call.Call.TheVariants.{Learn, Purge, Annotate, Share, Unlearn};
-ghost use Rattle.skk_calls.specs.Canonical.{line_limit};
-ghost use Rattle.skk_calls.specs.Dictionary.{line_length, is_call, is_stamped, stamp_of};
+ghost use Rattle.skk_calls.specs.Dictionary.{is_call, is_stamped, stamp_of};
 ghost use Rattle.skk_calls.specs.Rows.{is_word};
-ghost use Rattle.skk_calls.specs.States.{count_of, row_at, is_valid};
-ghost use Rattle.learn_index.specs.declared.plan.Plan.TheVariants.{Still, Move};
-ghost use Rattle.learn_index.specs.Index.{spare_of};
-ghost use Rattle.learn_index.specs.Plans.{IsPlanned, HasRoom};
+ghost use Rattle.skk_calls.specs.States.{State, count_of, row_at, is_valid};
+ghost use Rattle.learn_index.specs.declared.plan.Plan.TheVariants.{Move};
+ghost use Rattle.learn_index.specs.Plans.{IsPlanned, row_plan};
 
-use crate::book::RowOrders;
 use crate::index::Index;
 use crate::kept_row::KeptRow;
 use crate::plan::Plan;
@@ -19,40 +16,62 @@ use skk_calls::{BookList, Cand, LINE_LIMIT, Learned, Okuri, Reply, Row, RowKey};
 use skk_text::{Copies, Memory, Text, copy_of};
 use std::alloc::Global;
 
+/// A book, and its count.
+#[derive(Clone, Copy)]
+pub struct BookCount {
+    pub book: u16,
+    pub count: u64,
+}
+
 /// Plans that a candidate is learnt.
 pub fn plan_learn(
-    index: &mut Index,
+    index: &Index,
     alloc: Global,
     book: u16,
     key: &RowKey,
     okuri: Option<&Okuri>,
     cand: &Cand,
 ) -> Result<Plan, Memory>
-    ensures state { index.new.state ≡ index.old.state }
-    ensures planned { IfOk result
-        (λ plan. IsPlanned index.old.state (Learn book key.now (option_copied okuri.entry) cand.now) plan) }
-    ensures room { IfOk result (λ plan. HasRoom index.new plan) }
+    ensures { IfOk result
+        (λ plan. IsPlanned index.now.state (Learn book key.now (option_copied okuri.entry) cand.now) plan) }
 {
-    let Some(stamp) = index.count(book).checked_add(1) else {
+    let count = index.count(book);
+    plan_learn_at(index, alloc, BookCount { book, count }, key, okuri, cand)
+}
+
+/// Plans that a candidate is learnt once its book has this count, and while the key has the row that it has now.
+pub fn plan_learn_at(
+    index: &Index,
+    alloc: Global,
+    at: BookCount,
+    key: &RowKey,
+    okuri: Option<&Okuri>,
+    cand: &Cand,
+) -> Result<Plan, Memory>
+    requires valid { is_valid index.now.state ≡ true }
+    requires later { count_of index.now.state at.book ≤ at.count }
+    ensures { IfOk result (λ plan. (later : State) → count_of later at.book ≡ at.count
+        → row_at later at.book key.now ≡ row_at index.now.state at.book key.now
+        → IsPlanned later (Learn at.book key.now (option_copied okuri.entry) cand.now) plan) }
+{
+    let Some(stamp) = at.count.checked_add(1) else {
         return Ok(Plan::Still(Reply::StampsEnd));
     };
-    let row = learn_row(alloc, index.row(book, key), key, okuri, cand, stamp)?;
-    let reply = learning_reply(index, alloc, book, key, stamp)?;
-    plan_row(index, alloc, book, stamp, key, row, reply)
+    let row = learn_row(alloc, index.row(at.book, key), key, okuri, cand, stamp)?;
+    let reply = learning_reply(index, alloc, at.book, key, stamp)?;
+    plan_row(alloc, at.book, stamp, key, row, reply)
 }
 
 /// Plans that a word is purged.
 pub fn plan_purge(
-    index: &mut Index,
+    index: &Index,
     alloc: Global,
     book: u16,
     key: &RowKey,
     word: &Text,
 ) -> Result<Plan, Memory>
     requires { is_word word.now ≡ true }
-    ensures state { index.new.state ≡ index.old.state }
-    ensures planned { IfOk result (λ plan. IsPlanned index.old.state (Purge book key.now word.now) plan) }
-    ensures room { IfOk result (λ plan. HasRoom index.new plan) }
+    ensures { IfOk result (λ plan. IsPlanned index.now.state (Purge book key.now word.now) plan) }
 {
     let count = index.count(book);
     let before = index.row(book, key);
@@ -62,20 +81,18 @@ pub fn plan_purge(
     let Some(stamp) = count.checked_add(1) else {
         return Ok(Plan::Still(Reply::StampsEnd));
     };
-    plan_row(index, alloc, book, stamp, key, row, Reply::Purged)
+    plan_row(alloc, book, stamp, key, row, Reply::Purged)
 }
 
 /// Plans that a candidate is annotated.
 pub fn plan_annotate(
-    index: &mut Index,
+    index: &Index,
     alloc: Global,
     book: u16,
     key: &RowKey,
     cand: &Cand,
 ) -> Result<Plan, Memory>
-    ensures state { index.new.state ≡ index.old.state }
-    ensures planned { IfOk result (λ plan. IsPlanned index.old.state (Annotate book key.now cand.now) plan) }
-    ensures room { IfOk result (λ plan. HasRoom index.new plan) }
+    ensures { IfOk result (λ plan. IsPlanned index.now.state (Annotate book key.now cand.now) plan) }
 {
     let count = index.count(book);
     let before = index.row(book, key);
@@ -85,31 +102,26 @@ pub fn plan_annotate(
     let Some(stamp) = count.checked_add(1) else {
         return Ok(Plan::Still(Reply::StampsEnd));
     };
-    plan_row(index, alloc, book, stamp, key, row, Reply::Annotated)
+    plan_row(alloc, book, stamp, key, row, Reply::Annotated)
 }
 
-/// Plans that a typist gets a list of books.
-pub fn plan_share(index: &mut Index, who: u16, books: &BookList) -> Result<Plan, Memory>
-    ensures state { index.new.state ≡ index.old.state }
-    ensures planned { IfOk result (λ plan. IsPlanned index.old.state (Share who books.now) plan) }
-    ensures room { IfOk result (λ plan. HasRoom index.new plan) }
+/// Plans that a typist gets a list of books. Takes no memory.
+pub fn plan_share(index: &Index, who: u16, books: &BookList) -> Plan
+    ensures { IsPlanned index.now.state (Share who books.now) result }
 {
     if index.shared(who).is_same(books) {
-        return Ok(Plan::Still(Reply::Unchanged));
+        return Plan::Still(Reply::Unchanged);
     }
-    index.make_list_room()?;
-    Ok(Plan::Lists {
+    Plan::Lists {
         who,
         list: books.copied(),
         reply: Reply::Shared,
-    })
+    }
 }
 
 /// Plans that what was learnt is taken back.
-pub fn plan_unlearn(index: &mut Index, alloc: Global, learned: &Learned) -> Result<Plan, Memory>
-    ensures state { index.new.state ≡ index.old.state }
-    ensures planned { IfOk result (λ plan. IsPlanned index.old.state (Unlearn learned.now) plan) }
-    ensures room { IfOk result (λ plan. HasRoom index.new plan) }
+pub fn plan_unlearn(index: &Index, alloc: Global, learned: &Learned) -> Result<Plan, Memory>
+    ensures { IfOk result (λ plan. IsPlanned index.now.state (Unlearn learned.now) plan) }
 {
     let book = learned.book();
     let key = learned.key();
@@ -119,7 +131,7 @@ pub fn plan_unlearn(index: &mut Index, alloc: Global, learned: &Learned) -> Resu
     }
     let before = copy_of(alloc, learned.before())?;
     let count = index.count(book);
-    make_move(index, alloc, book, count, key, before, Reply::Restored)
+    plan_move(alloc, book, count, key, before, Reply::Restored)
 }
 
 /// What the types of a learning's parts keep.
@@ -167,7 +179,6 @@ pub fn unlearning_is_call(learned: &Learned)
 
 // Plans that a key gets this row in a book, and the book this count, unless the row's line is too long.
 fn plan_row(
-    index: &mut Index,
     alloc: Global,
     book: u16,
     count: u64,
@@ -175,22 +186,17 @@ fn plan_row(
     row: Row,
     reply: Reply,
 ) -> Result<Plan, Memory>
-    ensures state { index.new.state ≡ index.old.state }
-    ensures plan { IfOk result (λ plan. plan ≡ (if nat_lt line_limit (line_length row)
-        then Still (TooBig (line_length row))
-        else Move book count key.now (Some row) reply)) }
-    ensures room { IfOk result (λ plan. HasRoom index.new plan) }
+    ensures { IfOk result (λ plan. plan ≡ row_plan book count key.now row reply) }
 {
     let length = line_length(&row);
     if length > LINE_LIMIT as u64 {
         return Ok(Plan::Still(Reply::TooBig(length)));
     }
-    make_move(index, alloc, book, count, key, Some(row), reply)
+    plan_move(alloc, book, count, key, Some(row), reply)
 }
 
 // Plans that a key gets this row in a book, or none, and the book this count.
-fn make_move(
-    index: &mut Index,
+fn plan_move(
     alloc: Global,
     book: u16,
     count: u64,
@@ -198,11 +204,8 @@ fn make_move(
     row: Option<Row>,
     reply: Reply,
 ) -> Result<Plan, Memory>
-    ensures state { index.new.state ≡ index.old.state }
-    ensures plan { IfOk result (λ plan. plan ≡ Move book count key.now row reply) }
-    ensures room { OnOk result (0 < spare_of index.new book) }
+    ensures { IfOk result (λ plan. plan ≡ Move book count key.now row reply) }
 {
-    index.make_room(alloc, book, RowOrders::ByKeyAndStamp)?;
     let row = keep(alloc, row)?;
     let key = key.copy(alloc)?;
     Ok(Plan::Move {

@@ -1,4 +1,4 @@
-use Rattle.std.proofs.Common.{◌∙◌, ap, not}
+use Rattle.std.proofs.Common.{◌∙◌, ap, arith, not}
 use Rattle.std.specs.List.{list_all}
 use Rattle.skk_calls.specs.Rows.{Row}
 use Rattle.ordered_lists.specs.Orders.{ascend}
@@ -12,7 +12,7 @@ with_aged-requires-clause-ascend c =
     ∙ left_ascends c.args.before c.args.stamps.items c.requires.ascend
 
 pub with_aged-requires-clause-room : goal.with_aged-requires-clause-room
-with_aged-requires-clause-room c = c.without_aged.ensures.room c.requires.room
+with_aged-requires-clause-room c = omega (arith, c.without_aged.ensures.room, c.requires.room)
 
 pub with_aged-requires-clause-new : goal.with_aged-requires-clause-new
 with_aged-requires-clause-new c =

@@ -5,8 +5,8 @@ use Rattle.ordered_lists.specs.PlaceLaws.{insert_at}
 use Rattle.learn_index.specs.Ages.{age, age_keys}
 use Rattle.learn_index.proofs.by_stamp.with_aged.Goals as goal
 
-pub returns : goal.returns
-returns c =
+pub returns-clause-items : goal.returns-clause-items
+returns-clause-items c =
     let row = c.args.row in
     let own : c.new-row.result ≡ row = c.new-row.ensures in
     let place = c.place_among-place.result in

@@ -6,8 +6,8 @@ use Rattle.skk_calls.specs.declared.call.Call.TheVariants.{Annotate}
 use Rattle.skk_calls.specs.Learning.{annotated, annotation_changes}
 use Rattle.skk_calls.specs.States.{row_at, rows_of}
 use Rattle.learn_index.specs.declared.plan.Plan.{Plan}
-use Rattle.learn_index.specs.Plans.{IsPlanned}
-use Rattle.learn_index.proofs.Planned.{before_keyed, annotation_planned, row_plan}
+use Rattle.learn_index.specs.Plans.{IsPlanned, row_plan}
+use Rattle.learn_index.proofs.Planned.{before_keyed, annotation_planned}
 use Rattle.learn_index.proofs.planning.plan_annotate.Goals as goal
 
 pub annotate_row-requires : goal.annotate_row-requires
@@ -16,8 +16,8 @@ annotate_row-requires c =
     subst (λ found. IfSome found (λ before. before.key ≡ key)) (sym c.row-before.ensures)
     (before_keyed key (rows_of c.args.index.now.state c.args.book))
 
-pub returns-clause-planned : goal.returns-clause-planned
-returns-clause-planned c =
+pub returns : goal.returns
+returns c =
     let state = c.args.index.now.state in
     let book = c.args.book in
     let key = c.args.key.now in
@@ -38,4 +38,4 @@ returns-clause-planned c =
     (omega (arith, c.in-Some-checked_add.ensures)) c.in_ok-row.field-0 made c.in-Some.is in
     IfOk-weaker c.plan_row.result (λ plan. plan ≡ row_plan book stamp key c.in-Some.row Annotated)
     (IsPlanned state (Annotate book key cand))
-    (λ (plan : Plan) e. subst (IsPlanned state (Annotate book key cand)) (sym e) planned) c.plan_row.ensures.plan
+    (λ (plan : Plan) e. subst (IsPlanned state (Annotate book key cand)) (sym e) planned) c.plan_row.ensures

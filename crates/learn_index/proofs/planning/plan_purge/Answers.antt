@@ -6,8 +6,8 @@ use Rattle.skk_calls.specs.declared.call.Call.TheVariants.{Purge}
 use Rattle.skk_calls.specs.Learning.{purged, purge_changes}
 use Rattle.skk_calls.specs.States.{row_at, rows_of}
 use Rattle.learn_index.specs.declared.plan.Plan.{Plan}
-use Rattle.learn_index.specs.Plans.{IsPlanned}
-use Rattle.learn_index.proofs.Planned.{before_keyed, purge_planned, row_plan}
+use Rattle.learn_index.specs.Plans.{IsPlanned, row_plan}
+use Rattle.learn_index.proofs.Planned.{before_keyed, purge_planned}
 use Rattle.learn_index.proofs.planning.plan_purge.Goals as goal
 
 pub purge_row-requires-clause-key : goal.purge_row-requires-clause-key
@@ -16,8 +16,8 @@ purge_row-requires-clause-key c =
     subst (λ found. IfSome found (λ before. before.key ≡ key)) (sym c.row-before.ensures)
     (before_keyed key (rows_of c.args.index.now.state c.args.book))
 
-pub returns-clause-planned : goal.returns-clause-planned
-returns-clause-planned c =
+pub returns : goal.returns
+returns c =
     let state = c.args.index.now.state in
     let book = c.args.book in
     let key = c.args.key.now in
@@ -37,4 +37,4 @@ returns-clause-planned c =
     (omega (arith, c.in-Some-checked_add.ensures)) c.in_ok-row.field-0 made c.in-Some.is in
     IfOk-weaker c.plan_row.result (λ plan. plan ≡ row_plan book stamp key c.in-Some.row Purged)
     (IsPlanned state (Purge book key word))
-    (λ (plan : Plan) e. subst (IsPlanned state (Purge book key word)) (sym e) planned) c.plan_row.ensures.plan
+    (λ (plan : Plan) e. subst (IsPlanned state (Purge book key word)) (sym e) planned) c.plan_row.ensures

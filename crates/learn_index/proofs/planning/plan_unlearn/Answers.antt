@@ -10,8 +10,8 @@ use Rattle.learn_index.specs.Plans.{IsPlanned}
 use Rattle.learn_index.proofs.Planned.{unlearn_planned}
 use Rattle.learn_index.proofs.planning.plan_unlearn.Goals as goal
 
-pub returns-clause-planned : goal.returns-clause-planned
-returns-clause-planned c =
+pub returns : goal.returns
+returns c =
     let state = c.args.index.now.state in
     let learned = c.args.learned.now in
     let book = c.book-book.ensures.value in
@@ -29,7 +29,7 @@ returns-clause-planned c =
     ∙ ap (λ r. Move learned.book (count_of state learned.book) learned.key r Restored)
     (c.in_ok-before.ensures ∙ c.before-2.ensures.value) in
     let planned = unlearn_planned state learned c.key-key.ensures.valid stamped in
-    IfOk-weaker c.make_move.result
+    IfOk-weaker c.plan_move.result
     (λ plan. plan ≡ Move c.book-book.result c.count-count.result c.key-key.result.now c.in_ok-before.before Restored)
     (IsPlanned state (Unlearn learned))
-    (λ (plan : Plan) e. subst (IsPlanned state (Unlearn learned)) (sym (e ∙ same)) planned) c.make_move.ensures.plan
+    (λ (plan : Plan) e. subst (IsPlanned state (Unlearn learned)) (sym (e ∙ same)) planned) c.plan_move.ensures

@@ -33,6 +33,6 @@ invariant_of-self c = record {
   in_order = λ after is.
       exchanged_in_order c.args.self.now.rows.items c.in-Some.stamps.items c.args.row c.put_row-before.result
       c.share-shared.result c.requires.ascend (sorted (goal.at.invariant_of-self c).In-Some)
-      c.put_row-before.ensures.before c.share-shared.ensures after.items (c.exchanged.ensures after is)
+      c.put_row-before.ensures.before c.share-shared.ensures after.items (c.exchanged.ensures.items after is)
       ∙ ap oldest_first (sym c.put_row-before.ensures.rows);
 }

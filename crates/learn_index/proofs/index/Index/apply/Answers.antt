@@ -1,9 +1,9 @@
-use Rattle.std.proofs.Common.{◌≡◌, ◌∙◌, true, None, Option, Some, ap, sym, subst}
+use Rattle.std.proofs.Common.{◌≡◌, ◌==◌, ◌+◌, ◌≤◌, ◌∙◌, true, None, Option, Some, List, find, ap, sym, subst, arith}
 use Rattle.skk_calls.specs.KeyLaws.{same_key_equal}
 use Rattle.skk_calls.specs.Rows.{Row, RowKey}
 use Rattle.skk_calls.specs.States.{is_valid, state_with}
 use Rattle.learn_index.specs.declared.plan.Plan.TheVariants.{Move}
-use Rattle.learn_index.specs.Index.{Index}
+use Rattle.learn_index.specs.Index.{Index, Spare, changes_of, spare_of}
 use Rattle.learn_index.specs.Plans.{IsMade, IsPlanned}
 use Rattle.learn_index.proofs.Planned.{list_is, made_has_key, made_valid, move_is, some_count}
 use Rattle.learn_index.proofs.index.Index.apply.Goals as goal
@@ -63,15 +63,35 @@ returns-after-row-clause-state c call typed planned =
     let left =
     sym (move_is state call c.in-Move.book c.in-Move.count c.in-Move.key c.in-Move.row c.in-Move.reply typed moved) in
     elim c.match-row.branch [
-      | in-Some w ↦ ap (λ (index : Index). index.state) w.self-is ∙ w.set_row.ensures
+      | in-Some w ↦ ap (λ (index : Index). index.state) w.self-is ∙ w.set_row.ensures.state
           ∙ same_row at w.in-Some.row w.in-Some.is ∙ left
       | in-None w ↦
-          ap (λ (index : Index). index.state) w.self-is ∙ w.remove_row.ensures
+          ap (λ (index : Index). index.state) w.self-is ∙ w.remove_row.ensures.state
           ∙ ap (state_with state c.in-Move.book c.in-Move.count c.in-Move.key) (sym w.in-None.is) ∙ left
     ]
 
 pub returns-in-Lists-clause-state : goal.returns-in-Lists-clause-state
 returns-in-Lists-clause-state c call typed planned =
-    c.put_list.ensures
+    c.put_list.ensures.state
     ∙ sym (list_is c.args.self.now.state call c.in-Lists.who c.in-Lists.list c.in-Lists.reply
     (subst (IsPlanned c.args.self.now.state call) c.in-Lists.is planned))
+
+pub returns-after-row-clause-spare : goal.returns-after-row-clause-spare
+returns-after-row-clause-spare c number =
+    let before = c.args.self.now in
+    elim c.match-row.branch [
+      | in-Some w ↦
+          subst (λ (index : Index). spare_of before number ≤ spare_of index number + 1) (sym w.self-is)
+          (w.set_row.ensures.spare number)
+      | in-None w ↦
+          subst (λ (index : Index). spare_of before number ≤ spare_of index number + 1) (sym w.self-is)
+          (w.remove_row.ensures.spare number)
+    ]
+
+pub returns-in-Lists-clause-spare : goal.returns-in-Lists-clause-spare
+returns-in-Lists-clause-spare c number =
+    omega (
+      arith,
+      ap (λ (spares : List Spare). changes_of (find (λ (spare : Spare). spare.number == number) spares))
+          c.put_list.ensures.spare,
+    )

@@ -48,5 +48,5 @@ returns-clause-room c =
     (room_more (has (goal.at.returns-clause-room c).After-index_mut) c.make_room.new.self
     c.make_room.ensures.number c.make_room.ensures.count c.make_room.ensures.rows
     (changed (kept (set c.self.inside.books.items c.place_of-place.result c.make_room.new.self)
-    c.self.inside.lists.items)) (vec_capacity c.self.inside.lists - vec_len c.self.inside.lists))
+    c.self.inside.lists.items)) (vec_capacity c.self.inside.lists - vec_len c.self.inside.lists) c.args.changes)
     c.make_room.ensures.room

@@ -18,7 +18,7 @@ invariant_of-self c =
     kept_listed c.self.inside.books.items c.self.inside.lists.items c.self.inside.rows c.self.invariant c.args.who
     c.args.list c.put_list.new.lists.items c.len-count.ensures.valid c.put_list.ensures
 
-pub returns : goal.returns
-returns c =
+pub returns-clause-state : goal.returns-clause-state
+returns-clause-state c =
     ap (λ lists. changed (kept c.self.inside.books.items lists)) c.put_list.ensures
     ∙ ap (λ (index : Index). state_listed index.state c.args.who c.args.list) c.self.view_is

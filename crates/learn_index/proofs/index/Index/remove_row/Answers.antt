@@ -4,7 +4,7 @@ use Rattle.skk_calls.specs.States.{is_valid, state_with}
 use Rattle.learn_index.specs.Kept.{kept}
 use Rattle.learn_index.proofs.Books.{rows_counted}
 use Rattle.learn_index.proofs.FoundBook.{HasBook, HasPlace, book_read, kept_changed, place_inside, row_changed}
-use Rattle.learn_index.proofs.FoundBook.{rows_among, rows_ascend_there}
+use Rattle.learn_index.proofs.FoundBook.{room_taken, rows_among, rows_ascend_there}
 use Rattle.learn_index.proofs.index.Index.remove_row.Goals as goal
 use Rattle.learn_index.proofs.index.Index.remove_row.Goals.{After-place_of-place, After-index_mut-book}
 
@@ -45,12 +45,18 @@ overflow_add-self c =
       c.len-2.type_inv,
     )
 
-pub returns : goal.returns
-returns c =
-    row_changed (has (goal.at.returns c).After-index_mut-book) c.remove_row.new.self c.remove_row.ensures.number
+pub returns-clause-state : goal.returns-clause-state
+returns-clause-state c =
+    row_changed (has (goal.at.returns-clause-state c).After-index_mut-book) c.remove_row.new.self
+    c.remove_row.ensures.number
     (omega (arith, c.remove_row.ensures.count, c.requires.count)) c.args.key.now None c.remove_row.ensures.rows
     ∙ ap (λ n. state_with c.args.self.now.state c.args.number n c.args.key.now None)
     c.remove_row.ensures.count
+
+pub returns-clause-spare : goal.returns-clause-spare
+returns-clause-spare c =
+    room_taken (has (goal.at.returns-clause-spare c).After-index_mut-book) c.remove_row.new.self
+    c.remove_row.ensures.number (omega (arith, c.remove_row.ensures.room))
 
 pub invariant_of-self : goal.invariant_of-self
 invariant_of-self c =
@@ -58,4 +64,4 @@ invariant_of-self c =
     c.remove_row.ensures.number
     (omega (arith, c.remove_row.ensures.count, c.requires.count)) c.ranges.number.fits
     (omega (arith, rows_among (has (goal.at.invariant_of-self c).After-index_mut-book), c.len.ensures, c.len-2.ensures))
-    (ap is_valid (returns c) ∙ c.requires.valid)
+    (ap is_valid (returns-clause-state c) ∙ c.requires.valid)

@@ -5,7 +5,7 @@ use Rattle.learn_index.specs.Kept.{kept}
 use Rattle.learn_index.proofs.Books.{rows_counted}
 use Rattle.learn_index.proofs.Changes.{room_there}
 use Rattle.learn_index.proofs.FoundBook.{HasBook, HasPlace, book_read, kept_changed, place_inside, room_seen}
-use Rattle.learn_index.proofs.FoundBook.{row_changed, rows_among, rows_ascend_there}
+use Rattle.learn_index.proofs.FoundBook.{room_taken, row_changed, rows_among, rows_ascend_there}
 use Rattle.learn_index.proofs.index.Index.set_row.Goals as goal
 use Rattle.learn_index.proofs.index.Index.set_row.Goals.{After-place_of-place, After-index_mut-book}
 
@@ -51,12 +51,17 @@ overflow_add-self c =
       c.len-2.type_inv,
     )
 
-pub returns : goal.returns
-returns c =
-    row_changed (has (goal.at.returns c).After-index_mut-book) c.set_row.new.self c.set_row.ensures.number
+pub returns-clause-state : goal.returns-clause-state
+returns-clause-state c =
+    row_changed (has (goal.at.returns-clause-state c).After-index_mut-book) c.set_row.new.self c.set_row.ensures.number
     (omega (arith, c.set_row.ensures.count, c.requires.count)) c.args.row.key (Some c.args.row) c.set_row.ensures.rows
     ∙ ap (λ n. state_with c.args.self.now.state c.args.number n c.args.row.key (Some c.args.row))
     c.set_row.ensures.count
+
+pub returns-clause-spare : goal.returns-clause-spare
+returns-clause-spare c =
+    room_taken (has (goal.at.returns-clause-spare c).After-index_mut-book) c.set_row.new.self
+    c.set_row.ensures.number (omega (arith, c.set_row.ensures.room))
 
 pub invariant_of-self : goal.invariant_of-self
 invariant_of-self c =
@@ -64,4 +69,4 @@ invariant_of-self c =
     c.set_row.ensures.number
     (omega (arith, c.set_row.ensures.count, c.requires.count)) c.ranges.number.fits
     (omega (arith, rows_among (has (goal.at.invariant_of-self c).After-index_mut-book), c.len.ensures, c.len-2.ensures))
-    (ap is_valid (returns c) ∙ c.requires.valid)
+    (ap is_valid (returns-clause-state c) ∙ c.requires.valid)
