@@ -1,5 +1,5 @@
 -- What the steps of an open journal leave of both files, in each image.
-use Rattle.std.proofs.Common.{◌≡◌, inl, ℕ, ◌+◌, List, true, false, sym, ◌∙◌, ap, subst, arith, refl}
+use Rattle.std.proofs.Common.{◌≡◌, ◌⊎◌, inl, inr, ℕ, ◌+◌, List, ◌++◌, true, false, sym, ◌∙◌, ap, subst, arith, refl}
 use Rattle.std.specs.Prelude.{Some, All}
 use Rattle.skk_disk.specs.declared.disk.Disk.{Ghosts}
 use Rattle.skk_disk.specs.Image.{Image, part, other}
@@ -14,11 +14,11 @@ use Rattle.skk_journal.specs.declared.live.Doubt.{Doubt}
 use Rattle.skk_journal.specs.declared.live.Doubt.TheVariants as doubts
 use Rattle.skk_journal.specs.Contents.{Contents, with_added}
 use Rattle.skk_journal.specs.Records.{IsSized, IsVersion, framed, end_of, HasContents}
-use Rattle.skk_journal.specs.RecordLaws.{gated_open, gated_shut}
+use Rattle.skk_journal.specs.RecordLaws.{gated_shut}
 use Rattle.skk_journal.specs.Generations.{HasGeneration, one_more, live_after}
 use Rattle.skk_journal.specs.Filling.{filled_bytes, IsReady}
 use Rattle.skk_journal.proofs.FirstBytes.{first_blank}
-use Rattle.skk_journal.specs.Gating.{KeepsContents, Stages, KeepsStaged, Gates}
+use Rattle.skk_journal.specs.Gating.{KeepsStaged, Gates, Adds, AddsAllOrNone, FailsAdding}
 use Rattle.skk_journal.specs.Idle.{IsIdle, IsKnown, OtherFirst, FirstIs}
 use Rattle.skk_journal.specs.Images.{Each, Sides, Opens, OpensEither}
 use Rattle.skk_journal.specs.Journal.{OpenJournal, is_in_doubt, IsStagedTo, IsFilled, Holds, Rests, HoldsDoubt, Doubts}
@@ -28,20 +28,68 @@ use Rattle.skk_journal.specs.SideLaws.{turned, holds_opens, staged_opens, filled
 use Rattle.skk_journal.proofs.SideSteps.{filled_other, old_loose, ready_first}
 use Rattle.skk_journal.specs.SideLaws.{filled_has}
 
-module _ (newest : ℕ) (live : Live) (idle : Idle) (contents : Contents) (end : ℕ) (is : end ≡ end_of contents.records)
-    (before now : Image → Type 0) (each : Each before (Holds newest live idle contents)) where
-  -- while records are staged behind the closed gate, the contents stay
-  pub staging_keeps : ComeFrom (InFile live.file (KeepsContents end)) before now
-      → Each now (Holds newest live idle contents)
-  staging_keeps come =
-      sides_on _ _ _ _ _ _ _ (λ old new keeps has. keeps newest live.generation contents is has) come each
+module _ {D : Type 0} (disk : Ghosts D) (old : OpenJournal D) (contents : Contents) (rests : Rests disk old contents)
+    (added : List (List ℕ)) (now : D) where
+  -- at each moment at which records are added none of them counts, or all of them do
+  pub adding_opens : (since : ℕ)
+      → ComeFrom (InFile old.live.file (AddsAllOrNone old.end added)) (disk.left_since old.disk (disk.time old.disk))
+      (disk.left_since now since)
+      → Each (disk.left_since now since) (OpensEither old.newest contents (with_added contents added))
+  adding_opens since come image left =
+      let own = old.live.generation in
+      let sides = sides_on _ _ _ _ _ _
+      (λ (file : List ℕ). HasContents old.newest own contents file
+      ⊎ HasContents old.newest own (with_added contents added) file)
+      (λ was new adds has. adds old.newest own contents rests.end has) come rests.images image left in
+      elim sides.this [
+        | inl has ↦
+            inl (holds_opens old.newest old.live old.idle contents image (record { this = has; that = sides.that }))
+        | inr has ↦
+            inr (holds_opens old.newest old.live old.idle (with_added contents added) image
+            (record { this = has; that = sides.that }))
+      ]
 
-  -- then they are there with them, or without them
-  pub staging_adds : (added : List (List ℕ)) → ComeFrom (InFile live.file (Stages end added)) before now
-      → Each now (HoldsDoubt newest live idle doubts.Record contents (with_added contents added))
-  staging_adds added come =
-      sides_on _ _ _ _ _ _ (IsStagedTo newest live.generation contents (with_added contents added))
-      (λ old new stages has. (added, refl, stages newest live.generation contents is has)) come each
+  -- behind an addition that failed, by what is in doubt
+  pub adding_failed : (doubt : Doubt)
+      → ComeFrom (InFile old.live.file (FailsAdding doubt old.end added))
+      (disk.left_since old.disk (disk.time old.disk)) (disk.left_since now (disk.time now))
+      → Rests disk (record old { disk = now; doubt = doubt }) contents
+      ⊎ Doubts disk (record old { disk = now; doubt = doubt }) contents (with_added contents added)
+  adding_failed doubts.Calm come = inl (record {
+    calm = refl;
+    version = rests.version;
+    end = rests.end;
+    images = sides_on _ _ _ _ _ _ (HasContents old.newest old.live.generation contents)
+        (λ was new keeps has. keeps old.newest old.live.generation contents rests.end has) come rests.images;
+  })
+  adding_failed doubts.Record come = inr (record {
+    doubt = refl;
+    version = rests.version;
+    end = rests.end;
+    images = sides_on _ _ _ _ _ _
+        (IsStagedTo old.newest old.live.generation contents (with_added contents added))
+        (λ was new stages has. (added, refl, stages old.newest old.live.generation contents rests.end has)) come
+        rests.images;
+  })
+  adding_failed doubts.Idle come = inr (record {
+    doubt = refl;
+    version = rests.version;
+    end = rests.end;
+    images = λ image left. absurd (come image left).2.this;
+  })
+
+  -- behind one that did not, they are there
+  pub adding_rests : (end : ℕ) (doubt : Doubt) → end ≡ end_of (contents.records ++ added) → is_in_doubt doubt ≡ false
+      → ComeFrom (InFile old.live.file (Adds old.end added)) (disk.left_since old.disk (disk.time old.disk))
+      (disk.left_since now (disk.time now))
+      → Rests disk (record old { disk = now; end = end; doubt = doubt }) (with_added contents added)
+  adding_rests end doubt is calm come = record {
+    calm = calm;
+    version = rests.version;
+    end = is;
+    images = sides_on _ _ _ _ _ _ (HasContents old.newest old.live.generation (with_added contents added))
+        (λ was new adds has. adds old.newest old.live.generation contents rests.end has) come rests.images;
+  }
 
 module _ (newest : ℕ) (live : Live) (idle : Idle) (contents others : Contents) (at : ℕ)
     (is : at + 1 ≡ end_of contents.records) (before now : Image → Type 0)
@@ -60,16 +108,7 @@ module _ (newest : ℕ) (live : Live) (idle : Idle) (contents others : Contents)
   gating_opens come image left =
       staged_opens newest live idle contents others image (gating_keeps come image left)
 
-  -- behind an open gate they are there
-  pub gate_opened : ComeFrom (InFile live.file (Gates at 1)) before now → Each now (Holds newest live idle others)
-  gate_opened come =
-      sides_on _ _ _ _ (IsStagedTo newest live.generation contents others) _
-      (HasContents newest live.generation others)
-      (λ old new gates staged. subst (λ (c : Contents). HasContents newest live.generation c new) (sym staged.1)
-      (gated_open newest live.generation contents staged.0 new
-      (gates newest live.generation contents staged.0 is staged.2))) come each
-
-  -- behind a closed one they are not
+  -- behind a closed gate they are not there
   pub gate_shut : ComeFrom (InFile live.file (Gates at 0)) before now → Each now (Holds newest live idle contents)
   gate_shut come =
       sides_on _ _ _ _ (IsStagedTo newest live.generation contents others) _
@@ -158,20 +197,6 @@ ready_filled newest live contents others now right small sized each image left =
 module _ (newest start mid end : ℕ) (first second third : ℕ → Image → Type 0) (one : Passes start mid first second)
     (two : Passes mid end second third) (live : Live) (idle : Idle) (contents : Contents)
     (each : Each (first start) (Holds newest live idle contents)) where
-  -- at each moment at which records are added they count or not
-  pub adding_opens : (added : List (List ℕ)) (place at : ℕ) → place ≡ end_of contents.records
-      → at + 1 ≡ end_of contents.records
-      → ComeFrom (InFile live.file (KeepsContents place)) (first start) (second start)
-      → ComeFrom (InFile live.file (Stages place added)) (first start) (second mid)
-      → ComeFrom (InFile live.file (KeepsStaged at)) (second mid) (third mid)
-      → Each (third start) (OpensEither newest contents (with_added contents added))
-  adding_opens added place at is at_is keeps stages gates =
-      each_within start mid end first second third one two (OpensEither newest contents (with_added contents added))
-      (λ image left. inl (holds_opens newest live idle contents image
-      (staging_keeps newest live idle contents place is _ _ each keeps image left)))
-      (gating_opens newest live idle contents (with_added contents added) at at_is _ _
-      (staging_adds newest live idle contents place is _ _ each added stages) gates)
-
   -- at each moment at which the other file takes over its contents count or the old ones
   pub turning_over : (others : Contents) (file : Which) → file ≡ other live.file → IsVersion newest others.version
       → HasGeneration (Some live) → All IsSized others.records → (bytes : List ℕ) → bytes ≡ framed others.records

@@ -1,7 +1,8 @@
+mod Adding
 mod Aged
 mod BlankSteps
 mod Ends
-mod Examples
+mod FileExamples
 mod FirstBytes
 mod Gates
 mod HeadsOf
@@ -10,6 +11,7 @@ mod Opened
 mod Parts
 mod Places
 mod ReadingOn
+mod RecordExamples
 mod Results
 mod SideSteps
 mod SomeOpening

@@ -1,4 +1,4 @@
--- Why a learned file is not opened, and why a record is not added.
+-- Why a learned file is not opened, and why records are not added.
 use Rattle.std.specs.Prelude.{◌≡◌, ⊤, ℕ, ◌+◌, ◌<◌, ◌≤◌}
 use Rattle.skk_disk.specs.Image.{Image}
 use Rattle.skk_disk.specs.declared.which.Which.{Which}
@@ -32,8 +32,8 @@ abbrev pub UnlessDisk : OpenFault → Type 0 → Type 0
 UnlessDisk opening.Disk P = ⊤
 UnlessDisk fault P = P
 
--- a record with this need is not added under this limit: it would end behind it, where the three numbers are told and
--- the journal is as it was; or it would not, and a disk failed
+-- what has this need is not added under this limit: it would end behind it, where the three numbers are told and the
+-- journal is as it was; or it would not, and a disk failed
 abbrev pub IsNotAdded : {D : Type 0} → ℕ → ℕ → OpenJournal D → OpenJournal D → AppendFault → Type 0
 IsNotAdded need limit old new (Full told_end told_need told_limit) =
     (limit < old.end + need) × (told_end ≡ old.end) × (told_need ≡ need) × (told_limit ≡ limit) × (new ≡ old)

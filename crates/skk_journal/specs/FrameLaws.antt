@@ -17,7 +17,8 @@ use Rattle.exact_readers.specs.ManyLaws.{taken-complete}
 use Rattle.exact_readers.specs.Numbers.{number_bytes, number_step}
 use Rattle.exact_readers.specs.NumberLaws.{told_32, number-exact}
 use Rattle.skk_journal.specs.Records.{payload_limit, IsSized, body, payload_step, sized_payload, record_bytes}
-use Rattle.skk_journal.specs.Records.{open_record, framed}
+use Rattle.skk_journal.specs.Records.{open_record, framed, IsGroup}
+use Rattle.skk_journal.specs.RecordLaws.{group_framed}
 use Rattle.skk_journal.specs.Opening.{is_bad}
 use Rattle.skk_journal.specs.Frames.{Ends}
 
@@ -166,3 +167,10 @@ one_list xs ys s t sized_xs sized_ys stop_s stop_t same =
     let pairs : (xs, s) ≡ (ys, t) =
     sym (read_again xs s sized_xs stop_s) ∙ ap (taken open_record.step) same ∙ read_again ys t sized_ys stop_t in
     (ap (λ pair. pair.0) pairs, ap (λ pair. pair.1) pairs)
+
+-- bytes are the group of one list of records
+pub one_group : (xs ys : List (List ℕ)) (bytes : List ℕ) → IsGroup xs bytes → IsGroup ys bytes → xs ≡ ys
+one_group xs ys bytes one two =
+    let shut : Stops (0 ∷ []) = inl (0, [], refl, λ same. omega (arith, same)) in
+    (one_list xs ys (0 ∷ []) (0 ∷ []) one.addition.sized two.addition.sized shut shut
+    (sym (group_framed xs bytes one) ∙ group_framed ys bytes two)).0

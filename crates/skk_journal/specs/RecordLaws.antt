@@ -2,12 +2,13 @@
 use Rattle.std.specs.Prelude.{◌≡◌, ◌≢◌, ◌⊎◌, ℕ, ◌+◌, List, [], ◌∷◌, ◌++◌, length}
 use Rattle.std.proofs.Common.{inl, inr, refl, sym, ◌∙◌, ap, subst, arith, append_assoc, length-append}
 use Rattle.std.proofs.lemmas.Bool.{cases_eq}
-use Rattle.std.proofs.lemmas.List.Elements.{All-append}
+use Rattle.std.proofs.lemmas.List.{append-nil}
+use Rattle.std.proofs.lemmas.List.Elements.{All-append, All-cons, All-nil}
 use Rattle.std.specs.Int.{w32, w64}
 use Rattle.exact_readers.specs.Numbers.{number_bytes}
 use Rattle.exact_readers.specs.NumberLaws.{told_32}
-use Rattle.skk_journal.specs.Records.{record_bytes, need, framed, behind_gate, mark, front}
-use Rattle.skk_journal.specs.Records.{IsSized, end_of, HasContents, HasAddition}
+use Rattle.skk_journal.specs.Records.{body, record_bytes, need, framed, behind_gate, mark, front}
+use Rattle.skk_journal.specs.Records.{IsSized, IsGroup, end_of, HasContents, HasAddition}
 use Rattle.skk_journal.specs.Contents.{Contents, with_added}
 use Rattle.skk_journal.specs.Gating.{IsStaged}
 
@@ -28,18 +29,31 @@ framed-append (payload ∷ records) added =
     ap (λ (l : List ℕ). record_bytes payload ++ l) (framed-append records added)
     ∙ sym (append_assoc (record_bytes payload) (framed records) (framed added))
 
--- the end goes on by what one record more needs
-pub end_of-push : (records : List (List ℕ)) (payload : List ℕ)
-    → end_of (records ++ payload ∷ []) ≡ end_of records + need payload
-end_of-push records payload =
+-- behind an open gate, the bytes of a group are its records and a closed gate
+pub group_framed : (added : List (List ℕ)) (bytes : List ℕ) → IsGroup added bytes
+    → 1 ∷ bytes ≡ framed added ++ 0 ∷ []
+group_framed [] bytes group = absurd (omega (arith, group.addition.some))
+group_framed (payload ∷ others) bytes group = ap (λ (l : List ℕ). 1 ∷ l) group.is
+
+-- the end goes on by the bytes of a group
+pub end_of-added : (records added : List (List ℕ)) (bytes : List ℕ) → IsGroup added bytes
+    → end_of (records ++ added) ≡ end_of records + length bytes
+end_of-added records added bytes group =
     omega (
       arith,
-      ap length (framed-append records (payload ∷ [])),
-      length-append (framed records) (framed (payload ∷ [])),
-      length-append (record_bytes payload) [],
-      length-record_bytes payload,
-      need_is payload,
+      ap length (framed-append records added),
+      length-append (framed records) (framed added),
+      ap length (group_framed added bytes group),
+      length-append (framed added) (0 ∷ []),
     )
+
+-- one record is a group
+pub group_of_one : (payload bytes : List ℕ) → IsSized payload → bytes ≡ body payload ++ 0 ∷ []
+    → IsGroup (payload ∷ []) bytes
+group_of_one payload bytes sized is = record {
+  addition = record { some = omega arith; sized = All-cons IsSized payload [] sized (All-nil IsSized) };
+  is = is ∙ ap (λ (l : List ℕ). l ++ 0 ∷ []) (sym (append-nil (body payload)));
+}
 
 -- the front of a file with more records
 pub front-append : (generation : ℕ) (contents : Contents) (added : List (List ℕ)) (rest : List ℕ)

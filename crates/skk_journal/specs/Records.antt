@@ -59,6 +59,11 @@ pub record IsAddition (added : List (List ℕ)) : Type 0 where
   pub some : 0 < length added
   pub sized : All IsSized added
 
+-- bytes are all of the added records but for the gate of the first one, and a closed gate behind them
+pub record IsGroup (added : List (List ℕ)) (bytes : List ℕ) : Type 0 where
+  pub addition : IsAddition added
+  pub is : bytes ≡ behind_gate added ++ 0 ∷ []
+
 -- SKKDESK
 abbrev pub mark_name : List ℕ
 mark_name = 83 ∷ 75 ∷ 75 ∷ 68 ∷ 69 ∷ 83 ∷ 75 ∷ []

@@ -40,10 +40,10 @@ impl From<Failed> for OpenFault {
     }
 }
 
-/// Why a record was not added.
+/// Why a record was not added, or several that were to be added together.
 #[derive(Clone, Copy, Debug, PartialEq, Eq, Error)]
 pub enum AppendFault {
-    /// It would end behind the limit. The disk was not called.
+    /// What was to be added would end behind the limit. The disk was not called.
     #[error("{end} bytes and {need} more pass {limit}")]
     Full { end: u64, need: u64, limit: u64 },
     /// A call of the disk failed.

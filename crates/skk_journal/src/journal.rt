@@ -1,12 +1,12 @@
-ghost use Rattle.std.specs.Prelude.{◌≡◌, ◌≢◌, ◌⊎◌, ◌+◌, ◌≤◌, [], List, ℕ, true, false, length, All};
+ghost use Rattle.std.specs.Prelude.{◌≡◌, ◌≢◌, ◌⊎◌, ◌+◌, ◌<◌, ◌≤◌, [], List, ℕ, true, false, length, All};
 ghost use Rattle.std.specs.Prelude.{IfOk, IfErr, OnOk, OnErr, IsOk, IsErrOf, MatchResult};
 ghost use Rattle.skk_outside.specs.Faults.{Rose};
 ghost use Rattle.skk_disk.specs.Image.{Image};
 ghost use Rattle.skk_disk.specs.declared.which.Which.TheVariants.{A};
 ghost use Rattle.skk_disk.specs.Runs.{Advances, ImagesWithin};
 ghost use Rattle.skk_journal.specs.declared.choice.LiveChoice.TheVariants.{NoLive, LiveIn};
-ghost use Rattle.skk_journal.specs.Contents.{Contents, with_record};
-ghost use Rattle.skk_journal.specs.Records.{IsSized, IsVersion, need, framed, first_place};
+ghost use Rattle.skk_journal.specs.Contents.{Contents, with_added, with_record};
+ghost use Rattle.skk_journal.specs.Records.{IsSized, IsGroup, IsVersion, need, framed, first_place};
 ghost use Rattle.skk_journal.specs.Found.{payloads, found_from};
 ghost use Rattle.skk_journal.specs.Generations.{live_after};
 ghost use Rattle.skk_journal.specs.Choice.{choice};
@@ -23,7 +23,7 @@ use crate::live::{Doubt, Idle, Live, generation_beside, other_file};
 use crate::opening::{number, open_files};
 use crate::ready::make_ready;
 use crate::records::FIRST_PLACE;
-use crate::steps::{CLOSED, OPEN, stage_record, write_gate};
+use crate::steps::{CLOSED, OPEN, add_record, add_records, write_gate};
 use skk_disk::Disk;
 use skk_outside::Failed;
 use std::alloc::{AllocError, Global};
@@ -73,6 +73,17 @@ impl<D> Model for Journal<D> {
 pub struct Unopened<D> {
     pub disk: D,
     pub why: OpenFault,
+}
+
+// Tells whether bytes have room behind an end.
+fn check_room(end: u64, need: u64, limit: u64) -> Result<(), AppendFault>
+    ensures fits { OnOk result (end + need ≤ limit) }
+    ensures full { IfErr result (λ fault. (limit < end + need) × (fault ≡ AppendFault.Full end need limit)) }
+{
+    if end > limit || need > limit - end {
+        return Err(AppendFault::Full { end, need, limit });
+    }
+    Ok(())
 }
 
 // Room for one piece.
@@ -227,18 +238,61 @@ impl<D: Disk> Journal<D> {
 
         ensures advances { Advances D.Disk self.old.disk self.new.disk }
     {
-        let end = self.end;
         let need = 5 + payload.len() as u64;
-        if need > limit.saturating_sub(end) {
-            return Err(AppendFault::Full { end, need, limit });
-        }
-        let file = self.live.file;
-        stage_record(&mut self.disk, file, &mut self.buffer, end, payload)?;
-        // From here on the gate may be open.
-        self.doubt = Doubt::Record;
-        write_gate(&mut self.disk, file, end - 1, OPEN)?;
-        self.doubt = Doubt::Calm;
-        self.end = end + need;
+        check_room(self.end, need, limit)?;
+        add_record(
+            &mut self.disk,
+            self.live.file,
+            self.end,
+            &mut self.doubt,
+            &mut self.buffer,
+            payload,
+        )?;
+        self.end += need;
+        Ok(())
+    }
+
+    /// Adds records behind the others of the live file, all of them or none: a write and a sync of them behind the
+    /// closed gate, and a write and a sync of the gate of the first one, without which they are given, with a closed
+    /// gate at their end. Where one of the last two fails they are in doubt, all together. Takes no memory.
+    pub fn append_many(&mut self, limit: u64, records: &[u8]) -> Result<(), AppendFault>
+        requires { is_in_doubt self.old.doubt ≡ false }
+
+        // They are added exactly where they end within the limit and the disk does not fail.
+        ensures fits { OnOk result (self.old.end + length records.now ≤ limit) }
+        ensures cause { IfErr result (IsNotAdded (length records.now) limit self.old self.new) }
+        ensures failed { IsErrOf result AppendFault.Disk → Rose (D.faults self.old.disk) (D.faults self.new.disk) }
+
+        ensures settled { OnOk result (is_in_doubt self.new.doubt ≡ false) }
+        ensures end { OnOk result (self.new.end ≡ self.old.end + length records.now) }
+        ensures end_stays { OnErr result (self.new.end ≡ self.old.end) }
+        ensures live { self.new.live ≡ self.old.live }
+        ensures newest { self.new.newest ≡ self.old.newest }
+
+        // What each image has afterwards, and at each moment.
+        ensures ok { OnOk result ((contents : Contents) (added : List (List ℕ)) → IsGroup added records.now →
+            Rests D.Disk self.old contents → Rests D.Disk self.new (with_added contents added)) }
+        ensures err { OnErr result ((contents : Contents) (added : List (List ℕ)) → IsGroup added records.now →
+            Rests D.Disk self.old contents →
+            Rests D.Disk self.new contents
+            ⊎ Doubts D.Disk self.new contents (with_added contents added)) }
+        ensures images { (contents : Contents) (added : List (List ℕ)) → IsGroup added records.now →
+            Rests D.Disk self.old contents →
+            Each (D.left_since self.new.disk (D.time self.old.disk))
+            (OpensEither self.old.newest contents (with_added contents added)) }
+
+        ensures advances { Advances D.Disk self.old.disk self.new.disk }
+    {
+        let need = records.len() as u64;
+        check_room(self.end, need, limit)?;
+        add_records(
+            &mut self.disk,
+            self.live.file,
+            self.end,
+            &mut self.doubt,
+            records,
+        )?;
+        self.end += need;
         Ok(())
     }
 

@@ -31,7 +31,7 @@ pub enum Idle {
 pub enum Doubt {
     /// Nothing.
     Calm,
-    /// The gate of a record behind the others.
+    /// The gate of the first record that was to be added behind the others.
     Record,
     /// The gate of the idle file.
     Idle,

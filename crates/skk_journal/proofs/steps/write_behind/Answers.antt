@@ -13,8 +13,8 @@ returns-clause-images g c =
 
 pub returns-clause-ok : goal.returns-clause-ok
 returns-clause-ok g c =
-    on_ok_weaker c.write_through.result (λ placed added addition piece_is.
+    on_ok_weaker c.write_through.result (λ placed added group.
     weaker _ _ _ _ _ (λ old new whole newest generation contents end_is from.
-    stage_placed newest generation contents c.args.end added old new end_is addition from
-    (subst (λ (bytes : List ℕ). IsPlaced c.args.end bytes old new) piece_is whole)) placed)
+    stage_placed newest generation contents c.args.end added old new end_is group.addition from
+    (subst (λ (bytes : List ℕ). IsPlaced c.args.end bytes old new) group.is whole)) placed)
     c.write_through.ensures.placed
