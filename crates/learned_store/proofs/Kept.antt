@@ -12,7 +12,7 @@ use Rattle.learned_store.specs.declared.form.PayloadForm.{PayloadForm}
 use Rattle.learned_store.specs.Payloads.{Says, newest_version, state_told}
 use Rattle.learned_store.specs.Recovered.{Leads, Leave}
 use Rattle.learned_store.specs.Stores.{Keeps, RecoversOneOf, with_doubt}
-use Rattle.learned_store.proofs.DoubtedStates.{first_is, second_is}
+use Rattle.learned_store.specs.DoubtLaws.{first_is, second_is}
 
 -- records lead on where one more says something
 leads_on : (version : ℕ) (start : State) (records : List (List ℕ)) (state : State) (payload : List ℕ)

@@ -5,7 +5,6 @@ mod Chronicles
 mod CompactedExamples
 mod CompactedStates
 mod Compactions
-mod DoubtedStates
 mod Examples
 mod Gathering
 mod ItemLengths

@@ -14,10 +14,10 @@ use Rattle.skk_calls.specs.declared.book_list.TypistList.{TypistList}
 use Rattle.skk_calls.specs.BookLists.{is_book_list, same_numbers, shared_alone}
 use Rattle.skk_calls.specs.OrderLaws.{row_keys}
 use Rattle.skk_calls.specs.Rows.{RowKey, Row}
-use Rattle.skk_calls.specs.States.{State, book_at, book_rows, book_count, rows_of, count_of, row_at, is_book}
-use Rattle.skk_calls.specs.States.{books_ascend, is_kept_list, is_valid, list_in, listed_books, lists_ascend}
+use Rattle.skk_calls.specs.States.{State, book_at, book_rows, book_count, rows_of, count_of, row_at}
+use Rattle.skk_calls.specs.States.{is_kept_list, is_valid, list_in, listed_books, lists_ascend}
 use Rattle.skk_calls.specs.States.{shared_books}
-use Rattle.dict_laws.specs.ValidStates.{parts_at, rows_of_ascend}
+use Rattle.dict_laws.specs.ValidStates.{parts_at, rows_of_ascend, valid_parts}
 
 -- Items
 
@@ -99,20 +99,11 @@ module _ (state : State) (number : ℕ) (valid : is_valid state ≡ true) where
             (parts_at state number valid book is).count,
           )
 
--- what a valid state keeps
-record KeptParts (state : State) : Type 0 where
-  pub ascend : books_ascend state.books ≡ true
-  pub in_order : lists_ascend state.lists ≡ true
-  pub kept : list_all is_kept_list state.lists ≡ true
-
-kept_parts : (state : State) → is_valid state ≡ true → KeptParts state
-kept_parts state valid =
-    let lists = lists_ascend state.lists && list_all is_kept_list state.lists in
-    let first = and_parts (books_ascend state.books) (list_all is_book state.books && lists) valid in
-    let last =
-    and_parts (lists_ascend state.lists) (list_all is_kept_list state.lists)
-    (and_parts (list_all is_book state.books) lists first.1).1 in
-    record { ascend = first.0; in_order = last.0; kept = last.1 }
+-- the lists of a valid state ascend, and each of them is kept
+lists_parts : (state : State) → is_valid state ≡ true
+    → (lists_ascend state.lists ≡ true) × (list_all is_kept_list state.lists ≡ true)
+lists_parts state valid =
+    and_parts (lists_ascend state.lists) (list_all is_kept_list state.lists) (valid_parts state valid).lists
 
 -- a list of a valid state is known by the books that its typist is said to have
 abbrev list_of_books : ℕ → List ℕ → Option TypistList
@@ -129,7 +120,7 @@ list_known state typist valid = by (list_in typist state.lists) refl
     by (Some list) is =
         let kept =
         list_all_found is_kept_list (λ (l : TypistList). l.typist == typist) state.lists list
-        (kept_parts state valid).kept is in
+        (lists_parts state valid).1 is in
         let other = (and_parts (is_book_list list.books) (not (same_numbers list.books shared_alone)) kept).1 in
         let own =
         eqb-true list.typist typist (find_passes (λ (l : TypistList). l.typist == typist) state.lists list is) in
@@ -162,10 +153,10 @@ module _ (state other : State) (valid : is_valid state ≡ true) (later : is_val
   same_state =
       ap (λ (books : List NumberedBook). in_state books state.lists)
       (same_list (λ (book : NumberedBook). book.number) number_keys state.books other.books
-      (kept_parts state valid).ascend (kept_parts other later).ascend same_book)
+      (valid_parts state valid).ascend (valid_parts other later).ascend same_book)
       ∙ ap (λ (own : List TypistList). in_state other.books own)
       (same_list (λ (list : TypistList). list.typist) number_keys state.lists other.lists
-      (kept_parts state valid).in_order (kept_parts other later).in_order same_typist)
+      (lists_parts state valid).0 (lists_parts other later).0 same_typist)
     where
       in_state : List NumberedBook → List TypistList → State
       in_state books own = record { books = books; lists = own }

@@ -1,5 +1,6 @@
 pub mod Compacted
 pub mod Compacting
+pub mod DoubtLaws
 pub mod Gathering
 pub mod KeptLookUps
 pub mod Limits

@@ -11,7 +11,7 @@ use Rattle.skk_calls.specs.Rows.{Row}
 use Rattle.skk_calls.specs.States.{State}
 use Rattle.skk_disk.specs.declared.disk.Disk.{Ghosts}
 use Rattle.skk_disk.specs.Image.{Image}
-use Rattle.skk_journal.specs.Contents.{Contents, with_record}
+use Rattle.skk_journal.specs.Contents.{Contents, with_added}
 use Rattle.skk_journal.specs.Journal.{OpenJournal, Rests, Doubts}
 use Rattle.skk_journal.specs.Records.{IsSized, framed}
 use Rattle.learned_store.specs.Payloads.{newest_version}
@@ -58,11 +58,15 @@ abbrev pub KeepsOneOf : {D : Type 0} → Ghosts D → OpenJournal D → State �
 KeepsOneOf disk journal state doubts =
     (doubt : Option State) × Contains doubts doubt × Keeps disk journal state doubt
 
+-- in a file of a version, behind records that leave a state the added ones leave that one
+abbrev pub AddsAll : ℕ → List (List ℕ) → State → State → Type 0
+AddsAll version added state after =
+    (contents : Contents) → contents.version ≡ version → Leave contents state
+    → Leave (with_added contents added) after
+
 -- in a file of a version, behind records that leave a state one of this payload leaves that one
 abbrev pub Adds : ℕ → List ℕ → State → State → Type 0
-Adds version payload state after =
-    (contents : Contents) → contents.version ≡ version → Leave contents state
-    → Leave (with_record contents payload) after
+Adds version payload state after = AddsAll version (payload ∷ []) state after
 
 -- bytes are the records of a file of the newest version that leave a state
 abbrev pub IsCompaction : State → List ℕ → Type 0

@@ -49,7 +49,10 @@ pub(crate) fn change<D: Disk>(
     match record {
         None => Answer::Done(index.apply(plan)),
         Some(record) => {
-            let planned = Planned { plan, record };
+            let planned = Planned {
+                plan,
+                written: record,
+            };
             write_and_apply(alloc, journal, index, limit, call, planned)
         }
     }
@@ -58,7 +61,7 @@ pub(crate) fn change<D: Disk>(
 // A change that was planned, and its record.
 struct Planned {
     plan: Plan,
-    record: Record,
+    written: Record,
 }
 
 // Writes the record of a change that was planned where there is room for it, and makes the change where it was written.
@@ -75,7 +78,7 @@ fn write_and_apply<D: Disk>(
     requires fit { is_fit call.now ≡ true }
     requires planned { IsPlanned index.old.state call.now planned.plan }
     requires room { HasRoom index.old planned.plan }
-    requires told { TellsOf index.old.state call.now planned.plan planned.record }
+    requires told { TellsOf index.old.state call.now planned.plan planned.written }
     requires tight { tight index.old.state ≤ journal.old.end }
     ensures serves { (files : List (List Row)) → Serves D.Disk
         (record { journal = journal.old; state = index.old.state; files = files; limit = limit })
@@ -85,8 +88,8 @@ fn write_and_apply<D: Disk>(
     changes_keep_states_valid();
     // The count of a book tells that the state is valid.
     let _valid = index.count(0);
-    let Planned { plan, record } = planned;
-    match write(alloc, journal, index, limit, &record) {
+    let Planned { plan, written } = planned;
+    match write(alloc, journal, index, limit, &written) {
         Ok(()) => Answer::Done(index.apply(plan)),
         Err(refusal) => {
             drop(plan);

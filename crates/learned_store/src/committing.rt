@@ -87,8 +87,8 @@ pub(crate) fn commit_compacted<D: Disk>(
     add(journal, limit, payload)
 }
 
-// Closes the gate in doubt.
-pub(crate) fn settle<D: Disk>(journal: &mut Journal<D>) -> Result<(), Failed>
+/// Closes the gate in doubt: at most two calls of the disk, and none where nothing is in doubt. Takes no memory.
+pub fn settle<D: Disk>(journal: &mut Journal<D>) -> Result<(), Failed>
     ensures calm { OnOk result (is_in_doubt journal.new.doubt ≡ false) }
     ensures stands { OnErr result (is_in_doubt journal.old.doubt ≡ true) }
     ensures end { journal.new.end ≡ journal.old.end }
@@ -106,8 +106,9 @@ pub(crate) fn settle<D: Disk>(journal: &mut Journal<D>) -> Result<(), Failed>
     journal.repair()
 }
 
-// Writes the records of the state into the other file.
-fn shrink<D: Disk>(journal: &mut Journal<D>, compacted: &[u8]) -> Result<(), Failed>
+/// Writes the records of the state into the other file, which is live then: at most eleven calls of the disk. Takes no
+/// memory.
+pub fn shrink<D: Disk>(journal: &mut Journal<D>, compacted: &[u8]) -> Result<(), Failed>
     requires { is_in_doubt journal.old.doubt ≡ false }
     ensures calm { OnOk result (is_in_doubt journal.new.doubt ≡ false) }
     ensures end { OnOk result (journal.new.end ≡ first_place + 1 + length compacted.now) }

@@ -1,8 +1,9 @@
 ghost use Rattle.std.specs.Prelude.{◌≡◌, ◌++◌, ◌∷◌, [], map, true, IfOk, OnOk};
 ghost use Rattle.std.specs.Int.{w32};
 ghost use Rattle.std.specs.List.{flat_map, list_all};
+ghost use Rattle.std.specs.Str.{all_scalars};
 ghost use Rattle.exact_readers.specs.Numbers.{number_bytes};
-ghost use Rattle.skk_calls.specs.Canonical.{is_good};
+ghost use Rattle.skk_calls.specs.Canonical.{canonical, is_good};
 ghost use Rattle.skk_calls.specs.States.{is_book};
 ghost use Rattle.skk_journal.specs.Records.{IsSized, framed, record_bytes};
 ghost use Rattle.learn_index.specs.Kept.{changed, has_changed, kept, numbered};
@@ -21,9 +22,9 @@ use std::alloc::Global;
 // The byte of an open gate.
 const OPEN: u8 = 1;
 
-// The records that a compaction writes of the state of an index, each behind an open gate. All memory is taken here, at
-// once for as many bytes as they need. Takes time in what the rows hold, and in the lists.
-pub(crate) fn compacted_records(alloc: Global, index: &Index) -> Result<Bytes, Memory>
+/// The records that a compaction writes of the state of an index, each behind an open gate. All memory is taken here,
+/// at once for as many bytes as they need. Takes time in what the rows hold, and in the lists.
+pub fn live_records(alloc: Global, index: &Index) -> Result<Bytes, Memory>
     ensures { IfOk result (λ records. records ≡ framed (map payload_of (compacted index.now.state))) }
 {
     let mut records = Vec::with_capacity(alloc, tight_end(index) as usize)?;
@@ -116,8 +117,8 @@ fn push_puts(
     Ok(())
 }
 
-// Adds the record that puts a row into a book, which then has a count.
-fn push_put(
+/// Adds the record that puts a row into a book, which then has a count, behind an open gate. Takes time in its bytes.
+pub fn push_put(
     alloc: Global,
     records: &mut Vec<u8>,
     book: u16,
@@ -125,7 +126,8 @@ fn push_put(
     row: &Row,
 ) -> Result<(), Memory>
     requires { is_good row.now ≡ true }
-    ensures { OnOk result (records.new.items ≡ records.old.items ++ form_record (Put book count row.now)) }
+    ensures records { OnOk result (records.new.items ≡ records.old.items ++ form_record (Put book count row.now)) }
+    ensures characters { OnOk result (all_scalars (canonical row.now) ≡ true) }
 {
     let payload = put_record(alloc, book, count, row)?;
     push_record(records, payload.as_slice())?;

@@ -1,6 +1,7 @@
 ghost use Rattle.std.specs.Prelude.{◌≡◌, ◌≤◌, ◌+◌, ◌&&◌, ℕ, nat_le, All, true, List, Option, Some, map};
 ghost use Rattle.std.specs.List.{list_all};
 ghost use Rattle.skk_calls.specs.BookLists.{is_book_list};
+ghost use Rattle.skk_calls.specs.declared.answer.Reply.{Reply};
 ghost use Rattle.skk_calls.specs.declared.call.Call.{Call};
 ghost use Rattle.skk_calls.specs.Dictionary.{after, is_call, is_fit, moves};
 ghost use Rattle.skk_calls.specs.Histories.{need, tight};
@@ -13,12 +14,15 @@ ghost use Rattle.skk_journal.specs.Journal.{OpenJournal};
 ghost use Rattle.skk_journal.specs.Records.{IsSized, end_of, need as record_need};
 ghost use Rattle.learned_store.specs.declared.form.PayloadForm.{PayloadForm};
 ghost use Rattle.learned_store.specs.declared.form.PayloadForm.TheVariants.{Put, Drop, Note, SetList};
+ghost use Rattle.learn_index.specs.declared.plan.Plan.TheVariants.{Move};
+ghost use Rattle.learn_index.specs.Plans.{IsPlanned};
 ghost use Rattle.learned_store.specs.Compacted.{compacted, is_written};
 ghost use Rattle.learned_store.specs.Payloads.{CountsOn, Says, counted_by, may_follow, newest_version, payload_of};
 ghost use Rattle.learned_store.specs.Payloads.{is_sound};
 ghost use Rattle.learned_store.specs.Payloads.{state_told, change_told};
 ghost use Rattle.learned_store.specs.Recovered.{BreakAt, Leave, Recovery, IsRecovered};
 ghost use Rattle.learned_store.specs.Stores.{Keeps, RecoversOneOf, with_doubt};
+ghost use Rattle.learned_store.specs.Written.{noted_in, planned_told};
 
 use dict_format::{good_rows_are_read_again, lines_spell_one_row};
 use dict_laws::changes_keep_states_valid;
@@ -90,6 +94,19 @@ pub fn the_tight_end_is_least()
     ensures compacted { (state : State) → end_of (map payload_of (compacted state)) ≡ tight state }
     ensures least { (contents : Contents) (state : State) → Leave contents state
         → tight state ≤ end_of contents.records }
+{}
+
+/// What a plan changes is what the record of its call says: of an annotation whose row is there the candidate with its
+/// note, and else the row.
+pub fn plans_tell_what_their_changes_tell()
+    ensures { (state : State) (call : Call) (book count : ℕ) (key : RowKey) (row : Option Row) (reply : Reply)
+        → is_call call ≡ true → IsPlanned state call (Move book count key row reply)
+        → change_told state call ≡ Some (planned_told (noted_in state call) book count key row) }
+{}
+
+/// The payload of what may be written fits a record.
+pub fn sound_records_fit()
+    ensures { (form : PayloadForm) → is_sound form ≡ true → IsSized (payload_of form) }
 {}
 
 /// A change makes the tight end of a state at most so much greater as it needs.

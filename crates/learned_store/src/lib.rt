@@ -14,7 +14,9 @@
 //! the state before the call, the one after it, or one that was in doubt. It keeps what look-ups of the readings that
 //! were used last found, up to the next change of theirs or of any typist's list. `Noting` keeps the history of a
 //! store: what a stop at a moment might have left is opened as a state that a part of the history may leave, which has
-//! each entry that was made by then. `Alone` is the one caller of a store, with no lock.
+//! each entry that was made by then. `Alone` is the one caller of a store, with no lock. `into_parts` takes a store
+//! apart for a layer that writes several records at once: `put_record` gives the payload that puts a row,
+//! `live_records` what a compaction writes of a state, and `tight_end` where a file ends that has just that.
 //!
 //! Laws say that a file is opened in one way at most, that the record of a change may be written and leaves the state
 //! that the change leaves, that it needs what the change needs, that the records of a compaction leave their state and
@@ -35,6 +37,7 @@ mod learned_name;
 mod list_payload;
 mod noting;
 mod opening;
+mod parts;
 mod payload;
 mod placed_row;
 mod plain_row;
@@ -48,12 +51,18 @@ mod writing;
 
 pub use alone::Alone;
 pub use closed::Closed;
+pub use committing::{settle, shrink};
+pub use compacting::{live_records, push_put};
 pub use form::{NEWEST, PayloadForm};
 pub use laws::{
     changes_keep_the_tight_end, changes_need_their_records, changes_tell_what_may_be_written,
     compacted_records_leave_their_state, files_are_recovered_in_one_way, kept_states_are_recovered,
-    records_leave_what_changes_leave, the_tight_end_is_least,
+    plans_tell_what_their_changes_tell, records_leave_what_changes_leave, sound_records_fit,
+    the_tight_end_is_least,
 };
 pub use learned_name::LearnedName;
 pub use noting::{NoDesk, Noting};
+pub use parts::Parts;
+pub use sizes::tight_end;
 pub use store::Store;
+pub use writing::put_record;

@@ -3,7 +3,7 @@ ghost use Rattle.skk_calls.specs.Histories.{tight};
 ghost use Rattle.skk_journal.specs.Records.{need};
 ghost use Rattle.learned_store.specs.Rooms.{IsRoom, goes_behind};
 
-use crate::compacting::compacted_records;
+use crate::compacting::live_records;
 use crate::sizes::{record_need, tight_end};
 use crate::writing::Record;
 use learn_index::Index;
@@ -42,7 +42,7 @@ pub(crate) fn room_for<D>(
     }
     let least = tight_end(index);
     if fits(least, limit, need) {
-        Ok(Room::Compacted(compacted_records(alloc, index)?))
+        Ok(Room::Compacted(live_records(alloc, index)?))
     } else {
         Ok(Room::Full(least))
     }

@@ -34,9 +34,9 @@ pub(crate) fn record_need(payload: &[u8]) -> u64
     FRAME_NEED + payload.len() as u64
 }
 
-// The end of a learned file that has just the records of a compaction of an index, or 2^64 - 1 where that is more.
-// Takes no memory, and time in what the rows hold, and in the lists.
-pub(crate) fn tight_end(index: &Index) -> u64
+/// The end, in bytes, of a learned file that has just the records of a compaction of an index, or 2^64 - 1 where that
+/// is more. Takes no memory, and time in what the rows hold, and in the lists.
+pub fn tight_end(index: &Index) -> u64
     ensures { result ≡ capped (tight index.now.state) }
 {
     books_end(index.books()).saturating_add(lists_need(index.lists()))

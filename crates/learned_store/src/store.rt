@@ -18,6 +18,7 @@ ghost use Rattle.learned_store.specs.Stores.{opening_now, Keeps, RecoversOneOf, 
 
 use crate::changing::change;
 use crate::kept_answers::KeptAnswers;
+use crate::parts::Parts;
 use dict_format::print_file;
 use dict_laws::changes_leave_what_is_found_of_other_keys;
 use dict_layers::System;
@@ -96,6 +97,31 @@ impl<D> Store<D> {
         ensures { result ≡ self.journal.disk }
     {
         self.journal.close()
+    }
+
+    /// Takes the store apart, where nothing is in doubt; what is kept of look-ups goes. The live file of the journal
+    /// holds at least what the state of the index needs. Takes no memory.
+    pub fn into_parts(self) -> Parts<D>
+        requires calm { is_in_doubt self.journal.doubt ≡ false }
+        ensures index { result.index.state ≡ self.state }
+        ensures system { result.system ≡ self.files }
+        ensures journal { result.journal ≡ self.journal }
+        ensures limit { result.limit ≡ self.limit }
+        ensures tight { tight result.index.state ≤ result.journal.end }
+    {
+        let Store {
+            journal,
+            index,
+            system,
+            limit,
+            ..
+        } = self;
+        Parts {
+            index,
+            system,
+            journal,
+            limit,
+        }
     }
 }
 

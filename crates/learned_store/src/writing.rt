@@ -162,9 +162,9 @@ fn push_numbers(bytes: &mut Vec<u8>, books: &[u16]) -> Result<(), Memory>
     Ok(())
 }
 
-// The bytes that put a row into a book, which then has a count.
+/// The payload of the record that puts a row into a book, which then has a count. Takes time in its bytes.
 #[tactic(auto, unfolding(exact_readers::specs::Numbers::number_bytes))]
-pub(crate) fn put_record(alloc: Global, book: u16, count: u64, row: &Row) -> Result<Bytes, Memory>
+pub fn put_record(alloc: Global, book: u16, count: u64, row: &Row) -> Result<Bytes, Memory>
     ensures payload { IfOk result (λ bytes. bytes ≡ put_bytes book count row.now) }
     ensures characters { OnOk result (all_scalars (canonical row.now) ≡ true) }
 {

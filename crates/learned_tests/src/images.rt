@@ -13,7 +13,7 @@ const FAR: u64 = 1_000_000;
 
 // What a stop leaves of the calls on a file that no sync of it followed.
 #[derive(Clone, Copy, Debug)]
-enum Torn {
+pub(crate) enum Torn {
     // Nothing.
     Nothing,
     // All that was done, and nothing of what failed.
@@ -65,7 +65,7 @@ fn add_counts<R: Abort>(
 }
 
 // What a stop behind these calls may leave of a file.
-fn cases_of(made: &[MadeCall], file: Which) -> &'static [Torn] {
+pub(crate) fn cases_of(made: &[MadeCall], file: Which) -> &'static [Torn] {
     let mut is_synced = true;
     for call in made {
         if file_of(call) == file {
@@ -94,7 +94,7 @@ fn stamp_told<R: Abort>(rt: &R, told: &str) -> u64 {
 }
 
 // The disk that a stop behind these calls leaves.
-fn disk_left<R: Abort>(
+pub(crate) fn disk_left<R: Abort>(
     rt: &R,
     alloc: Global,
     made: &[MadeCall],

@@ -8,7 +8,7 @@ use std::fs;
 use std::process::Abort;
 
 // The payload of the first learning of 漢字 for かんじ in book 1.
-const LEARNING: &[u8] = b"\x01\x01\0\x01\0\0\0\0\0\0\0\x01\0\0\0\0\0\0\0\0\
+pub(crate) const LEARNING: &[u8] = b"\x01\x01\0\x01\0\0\0\0\0\0\0\x01\0\0\0\0\0\0\0\0\
     \xe3\x81\x8b\xe3\x82\x93\xe3\x81\x98 /\xe6\xbc\xa2\xe5\xad\x97/";
 
 // A new file, one of version 2, one of version 3, and the file with that record.
@@ -68,7 +68,7 @@ pub(crate) fn expect_file<R: Abort, D: Disk>(
 }
 
 // Tells which records there are: the place and the payload of each.
-fn expect_records<R: Abort>(rt: &R, records: &Records, expected: &[(u64, &[u8])]) {
+pub(crate) fn expect_records<R: Abort>(rt: &R, records: &Records, expected: &[(u64, &[u8])]) {
     same(records.len(), expected.len()).expect(rt, "as wanted");
     for (found, (at, payload)) in records.iter().zip(expected) {
         same(found.at, *at).expect(rt, "as wanted");
@@ -76,12 +76,13 @@ fn expect_records<R: Abort>(rt: &R, records: &Records, expected: &[(u64, &[u8])]
     }
 }
 
-// What is asked of a journal, and its answer: to add a record within a limit, to fill the other file with records, to
-// repair what is in doubt, which file is live and of which version it is, where its records end, and whether a gate is
-// in doubt.
+// What is asked of a journal, and its answer: to add a record within a limit, or records together, to fill the other
+// file with records, to repair what is in doubt, which file is live and of which version it is, where its records end,
+// and whether a gate is in doubt.
 #[derive(Clone, Copy, Debug)]
-enum JournalStep<'a> {
+pub(crate) enum JournalStep<'a> {
     Append(u64, &'a [u8], Result<(), AppendFault>),
+    AppendMany(u64, &'a [u8], Result<(), AppendFault>),
     Compact(&'a [u8], Result<(), Failed>),
     Repair(Result<(), Failed>),
     File(u8),
@@ -102,6 +103,9 @@ fn expect_step<R: Abort, D: Disk>(rt: &R, journal: &mut Journal<D>, step: Journa
     match step {
         JournalStep::Append(limit, payload, answer) => {
             same_at(append(rt, journal, limit, payload), answer, step).expect(rt, "as wanted");
+        }
+        JournalStep::AppendMany(limit, records, answer) => {
+            same_at(append_many(rt, journal, limit, records), answer, step).expect(rt, "as wanted");
         }
         JournalStep::Compact(records, answer) => {
             same_at(compact(rt, journal, records), answer, step).expect(rt, "as wanted");
@@ -136,6 +140,17 @@ fn append<R: Abort, D: Disk>(
     journal.append(limit, payload)
 }
 
+// Adds records together, where nothing is in doubt.
+fn append_many<R: Abort, D: Disk>(
+    rt: &R,
+    journal: &mut Journal<D>,
+    limit: u64,
+    records: &[u8],
+) -> Result<(), AppendFault> {
+    assert!(rt; !journal.in_doubt());
+    journal.append_many(limit, records)
+}
+
 // Fills the other file, where nothing is in doubt.
 fn compact<R: Abort, D: Disk>(
     rt: &R,
@@ -148,7 +163,7 @@ fn compact<R: Abort, D: Disk>(
 
 // Opens the learned file of a disk, which has these records and is of version 1, asks steps of it, and gives the disk
 // back.
-fn expect_journal<R: Abort, D: Disk + Drop>(
+pub(crate) fn expect_journal<R: Abort, D: Disk + Drop>(
     rt: &R,
     alloc: Global,
     disk: D,
@@ -459,7 +474,7 @@ fn a_record_may_not_be_one_byte_too_long(rt: HostRuntime) {
 
 // A disk whose file has one record, the calls of which with these numbers fail: the first one behind its opening is
 // the tenth.
-fn failing_disk<R: Abort>(rt: &R, alloc: Global, fails: &[u64]) -> MemDisk {
+pub(crate) fn failing_disk<R: Abort>(rt: &R, alloc: Global, fails: &[u64]) -> MemDisk {
     disk_of(rt, alloc, LEARNT_FILE, fails)
 }
 
@@ -484,7 +499,7 @@ fn kind_of(call: &MadeCall) -> char {
 }
 
 // Tells what the calls of a disk were.
-fn expect_kinds<R: Abort>(rt: &R, alloc: Global, disk: &MemDisk, wanted: &str) {
+pub(crate) fn expect_kinds<R: Abort>(rt: &R, alloc: Global, disk: &MemDisk, wanted: &str) {
     let kinds = kinds(rt, alloc, disk.made());
     same(kinds.as_str(), wanted).expect(rt, "as wanted");
 }

@@ -11,6 +11,8 @@ mod files;
 #[cfg(test)]
 mod going_over;
 #[cfg(test)]
+mod groups;
+#[cfg(test)]
 mod images;
 #[cfg(test)]
 mod journals;
@@ -18,6 +20,8 @@ mod journals;
 mod look_ups;
 #[cfg(test)]
 mod pairs;
+#[cfg(test)]
+mod parts;
 #[cfg(test)]
 mod stops;
 #[cfg(test)]

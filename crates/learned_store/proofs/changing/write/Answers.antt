@@ -17,7 +17,7 @@ use Rattle.learned_store.specs.Rooms.{IsRoom, goes_behind}
 use Rattle.learned_store.specs.Stores.{Adds, Keeps, RecoversOneOf, with_doubt}
 use Rattle.learned_store.specs.Written.{Told}
 use Rattle.learned_store.proofs.Compactions.{compacted_bytes, kept_compaction}
-use Rattle.learned_store.proofs.DoubtedStates.{on_ok_both, on_err_both, unless_disk, doubt_more, doubt_stays}
+use Rattle.learned_store.specs.DoubtLaws.{on_ok_both, on_err_both, unless_disk, doubt_more, doubt_stays}
 use Rattle.learned_store.proofs.Serving.{changed, failed, full, quiet, may_be_refused, known_behind, fits_behind}
 use Rattle.learned_store.proofs.Serving.{end_behind, end_compacted, version_behind, version_compacted, known_newest}
 use Rattle.learned_store.proofs.changing.write.Goals as goal

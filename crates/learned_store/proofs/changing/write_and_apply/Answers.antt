@@ -13,7 +13,7 @@ write-requires-clause-sized g c =
     let call = c.args.call.now in
     let valid = c.count-valid.ensures.valid in
     let later = c.changes_keep_states_valid.ensures state call valid c.requires.typed c.requires.fit in
-    (told state call valid c.requires.typed later c.args.planned.plan c.args.planned.record c.requires.planned
+    (told state call valid c.requires.typed later c.args.planned.plan c.args.planned.written c.requires.planned
     c.requires.told).sized
 
 -- the record was written, and the plan applied
@@ -26,7 +26,7 @@ returns-in-Ok-clause-serves g c files =
     let changes = c.requires.change in
     let valid = c.count-valid.ensures.valid in
     let later = c.changes_keep_states_valid.ensures state call valid c.requires.typed c.requires.fit in
-    let tells = told state call valid c.requires.typed later c.args.planned.plan c.args.planned.record
+    let tells = told state call valid c.requires.typed later c.args.planned.plan c.args.planned.written
     c.requires.planned c.requires.told in
     let serves = c.in-Ok.ensures.serves files call changes tells in
     subst (λ (s : State). Serves D
@@ -41,7 +41,7 @@ returns-in-Ok-clause-tight g c =
     let call = c.args.call.now in
     let valid = c.count-valid.ensures.valid in
     let later = c.changes_keep_states_valid.ensures state call valid c.requires.typed c.requires.fit in
-    let tells = told state call valid c.requires.typed later c.args.planned.plan c.args.planned.record
+    let tells = told state call valid c.requires.typed later c.args.planned.plan c.args.planned.written
     c.requires.planned c.requires.told in
     omega (
       arith,
@@ -58,6 +58,6 @@ returns-clause-serves g c files =
     let call = c.args.call.now in
     let valid = c.count-valid.ensures.valid in
     let later = c.changes_keep_states_valid.ensures state call valid c.requires.typed c.requires.fit in
-    let tells = told state call valid c.requires.typed later c.args.planned.plan c.args.planned.record
+    let tells = told state call valid c.requires.typed later c.args.planned.plan c.args.planned.written
     c.requires.planned c.requires.told in
     c.in-Err.ensures.serves files call c.requires.change tells

@@ -7,7 +7,7 @@ use Rattle.skk_journal.specs.Images.{OpensEither}
 use Rattle.learned_store.specs.Payloads.{newest_version}
 use Rattle.learned_store.specs.Stores.{RecoversOneOf}
 use Rattle.learned_store.specs.Recovered.{Leave}
-use Rattle.learned_store.proofs.DoubtedStates.{first_is, second_is}
+use Rattle.learned_store.specs.DoubtLaws.{first_is, second_is}
 use Rattle.learned_store.proofs.committing.add.Goals as goal
 
 -- an image that is opened with the contents, or with one record more, is opened as one of the two states

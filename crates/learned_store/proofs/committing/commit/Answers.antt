@@ -2,7 +2,7 @@ use Rattle.std.proofs.Common.{[], ◌∷◌, ◌++◌}
 use Rattle.std.proofs.lemmas.Result.{on_ok_weaker, on_err_weaker}
 use Rattle.skk_disk.specs.MomentLaws.{each_within}
 use Rattle.learned_store.specs.Stores.{RecoversOneOf, with_doubt}
-use Rattle.learned_store.proofs.DoubtedStates.{on_err, adds_at, doubt_more, either_more, doubt_stays, doubt_is_after}
+use Rattle.learned_store.specs.DoubtLaws.{on_err, adds_at, doubt_more, either_more, doubt_stays, doubt_is_after}
 use Rattle.learned_store.proofs.committing.commit.Goals as goal
 
 pub returns-in_err-settle-clause-err : goal.returns-in_err-settle-clause-err

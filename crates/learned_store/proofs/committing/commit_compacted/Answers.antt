@@ -3,8 +3,8 @@ use Rattle.std.proofs.lemmas.Result.{on_ok_weaker, on_err_weaker}
 use Rattle.skk_disk.specs.MomentLaws.{each_within}
 use Rattle.skk_disk.specs.RunLaws.{advances_on}
 use Rattle.learned_store.specs.Stores.{RecoversOneOf, with_doubt}
-use Rattle.learned_store.proofs.DoubtedStates.{on_err, adds_at, doubt_more, state_more, either_more}
-use Rattle.learned_store.proofs.DoubtedStates.{doubt_stays, doubt_is_state, doubt_is_after}
+use Rattle.learned_store.specs.DoubtLaws.{on_err, adds_at, doubt_more, state_more, either_more}
+use Rattle.learned_store.specs.DoubtLaws.{doubt_stays, doubt_is_state, doubt_is_after}
 use Rattle.learned_store.proofs.committing.commit_compacted.Goals as goal
 
 pub returns-in_err-settle-clause-err : goal.returns-in_err-settle-clause-err

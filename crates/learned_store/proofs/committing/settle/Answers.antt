@@ -4,7 +4,7 @@ use Rattle.std.specs.Prelude.{None, Some}
 use Rattle.std.proofs.lemmas.Result.{on_ok_weaker, on_err_weaker}
 use Rattle.skk_journal.specs.Images.{Opens, OpensEither}
 use Rattle.skk_journal.specs.Journal.{OpenJournal, Rests}
-use Rattle.learned_store.proofs.DoubtedStates.{match_of, on_ok, never_err, first_is, second_is}
+use Rattle.learned_store.specs.DoubtLaws.{match_of, on_ok, never_err, first_is, second_is}
 use Rattle.learned_store.proofs.committing.settle.Goals as goal
 
 pub returns-clause-keeps : goal.returns-clause-keeps

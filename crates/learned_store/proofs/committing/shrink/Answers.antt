@@ -5,7 +5,7 @@ use Rattle.std.proofs.lemmas.Result.{on_ok_weaker, on_err_weaker}
 use Rattle.skk_journal.specs.Images.{OpensEither}
 use Rattle.learned_store.specs.Payloads.{newest_version}
 use Rattle.learned_store.specs.Recovered.{Leave}
-use Rattle.learned_store.proofs.DoubtedStates.{match_of, first_is, second_is}
+use Rattle.learned_store.specs.DoubtLaws.{match_of, first_is, second_is}
 use Rattle.learned_store.proofs.committing.shrink.Goals as goal
 
 pub returns-clause-keeps : goal.returns-clause-keeps

@@ -8,8 +8,8 @@ push_record-requires c =
     subst IsSized (sym (c.as_slice.ensures ∙ c.in_ok-payload.ensures.payload))
     (put_sized c.args.book c.args.count c.args.row.now c.requires)
 
-pub returns : goal.returns
-returns c =
+pub returns-clause-records : goal.returns-clause-records
+returns-clause-records c =
     c.in_ok-push_record.ensures
     ∙ ap (λ (l : List ℕ). c.args.records.now.items ++ record_bytes l)
     (c.as_slice.ensures ∙ c.in_ok-payload.ensures.payload)

@@ -17,6 +17,6 @@ loop-row-preserved c =
     piece_added (Put c.args.book c.args.count) form_record c.args.rows.now c.loop-row.row-index c.row-item.result
     c.args.records.now.items c.loop-row.records.items c.push_put.new.records.items c.loop-row-test.true c.row-item.is
     c.loop-row.invariant
-    (c.in_ok-push_put.ensures
+    (c.in_ok-push_put.ensures.records
     ∙ ap (λ (row : Row). c.loop-row.records.items ++ form_record (Put c.args.book c.args.count row))
     c.row.ensures.value)

@@ -4,8 +4,8 @@ use Rattle.skk_journal.specs.Records.{need}
 use Rattle.learned_store.proofs.room.room_for.Goals as goal
 
 -- the record does not go behind the others, and there is room behind a compaction
-pub returns-in_ok-compacted_records : goal.returns-in_ok-compacted_records
-returns-in_ok-compacted_records g c =
+pub returns-in_ok-live_records : goal.returns-in_ok-live_records
+returns-in_ok-live_records g c =
     let needs = c.record_need-need.ensures ∙ ap need c.as_slice.ensures in (
       grind (arith, c.goes_behind.ensures, c.if-goes_behind.false, c.version.ensures.live, c.end-end.ensures, needs),
       grind (
@@ -18,7 +18,7 @@ returns-in_ok-compacted_records g c =
         c.end-end.ensures,
         needs,
       ),
-      c.in_ok-compacted_records.ensures,
+      c.in_ok-live_records.ensures,
     )
 
 -- nor there

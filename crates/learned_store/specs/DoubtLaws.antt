@@ -12,6 +12,7 @@ use Rattle.skk_disk.specs.Image.{Image}
 use Rattle.skk_journal.specs.Journal.{OpenJournal}
 use Rattle.learned_store.specs.Stores.{Adds, Keeps, KeepsOneOf, RecoversOneOf, with_doubt}
 
+-- what holds of a result by its case, by what holds in each
 pub match_of : {T E : Type 0} (P Q : Type 0) (r : Result T E) → OnOk r P → OnErr r Q → MatchResult r (λ _. P) (λ _. Q)
 match_of P Q (Ok x) p q = p
 match_of P Q (Err e) p q = q
@@ -50,6 +51,7 @@ pub adds_at : {v w : ℕ} (payload : List ℕ) (state after : State) → v ≡ w
     → Adds v payload state after
 adds_at payload state after same adds = subst (λ n. Adds n payload state after) (sym same) adds
 
+-- the first and the second of a list are of it
 pub first_is : {X : Type 0} (x : X) (xs : List X) → Contains (x ∷ xs) x
 first_is x xs = (0, omega arith, refl)
 
@@ -57,6 +59,7 @@ pub second_is : {X : Type 0} (x y : X) (xs : List X) → Contains (x ∷ y ∷ x
 second_is x y xs = (1, omega arith, refl)
 
 module _ (state after : State) where
+  -- what is of the state alone, or of it and of the one after a change, is of these and what is in doubt
   one_is_state : (doubt : Option State) (x : State) → Contains (state ∷ []) x
       → Contains (with_doubt state doubt ++ after ∷ []) x
   one_is_state None x is = Contains-append_left (state ∷ []) (after ∷ []) x is

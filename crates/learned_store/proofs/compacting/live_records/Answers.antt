@@ -8,7 +8,7 @@ use Rattle.learned_store.specs.Compacted.{compacted}
 use Rattle.learned_store.specs.Compacting.{book_records, list_record}
 use Rattle.learned_store.specs.Payloads.{payload_of}
 use Rattle.learned_store.proofs.BookRecords.{state_records}
-use Rattle.learned_store.proofs.compacting.compacted_records.Goals as goal
+use Rattle.learned_store.proofs.compacting.live_records.Goals as goal
 
 pub returns : goal.returns
 returns c =
