@@ -1,0 +1,12 @@
+mod Added
+mod EnteredLaws
+mod GroupLaws
+mod GroupPieces
+mod GroupTold
+mod ImportLaws
+mod LearningLaws
+mod LevelGroups
+mod LevelRows
+mod PieceLaws
+mod PushedPlans
+mod WrittenGroups
