@@ -5,7 +5,7 @@ use Rattle.command_line.specs.Settings.{settings_of, fits, AreNoneOrMany}
 use Rattle.command_line.specs.Command.{takes, command_with, command_named, settings_command}
 use Rattle.command_line.specs.declared.command_name.CommandName.{CommandName}
 use Rattle.command_line.specs.declared.command_name.CommandName.TheVariants.{TypeScript, Serve, Check, Dump, Share}
-use Rattle.command_line.specs.declared.command_name.CommandName.TheVariants.{Load, Ask}
+use Rattle.command_line.specs.declared.command_name.CommandName.TheVariants.{Load, Ask, Import}
 use Rattle.command_line.specs.declared.setting.Setting.{Setting}
 use Rattle.command_line.proofs.SettingLists.{fits-few}
 
@@ -18,6 +18,7 @@ most Dump settings fit = omega (arith, fits-few (takes Dump) settings fit)
 most Share settings fit = omega (arith, fits-few (takes Share) settings fit)
 most Load settings fit = omega (arith, fits-few (takes Load) settings fit)
 most Ask settings fit = omega (arith, fits-few (takes Ask) settings fit)
+most Import settings fit = omega (arith, fits-few (takes Import) settings fit)
 
 with-none : (name : CommandName) (given : Option (List Setting)) → AreNoneOrMany given
     → option_and_then (command_with name) given ≡ None

@@ -35,7 +35,7 @@ use Rattle.command_line.specs.declared.argument.Takes.{Takes}
 use Rattle.command_line.specs.declared.argument.Takes.TheVariants.{Nothing, Name, Number, Books}
 use Rattle.command_line.specs.declared.command_name.CommandName.{CommandName}
 use Rattle.command_line.specs.declared.command_name.CommandName.TheVariants.{TypeScript, Serve, Check, Dump, Share}
-use Rattle.command_line.specs.declared.command_name.CommandName.TheVariants.{Load, Ask}
+use Rattle.command_line.specs.declared.command_name.CommandName.TheVariants.{Load, Ask, Import}
 use Rattle.command_line.specs.declared.setting.Setting.{Setting}
 use Rattle.command_line.specs.declared.setting.Value.{Value}
 use Rattle.command_line.proofs.OptionCounts.{settings_taken}
@@ -81,6 +81,7 @@ unfolding encode
 known TypeScript options = absurd (cc)
 known Serve options = absurd (cc)
 known Check options = absurd (cc)
+known Import options = absurd (cc)
 known Dump options = record {
   simple = refl;
   rules = refl;

@@ -32,6 +32,10 @@ abbrev sharing : ℕ → ℕ → Command
 sharing typist limit =
     Alone (alone.Share (record { learned = codes "L"; typist = typist; books = 0 ∷ []; limit = Some limit }))
 
+abbrev importing : ℕ → ℕ → Command
+importing book limit =
+    Alone (alone.Import (record { learned = codes "L"; file = codes "F"; book = book; limit = Some limit }))
+
 abbrev asking : ℕ → List ℕ → Command
 asking port reading = Waiting (waiting.Ask (record { port = port; question = Look reading }))
 
@@ -81,6 +85,14 @@ sharing_outside :
     (HasNumbersInRange (sharing 65536 64) → ⊥) × (HasNumbersInRange (sharing 0 63) → ⊥)
     × (HasNumbersInRange (sharing 0 268435457) → ⊥)
 sharing_outside = (λ h. omega (arith, h.0), λ h. omega (arith, h.1.0), λ h. omega (arith, h.1.1))
+
+importing_within : HasNumbersInRange (importing 65535 64) × HasNumbersInRange (importing 0 268435456)
+importing_within = ((omega arith, (omega arith, omega arith)), (omega arith, (omega arith, omega arith)))
+
+importing_outside :
+    (HasNumbersInRange (importing 65536 64) → ⊥) × (HasNumbersInRange (importing 0 63) → ⊥)
+    × (HasNumbersInRange (importing 0 268435457) → ⊥)
+importing_outside = (λ h. omega (arith, h.0), λ h. omega (arith, h.1.0), λ h. omega (arith, h.1.1))
 
 asking_within : HasNumbersInRange (asking 1 (codes "a")) × HasNumbersInRange (asking 65535 (codes "か"))
 unfolding encode

@@ -119,6 +119,28 @@ load_words : map read ("load --seed 0 --sessions 1 --lines 1"
 unfolding digits
 load_words = refl
 
+-- a dictionary is learnt into one book, into the shared one where none is named
+abbrev import_with : List ℕ → List ℕ → ℕ → Option ℕ → Option Command
+import_with learned file book limit =
+    Some (Alone (alone.Import (record { learned = learned; file = file; book = book; limit = limit })))
+
+import_words : map read ("import --learned a b" ∷ "import b --learned=a"
+    ∷ "import --book 65535 import --limit 64 --learned l" ∷ "import --learned a --limit=268435456 --book=0 辞書" ∷ [])
+    ≡ import_with (codes "a") (codes "b") 0 None ∷ import_with (codes "a") (codes "b") 0 None
+    ∷ import_with (codes "l") (codes "import") 65535 (Some 64)
+    ∷ import_with (codes "a") (codes "辞書") 0 (Some 268435456) ∷ []
+unfolding digits
+import_words = refl
+
+no_import : taken ("import" ∷ "import a" ∷ "import --learned a" ∷ "import --learned a b c"
+    ∷ "import --learned a --learned a b" ∷ "import --learned a --book 1 --book 1 b"
+    ∷ "import --learned a --book 65536 b" ∷ "import --learned a --limit 63 b"
+    ∷ "import --learned a --limit 268435457 b" ∷ "import --learned a -b" ∷ "import --learned a --dict b"
+    ∷ "import --learned a b --threads" ∷ "import --learned a --book b" ∷ [])
+    ≡ []
+unfolding digits
+no_import = refl
+
 -- a server is asked for one thing
 abbrev ask_with : ℕ → Question → Option Command
 ask_with port question = Some (Waiting (waiting.Ask (record { port = port; question = question })))

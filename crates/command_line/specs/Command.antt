@@ -18,9 +18,10 @@ use Rattle.command_line.specs.declared.command.AloneCommand.TheVariants as alone
 use Rattle.command_line.specs.declared.command.WaitingCommand.TheVariants as waiting
 use Rattle.command_line.specs.declared.command_name.CommandName.{CommandName}
 use Rattle.command_line.specs.declared.command_name.CommandName.TheVariants.{TypeScript, Serve, Check, Dump, Share}
-use Rattle.command_line.specs.declared.command_name.CommandName.TheVariants.{Load, Ask}
+use Rattle.command_line.specs.declared.command_name.CommandName.TheVariants.{Load, Ask, Import}
 use Rattle.command_line.specs.declared.command.AskOptions.{AskOptions}
 use Rattle.command_line.specs.declared.command.DumpOptions.{DumpOptions}
+use Rattle.command_line.specs.declared.command.ImportOptions.{ImportOptions}
 use Rattle.command_line.specs.declared.command.LoadOptions.{LoadOptions}
 use Rattle.command_line.specs.declared.command.Question.{Question}
 use Rattle.command_line.specs.declared.command.Question.TheVariants as questions
@@ -38,10 +39,12 @@ title Dump = codes "dump"
 title Share = codes "share"
 title Load = codes "load"
 title Ask = codes "ask"
+title Import = codes "import"
 
 -- the words that name commands
 abbrev pub command_names : List (List ℕ × CommandName)
-command_names = map (λ name. (title name, name)) (TypeScript ∷ Serve ∷ Check ∷ Dump ∷ Share ∷ Load ∷ Ask ∷ [])
+command_names =
+    map (λ name. (title name, name)) (TypeScript ∷ Serve ∷ Check ∷ Dump ∷ Share ∷ Load ∷ Ask ∷ Import ∷ [])
 
 -- the command that a word names
 abbrev pub command_named : List ℕ → Option CommandName
@@ -69,6 +72,7 @@ takes Dump = required Learned ∷ optional Book ∷ []
 takes Share = required Learned ∷ required Typist ∷ required Books ∷ optional Limit ∷ []
 takes Load = required Seed ∷ required Sessions ∷ required Lines ∷ optional Threads ∷ []
 takes Ask = required Port ∷ optional Look ∷ optional Complete ∷ []
+takes Import = required Learned ∷ required File ∷ optional Book ∷ optional Limit ∷ []
 
 -- the options of `type`, with what stands for those that are absent
 abbrev pub type_options : List Setting → TypeOptions
@@ -132,6 +136,15 @@ abbrev pub asks_once : List Setting → Bool
 asks_once settings =
     times Look settings + times Complete settings == 1 && is_askable (question_text (question_of settings))
 
+-- the options of `import`
+abbrev pub import_options : List Setting → ImportOptions
+import_options settings = record {
+  learned = text_of Learned settings;
+  file = text_of File settings;
+  book = number_or 0 Book settings;
+  limit = number_given Limit settings;
+}
+
 -- the command with its settings: `type` and `load` wait where each session is to have a thread of its own
 abbrev pub command : CommandName → List Setting → Command
 command TypeScript settings =
@@ -147,6 +160,7 @@ command Load settings =
     then Waiting (waiting.Load (load_options settings))
     else Alone (alone.Load (load_options settings))
 command Ask settings = Waiting (waiting.Ask (ask_options settings))
+command Import settings = Alone (alone.Import (import_options settings))
 
 -- whether settings that a command takes are enough: `ask` asks for one thing
 abbrev pub are_enough : CommandName → List Setting → Bool
@@ -186,6 +200,7 @@ learned_of (Alone (alone.Dump options)) = Some options.learned
 learned_of (Alone (alone.Share options)) = Some options.learned
 learned_of (Alone (alone.Load options)) = None
 learned_of (Alone (alone.Expr options)) = None
+learned_of (Alone (alone.Import options)) = Some options.learned
 learned_of (Waiting (waiting.TypeScript options)) = options.learned
 learned_of (Waiting (waiting.Serve options)) = Some options.learned
 learned_of (Waiting (waiting.Load options)) = None

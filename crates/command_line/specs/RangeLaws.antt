@@ -25,7 +25,7 @@ use Rattle.command_line.specs.declared.argument.Takes.TheVariants.{Nothing, Name
 use Rattle.command_line.specs.declared.command.Command.{Command}
 use Rattle.command_line.specs.declared.command_name.CommandName.{CommandName}
 use Rattle.command_line.specs.declared.command_name.CommandName.TheVariants.{TypeScript, Serve, Check, Dump, Share}
-use Rattle.command_line.specs.declared.command_name.CommandName.TheVariants.{Load, Ask}
+use Rattle.command_line.specs.declared.command_name.CommandName.TheVariants.{Load, Ask, Import}
 use Rattle.command_line.specs.declared.setting.Setting.{Setting}
 use Rattle.command_line.specs.declared.setting.Value.{Value}
 use Rattle.command_line.specs.declared.setting.Value.TheVariants as values
@@ -156,6 +156,10 @@ in_range Share settings given fit enough = (
 in_range Load settings given fit enough =
     let numbers = load-in_range settings given fit in
     cond_both (is_given Threads settings) _ _ HasNumbersInRange (λ e. numbers) (λ e. numbers)
+in_range Import settings given fit enough = (
+  (lies-in Book 0 65535 0 settings given refl (λ e. (omega arith, omega arith))).1,
+  given-lies Limit 64 268435456 settings given refl,
+)
 in_range Ask settings given fit enough = (
   lies-in Port 1 65535 0 settings given refl (λ e. absurd (needed Port settings (grind arith) e)),
   (and_parts (times Look settings + times Complete settings == 1) _ enough).1,

@@ -31,6 +31,7 @@ IsAloneInRange (alone.Dump options) = options.book ≤ 65535
 IsAloneInRange (alone.Share options) = (options.typist ≤ 65535) × IsLimitInRange options.limit
 IsAloneInRange (alone.Load options) = IsLoadInRange options
 IsAloneInRange (alone.Expr options) = ⊤
+IsAloneInRange (alone.Import options) = (options.book ≤ 65535) × IsLimitInRange options.limit
 
 -- each number of a command that may wait lies in its range, and what a server is asked for can be asked
 abbrev pub IsWaitingInRange : WaitingCommand → Type 0

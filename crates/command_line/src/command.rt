@@ -1,6 +1,6 @@
 ghost use Rattle.std.specs.Prelude.{◌≡◌, ◌<◌, MatchOption};
 ghost use Rattle.command_line.specs.Command.{type_options, serve_options, share_options, learned_of, limit_of};
-ghost use Rattle.command_line.specs.Command.{ask_options, asks_once, question_of, question_text};
+ghost use Rattle.command_line.specs.Command.{ask_options, asks_once, import_options, question_of, question_text};
 ghost use Rattle.command_line.specs.Settings.{times};
 ghost use Rattle.command_line.specs.declared.argument.Argument.TheVariants.{Dictionary};
 
@@ -44,6 +44,8 @@ pub enum AloneCommand<'a> {
     Load(LoadOptions),
     /// To print what dictionaries come to, added and taken away.
     Expr(ExprOptions<'a>),
+    /// To learn the candidates of a dictionary.
+    Import(ImportOptions<'a>),
 }
 
 /// A command that may wait.
@@ -69,6 +71,7 @@ impl<'a> Command<'a> {
             | Command::Waiting(WaitingCommand::TypeScript(options)) => options.learned(),
             Command::Alone(AloneCommand::Dump(options)) => Some(options.learned.again()),
             Command::Alone(AloneCommand::Share(options)) => Some(options.learned.again()),
+            Command::Alone(AloneCommand::Import(options)) => Some(options.learned.again()),
             Command::Waiting(WaitingCommand::Serve(options)) => Some(options.learned.again()),
             Command::Alone(AloneCommand::Check(_))
             | Command::Alone(AloneCommand::Load(_))
@@ -215,6 +218,40 @@ pub struct LoadOptions {
     pub sessions: u64,
     /// How many lines each session has, from 1 to 20,000.
     pub lines: u64,
+}
+
+/// The options of `import`.
+#[derive(Drop)]
+pub struct ImportOptions<'a> {
+    /// The learned file.
+    pub learned: Word<'a>,
+    /// The file of the dictionary whose candidates are learnt.
+    pub file: Word<'a>,
+    /// The number of the book into which they are learnt, from 0 to 65,535.
+    pub book: u64,
+    /// The most bytes of each file of the learned dictionary, from 64 to 268,435,456; the latter where it is not given.
+    pub limit: Option<u64>,
+}
+
+impl<'a> ImportOptions<'a> {
+    /// The options that settings give.
+    pub fn of(settings: &Settings<'a>) -> ImportOptions<'a>
+        ensures { result ≡ import_options settings.now }
+    {
+        ImportOptions {
+            learned: settings.text(Argument::Learned),
+            file: settings.text(Argument::File),
+            book: settings.number_or(0, Argument::Book),
+            limit: settings.number_given(Argument::Limit),
+        }
+    }
+
+    /// The most bytes of each file of the learned dictionary.
+    pub fn limit(&self) -> u64
+        ensures { result ≡ limit_of self.now.limit }
+    {
+        self.limit.unwrap_or(LIMIT)
+    }
 }
 
 /// What a server is asked for.

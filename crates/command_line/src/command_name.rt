@@ -15,6 +15,7 @@ pub enum CommandName {
     Share,
     Load,
     Ask,
+    Import,
 }
 
 // What each command takes: the arguments, with the least and the most times that each is given.
@@ -62,6 +63,13 @@ static ASK_TAKES: [(Argument, usize, usize); 3] = [
     (Argument::Complete, 0, 1),
 ];
 
+static IMPORT_TAKES: [(Argument, usize, usize); 4] = [
+    (Argument::Learned, 1, 1),
+    (Argument::File, 1, 1),
+    (Argument::Book, 0, 1),
+    (Argument::Limit, 0, 1),
+];
+
 /// The command that a word names.
 pub fn command_named(word: &Word) -> Option<CommandName>
     ensures { result ≡ command_named word.now }
@@ -74,6 +82,7 @@ pub fn command_named(word: &Word) -> Option<CommandName>
         "share" => Some(CommandName::Share),
         "load" => Some(CommandName::Load),
         "ask" => Some(CommandName::Ask),
+        "import" => Some(CommandName::Import),
         _ => None,
     }
 }
@@ -91,6 +100,7 @@ impl CommandName {
             CommandName::Share => "share",
             CommandName::Load => "load",
             CommandName::Ask => "ask",
+            CommandName::Import => "import",
         }
     }
 
@@ -107,6 +117,7 @@ impl CommandName {
             CommandName::Share => &SHARE_TAKES,
             CommandName::Load => &LOAD_TAKES,
             CommandName::Ask => &ASK_TAKES,
+            CommandName::Import => &IMPORT_TAKES,
         }
     }
 }

@@ -7,8 +7,8 @@ ghost use Rattle.command_line.specs.Settings.{fits};
 
 use crate::argument::Argument;
 use crate::command::{
-    AloneCommand, AskOptions, Command, LoadOptions, ServeOptions, ShareOptions, TypeOptions,
-    WaitingCommand, asks_once,
+    AloneCommand, AskOptions, Command, ImportOptions, LoadOptions, ServeOptions, ShareOptions,
+    TypeOptions, WaitingCommand, asks_once,
 };
 use crate::command_name::{CommandName, command_named};
 use crate::expr_words::read_expr;
@@ -44,6 +44,9 @@ pub fn read_command<'a>(alloc: Global, words: &'a [Word<'a>]) -> Result<Option<C
         ))))),
         CommandName::Load => Ok(Some(load_command(&settings, load_options(alloc, words)?))),
         CommandName::Ask => Ok(Some(Command::Waiting(WaitingCommand::Ask(AskOptions::of(
+            &settings,
+        ))))),
+        CommandName::Import => Ok(Some(Command::Alone(AloneCommand::Import(ImportOptions::of(
             &settings,
         ))))),
     }

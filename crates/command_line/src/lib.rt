@@ -23,8 +23,8 @@ mod settings;
 mod word;
 
 pub use command::{
-    AloneCommand, AskOptions, Command, DumpOptions, LIMIT, LoadOptions, Question, ServeOptions,
-    ShareOptions, TypeOptions, WaitingCommand,
+    AloneCommand, AskOptions, Command, DumpOptions, ImportOptions, LIMIT, LoadOptions, Question,
+    ServeOptions, ShareOptions, TypeOptions, WaitingCommand,
 };
 pub use command_words::read_command;
 pub use expr_words::{ExprOptions, Sign, TERMS, Term};

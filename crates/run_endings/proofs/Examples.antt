@@ -11,7 +11,7 @@ use Rattle.run_endings.specs.Status.{message_of, status_of, fault_words, run_sta
 use Rattle.run_endings.specs.Status.{fault_of_opening, fault_of_read, fault_of_text, fault_of_script, fault_of_asking}
 use Rattle.run_endings.specs.declared.fault.RunFault.TheVariants.{Words, Refused, NotJournal, BadRecord}
 use Rattle.run_endings.specs.declared.fault.RunFault.TheVariants.{RowTooBig, Outside, Memory}
-use Rattle.run_endings.specs.declared.fault.RunFault.TheVariants.{JournalFull, Reply}
+use Rattle.run_endings.specs.declared.fault.RunFault.TheVariants.{JournalFull, Reply, StampsEnd}
 use Rattle.run_endings.specs.declared.reply_flaw.ReplyFlaw.TheVariants as flaws
 use Rattle.skkserv_client.specs.declared.told.AskFault.TheVariants as asks
 use Rattle.run_endings.specs.declared.run_file.Flaw.TheVariants.{TooLong, Byte, Line}
@@ -20,16 +20,18 @@ use Rattle.run_endings.specs.declared.run_file.RunFile.TheVariants.{Script, Rule
 -- each fault with its status and its line
 statuses : map run_status
     (Ok tt ∷ Err Words ∷ Err (Refused Script TooLong) ∷ Err (Refused Script (Line 3)) ∷ Err (Refused Rules TooLong)
-    ∷ Err (Refused (Dictionary 1) (Byte 0)) ∷ Err (RowTooBig 65536) ∷ Err Outside ∷ Err Memory ∷ Err JournalFull ∷ [])
-    ≡ 0 ∷ 1 ∷ 2 ∷ 2 ∷ 3 ∷ 3 ∷ 3 ∷ 4 ∷ 6 ∷ 7 ∷ []
+    ∷ Err (Refused (Dictionary 1) (Byte 0)) ∷ Err (RowTooBig 65536) ∷ Err Outside ∷ Err Memory ∷ Err JournalFull
+    ∷ Err StampsEnd ∷ [])
+    ≡ 0 ∷ 1 ∷ 2 ∷ 2 ∷ 3 ∷ 3 ∷ 3 ∷ 4 ∷ 6 ∷ 7 ∷ 10 ∷ []
 statuses = refl
 
 -- a line of a message
 abbrev told : String → List ℕ
 told text = codes text ++ 10 ∷ []
 
-messages : map run_message (Ok tt ∷ Err Words ∷ Err Outside ∷ Err Memory ∷ Err JournalFull ∷ [])
-    ≡ [] ∷ told "skk: words" ∷ told "skk: outside" ∷ told "skk: memory" ∷ told "skk: journal full" ∷ []
+messages : map run_message (Ok tt ∷ Err Words ∷ Err Outside ∷ Err Memory ∷ Err JournalFull ∷ Err StampsEnd ∷ [])
+    ≡ [] ∷ told "skk: words" ∷ told "skk: outside" ∷ told "skk: memory" ∷ told "skk: journal full"
+    ∷ told "skk: stamps end" ∷ []
 messages = refl
 
 refusals_told : map message_of

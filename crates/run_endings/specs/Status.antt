@@ -22,7 +22,7 @@ use Rattle.run_endings.specs.declared.run_file.Flaw.TheVariants.{TooLong, Byte, 
 use Rattle.run_endings.specs.declared.fault.RunFault.{RunFault}
 use Rattle.run_endings.specs.declared.fault.RunFault.TheVariants.{Words, Refused, NotJournal, BadRecord}
 use Rattle.run_endings.specs.declared.fault.RunFault.TheVariants.{RowTooBig, Outside, Memory}
-use Rattle.run_endings.specs.declared.fault.RunFault.TheVariants.{JournalFull, Reply}
+use Rattle.run_endings.specs.declared.fault.RunFault.TheVariants.{JournalFull, Reply, StampsEnd}
 use Rattle.run_endings.specs.declared.reply_flaw.ReplyFlaw.{ReplyFlaw}
 use Rattle.run_endings.specs.declared.reply_flaw.ReplyFlaw.TheVariants as flaws
 use Rattle.skkserv_client.specs.declared.told.AskFault.{AskFault}
@@ -49,6 +49,7 @@ status_of Outside = 4
 status_of Memory = 6
 status_of JournalFull = 7
 status_of (Reply flaw) = 9
+status_of StampsEnd = 10
 
 -- the status of a run by how it ends
 abbrev pub run_status : Ended → ℕ
@@ -102,6 +103,7 @@ fault_words Outside = codes "outside"
 fault_words Memory = codes "memory"
 fault_words JournalFull = codes "journal full"
 fault_words (Reply flaw) = reply_words flaw
+fault_words StampsEnd = codes "stamps end"
 
 -- the line of a fault on standard error, with its LF
 abbrev pub message_of : RunFault → List ℕ

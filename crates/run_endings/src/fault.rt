@@ -40,6 +40,8 @@ pub enum RunFault {
     JournalFull,
     /// A server told nothing: what is wrong with its reply.
     Reply(ReplyFlaw),
+    /// The count of a book leaves no stamp for each of the candidates that were to be learnt.
+    StampsEnd,
 }
 
 /// Ends a run: tells its fault on `err`, and answers the status to exit with beside how it ended, its chronicle and its
@@ -95,6 +97,7 @@ impl RunFault {
             RunFault::Memory => 6,
             RunFault::JournalFull => 7,
             RunFault::Reply(_) => 9,
+            RunFault::StampsEnd => 10,
         }
     }
 
@@ -130,6 +133,7 @@ impl RunFault {
             RunFault::Memory => write(err, b"memory"),
             RunFault::JournalFull => write(err, b"journal full"),
             RunFault::Reply(flaw) => tell_reply(flaw, err),
+            RunFault::StampsEnd => write(err, b"stamps end"),
         }
     }
 }

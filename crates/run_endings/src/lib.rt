@@ -17,6 +17,8 @@ mod run_file;
 
 pub use fault::{RunFault, end_run, tell_end, write_numbered};
 pub use finish::{Finish, Run, end_by, end_wanting};
-pub use page::{print, print_full, print_text, print_through, write, write_through};
+pub use page::{
+    print, print_full, print_numbered, print_text, print_through, write, write_through,
+};
 pub use reply_flaw::ReplyFlaw;
 pub use run_file::{Flaw, RunFile};

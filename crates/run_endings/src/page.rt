@@ -1,10 +1,12 @@
-ghost use Rattle.std.specs.Prelude.{◌≡◌, ◌≤◌, ◌++◌, [], ℕ, List, OnOk, OnErr, encode_utf8_all};
+ghost use Rattle.std.specs.Prelude.{◌≡◌, ◌≤◌, ◌++◌, ◌∷◌, [], ℕ, List, OnOk, OnErr, encode_utf8_all};
+ghost use Rattle.std.specs.Fmt.{decimal};
 ghost use Rattle.skk_outside.specs.Faults.{Rose};
 ghost use Rattle.skk_outside.specs.Moved.{moved_sink};
 ghost use Rattle.skk_outside.specs.Written.{AppendsPrefix};
+ghost use Rattle.skk_text.specs.Lines.{line_feed};
 ghost use Rattle.run_endings.specs.Page.{LeavesPrinted, Printed, Writes};
 
-use crate::fault::RunFault;
+use crate::fault::{RunFault, write_numbered};
 use skk_outside::{Failed, Sink, write_all};
 use skk_text::Text;
 use std::alloc::Global;
@@ -47,6 +49,25 @@ pub fn print_text<O: Sink>(out: &mut O, text: &Text) -> Result<(), RunFault>
 {
     print_through(out, text)?;
     Ok(())
+}
+
+/// Prints a line of bytes and a number in decimal behind them: writes it, and all that waits to be written. Takes no
+/// memory.
+pub fn print_numbered<O: Sink>(out: &mut O, before: &[u8], number: u64) -> Result<(), RunFault>
+    ensures { LeavesPrinted ((before.now ++ decimal number) ++ line_feed ∷ []) result
+        (moved_sink O.Outside out.old out.new) }
+{
+    write_numbered_line(out, before, number)?;
+    Ok(())
+}
+
+// Writes a line of bytes and a number behind them, and all that waits to be written.
+fn write_numbered_line<O: Sink>(out: &mut O, before: &[u8], number: u64) -> Result<(), Failed>
+    ensures { Writes ((before.now ++ decimal number) ++ line_feed ∷ []) result
+        (moved_sink O.Outside out.old out.new) }
+{
+    write_numbered(out, before, number)?;
+    write_through(out, b"\n")
 }
 
 /// Writes a page that is full, and begins a new one.

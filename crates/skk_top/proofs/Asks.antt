@@ -63,6 +63,7 @@ module _ (what : Ask) (link : MovedLink) (out : MovedSink) where
   why-unprinted (faults.RowTooBig bytes) stops = absurd stops
   why-unprinted faults.JournalFull stops = absurd stops
   why-unprinted (faults.Reply flaw) stops = absurd stops
+  why-unprinted faults.StampsEnd stops = absurd stops
 
   pub asks-unprinted : (ended : Ended) (fault : RunFault) (told : Told) → IsErrAnd ended (λ handed. handed ≡ fault)
       → HearsReply link.left what (Ok told) → Appends link.written link.written' (request_of what)

@@ -88,6 +88,7 @@ typed : map (files_of shelf input reply) (Alone (alone.TypeScript typing) ∷ Wa
       signs = None;
       learned = Some 64;
       server = None;
+      into = None;
     })
 typed = refl
 
@@ -105,6 +106,7 @@ served : files_of shelf input reply (Waiting (waiting.Serve (record {
   signs = None;
   learned = Some 268435456;
   server = None;
+  into = None;
 }
 served = refl
 
@@ -116,6 +118,7 @@ checked : files_of shelf input reply (Alone (alone.Check (codes "first")))
       signs = None;
       learned = None;
       server = None;
+      into = None;
     }
 checked = refl
 
@@ -132,6 +135,7 @@ put_together : files_of shelf input reply (Alone (alone.Expr (record {
   signs = Some (Minus ∷ Plus ∷ []);
   learned = None;
   server = None;
+  into = None;
 }
 put_together = refl
 
@@ -142,14 +146,30 @@ dumped_and_loaded : map (files_of shelf input reply)
     (Alone (alone.Dump (record { learned = codes "learned"; book = 0 })) ∷ Alone (alone.Load drawn)
     ∷ Waiting (waiting.Load drawn) ∷ [])
     ≡ replicate 3 (
-    record { script = None; rules = None; dictionaries = []; signs = None; learned = Some 268435456; server = None })
+    record {
+      script = None;
+      rules = None;
+      dictionaries = [];
+      signs = None;
+      learned = Some 268435456;
+      server = None;
+      into = None;
+    })
 dumped_and_loaded = refl
 
 shared : map (files_of shelf input reply) (map (λ limit.
     Alone (alone.Share (record { learned = codes "learned"; typist = 1; books = 7 ∷ []; limit = limit })))
     (None ∷ Some 64 ∷ []))
     ≡ map {B = CommandFiles} (λ most.
-    record { script = None; rules = None; dictionaries = []; signs = None; learned = Some most; server = None })
+    record {
+      script = None;
+      rules = None;
+      dictionaries = [];
+      signs = None;
+      learned = Some most;
+      server = None;
+      into = None;
+    })
     (268435456 ∷ 64 ∷ [])
 shared = refl
 
@@ -189,7 +209,7 @@ Causes files = HasRunCause files (disk no_learned) ⊥ []
 -- no files but a learned one of so many bytes, where there is one
 abbrev only_learned : Option ℕ → CommandFiles
 only_learned most =
-    record { script = None; rules = None; dictionaries = []; signs = None; learned = most; server = None }
+    record { script = None; rules = None; dictionaries = []; signs = None; learned = most; server = None; into = None }
 
 -- a run of a command doesn't end since its words are none
 words : ¬ Causes (only_learned None) faults.Words
@@ -265,7 +285,15 @@ not_text is = let test : is_utf8 (255 ∷ []) ≡ true = is_utf8-from_IsUtf8 (25
 -- rules and dictionaries
 abbrev named : Option Told → List Told → CommandFiles
 named rules dictionaries =
-    record { script = None; rules = rules; dictionaries = dictionaries; signs = None; learned = Some 64; server = None }
+    record {
+      script = None;
+      rules = rules;
+      dictionaries = dictionaries;
+      signs = None;
+      learned = Some 64;
+      server = None;
+      into = None;
+    }
 
 -- a rule file that is no text, up to byte 0; without one none is refused
 bad_rules : Causes (named (Some (Some (255 ∷ []))) []) (faults.Refused Rules (Byte 0))
@@ -324,7 +352,15 @@ bad_dictionaries = (
 -- an empty dictionary comes to no row that is too big, and without signs nothing does
 abbrev put : Option (List Sign) → CommandFiles
 put signs =
-    record { script = None; rules = None; dictionaries = Some [] ∷ []; signs = signs; learned = None; server = None }
+    record {
+      script = None;
+      rules = None;
+      dictionaries = Some [] ∷ [];
+      signs = signs;
+      learned = None;
+      server = None;
+      into = None;
+    }
 
 no_row_too_big : (¬ Causes (put (Some [])) (faults.RowTooBig 65536)) × (¬ Causes (put None) (faults.RowTooBig 65536))
 no_row_too_big = (none, λ is. is)

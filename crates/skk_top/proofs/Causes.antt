@@ -1,8 +1,9 @@
 -- Whatever fault a run ends with had its cause.
-use Rattle.std.proofs.Common.{◌≡◌, inl, inr, sym, ap, refl, subst, arith, ℕ, ◌+◌, ◌<◌, ◌≤◌, Bool, true, false, ◌||◌}
-use Rattle.std.proofs.Common.{Option, None, Some, IsSome, Ok, Err, IfErr, IfSome, IsErrAnd, IsErrOf}
+use Rattle.std.proofs.Common.{◌≡◌, ◌∙◌, inl, inr, sym, ap, refl, subst}
+use Rattle.std.proofs.Common.{arith, ℕ, ◌+◌, ◌<◌, ◌≤◌, Bool, true, false, ◌||◌}
+use Rattle.std.proofs.Common.{Option, None, Some, IsSome, Result, Ok, Err, IfErr, IfSome, IsErrAnd, IsErrOf}
 use Rattle.std.proofs.Common.{List, [], ◌∷◌, ◌++◌}
-use Rattle.std.proofs.lemmas.Bool.{cases_Bool}
+use Rattle.std.proofs.lemmas.Bool.{cases_Bool, or_right}
 use Rattle.std.specs.List.{list_any}
 use Rattle.skk_calls.specs.declared.answer.Answer.{Answer}
 use Rattle.skk_calls.specs.declared.answer.Answer.TheVariants.{Done, Refused}
@@ -23,6 +24,10 @@ use Rattle.skk_outside.specs.Moved.{Told, MovedShelf, MovedSource, MovedSink}
 use Rattle.skk_server.specs.Ends.{moved_link}
 use Rattle.skk_server.specs.Visits.{Visit}
 use Rattle.learned_store.specs.Stands.{GoOn}
+use Rattle.batch_store.specs.declared.group_fault.GroupFault.TheVariants as groups
+use Rattle.batch_store.specs.declared.import_fault.ImportFault.{ImportFault}
+use Rattle.batch_store.specs.declared.import_fault.ImportFault.TheVariants as imports
+use Rattle.batch_store.specs.Pieces.{EndSo}
 use Rattle.romaji_rules.specs.declared.rule.Rule.{Rule}
 use Rattle.romaji_rules.specs.Standard.{standard}
 use Rattle.key_scripts.specs.declared.line.Line.{Line}
@@ -32,6 +37,7 @@ use Rattle.command_line.specs.declared.command.AloneCommand.TheVariants as alone
 use Rattle.command_line.specs.declared.command.AskOptions.{AskOptions}
 use Rattle.command_line.specs.declared.command.Command.TheVariants.{Alone, Waiting}
 use Rattle.command_line.specs.declared.command.DumpOptions.{DumpOptions}
+use Rattle.command_line.specs.declared.command.ImportOptions.{ImportOptions}
 use Rattle.command_line.specs.declared.command.LoadOptions.{LoadOptions}
 use Rattle.command_line.specs.declared.command.ServeOptions.{ServeOptions}
 use Rattle.command_line.specs.declared.command.TypeOptions.{TypeOptions}
@@ -48,7 +54,7 @@ use Rattle.run_endings.specs.declared.run_file.Flaw.{Flaw}
 use Rattle.run_endings.specs.declared.run_file.RunFile.{RunFile}
 use Rattle.run_endings.specs.declared.run_file.RunFile.TheVariants.{Script, Rules, Dictionary}
 use Rattle.skk_top.specs.Causes.{CommandFiles, typed_files, served_files, checked_file, learned_alone, learned_within}
-use Rattle.skk_top.specs.Causes.{ComeToRowTooBig, expr_files, files_of}
+use Rattle.skk_top.specs.Causes.{ComeToRowTooBig, expr_files, files_of, imported_file}
 use Rattle.skk_top.specs.ShareCommand.{LeavesShared}
 use Rattle.command_line.specs.declared.command.ShareOptions.{ShareOptions}
 use Rattle.skk_top.specs.AskCommand.{Dialled, DialledFailed, LeavesAsked, StopsAsking, StopsDialling, asked_of}
@@ -56,11 +62,12 @@ use Rattle.skk_top.specs.AskCommand.{fault_of_flaw, reply_of}
 use Rattle.skk_top.specs.Causes.{LackedRoom, HasRunCause, asked_server}
 use Rattle.skk_top.specs.CheckCommand.{LeavesChecked}
 use Rattle.skk_top.specs.Commands.{LeavesAlone, LeavesWaiting}
-use Rattle.skk_top.specs.Dictionaries.{HasDictionaryFlaw}
+use Rattle.skk_top.specs.Dictionaries.{AreRowsOf, HasDictionaryFlaw}
 use Rattle.skk_top.specs.Disks.{MovedDisk, RefusesLearned}
 use Rattle.skk_top.specs.DumpCommand.{LeavesDumped}
 use Rattle.skk_top.specs.ExprCommand.{ComeTo, LeavesExpr, RefusesRows, signs_of}
 use Rattle.skk_top.specs.Failures.{HasFailed, HasLinkFailed}
+use Rattle.skk_top.specs.ImportCommand.{LearnsRows, LearnsSo, LeavesImported, TellsCount, TellsImport}
 use Rattle.skk_top.specs.LoadCommand.{LeavesLoaded, Loading, LoadsLines, LoadsTasks}
 use Rattle.skk_top.specs.NamedFiles.{RefusesFiles}
 use Rattle.skk_top.specs.RunFiles.{RefusesFile}
@@ -146,6 +153,19 @@ lacked most opening chronicle legal limit full =
       lacks = at.1;
     }
 
+-- where the last call of a history was refused for want of room, one was
+full-last : (end needs limit : ℕ) (history : List Entry) → EndSo (Err (groups.Full end needs limit)) history
+    → has_answer lacks_room history ≡ true
+full-last end needs limit history (front, call, served, is) = ap (has_answer lacks_room) is ∙ behind front
+  where
+    last : Entry
+    last = record { number = 0; call = call; answer = Refused (refusals.JournalFull end needs limit) }
+
+    behind : (before : List Entry) → has_answer lacks_room (before ++ last ∷ []) ≡ true
+    behind [] = refl
+    behind (entry ∷ before) =
+        or_right (lacks_room entry.answer) (has_answer lacks_room (before ++ last ∷ [])) (behind before)
+
 -- The causes, fault by fault
 
 -- what ends a run has what follows of its cause
@@ -172,6 +192,7 @@ module _ (files : CommandFiles) (disk : MovedDisk) (Failed : Type 0) (chronicle 
   of-files count count' failed (faults.RowTooBig bytes) cause = absurd cause
   of-files count count' failed faults.JournalFull cause = absurd cause
   of-files count count' failed (faults.Reply flaw) cause = absurd cause
+  of-files count count' failed faults.StampsEnd cause = absurd cause
 
   -- one file is not had
   of-file : (file : RunFile) (HasFlaw : Flaw → List ℕ → Type 0) (told : Told) (count count' : ℕ)
@@ -188,6 +209,7 @@ module _ (files : CommandFiles) (disk : MovedDisk) (Failed : Type 0) (chronicle 
   of-file file HasFlaw told count count' failed refuses (faults.RowTooBig bytes) cause = absurd cause
   of-file file HasFlaw told count count' failed refuses faults.JournalFull cause = absurd cause
   of-file file HasFlaw told count count' failed refuses (faults.Reply flaw) cause = absurd cause
+  of-file file HasFlaw told count count' failed refuses faults.StampsEnd cause = absurd cause
 
   -- the learned file is not had
   of-learned : IsSome files.learned → (Rose disk.before.faults disk.after.faults → Failed) → (fault : RunFault)
@@ -201,6 +223,7 @@ module _ (files : CommandFiles) (disk : MovedDisk) (Failed : Type 0) (chronicle 
   of-learned some failed (faults.RowTooBig bytes) cause = absurd cause
   of-learned some failed faults.JournalFull cause = absurd cause
   of-learned some failed (faults.Reply flaw) cause = absurd cause
+  of-learned some failed faults.StampsEnd cause = absurd cause
 
   -- memory lacks
   of-memory : (fault : RunFault) → fault ≡ faults.Memory → Cause fault
@@ -218,6 +241,7 @@ module _ (files : CommandFiles) (disk : MovedDisk) (Failed : Type 0) (chronicle 
   of-printing out failed (faults.RowTooBig bytes) cause = absurd cause
   of-printing out failed faults.JournalFull cause = absurd cause
   of-printing out failed (faults.Reply flaw) cause = absurd cause
+  of-printing out failed faults.StampsEnd cause = absurd cause
 
   -- what dictionaries come to is not printed
   of-rows : (signs : List Sign) (rows : List Row) → files.signs ≡ Some signs → ComeTo signs files.dictionaries rows
@@ -232,6 +256,7 @@ module _ (files : CommandFiles) (disk : MovedDisk) (Failed : Type 0) (chronicle 
   of-rows signs rows are come (faults.BadRecord file at) cause = absurd cause
   of-rows signs rows are come faults.JournalFull cause = absurd cause
   of-rows signs rows are come (faults.Reply flaw) cause = absurd cause
+  of-rows signs rows are come faults.StampsEnd cause = absurd cause
 
   -- what was typed or served decides how a run ends, and else what its calls came to
   of-calls : (wanted : Bool) (opening : Opening) → IsLegalOver opening chronicle
@@ -407,6 +432,68 @@ module _ {D : Type 0} (run : Run D) (shelf : MovedShelf) (input : MovedSource) (
         ]
       ]
 
+  -- the count of the candidates that were learnt, which is printed or was to be
+  counted-caused : (files : CommandFiles) (count : ℕ) (left : Ended)
+      → IfErr left (HasRunCause files disk Failed run.chronicle) → TellsCount count left run.ended out → CausedBy files
+  counted-caused files count left caused (Ok done, prints, is) =
+      subst (λ (ended : Ended). IfErr ended (HasRunCause files disk Failed run.chronicle)) (sym is) caused
+  counted-caused files count left caused (Err fault, stops, is) =
+      subst (λ (ended : Ended). IfErr ended (HasRunCause files disk Failed run.chronicle)) (sym is)
+      (printed files (Err fault) stops.stopped)
+
+  -- the candidates of a dictionary that are learnt
+  learns-caused : (options : ImportOptions) (rows : List Row) (opening : Opening)
+      → AreRowsOf (rows ∷ []) (shelf.file options.file ∷ []) → limit_of options.limit ≡ opening.limit
+      → disk.before.faults ≤ opening.faults → LearnsRows options.book rows opening run out disk.after
+      → CausedBy (imported_file shelf options)
+  learns-caused options rows opening read limit counted learns = by learns.done learns.learns learns.failed learns.tells
+    where
+      files : CommandFiles
+      files = imported_file shelf options
+
+      Cause : RunFault → Type 0
+      Cause = HasRunCause files disk Failed run.chronicle
+
+      count : ℕ
+      count = (tally_of opening.state (history_of run.chronicle)).learned
+
+      by : (done : Result (Unit {0}) ImportFault) → LearnsSo options.book rows opening run.chronicle done
+          → (done ≡ Err (imports.Refused groups.Disk) → Rose opening.faults disk.after.faults)
+          → TellsImport done count run.ended out → CausedBy files
+      by (Ok all) learnt failed tells = counted-caused files count (Ok tt) tt tells
+      by (Err imports.StampsEnd) learnt failed tells =
+          subst (λ (ended : Ended). IfErr ended Cause) (sym tells.0) (opening, learns.legal.0, rows, read, learnt.0)
+      by (Err (imports.Refused groups.Memory)) learnt failed tells =
+          subst (λ (ended : Ended). IfErr ended Cause) (sym tells.0) tt
+      by (Err (imports.Refused groups.Disk)) learnt failed tells =
+          subst (λ (ended : Ended). IfErr ended Cause) (sym tells.0)
+          (disk-failed (let rose = failed refl in omega (arith, counted, rose)))
+      by (Err (imports.Refused (groups.Full end need most))) learnt failed tells =
+          counted-caused files count (Err faults.JournalFull)
+          (lacked files.learned opening run.chronicle learns.legal (ap Some limit)
+          (full-last end need most (history_of run.chronicle) learnt.2)) tells
+
+  -- what a run of `import` leaves
+  caused-imported : (options : ImportOptions) → LeavesImported options run shelf out disk
+      → CausedBy (imported_file shelf options)
+  caused-imported options leaves =
+      let files = imported_file shelf options in
+      elim leaves [
+        | inl ends ↦ by-cause run.ended (λ fault refused.
+            of-files files disk Failed run.chronicle shelf.faults shelf.faults' shelf-failed fault
+            (refuses-dictionaries None files.dictionaries standard shelf.faults shelf.faults shelf.faults' fault refl
+            (omega arith) refused)) ends.cause
+        | inr read ↦ elim read.imported [
+          | inl refused ↦ unopened files refl refused.cause
+          | inr opened ↦ elim opened.learnt [
+            | inl none ↦ without-memory files none.cause
+            | inr learns ↦
+                learns-caused options read.rows opened.opening read.read (sym opened.opened.limit)
+                opened.opened.counted learns
+          ]
+        ]
+      ]
+
   -- the lines of a load
   load-caused : (Lines : Loading D)
       → ((opening : Opening) → learned_alone.learned ≡ Some opening.limit → disk.before.faults ≤ opening.faults
@@ -450,6 +537,7 @@ module _ {D : Type 0} (run : Run D) (shelf : MovedShelf) (input : MovedSource) (
     serving-stopped (faults.RowTooBig bytes) cause files = absurd cause
     serving-stopped faults.JournalFull cause files = absurd cause
     serving-stopped (faults.Reply flaw) cause files = absurd cause
+    serving-stopped faults.StampsEnd cause files = absurd cause
 
     port-stopped : (service : Service) (visits : List (Visit L)) (served : Ended) (files : CommandFiles)
         → LeavesPort service visits served out net → IfErr served (HasRunCause files disk Failed run.chronicle)
@@ -490,6 +578,7 @@ module _ {D : Type 0} (run : Run D) (shelf : MovedShelf) (input : MovedSource) (
     dialling-stopped files (faults.RowTooBig bytes) cause = absurd cause
     dialling-stopped files faults.JournalFull cause = absurd cause
     dialling-stopped files (faults.Reply flaw) cause = absurd cause
+    dialling-stopped files faults.StampsEnd cause = absurd cause
 
     asking-stopped : (options : AskOptions) (link link' : L) → Dialled link link' net → (DialledFailed net → Failed)
         → (fault : RunFault)
@@ -508,6 +597,7 @@ module _ {D : Type 0} (run : Run D) (shelf : MovedShelf) (input : MovedSource) (
     asking-stopped options link link' dialled failed (faults.BadRecord file at) cause = absurd cause
     asking-stopped options link link' dialled failed (faults.RowTooBig bytes) cause = absurd cause
     asking-stopped options link link' dialled failed faults.JournalFull cause = absurd cause
+    asking-stopped options link link' dialled failed faults.StampsEnd cause = absurd cause
 
     caused-asked : (options : AskOptions) → (DialledFailed net → Failed) → LeavesAsked options run.ended out net
         → CausedBy (asked_server (reply_of net) options)
@@ -536,6 +626,7 @@ module _ {D : Type 0} (run : Run D) (shelf : MovedShelf) (input : MovedSource) (
   caused-alone (alone.Share options) leaves = caused-given options leaves.0
   caused-alone (alone.Load options) leaves = caused-loaded options leaves.0
   caused-alone (alone.Expr options) leaves = caused-put options leaves.0
+  caused-alone (alone.Import options) leaves = caused-imported options leaves.0
 
 -- a run that ended since a call on the outside failed, with its cause, had one that failed
 pub caused-outside : (Cause : RunFault → Type 0) (ended : Ended) → IsErrOf ended faults.Outside → IfErr ended Cause

@@ -22,11 +22,13 @@ use Rattle.learned_store.specs.Recovered.{Recovery, with_state, foreign, refused
 use Rattle.learned_store.specs.Recovered.{IsOpenedWith}
 use Rattle.learned_store.specs.Stores.{OpenStore, opening_now, Recovers}
 use Rattle.learned_store.specs.Stands.{RecoversBy}
+use Rattle.batch_store.specs.Pieces.{RecoversByPieces}
 use Rattle.caller_work.specs.Disks.{disk_now}
 use Rattle.caller_work.specs.DiskLaws.{behind-nothing, runs-nothing}
 use Rattle.skk_top.specs.Disks.{MovedDisk, moved_disk, RefusesLearned, IsOpening}
 use Rattle.caller_work.specs.Disks.{RunsOver}
 use Rattle.skk_top.specs.Disks.{StandsSince}
+use Rattle.skk_top.specs.ImportCommand.{StandsBehind, StandsSinceInPieces}
 use Rattle.run_endings.specs.Status.{Ended, fault_of_opening}
 use Rattle.run_endings.specs.Finishes.{finish_of}
 use Rattle.run_endings.specs.declared.finish.Finish.{Finish}
@@ -53,6 +55,18 @@ module _ {D : Type 0} (ghosts : Ghosts D) (earlier : (disk : D) → Earlier (gho
     (tells_images : (disk : D) (t : ℕ) (image : Image) → ghosts.left_since disk t image → ghosts.tells)
     (one_way : (image : Image) (one two : Recovery) → IsRecovered image one → IsRecovered image two → one ≡ two)
     (old mid new : D) (opened : State) (chronicle : List Noted) where
+  -- the state that was opened is the one that each image was opened as at the start
+  state-opened : {end : ℕ} → IsOpenedWith ghosts.tells (ghosts.seen old) opened end → (state : State) (start : Image)
+      → Each (ghosts.left_since old (ghosts.time old)) (λ image. image ≡ start) → Recovers state start
+      → (moment : ℕ) (image : Image) → ghosts.left_since new moment image → opened ≡ state
+  state-opened {end} is state start same recovers moment image left =
+      let told = tells_images new moment image left in
+      let here : ghosts.seen old ≡ start = same (ghosts.seen old) (reads_image old told) in
+      let one : with_state opened ≡ with_state state =
+      one_way start (with_state opened) (with_state state)
+      (subst (λ (i : Image). Recovers opened i) here (is.contents, is.told told, is.leave)) recovers in
+      cc one
+
   -- the learned dictionary was opened, and a run went on
   pub stands-opened : {end : ℕ} → IsOpenedWith ghosts.tells (ghosts.seen old) opened end
       → Advances ghosts old mid
@@ -61,13 +75,21 @@ module _ {D : Type 0} (ghosts : Ghosts D) (earlier : (disk : D) → Earlier (gho
       → RunsOver opened chronicle (disk_now ghosts mid) (disk_now ghosts new)
       → StandsSince chronicle (moved_disk ghosts old new)
   stands-opened {end} is advances opens runs state start same recovers moment image from to left =
-      let told = tells_images new moment image left in
-      let here : ghosts.seen old ≡ start = same (ghosts.seen old) (reads_image old told) in
-      let one : with_state opened ≡ with_state state =
-      one_way start (with_state opened) (with_state state)
-      (subst (λ (i : Image). Recovers opened i) here (is.contents, is.told told, is.leave)) recovers in
-      let equal : opened ≡ state = cc one in
+      let equal = state-opened is state start same recovers moment image left in
       subst (λ (s : State). RecoversBy s chronicle moment image) equal (runs.since (ghosts.time old) advances.past.later
+      (λ t i start_at end there. subst (λ (s : State). Recovers s i) (sym equal)
+      (opens state start same recovers i (earlier mid (ghosts.time old) t i start_at there)))
+      moment image from to left)
+
+  -- and where it learns in groups
+  pub stands-in-pieces : {end : ℕ} → IsOpenedWith ghosts.tells (ghosts.seen old) opened end → Advances ghosts old mid
+      → ((state : State) (start : Image) → Each (ghosts.left_since old (ghosts.time old)) (λ image. image ≡ start)
+      → Recovers state start → Each (ghosts.left_since mid (ghosts.time old)) (Recovers state))
+      → (lists : List (List Noted)) → StandsBehind opened lists (disk_now ghosts mid) (disk_now ghosts new)
+      → StandsSinceInPieces lists (moved_disk ghosts old new)
+  stands-in-pieces {end} is advances opens lists behind state start same recovers moment image from to left =
+      let equal = state-opened is state start same recovers moment image left in
+      subst (λ (s : State). RecoversByPieces s lists moment image) equal (behind (ghosts.time old) advances.past.later
       (λ t i start_at end there. subst (λ (s : State). Recovers s i) (sym equal)
       (opens state start same recovers i (earlier mid (ghosts.time old) t i start_at there)))
       moment image from to left)
@@ -124,11 +146,11 @@ module _ {D : Type 0} (ghosts : Ghosts D) where
       (stands-unopened (moved_disk ghosts old new) earlier opens)
 
   -- a run is told and finishes
-  pub stands-finish : (old : D) (run : Run D) (finish : Finish D) → finish ≡ finish_of run
-      → StandsSince run.chronicle (moved_disk ghosts old run.disk)
-      → StandsSince finish.chronicle (moved_disk ghosts old finish.disk)
-  stands-finish old run finish is stands =
-      subst (λ (f : Finish D). StandsSince f.chronicle (moved_disk ghosts old f.disk)) (sym is) stands
+  pub stands-finish : (Stands : List Noted → MovedDisk → Type 0) (old : D) (run : Run D) (finish : Finish D)
+      → finish ≡ finish_of run → Stands run.chronicle (moved_disk ghosts old run.disk)
+      → Stands finish.chronicle (moved_disk ghosts old finish.disk)
+  stands-finish Stands old run finish is stands =
+      subst (λ (f : Finish D). Stands f.chronicle (moved_disk ghosts old f.disk)) (sym is) stands
 
   pub runs-quiet : (opened : State) (disk : D) (ended : Ended) (run : Run D)
       → run ≡ record { ended = ended; chronicle = []; disk = disk }

@@ -8,6 +8,7 @@ mod CheckExamples
 pub mod Dictionaries
 mod Examples
 mod ExprExamples
+mod Imports
 pub mod Exprs
 mod LoadExamples
 pub mod LinesWork

@@ -1,7 +1,8 @@
 -- What a run of each command leaves.
-use Rattle.std.specs.Prelude.{◌≡◌, []}
+use Rattle.std.specs.Prelude.{◌≡◌, List, []}
 use Rattle.std.specs.Io.KnownBytes.{Keeps}
 use Rattle.skk_outside.specs.Moved.{MovedShelf, MovedSource, MovedSink}
+use Rattle.skk_calls.specs.declared.chronicle.Noted.{Noted}
 use Rattle.command_line.specs.declared.command.AloneCommand.{AloneCommand}
 use Rattle.command_line.specs.declared.command.AloneCommand.TheVariants as alone
 use Rattle.command_line.specs.declared.command.WaitingCommand.{WaitingCommand}
@@ -9,17 +10,18 @@ use Rattle.command_line.specs.declared.command.WaitingCommand.TheVariants as wai
 use Rattle.run_endings.specs.declared.finish.Run.{Run}
 use Rattle.skk_top.specs.AskCommand.{LeavesAsked}
 use Rattle.skk_top.specs.CheckCommand.{LeavesChecked}
-use Rattle.skk_top.specs.Disks.{MovedDisk}
+use Rattle.skk_top.specs.Disks.{MovedDisk, StandsSince}
 use Rattle.skk_top.specs.DumpCommand.{LeavesDumped}
 use Rattle.skk_top.specs.ExprCommand.{LeavesExpr}
+use Rattle.skk_top.specs.ImportCommand.{LeavesImported, StandsImported}
 use Rattle.skk_top.specs.LoadCommand.{LeavesLoaded, LoadsLines, LoadsTasks}
 use Rattle.skk_top.specs.ServeCommand.{LeavesServed, MovedListener}
 use Rattle.skk_top.specs.ShareCommand.{LeavesShared}
 use Rattle.skk_top.specs.TypeCommand.{LeavesTyped, TypesLines}
 use Rattle.skk_top.specs.WeaveCommand.{WeavesLines}
 
--- what a run of a command that waits for nobody leaves: the input is read by `type` alone, calls are made by `type`, by
--- `share` and by `load`, and the disk is not touched by `check` and `expr`
+-- what a run of a command that waits for nobody leaves: the input is read by `type` alone, calls are made by `type`,
+-- `share`, `load` and `import`, and the disk is not touched by `check` and `expr`
 abbrev pub LeavesAlone : {D : Type 0} → AloneCommand → Run D → MovedShelf → MovedSource → MovedSink → MovedDisk
     → Type 0
 LeavesAlone (alone.TypeScript options) run shelf input out disk =
@@ -34,6 +36,14 @@ LeavesAlone (alone.Load options) run shelf input out disk =
     LeavesLoaded (LoadsLines options) run out disk × Keeps input.left input.left'
 LeavesAlone (alone.Expr options) run shelf input out disk =
     LeavesExpr options run shelf out × Keeps input.left input.left' × (run.chronicle ≡ []) × disk.is_untouched
+LeavesAlone (alone.Import options) run shelf input out disk =
+    LeavesImported options run shelf out disk × Keeps input.left input.left'
+
+-- what a stop at each moment of a run of such a command leaves, by its chronicle: `import` learns in groups
+abbrev pub StandsAlone : AloneCommand → MovedShelf → List Noted → MovedDisk → Type 0
+StandsAlone (alone.Import options) shelf chronicle disk =
+    StandsImported options (shelf.file options.file) chronicle disk
+StandsAlone command shelf chronicle disk = StandsSince chronicle disk
 
 -- what a run of a command that may wait leaves: the input is read by `type` alone, and the listener is asked by `serve`
 -- and `ask` alone

@@ -8,6 +8,7 @@ pub mod Disks
 pub mod DumpCommand
 pub mod ExprCommand
 pub mod Failures
+pub mod ImportCommand
 pub mod LinesWork
 pub mod LoadCommand
 pub mod NamedFiles

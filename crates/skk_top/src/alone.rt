@@ -8,13 +8,14 @@ ghost use Rattle.command_line.specs.declared.command.Command.TheVariants.{Alone}
 ghost use Rattle.run_endings.specs.Finishes.{run_of};
 ghost use Rattle.run_endings.specs.Status.{Tells, run_status, run_message};
 ghost use Rattle.skk_top.specs.Causes.{HasRunCause, files_of};
-ghost use Rattle.skk_top.specs.Commands.{LeavesAlone};
-ghost use Rattle.skk_top.specs.Disks.{moved_disk, StandsSince};
+ghost use Rattle.skk_top.specs.Commands.{LeavesAlone, StandsAlone};
+ghost use Rattle.skk_top.specs.Disks.{moved_disk};
 ghost use Rattle.skk_top.specs.Failures.{HasFailed};
 
 use crate::check_command::run_check;
 use crate::dump_command::run_dump;
 use crate::expr_command::run_expr;
+use crate::import_command::run_import;
 use crate::load_command::run_load_by_one;
 use crate::one_caller::run_by_one;
 use crate::share_command::run_share;
@@ -67,7 +68,8 @@ pub fn run_alone<H: Shelf, D: Disk, I: Source, O: Sink, E: Sink>(
     ensures err_counted { E.faults err.old ≤ E.faults err.new }
 
     // What a stop at any moment of the run leaves of the disk.
-    ensures stands { StandsSince result.chronicle (moved_disk D.Disk disk result.disk) }
+    ensures stands { StandsAlone command.now (moved_shelf H.Shelf shelf.old shelf.new) result.chronicle
+        (moved_disk D.Disk disk result.disk) }
 {
     end_run(run_command(alloc, command, shelf, disk, input, out), err)
 }
@@ -91,7 +93,8 @@ fn run_command<H: Shelf, D: Disk, I: Source, O: Sink>(
     ensures disk_counted { D.faults disk ≤ D.faults result.disk }
     ensures input_counted { I.faults input.old ≤ I.faults input.new }
     ensures out_counted { O.faults out.old ≤ O.faults out.new }
-    ensures stands { StandsSince result.chronicle (moved_disk D.Disk disk result.disk) }
+    ensures stands { StandsAlone command.now (moved_shelf H.Shelf shelf.old shelf.new) result.chronicle
+        (moved_disk D.Disk disk result.disk) }
 {
     match command {
         AloneCommand::TypeScript(options) => run_by_one(alloc, options, shelf, disk, input, out),
@@ -100,5 +103,6 @@ fn run_command<H: Shelf, D: Disk, I: Source, O: Sink>(
         AloneCommand::Share(options) => run_share(alloc, options, disk, out),
         AloneCommand::Load(options) => run_load_by_one(alloc, *options, disk, out),
         AloneCommand::Expr(options) => run_expr(alloc, options, shelf, disk, out),
+        AloneCommand::Import(options) => run_import(alloc, options, shelf, disk, out),
     }
 }

@@ -18,6 +18,7 @@ mod checking;
 mod dictionary;
 mod dump_command;
 mod expr_command;
+mod import_command;
 mod laws;
 mod load_command;
 mod load_each;

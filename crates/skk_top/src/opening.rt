@@ -1,9 +1,11 @@
-ghost use Rattle.std.specs.Prelude.{◌≡◌, ◌≤◌, [], None, Err, IfOk, IfErr, IsErrAnd};
+ghost use Rattle.std.specs.Prelude.{◌≡◌, ◌≤◌, [], None, Err, List, IfOk, IfErr, IsErrAnd};
 ghost use Rattle.skk_outside.specs.Moved.{moved_shelf};
+ghost use Rattle.skk_calls.specs.declared.chronicle.Noted.{Noted};
 ghost use Rattle.learned_store.specs.Stores.{opening_now, Keeps};
 ghost use Rattle.skk_top.specs.Dictionaries.{AreRowsOf};
 ghost use Rattle.caller_work.specs.Disks.{disk_now, RunsOver};
 ghost use Rattle.skk_top.specs.Disks.{moved_disk, IsOpening, RefusesLearned, StandsSince};
+ghost use Rattle.skk_top.specs.ImportCommand.{StandsBehind, StandsSinceInPieces};
 ghost use Rattle.skk_top.specs.NamedFiles.{rules_named, dictionaries_named, RefusesNamed};
 ghost use Rattle.skk_top.specs.RunRules.{AreRules};
 ghost use Rattle.run_endings.specs.declared.finish.Run.{Run as run_value};
@@ -72,6 +74,9 @@ pub fn open_learned<D: Disk>(
     ensures stands { IfOk result (λ store. (run : run_value _) → RunsOver store.state run.chronicle
         (disk_now D.Disk store.journal.disk) (disk_now D.Disk run.disk)
         → StandsSince run.chronicle (moved_disk D.Disk disk run.disk)) }
+    ensures stands_in_pieces { IfOk result (λ store. (run : run_value _) (lists : List (List Noted))
+        → StandsBehind store.state lists (disk_now D.Disk store.journal.disk) (disk_now D.Disk run.disk)
+        → StandsSinceInPieces lists (moved_disk D.Disk disk run.disk)) }
     ensures calm { IfOk result (λ store. Keeps D.Disk store.journal store.state None) }
     ensures counted { IfOk result (λ store. D.faults disk ≤ D.faults store.journal.disk) }
     ensures refused { IfErr result (λ run. IsErrAnd run.ended (RefusesLearned (moved_disk D.Disk disk run.disk))) }

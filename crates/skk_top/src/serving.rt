@@ -1,12 +1,12 @@
 ghost use Rattle.std.specs.Prelude.{◌≡◌, ◌≤◌, ◌+◌, [], Err};
 ghost use Rattle.std.specs.List.{list_any};
 ghost use Rattle.skk_outside.specs.Moved.{moved_sink};
-ghost use Rattle.run_endings.specs.Page.{LeavesPrinted, Writes};
-ghost use Rattle.skk_top.specs.ServeCommand.{ServesByOffice, TellsEnd, moved_listener, ready_line, served_line};
+ghost use Rattle.run_endings.specs.Page.{LeavesPrinted};
+ghost use Rattle.skk_top.specs.ServeCommand.{ServesByOffice, TellsEnd, moved_listener, ready_line};
 ghost use Rattle.skk_top.specs.ServeCommand.{wants_memory};
 
 use romaji_rules::Rules;
-use run_endings::{RunFault, write_numbered, write_through};
+use run_endings::{RunFault, print_numbered, write_through};
 use script_typing::Host;
 use skk_calls::Office;
 use skk_outside::{Failed, Gate, Listener, Sink};
@@ -142,24 +142,8 @@ fn end_serving<O: Sink>(end: ServedEnd, count: u32, out: &mut O) -> Result<(), R
     ensures counted { O.faults out.old ≤ O.faults out.new }
 {
     match end {
-        ServedEnd::Done => print_served(count, out),
+        ServedEnd::Done => print_numbered(out, b"served ", count as u64),
         ServedEnd::Fault => Err(RunFault::Outside),
         ServedEnd::Memory => Err(RunFault::Memory),
     }
-}
-
-// Tells how many connections were accepted.
-fn print_served<O: Sink>(count: u32, out: &mut O) -> Result<(), RunFault>
-    ensures { LeavesPrinted (served_line count) result (moved_sink O.Outside out.old out.new) }
-{
-    write_served(count, out)?;
-    Ok(())
-}
-
-// Writes how many connections were accepted, and all that waits to be written.
-fn write_served<O: Sink>(count: u32, out: &mut O) -> Result<(), Failed>
-    ensures { Writes (served_line count) result (moved_sink O.Outside out.old out.new) }
-{
-    write_numbered(out, b"served ", count as u64)?;
-    write_through(out, b"\n")
 }

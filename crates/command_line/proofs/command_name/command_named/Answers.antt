@@ -39,6 +39,11 @@ returns-in-ask c =
     ap command_named
     (sym (spelled c.as_str.result.now c.args.word.now (codes "ask") c.as_str.ensures c.in-ask.is refl))
 
+pub returns-in-import : goal.returns-in-import
+returns-in-import c =
+    ap command_named
+    (sym (spelled c.as_str.result.now c.args.word.now (codes "import") c.as_str.ensures c.in-import.is refl))
+
 pub returns-in_default : goal.returns-in_default
 returns-in_default c =
     let bytes = c.as_str.result.now in
@@ -57,7 +62,10 @@ returns-in_default c =
               not-spelled bytes word (codes "share") utf8 same c.in_default.not-share refl,
               (
                 not-spelled bytes word (codes "load") utf8 same c.in_default.not-load refl,
-                (not-spelled bytes word (codes "ask") utf8 same c.in_default.not-ask refl, tt),
+                (
+                  not-spelled bytes word (codes "ask") utf8 same c.in_default.not-ask refl,
+                  (not-spelled bytes word (codes "import") utf8 same c.in_default.not-import refl, tt),
+                ),
               ),
             ),
           ),

@@ -7,6 +7,7 @@ use Rattle.command_line.specs.declared.command.AloneCommand.TheVariants as alone
 use Rattle.command_line.specs.declared.command.Command.TheVariants.{Alone, Waiting}
 use Rattle.command_line.specs.declared.command.AskOptions.{AskOptions}
 use Rattle.command_line.specs.declared.command.DumpOptions.{DumpOptions}
+use Rattle.command_line.specs.declared.command.ImportOptions.{ImportOptions}
 use Rattle.command_line.specs.declared.command.ShareOptions.{ShareOptions}
 use Rattle.command_line.specs.declared.command.WaitingCommand.TheVariants as waiting
 use Rattle.command_line.specs.declared.command_name.CommandName.{CommandName}
@@ -50,6 +51,13 @@ returns-in-Ask-clause-ranges c =
     numbers_in_range c.args.words.now (Some (Waiting (waiting.Ask c.of-in-Ask.result)))
     (ap (λ (o : AskOptions). Some (Waiting (waiting.Ask o))) c.of-in-Ask.ensures
     ∙ ap (λ (name : CommandName). Some (command name c.in-Some.settings)) (sym c.in-Ask.is)
+    ∙ sym c.in-Some.ensures.0)
+
+pub returns-in-Import-clause-ranges : goal.returns-in-Import-clause-ranges
+returns-in-Import-clause-ranges c =
+    numbers_in_range c.args.words.now (Some (Alone (alone.Import c.of-in-Import.result)))
+    (ap (λ (o : ImportOptions). Some (Alone (alone.Import o))) c.of-in-Import.ensures
+    ∙ ap (λ (name : CommandName). Some (command name c.in-Some.settings)) (sym c.in-Import.is)
     ∙ sym c.in-Some.ensures.0)
 
 pub returns-in_ok-load_options-in-Load-clause-ranges : goal.returns-in_ok-load_options-in-Load-clause-ranges

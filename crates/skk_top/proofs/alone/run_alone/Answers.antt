@@ -1,4 +1,5 @@
 use Rattle.skk_outside.specs.Moved.{moved_shelf, moved_source, moved_sink}
+use Rattle.skk_top.specs.Commands.{StandsAlone}
 use Rattle.skk_top.specs.Disks.{moved_disk}
 use Rattle.skk_top.proofs.Causes.{caused-alone, caused-outside}
 use Rattle.skk_top.proofs.Disks.{stands-finish}
@@ -22,5 +23,6 @@ returns-clause-outside g c is = caused-outside _ c.end_run.result.ended is (retu
 pub returns-clause-stands : goal.returns-clause-stands
 returns-clause-stands g c =
     let D = g.D.Disk in
-    stands-finish D c.args.disk c.run_command.result c.end_run.result c.end_run.ensures.finish
-    c.run_command.ensures.stands
+    let shelf = moved_shelf g.H.Shelf c.args.shelf.now c.run_command.new.shelf in
+    stands-finish D (StandsAlone c.args.command.now shelf) c.args.disk c.run_command.result c.end_run.result
+    c.end_run.ensures.finish c.run_command.ensures.stands

@@ -1,7 +1,7 @@
 use Rattle.std.proofs.Common.{sym, subst, IsErrAnd}
 use Rattle.skk_top.specs.Disks.{moved_disk, RefusesLearned}
 use Rattle.run_endings.specs.declared.finish.Run.{Run}
-use Rattle.skk_top.proofs.Disks.{stands-refused, stands-opened, opened-so, refuses-learned}
+use Rattle.skk_top.proofs.Disks.{stands-in-pieces, stands-refused, stands-opened, opened-so, refuses-learned}
 use Rattle.skk_top.proofs.opening.open_learned.Goals as goal
 
 -- the learned file was opened
@@ -19,6 +19,15 @@ returns-in-Ok-clause-stands g c run runs =
     stands-opened D laws.earlier laws.reads_image laws.tells_images c.files_are_recovered_in_one_way.ensures.image
     c.args.disk store.journal.disk run.disk store.state run.chronicle c.in-Ok.ensures.opened c.in-Ok.ensures.advances
     c.in-Ok.ensures.images runs
+
+pub returns-in-Ok-clause-stands_in_pieces : goal.returns-in-Ok-clause-stands_in_pieces
+returns-in-Ok-clause-stands_in_pieces g c run lists behind =
+    let D = g.D.Disk in
+    let laws = g.met.D.Disk in
+    let store = c.in-Ok.store in
+    stands-in-pieces D laws.earlier laws.reads_image laws.tells_images c.files_are_recovered_in_one_way.ensures.image
+    c.args.disk store.journal.disk run.disk store.state run.chronicle c.in-Ok.ensures.opened c.in-Ok.ensures.advances
+    c.in-Ok.ensures.images lists behind
 
 -- the learned file was refused
 pub returns-in-Err-clause-refused : goal.returns-in-Err-clause-refused

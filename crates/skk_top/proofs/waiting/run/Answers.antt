@@ -1,6 +1,6 @@
 use Rattle.std.proofs.Common.{inl, inr}
 use Rattle.skk_outside.specs.Moved.{moved_shelf, moved_source, moved_sink}
-use Rattle.skk_top.specs.Disks.{moved_disk}
+use Rattle.skk_top.specs.Disks.{moved_disk, StandsSince}
 use Rattle.skk_top.specs.ServeCommand.{moved_listener}
 use Rattle.skk_top.proofs.Causes.{caused-waiting, caused-outside}
 use Rattle.skk_top.proofs.Disks.{stands-finish}
@@ -27,5 +27,5 @@ returns-clause-outside g c is = caused-outside _ c.end_run.result.ended is (retu
 pub returns-clause-stands : goal.returns-clause-stands
 returns-clause-stands g c =
     let D = g.D.Disk in
-    stands-finish D c.args.disk c.run_command-run.result c.end_run.result c.end_run.ensures.finish
+    stands-finish D StandsSince c.args.disk c.run_command-run.result c.end_run.result c.end_run.ensures.finish
     c.run_command-run.ensures.stands
