@@ -7,6 +7,8 @@
 #[cfg(test)]
 mod asked;
 #[cfg(test)]
+mod imported;
+#[cfg(test)]
 mod making;
 #[cfg(test)]
 mod outside;
