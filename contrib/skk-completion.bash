@@ -12,13 +12,21 @@ _skk() {
         --books | --*[!s]) return ;;
     esac
     if [ "$COMP_CWORD" -eq 1 ]; then
-        words='type serve dump share ask check expr load help'
+        words='type serve dump share import ask check expr load help'
     else
         case ${COMP_WORDS[1]} in
             type) words='--dict --rules --learned --limit --threads' ;;
             serve) words='--learned --dict --rules --limit --port --connections' ;;
             dump) words='--learned --book' ;;
             share) words='--learned --typist --books --limit' ;;
+            import)
+                words='--learned --book --limit'
+                if [ "${word#-}" = "$word" ]; then
+                    compopt -o filenames
+                    mapfile -t COMPREPLY < <(compgen -f -- "$word")
+                    return
+                fi
+                ;;
             expr) words='+ -' ;;
             ask) words='--port --look --complete' ;;
             load) words='--seed --sessions --lines --threads' ;;

@@ -15,7 +15,7 @@ quoted() {
 }
 
 # Calls $1 with the option and the name of each file that the words name, up to the first at which it fails. A word that
-# stands without an option is the file of `check`, or one of `expr` where it is no sign: a dictionary.
+# stands without an option is the file of `check` or `import`, or one of `expr` where it is no sign: a dictionary.
 each_file() {
     look=$1 of=$2
     shift 2
@@ -183,9 +183,11 @@ hint() {
         7)
             case $1 in
                 share) tell 'the list had no room within --limit, and is as it was' ;;
+                import) tell 'a word had no room within --limit: those before it were learnt, and no other' ;;
                 *) tell 'a change had no room within --limit: what was written is whole, but not all of it was learnt' ;;
             esac
             ;;
         9) tell 'the server is no skkserv, or answers in EUC-JP: only replies in UTF-8 are read' ;;
+        10) tell 'the book has counted nearly to its end, and learns no dictionary any more: --book N takes another one' ;;
     esac
 }

@@ -31,6 +31,8 @@ usage: @skk type [--dict FILE].. [--rules FILE] [--learned FILE] [--limit BYTES]
        @skk dump --learned FILE [--book NUMBER]    prints a book of a learned file as a dictionary
        @skk share --learned FILE --typist NUMBER --books NUMBER[,NUMBER].. [--limit BYTES]
                           sets the books that a typist reads behind the private one, and prints them
+       @skk import --learned FILE [--book NUMBER] [--limit BYTES] FILE
+                          learns the words of a dictionary, as another SKK program has left it
        @skk ask --port NUMBER (--look READING | --complete PREFIX)    asks a skkserv, and prints what it says
        @skk check FILE    checks a dictionary file, line by line
        @skk expr FILE [+ FILE | - FILE]..
@@ -63,7 +65,7 @@ run_program() {
     fi
     # In a shell of its own: whatever becomes of a hint, the status is the program's.
     case $status in
-        [1-579]) (. "$here/launcher/hints.sh" && hint "$status" "$@") ;;
+        [1-579] | 10) (. "$here/launcher/hints.sh" && hint "$status" "$@") ;;
     esac
     exit "$status"
 }
